@@ -1,0 +1,128 @@
+// A text.
+ghost use Rattle.std.specs.Prelude.{◌≡◌, length, IfOk, string_bytes};
+
+use crate::copying::TryCopy;
+use crate::lists::ListOf;
+use std::alloc::{AllocError, Global};
+use std::cmp::Ordering;
+use std::hash::{Hash, Hasher};
+use std::marker::Model;
+
+/// A UTF-8 text. Contracts see the list of its bytes.
+#[derive(Debug, Drop)]
+pub struct Text {
+    content: String,
+}
+
+impl Model for Text {
+    ghost use Rattle.std.specs.Prelude.{List, ℕ, string_bytes};
+
+    ghost Value = { List ℕ };
+
+    ghost view = { λ text. string_bytes text.content };
+}
+
+impl Text {
+    /// The text that `content` is.
+    pub fn from_string(content: String) -> Self
+        ensures same { result ≡ string_bytes content }
+    {
+        Text { content }
+    }
+
+    /// A copy of a text.
+    pub fn from_str(alloc: Global, content: &str) -> Result<Self, AllocError>
+        ensures same { IfOk result (λ text. text ≡ content.now) }
+    {
+        Ok(Text {
+            content: String::from_str(alloc, content)?,
+        })
+    }
+
+    pub fn as_str(&self) -> &str
+        ensures same { result.now ≡ self.now }
+    {
+        self.content.as_str()
+    }
+
+    pub fn as_bytes(&self) -> &[u8]
+        ensures same { result.now ≡ self.now }
+    {
+        self.content.as_bytes()
+    }
+}
+
+/// Texts in order.
+pub type Texts = ListOf<Text>;
+
+impl TryCopy for Text {
+    fn copy(&self, alloc: Global) -> Result<Text, AllocError> {
+        Text::from_str(alloc, self.content.as_str())
+    }
+}
+
+impl PartialEq for Text {
+    ghost use Rattle.std.specs.Cmp.{partial_equiv_from_equiv};
+    ghost use Rattle.std.specs.Cmp.Lexicographic.{pointwise, nat_list_eq_equiv};
+    ghost use Rattle.std.specs.Prelude.{nat_eq};
+
+    ghost eq = { pointwise nat_eq };
+
+    ghost laws = { partial_equiv_from_equiv nat_list_eq_equiv };
+
+    fn eq(&self, other: &Self) -> bool {
+        self.content.as_str() == other.content.as_str()
+    }
+}
+
+impl Eq for Text {
+    ghost use Rattle.std.specs.Cmp.Lexicographic.{nat_list_eq_equiv};
+
+    ghost laws = { nat_list_eq_equiv };
+}
+
+impl PartialOrd for Text {
+    ghost use Rattle.std.specs.Cmp.Lexicographic.{slice_cmp, texts_po};
+    ghost use Rattle.std.specs.Ordering.{nat_cmp};
+    ghost use Rattle.std.specs.Prelude.{Some};
+
+    ghost partial_cmp = { λ x y. Some (slice_cmp nat_cmp x y) };
+
+    ghost laws = { texts_po };
+
+    fn partial_cmp(&self, other: &Self) -> Option<Ordering> {
+        Some(self.cmp(other))
+    }
+}
+
+impl Ord for Text {
+    ghost use Rattle.std.specs.Cmp.Lexicographic.{slice_cmp, nat_list_cmp_total, texts_ties};
+    ghost use Rattle.std.specs.Ordering.{nat_cmp};
+    ghost use Rattle.std.specs.Prelude.{refl};
+
+    ghost cmp = { slice_cmp nat_cmp };
+
+    ghost total = { nat_list_cmp_total };
+
+    ghost matches_partial_cmp = { λ x y. refl };
+
+    ghost matches_eq = { texts_ties };
+
+    fn cmp(&self, other: &Self) -> Ordering {
+        self.content.as_str().cmp(other.content.as_str())
+    }
+}
+
+impl Hash for Text {
+    ghost use Rattle.std.specs.Hash as fed;
+    ghost use Rattle.std.specs.Cmp.Rules.{hashing};
+    ghost use Rattle.std.proofs.Common.{rules};
+
+    ghost hash_input = { fed.str };
+
+    ghost respects_eq = { Prim.search (hashing, rules) };
+
+    fn hash<H: Hasher>(&self, state: &mut H) {
+        self.content.as_str().hash(state);
+    }
+}
