@@ -1,1 +1,10 @@
+pub mod Added
+pub mod AggregateLemmas
+pub mod CountsLemmas
 pub mod Joined
+pub mod Numerals
+pub mod Ordered
+pub mod Percentiles
+pub mod Permutations
+pub mod SameSeries
+pub mod Utf8

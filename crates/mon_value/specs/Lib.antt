@@ -1,2 +1,10 @@
+pub mod Aggregates
+pub mod Answers
+pub mod Distributions
+pub mod Numbers
+pub mod Order
+pub mod Rooms
 pub mod Sources
+pub mod Texts
 pub mod Values
+pub mod Windows

@@ -44,3 +44,12 @@ impl TryCopy for bool {
         Ok(*self)
     }
 }
+
+impl<T: TryCopy + Drop> TryCopy for Option<T> {
+    fn copy(&self, alloc: Global) -> Result<Option<T>, AllocError> {
+        match self {
+            Some(value) => Ok(Some(value.copy(alloc)?)),
+            None => Ok(None),
+        }
+    }
+}

@@ -2,18 +2,36 @@
 //! definitions of values, rows and sources.
 #![tactic(auto)]
 
+pub mod aggregates;
+pub mod aligners;
+pub mod columns;
 pub mod copying;
+pub mod distributions;
 pub mod lists;
+pub mod numbers;
+pub mod orders;
 pub mod refusals;
+pub mod rooms;
 pub mod rows;
 pub mod schemas;
 pub mod texts;
 pub mod values;
 
+pub use aggregates::{Aggregate, AggregateKind, Aggregates};
+pub use aligners::Aligner;
+pub use columns::{Anchor, Column, Columns};
 pub use copying::TryCopy;
 pub use lists::ListOf;
+pub use numbers::read_number;
+pub use orders::{compare, compare_targets};
 pub use refusals::{OutOfMemory, Refusal};
+pub use rooms::RoomListOf;
 pub use rows::{Point, Points, Row, RowList, SeriesKey, Target};
 pub use schemas::{Field, Fields, Kind, MetricSchema, MetricSchemas, TargetSchema, TargetSchemas};
 pub use texts::{Text, Texts};
-pub use values::{Bounds, Counts, FieldType, FieldValue, FieldValues, Value, ValueType};
+pub use values::{
+    Bounds, Counts, FieldType, FieldValue, FieldValues, Value, ValueType, write_text,
+};
+
+#[cfg(test)]
+mod tests;

@@ -10,7 +10,7 @@ use std::marker::Model;
 /// A list that grows at its end. Contracts see the plain list of its items.
 #[derive(Debug, Drop)]
 pub struct ListOf<T> {
-    items: Vec<T>,
+    pub(crate) items: Vec<T>,
 }
 
 impl<T> Model for ListOf<T> {
@@ -36,6 +36,13 @@ impl<T> ListOf<T> {
         ensures same { result ≡ items.items }
     {
         ListOf { items }
+    }
+
+    /// The items as a vector.
+    pub fn into_vec(self) -> Vec<T>
+        ensures same { result.items ≡ self }
+    {
+        self.items
     }
 
     /// How many items there are.

@@ -1,4 +1,7 @@
 // Series and their points.
+ghost use Rattle.std.specs.Prelude.{◌≡◌, ◌↔◌, IsTrue};
+ghost use Rattle.mon_value.specs.Sources.{same_series};
+
 use crate::copying::TryCopy;
 use crate::lists::ListOf;
 use crate::texts::Text;
@@ -78,4 +81,12 @@ impl TryCopy for Row {
             point: self.point.copy(alloc)?,
         })
     }
+}
+
+/// Whether two keys name one series.
+pub fn is_same_series(a: &SeriesKey, b: &SeriesKey) -> bool
+    ensures same { result ≡ same_series a.now b.now }
+    ensures equal { IsTrue result ↔ (a.now ≡ b.now) }
+{
+    a == b
 }

@@ -1,5 +1,6 @@
 // A text.
-ghost use Rattle.std.specs.Prelude.{◌≡◌, length, IfOk, string_bytes};
+ghost use Rattle.std.specs.Prelude.{◌≡◌, IfOk, string_bytes};
+ghost use Rattle.mon_value.specs.Texts.{text_in};
 
 use crate::copying::TryCopy;
 use crate::lists::ListOf;
@@ -7,6 +8,7 @@ use std::alloc::{AllocError, Global};
 use std::cmp::Ordering;
 use std::hash::{Hash, Hasher};
 use std::marker::Model;
+use std::str;
 
 /// A UTF-8 text. Contracts see the list of its bytes.
 #[derive(Debug, Drop)]
@@ -37,6 +39,17 @@ impl Text {
         Ok(Text {
             content: String::from_str(alloc, content)?,
         })
+    }
+
+    /// The text that the bytes are, or `None` where they are not UTF-8.
+    #[tactic(auto, using(crate::proofs::Utf8::utf8))]
+    pub fn from_utf8(alloc: Global, bytes: &[u8]) -> Result<Option<Self>, AllocError>
+        ensures exact { IfOk result (λ text. text ≡ text_in bytes.now) }
+    {
+        match str::from_utf8(bytes) {
+            Ok(content) => Ok(Some(Text::from_str(alloc, content)?)),
+            Err(_) => Ok(None),
+        }
     }
 
     pub fn as_str(&self) -> &str

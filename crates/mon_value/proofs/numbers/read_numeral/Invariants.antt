@@ -1,0 +1,8 @@
+-- the bytes so far are digits, and spell the number so far
+use Rattle.std.proofs.Common.{◌≡◌, take, true}
+use Rattle.std.specs.Str.{all_ascii_digits}
+use Rattle.std.specs.Str.Parse.{digits_value}
+use Rattle.mon_value.proofs.numbers.read_numeral.Given as goal
+
+abbrev pub invariant-loop-digit : goal.invariant-loop-digit
+invariant-loop-digit l = (all_ascii_digits (take l.digit-index l.digits) ≡ true) × (l.number ≡ digits_value 10 (take l.digit-index l.digits))

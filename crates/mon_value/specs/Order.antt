@@ -1,0 +1,46 @@
+-- The order of values, and that of targets.
+use Rattle.std.specs.Prelude.{◌≡◌, ℕ, List}
+use Rattle.std.specs.Cmp.Lexicographic.{slice_cmp}
+use Rattle.std.specs.declared.cmp.Ordering.{Ordering}
+use Rattle.std.specs.declared.cmp.Ordering.TheVariants.{Less, Equal, Greater}
+use Rattle.std.specs.Ordering.{nat_cmp, int_cmp, bool_cmp, ordering_then}
+use Rattle.mon_value.specs.declared.rows.Target.{Target}
+use Rattle.mon_value.specs.declared.values.FieldValue.{FieldValue}
+use Rattle.mon_value.specs.declared.values.FieldValue.TheVariants as field
+use Rattle.mon_value.specs.declared.values.Value.{Value}
+use Rattle.mon_value.specs.declared.values.Value.TheVariants as value
+
+-- texts by their bytes
+abbrev pub text_cmp : List ℕ → List ℕ → Ordering
+text_cmp = slice_cmp nat_cmp
+
+-- whole numbers, then truth values, then texts, then distributions, each kind by its own order
+abbrev pub value_cmp : Value → Value → Ordering
+value_cmp (value.Int y) (value.Int z) = int_cmp y z
+value_cmp (value.Int y) b = Less
+value_cmp (value.Bool p) (value.Int z) = Greater
+value_cmp (value.Bool p) (value.Bool q) = bool_cmp p q
+value_cmp (value.Bool p) b = Less
+value_cmp (value.Text s) (value.Text t) = text_cmp s t
+value_cmp (value.Text s) (value.Dist counts) = Less
+value_cmp (value.Text s) b = Greater
+value_cmp (value.Dist counts) (value.Dist others) = slice_cmp nat_cmp counts others
+value_cmp (value.Dist counts) b = Greater
+
+-- a field's value as a value
+abbrev pub field_as_value : FieldValue → Value
+field_as_value (field.Int z) = value.Int z
+field_as_value (field.Bool p) = value.Bool p
+field_as_value (field.Text s) = value.Text s
+
+-- fields by the same rules
+abbrev pub field_cmp : FieldValue → FieldValue → Ordering
+field_cmp a b = value_cmp (field_as_value a) (field_as_value b)
+
+-- by the schema's name, and then by the fields in their order
+abbrev pub target_cmp : Target → Target → Ordering
+target_cmp a b = ordering_then (text_cmp a.schema b.schema) (slice_cmp field_cmp a.fields b.fields)
+
+-- what the order does not tell apart is equal
+abbrev pub TellsApart : {K : Type 0} → (K → K → Ordering) → Type 0
+TellsApart {K} order = (a b : K) → order a b ≡ Equal → a ≡ b

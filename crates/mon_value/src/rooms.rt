@@ -1,0 +1,87 @@
+// The list for calls that promise to take no memory.
+ghost use Rattle.std.specs.Prelude.{◌≡◌, ◌+◌, ◌<◌, ◌≤◌, ◌++◌, ◌∷◌, [], length, slice_get, Some, OnOk};
+
+use crate::lists::ListOf;
+use std::alloc::{AllocError, Global};
+use std::marker::Model;
+
+/// A list that keeps room for items to come. Contracts see its items and the number of items that
+/// go in without memory.
+#[derive(Debug, Drop)]
+pub struct RoomListOf<T> {
+    items: Vec<T>,
+}
+
+impl<T> Model for RoomListOf<T> {
+    ghost use Rattle.std.specs.Prelude.{◌-◌, vec_len, vec_capacity};
+    ghost use Rattle.mon_value.specs.Rooms.{RoomList};
+
+    ghost Value = { RoomList T };
+
+    ghost view = { λ list. record { items = list.items.items; spare = vec_capacity list.items - vec_len list.items } };
+}
+
+impl<T> RoomListOf<T> {
+    /// The empty list, which grows from `alloc`.
+    pub fn new(alloc: Global) -> Self
+        ensures empty { result.items ≡ [] }
+    {
+        RoomListOf {
+            items: Vec::new(alloc),
+        }
+    }
+
+    /// The list with what room its memory has. No memory is taken.
+    pub fn from_list(list: ListOf<T>) -> Self
+        ensures same { result.items ≡ list }
+    {
+        RoomListOf { items: list.items }
+    }
+
+    /// The list without its room. No memory is taken.
+    pub fn into_list(self) -> ListOf<T>
+        ensures same { result ≡ self.items }
+    {
+        ListOf { items: self.items }
+    }
+
+    /// How many items there are.
+    pub fn len(&self) -> usize
+        ensures counts { result ≡ length self.now.items }
+    {
+        self.items.len()
+    }
+
+    /// The items as a slice.
+    pub fn as_slice(&self) -> &[T]
+        ensures same { result.now ≡ self.now.items }
+    {
+        self.items.as_slice()
+    }
+
+    /// The item at a place.
+    pub fn get(&self, i: usize) -> &T
+        requires { i < length self.now.items }
+        ensures item { slice_get self.now.items i ≡ Some result.now }
+    {
+        &self.items[i]
+    }
+
+    /// Makes room for one item more, so that the next `push` takes no memory.
+    pub fn reserve_one(&mut self) -> Result<(), AllocError>
+        ensures room { OnOk result (1 ≤ self.new.spare) }
+        ensures kept { self.new.items ≡ self.old.items }
+        ensures no_less { self.old.spare ≤ self.new.spare }
+    {
+        self.items.reserve(1)
+    }
+
+    /// Adds an item at the end, in room that was made before.
+    pub fn push(&mut self, item: T)
+        requires { 1 ≤ self.old.spare }
+        ensures added { self.new.items ≡ self.old.items ++ item ∷ [] }
+        ensures room { self.new.spare + 1 ≡ self.old.spare }
+    {
+        self.items.push_reserved(item);
+    }
+}
