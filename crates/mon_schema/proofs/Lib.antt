@@ -1,0 +1,4 @@
+pub mod FieldNames
+pub mod Found
+pub mod NoFault
+pub mod Pairs

@@ -1,0 +1,7 @@
+-- the bounds rise where those from the last one on do
+use Rattle.std.proofs.Common.{◌≡◌, ◌∷◌, drop}
+use Rattle.mon_value.specs.Distributions.{bounds_rise}
+use Rattle.mon_schema.proofs.metrics.bounds_rise.Given as goal
+
+abbrev pub invariant-loop-bound : goal.invariant-loop-bound
+invariant-loop-bound l = bounds_rise l.bounds ≡ bounds_rise (l.last ∷ drop l.bound-index l.rest)

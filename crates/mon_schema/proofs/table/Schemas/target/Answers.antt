@@ -1,0 +1,9 @@
+use Rattle.std.proofs.Common.{ap, ◌∙◌}
+use Rattle.mon_schema.specs.SchemaLists.{target_named}
+use Rattle.mon_schema.proofs.Found.{lookup-target}
+use Rattle.mon_schema.proofs.table.Schemas.target.Goals as goal
+
+pub returns : goal.returns
+returns c =
+    let name = c.args.name.now in
+    record { found = c.get.ensures.value ∙ lookup-target name _ c.self.invariant.0 ∙ ap (λ held. target_named name held.targets) c.self.view_is }

@@ -1,0 +1,6 @@
+pub mod FaultTexts
+pub mod Faults
+pub mod Fits
+pub mod Held
+pub mod Names
+pub mod SchemaLists

@@ -1,0 +1,182 @@
+// The schemas that are held.
+ghost use Rattle.std.specs.Prelude.{◌≡◌, ◌++◌, ◌∷◌, [], None, OnOk, OnErr, nat_eq};
+ghost use Rattle.std.specs.Cmp.Lexicographic.{pointwise};
+ghost use Rattle.std.specs.Option.{option_copied};
+ghost use Rattle.indexmap.specs.IndexMap.{get};
+ghost use Rattle.mon_value.specs.Answers.{AnswersBy};
+
+use crate::faults::SchemaFault;
+use crate::fields::{columns_repeat, has_location, has_two_locations, have_names, names_repeat};
+use crate::metrics::{is_bounded, is_kind_met};
+use crate::names::{is_column_name, is_metric_name, is_name};
+use crate::rows::row_fits;
+use indexmap::IndexMap;
+use mon_value::{MetricSchema, Refusal, Row, TargetSchema};
+use std::alloc::{AllocFailed, Global};
+use std::marker::Model;
+
+/// How many target schemas are held at most.
+pub const MOST_TARGETS: usize = 64;
+
+/// How many metrics are held at most.
+pub const MOST_METRICS: usize = 1024;
+
+/// How many fields a target or a metric has at most.
+pub const MOST_FIELDS: usize = 16;
+
+/// The schemas of targets and metrics, found by name. Contracts see both lists in the order of adding.
+#[derive(Drop)]
+pub struct Schemas {
+    alloc: Global,
+    targets: IndexMap<Vec<u8>, TargetSchema>,
+    metrics: IndexMap<Vec<u8>, MetricSchema>,
+}
+
+impl Model for Schemas {
+    ghost use Rattle.mon_schema.specs.SchemaLists.{SchemaLists};
+
+    ghost Value = { SchemaLists };
+
+    ghost use Rattle.mon_schema.specs.Held.{lists_held, AreNamed};
+
+    ghost view = { lists_held };
+
+    ghost invariant = { AreNamed };
+}
+
+impl Schemas {
+    ghost use Rattle.mon_schema.specs.SchemaLists.{no_schemas, target_named, metric_named, with_target, with_metric};
+    ghost use Rattle.mon_schema.specs.Faults.{target_fault, metric_fault};
+    ghost use Rattle.mon_schema.specs.Fits.{fits};
+
+    /// No schemas, which take their memory from `alloc` as they are added.
+    pub fn new(alloc: Global) -> Schemas
+        ensures empty { result ≡ no_schemas }
+    {
+        Schemas {
+            alloc,
+            targets: IndexMap::new(alloc),
+            metrics: IndexMap::new(alloc),
+        }
+    }
+
+    /// The target schema of a name.
+    pub fn target(&self, name: &[u8]) -> Option<&TargetSchema>
+        ensures found { option_copied result ≡ target_named name.now self.now.targets }
+    {
+        self.targets.get(name)
+    }
+
+    /// The metric of a name.
+    pub fn metric(&self, name: &[u8]) -> Option<&MetricSchema>
+        ensures found { option_copied result ≡ metric_named name.now self.now.metrics }
+    {
+        self.metrics.get(name)
+    }
+
+    /// Adds a target schema. A fault leaves the schemas as they were.
+    pub fn add_target(&mut self, schema: TargetSchema) -> Result<(), Refusal<SchemaFault>>
+        ensures answer { AnswersBy result (target_fault self.old schema) }
+        ensures added { OnOk result (self.new ≡ with_target self.old schema) }
+        ensures kept { OnErr result (self.new ≡ self.old) }
+    {
+        if let Some(fault) = self.fault_of_target(&schema) {
+            return Err(Refusal::Fault(fault));
+        }
+        let name = Vec::from_slice(self.alloc, schema.name.as_bytes())?;
+        add_new(&mut self.targets, name, schema)?;
+        Ok(())
+    }
+
+    /// Adds a metric. A fault leaves the schemas as they were.
+    pub fn add_metric(&mut self, metric: MetricSchema) -> Result<(), Refusal<SchemaFault>>
+        ensures answer { AnswersBy result (metric_fault self.old metric) }
+        ensures added { OnOk result (self.new ≡ with_metric self.old metric) }
+        ensures kept { OnErr result (self.new ≡ self.old) }
+    {
+        if let Some(fault) = self.fault_of_metric(&metric) {
+            return Err(Refusal::Fault(fault));
+        }
+        let name = Vec::from_slice(self.alloc, metric.name.as_bytes())?;
+        add_new(&mut self.metrics, name, metric)?;
+        Ok(())
+    }
+
+    /// Whether a row is of schemas that are held: it has their fields in number and type, times of the
+    /// metric's kind, and a value of the metric's type. Texts have at most 1,024 bytes, whole numbers
+    /// and the totals of distributions at most 64 bits.
+    pub fn fits(&self, row: &Row) -> bool
+        ensures fits { result ≡ fits self.now row.now }
+    {
+        let Some(target) = self.target(row.key.target.schema.as_bytes()) else {
+            return false;
+        };
+        let Some(metric) = self.metric(row.key.metric.as_bytes()) else {
+            return false;
+        };
+        row_fits(target, metric, row)
+    }
+
+    // The first fault of a target schema.
+    fn fault_of_target(&self, schema: &TargetSchema) -> Option<SchemaFault>
+        ensures fault { result ≡ target_fault self.now schema.now }
+    {
+        let fields = schema.fields.as_slice();
+        if self.targets.len() >= MOST_TARGETS || fields.is_empty() || fields.len() > MOST_FIELDS {
+            return Some(SchemaFault::TooMany);
+        }
+        if !(is_name(schema.name.as_bytes()) && have_names(fields)) {
+            return Some(SchemaFault::BadName);
+        }
+        if self.target(schema.name.as_bytes()).is_some() || names_repeat(fields) {
+            return Some(SchemaFault::Duplicate);
+        }
+        if has_two_locations(fields) {
+            return Some(SchemaFault::TwoLocations);
+        }
+        if !has_location(fields) {
+            return Some(SchemaFault::NoLocation);
+        }
+        None
+    }
+
+    // The first fault of a metric.
+    fn fault_of_metric(&self, metric: &MetricSchema) -> Option<SchemaFault>
+        ensures fault { result ≡ metric_fault self.now metric.now }
+    {
+        let fields = metric.fields.as_slice();
+        if self.metrics.len() >= MOST_METRICS || fields.len() > MOST_FIELDS {
+            return Some(SchemaFault::TooMany);
+        }
+        if !is_metric_name(metric.name.as_bytes())
+            || !is_column_name(metric.column.as_bytes())
+            || !have_names(fields)
+        {
+            return Some(SchemaFault::BadName);
+        }
+        if self.metric(metric.name.as_bytes()).is_some() || columns_repeat(&metric.column, fields) {
+            return Some(SchemaFault::Duplicate);
+        }
+        if !is_bounded(&metric.value) {
+            return Some(SchemaFault::BadBounds);
+        }
+        if !is_kind_met(metric.kind, &metric.value) {
+            return Some(SchemaFault::BadKind);
+        }
+        None
+    }
+}
+
+// Adds what is new under its name.
+fn add_new<V: Drop>(
+    map: &mut IndexMap<Vec<u8>, V>,
+    name: Vec<u8>,
+    value: V,
+) -> Result<(), AllocFailed<(Vec<u8>, V)>>
+    requires { get (λ a b. pointwise nat_eq a.items b.items) map.old name ≡ None }
+    ensures added { OnOk result (map.new.entries ≡ map.old.entries ++ (name, value) ∷ []) }
+    ensures kept { OnErr result (map.new.entries ≡ map.old.entries) }
+{
+    map.insert(name, value)?;
+    Ok(())
+}
