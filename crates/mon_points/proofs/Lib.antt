@@ -1,0 +1,4 @@
+pub mod CountLists
+pub mod FieldLists
+pub mod Reading
+pub mod Texts

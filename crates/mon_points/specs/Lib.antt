@@ -1,0 +1,4 @@
+pub mod Cells
+pub mod FaultTexts
+pub mod Leading
+pub mod Records

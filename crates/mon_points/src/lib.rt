@@ -1,0 +1,12 @@
+//! Points as text: each record of a points file is read as a row, or as the first of its faults.
+#![tactic(auto)]
+
+pub mod cells;
+pub mod faults;
+pub mod records;
+
+pub use faults::RowFault;
+pub use records::{RowRead, RowReads, read_rows};
+
+#[cfg(test)]
+mod tests;
