@@ -1,0 +1,4 @@
+pub mod CountsPartLemmas
+pub mod Mergings
+pub mod NumberPartLemmas
+pub mod Parts

@@ -1,0 +1,21 @@
+//! Aggregates that are kept as partial results: items are added to parts, parts are merged, and a
+//! part finishes to what all of its items come to.
+#![tactic(auto)]
+
+pub mod extremes;
+pub mod folds;
+pub mod means;
+pub mod merges;
+pub mod numbers;
+pub mod pieces;
+pub mod sums;
+#[cfg(test)]
+mod tests;
+
+pub use extremes::{GreatestPart, LeastPart, MaxFold, MinFold};
+pub use folds::Fold;
+pub use means::{MeanFold, MeanPart, means_are_floors};
+pub use merges::{MergeFold, MergePart};
+pub use numbers::{CountFold, CountPart};
+pub use pieces::{fold_pieces, merges_in_any_order};
+pub use sums::{SumFold, SumPart};
