@@ -1,0 +1,12 @@
+pub mod SeriesGroups
+pub mod Held
+pub mod RecordCount
+pub mod SortedRows
+pub mod Newest
+pub mod WroteMore
+pub mod Courses
+pub mod Endings
+pub mod Lawful
+pub mod Told
+pub mod LineCuts
+pub mod LineCount

@@ -1,0 +1,11 @@
+-- the lines are that of the columns, and then those of the rows so far
+use Rattle.std.proofs.Common.{◌≡◌, ◌++◌, take}
+use Rattle.mon_run.specs.CsvLines.{IsBetween, lines_in}
+use Rattle.mon_run.specs.Tables.{row_lines}
+use Rattle.mon_run.proofs.print.lines_of.Given as goal
+
+abbrev pub invariant-loop-row : goal.invariant-loop-row
+invariant-loop-row l = record {
+  lines : lines_in l.writer ≡ lines_in l.initial.writer ++ row_lines (take l.row-index l.rows);
+  between : IsBetween l.writer;
+}

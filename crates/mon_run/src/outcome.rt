@@ -1,0 +1,47 @@
+// What a run came to.
+use mon_points::RowFault;
+use mon_value::{ListOf, RowList};
+
+/// Why a record was refused.
+#[derive(Clone, Copy, Debug, PartialEq, Eq)]
+pub enum RowRefused {
+    /// It is no row.
+    Read(RowFault),
+    /// The last point of its series ends at this second, at its own end or after it.
+    OldPoint(i64),
+}
+
+/// A record that was refused. Records are numbered from 1.
+#[derive(Clone, Copy, Debug, PartialEq, Eq)]
+pub struct RowRefusal {
+    pub number: u32,
+    pub fault: RowRefused,
+}
+
+/// The records of a feed that were refused, in order.
+pub type RowRefusals = ListOf<RowRefusal>;
+
+/// How a line of a script ended.
+#[derive(Debug, Drop)]
+pub enum LineEnd {
+    /// A feed, with the rows that it accepted and the records that it refused.
+    Fed {
+        accepted: RowList,
+        refused: RowRefusals,
+    },
+    /// A query at a moment, in seconds from the epoch.
+    Asked {
+        moment: i64,
+    },
+}
+
+/// The ends of the lines that ran, in order.
+pub type LineEnds = ListOf<LineEnd>;
+
+/// What a run came to: its exit status, the rows that it accepted, and how its lines ended.
+#[derive(Debug, Drop)]
+pub struct Outcome {
+    pub status: u8,
+    pub accepted: RowList,
+    pub lines: LineEnds,
+}
