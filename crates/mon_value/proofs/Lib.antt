@@ -1,10 +1,15 @@
 pub mod Added
 pub mod AggregateLemmas
 pub mod CountsLemmas
+pub mod GridLemmas
 pub mod Joined
+pub mod MergedRows
 pub mod Numerals
 pub mod Ordered
 pub mod Percentiles
 pub mod Permutations
+pub mod RowGroups
+pub mod SameRows
 pub mod SameSeries
+pub mod SameValues
 pub mod Utf8

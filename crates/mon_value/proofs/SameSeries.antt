@@ -34,12 +34,12 @@ eq-same_series a b =
 
 -- ---- what it tells
 
-both : (a b : Bool) → (a && b) ≡ true → (a ≡ true) × (b ≡ true)
+pub both : (a b : Bool) → (a && b) ≡ true → (a ≡ true) × (b ≡ true)
 both true true e = (refl, refl)
 both true false e = absurd cc
 both false b e = absurd cc
 
-join : (a b : Bool) → a ≡ true → b ≡ true → (a && b) ≡ true
+pub join : (a b : Bool) → a ≡ true → b ≡ true → (a && b) ≡ true
 join true true e f = refl
 join true false e f = f
 join false b e f = e
@@ -47,7 +47,7 @@ join false b e f = e
 pub same_text-Decides : (s t : List ℕ) → Decides (same_text s t) (s ≡ t)
 same_text-Decides s t = slice_eq-Decides Decides-eqb s t (same_text s t) refl
 
-same_truth-Decides : (a b : Bool) → Decides (same_truth a b) (a ≡ b)
+pub same_truth-Decides : (a b : Bool) → Decides (same_truth a b) (a ≡ b)
 same_truth-Decides true true = (λ e. refl, λ e. refl)
 same_truth-Decides true false = (λ e. absurd cc, λ e. absurd cc)
 same_truth-Decides false true = (λ e. absurd cc, λ e. absurd cc)

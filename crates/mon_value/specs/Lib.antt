@@ -1,6 +1,11 @@
 pub mod Aggregates
+pub mod Alignments
 pub mod Answers
 pub mod Distributions
+pub mod Grids
+pub mod GroupConditions
+pub mod Groups
+pub mod Joins
 pub mod Numbers
 pub mod Order
 pub mod Rooms

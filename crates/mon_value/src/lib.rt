@@ -7,6 +7,7 @@ pub mod aligners;
 pub mod columns;
 pub mod copying;
 pub mod distributions;
+pub mod grids;
 pub mod lists;
 pub mod numbers;
 pub mod orders;
@@ -14,6 +15,7 @@ pub mod refusals;
 pub mod rooms;
 pub mod rows;
 pub mod schemas;
+pub mod tables;
 pub mod texts;
 pub mod values;
 
@@ -21,6 +23,7 @@ pub use aggregates::{Aggregate, AggregateKind, Aggregates};
 pub use aligners::Aligner;
 pub use columns::{Anchor, Column, Columns};
 pub use copying::TryCopy;
+pub use grids::{Grid, TimedValue, TimedValues, grids_reach_back};
 pub use lists::ListOf;
 pub use numbers::read_number;
 pub use orders::{compare, compare_targets};
@@ -28,6 +31,7 @@ pub use refusals::{OutOfMemory, Refusal};
 pub use rooms::RoomListOf;
 pub use rows::{Point, Points, Row, RowList, SeriesKey, Target};
 pub use schemas::{Field, Fields, Kind, MetricSchema, MetricSchemas, TargetSchema, TargetSchemas};
+pub use tables::{Cells, Positions, Table, TimedRow, TimedRows};
 pub use texts::{Text, Texts};
 pub use values::{
     Bounds, Counts, FieldType, FieldValue, FieldValues, Value, ValueType, write_text,

@@ -1,0 +1,91 @@
+-- Series brought to the times of a grid.
+use Rattle.std.specs.Prelude.{◌≡◌, ◌≤◌, ◌^◌, ℕ, ℤ, unsigned_abs, sum, sum_by, length, List, [], ◌∷◌, map, Option, Some, None, option_map}
+use Rattle.std.specs.List.{AllByRecursion, flat_map}
+use Rattle.mon_value.specs.Groups.{total_of}
+use Rattle.mon_value.specs.Grids.{IsDuration, IsLawful, grid_times}
+use Rattle.mon_value.specs.Windows.{window_of}
+use Rattle.mon_value.specs.declared.aligners.Aligner.{Aligner}
+use Rattle.mon_value.specs.declared.aligners.Aligner.TheVariants.{Delta, NextOlder}
+use Rattle.mon_value.specs.declared.grids.Grid.{Grid}
+use Rattle.mon_value.specs.declared.grids.TimedValue.{TimedValue}
+use Rattle.mon_value.specs.declared.rows.Point.{Point}
+use Rattle.mon_value.specs.declared.values.Value.{Value}
+use Rattle.mon_value.specs.declared.values.Value.TheVariants as value
+
+-- how many seconds an aligner looks back
+abbrev pub seconds_of : Aligner → ℤ
+seconds_of (Delta seconds) = seconds
+seconds_of (NextOlder seconds) = seconds
+
+-- the newest of the points of a series: the last, since their ends rise
+abbrev pub newest : List Point → Option Point
+newest [] = None
+newest (point ∷ []) = Some point
+newest (point ∷ next ∷ points) = newest (next ∷ points)
+
+abbrev pub values_of : List Point → List Value
+values_of points = map (λ point. point.value) points
+
+-- what an aligner makes of the points that it sees: the value of the newest, or the sum or the merged
+-- distribution of all; nothing of no points
+abbrev pub value_made : Aligner → List Point → Option Value
+value_made (NextOlder seconds) points = option_map (λ point. point.value) (newest points)
+value_made (Delta seconds) points = total_of (values_of points)
+
+-- what a series has at a time: an aligner sees the points whose ends are above its seconds before the
+-- time, and at most the time
+abbrev pub value_at : Aligner → List Point → ℤ → Option Value
+value_at by points time = value_made by (window_of time (seconds_of by) points)
+
+abbrev pub timed : ℤ → Option Value → List TimedValue
+timed time None = []
+timed time (Some value) = record { time = time; value = value } ∷ []
+
+-- a series aligned: the value at each time of the grid, the newest time first, and none at a time at
+-- which the aligner sees no point
+abbrev pub aligned : Aligner → Grid → List Point → List TimedValue
+aligned by grid points = flat_map (λ time. timed time (value_at by points time)) (grid_times grid)
+
+-- ---- which series can be aligned
+
+-- two values that can be added: numbers, or distributions of one number of buckets
+abbrev pub CanAdd : Value → Value → Type 0
+CanAdd (value.Int y) (value.Int z) = Unit {0}
+CanAdd (value.Int y) b = ⊥
+CanAdd (value.Dist counts) (value.Dist others) = length others ≡ length counts
+CanAdd (value.Dist counts) b = ⊥
+CanAdd (value.Bool p) b = ⊥
+CanAdd (value.Text s) b = ⊥
+
+-- values that are all numbers, or all distributions of one number of buckets
+abbrev pub CanAddAll : List Value → Type 0
+CanAddAll [] = Unit {0}
+CanAddAll (first ∷ values) = AllByRecursion (CanAdd first) (first ∷ values)
+
+-- how much a value counts: a number by its distance from 0, a distribution by its total
+abbrev pub magnitude : Value → ℕ
+magnitude (value.Int z) = unsigned_abs z
+magnitude (value.Bool p) = 0
+magnitude (value.Text s) = 0
+magnitude (value.Dist counts) = sum counts
+
+-- what the magnitudes of the points that are added for one time sum to at most
+abbrev pub most_aligned : ℕ
+most_aligned = 2 ^ 124
+
+-- an aligner that adds meets values that can be added
+abbrev pub AreAlike : Aligner → List Point → Type 0
+AreAlike (NextOlder seconds) points = Unit {0}
+AreAlike (Delta seconds) points = CanAddAll (values_of points)
+
+-- an aligner that adds meets no more than so much for a time
+abbrev pub SumFits : Aligner → List Point → ℤ → Type 0
+SumFits (NextOlder seconds) points time = Unit {0}
+SumFits (Delta seconds) points time = sum_by magnitude (values_of (window_of time seconds points)) ≤ most_aligned
+
+-- a series that an aligner can bring to the times of a grid
+pub record CanAlign (by : Aligner) (grid : Grid) (points : List Point) : Type 0 where
+  pub looks_back : IsDuration (seconds_of by)
+  pub lawful : IsLawful grid
+  pub alike : AreAlike by points
+  pub sums : AllByRecursion (SumFits by points) (grid_times grid)
