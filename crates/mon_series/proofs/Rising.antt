@@ -1,9 +1,10 @@
 -- Points whose ends rise.
-use Rattle.std.proofs.Common.{◌≡◌, ◌∙◌, inl, inr, ℕ, zero, suc, ◌-◌, ◌<◌, ◌≤◌, ℤ, ◌<ℤ◌, ◌-ℤ◌, Bool, true, false, ◌&&◌, List, [], ◌∷◌, ◌++◌, length, get_or, take, drop, filter, refl, sym, ap, arith, IfSome, option_map}
+use Rattle.std.proofs.Common.{◌≡◌, ◌∙◌, inl, inr, ℕ, zero, suc, ◌+◌, ◌-◌, ◌<◌, ◌≤◌, ℤ, ◌<ℤ◌, ◌-ℤ◌, Bool, true, false, ◌&&◌, List, [], ◌∷◌, ◌++◌, length, get_or, take, drop, filter, refl, sym, ap, arith, IfSome, option_map}
 use Rattle.std.specs.List.{AllByRecursion, AllWithin, slice_get}
 use Rattle.std.specs.Prelude.{int_le, int_lt}
 use Rattle.std.specs.List.Sorted.{IsPartitionedBy}
-use Rattle.std.proofs.Math.Seq.{take-nil, drop-nil}
+use Rattle.std.proofs.Math.Seq.{take-nil, drop-nil, take-append_seam, drop-append_seam}
+use Rattle.std.proofs.lemmas.List.{drop-take}
 use Rattle.std.proofs.lemmas.Bool.{cases_Bool, cases_eq, cond_both, cond-true, cond-false}
 use Rattle.std.proofs.lemmas.Int.{ints}
 use Rattle.mon_value.specs.declared.rows.Point.{Point}
@@ -98,3 +99,16 @@ filter_both first second (x ∷ xs) =
 -- the points that end by a moment, without those that end w before it or earlier
 pub window_from : (ps : List Point) (t w after until : ℤ) → after ≡ t -ℤ w → until ≡ t → filter (λ p. int_lt after p.end) (filter (λ p. int_le p.end until) ps) ≡ window_of t w ps
 window_from ps t w after until e f = rw (e, f) (filter_both (λ p. int_le p.end t) (λ p. int_lt (t -ℤ w) p.end) ps)
+
+-- a list's first items, and those behind them
+pub first_items : {X : Type 0} (xs first rest : List X) → xs ≡ first ++ rest → take (length first) xs ≡ first
+first_items xs first rest joined = ap (take (length first)) joined ∙ take-append_seam first rest
+
+pub items_behind : {X : Type 0} (xs first rest : List X) → xs ≡ first ++ rest → drop (length first) xs ≡ rest
+items_behind xs first rest joined = ap (drop (length first)) joined ∙ drop-append_seam first rest
+
+-- the items from a place up to another
+pub items_between : {X : Type 0} (start end : ℕ) (xs : List X) → start ≤ end → take (end - start) (drop start xs) ≡ drop start (take end xs)
+items_between start end xs h =
+    let sum : start + (end - start) ≡ end = omega arith in
+    sym (drop-take start (end - start) xs) ∙ ap (λ n. drop start (take n xs)) sum

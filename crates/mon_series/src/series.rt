@@ -1,5 +1,5 @@
 // A series and its windows.
-ghost use Rattle.std.specs.Prelude.{◌≡◌, ◌+◌, ◌≤◌, ◌<ℤ◌, ◌≤ℤ◌, pos, int_le, int_lt, [], ◌∷◌, ◌++◌, filter, IfSome, OnOk};
+ghost use Rattle.std.specs.Prelude.{◌≡◌, ◌+◌, ◌-◌, ◌≤◌, ◌<◌, ◌^◌, ◌==◌, ◌<ℤ◌, ◌≤ℤ◌, pos, neg_ℤ, int_le, int_lt, [], ◌∷◌, ◌++◌, filter, length, take, drop, IfSome, OnOk};
 ghost use Rattle.mon_value.specs.Sources.{last_end};
 ghost use Rattle.mon_value.specs.Windows.{EndsRise, window_of};
 
@@ -61,10 +61,40 @@ impl Series {
         self.points.as_slice().last().map(|point| point.end)
     }
 
-    /// The points that end in the `w` seconds up to the moment `t`: above `t - w` and at most `t`. A
-    /// moment is at least 0. Two binary searches find them.
+    /// Whether there is no point. There are fewer than 2^61 in all, as they lie in memory.
+    pub fn is_empty(&self) -> bool
+        ensures none { result ≡ (length self.now.points == 0) }
+        ensures few { length self.now.points < 2 ^ 61 }
+    {
+        self.points.as_slice().is_empty()
+    }
+
+    /// The points in order.
+    pub fn points(&self) -> &[Point]
+        ensures same { result.now ≡ self.now.points }
+    {
+        self.points.as_slice()
+    }
+
+    /// The places of the points that `window` gives: of the first, and the one behind the last.
+    pub fn places(&self, t: i64, w: i64) -> (usize, usize)
+        requires time { neg_ℤ (pos 1000000000) ≤ℤ t }
+        requires positive { pos 1 ≤ℤ w }
+        requires bounded { w ≤ℤ pos 1000000000 }
+        ensures ordered { result.0 ≤ result.1 }
+        ensures within { result.1 ≤ length self.now.points }
+        ensures window { take (result.1 - result.0) (drop result.0 self.now.points) ≡ window_of t w self.now.points }
+    {
+        let (ended, _) = split_at_time(self.points.as_slice(), t);
+        let (before, _) = split_at_time(ended, t - w);
+        (before.len(), ended.len())
+    }
+
+    /// The points that end in the `w` seconds up to the time `t`: above `t - w` and at most `t`. A
+    /// moment is at least 0, but the times of its grid may lie before it. Two binary searches find
+    /// the points.
     pub fn window(&self, t: i64, w: i64) -> &[Point]
-        requires moment { pos 0 ≤ℤ t }
+        requires time { neg_ℤ (pos 1000000000) ≤ℤ t }
         requires positive { pos 1 ≤ℤ w }
         requires bounded { w ≤ℤ pos 1000000000 }
         ensures window { result.now ≡ window_of t w self.now.points }
@@ -80,6 +110,7 @@ impl Series {
 fn split_at_time(points: &[Point], time: i64) -> (&[Point], &[Point])
     requires { EndsRise points.now }
     ensures ended { result.0.now ≡ filter (λ point. int_le point.end time) points.now }
+    ensures joined { points.now ≡ result.0.now ++ result.1.now }
     ensures later { result.1.now ≡ filter (λ point. int_lt time point.end) points.now }
 {
     points.split_at(points.partition_point(|point| point.end <= time))
@@ -105,12 +136,16 @@ mod tests {
     fn windows_end_at_their_moment(rt: HostRuntime) -> Result<(), Fail> {
         let mut series = Series::new(rt.alloc());
         assert_eq!(rt; series.last(), None);
+        assert!(rt; series.is_empty());
         series.reserve()?;
         series.push(point(40));
         series.reserve()?;
         series.push(point(100));
         assert_eq!(rt; series.last(), Some(100));
+        assert!(rt; !series.is_empty());
+        assert_eq!(rt; series.points().len(), 2);
         let windows = [
+            (-1_000_000_000, 1_000_000_000, 0),
             (39, 60, 0),
             (40, 1, 1),
             (99, 59, 0),
@@ -122,6 +157,8 @@ mod tests {
         for (t, w, count) in windows {
             let window = series.window(t, w);
             assert_eq!(rt; window.len(), count, "{w} seconds up to {t}");
+            let (start, end) = series.places(t, w);
+            assert_eq!(rt; end - start, count, "places of {w} seconds up to {t}");
         }
         Ok(())
     }
