@@ -1,4 +1,5 @@
 pub mod Cells
 pub mod FaultTexts
+pub mod Fitting
 pub mod Leading
 pub mod Records

@@ -1,7 +1,9 @@
 // The records of a points file.
 ghost use Rattle.std.specs.Prelude.{◌≡◌, ◌+◌, ◌-◌, ◌<◌, ◌≤◌, ◌^◌, length, drop, IfOk, MatchOption};
+ghost use Rattle.std.specs.List.{AllByRecursion};
 ghost use Rattle.csv.specs.Records.{fields_of};
 ghost use Rattle.mon_value.specs.Answers.{Gives};
+ghost use Rattle.mon_points.specs.Fitting.{ReadFits};
 ghost use Rattle.mon_points.specs.Leading.{cells_of};
 ghost use Rattle.mon_points.specs.Records.{fields_read, key_read, point_read, record_read, reads_of, row_read};
 
@@ -42,6 +44,7 @@ const LEADING: usize = 5;
 /// header. A record is `schema,metric,start,end,value`, the target's fields and the metric's.
 pub fn read_rows(alloc: Global, bytes: &[u8], schemas: &Schemas) -> Result<RowReads, OutOfMemory>
     ensures exact { IfOk result (λ reads. reads ≡ reads_of schemas.now bytes.now) }
+    ensures fit { IfOk result (λ reads. AllByRecursion (ReadFits schemas.now) reads) }
 {
     let records = ReaderBuilder::new()
         .has_headers(false)

@@ -106,35 +106,95 @@ fn all_shown(alloc: Global, bytes: &[u8], schemas: &Schemas) -> Result<String, O
     Ok(text)
 }
 
-// Each record, and what it reads as.
-static RECORDS: [(&str, &str); 77] = [
-    ("T,/m,10,10,7,a,e", "10,10,7,a,e|"),
-    ("T,/m,10,10,-7,a,e", "10,10,-7,a,e|"),
-    ("T,/m,10,10,-0,a,e", "10,10,0,a,e|"),
-    ("T,/m,010,0010,007,a,e", "10,10,7,a,e|"),
-    ("T,/m,-0,0,-007,a,e", "0,0,-7,a,e|"),
-    (
-        "T,/m,10,10,9223372036854775807,a,e",
-        "10,10,9223372036854775807,a,e|",
-    ),
-    (
-        "T,/m,10,10,-9223372036854775808,,",
-        "10,10,-9223372036854775808,,|",
-    ),
-    (
-        "T,/m,9223372036854775807,9223372036854775807,4,a,e",
-        "9223372036854775807,9223372036854775807,4,a,e|",
-    ),
-    ("T,/d,0,1,5,a,e", "0,1,5,a,e|"),
-    ("T,/h,0,10,4;1;1,a,e", "0,10,4;1;1,a,e|"),
-    (
-        "T,/h,0,10,-0;00;9223372036854775807,a,e",
-        "0,10,0;0;9223372036854775807,a,e|",
-    ),
-    ("T,/s,10,10,\"a \"\"b\"\", c\",a,e", "10,10,a \"b\", c,a,e|"),
-    ("T,/b,10,10,true,a,e,5,false,x", "10,10,true,a,e,5,false,x|"),
-    ("K,/m,10,10,1,-5,true,e", "10,10,1,-5,true,e|"),
-    ("\"T\",/m,10,10,1,\"a\"\"b\",e", "10,10,1,a\"b,e|"),
+// Records of one line, and behind the arrow what each reads as.
+const RECORDS: &str = r#"T,/m,10,10,7,a,e => 10,10,7,a,e|
+T,/m,10,10,-7,a,e => 10,10,-7,a,e|
+T,/m,10,10,-0,a,e => 10,10,0,a,e|
+T,/m,010,0010,007,a,e => 10,10,7,a,e|
+T,/m,-0,0,-007,a,e => 0,0,-7,a,e|
+T,/m,10,10,9223372036854775807,a,e => 10,10,9223372036854775807,a,e|
+T,/m,10,10,-9223372036854775808,, => 10,10,-9223372036854775808,,|
+T,/m,9223372036854775807,9223372036854775807,4,a,e => 9223372036854775807,9223372036854775807,4,a,e|
+T,/d,0,1,5,a,e => 0,1,5,a,e|
+T,/h,0,10,4;1;1,a,e => 0,10,4;1;1,a,e|
+T,/h,0,10,-0;00;9223372036854775807,a,e => 0,10,0;0;9223372036854775807,a,e|
+T,/s,10,10,"a ""b"", c",a,e => 10,10,a "b", c,a,e|
+T,/b,10,10,true,a,e,5,false,x => 10,10,true,a,e,5,false,x|
+K,/m,10,10,1,-5,true,e => 10,10,1,-5,true,e|
+"T",/m,10,10,1,"a""b",e => 10,10,1,a"b,e|
+T => Fields|
+, => Fields|
+T,/m,10,10 => Fields|
+T,/m,20,"20 => Fields|
+X,/x,x,x => Fields|
+X,/m,10,10,1,a,e => UnknownSchema|
+t,/m,10,10,1,a,e => UnknownSchema|
+ T,/m,10,10,1,a,e => UnknownSchema|
+,/m,10,10,1,a,e => UnknownSchema|
+X,/x,x,x,x => UnknownSchema|
+T,/x,10,10,1,a,e => UnknownMetric|
+T,,x,x,x => UnknownMetric|
+T,/m,10,10,1 => Fields|
+T,/m,10,10,1,a => Fields|
+T,/m,10,10,1,a,e,x => Fields|
+T,/b,10,10,true,a,e => Fields|
+T,/m,x,10,1,a => Fields|
+T,/h,0,10,4,1,1,a,e => Fields|
+T,/m,x,10,1,a,e => BadTime|
+T,/m,10,x,1,a,e => BadTime|
+T,/m,,,1,a,e => BadTime|
+T,/m,-1,-1,1,a,e => BadTime|
+T,/m,+1,+1,1,a,e => BadTime|
+T,/m, 1, 1,1,a,e => BadTime|
+T,/m,1.0,1.0,1,a,e => BadTime|
+T,/m,9223372036854775808,9223372036854775808,1,a,e => BadTime|
+T,/m,5,6,1,a,e => BadTime|
+T,/d,5,5,1,a,e => BadTime|
+T,/d,6,5,1,a,e => BadTime|
+T,/m,5,6,x,a,e => BadTime|
+T,/m,10,10,,a,e => BadValue|
+T,/m,10,10,-,a,e => BadValue|
+T,/m,10,10,--1,a,e => BadValue|
+T,/m,10,10,+1,a,e => BadValue|
+T,/m,10,10, 1,a,e => BadValue|
+T,/m,10,10,1 ,a,e => BadValue|
+T,/m,10,10,1e3,a,e => BadValue|
+T,/m,10,10,9223372036854775808,a,e => BadValue|
+T,/m,10,10,-9223372036854775809,a,e => BadValue|
+T,/m,10,10,true,a,e => BadValue|
+T,/b,10,10,True,a,e,5,true,x => BadValue|
+T,/b,10,10,1,a,e,5,true,x => BadValue|
+T,/h,0,10,4;1,a,e => BadValue|
+T,/h,0,10,4;1;1;1,a,e => BadValue|
+T,/h,0,10,4;1;-1,a,e => BadValue|
+T,/h,0,10,4;1;,a,e => BadValue|
+T,/h,0,10,9223372036854775807;1;0,a,e => BadValue|
+K,/m,10,10,x,x,x,e => BadValue|
+K,/m,10,10,1,x,true,e => BadField 1|
+K,/m,10,10,1,9223372036854775808,true,e => BadField 1|
+K,/m,10,10,1,x,yes,e => BadField 1|
+K,/m,10,10,1,5,yes,e => BadField 2|
+K,/b,10,10,true,5,true,e,x,true,n => BadField 4|
+K,/b,10,10,true,5,true,e,7,maybe,n => BadField 5|
+T,/b,10,10,true,a,e,x,true,n => BadField 3|
+"#;
+
+#[test]
+fn records_read_as_rows_or_faults(rt: HostRuntime) -> Result<(), Fail> {
+    let alloc = rt.alloc();
+    let schemas = schemas(alloc)?;
+    for case in RECORDS.lines() {
+        let Some((record, want)) = case.split_once(" => ") else {
+            return Err(Fail::new("a record wants nothing"));
+        };
+        let read = all_shown(alloc, record.as_bytes(), &schemas)?;
+        assert_eq!(rt; read.as_str(), want, "{record}");
+    }
+    Ok(())
+}
+
+// Texts with line ends, marks and letters beyond ASCII, and what their records read as.
+static TEXTS: [(&str, &str); 7] = [
     ("T,/m,10,10,1,\"a\nb\",e", "10,10,1,a\nb,e|"),
     ("T,/m,10,10,1,\u{e9},e", "10,10,1,\u{e9},e|"),
     (
@@ -148,73 +208,15 @@ static RECORDS: [(&str, &str); 77] = [
         "10,10,1,a,e|UnknownSchema|",
     ),
     ("", ""),
-    ("T", "Fields|"),
-    (",", "Fields|"),
-    ("T,/m,10,10", "Fields|"),
-    ("T,/m,20,\"20", "Fields|"),
-    ("X,/x,x,x", "Fields|"),
-    ("X,/m,10,10,1,a,e", "UnknownSchema|"),
-    ("t,/m,10,10,1,a,e", "UnknownSchema|"),
-    (" T,/m,10,10,1,a,e", "UnknownSchema|"),
-    (",/m,10,10,1,a,e", "UnknownSchema|"),
-    ("X,/x,x,x,x", "UnknownSchema|"),
-    ("T,/x,10,10,1,a,e", "UnknownMetric|"),
-    ("T,,x,x,x", "UnknownMetric|"),
-    ("T,/m,10,10,1", "Fields|"),
-    ("T,/m,10,10,1,a", "Fields|"),
-    ("T,/m,10,10,1,a,e,x", "Fields|"),
-    ("T,/b,10,10,true,a,e", "Fields|"),
-    ("T,/m,x,10,1,a", "Fields|"),
-    ("T,/h,0,10,4,1,1,a,e", "Fields|"),
-    ("T,/m,x,10,1,a,e", "BadTime|"),
-    ("T,/m,10,x,1,a,e", "BadTime|"),
-    ("T,/m,,,1,a,e", "BadTime|"),
-    ("T,/m,-1,-1,1,a,e", "BadTime|"),
-    ("T,/m,+1,+1,1,a,e", "BadTime|"),
-    ("T,/m, 1, 1,1,a,e", "BadTime|"),
-    ("T,/m,1.0,1.0,1,a,e", "BadTime|"),
-    (
-        "T,/m,9223372036854775808,9223372036854775808,1,a,e",
-        "BadTime|",
-    ),
-    ("T,/m,5,6,1,a,e", "BadTime|"),
-    ("T,/d,5,5,1,a,e", "BadTime|"),
-    ("T,/d,6,5,1,a,e", "BadTime|"),
-    ("T,/m,5,6,x,a,e", "BadTime|"),
-    ("T,/m,10,10,,a,e", "BadValue|"),
-    ("T,/m,10,10,-,a,e", "BadValue|"),
-    ("T,/m,10,10,--1,a,e", "BadValue|"),
-    ("T,/m,10,10,+1,a,e", "BadValue|"),
-    ("T,/m,10,10, 1,a,e", "BadValue|"),
-    ("T,/m,10,10,1 ,a,e", "BadValue|"),
-    ("T,/m,10,10,1e3,a,e", "BadValue|"),
-    ("T,/m,10,10,9223372036854775808,a,e", "BadValue|"),
-    ("T,/m,10,10,-9223372036854775809,a,e", "BadValue|"),
-    ("T,/m,10,10,true,a,e", "BadValue|"),
-    ("T,/b,10,10,True,a,e,5,true,x", "BadValue|"),
-    ("T,/b,10,10,1,a,e,5,true,x", "BadValue|"),
-    ("T,/h,0,10,4;1,a,e", "BadValue|"),
-    ("T,/h,0,10,4;1;1;1,a,e", "BadValue|"),
-    ("T,/h,0,10,4;1;-1,a,e", "BadValue|"),
-    ("T,/h,0,10,4;1;,a,e", "BadValue|"),
-    ("T,/h,0,10,9223372036854775807;1;0,a,e", "BadValue|"),
-    ("K,/m,10,10,x,x,x,e", "BadValue|"),
-    ("K,/m,10,10,1,x,true,e", "BadField 1|"),
-    ("K,/m,10,10,1,9223372036854775808,true,e", "BadField 1|"),
-    ("K,/m,10,10,1,x,yes,e", "BadField 1|"),
-    ("K,/m,10,10,1,5,yes,e", "BadField 2|"),
-    ("K,/b,10,10,true,5,true,e,x,true,n", "BadField 4|"),
-    ("K,/b,10,10,true,5,true,e,7,maybe,n", "BadField 5|"),
-    ("T,/b,10,10,true,a,e,x,true,n", "BadField 3|"),
 ];
 
 #[test]
-fn records_read_as_rows_or_faults(rt: HostRuntime) -> Result<(), Fail> {
+fn texts_of_several_lines(rt: HostRuntime) -> Result<(), Fail> {
     let alloc = rt.alloc();
     let schemas = schemas(alloc)?;
-    for (record, want) in &RECORDS {
-        let read = all_shown(alloc, record.as_bytes(), &schemas)?;
-        assert_eq!(rt; read.as_str(), *want, "{record}");
+    for (text, want) in &TEXTS {
+        let read = all_shown(alloc, text.as_bytes(), &schemas)?;
+        assert_eq!(rt; read.as_str(), *want, "{text}");
     }
     Ok(())
 }

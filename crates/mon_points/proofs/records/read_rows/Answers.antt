@@ -1,11 +1,14 @@
-use Rattle.std.proofs.Common.{◌∙◌, sym, refl, inl, inr, ap, map, Some, true, [], ◌∷◌, ◌++◌}
+use Rattle.std.proofs.Common.{◌≡◌, ◌∙◌, sym, subst, refl, inl, inr, ap, map, Some, true, [], ◌∷◌, ◌++◌}
+use Rattle.std.specs.List.{AllByRecursion}
 use Rattle.std.proofs.lemmas.List.{map-append}
 use Rattle.csv.specs.Reading.{Reached, default_config, strip_bom, with_flexible}
 use Rattle.csv.specs.declared.reader.ReaderBuilder.{ReaderBuilder}
 use Rattle.csv.specs.Records.{fields_of}
 use Rattle.csv.specs.declared.parser.State.TheVariants as state
 use Rattle.csv.proofs.ReadFacts.{rows-end, rows-more}
-use Rattle.mon_points.specs.Records.{record_read}
+use Rattle.mon_points.specs.Fitting.{ReadFits}
+use Rattle.mon_points.specs.Records.{reads_of, record_read}
+use Rattle.mon_points.proofs.Fitting.{reads_fit}
 use Rattle.mon_points.proofs.Reading.{records-reached}
 use Rattle.mon_points.proofs.records.read_rows.Goals as goal
 
@@ -49,4 +52,8 @@ returns c =
     let inv = c.loop-record.invariant in
     let step = rw c.in-None.is at ((c.next.ensures.steps inv.turns inv.plain).0 inv.ready) in
     let last = rows-end (λ s. Some s.now) c.loop-record.record-iterator.rdr c.next.new.self.rdr [] default_config inv.rest inv.config inv.source step in
-    record { exact = inv.read ∙ ap (map (record_read c.args.schemas.now)) (records-reached (strip_bom c.args.bytes.now) inv.taken c.loop-record.record-iterator.rdr.state inv.rest inv.reached last) }
+    let exact : c.loop-record.reads ≡ reads_of c.args.schemas.now c.args.bytes.now = inv.read ∙ ap (map (record_read c.args.schemas.now)) (records-reached (strip_bom c.args.bytes.now) inv.taken c.loop-record.record-iterator.rdr.state inv.rest inv.reached last) in
+    record {
+      exact = exact;
+      fit = subst (AllByRecursion (ReadFits c.args.schemas.now)) (sym exact) (reads_fit c.args.schemas.now c.args.bytes.now);
+    }
