@@ -1,2 +1,9 @@
+pub mod AggregatePartLemmas
+pub mod AlignmentLemmas
+pub mod GroupBounds
+pub mod KeptGroups
 pub mod MeanLemmas
+pub mod PartialGroupLemmas
 pub mod PiecesLemmas
+pub mod SmallGroups
+pub mod SlidingLemmas

@@ -1,0 +1,79 @@
+use Rattle.std.proofs.Common.{◌≡◌, ◌-ℤ◌, ◌<ℤ◌, ◌≤ℤ◌, List, ℤ, to_z, of_z, w64, sym, ap, subst, ◌∙◌, rules, arith}
+use Rattle.std.specs.List.{AllByRecursion}
+use Rattle.std.proofs.lemmas.Int.{ints}
+use Rattle.mon_value.specs.Alignments.{aligned, SumFits, timed, value_at}
+use Rattle.mon_value.specs.Grids.{grid_times}
+use Rattle.mon_value.specs.declared.grids.Grid.{Grid}
+use Rattle.mon_value.specs.declared.grids.TimedValue.{TimedValue}
+use Rattle.mon_value.specs.declared.aligners.Aligner.{Aligner}
+use Rattle.mon_value.specs.declared.aligners.Aligner.TheVariants.{Delta}
+use Rattle.mon_value.specs.declared.rows.Point.{Point}
+use Rattle.mon_value.proofs.GridLemmas.{grid_between}
+use Rattle.mon_fold.specs.SlidingWindows.{IsTotalled}
+use Rattle.mon_fold.proofs.AlignmentLemmas.{begins_all, begins_whole, both_hold, holds_later, holds_now, made_more}
+use Rattle.mon_fold.proofs.alignment.added_values.Goals as goal
+
+-- a time within the grid's reach whose sum fits
+abbrev IsNext : Aligner → Grid → List Point → ℤ → Type 0
+IsNext by grid points time = (((grid.moment -ℤ grid.within) <ℤ time) × (time ≤ℤ grid.moment)) × SumFits by points time
+
+-- what a time gives
+abbrev made_at : Aligner → List Point → ℤ → List TimedValue
+made_at by points time = timed time (value_at by points time)
+
+pub loop-init : goal.loop-init
+loop-init c =
+    let by = (Delta (to_z w64 (of_z w64 c.args.seconds))) in
+    let grid = c.args.grid.now in
+    let points = c.args.points.now.points in
+    let moment = to_z w64 (of_z w64 grid.moment) in
+    let plain : to_z w64 (of_z w64 c.args.seconds) ≡ c.args.seconds = search rules in
+    let sums = subst (λ seconds. AllByRecursion (SumFits (Delta seconds) points) (grid_times grid)) (sym plain) c.requires.sums in
+    let same : moment ≡ grid.moment = omega (arith, ints) in record {
+      whole = begins_whole (made_at by points) grid c.new-values.result c.times_of-end.result moment c.new-values.ensures.empty c.times_of-end.ensures same;
+      left = begins_all (IsNext by grid points) grid c.times_of-end.result moment c.times_of-end.ensures same (both_hold _ (SumFits by points) (grid_times grid) (grid_between grid c.requires.lawful) sums);
+      totalled = subst (IsTotalled c.behind-window.result) c.points.ensures.same c.behind-window.ensures;
+    }
+
+pub window_at-requires-clause-after : goal.window_at-requires-clause-after
+window_at-requires-clause-after c =
+    let grid = c.args.grid.now in
+    let now = holds_now (IsNext (Delta (to_z w64 (of_z w64 c.args.seconds))) grid c.args.points.now.points) c.times_of-end.result c.loop.counter (to_z w64 c.loop.time-bits) grid.every c.loop-test.true c.loop.invariant.left in
+    let moment = c.requires.lawful.moment in
+    let within = c.requires.lawful.within in
+    omega (arith, ints)
+
+pub window_at-requires-clause-sums : goal.window_at-requires-clause-sums
+window_at-requires-clause-sums c =
+    let grid = c.args.grid.now in
+    let now = holds_now (IsNext (Delta (to_z w64 (of_z w64 c.args.seconds))) grid c.args.points.now.points) c.times_of-end.result c.loop.counter (to_z w64 c.loop.time-bits) grid.every c.loop-test.true c.loop.invariant.left in
+    now.1
+
+pub overflow_sub-time : goal.overflow_sub-time
+overflow_sub-time c =
+    let grid = c.args.grid.now in
+    let now = holds_now (IsNext (Delta (to_z w64 (of_z w64 c.args.seconds))) grid c.args.points.now.points) c.times_of-end.result c.loop.counter (to_z w64 c.loop.time-bits) grid.every c.loop-test.true c.loop.invariant.left in
+    let moment = c.requires.lawful.moment in
+    let within = c.requires.lawful.within in
+    let every = c.requires.lawful.every in
+    omega (arith, ints)
+
+pub loop-preserved : goal.loop-preserved
+loop-preserved c =
+    let by = (Delta (to_z w64 (of_z w64 c.args.seconds))) in
+    let grid = c.args.grid.now in
+    let points = c.args.points.now.points in
+    let n = c.times_of-end.result in
+    let k = c.loop.counter in
+    let time = to_z w64 c.loop.time-bits in
+    let next = to_z w64 (of_z w64 (time -ℤ to_z w64 (of_z w64 grid.every))) in
+    let now = holds_now (IsNext by grid points) n k time grid.every c.loop-test.true c.loop.invariant.left in
+    let moment = c.requires.lawful.moment in
+    let within = c.requires.lawful.within in
+    let every = c.requires.lawful.every in
+    let made = c.in_ok-total.ensures ∙ c.in_ok-window.ensures.total in
+    let step : next ≡ time -ℤ grid.every = omega (arith, ints) in record {
+      whole = rw c.in_ok-add_value.ensures (made_more (made_at by points) c.loop.values (aligned by grid points) n k time next grid.every c.loop-test.true step c.loop.invariant.whole (timed time c.in_ok-total.field-0) (ap (timed time) (sym made)));
+      left = holds_later (IsNext by grid points) n k time next grid.every c.loop-test.true step c.loop.invariant.left;
+      totalled = c.in_ok-window.ensures.totalled;
+    }

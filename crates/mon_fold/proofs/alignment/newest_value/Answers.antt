@@ -1,0 +1,9 @@
+use Rattle.std.proofs.Common.{Some, ap, ◌∙◌}
+use Rattle.std.specs.Option.{option_map}
+use Rattle.mon_value.specs.declared.rows.Point.{Point}
+use Rattle.mon_fold.proofs.AlignmentLemmas.{slice_get-newest}
+use Rattle.mon_fold.proofs.alignment.newest_value.Goals as goal
+
+pub returns-in_ok-copy-in-Some : goal.returns-in_ok-copy-in-Some
+returns-in_ok-copy-in-Some c =
+    ap Some c.in_ok-copy-in-Some.ensures.equal ∙ ap (option_map (λ (p : Point). p.value)) (c.in-Some.ensures.value ∙ slice_get-newest c.args.window.now)

@@ -1,0 +1,9 @@
+-- the sum of the numbers so far
+use Rattle.std.proofs.Common.{◌≡◌, take}
+use Rattle.mon_value.specs.Aggregates.{sum_of}
+use Rattle.mon_value.specs.Alignments.{values_of}
+use Rattle.mon_value.specs.Groups.{numbers_in}
+use Rattle.mon_fold.proofs.sliding.sum_of_numbers.Given as goal
+
+abbrev pub invariant-loop-point : goal.invariant-loop-point
+invariant-loop-point l = l.sum ≡ sum_of (numbers_in (values_of (take l.point-index l.window)))

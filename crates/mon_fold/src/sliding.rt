@@ -1,0 +1,189 @@
+// Windows that slide over the points of a series from time to time, and what their points add up to.
+ghost use Rattle.std.specs.List.{AllByRecursion};
+ghost use Rattle.std.specs.Prelude.{ℕ, ◌≡◌, ◌≤◌, ◌<◌, ◌+◌, sum, pos, neg_ℤ, ◌≤ℤ◌, IfOk, sum_by, length, get_or, [], ◌∷◌};
+ghost use Rattle.mon_value.specs.Aggregates.{sum_of, counts_added, counts_of};
+ghost use Rattle.mon_value.specs.Alignments.{CanAdd, CanAddAll, magnitude, most_aligned, SumFits, value_at, values_of};
+ghost use Rattle.mon_value.specs.Grids.{IsDuration};
+ghost use Rattle.mon_value.specs.Groups.{numbers_in, distributions_in, total_of};
+ghost use Rattle.mon_value.specs.declared.aligners.Aligner.TheVariants.{Delta};
+ghost use Rattle.mon_fold.specs.SlidingWindows.{points_between, IsTotalled};
+
+use mon_series::Series;
+use mon_value::{Counts, OutOfMemory, Point, TryCopy, Value};
+use std::alloc::Global;
+
+// Points that follow one another, by the place of the first and that behind the last, and what they
+// add up to.
+#[derive(Debug, Drop)]
+pub(crate) struct Window {
+    start: usize,
+    end: usize,
+    total: Option<Value>,
+}
+
+impl Window {
+    // The window without points behind all of them.
+    pub(crate) fn behind(all: &[Point]) -> Window
+        ensures { IsTotalled result all.now }
+    {
+        Window {
+            start: all.len(),
+            end: all.len(),
+            total: None,
+        }
+    }
+
+    // A copy of what the points add up to.
+    pub(crate) fn total(&self, alloc: Global) -> Result<Option<Value>, OutOfMemory>
+        ensures { IfOk result (λ total. total ≡ self.now.total) }
+    {
+        match &self.total {
+            Some(total) => Ok(Some(total.copy(alloc)?)),
+            None => Ok(None),
+        }
+    }
+}
+
+// The window of the points that end in the seconds up to the time, from another window.
+pub(crate) fn window_at(
+    alloc: Global,
+    points: &Series,
+    last: Window,
+    time: i64,
+    seconds: i64,
+) -> Result<Window, OutOfMemory>
+    requires after { neg_ℤ (pos 1000000000) ≤ℤ time }
+    requires looks_back { IsDuration seconds }
+    requires alike { CanAddAll (values_of points.now.points) }
+    requires sums { SumFits (Delta seconds) points.now.points time }
+    requires totalled { IsTotalled last points.now.points }
+    ensures totalled { IfOk result (λ window. IsTotalled window points.now.points) }
+    ensures total { IfOk result (λ window. window.total ≡ value_at (Delta seconds) points.now.points time) }
+{
+    let (start, end) = points.places(time, seconds);
+    let total = total_between(alloc, points.points(), last, start, end)?;
+    Ok(Window { start, end, total })
+}
+
+// What the points between two places add up to, from another window.
+fn total_between(
+    alloc: Global,
+    all: &[Point],
+    last: Window,
+    start: usize,
+    end: usize,
+) -> Result<Option<Value>, OutOfMemory>
+    requires alike { CanAddAll (values_of all.now) }
+    requires totalled { IsTotalled last all.now }
+    requires ordered { start ≤ end }
+    requires within { end ≤ length all.now }
+    requires sums { sum_by magnitude (values_of (points_between start end all.now)) ≤ most_aligned }
+    ensures { IfOk result (λ total. total ≡ total_of (values_of (points_between start end all.now))) }
+{
+    if start <= last.start && last.start < end && end <= last.end {
+        Ok(slid_total(all, last, start, end))
+    } else {
+        added_value(alloc, &all[start..end])
+    }
+}
+
+// What the points between two places add up to, from a later window that has some of them: the new
+// points are added, and those that are not among them are taken off.
+fn slid_total(all: &[Point], last: Window, start: usize, end: usize) -> Option<Value>
+    requires alike { CanAddAll (values_of all.now) }
+    requires totalled { IsTotalled last all.now }
+    requires earlier { start ≤ last.start }
+    requires shared { last.start < end }
+    requires no_later { end ≤ last.end }
+    requires sums { sum_by magnitude (values_of (points_between start end all.now)) ≤ most_aligned }
+    ensures { result ≡ total_of (values_of (points_between start end all.now)) }
+{
+    let new = &all[start..last.start];
+    let gone = &all[end..last.end];
+    match last.total? {
+        Value::Int(sum) => Some(Value::Int(sum - sum_of_numbers(gone) + sum_of_numbers(new))),
+        Value::Dist(counts) => Some(Value::Dist(merge_into(take_off(counts, gone), new))),
+        _ => None,
+    }
+}
+
+// The values of the points added up.
+fn added_value(alloc: Global, window: &[Point]) -> Result<Option<Value>, OutOfMemory>
+    requires alike { CanAddAll (values_of window.now) }
+    requires within { sum_by magnitude (values_of window.now) ≤ most_aligned }
+    ensures { IfOk result (λ value. value ≡ total_of (values_of window.now)) }
+{
+    let Some((first, rest)) = window.split_first() else {
+        return Ok(None);
+    };
+    match &first.value {
+        Value::Int(_) => Ok(Some(Value::Int(sum_of_numbers(window)))),
+        Value::Dist(counts) => Ok(Some(Value::Dist(merge_into(counts.copy(alloc)?, rest)))),
+        Value::Bool(_) => Ok(None),
+        Value::Text(_) => Ok(None),
+    }
+}
+
+// The sum of the points that are numbers.
+fn sum_of_numbers(window: &[Point]) -> i128
+    requires within { sum_by magnitude (values_of window.now) ≤ most_aligned }
+    ensures { result ≡ sum_of (numbers_in (values_of window.now)) }
+{
+    let mut sum = 0;
+    for point in window {
+        sum += number_of(&point.value);
+    }
+    sum
+}
+
+// The number that a value is, and 0 where it is none.
+fn number_of(value: &Value) -> i128
+    ensures { result ≡ sum_of (numbers_in (value.now ∷ [])) }
+{
+    match value {
+        Value::Int(number) => *number,
+        _ => 0,
+    }
+}
+
+// The counts with those of the points added.
+fn merge_into(mut counts: Counts, points: &[Point]) -> Counts
+    requires alike { AllByRecursion (CanAdd (Value.Dist counts)) (values_of points.now) }
+    requires within { sum counts + sum_by magnitude (values_of points.now) ≤ most_aligned }
+    ensures { result ≡ counts_added counts (counts_of (distributions_in (values_of points.now))) }
+{
+    for point in points {
+        if let Value::Dist(more) = &point.value {
+            counts.merge(more);
+        }
+    }
+    counts
+}
+
+// The counts without those of the points, which added again would give the counts.
+fn take_off(counts: Counts, points: &[Point]) -> Counts
+    requires alike { AllByRecursion (CanAdd (Value.Dist counts)) (values_of points.now) }
+    requires held { (k : ℕ) → get_or (counts_of (distributions_in (values_of points.now))) k 0 ≤ get_or counts k 0 }
+    ensures buckets { length result ≡ length counts }
+    ensures taken { (k : ℕ) → get_or result k 0 + get_or (counts_of (distributions_in (values_of points.now))) k 0 ≡ get_or counts k 0 }
+{
+    let mut items = counts.into_vec();
+    for point in points {
+        if let Value::Dist(less) = &point.value {
+            subtract(items.as_mut_slice(), less.as_slice());
+        }
+    }
+    Counts::from_vec(items)
+}
+
+// Takes each count of the second off the one in its place in the first.
+fn subtract(counts: &mut [u128], others: &[u128])
+    requires buckets { length others.now ≡ length counts.old }
+    requires held { (k : ℕ) → get_or others.now k 0 ≤ get_or counts.old k 0 }
+    ensures buckets { length counts.new ≡ length counts.old }
+    ensures taken { (k : ℕ) → get_or counts.new k 0 + get_or others.now k 0 ≡ get_or counts.old k 0 }
+{
+    for (i, other) in others.iter().enumerate() {
+        counts[i] -= other;
+    }
+}

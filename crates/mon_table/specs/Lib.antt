@@ -1,0 +1,6 @@
+pub mod Bags
+pub mod CsvLines
+pub mod Groups
+pub mod Places
+pub mod Rooms
+pub mod Tables
