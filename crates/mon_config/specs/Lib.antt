@@ -1,2 +1,6 @@
-pub mod FirstForm
-pub mod Members
+pub mod Configs
+pub mod FaultTexts
+pub mod Numbers
+pub mod Objects
+pub mod Shapes
+pub mod Zones

@@ -1,8 +1,20 @@
-//! The configuration: the schemas and the zone's locations that a JSON text spells.
+//! The configuration: the schemas, the zone's locations and the limits that a JSON text spells.
 #![tactic(auto)]
 
 pub mod config;
-mod members;
+pub mod faults;
+mod held;
+mod keys;
 mod parts;
+mod paths;
+mod readers;
+mod repeats;
+mod schemas;
+mod values;
+pub mod zones;
 
-pub use config::{Config, ConfigFault, read_config};
+pub use config::{Config, read_config};
+pub use faults::ConfigFault;
+
+#[cfg(test)]
+mod tests;

@@ -7,7 +7,7 @@ use Rattle.mon_run.specs.declared.script.ScriptLine.{ScriptLine}
 use Rattle.mon_run.specs.declared.stop.Stop.{Stop}
 use Rattle.mon_run.specs.declared.stop.Stop.TheVariants as stop
 use Rattle.mon_run.specs.Outside.{Files, Wrote}
-use Rattle.mon_run.specs.Runs.{Course, LineRuns, LineStops, RunsTo, behind_line, ending, lines_course, stop_end, too_long_text}
+use Rattle.mon_run.specs.Runs.{Course, LineRuns, LineStops, RunsTo, behind_line, ending, lines_course, next_line, stop_end, too_long_text}
 use Rattle.mon_run.proofs.WroteMore.{wrote_nothing, wrote_then}
 
 -- a course behind lines that ran
@@ -19,10 +19,11 @@ pub record RanTo (config : Config) (files : Files) (first : List Row) (lines res
   pub text : List ℕ
   pub course : lines_course config files first lines ≡ behind_lines ends text (lines_course config files rows rest)
   pub wrote : Wrote before after text []
+  pub next : (more : List LineEnd) → next_line lines (ends ++ more) ≡ next_line rest more
 
 -- before the first line
 pub ran_none : (config : Config) (files : Files) (rows : List Row) (lines : List ScriptLine) (before : Option (List ℕ)) → RanTo config files rows lines lines rows [] before before
-ran_none config files rows lines before = record { text = []; course = refl; wrote = wrote_nothing before }
+ran_none config files rows lines before = record { text = []; course = refl; wrote = wrote_nothing before; next = λ more. refl }
 
 behind_more : (ends : List LineEnd) (text : List ℕ) (end : LineEnd) (more : List ℕ) (course : Course) →
     behind_lines ends text (behind_line end more course) ≡ behind_lines (ends ++ end ∷ []) (text ++ more) course
@@ -45,6 +46,7 @@ ran_more {config} {files} {first} {rows} {rows'} {lines} {rest} {line} {ends} {e
       ∙ behind_more ends ran.text runs.end runs.text (lines_course config files rows' rest)
       ∙ ap (λ (e : List LineEnd). behind_lines e (ran.text ++ runs.text) (lines_course config files rows' rest)) (sym runs.ended);
   wrote = wrote_then before mid after ran.text runs.text ran.wrote runs.wrote;
+  next = λ more. ap (λ (e : List LineEnd). next_line lines (e ++ more)) runs.ended ∙ ap (next_line lines) (append_assoc ends (runs.end ∷ []) more) ∙ ran.next (runs.end ∷ more);
 }
 
 over_ending : (course : Course) (status : ℕ) (own : List ℕ) (rows : List Row) (ends : List LineEnd) (text : List ℕ) (before after : Option (List ℕ)) →

@@ -6,7 +6,7 @@ use Rattle.mon_value.specs.declared.refusals.Refusal.{Refusal}
 use Rattle.mon_value.specs.declared.refusals.Refusal.TheVariants as refusal
 use Rattle.mon_value.specs.declared.rows.Row.{Row}
 use Rattle.mon_config.specs.declared.config.Config.{Config}
-use Rattle.mon_config.specs.declared.config.ConfigFault.{ConfigFault}
+use Rattle.mon_config.specs.declared.faults.ConfigFault.{ConfigFault}
 use Rattle.mon_run.specs.declared.outcome.LineEnd.{LineEnd}
 use Rattle.mon_run.specs.declared.script.ScriptFault.{ScriptFault}
 use Rattle.mon_run.specs.declared.script.ScriptLine.{ScriptLine}
@@ -17,7 +17,7 @@ use Rattle.mon_run.specs.Runs.{Course, ReadStops, RunsTo, config_course, config_
 use Rattle.mon_run.proofs.Courses.{both_told}
 use Rattle.mon_run.proofs.WroteMore.{wrote_nothing}
 use Rattle.std.specs.Bool.{⊤}
-use Rattle.mon_config.specs.FirstForm.{config_in}
+use Rattle.mon_config.specs.Configs.{config_in}
 
 -- a course without lines
 pub ended_at : (course : Course) (status : ℕ) (own : List ℕ) (ends : List LineEnd) (rows : List Row) (before : Option (List ℕ)) →

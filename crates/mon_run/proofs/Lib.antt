@@ -1,8 +1,8 @@
 pub mod SeriesGroups
 pub mod Held
+pub mod Alignable
+pub mod FittingRows
 pub mod RecordCount
-pub mod SortedRows
-pub mod Newest
 pub mod WroteMore
 pub mod Courses
 pub mod Endings
@@ -10,3 +10,8 @@ pub mod Lawful
 pub mod Told
 pub mod LineCuts
 pub mod LineCount
+pub mod Contents
+pub mod Cut
+pub mod CutRuns
+pub mod Written
+pub mod KnownLocations

@@ -35,8 +35,8 @@ ended_told course (Err stop.OutOfMemory) status ends rows before mid after ran s
 closes_told : (course : Course) (ended : Result ⊤ Stop) (status write_before write_after : ℕ) (ends : List LineEnd) (rows : List Row) (before mid after : Option (List ℕ)) →
     IfSome (end_of ended) (λ over. RunsTo course over ends rows before mid) → Closes ended status write_before write_after mid after → is_told status ≡ true → RunIs course status ends rows before after
 closes_told course ended status write_before write_after ends rows before mid after ran (inl closes) told = ended_told course ended status ends rows before mid after ran closes.0 closes.1 told
-closes_told course ended status write_before write_after ends rows before mid after ran (inr (inl same)) told = let never = not_told status 6 same refl told in cc
-closes_told course ended status write_before write_after ends rows before mid after ran (inr (inr failed)) told = let never = not_told status 5 failed.0 refl told in cc
+closes_told course ended status write_before write_after ends rows before mid after ran (inr (inl same, front)) told = let never = not_told status 6 same refl told in cc
+closes_told course ended status write_before write_after ends rows before mid after ran (inr (inr failed, front)) told = let never = not_told status 5 failed.0 refl told in cc
 
 -- what the words run to, and how the run closes, is its course
 pub run_told : (files : Option Files) (words : List (List ℕ)) (ended : Result ⊤ Stop) (status write_before write_after : ℕ) (ends : List LineEnd) (rows all : List Row) (before mid after : Option (List ℕ)) →

@@ -45,7 +45,7 @@ not_old (Some last) row = if int_le row.point.end last then Err (refused.OldPoin
 
 -- what becomes of a record, behind the rows that were accepted before it
 abbrev pub verdict : Config → List Row → RowRead → Result Row RowRefused
-verdict config rows (read.Fault fault) = Err (refused.Read row_fault.NotBuilt)
+verdict config rows (read.Fault fault) = Err (refused.Read fault)
 verdict config rows (read.Row row) =
     if is_in_zone config row then not_old (last_end (points_of row.key rows)) row else Err (refused.Read row_fault.NotBuilt)
 

@@ -1,42 +1,66 @@
 -- What a plain fetch means: a table over a flat list of rows.
-use Rattle.std.specs.Prelude.{ℤ, pos, ◌&&◌, Bool, List, [], ◌∷◌, ◌++◌, map, Option, Some, None, if◌then◌else◌}
+use Rattle.std.specs.Prelude.{ℕ, ℤ, pos, ◌&&◌, Bool, List, [], ◌∷◌, ◌++◌, map, if◌then◌else◌}
 use Rattle.std.specs.List.{flat_map}
+use Rattle.mon_value.specs.Alignments.{aligned}
 pub use Rattle.mon_value.specs.Order.{field_as_value}
 use Rattle.mon_value.specs.Sources.{points_of, series_of, same_text}
-use Rattle.mon_value.specs.Windows.{window_of}
+use Rattle.mon_value.specs.declared.aligners.Aligner.{Aligner}
+use Rattle.mon_value.specs.declared.aligners.Aligner.TheVariants.{Delta, NextOlder}
+use Rattle.mon_value.specs.declared.grids.Grid.{Grid}
+use Rattle.mon_value.specs.declared.grids.TimedValue.{TimedValue}
 use Rattle.mon_value.specs.declared.rows.Point.{Point}
 use Rattle.mon_value.specs.declared.rows.Row.{Row}
 use Rattle.mon_value.specs.declared.rows.SeriesKey.{SeriesKey}
+use Rattle.mon_value.specs.declared.schemas.Kind.{Kind}
+use Rattle.mon_value.specs.declared.schemas.Kind.TheVariants as kind
+use Rattle.mon_value.specs.declared.schemas.MetricSchema.{MetricSchema}
+use Rattle.mon_value.specs.declared.tables.TimedRow.{TimedRow}
 use Rattle.mon_value.specs.declared.values.Value.{Value}
-use Rattle.mon_run.specs.declared.table.TimedRow.{TimedRow}
+use Rattle.mon_value.specs.declared.values.ValueType.{ValueType}
+use Rattle.mon_value.specs.declared.values.ValueType.TheVariants as type
 use Rattle.mon_run.specs.declared.fetch.Fetch.{Fetch}
 
 -- a fetch looks 60 seconds back
 abbrev pub reach : ℤ
 reach = pos 60
 
+-- a gauge has the newest of its values, and a delta the sum of its numbers or its distributions merged;
+-- truth values and texts add up to nothing, and no schema has deltas of them
+abbrev pub aligner_of : Kind → ValueType → Aligner
+aligner_of kind.Gauge of = NextOlder reach
+aligner_of kind.Delta type.Int = Delta reach
+aligner_of kind.Delta (type.Dist bounds) = Delta reach
+aligner_of kind.Delta type.Bool = NextOlder reach
+aligner_of kind.Delta type.Text = NextOlder reach
+
+-- how the points of a metric are brought to a moment where nothing says how
+abbrev pub default_aligner : MetricSchema → Aligner
+default_aligner metric = aligner_of metric.kind metric.value
+
+-- the grid whose one time is the moment
+abbrev pub grid_at : ℤ → Grid
+grid_at moment = record { moment = moment; every = reach; within = reach }
+
 -- whether a series is of the fetch's schema and metric
 abbrev pub meets : Fetch → SeriesKey → Bool
 meets fetch key = same_text key.target.schema fetch.target.name && same_text key.metric fetch.metric.name
 
--- the last point of a list, which is the newest, since the ends of a series rise
-abbrev pub newest : List Point → Option Point
-newest [] = None
-newest (point ∷ []) = Some point
-newest (point ∷ next ∷ points) = newest (next ∷ points)
+-- the columns of a fetch: the target's fields, the metric's, and the metric's own column
+abbrev pub column_names : Fetch → List (List ℕ)
+column_names fetch = map (λ field. field.name) fetch.target.fields ++ map (λ field. field.name) fetch.metric.fields ++ fetch.metric.column ∷ []
 
--- a row of a table: the series' fields and the point's value
+-- a row of a table: the series' fields and the value
 abbrev pub cells_of : SeriesKey → Value → List Value
 cells_of key value = map field_as_value key.target.fields ++ map field_as_value key.fields ++ value ∷ []
 
-abbrev pub row_at : ℤ → SeriesKey → Option Point → List TimedRow
-row_at moment key None = []
-row_at moment key (Some point) = record { time = moment; cells = cells_of key point.value } ∷ []
+abbrev pub row_of : SeriesKey → TimedValue → TimedRow
+row_of key aligned = record { time = aligned.time; cells = cells_of key aligned.value }
 
--- what a series gives at a moment: the newest of its points that end in the last 60 seconds, if there is one
-abbrev pub series_row : ℤ → Fetch → SeriesKey → List Point → List TimedRow
-series_row moment fetch key points = if meets fetch key then row_at moment key (newest (window_of moment reach points)) else []
+-- what a series gives at a moment: a row with what it comes to there, if it comes to anything
+abbrev pub series_rows : ℤ → Fetch → SeriesKey → List Point → List TimedRow
+series_rows moment fetch key points =
+    if meets fetch key then map (row_of key) (aligned (default_aligner fetch.metric) (grid_at moment) points) else []
 
--- the meaning of a plain fetch: for each series, its row
+-- the meaning of a plain fetch: the rows of each series
 abbrev pub meaning : Fetch → List Row → ℤ → List TimedRow
-meaning fetch rows moment = flat_map (λ key. series_row moment fetch key (points_of key rows)) (series_of rows)
+meaning fetch rows moment = flat_map (λ key. series_rows moment fetch key (points_of key rows)) (series_of rows)

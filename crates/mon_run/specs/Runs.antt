@@ -6,16 +6,19 @@ use Rattle.mon_value.specs.Sources.{same_text}
 use Rattle.mon_value.specs.declared.refusals.Refusal.{Refusal}
 use Rattle.mon_value.specs.declared.refusals.Refusal.TheVariants as refusal
 use Rattle.mon_value.specs.declared.rows.Row.{Row}
-use Rattle.mon_config.specs.FirstForm.{config_in}
+use Rattle.mon_config.specs.Configs.{config_in}
+use Rattle.mon_config.specs.FaultTexts.{config_fault_text}
 use Rattle.mon_config.specs.declared.config.Config.{Config}
-use Rattle.mon_config.specs.declared.config.ConfigFault.{ConfigFault}
+use Rattle.mon_config.specs.declared.faults.ConfigFault.{ConfigFault}
 use Rattle.mon_points.specs.FaultTexts.{row_fault_text}
+use Rattle.mon_schema.specs.SchemaLists.{SchemaLists}
+pub use Rattle.mon_table.specs.Tables.{table_text}
+use Rattle.mon_table.specs.Tables.{newline}
 use Rattle.mon_run.specs.Feeds.{Fed, fed}
-pub use Rattle.mon_run.specs.Meaning.{meaning}
-use Rattle.mon_run.specs.Outside.{Files, Rose, Wrote, content_of}
+use Rattle.mon_run.specs.Fitting.{IsHeld}
+pub use Rattle.mon_run.specs.Meaning.{column_names, meaning}
+use Rattle.mon_run.specs.Outside.{Files, Rose, Wrote, WroteFront, content_of}
 use Rattle.mon_run.specs.Scripts.{script_in}
-pub use Rattle.mon_run.specs.Tables.{column_names, table_text}
-use Rattle.mon_run.specs.Tables.{newline}
 use Rattle.mon_run.specs.declared.outcome.LineEnd.{LineEnd}
 use Rattle.mon_run.specs.declared.outcome.LineEnd.TheVariants as end
 use Rattle.mon_run.specs.declared.outcome.RowRefused.{RowRefused}
@@ -35,8 +38,11 @@ pub record Command : Type 0 where
   pub config : List ℕ
   pub script : List ℕ
 
+abbrev pub run_command : List ℕ → List ℕ → Command
+run_command config script = record { config = config; script = script }
+
 abbrev pub command_of : List (List ℕ) → Option Command
-command_of (verb ∷ config ∷ script ∷ []) = if same_text verb (codes "run") then Some (record { config = config; script = script }) else None
+command_of (verb ∷ config ∷ script ∷ []) = if same_text verb (codes "run") then Some (run_command config script) else None
 command_of words = None
 
 -- ---- texts
@@ -60,7 +66,7 @@ abbrev pub usage_text : List ℕ
 usage_text = codes "usage: mon run CONFIG SCRIPT | weave CONFIG SCHEDULE | gen N | trial N" ++ newline
 
 abbrev pub config_text : ConfigFault → List ℕ
-config_text fault = codes "config: NotBuilt" ++ newline
+config_text fault = codes "config: " ++ (config_fault_text fault ++ newline)
 
 abbrev pub script_text : ScriptFault → List ℕ
 script_text fault = codes "script line " ++ decimal fault.line ++ codes ": NotBuilt" ++ newline
@@ -222,21 +228,38 @@ pub record LineRuns (config : Config) (files : Files) (line : LineForm) (old new
   pub ended : ends' ≡ ends ++ end ∷ []
   pub wrote : Wrote before after text []
 
--- why a line stops: its file is too long, and then all is as it was; or a read of its file, a write or memory failed
+-- what a feed leaves before its text is written: it has an end, and the course goes on behind it
+pub record FeedTakes (config : Config) (files : Files) (name : List ℕ) (old new : List Row) (ends ends' : List LineEnd) (text : List ℕ) : Type 0 where
+  pub end : LineEnd
+  pub course : (rest : List Row → Course) → line_course config files old (form.Feed name) rest ≡ behind_line end text (rest new)
+  pub ended : ends' ≡ ends ++ end ∷ []
+
+-- why a feed stops before its text is written: its file is too long or could not be read, and then no line has ended; or memory ran out
+abbrev pub FeedStops : Config → Files → List Row → List Row → List LineEnd → List LineEnd → List ℕ → Stop → Type 0
+FeedStops config files rows rows' ends ends' name (stop.TooLong told) =
+    ((rest : List Row → Course) → line_course config files rows (form.Feed name) rest ≡ ending 8 (too_long_text told) rows') × (ends' ≡ ends)
+FeedStops config files rows rows' ends ends' name (stop.CannotRead told) = (told ≡ name) × (ends' ≡ ends)
+FeedStops config files rows rows' ends ends' name stop.OutOfMemory = ⊤
+FeedStops config files rows rows' ends ends' name stop.WriteFailed = ⊥
+FeedStops config files rows rows' ends ends' name stop.Usage = ⊥
+FeedStops config files rows rows' ends ends' name (stop.Config fault) = ⊥
+FeedStops config files rows rows' ends ends' name (stop.Script fault) = ⊥
+
+-- why a line stops: its file is too long or could not be read, and then all is as it was; or a write or memory failed, and the sink took no more than the front of its text
 abbrev pub LineStops : Config → Files → List Row → List Row → List LineEnd → List LineEnd → Option (List ℕ) → Option (List ℕ) → LineForm → Stop → Type 0
 LineStops config files rows rows' ends ends' before after line (stop.TooLong name) =
     ((rest : List Row → Course) → line_course config files rows line rest ≡ ending 8 (too_long_text name) rows') × (ends' ≡ ends) × (after ≡ before)
-LineStops config files rows rows' ends ends' before after line (stop.CannotRead name) = line ≡ form.Feed name
-LineStops config files rows rows' ends ends' before after line stop.WriteFailed = ⊤
-LineStops config files rows rows' ends ends' before after line stop.OutOfMemory = ⊤
+LineStops config files rows rows' ends ends' before after line (stop.CannotRead name) = (line ≡ form.Feed name) × (ends' ≡ ends) × (after ≡ before)
+LineStops config files rows rows' ends ends' before after line stop.WriteFailed = (rest : List Row → Course) → WroteFront before after (line_course config files rows line rest).text
+LineStops config files rows rows' ends ends' before after line stop.OutOfMemory = (rest : List Row → Course) → WroteFront before after (line_course config files rows line rest).text
 LineStops config files rows rows' ends ends' before after line stop.Usage = ⊥
 LineStops config files rows rows' ends ends' before after line (stop.Config fault) = ⊥
 LineStops config files rows rows' ends ends' before after line (stop.Script fault) = ⊥
 
--- the moment of a query is no less than 0
-abbrev pub IsLawful : LineForm → Type 0
-IsLawful (form.Feed name) = ⊤
-IsLawful (form.Query moment fetch) = pos 0 ≤ℤ moment
+-- the moment of a query is no less than 0, and its metric is held
+abbrev pub IsLawful : SchemaLists → LineForm → Type 0
+IsLawful schemas (form.Feed name) = ⊤
+IsLawful schemas (form.Query moment fetch) = (pos 0 ≤ℤ moment) × IsHeld schemas fetch.metric
 
 -- a write or memory failed
 abbrev pub IsOutside : Stop → Type 0
@@ -248,13 +271,69 @@ IsOutside stop.Usage = ⊥
 IsOutside (stop.Config fault) = ⊥
 IsOutside (stop.Script fault) = ⊥
 
+-- ---- runs that are cut short
+
+-- the line behind those that ended
+abbrev pub next_line : List ScriptLine → List LineEnd → Option LineForm
+next_line [] ends = None
+next_line (line ∷ lines) [] = Some line.what
+next_line (line ∷ lines) (end ∷ ends) = next_line lines ends
+
+abbrev pub lines_or_none : Result (List ScriptLine) ScriptFault → List ScriptLine
+lines_or_none (Ok lines) = lines
+lines_or_none (Err fault) = []
+
+-- the files that a run comes to read: its configuration, its script, and the file of a feed when the lines before it ended
+abbrev pub ScriptComesTo : Config → Files → List ℕ → List LineEnd → List ℕ → Type 0
+ScriptComesTo config files script ends name =
+    (name ≡ script) ⊎ (next_line (lines_or_none (script_in config.schemas (content_of files script))) ends ≡ Some (form.Feed name))
+
+abbrev pub ConfigComesTo : Files → List ℕ → List LineEnd → List ℕ → Result Config ConfigFault → Type 0
+ConfigComesTo files script ends name (Err fault) = ⊥
+ConfigComesTo files script ends name (Ok config) = ScriptComesTo config files script ends name
+
+abbrev pub FilesComeTo : Files → List ℕ → List ℕ → List LineEnd → List ℕ → Type 0
+FilesComeTo files config script ends name = (name ≡ config) ⊎ ConfigComesTo files script ends name (config_in (content_of files config))
+
+abbrev pub ComesTo : Files → Option Command → List LineEnd → List ℕ → Type 0
+ComesTo files None ends name = ⊥
+ComesTo files (Some command) ends name = FilesComeTo files command.config command.script ends name
+
+-- where a read, a write or memory fails, no more than the front of the lines' text was written; a file that could not be read is one that the run came to
+abbrev pub Cuts : Course → (List ℕ → Type 0) → Option (List ℕ) → Option (List ℕ) → Stop → Type 0
+Cuts course comes before after (stop.CannotRead name) = comes name × WroteFront before after course.text
+Cuts course comes before after stop.WriteFailed = WroteFront before after course.text
+Cuts course comes before after stop.OutOfMemory = WroteFront before after course.text
+Cuts course comes before after stop.Usage = ⊤
+Cuts course comes before after (stop.Config fault) = ⊤
+Cuts course comes before after (stop.Script fault) = ⊤
+Cuts course comes before after (stop.TooLong name) = ⊤
+
+-- a text stands behind the front of the lines' text
+pub record Behind (lines own : List ℕ) (before after : Option (List ℕ)) : Type 0 where
+  pub front : List ℕ
+  pub rest : List ℕ
+  pub split : lines ≡ front ++ rest
+  pub wrote : WroteFront before after (front ++ own)
+
+-- a run writes its text from the front, and no more than that; or no more than the front of its lines' text and then that a file could not be read
+abbrev pub WritesSome : Course → List ℕ → Option (List ℕ) → Option (List ℕ) → Type 0
+WritesSome course name before after = WroteFront before after (course.text ++ course.own) ⊎ Behind course.text (read_text name) before after
+
+-- a file could not be read: what was written is the front of the lines' text, and then that the file could not be read
+pub record Unread (lines name : List ℕ) (before after : Option (List ℕ)) : Type 0 where
+  pub front : List ℕ
+  pub rest : List ℕ
+  pub split : lines ≡ front ++ rest
+  pub wrote : Wrote before after (front ++ read_text name) []
+
 -- ---- the end of a run
 
--- a run closes with its text of its own and its status, or memory or a write failed
+-- a run closes with its text of its own and its status, or memory or a write failed, and the sink took no more than the front of that text
 abbrev pub Closes : Result ⊤ Stop → ℕ → ℕ → ℕ → Option (List ℕ) → Option (List ℕ) → Type 0
 Closes ended status write_before write_after before after =
     ((status ≡ result_status ended) × Wrote before after (result_text ended) [])
-    ⊎ ((status ≡ 6) ⊎ ((status ≡ 5) × Rose write_before write_after))
+    ⊎ (((status ≡ 6) ⊎ ((status ≡ 5) × Rose write_before write_after)) × WroteFront before after (result_text ended))
 
 -- the statuses of runs in which no read, no write and no growth of memory fails
 abbrev pub is_told : ℕ → Bool

@@ -1,14 +1,15 @@
 // How a run ends: its status, and the text of its own.
-ghost use Rattle.std.specs.Prelude.{◌≡◌, ◌≤◌, ◌++◌, [], codes, IfErr, IfOk, OnOk, string_bytes};
+ghost use Rattle.std.specs.Prelude.{◌≡◌, ◌≤◌, ◌++◌, [], codes, IfErr, IfOk, OnErr, OnOk, string_bytes};
 ghost use Rattle.std.specs.Fmt.{decimal};
-ghost use Rattle.mon_run.specs.Outside.{Wrote};
+ghost use Rattle.mon_run.specs.Outside.{Wrote, WroteFront};
 ghost use Rattle.mon_run.specs.Runs as spec;
 ghost use Rattle.mon_run.specs.Runs.{Causes, Closes, IsOutside};
-ghost use Rattle.mon_run.specs.Tables.{newline};
+ghost use Rattle.mon_table.specs.Tables.{newline};
 
 use crate::reading::write_text;
 use crate::sink::Sink;
 use crate::stop::Stop;
+use mon_config::ConfigFault;
 use mon_value::OutOfMemory;
 use std::alloc::Global;
 
@@ -27,10 +28,12 @@ pub(crate) fn close<O: Sink>(alloc: Global, ended: Result<(), Stop>, out: &mut O
 }
 
 // Writes the text of its own that a run ends with.
+#[tactic(auto, using(crate::proofs::WroteMore::front_none))]
 fn write_own<O: Sink>(alloc: Global, stop: &Stop, out: &mut O) -> Result<(), Stop>
     ensures counts { O.faults out.old ≤ O.faults out.new }
     ensures wrote { OnOk result (Wrote (O.written out.old) (O.written out.new) (spec.own_text stop.now) []) }
     ensures stops { IfErr result (λ failed. IsOutside failed) }
+    ensures front { OnErr result (WroteFront (O.written out.old) (O.written out.new) (spec.own_text stop.now)) }
     ensures causes { IfErr result (λ failed. Causes failed 0 0 [] (O.faults out.old) (O.faults out.new)) }
 {
     let text = own_text(alloc, stop)?;
@@ -62,12 +65,19 @@ fn own_text(alloc: Global, stop: &Stop) -> Result<String, OutOfMemory>
                 "usage: mon run CONFIG SCRIPT | weave CONFIG SCHEDULE | gen N | trial N\n"
             )
         }
-        Stop::Config(_) => format!(in alloc; "config: NotBuilt\n"),
+        Stop::Config(fault) => config_text(alloc, fault),
         Stop::Script(fault) => script_text(alloc, fault.line),
         Stop::CannotRead(name) => named(alloc, "cannot read ", name.as_str()),
         Stop::TooLong(name) => named(alloc, "too long: ", name.as_str()),
         Stop::WriteFailed | Stop::OutOfMemory => Ok(String::new(alloc)),
     }
+}
+
+// What a run says of a configuration that is refused.
+fn config_text(alloc: Global, fault: &ConfigFault) -> Result<String, OutOfMemory>
+    ensures text { IfOk result (λ text. string_bytes text ≡ spec.config_text fault.now) }
+{
+    format!(in alloc; "config: {fault}\n")
 }
 
 // What a run says of a line that is refused.

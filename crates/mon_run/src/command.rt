@@ -1,8 +1,8 @@
 // The run of a command: a configuration, a script, and files of points.
-ghost use Rattle.std.specs.Prelude.{◌≡◌, ◌≤◌, [], true, map, IfErr, IfSome, string_bytes};
+ghost use Rattle.std.specs.Prelude.{◌≡◌, ◌≤◌, [], true, map, option_map, IfErr, IfSome, string_bytes};
 ghost use Rattle.mon_run.specs.Outside.{Rose};
 ghost use Rattle.mon_run.specs.Runs as spec;
-ghost use Rattle.mon_run.specs.Runs.{CannotRead, Causes, RunIs, RunsTo};
+ghost use Rattle.mon_run.specs.Runs.{CannotRead, Causes, ComesTo, Cuts, FilesComeTo, RunIs, RunsTo, ScriptComesTo, Unread, WritesSome};
 
 use crate::close::close;
 use crate::folder::Folder;
@@ -26,6 +26,8 @@ pub fn run<F: Folder, O: Sink>(
     out: &mut O,
 ) -> Outcome
     ensures told { IfSome (F.files folder.old) (λ files. spec.is_told result.status ≡ true → RunIs (spec.run_course files (map string_bytes words.now)) result.status result.lines result.accepted (O.written out.old) (O.written out.new)) }
+    ensures front { IfSome (F.files folder.old) (λ files. WritesSome (spec.run_course files (map string_bytes words.now)) (F.last folder.new) (O.written out.old) (O.written out.new)) }
+    ensures unread { IfSome (F.files folder.old) (λ files. result.status ≡ 4 → Unread (spec.run_course files (map string_bytes words.now)).text (F.last folder.new) (O.written out.old) (O.written out.new) × ComesTo files (spec.command_of (map string_bytes words.now)) result.lines (F.last folder.new)) }
     ensures cannot_read { result.status ≡ 4 → CannotRead (F.faults folder.old) (F.faults folder.new) (F.last folder.new) (O.written out.new) }
     ensures write_failed { result.status ≡ 5 → Rose (O.faults out.old) (O.faults out.new) }
     ensures status { spec.is_status result.status ≡ true }
@@ -54,19 +56,24 @@ fn run_words<F: Folder, O: Sink>(
     requires no_ends { ends.now ≡ [] }
     ensures out_counts { O.faults out.old ≤ O.faults out.new }
     ensures ended { IfSome (F.files folder.old) (λ files. IfSome (spec.end_of result) (λ over. RunsTo (spec.run_course files (map string_bytes words.now)) over ends.new store.new (O.written out.old) (O.written out.new))) }
+    ensures cuts { IfSome (F.files folder.old) (λ files. IfErr result (λ stop. Cuts (spec.run_course files (map string_bytes words.now)) (ComesTo files (spec.command_of (map string_bytes words.now)) ends.new) (O.written out.old) (O.written out.new) stop)) }
     ensures causes { IfErr result (λ stop. Causes stop (F.faults folder.old) (F.faults folder.new) (F.last folder.new) (O.faults out.old) (O.faults out.new)) }
 {
+    match command_in(words) {
+        Some((config, script)) => run_files(alloc, config, script, folder, out, store, ends),
+        None => Err(Stop::Usage),
+    }
+}
+
+// The names of the configuration and of the script, where the words are a command.
+fn command_in(words: &[String]) -> Option<(&str, &str)>
+    ensures same { option_map (λ names. spec.run_command names.0.now names.1.now) result ≡ spec.command_of (map string_bytes words.now) }
+{
     match words {
-        [verb, config, script] if verb.as_str() == "run" => run_files(
-            alloc,
-            config.as_str(),
-            script.as_str(),
-            folder,
-            out,
-            store,
-            ends,
-        ),
-        _ => Err(Stop::Usage),
+        [verb, config, script] if verb.as_str() == "run" => {
+            Some((config.as_str(), script.as_str()))
+        }
+        _ => None,
     }
 }
 
@@ -84,6 +91,7 @@ fn run_files<F: Folder, O: Sink>(
     requires no_ends { ends.now ≡ [] }
     ensures out_counts { O.faults out.old ≤ O.faults out.new }
     ensures ended { IfSome (F.files folder.old) (λ files. IfSome (spec.end_of result) (λ over. RunsTo (spec.files_course files config.now script.now) over ends.new store.new (O.written out.old) (O.written out.new))) }
+    ensures cuts { IfSome (F.files folder.old) (λ files. IfErr result (λ stop. Cuts (spec.files_course files config.now script.now) (FilesComeTo files config.now script.now ends.new) (O.written out.old) (O.written out.new) stop)) }
     ensures causes { IfErr result (λ stop. Causes stop (F.faults folder.old) (F.faults folder.new) (F.last folder.new) (O.faults out.old) (O.faults out.new)) }
 {
     let text = read_file(alloc, folder, config)?;
@@ -106,6 +114,7 @@ fn run_script<F: Folder, O: Sink>(
     ensures out_counts { O.faults out.old ≤ O.faults out.new }
     ensures folder_counts { F.faults folder.old ≤ F.faults folder.new }
     ensures ended { IfSome (F.files folder.old) (λ files. IfSome (spec.end_of result) (λ over. RunsTo (spec.named_course config.now files name.now) over ends.new store.new (O.written out.old) (O.written out.new))) }
+    ensures cuts { IfSome (F.files folder.old) (λ files. IfErr result (λ stop. Cuts (spec.named_course config.now files name.now) (ScriptComesTo config.now files name.now ends.new) (O.written out.old) (O.written out.new) stop)) }
     ensures causes { IfErr result (λ stop. Causes stop (F.faults folder.old) (F.faults folder.new) (F.last folder.new) (O.faults out.old) (O.faults out.new)) }
 {
     let text = read_file(alloc, folder, name)?;

@@ -1,16 +1,15 @@
 // A feed: the records of a points file, each accepted or refused.
 ghost use Rattle.std.specs.Prelude.{◌≡◌, ◌+◌, ◌≤◌, ◌<◌, ◌^◌, ◌++◌, ◌∷◌, List, length, IfOk, OnOk};
-ghost use Rattle.std.specs.Option.{option_copied};
 ghost use Rattle.mon_points.specs.declared.records.RowRead.{RowRead as Read};
 ghost use Rattle.mon_run.specs.Feeds as spec;
 ghost use Rattle.mon_value.specs.declared.rows.Row.{Row as Accepted};
 
 use crate::outcome::{RowRefusal, RowRefusals, RowRefused};
 use crate::store::Store;
+use crate::zone::Zone;
 use mon_config::Config;
 use mon_points::{RowFault, RowRead, read_rows};
-use mon_schema::{Field, is_location};
-use mon_value::{FieldValue, OutOfMemory, Row, RowList, Text, TryCopy};
+use mon_value::{OutOfMemory, Row, RowList, TryCopy};
 use std::alloc::Global;
 
 /// What a feed accepted, and what it refused.
@@ -35,6 +34,7 @@ pub(crate) fn feed(
     ensures fed { IfOk result (λ fed. spec.as_fed fed ≡ spec.fed config.now store.old content.now) }
     ensures rows { IfOk result (λ fed. store.new ≡ store.old ++ fed.accepted) }
 {
+    let zone = Zone::new(alloc, config)?;
     let reads = read_rows(alloc, content, &config.schemas)?;
     let mut fed = Fed {
         accepted: RowList::new(alloc),
@@ -43,7 +43,7 @@ pub(crate) fn feed(
     let mut number = 0u32;
     for read in reads.into_vec() {
         number += 1;
-        sort_out(alloc, config, store, &mut fed, number, read)?;
+        sort_out(alloc, &zone, store, &mut fed, number, read)?;
     }
     Ok(fed)
 }
@@ -51,17 +51,17 @@ pub(crate) fn feed(
 // Accepts or refuses one record.
 fn sort_out(
     alloc: Global,
-    config: &Config,
+    zone: &Zone,
     store: &mut Store,
     fed: &mut Fed,
     number: u32,
     read: RowRead,
 ) -> Result<(), OutOfMemory>
-    ensures fed { OnOk result ((reads : List Read) → spec.behind (spec.as_fed fed.new) (spec.fed_from config.now (number + 1) store.new reads)
-        ≡ spec.behind (spec.as_fed fed.old) (spec.fed_from config.now number store.old (read ∷ reads))) }
+    ensures fed { OnOk result ((reads : List Read) → spec.behind (spec.as_fed fed.new) (spec.fed_from zone.now (number + 1) store.new reads)
+        ≡ spec.behind (spec.as_fed fed.old) (spec.fed_from zone.now number store.old (read ∷ reads))) }
     ensures rows { OnOk result ((rows : List Accepted) → store.old ≡ rows ++ fed.old.accepted → store.new ≡ rows ++ fed.new.accepted) }
 {
-    match verdict(config, store, read) {
+    match verdict(zone, store, read) {
         Ok(row) => {
             fed.accepted.push(row.copy(alloc)?)?;
             store.accept(row)
@@ -71,13 +71,13 @@ fn sort_out(
 }
 
 // What becomes of a record.
-fn verdict(config: &Config, store: &Store, read: RowRead) -> Result<Row, RowRefused>
-    ensures same { result ≡ spec.verdict config.now store.now read }
+fn verdict(zone: &Zone, store: &Store, read: RowRead) -> Result<Row, RowRefused>
+    ensures same { result ≡ spec.verdict zone.now store.now read }
 {
     match read {
-        RowRead::Row(row) if is_in_zone(config, &row) => not_old(store.last_end(&row.key), row),
+        RowRead::Row(row) if zone.lists(&row) => not_old(store.last_end(&row.key), row),
         RowRead::Row(_) => Err(RowRefused::Read(RowFault::NotBuilt)),
-        RowRead::Fault(_) => Err(RowRefused::Read(RowFault::NotBuilt)),
+        RowRead::Fault(fault) => Err(RowRefused::Read(fault)),
     }
 }
 
@@ -88,44 +88,5 @@ fn not_old(last: Option<i64>, row: Row) -> Result<Row, RowRefused>
     match last {
         Some(last) if row.point.end <= last => Err(RowRefused::OldPoint(last)),
         _ => Ok(row),
-    }
-}
-
-// Whether a row's location is one of the zone's.
-fn is_in_zone(config: &Config, row: &Row) -> bool
-    ensures same { result ≡ spec.is_in_zone config.now row.now }
-{
-    let target = &row.key.target;
-    match config.schemas.target(target.schema.as_bytes()) {
-        None => false,
-        Some(schema) => match location_in(schema.fields.as_slice(), target.fields.as_slice()) {
-            None => false,
-            Some(location) => config.locations.as_slice().contains(location),
-        },
-    }
-}
-
-// The location of a target: the value of its schema's location field.
-fn location_in<'a>(fields: &[Field], values: &'a [FieldValue]) -> Option<&'a Text>
-    ensures same { option_copied result ≡ spec.location_in fields.now values.now }
-{
-    let mut left = values;
-    for field in fields {
-        let (value, rest) = left.split_first()?;
-        if is_location(field) {
-            return text_in(value);
-        }
-        left = rest;
-    }
-    None
-}
-
-// The text in a text field.
-fn text_in(value: &FieldValue) -> Option<&Text>
-    ensures same { option_copied result ≡ spec.text_in_field value.now }
-{
-    match value {
-        FieldValue::Text(text) => Some(text),
-        _ => None,
     }
 }

@@ -1,12 +1,15 @@
 // A plain fetch, and what it gives of one series.
-ghost use Rattle.std.specs.Prelude.{◌≡◌, ◌≤ℤ◌, ◌++◌, ◌∷◌, [], pos, map, IfOk, OnOk};
-ghost use Rattle.std.specs.Option.{option_copied};
+ghost use Rattle.std.specs.Prelude.{◌≡◌, ◌≤ℤ◌, ◌++◌, pos, map, true, IfOk, OnOk};
+ghost use Rattle.mon_run.specs.Fitting.{ValuesFit};
 ghost use Rattle.mon_run.specs.Meaning as spec;
 
-use crate::table::{Cells, TimedRow, TimedRows};
-use mon_schema::{MetricSchema, TargetSchema};
+use mon_fold::align;
+use mon_schema::{Kind, MetricSchema, TargetSchema};
 use mon_series::Series;
-use mon_value::{FieldValue, OutOfMemory, Point, SeriesKey, TryCopy, Value};
+use mon_value::{
+    Aligner, Cells, FieldValue, Grid, OutOfMemory, SeriesKey, TimedRow, TimedRows, TimedValue,
+    TryCopy, Value, ValueType,
+};
 use std::alloc::Global;
 
 /// What a plain fetch asks for: the series of one target schema and one metric.
@@ -16,7 +19,7 @@ pub struct Fetch {
     pub metric: MetricSchema,
 }
 
-/// A plain fetch gives, for each series, the newest of its points that end in so many seconds.
+/// A plain fetch looks so many seconds back.
 const REACH: i64 = 60;
 
 impl Fetch {
@@ -28,7 +31,7 @@ impl Fetch {
     }
 
     /// Adds what a series gives at a moment.
-    pub(crate) fn add_row(
+    pub(crate) fn add_rows(
         &self,
         alloc: Global,
         moment: i64,
@@ -37,26 +40,64 @@ impl Fetch {
         rows: &mut TimedRows,
     ) -> Result<(), OutOfMemory>
         requires moment { pos 0 ≤ℤ moment }
-        ensures added { OnOk result (rows.new ≡ rows.old ++ spec.series_row moment self.now key.now series.now.points) }
+        requires fit { spec.meets self.now key.now ≡ true → ValuesFit self.now.metric series.now.points }
+        ensures added { OnOk result (rows.new ≡ rows.old ++ spec.series_rows moment self.now key.now series.now.points) }
     {
         if !self.is_met(key) {
             return Ok(());
         }
-        match newest(series.window(moment, REACH)) {
-            None => Ok(()),
-            Some(point) => rows.push(TimedRow {
-                time: moment,
-                cells: cells_of(alloc, key, &point.value)?,
-            }),
+        // No points give no rows. As many as lie in memory are few enough to be added.
+        if series.is_empty() {
+            return Ok(());
         }
+        let values = align(
+            alloc,
+            series,
+            default_aligner(&self.metric),
+            &grid_at(moment),
+        )?;
+        add_values(alloc, key, values.as_slice(), rows)
     }
 }
 
-// The last point of a window.
-fn newest(points: &[Point]) -> Option<&Point>
-    ensures same { option_copied result ≡ spec.newest points.now }
+// How the points of a metric are brought to a moment.
+fn default_aligner(metric: &MetricSchema) -> Aligner
+    ensures same { result ≡ spec.default_aligner metric.now }
 {
-    points.last()
+    match (metric.kind, &metric.value) {
+        (Kind::Delta, ValueType::Int) => Aligner::Delta(REACH),
+        (Kind::Delta, ValueType::Dist(_)) => Aligner::Delta(REACH),
+        _ => Aligner::NextOlder(REACH),
+    }
+}
+
+// The grid whose one time is the moment.
+fn grid_at(moment: i64) -> Grid
+    ensures same { result ≡ spec.grid_at moment }
+{
+    Grid {
+        moment,
+        every: REACH,
+        within: REACH,
+    }
+}
+
+// Adds a row for each value of a series.
+fn add_values(
+    alloc: Global,
+    key: &SeriesKey,
+    values: &[TimedValue],
+    rows: &mut TimedRows,
+) -> Result<(), OutOfMemory>
+    ensures added { OnOk result (rows.new ≡ rows.old ++ map (spec.row_of key.now) values.now) }
+{
+    for aligned in values {
+        rows.push(TimedRow {
+            time: aligned.time,
+            cells: cells_of(alloc, key, &aligned.value)?,
+        })?;
+    }
+    Ok(())
 }
 
 // The cells of a series' row: its fields and the value.

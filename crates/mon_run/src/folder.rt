@@ -2,7 +2,7 @@
 ghost use Rattle.std.specs.Prelude.{◌≡◌, ◌<◌, ◌≤◌, ℕ, List, Option, Some, length, IfOk, IfErr, IsErrOf, MatchOption, IfSome};
 ghost use Rattle.mon_run.specs.Outside.{Files, Rose, content_of};
 
-use std::alloc::Global;
+use std::alloc::{AllocError, Global};
 
 /// Why a file was not read.
 #[derive(Clone, Copy, Debug, PartialEq, Eq)]
@@ -13,6 +13,17 @@ pub enum FolderFault {
     TooLong,
     /// Memory ran out.
     OutOfMemory,
+}
+
+impl From<AllocError> for FolderFault {
+    ghost use Rattle.std.specs.Prelude.{◌≡◌};
+    ghost use Rattle.mon_run.specs.declared.folder.FolderFault.TheVariants.{OutOfMemory};
+
+    ghost from_gives = { λ _ fault. fault ≡ OutOfMemory };
+
+    fn from(_error: AllocError) -> FolderFault {
+        FolderFault::OutOfMemory
+    }
 }
 
 /// A folder of files. One that tells its files is seen with their names and contents. Each has a

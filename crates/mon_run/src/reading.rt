@@ -1,6 +1,6 @@
 // Reading a file, and writing a text, as a run does.
 ghost use Rattle.std.specs.Prelude.{◌≡◌, ◌≤◌, [], length, IfOk, IfErr, IfSome, OnOk, OnErr};
-ghost use Rattle.mon_run.specs.Outside.{Wrote, content_of};
+ghost use Rattle.mon_run.specs.Outside.{Wrote, WroteFront, content_of};
 ghost use Rattle.mon_run.specs.Runs.{Causes, ReadStops, is_too_long};
 
 use crate::feed::MOST_BYTES;
@@ -36,6 +36,7 @@ pub(crate) fn write_text<O: Sink>(out: &mut O, text: &[u8]) -> Result<(), Stop>
     ensures counts { O.faults out.old ≤ O.faults out.new }
     ensures whole { OnOk result (Wrote (O.written out.old) (O.written out.new) text.now []) }
     ensures stops { IfErr result (λ stop. stop ≡ Stop.WriteFailed) }
+    ensures front { OnErr result (WroteFront (O.written out.old) (O.written out.new) text.now) }
     ensures causes { IfErr result (λ stop. Causes stop 0 0 [] (O.faults out.old) (O.faults out.new)) }
 {
     match write_all(out, text) {

@@ -1,6 +1,6 @@
 // Where a run writes its text.
 ghost use Rattle.std.specs.Prelude.{◌≡◌, ◌<◌, ◌≤◌, ◌++◌, [], ℕ, List, Option, length, take, option_map, IfOk, OnErr, OnOk};
-ghost use Rattle.mon_run.specs.Outside.{Rose, Wrote};
+ghost use Rattle.mon_run.specs.Outside.{Rose, Wrote, WroteFront};
 
 /// A sink did not take what it was given.
 #[derive(Clone, Copy, Debug, PartialEq, Eq)]
@@ -29,7 +29,7 @@ pub(crate) fn write_all<O: Sink>(out: &mut O, text: &[u8]) -> Result<(), Failed>
     ensures counts { O.faults out.old ≤ O.faults out.new }
     ensures whole { OnOk result (Wrote (O.written out.old) (O.written out.new) text.now []) }
     ensures failed { OnErr result (Rose (O.faults out.old) (O.faults out.new)) }
-    ensures front { OnErr result ((rest : List ℕ) × Wrote (O.written out.old) (O.written out.new) text.now rest) }
+    ensures front { OnErr result (WroteFront (O.written out.old) (O.written out.new) text.now) }
 {
     let mut rest = text;
     while !rest.is_empty() {

@@ -5,10 +5,9 @@ ghost use Rattle.mon_run.specs.Groups.{grown, groups_held};
 ghost use Rattle.mon_value.specs.Sources.{last_end, same_series};
 
 use crate::fetch::Fetch;
-use crate::table::TimedRows;
 use indexmap::IndexMap;
 use mon_series::Series;
-use mon_value::{OutOfMemory, Point, RoomListOf, Row, RowList, SeriesKey, TryCopy};
+use mon_value::{OutOfMemory, Point, RoomListOf, Row, RowList, SeriesKey, TimedRows, TryCopy};
 use std::alloc::Global;
 use std::marker::Model;
 
@@ -35,7 +34,9 @@ impl Model for Store {
 }
 
 impl Store {
+    ghost use Rattle.std.specs.List.{AllByRecursion};
     ghost use Rattle.mon_value.specs.Sources.{points_of};
+    ghost use Rattle.mon_run.specs.Fitting.{FitsMetric};
     ghost use Rattle.mon_run.specs.Meaning.{meaning};
 
     /// A store without rows, which grows from `alloc`.
@@ -71,7 +72,7 @@ impl Store {
         }
     }
 
-    /// The meaning of a plain fetch at a moment over the rows: for each series, its row.
+    /// The meaning of a plain fetch at a moment over the rows: the rows of each series.
     pub(crate) fn fetch(
         &self,
         alloc: Global,
@@ -79,11 +80,12 @@ impl Store {
         moment: i64,
     ) -> Result<TimedRows, OutOfMemory>
         requires moment { pos 0 ≤ℤ moment }
+        requires fit { AllByRecursion (FitsMetric fetch.now.metric) self.now }
         ensures meaning { IfOk result (λ rows. rows ≡ meaning fetch.now self.now moment) }
     {
         let mut rows = TimedRows::new(alloc);
         for (key, series) in self.series.iter() {
-            fetch.add_row(alloc, moment, key, series, &mut rows)?;
+            fetch.add_rows(alloc, moment, key, series, &mut rows)?;
         }
         Ok(rows)
     }

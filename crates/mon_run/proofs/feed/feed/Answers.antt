@@ -1,6 +1,7 @@
-use Rattle.std.proofs.Common.{◌≡◌, ◌∙◌, ◌+◌, List, [], ◌∷◌, ◌++◌, length, sym, ap, append-nil, arith}
+use Rattle.std.proofs.Common.{◌≡◌, ◌∙◌, ◌+◌, List, [], ◌∷◌, ◌++◌, length, sym, ap, subst, append-nil, arith}
 use Rattle.std.proofs.lemmas.List.{nil_from_length}
 use Rattle.std.specs.Vec.Iter.{into_iter_items}
+use Rattle.mon_config.specs.declared.config.Config.{Config}
 use Rattle.mon_points.specs.Records.{reads_of}
 use Rattle.mon_points.specs.declared.records.RowRead.{RowRead}
 use Rattle.mon_run.specs.Feeds.{as_fed, behind, fed_from}
@@ -12,8 +13,8 @@ loop-read-init c =
     let config = c.args.config.now in
     let store = c.args.store.now in
     let content = c.args.content.now in
-    let accepted = c.new.ensures.empty in
-    let refused = c.new-2.ensures.empty in
+    let accepted = c.new-2.ensures.empty in
+    let refused = c.new-3.ensures.empty in
     let items : into_iter_items c.into_iter-read-iterator.result ≡ reads_of config.schemas content = c.into_iter-read-iterator.ensures.into_iter_gives.0 ∙ c.into_vec-read-items.ensures.same ∙ c.in_ok-reads.ensures.exact in
     record {
       whole = (λ i. behind (record { accepted = accepted i; refused = refused i }) (fed_from config 1 store (items i)));
@@ -27,8 +28,11 @@ loop-read-preserved c =
     let i = c.loop-read.invariant in
     let rest = into_iter_items c.next.new.self in
     let next : into_iter_items c.loop-read.read-iterator ≡ c.in-Some.read ∷ rest = c.in-Some.ensures.steps.0 in
+    let number = c.loop-read.number + 1 in
+    let sorted = subst (λ (config : Config). behind (as_fed c.sort_out.new.fed) (fed_from config (number + 1) c.sort_out.new.store rest) ≡ behind (as_fed c.loop-read.fed) (fed_from config number c.loop-read.store (c.in-Some.read ∷ rest)))
+    c.in_ok-zone.ensures.same (c.in_ok-sort_out.ensures.fed rest) in
     record {
-      whole = c.in_ok-sort_out.ensures.fed rest
+      whole = sorted
           ∙ ap (λ (reads : List RowRead). behind (as_fed c.loop-read.fed) (fed_from c.args.config.now (c.loop-read.number + 1) c.loop-read.store reads)) (sym next) ∙ i.whole;
       rows = c.in_ok-sort_out.ensures.rows c.args.store.now i.rows;
       left = let l = ap length next in let k = c.in-Some.ensures.steps.1 in omega arith;

@@ -1,11 +1,14 @@
--- the rows so far and those of the groups that are left are those of all rows
+-- the rows so far and those of the groups that are left are those of all rows, and the groups that are left are of the fetch's metric where it meets them
 use Rattle.std.proofs.Common.{◌≡◌, ◌++◌}
-use Rattle.std.specs.List.{flat_map}
+use Rattle.std.specs.List.{AllByRecursion, flat_map}
 use Rattle.mon_run.specs.Groups.{Group, groups_held, groups_of}
-use Rattle.mon_run.specs.Meaning.{series_row}
+use Rattle.mon_run.specs.Meaning.{series_rows}
+use Rattle.mon_run.proofs.FittingRows.{GroupFits}
 use Rattle.mon_run.proofs.store.Store.fetch.Given as goal
 
 abbrev pub invariant-loop-key : goal.invariant-loop-key
-invariant-loop-key l =
-    l.rows ++ flat_map (λ (group : Group). series_row l.moment l.fetch group.0 group.1) (groups_held l.key-iterator)
-    ≡ flat_map (λ (group : Group). series_row l.moment l.fetch group.0 group.1) (groups_of l.self)
+invariant-loop-key l = record {
+  whole : l.rows ++ flat_map (λ (group : Group). series_rows l.moment l.fetch group.0 group.1) (groups_held l.key-iterator)
+      ≡ flat_map (λ (group : Group). series_rows l.moment l.fetch group.0 group.1) (groups_of l.self);
+  fit : AllByRecursion (GroupFits l.fetch) (groups_held l.key-iterator);
+}
