@@ -1,0 +1,100 @@
+#!/usr/bin/env python3
+"""Times the feeds and a query of a made input, at half and at full size.
+
+    bench/made.py
+
+The input is four files of 50,000 points of a delta, 100 points of each of 500 series a file, made by a linear
+congruential generator (Knuth's multiplier); half of it is two of the files. It prints the time and the peak memory of
+each run, and how much longer the whole takes than the half. The zone is one, with all locations.
+"""
+
+import json
+import os
+import pathlib
+import subprocess
+import sys
+import tempfile
+import time
+
+ROOT = pathlib.Path(__file__).resolve().parent.parent
+PROGRAM = ROOT / "crates/program/out/program"
+FILES = 4
+ROWS = 50000
+TASKS = 500
+ROUNDS = 3
+
+CONFIG = {
+    "targets": [
+        {
+            "name": "Task",
+            "fields": [
+                {"name": "user", "type": "text"},
+                {"name": "job", "type": "text"},
+                {"name": "cluster", "type": "text", "location": True},
+                {"name": "task", "type": "int"},
+            ],
+        }
+    ],
+    "metrics": [{"name": "/work", "kind": "delta", "type": "int", "column": "work"}],
+    "zones": [
+        {
+            "name": "all",
+            "locations": ["c0", "c1", "c2", "c3"],
+            "leaves": ["leaf"],
+            "ranges": [{"from": [], "leaves": ["leaf"]}],
+        }
+    ],
+}
+
+
+def made_values():
+    """Values from 0 to 999, one for each point."""
+    state = 0
+    while True:
+        state = (state * 6364136223846793005 + 1442695040888963407) % 2**64
+        yield state // 2**33 % 1000
+
+
+def write_input(folder):
+    (folder / "config.json").write_text(json.dumps(CONFIG))
+    values = made_values()
+    for number in range(FILES):
+        with open(folder / f"p{number}.csv", "w", encoding="utf-8") as out:
+            for row in range(ROWS):
+                task = row % TASKS
+                end = 10 * (row // TASKS + 1)
+                out.write(f"Task,/work,{end - 10},{end},{next(values)},u{number},job{task % 10},c{task % 4},{task}\n")
+    for count in (FILES // 2, FILES):
+        lines = [f"feed p{number}.csv\n" for number in range(count)]
+        (folder / f"script{count}.txt").write_text("".join(lines) + "query 1000 fetch Task::/work\n")
+
+
+def run(folder, count):
+    """Seconds and peak memory, in MiB, of a run over so many files."""
+    start = time.perf_counter()
+    with open(folder / "out.txt", "w", encoding="utf-8") as out:
+        child = subprocess.Popen([PROGRAM, "run", "config.json", f"script{count}.txt"], cwd=folder, stdout=out)
+        _, status, usage = os.wait4(child.pid, 0)
+    taken = time.perf_counter() - start
+    last = (folder / "out.txt").read_text().splitlines()[-1]
+    if status != 0 or last != f"{count * TASKS} rows":
+        sys.exit(f"unexpected: status {status}, {last}")
+    return taken, usage.ru_maxrss / 1024
+
+
+def main():
+    # Builds the program where it isn't built.
+    subprocess.run([ROOT / "mon", "run", "config.json", "script.txt"], cwd=ROOT / "examples/first", check=True)
+    with tempfile.TemporaryDirectory() as name:
+        folder = pathlib.Path(name)
+        write_input(folder)
+        times = {}
+        for count in (FILES // 2, FILES):
+            runs = [run(folder, count) for _ in range(ROUNDS)]
+            times[count] = min(taken for taken, _ in runs)
+            print(f"{count * ROWS} points: {times[count]:.3f} s, peak {max(peak for _, peak in runs):.0f} MiB")
+        print(f"whole to half: {times[FILES] / times[FILES // 2]:.2f}")
+
+
+if __name__ == "__main__":
+    main()
