@@ -1,11 +1,12 @@
 #!/usr/bin/env python3
 """Times the feeds and a query of a made input, at half and at full size.
 
-    bench/made.py
+    bench/made.py [PROGRAM]
 
 The input is four files of 50,000 points of a delta, 100 points of each of 500 series a file, made by a linear
 congruential generator (Knuth's multiplier); half of it is two of the files. It prints the time and the peak memory of
-each run, and how much longer the whole takes than the half. The zone is one, with all locations.
+each run, and how much longer the whole takes than the half. Where another program is named, it runs that one on the
+same input too, and prints the ratios of time and of peak memory. The zone is one, with all locations.
 """
 
 import json
@@ -69,31 +70,47 @@ def write_input(folder):
         (folder / f"script{count}.txt").write_text("".join(lines) + "query 1000 fetch Task::/work\n")
 
 
-def run(folder, count):
-    """Seconds and peak memory, in MiB, of a run over so many files."""
+def run(program, folder, count):
+    """Seconds and peak memory, in MiB, of a run over so many files, and what it printed."""
     start = time.perf_counter()
     with open(folder / "out.txt", "w", encoding="utf-8") as out:
-        child = subprocess.Popen([PROGRAM, "run", "config.json", f"script{count}.txt"], cwd=folder, stdout=out)
+        child = subprocess.Popen([program, "run", "config.json", f"script{count}.txt"], cwd=folder, stdout=out)
         _, status, usage = os.wait4(child.pid, 0)
     taken = time.perf_counter() - start
-    last = (folder / "out.txt").read_text().splitlines()[-1]
+    printed = (folder / "out.txt").read_text()
+    last = printed.splitlines()[-1]
     if status != 0 or last != f"{count * TASKS} rows":
         sys.exit(f"unexpected: status {status}, {last}")
-    return taken, usage.ru_maxrss / 1024
+    return taken, usage.ru_maxrss / 1024, printed
+
+
+def measure(name, program, folder):
+    """The least time and the greatest peak of several runs over all files, and what was printed."""
+    times = {}
+    for count in (FILES // 2, FILES):
+        runs = [run(program, folder, count) for _ in range(ROUNDS)]
+        times[count] = min(taken for taken, _, _ in runs)
+        peak = max(peak for _, peak, _ in runs)
+        print(f"{name}: {count * ROWS} points: {times[count]:.3f} s, peak {peak:.1f} MiB")
+    print(f"{name}: whole to half: {times[FILES] / times[FILES // 2]:.2f}")
+    return times[FILES], peak, runs[-1][2]
 
 
 def main():
+    if len(sys.argv) > 2:
+        sys.exit(__doc__)
     # Builds the program where it isn't built.
     subprocess.run([ROOT / "mon", "run", "config.json", "script.txt"], cwd=ROOT / "examples/first", check=True)
     with tempfile.TemporaryDirectory() as name:
         folder = pathlib.Path(name)
         write_input(folder)
-        times = {}
-        for count in (FILES // 2, FILES):
-            runs = [run(folder, count) for _ in range(ROUNDS)]
-            times[count] = min(taken for taken, _ in runs)
-            print(f"{count * ROWS} points: {times[count]:.3f} s, peak {max(peak for _, peak in runs):.0f} MiB")
-        print(f"whole to half: {times[FILES] / times[FILES // 2]:.2f}")
+        taken, peak, printed = measure("this program", PROGRAM, folder)
+        if len(sys.argv) == 2:
+            before = measure("the other", pathlib.Path(sys.argv[1]).resolve(), folder)
+            if before[2] != printed:
+                sys.exit("the two programs print different texts")
+            print(f"time to the other's: {taken / before[0]:.3f}")
+            print(f"peak to the other's: {peak / before[1]:.3f}")
 
 
 if __name__ == "__main__":

@@ -1,6 +1,6 @@
+mod DataInLemmas
 pub mod Fronts
-pub mod Viewed
-pub mod Unknown
-pub mod DataIn
-pub mod Lawful
-pub mod Repeated
+pub mod ListOfLemmas
+mod NumberInLemmas
+pub mod TextsRepeatLemmas
+mod UnknownKeyLemmas

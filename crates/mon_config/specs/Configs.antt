@@ -1,8 +1,10 @@
 -- The configuration that a text spells, or the first of its faults.
-use Rattle.std.specs.Prelude.{ℕ, ◌+◌, nat_lt, List, [], ◌∷◌, ◌++◌, length, codes, Option, Some, None, Result, Ok, Err, if◌then◌else◌}
+use Rattle.std.specs.Prelude.{ℕ, ◌≡◌, ◌+◌, nat_lt, List, [], ◌∷◌, ◌++◌, length, codes, Option, Some, None, Result, Ok, Err, if◌then◌else◌}
+use Rattle.std.specs.Option.{ok_or}
 use Rattle.std.specs.Str.{is_utf8}
 use Rattle.serde_json.specs.Data.{Data}
 use Rattle.serde_json.specs.Read.{read}
+use Rattle.mon_value.specs.Answers.{◌>>=◌}
 use Rattle.mon_value.specs.declared.schemas.TargetSchema.{TargetSchema}
 use Rattle.mon_value.specs.declared.schemas.MetricSchema.{MetricSchema}
 use Rattle.mon_schema.specs.Faults.{target_fault, metric_fault}
@@ -13,7 +15,8 @@ use Rattle.mon_config.specs.declared.faults.ConfigFault.{ConfigFault}
 use Rattle.mon_config.specs.declared.faults.ConfigFault.TheVariants as fault
 use Rattle.mon_config.specs.declared.parts.Parts.{Parts}
 use Rattle.mon_config.specs.Objects.{parts_in}
-use Rattle.mon_config.specs.Shapes.{◌>>=◌, or_fault, through_key, through_index}
+use Rattle.mon_config.specs.Shapes.{through_key, through_index}
+use Rattle.mon_config.specs.declared.limits.TheConstants.{LONGEST_CONFIGURATION}
 use Rattle.mon_config.specs.Zones.{locations_of}
 
 -- the data that a text spells
@@ -22,7 +25,8 @@ data_in text = if is_utf8 text then read text else None
 
 -- a text of at most 1 MiB that is JSON
 abbrev pub json_in : List ℕ → Result Data ConfigFault
-json_in text = if nat_lt 1048576 (length text) then Err fault.TooLong else or_fault fault.NotJson (data_in text)
+json_in text =
+    if nat_lt LONGEST_CONFIGURATION (length text) then Err fault.TooLong else ok_or (data_in text) fault.NotJson
 
 -- a fault of shape has its path from the top
 abbrev pub from_top : {T : Type 0} → Result T (List ℕ) → Result T ConfigFault
@@ -41,8 +45,10 @@ target_added i held target (Some refused) = Err (schema_at (codes "targets") i r
 -- the schemas with the targets from the place i on, one after another
 abbrev pub with_targets : ℕ → SchemaLists → List TargetSchema → Result SchemaLists ConfigFault
 with_targets i held [] = Ok held
-with_targets i held (target ∷ targets) = target_added i held target (target_fault held target) >>= λ more. with_targets (i + 1) more targets
+with_targets i held (target ∷ targets) =
+    target_added i held target (target_fault held target) >>= λ more. with_targets (i + 1) more targets
 
+-- the same with one metric more
 abbrev pub metric_added : ℕ → SchemaLists → MetricSchema → Option SchemaFault → Result SchemaLists ConfigFault
 metric_added i held metric None = Ok (with_metric held metric)
 metric_added i held metric (Some refused) = Err (schema_at (codes "metrics") i refused)
@@ -50,7 +56,8 @@ metric_added i held metric (Some refused) = Err (schema_at (codes "metrics") i r
 -- the schemas with the metrics from the place i on, one after another
 abbrev pub with_metrics : ℕ → SchemaLists → List MetricSchema → Result SchemaLists ConfigFault
 with_metrics i held [] = Ok held
-with_metrics i held (metric ∷ metrics) = metric_added i held metric (metric_fault held metric) >>= λ more. with_metrics (i + 1) more metrics
+with_metrics i held (metric ∷ metrics) =
+    metric_added i held metric (metric_fault held metric) >>= λ more. with_metrics (i + 1) more metrics
 
 -- the schemas are held, first the targets, and then the zones are served
 unfoldable pub config_of : Parts → Result Config ConfigFault
@@ -58,7 +65,18 @@ config_of parts = do
   targets ← with_targets 0 no_schemas parts.targets
   schemas ← with_metrics 0 targets parts.metrics
   locations ← locations_of parts.zones
-  Ok (record { schemas = schemas; locations = locations; buckets = parts.buckets; limit = parts.limit; range_points = parts.range_points })
+  Ok (record {
+    schemas = schemas;
+    locations = locations;
+    buckets = parts.buckets;
+    limit = parts.limit;
+    range_points = parts.range_points;
+  })
+
+-- a configuration has the numbers of its parts
+abbrev pub KeepsNumbers : Parts → Config → Type 0
+KeepsNumbers parts config =
+    (config.buckets ≡ parts.buckets) × (config.limit ≡ parts.limit) × (config.range_points ≡ parts.range_points)
 
 -- the configuration that a text spells
 unfoldable pub config_in : List ℕ → Result Config ConfigFault

@@ -1,8 +1,10 @@
--- What a configuration's text spells, object by object: each key in its turn, and the path to the first fault of shape.
+-- What a configuration's text spells, object by object: each key in its turn, and the path to the first fault
+-- of shape.
 use Rattle.std.specs.Prelude.{ℕ, ℤ, Bool, false, List, [], ◌∷◌, codes, Option, Some, None, option_map, option_and_then, Result, Ok, Err, if◌then◌else◌}
 use Rattle.serde_json.specs.Data.{Data, null, boolean, number, string, array, object}
 use Rattle.serde_json.specs.Find.{as_bool, as_i64, as_number, as_str, as_u64}
-use Rattle.mon_value.specs.Sources.{same_text}
+use Rattle.mon_value.specs.Answers.{◌>>=◌}
+use Rattle.mon_value.specs.Same.{same_text}
 use Rattle.mon_value.specs.declared.values.FieldType.{FieldType}
 use Rattle.mon_value.specs.declared.values.FieldType.TheVariants as of
 use Rattle.mon_value.specs.declared.values.FieldValue.{FieldValue}
@@ -20,14 +22,16 @@ use Rattle.mon_config.specs.declared.zones.ZoneSpec.{ZoneSpec}
 use Rattle.mon_config.specs.declared.keys.ObjectForm.{ObjectForm}
 use Rattle.mon_config.specs.declared.keys.ObjectForm.TheVariants as form
 pub use Rattle.mon_config.specs.Numbers.{is_bucket_count, is_limit}
-use Rattle.mon_config.specs.Shapes.{◌>>=◌, absent, each, formed, object_of, optional, required}
+use Rattle.mon_config.specs.Shapes.{absent_key, list_in, object_of, optional_key, required_key, value_or_here}
 
 -- the keys that an object may have
 abbrev pub keys_of : ObjectForm → List (List ℕ)
-keys_of form.Configuration = codes "buckets" ∷ codes "limit" ∷ codes "range_points" ∷ codes "targets" ∷ codes "metrics" ∷ codes "zones" ∷ []
+keys_of form.Configuration =
+    codes "buckets" ∷ codes "limit" ∷ codes "range_points" ∷ codes "targets" ∷ codes "metrics" ∷ codes "zones" ∷ []
 keys_of form.Target = codes "name" ∷ codes "fields" ∷ []
 keys_of form.TargetField = codes "name" ∷ codes "type" ∷ codes "location" ∷ []
-keys_of form.Metric = codes "name" ∷ codes "kind" ∷ codes "type" ∷ codes "bounds" ∷ codes "column" ∷ codes "fields" ∷ []
+keys_of form.Metric =
+    codes "name" ∷ codes "kind" ∷ codes "type" ∷ codes "bounds" ∷ codes "column" ∷ codes "fields" ∷ []
 keys_of form.MetricField = codes "name" ∷ codes "type" ∷ []
 keys_of form.Zone = codes "name" ∷ codes "locations" ∷ codes "leaves" ∷ codes "ranges" ∷ []
 keys_of form.Range = codes "from" ∷ codes "leaves" ∷ []
@@ -35,21 +39,21 @@ keys_of form.Range = codes "from" ∷ codes "leaves" ∷ []
 -- ---- values
 
 abbrev pub text_in : Data → Result (List ℕ) (List ℕ)
-text_in d = formed (as_str d)
+text_in d = value_or_here (as_str d)
 
 abbrev pub truth_in : Data → Result Bool (List ℕ)
-truth_in d = formed (as_bool d)
+truth_in d = value_or_here (as_bool d)
 
 -- a whole number of the signed 64 bits
 abbrev pub whole_in : Data → Result ℤ (List ℕ)
-whole_in d = formed (option_and_then as_i64 (as_number d))
+whole_in d = value_or_here (option_and_then as_i64 (as_number d))
 
 -- a number for which the test holds
-abbrev pub tested : (ℕ → Bool) → ℕ → Option ℕ
-tested test n = if test n then Some n else None
+abbrev pub number_if : (ℕ → Bool) → ℕ → Option ℕ
+number_if test n = if test n then Some n else None
 
 abbrev pub number_in : (ℕ → Bool) → Data → Result ℕ (List ℕ)
-number_in test d = formed (option_and_then (tested test) (option_and_then as_u64 (as_number d)))
+number_in test d = value_or_here (option_and_then (number_if test) (option_and_then as_u64 (as_number d)))
 
 -- ---- schemas
 
@@ -61,29 +65,29 @@ field_type_of word =
     else None
 
 abbrev pub field_type_in : Data → Result FieldType (List ℕ)
-field_type_in d = formed (option_and_then field_type_of (as_str d))
+field_type_in d = value_or_here (option_and_then field_type_of (as_str d))
 
 unfoldable pub target_field_in : Data → Result Field (List ℕ)
 target_field_in d = do
   known ← object_of (keys_of form.TargetField) d
-  name ← required (codes "name") text_in d
-  typed ← required (codes "type") field_type_in d
-  location ← optional false (codes "location") truth_in d
+  name ← required_key (codes "name") text_in d
+  typed ← required_key (codes "type") field_type_in d
+  location ← optional_key false (codes "location") truth_in d
   Ok (record { name = name; of = typed; location = location })
 
 unfoldable pub target_in : Data → Result TargetSchema (List ℕ)
 target_in d = do
   known ← object_of (keys_of form.Target) d
-  name ← required (codes "name") text_in d
-  fields ← required (codes "fields") (each target_field_in) d
+  name ← required_key (codes "name") text_in d
+  fields ← required_key (codes "fields") (list_in target_field_in) d
   Ok (record { name = name; fields = fields })
 
 -- a metric's field says nothing of the location
 unfoldable pub metric_field_in : Data → Result Field (List ℕ)
 metric_field_in d = do
   known ← object_of (keys_of form.MetricField) d
-  name ← required (codes "name") text_in d
-  typed ← required (codes "type") field_type_in d
+  name ← required_key (codes "name") text_in d
+  typed ← required_key (codes "type") field_type_in d
   Ok (record { name = name; of = typed; location = false })
 
 abbrev pub kind_of : List ℕ → Option Kind
@@ -93,7 +97,7 @@ kind_of word =
     else None
 
 abbrev pub kind_in : Data → Result Kind (List ℕ)
-kind_in d = formed (option_and_then kind_of (as_str d))
+kind_in d = value_or_here (option_and_then kind_of (as_str d))
 
 -- a type, with no bounds yet
 abbrev pub value_type_of : List ℕ → Option ValueType
@@ -105,24 +109,24 @@ value_type_of word =
     else None
 
 abbrev pub value_type_in : Data → Result ValueType (List ℕ)
-value_type_in d = formed (option_and_then value_type_of (as_str d))
+value_type_in d = value_or_here (option_and_then value_type_of (as_str d))
 
 -- a metric has bounds exactly where it is a distribution
 abbrev pub with_bounds : ValueType → Data → Result ValueType (List ℕ)
-with_bounds (type.Dist none) d = required (codes "bounds") (each whole_in) d >>= λ bounds. Ok (type.Dist bounds)
-with_bounds type.Int d = absent (codes "bounds") d >>= λ none. Ok type.Int
-with_bounds type.Bool d = absent (codes "bounds") d >>= λ none. Ok type.Bool
-with_bounds type.Text d = absent (codes "bounds") d >>= λ none. Ok type.Text
+with_bounds (type.Dist none) d = required_key (codes "bounds") (list_in whole_in) d >>= λ bounds. Ok (type.Dist bounds)
+with_bounds type.Int d = absent_key (codes "bounds") d >>= λ none. Ok type.Int
+with_bounds type.Bool d = absent_key (codes "bounds") d >>= λ none. Ok type.Bool
+with_bounds type.Text d = absent_key (codes "bounds") d >>= λ none. Ok type.Text
 
 unfoldable pub metric_in : Data → Result MetricSchema (List ℕ)
 metric_in d = do
   known ← object_of (keys_of form.Metric) d
-  name ← required (codes "name") text_in d
-  what ← required (codes "kind") kind_in d
-  typed ← required (codes "type") value_type_in d
+  name ← required_key (codes "name") text_in d
+  what ← required_key (codes "kind") kind_in d
+  typed ← required_key (codes "type") value_type_in d
   bounded ← with_bounds typed d
-  column ← required (codes "column") text_in d
-  fields ← optional [] (codes "fields") (each metric_field_in) d
+  column ← required_key (codes "column") text_in d
+  fields ← optional_key [] (codes "fields") (list_in metric_field_in) d
   Ok (record { name = name; kind = what; value = bounded; column = column; fields = fields })
 
 -- ---- zones
@@ -131,7 +135,7 @@ metric_in d = do
 abbrev pub field_value_in : Data → Result FieldValue (List ℕ)
 field_value_in (string text) = Ok (value.Text text)
 field_value_in (boolean truth) = Ok (value.Bool truth)
-field_value_in (number n) = formed (option_map value.Int (as_i64 n))
+field_value_in (number n) = value_or_here (option_map value.Int (as_i64 n))
 field_value_in null = Err []
 field_value_in (array elements) = Err []
 field_value_in (object keys) = Err []
@@ -139,17 +143,17 @@ field_value_in (object keys) = Err []
 unfoldable pub range_in : Data → Result RangeSpec (List ℕ)
 range_in d = do
   known ← object_of (keys_of form.Range) d
-  bound ← required (codes "from") (each field_value_in) d
-  leaves ← required (codes "leaves") (each text_in) d
+  bound ← required_key (codes "from") (list_in field_value_in) d
+  leaves ← required_key (codes "leaves") (list_in text_in) d
   Ok (record { from = bound; leaves = leaves })
 
 unfoldable pub zone_in : Data → Result ZoneSpec (List ℕ)
 zone_in d = do
   known ← object_of (keys_of form.Zone) d
-  name ← required (codes "name") text_in d
-  locations ← required (codes "locations") (each text_in) d
-  leaves ← required (codes "leaves") (each text_in) d
-  ranges ← required (codes "ranges") (each range_in) d
+  name ← required_key (codes "name") text_in d
+  locations ← required_key (codes "locations") (list_in text_in) d
+  leaves ← required_key (codes "leaves") (list_in text_in) d
+  ranges ← required_key (codes "ranges") (list_in range_in) d
   Ok (record { name = name; locations = locations; leaves = leaves; ranges = ranges })
 
 -- ---- the whole
@@ -157,10 +161,17 @@ zone_in d = do
 unfoldable pub parts_in : Data → Result Parts (List ℕ)
 parts_in d = do
   known ← object_of (keys_of form.Configuration) d
-  buckets ← optional 1024 (codes "buckets") (number_in is_bucket_count) d
-  limit ← optional 1000000 (codes "limit") (number_in is_limit) d
-  range_points ← optional 1000000 (codes "range_points") (number_in is_limit) d
-  targets ← required (codes "targets") (each target_in) d
-  metrics ← required (codes "metrics") (each metric_in) d
-  zones ← required (codes "zones") (each zone_in) d
-  Ok (record { buckets = buckets; limit = limit; range_points = range_points; targets = targets; metrics = metrics; zones = zones })
+  buckets ← optional_key 1024 (codes "buckets") (number_in is_bucket_count) d
+  limit ← optional_key 1000000 (codes "limit") (number_in is_limit) d
+  range_points ← optional_key 1000000 (codes "range_points") (number_in is_limit) d
+  targets ← required_key (codes "targets") (list_in target_in) d
+  metrics ← required_key (codes "metrics") (list_in metric_in) d
+  zones ← required_key (codes "zones") (list_in zone_in) d
+  Ok (record {
+    buckets = buckets;
+    limit = limit;
+    range_points = range_points;
+    targets = targets;
+    metrics = metrics;
+    zones = zones;
+  })

@@ -1,7 +1,7 @@
 -- The one form of zones that is served so far.
 use Rattle.std.specs.Prelude.{ℕ, ◌==◌, ◌&&◌, Bool, false, not, List, [], ◌∷◌, length, Result, Ok, Err, if◌then◌else◌}
-use Rattle.mon_value.specs.Sources.{same_text}
-use Rattle.mon_schema.specs.Faults.{repeats}
+use Rattle.mon_value.specs.Same.{same_text}
+use Rattle.mon_schema.specs.Faults.{texts_repeat}
 use Rattle.mon_schema.specs.Names.{is_name}
 use Rattle.mon_config.specs.declared.faults.ConfigFault.{ConfigFault}
 use Rattle.mon_config.specs.declared.faults.ConfigFault.TheVariants as fault
@@ -28,7 +28,7 @@ is_one_leaf (leaf ∷ next ∷ leaves) ranges = false
 
 -- a zone with a lawful name, one leaf and one range, and no location twice
 abbrev pub is_served : ZoneSpec → Bool
-is_served zone = is_name zone.name && (is_one_leaf zone.leaves zone.ranges && not (repeats zone.locations))
+is_served zone = is_name zone.name && (is_one_leaf zone.leaves zone.ranges && not (texts_repeat zone.locations))
 
 -- the locations of the only zone
 abbrev pub locations_of : List ZoneSpec → Result (List (List ℕ)) ConfigFault

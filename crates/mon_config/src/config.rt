@@ -1,7 +1,7 @@
 // The configuration as a whole.
 ghost use Rattle.std.specs.Prelude.{◌≡◌, IfOk};
 ghost use Rattle.mon_config.specs.Configs as spec;
-ghost use Rattle.mon_config.specs.Configs.{config_in};
+ghost use Rattle.mon_config.specs.Configs.{config_in, KeepsNumbers};
 ghost use Rattle.mon_config.specs.Numbers.{AreLawful};
 ghost use Rattle.mon_config.specs.Objects.{parts_in};
 ghost use Rattle.mon_value.specs.Answers.{Gives, GivesView};
@@ -9,6 +9,7 @@ ghost use Rattle.serde_json.specs.View.{view};
 
 use crate::faults::ConfigFault;
 use crate::held::{Read, with_metrics, with_targets};
+use crate::limits::LONGEST_CONFIGURATION;
 use crate::parts::{Parts, parts_in};
 use crate::paths::{Shaped, path_from_top};
 use crate::zones::locations_of;
@@ -20,6 +21,7 @@ use std::alloc::Global;
 /// What a configuration says.
 #[derive(Drop)]
 pub struct Config {
+    /// The schemas of targets and metrics.
     pub schemas: Schemas,
     /// The locations of the zone.
     pub locations: Texts,
@@ -30,9 +32,6 @@ pub struct Config {
     /// How many points a range holds at most.
     pub range_points: u64,
 }
-
-/// A configuration has at most this many bytes.
-pub const MOST_BYTES: usize = 1048576;
 
 /// The configuration that a JSON text spells, or the first of its faults.
 #[tactic(auto, unfolding(crate::specs::Configs::config_in))]
@@ -47,9 +46,9 @@ pub fn read_config(alloc: Global, text: &[u8]) -> Result<Config, Refusal<ConfigF
 
 // The JSON value of a text.
 fn json_in(alloc: Global, text: &[u8]) -> Read<Value>
-    ensures same { GivesView view result (spec.json_in text.now) }
+    ensures json { GivesView view result (spec.json_in text.now) }
 {
-    if text.len() > MOST_BYTES {
+    if text.len() > LONGEST_CONFIGURATION {
         return Err(Refusal::Fault(ConfigFault::TooLong));
     }
     match Value::from_slice(alloc, text) {
@@ -61,7 +60,7 @@ fn json_in(alloc: Global, text: &[u8]) -> Read<Value>
 
 // The parts that a JSON value spells; a fault of shape has its path from the top.
 fn parts_of(alloc: Global, value: &Value) -> Read<Parts>
-    ensures same { Gives result (spec.from_top (parts_in (view value.now))) }
+    ensures parts { Gives result (spec.from_top (parts_in (view value.now))) }
     ensures lawful { IfOk result (λ parts. AreLawful parts.buckets parts.limit parts.range_points) }
 {
     match parts_in(alloc, value) {
@@ -77,8 +76,8 @@ fn parts_of(alloc: Global, value: &Value) -> Read<Parts>
 // The configuration of its parts.
 #[tactic(auto, unfolding(crate::specs::Configs::config_of))]
 fn config_of(alloc: Global, parts: Parts) -> Read<Config>
-    ensures same { Gives result (spec.config_of parts) }
-    ensures numbers { IfOk result (λ config. (config.buckets ≡ parts.buckets) × (config.limit ≡ parts.limit) × (config.range_points ≡ parts.range_points)) }
+    ensures config { Gives result (spec.config_of parts) }
+    ensures numbers { IfOk result (KeepsNumbers parts) }
 {
     let schemas = with_targets(alloc, parts.targets)?;
     let schemas = with_metrics(alloc, schemas, parts.metrics)?;

@@ -14,7 +14,7 @@ pub(crate) type Read<T> = Result<T, Refusal<ConfigFault>>;
 
 /// The schemas of the targets.
 pub(crate) fn with_targets(alloc: Global, targets: TargetSchemas) -> Read<Schemas>
-    ensures same { Gives result (spec.with_targets 0 no_schemas targets) }
+    ensures held { Gives result (spec.with_targets 0 no_schemas targets) }
 {
     let mut schemas = Schemas::new(alloc);
     let mut i = 0;
@@ -34,7 +34,7 @@ pub(crate) fn with_metrics(
     mut schemas: Schemas,
     metrics: MetricSchemas,
 ) -> Read<Schemas>
-    ensures same { Gives result (spec.with_metrics 0 schemas metrics) }
+    ensures held { Gives result (spec.with_metrics 0 schemas metrics) }
 {
     let mut i = 0;
     for metric in metrics.into_vec() {
@@ -49,7 +49,7 @@ pub(crate) fn with_metrics(
 
 // The schema at a place of a list is refused.
 fn refused_at<T>(alloc: Global, key: &str, index: usize, fault: SchemaFault) -> Read<T>
-    ensures same { Gives result (Err (spec.schema_at key.now index fault)) }
+    ensures refused { Gives result (Err (spec.schema_at key.now index fault)) }
 {
     let path = Text::from_string(format!(in alloc; "$.{key}[{index}]")?);
     Err(Refusal::Fault(ConfigFault::Schema(fault, path)))

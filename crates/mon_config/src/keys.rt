@@ -2,7 +2,7 @@
 ghost use Rattle.std.specs.Prelude.{◌≡◌, option_map, string_bytes};
 ghost use Rattle.std.specs.List.{list_any};
 ghost use Rattle.mon_value.specs.Answers.{Gives};
-ghost use Rattle.mon_value.specs.Sources.{same_text};
+ghost use Rattle.mon_value.specs.Same.{same_text};
 ghost use Rattle.mon_config.specs.Objects as spec;
 ghost use Rattle.mon_config.specs.Shapes.{object_of, unknown_in};
 ghost use Rattle.serde_json.specs.View.{members_view, view};
@@ -27,7 +27,7 @@ pub enum ObjectForm {
 impl ObjectForm {
     // Whether the object may have a key.
     fn knows(self, key: &str) -> bool
-        ensures same { result ≡ list_any (same_text key.now) (spec.keys_of self) }
+        ensures known { result ≡ list_any (same_text key.now) (spec.keys_of self) }
     {
         match self {
             ObjectForm::Configuration => is_configuration_key(key),
@@ -42,7 +42,7 @@ impl ObjectForm {
 }
 
 fn is_configuration_key(key: &str) -> bool
-    ensures same { result ≡ list_any (same_text key.now) (spec.keys_of ObjectForm.Configuration) }
+    ensures known { result ≡ list_any (same_text key.now) (spec.keys_of ObjectForm.Configuration) }
 {
     key == "buckets"
         || key == "limit"
@@ -53,7 +53,7 @@ fn is_configuration_key(key: &str) -> bool
 }
 
 fn is_metric_key(key: &str) -> bool
-    ensures same { result ≡ list_any (same_text key.now) (spec.keys_of ObjectForm.Metric) }
+    ensures known { result ≡ list_any (same_text key.now) (spec.keys_of ObjectForm.Metric) }
 {
     key == "name"
         || key == "kind"
@@ -64,14 +64,14 @@ fn is_metric_key(key: &str) -> bool
 }
 
 fn is_zone_key(key: &str) -> bool
-    ensures same { result ≡ list_any (same_text key.now) (spec.keys_of ObjectForm.Zone) }
+    ensures known { result ≡ list_any (same_text key.now) (spec.keys_of ObjectForm.Zone) }
 {
     key == "name" || key == "locations" || key == "leaves" || key == "ranges"
 }
 
 // The least by bytes of the keys that the object may not have: the map has its keys in that order.
 fn unknown_in(form: ObjectForm, members: &Map<String, Value>) -> Option<&String>
-    ensures same { option_map (λ key. string_bytes key.now) result ≡ unknown_in (spec.keys_of form) (members_view members.now.entries) }
+    ensures unknown { option_map (λ key. string_bytes key.now) result ≡ unknown_in (spec.keys_of form) (members_view members.now.entries) }
 {
     for key in members.keys() {
         if !form.knows(key.as_str()) {
@@ -83,7 +83,7 @@ fn unknown_in(form: ObjectForm, members: &Map<String, Value>) -> Option<&String>
 
 /// The value is an object, and each of its keys is one that it may have.
 pub(crate) fn object_in(alloc: Global, form: ObjectForm, value: &Value) -> Shaped<bool>
-    ensures same { Gives result (object_of (spec.keys_of form) (view value.now)) }
+    ensures keys { Gives result (object_of (spec.keys_of form) (view value.now)) }
 {
     let Some(members) = value.as_object() else {
         return wrong_form(alloc);

@@ -1,20 +1,22 @@
 //! The configuration: the schemas, the zone's locations and the limits that a JSON text spells.
 #![tactic(auto)]
 
-pub mod config;
-pub mod faults;
+mod config;
+mod faults;
 mod held;
 mod keys;
+mod limits;
 mod parts;
 mod paths;
 mod readers;
 mod repeats;
 mod schemas;
 mod values;
-pub mod zones;
+mod zones;
 
 pub use config::{Config, read_config};
 pub use faults::ConfigFault;
+pub use limits::{GREATEST_LIMIT, LONGEST_CONFIGURATION};
 
 #[cfg(test)]
 mod tests;

@@ -7,7 +7,7 @@ ghost use Rattle.serde_json.specs.View.{view};
 
 use crate::keys::{ObjectForm, object_in};
 use crate::paths::Shaped;
-use crate::readers::{ListReader, optional, required};
+use crate::readers::{ListReader, optional_key, required_key};
 use crate::schemas::{MetricReader, TargetReader};
 use crate::values::{BucketsReader, LimitReader};
 use crate::zones::{ZoneReader, ZoneSpecs};
@@ -29,16 +29,16 @@ pub struct Parts {
 /// The parts of a configuration.
 #[tactic(auto, unfolding(crate::specs::Objects::parts_in))]
 pub(crate) fn parts_in(alloc: Global, value: &Value) -> Shaped<Parts>
-    ensures same { Gives result (spec.parts_in (view value.now)) }
+    ensures parts { Gives result (spec.parts_in (view value.now)) }
     ensures lawful { IfOk result (λ parts. AreLawful parts.buckets parts.limit parts.range_points) }
 {
     object_in(alloc, ObjectForm::Configuration, value)?;
-    let buckets = optional::<BucketsReader>(alloc, value, "buckets", 1024)?;
-    let limit = optional::<LimitReader>(alloc, value, "limit", 1000000)?;
-    let range_points = optional::<LimitReader>(alloc, value, "range_points", 1000000)?;
-    let targets = required::<ListReader<TargetReader>>(alloc, value, "targets")?;
-    let metrics = required::<ListReader<MetricReader>>(alloc, value, "metrics")?;
-    let zones = required::<ListReader<ZoneReader>>(alloc, value, "zones")?;
+    let buckets = optional_key::<BucketsReader>(alloc, value, "buckets", 1_024)?;
+    let limit = optional_key::<LimitReader>(alloc, value, "limit", 1_000_000)?;
+    let range_points = optional_key::<LimitReader>(alloc, value, "range_points", 1_000_000)?;
+    let targets = required_key::<ListReader<TargetReader>>(alloc, value, "targets")?;
+    let metrics = required_key::<ListReader<MetricReader>>(alloc, value, "metrics")?;
+    let zones = required_key::<ListReader<ZoneReader>>(alloc, value, "zones")?;
     Ok(Parts {
         buckets,
         limit,

@@ -11,7 +11,7 @@ pub(crate) type Shaped<T> = Result<T, Refusal<Text>>;
 
 /// The path that goes through a key first.
 pub(crate) fn path_through_key(alloc: Global, key: &str, path: &str) -> Result<Text, OutOfMemory>
-    ensures same { IfOk result (λ longer. longer ≡ through_key key.now path.now) }
+    ensures path { IfOk result (λ longer. longer ≡ through_key key.now path.now) }
 {
     Ok(Text::from_string(format!(in alloc; ".{key}{path}")?))
 }
@@ -22,21 +22,21 @@ pub(crate) fn path_through_index(
     index: usize,
     path: &str,
 ) -> Result<Text, OutOfMemory>
-    ensures same { IfOk result (λ longer. longer ≡ through_index index path.now) }
+    ensures path { IfOk result (λ longer. longer ≡ through_index index path.now) }
 {
     Ok(Text::from_string(format!(in alloc; "[{index}]{path}")?))
 }
 
 /// The path of a value from the top.
 pub(crate) fn path_from_top(alloc: Global, path: &str) -> Result<Text, OutOfMemory>
-    ensures same { IfOk result (λ whole. whole ≡ codes "$" ++ path.now) }
+    ensures path { IfOk result (λ whole. whole ≡ codes "$" ++ path.now) }
 {
     Ok(Text::from_string(format!(in alloc; "${path}")?))
 }
 
 /// The value itself is at fault.
 pub(crate) fn wrong_form<T>(alloc: Global) -> Shaped<T>
-    ensures same { Gives result (Err []) }
+    ensures refused { Gives result (Err []) }
 {
     Err(Refusal::Fault(Text::from_str(alloc, "")?))
 }

@@ -18,12 +18,12 @@ pub(crate) trait Reader {
     ghost reads: { Data → Result Self.Item (List ℕ) };
 
     fn read(alloc: Global, value: &Value) -> Shaped<Self::Item>
-        ensures same { Gives result (reads (view value.now)) };
+        ensures spelled { Gives result (reads (view value.now)) };
 }
 
 /// Reads the value under a key that must be there.
-pub(crate) fn required<R: Reader>(alloc: Global, value: &Value, key: &str) -> Shaped<R::Item>
-    ensures same { Gives result (spec.required key.now R.reads (view value.now)) }
+pub(crate) fn required_key<R: Reader>(alloc: Global, value: &Value, key: &str) -> Shaped<R::Item>
+    ensures spelled { Gives result (spec.required_key key.now R.reads (view value.now)) }
 {
     let Some(inner) = value.get(key) else {
         return Err(Refusal::Fault(path_through_key(alloc, key, "")?));
@@ -38,13 +38,13 @@ pub(crate) fn required<R: Reader>(alloc: Global, value: &Value, key: &str) -> Sh
 }
 
 /// Reads the value under a key that may be there; without it the default counts.
-pub(crate) fn optional<R: Reader>(
+pub(crate) fn optional_key<R: Reader>(
     alloc: Global,
     value: &Value,
     key: &str,
     default: R::Item,
 ) -> Shaped<R::Item>
-    ensures same { Gives result (spec.optional default key.now R.reads (view value.now)) }
+    ensures spelled { Gives result (spec.optional_key default key.now R.reads (view value.now)) }
 {
     let Some(inner) = value.get(key) else {
         return Ok(default);
@@ -59,8 +59,8 @@ pub(crate) fn optional<R: Reader>(
 }
 
 /// A key must not be there.
-pub(crate) fn absent(alloc: Global, value: &Value, key: &str) -> Shaped<bool>
-    ensures same { Gives result (spec.absent key.now (view value.now)) }
+pub(crate) fn absent_key(alloc: Global, value: &Value, key: &str) -> Shaped<bool>
+    ensures missing { Gives result (spec.absent_key key.now (view value.now)) }
 {
     if value.get(key).is_some() {
         return Err(Refusal::Fault(path_through_key(alloc, key, "")?));
@@ -76,16 +76,16 @@ pub(crate) struct ListReader<R> {
 impl<R: Reader> Reader for ListReader<R> {
     type Item = ListOf<R::Item>;
 
-    ghost reads = { spec.each R.reads };
+    ghost reads = { spec.list_in R.reads };
 
     fn read(alloc: Global, value: &Value) -> Shaped<ListOf<R::Item>> {
         read_list::<R>(alloc, value)
     }
 }
 
-#[tactic(auto, using(crate::proofs::Viewed::viewed))]
+#[tactic(auto, using(crate::proofs::ListOfLemmas::viewed))]
 fn read_list<R: Reader>(alloc: Global, value: &Value) -> Shaped<ListOf<R::Item>>
-    ensures same { Gives result (spec.each R.reads (view value.now)) }
+    ensures spelled { Gives result (spec.list_in R.reads (view value.now)) }
 {
     match value.as_array() {
         Some(list) => read_elements::<R>(alloc, list.as_slice()),
@@ -94,7 +94,7 @@ fn read_list<R: Reader>(alloc: Global, value: &Value) -> Shaped<ListOf<R::Item>>
 }
 
 fn read_elements<R: Reader>(alloc: Global, list: &[Value]) -> Shaped<ListOf<R::Item>>
-    ensures same { Gives result (spec.elements R.reads 0 (map view list.now)) }
+    ensures spelled { Gives result (spec.elements_in R.reads 0 (map view list.now)) }
 {
     let mut items = ListOf::new(alloc);
     for (i, value) in list.iter().enumerate() {
@@ -105,7 +105,7 @@ fn read_elements<R: Reader>(alloc: Global, list: &[Value]) -> Shaped<ListOf<R::I
 
 // Reads the element at a place.
 fn read_element<R: Reader>(alloc: Global, i: usize, value: &Value) -> Shaped<R::Item>
-    ensures same { Gives result (spec.under_index i (R.reads (view value.now))) }
+    ensures spelled { Gives result (spec.under_index i (R.reads (view value.now))) }
 {
     match R::read(alloc, value) {
         Ok(item) => Ok(item),

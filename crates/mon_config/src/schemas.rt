@@ -6,7 +6,7 @@ ghost use Rattle.serde_json.specs.View.{view};
 
 use crate::keys::{ObjectForm, object_in};
 use crate::paths::Shaped;
-use crate::readers::{ListReader, Reader, absent, optional, required};
+use crate::readers::{ListReader, Reader, absent_key, optional_key, required_key};
 use crate::values::{
     FieldTypeReader, KindReader, TextReader, TruthReader, ValueTypeReader, WholeReader,
 };
@@ -30,12 +30,12 @@ impl Reader for TargetFieldReader {
 
 #[tactic(auto, unfolding(crate::specs::Objects::target_field_in))]
 fn target_field_in(alloc: Global, value: &Value) -> Shaped<Field>
-    ensures same { Gives result (spec.target_field_in (view value.now)) }
+    ensures field { Gives result (spec.target_field_in (view value.now)) }
 {
     object_in(alloc, ObjectForm::TargetField, value)?;
-    let name = required::<TextReader>(alloc, value, "name")?;
-    let of = required::<FieldTypeReader>(alloc, value, "type")?;
-    let location = optional::<TruthReader>(alloc, value, "location", false)?;
+    let name = required_key::<TextReader>(alloc, value, "name")?;
+    let of = required_key::<FieldTypeReader>(alloc, value, "type")?;
+    let location = optional_key::<TruthReader>(alloc, value, "location", false)?;
     Ok(Field { name, of, location })
 }
 
@@ -54,11 +54,11 @@ impl Reader for TargetReader {
 
 #[tactic(auto, unfolding(crate::specs::Objects::target_in))]
 fn target_in(alloc: Global, value: &Value) -> Shaped<TargetSchema>
-    ensures same { Gives result (spec.target_in (view value.now)) }
+    ensures target { Gives result (spec.target_in (view value.now)) }
 {
     object_in(alloc, ObjectForm::Target, value)?;
-    let name = required::<TextReader>(alloc, value, "name")?;
-    let fields = required::<ListReader<TargetFieldReader>>(alloc, value, "fields")?;
+    let name = required_key::<TextReader>(alloc, value, "name")?;
+    let fields = required_key::<ListReader<TargetFieldReader>>(alloc, value, "fields")?;
     Ok(TargetSchema { name, fields })
 }
 
@@ -77,11 +77,11 @@ impl Reader for MetricFieldReader {
 
 #[tactic(auto, unfolding(crate::specs::Objects::metric_field_in))]
 fn metric_field_in(alloc: Global, value: &Value) -> Shaped<Field>
-    ensures same { Gives result (spec.metric_field_in (view value.now)) }
+    ensures field { Gives result (spec.metric_field_in (view value.now)) }
 {
     object_in(alloc, ObjectForm::MetricField, value)?;
-    let name = required::<TextReader>(alloc, value, "name")?;
-    let of = required::<FieldTypeReader>(alloc, value, "type")?;
+    let name = required_key::<TextReader>(alloc, value, "name")?;
+    let of = required_key::<FieldTypeReader>(alloc, value, "type")?;
     Ok(Field {
         name,
         of,
@@ -104,15 +104,15 @@ impl Reader for MetricReader {
 
 #[tactic(auto, unfolding(crate::specs::Objects::metric_in))]
 fn metric_in(alloc: Global, value: &Value) -> Shaped<MetricSchema>
-    ensures same { Gives result (spec.metric_in (view value.now)) }
+    ensures metric { Gives result (spec.metric_in (view value.now)) }
 {
     object_in(alloc, ObjectForm::Metric, value)?;
-    let name = required::<TextReader>(alloc, value, "name")?;
-    let kind = required::<KindReader>(alloc, value, "kind")?;
-    let of = required::<ValueTypeReader>(alloc, value, "type")?;
+    let name = required_key::<TextReader>(alloc, value, "name")?;
+    let kind = required_key::<KindReader>(alloc, value, "kind")?;
+    let of = required_key::<ValueTypeReader>(alloc, value, "type")?;
     let of = with_bounds(alloc, of, value)?;
-    let column = required::<TextReader>(alloc, value, "column")?;
-    let fields = optional::<ListReader<MetricFieldReader>>(
+    let column = required_key::<TextReader>(alloc, value, "column")?;
+    let fields = optional_key::<ListReader<MetricFieldReader>>(
         alloc,
         value,
         "fields",
@@ -129,15 +129,15 @@ fn metric_in(alloc: Global, value: &Value) -> Shaped<MetricSchema>
 
 // A metric has bounds exactly where it is a distribution.
 fn with_bounds(alloc: Global, of: ValueType, value: &Value) -> Shaped<ValueType>
-    ensures same { Gives result (spec.with_bounds of (view value.now)) }
+    ensures bounds { Gives result (spec.with_bounds of (view value.now)) }
 {
     match of {
         ValueType::Dist(_) => {
-            let bounds = required::<ListReader<WholeReader>>(alloc, value, "bounds")?;
+            let bounds = required_key::<ListReader<WholeReader>>(alloc, value, "bounds")?;
             Ok(ValueType::Dist(bounds))
         }
         other => {
-            absent(alloc, value, "bounds")?;
+            absent_key(alloc, value, "bounds")?;
             Ok(other)
         }
     }

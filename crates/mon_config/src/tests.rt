@@ -1,13 +1,6 @@
-// What configurations are read as.
-mod metrics;
-mod targets;
-mod texts;
-mod top;
-mod zones;
-
-use crate::read_config;
+// The call once as it reads, and once as it refuses; `cases` has the table of configurations.
+use crate::{ConfigFault, read_config};
 use mon_value::{Refusal, ValueType};
-use std::alloc::{AllocError, Global};
 use std::test::Fail;
 
 // A configuration with metrics of three types and two kinds.
@@ -18,57 +11,6 @@ const EXAMPLE: &str =
 {"name":"/h","kind":"delta","type":"dist","bounds":[10,100],"column":"h"},
 {"name":"/s","kind":"gauge","type":"text","column":"s"}],
 "zones":[{"name":"east","locations":["e"],"leaves":["e1"],"ranges":[{"from":[],"leaves":["e1"]}]}]}"#;
-
-// A target that is held.
-const TARGET: &str = r#"{"name":"T","fields":[{"name":"z","type":"text","location":true}]}"#;
-
-// Zones that are served.
-const ZONES: &str =
-    r#"[{"name":"east","locations":["e"],"leaves":["e1"],"ranges":[{"from":[],"leaves":["e1"]}]}]"#;
-
-// What a text is read as: `read`, or the text of its fault.
-fn told(alloc: Global, text: &[u8]) -> Result<String, AllocError> {
-    match read_config(alloc, text) {
-        Ok(_) => String::from_str(alloc, "read"),
-        Err(Refusal::Fault(fault)) => format!(in alloc; "{fault}"),
-        Err(Refusal::OutOfMemory) => String::from_str(alloc, "no memory"),
-    }
-}
-
-// Each line of a table has a part of a configuration, and behind ` => ` what the configuration is
-// read as where the part stands between the front and the back.
-fn check(alloc: Global, front: &str, table: &str, back: &str) -> Result<(), Fail> {
-    for line in table.lines() {
-        let Some((part, want)) = line.split_once(" => ") else {
-            return Err(Fail::new("a line wants nothing"));
-        };
-        let text = format!(in alloc; "{front}{part}{back}")?;
-        let read = told(alloc, text.as_bytes())?;
-        if read.as_str() != want {
-            return Err(Fail::new(format!(in alloc; "{text} is {read}")?));
-        }
-    }
-    Ok(())
-}
-
-// The same of the list of targets, with zones that are served.
-fn check_targets(alloc: Global, table: &str) -> Result<(), Fail> {
-    let back = format!(in alloc; "],\"metrics\":[],\"zones\":{ZONES}}}")?;
-    check(alloc, "{\"targets\":[", table, back.as_str())
-}
-
-// The same of the list of metrics, with a target that is held.
-fn check_metrics(alloc: Global, table: &str) -> Result<(), Fail> {
-    let front = format!(in alloc; "{{\"targets\":[{TARGET}],\"metrics\":[")?;
-    let back = format!(in alloc; "],\"zones\":{ZONES}}}")?;
-    check(alloc, front.as_str(), table, back.as_str())
-}
-
-// The same of the zones, with a target that is held and no metrics.
-fn check_zones(alloc: Global, table: &str) -> Result<(), Fail> {
-    let front = format!(in alloc; "{{\"targets\":[{TARGET}],\"metrics\":[],\"zones\":")?;
-    check(alloc, front.as_str(), table, "}")
-}
 
 #[test]
 fn a_whole_configuration_is_read(rt: HostRuntime) -> Result<(), Fail> {
@@ -90,5 +32,12 @@ fn a_whole_configuration_is_read(rt: HostRuntime) -> Result<(), Fail> {
         return Err(Fail::new("the bounds are gone"));
     };
     assert_eq!(rt; bounds.as_slice(), [10, 100].as_slice());
+    Ok(())
+}
+
+#[test]
+fn a_text_that_is_no_json_is_refused(rt: HostRuntime) -> Result<(), Fail> {
+    let read = read_config(rt.alloc(), b"{".as_slice());
+    assert!(rt; matches!(read, Err(Refusal::Fault(ConfigFault::NotJson))));
     Ok(())
 }

@@ -2,9 +2,10 @@
 ghost use Rattle.std.specs.Prelude.{◌≡◌};
 ghost use Rattle.mon_value.specs.Answers.{Gives};
 ghost use Rattle.mon_config.specs.Objects as spec;
-ghost use Rattle.mon_config.specs.Shapes.{formed};
+ghost use Rattle.mon_config.specs.Shapes.{value_or_here};
 ghost use Rattle.serde_json.specs.View.{view};
 
+use crate::limits::GREATEST_LIMIT;
 use crate::paths::{Shaped, wrong_form};
 use crate::readers::Reader;
 use mon_schema::Kind;
@@ -78,7 +79,7 @@ impl Reader for BucketsReader {
 
 // The number, where it is a power of two from 64 to 4,096.
 fn buckets_of(alloc: Global, number: u64) -> Shaped<u32>
-    ensures same { Gives result (formed (spec.tested spec.is_bucket_count number)) }
+    ensures buckets { Gives result (value_or_here (spec.number_if spec.is_bucket_count number)) }
 {
     match number {
         64 | 128 | 256 | 512 | 1024 | 2048 | 4096 => Ok(number as u32),
@@ -96,14 +97,11 @@ impl Reader for LimitReader {
 
     fn read(alloc: Global, value: &Value) -> Shaped<u64> {
         match value.as_u64() {
-            Some(number) if 1 <= number && number <= MOST_STEPS => Ok(number),
+            Some(number) if 1 <= number && number <= GREATEST_LIMIT => Ok(number),
             _ => wrong_form(alloc),
         }
     }
 }
-
-/// A limit is at most this.
-pub const MOST_STEPS: u64 = 16777216;
 
 /// Reads a field's type.
 pub(crate) struct FieldTypeReader;

@@ -8,10 +8,10 @@ ghost use Rattle.serde_json.specs.View.{view};
 use crate::faults::ConfigFault;
 use crate::keys::{ObjectForm, object_in};
 use crate::paths::Shaped;
-use crate::readers::{ListReader, Reader, required};
+use crate::readers::{ListReader, Reader, required_key};
 use crate::repeats::texts_repeat;
 use crate::values::{FieldValueReader, TextReader};
-use mon_schema::names::is_name;
+use mon_schema::is_name;
 use mon_value::{FieldValues, ListOf, OutOfMemory, Refusal, Text, Texts};
 use serde_json::Value;
 use std::alloc::Global;
@@ -54,11 +54,11 @@ impl Reader for RangeReader {
 
 #[tactic(auto, unfolding(crate::specs::Objects::range_in))]
 fn range_in(alloc: Global, value: &Value) -> Shaped<RangeSpec>
-    ensures same { Gives result (spec.range_in (view value.now)) }
+    ensures range { Gives result (spec.range_in (view value.now)) }
 {
     object_in(alloc, ObjectForm::Range, value)?;
-    let from = required::<ListReader<FieldValueReader>>(alloc, value, "from")?;
-    let leaves = required::<ListReader<TextReader>>(alloc, value, "leaves")?;
+    let from = required_key::<ListReader<FieldValueReader>>(alloc, value, "from")?;
+    let leaves = required_key::<ListReader<TextReader>>(alloc, value, "leaves")?;
     Ok(RangeSpec { from, leaves })
 }
 
@@ -77,13 +77,13 @@ impl Reader for ZoneReader {
 
 #[tactic(auto, unfolding(crate::specs::Objects::zone_in))]
 fn zone_in(alloc: Global, value: &Value) -> Shaped<ZoneSpec>
-    ensures same { Gives result (spec.zone_in (view value.now)) }
+    ensures zone { Gives result (spec.zone_in (view value.now)) }
 {
     object_in(alloc, ObjectForm::Zone, value)?;
-    let name = required::<TextReader>(alloc, value, "name")?;
-    let locations = required::<ListReader<TextReader>>(alloc, value, "locations")?;
-    let leaves = required::<ListReader<TextReader>>(alloc, value, "leaves")?;
-    let ranges = required::<ListReader<RangeReader>>(alloc, value, "ranges")?;
+    let name = required_key::<TextReader>(alloc, value, "name")?;
+    let locations = required_key::<ListReader<TextReader>>(alloc, value, "locations")?;
+    let leaves = required_key::<ListReader<TextReader>>(alloc, value, "leaves")?;
+    let ranges = required_key::<ListReader<RangeReader>>(alloc, value, "ranges")?;
     Ok(ZoneSpec {
         name,
         locations,
@@ -94,7 +94,7 @@ fn zone_in(alloc: Global, value: &Value) -> Shaped<ZoneSpec>
 
 /// The locations of the only zone, where it is one that is served.
 pub(crate) fn locations_of(alloc: Global, zones: ZoneSpecs) -> Result<Texts, Refusal<ConfigFault>>
-    ensures same { Gives result (served.locations_of zones) }
+    ensures locations { Gives result (served.locations_of zones) }
 {
     let mut zones = zones.into_vec();
     match zones.pop() {
@@ -105,7 +105,7 @@ pub(crate) fn locations_of(alloc: Global, zones: ZoneSpecs) -> Result<Texts, Ref
 
 // Whether a zone has lawful names, one leaf, one range, and no location twice.
 fn is_served(alloc: Global, zone: &ZoneSpec) -> Result<bool, OutOfMemory>
-    ensures same { IfOk result (λ serves. serves ≡ served.is_served zone.now) }
+    ensures served { IfOk result (λ serves. serves ≡ served.is_served zone.now) }
 {
     if !is_name(zone.name.as_bytes())
         || !is_one_leaf(zone.leaves.as_slice(), zone.ranges.as_slice())
@@ -117,7 +117,7 @@ fn is_served(alloc: Global, zone: &ZoneSpec) -> Result<bool, OutOfMemory>
 
 // Whether there is one leaf, with a lawful name, that holds the only range.
 fn is_one_leaf(leaves: &[Text], ranges: &[RangeSpec]) -> bool
-    ensures same { result ≡ served.is_one_leaf leaves.now ranges.now }
+    ensures leaf { result ≡ served.is_one_leaf leaves.now ranges.now }
 {
     match leaves.split_first() {
         Some((leaf, rest)) => {
@@ -129,11 +129,11 @@ fn is_one_leaf(leaves: &[Text], ranges: &[RangeSpec]) -> bool
 
 // Whether the only range begins at the empty bound and is held by the leaf alone.
 fn is_whole(leaf: &Text, ranges: &[RangeSpec]) -> bool
-    ensures same { result ≡ served.is_whole leaf.now ranges.now }
+    ensures range { result ≡ served.is_whole leaf.now ranges.now }
 {
     match ranges.split_first() {
         Some((range, rest)) => {
-            rest.is_empty() && range.from.len() == 0 && is_only(leaf, range.leaves.as_slice())
+            rest.is_empty() && range.from.is_empty() && is_only(leaf, range.leaves.as_slice())
         }
         None => false,
     }
@@ -141,7 +141,7 @@ fn is_whole(leaf: &Text, ranges: &[RangeSpec]) -> bool
 
 // Whether the only name is the leaf's.
 fn is_only(leaf: &Text, names: &[Text]) -> bool
-    ensures same { result ≡ served.is_only leaf.now names.now }
+    ensures name { result ≡ served.is_only leaf.now names.now }
 {
     match names.split_first() {
         Some((name, rest)) => rest.is_empty() && *leaf == *name,

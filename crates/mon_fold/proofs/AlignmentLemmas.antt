@@ -6,10 +6,12 @@ use Rattle.std.proofs.lemmas.List.Elements.{filter_map-append}
 use Rattle.std.proofs.lemmas.List.Sums.{sum_by-cons, sum_by-take-le, get_or-le-sum_by}
 use Rattle.std.proofs.lemmas.Bool.{cond_both}
 use Rattle.mon_value.specs.Aggregates.{where_any, sum_of, counts_added, counts_of}
-use Rattle.mon_value.specs.Alignments.{CanAdd, CanAddAll, magnitude, newest, values_of}
+use Rattle.mon_value.specs.Alignments.{CanAdd, CanAddAll, newest_point, values_of}
+use Rattle.mon_value.specs.Values.{magnitude}
 use Rattle.mon_value.specs.Grids.{grid_times, time_count, times_back}
 use Rattle.mon_value.specs.Windows.{ends_within, window_of}
-use Rattle.mon_value.specs.Groups.{number_in, counts_in, numbers_in, distributions_in, or_else, total_of}
+use Rattle.mon_value.specs.Groups.{number_in, counts_in, numbers_in, distributions_in, total_of}
+use Rattle.std.specs.Option.{option_or}
 use Rattle.mon_value.specs.declared.grids.Grid.{Grid}
 use Rattle.mon_value.specs.declared.rows.Point.{Point}
 use Rattle.mon_value.specs.declared.values.Value.{Value}
@@ -22,7 +24,7 @@ use Rattle.mon_value.proofs.CountsLemmas.{counts_added-nil, counts_added-assoc, 
 shorter : (x y : Point) (xs : List Point) → length (x ∷ y ∷ xs) - 1 ≡ suc (length (y ∷ xs) - 1)
 shorter x y xs = omega arith
 
-pub slice_get-newest : (points : List Point) → slice_get points (length points - 1) ≡ newest points
+pub slice_get-newest : (points : List Point) → slice_get points (length points - 1) ≡ newest_point points
 slice_get-newest [] = refl
 slice_get-newest (point ∷ []) = let e : length (point ∷ []) - 1 ≡ 0 = omega arith in ap (slice_get (point ∷ [])) e
 slice_get-newest (point ∷ next ∷ points) = ap (slice_get (point ∷ next ∷ points)) (shorter point next points) ∙ slice_get-newest (next ∷ points)
@@ -156,7 +158,7 @@ no_numbers counts (value.Dist more ∷ values) all = no_numbers counts values al
 pub total-distributions : (counts : List ℕ) (values : List Value) → AllByRecursion (CanAdd (value.Dist counts)) values
     → total_of (value.Dist counts ∷ values) ≡ Some (value.Dist (counts_added counts (counts_of (distributions_in values))))
 total-distributions counts values all =
-    ap (λ numbers. or_else (option_map value.Int (where_any numbers (sum_of numbers))) (Some (value.Dist (counts_added counts (counts_of (distributions_in values))))))
+    ap (λ numbers. option_or (option_map value.Int (where_any numbers (sum_of numbers))) (Some (value.Dist (counts_added counts (counts_of (distributions_in values))))))
     (no_numbers counts values all)
 
 pub total_merged : (window rest : List Point) (first : Point) (counts : List ℕ) → window ≡ first ∷ rest → first.value ≡ value.Dist counts → CanAddAll (values_of window)

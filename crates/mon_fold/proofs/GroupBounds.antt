@@ -8,9 +8,11 @@ use Rattle.std.proofs.lemmas.List.{take-append-drop, take_more, length-take-le}
 use Rattle.std.proofs.lemmas.List.Elements.{filter-append}
 use Rattle.std.proofs.lemmas.List.Sums.{sum_by-append, sum_by-cons}
 use Rattle.mon_value.specs.Aggregates.{counts_added, counts_of, merged_of}
-use Rattle.mon_value.specs.Alignments.{magnitude}
-use Rattle.mon_value.specs.GroupConditions.{CanGroup, FitColumns, HasType, rows_at, TakesColumn, TakesType}
-use Rattle.mon_value.specs.Groups.{column_of, distributions_in, group_key, group_keys, numbers_in, rows_in, same_row}
+use Rattle.mon_value.specs.Values.{magnitude}
+use Rattle.mon_value.specs.GroupConditions.{CanGroup, rows_at, SumsFit, TakesColumn, TakesType, UnlessCount}
+use Rattle.mon_value.specs.Columns.{FitColumns, HasType}
+use Rattle.mon_value.specs.Groups.{column_of, distributions_in, group_key, group_keys, numbers_in, rows_in}
+use Rattle.mon_value.specs.Same.{same_row}
 use Rattle.mon_value.specs.declared.aggregates.Aggregate.{Aggregate}
 use Rattle.mon_value.specs.declared.aggregates.AggregateKind.{AggregateKind}
 use Rattle.mon_value.specs.declared.aggregates.AggregateKind.TheVariants as kind
@@ -21,12 +23,12 @@ use Rattle.mon_value.specs.declared.values.Value.TheVariants as value
 use Rattle.mon_value.specs.declared.values.ValueType.{ValueType}
 use Rattle.mon_value.specs.declared.values.ValueType.TheVariants as type
 use Rattle.mon_value.proofs.CountsLemmas.{length-counts_added, sum-counts_added, sum-counts_of}
-use Rattle.mon_value.proofs.RowGroups.{has, look_up, RowGroup, rows_in-push, rows_some, same_itself}
-use Rattle.mon_value.proofs.SameRows.{same_row-Decides}
+use Rattle.mon_value.proofs.GroupLemmas.{has, look_up, RowGroup, rows_in-push, rows_some, same_itself}
+use Rattle.mon_value.proofs.SameLemmas.{same_row-Decides}
 use Rattle.mon_fold.specs.declared.aggregate_parts.AggregatePart.{AggregatePart}
-use Rattle.mon_fold.specs.NumberPartLemmas.{number_within, sums_within, total_within}
+use Rattle.mon_value.proofs.NumberPartLemmas.{number_within, sums_within, total_within}
 use Rattle.mon_fold.specs.PartialGroups.{CanMergeCounts, CanMergePart, CanMergeParts, CanTakeGroup, part_over, partial_groups, PartialGroup, parts_over}
-use Rattle.mon_fold.specs.Parts.{magnitude_limit}
+use Rattle.mon_value.specs.Limits.{greatest_sum}
 use Rattle.mon_fold.proofs.AlignmentLemmas.{counts_within, distributions-magnitude, numbers-magnitude}
 use Rattle.mon_fold.proofs.PartialGroupLemmas.{column_of-append, distributions-append, in_parts, numbers-append}
 
@@ -101,7 +103,7 @@ counts_long : (n : ℕ) (first : List ℕ) (items : List (List ℕ)) → length 
 counts_long n first [] long all = omega (arith, length-counts_added first [])
 counts_long n first (next ∷ items) long all = omega (arith, length-counts_added first (counts_of (next ∷ items)), counts_long n next items all.0 all.1)
 
-can_merge_counts : (n : ℕ) (some more : List (List ℕ)) → 0 < length some → AllLong n some → AllLong n more → sum_by sum (some ++ more) ≤ magnitude_limit
+can_merge_counts : (n : ℕ) (some more : List (List ℕ)) → 0 < length some → AllLong n some → AllLong n more → sum_by sum (some ++ more) ≤ greatest_sum
     → CanMergeCounts (merged_of some) (merged_of more)
 can_merge_counts n [] more there long others fits = absurd (omega arith)
 can_merge_counts n (first ∷ some) [] there long others fits = tt
@@ -109,7 +111,7 @@ can_merge_counts n (first ∷ some) (next ∷ more) there long others fits =
     let a = counts_of (first ∷ some) in
     let b = counts_of (next ∷ more) in (
       omega (arith, counts_long n first some long.0 long.1, counts_long n next more others.0 others.1),
-      counts_within (counts_added a b) magnitude_limit
+      counts_within (counts_added a b) greatest_sum
           (omega (arith, sum-counts_added a b, sum-counts_of (first ∷ some), sum-counts_of (next ∷ more), sum_by-append sum (first ∷ some) (next ∷ more))),
     )
 
@@ -125,9 +127,9 @@ all_back P (x ∷ xs) ys all = all_back P xs ys all.1
 
 -- rows that some columns have, some of them and others
 module _ (columns : List Column) (xs ys : List TimedRow) (shaped : AllByRecursion (λ (row : TimedRow). FitColumns columns row.cells) (xs ++ ys))
-    (there : 0 < length xs) (few : length (xs ++ ys) ≤ magnitude_limit) where
+    (there : 0 < length xs) (few : length (xs ++ ys) ≤ greatest_sum) where
   merge_typed : (place : ℕ) (column : Column) (of : ValueType) → column.of ≡ of → TakesType kind.Merge of → slice_get columns place ≡ Some column
-      → sum_by magnitude (column_of place (xs ++ ys)) ≤ magnitude_limit → CanMergePart (part_over kind.Merge place xs) (part_over kind.Merge place ys)
+      → sum_by magnitude (column_of place (xs ++ ys)) ≤ greatest_sum → CanMergePart (part_over kind.Merge place xs) (part_over kind.Merge place ys)
   merge_typed place column type.Int is takes found fits = absurd takes
   merge_typed place column type.Bool is takes found fits = absurd takes
   merge_typed place column type.Text is takes found fits = absurd takes
@@ -145,23 +147,24 @@ module _ (columns : List Column) (xs ys : List TimedRow) (shaped : AllByRecursio
       can_merge_counts (length bounds + 1) some more (omega arith) (distributions_long bounds (column_of place xs) (typed xs front)) (distributions_long bounds (column_of place ys) (typed ys back)) (omega arith)
 
   merge_found : (place : ℕ) (o : Option Column) → slice_get columns place ≡ o → TakesColumn kind.Merge o
-      → sum_by magnitude (column_of place (xs ++ ys)) ≤ magnitude_limit → CanMergePart (part_over kind.Merge place xs) (part_over kind.Merge place ys)
+      → sum_by magnitude (column_of place (xs ++ ys)) ≤ greatest_sum → CanMergePart (part_over kind.Merge place xs) (part_over kind.Merge place ys)
   merge_found place None found takes fits = absurd takes
   merge_found place (Some column) found takes fits = merge_typed place column column.of refl takes found fits
 
-  numbers_fit : (place : ℕ) → sum_by magnitude (column_of place (xs ++ ys)) ≤ magnitude_limit
-      → sum_by unsigned_abs (numbers_in (column_of place xs) ++ numbers_in (column_of place ys)) ≤ magnitude_limit
+  numbers_fit : (place : ℕ) → sum_by magnitude (column_of place (xs ++ ys)) ≤ greatest_sum
+      → sum_by unsigned_abs (numbers_in (column_of place xs) ++ numbers_in (column_of place ys)) ≤ greatest_sum
   numbers_fit place fits =
       let total = numbers-magnitude (column_of place (xs ++ ys)) in
       let split = ap (sum_by unsigned_abs) (numbers-append place xs ys) in
       omega arith
 
-  numbers_few : (place : ℕ) → length (numbers_in (column_of place xs) ++ numbers_in (column_of place ys)) ≤ magnitude_limit
+  numbers_few : (place : ℕ) → length (numbers_in (column_of place xs) ++ numbers_in (column_of place ys)) ≤ greatest_sum
   numbers_few place =
       let split = ap (λ zs. length zs) (numbers-append place xs ys) in
       omega (arith, numbers_length (column_of place (xs ++ ys)), column_length place (xs ++ ys))
 
-  pub part_can : (what : AggregateKind) (place : ℕ) → TakesColumn what (slice_get columns place) → sum_by magnitude (column_of place (xs ++ ys)) ≤ magnitude_limit
+  pub part_can : (what : AggregateKind) (place : ℕ) → TakesColumn what (slice_get columns place)
+      → UnlessCount what (sum_by magnitude (column_of place (xs ++ ys)) ≤ greatest_sum)
       → CanMergePart (part_over what place xs) (part_over what place ys)
   part_can kind.Sum place takes fits = sums_within (numbers_in (column_of place xs)) (numbers_in (column_of place ys)) (numbers_fit place fits)
   part_can kind.Count place takes fits = number_within xs ys few
@@ -174,7 +177,7 @@ module _ (columns : List Column) (xs ys : List TimedRow) (shaped : AllByRecursio
   part_can kind.Merge place takes fits = merge_found place (slice_get columns place) refl takes fits
 
   pub parts_can : (with : List Aggregate) → AllByRecursion (λ (aggregate : Aggregate). TakesColumn aggregate.what (slice_get columns aggregate.column)) with
-      → AllByRecursion (λ (aggregate : Aggregate). sum_by magnitude (column_of aggregate.column (xs ++ ys)) ≤ magnitude_limit) with
+      → AllByRecursion (λ (aggregate : Aggregate). UnlessCount aggregate.what (sum_by magnitude (column_of aggregate.column (xs ++ ys)) ≤ greatest_sum)) with
       → CanMergeParts (parts_over with xs) (parts_over with ys)
   parts_can [] taken fits = tt
   parts_can (aggregate ∷ with) taken fits = (part_can aggregate.what aggregate.column taken.0 fits.0, parts_can with taken.1 fits.1)
@@ -200,7 +203,7 @@ total_step place row some all false true both h = cons_more (slice_get row.cells
 total_step place row some all false false both h = h
 
 -- a group's rows are all at its time
-group_total : (by : List ℕ) (key : TimedRow) (place : ℕ) (rows : List TimedRow) → total_in place (rows_in by key rows) ≤ total_in place (rows_at key.time rows)
+pub group_total : (by : List ℕ) (key : TimedRow) (place : ℕ) (rows : List TimedRow) → total_in place (rows_in by key rows) ≤ total_in place (rows_at key.time rows)
 group_total by key place [] = omega arith
 group_total by key place (row ∷ rows) =
     total_step place row (rows_in by key rows) (rows_at key.time rows) (same_row key (group_key by row)) (int_eq row.time key.time)
@@ -225,7 +228,7 @@ kept_step : (P : TimedRow → Type 0) (row : TimedRow) (some : List TimedRow) (b
 kept_step P row some true one all = (one, all)
 kept_step P row some false one all = all
 
-all_in_group : (P : TimedRow → Type 0) (by : List ℕ) (key : TimedRow) (rows : List TimedRow) → AllByRecursion P rows → AllByRecursion P (rows_in by key rows)
+pub all_in_group : (P : TimedRow → Type 0) (by : List ℕ) (key : TimedRow) (rows : List TimedRow) → AllByRecursion P rows → AllByRecursion P (rows_in by key rows)
 all_in_group P by key [] all = tt
 all_in_group P by key (row ∷ rows) all = kept_step P row (rows_in by key rows) (same_row key (group_key by row)) all.0 (all_in_group P by key rows all.1)
 
@@ -233,35 +236,48 @@ fewer_step : (row : TimedRow) (some : List TimedRow) (b : Bool) (n : ℕ) → le
 fewer_step row some true n h = omega arith
 fewer_step row some false n h = omega arith
 
-group_fewer : (by : List ℕ) (key : TimedRow) (rows : List TimedRow) → length (rows_in by key rows) ≤ length rows
+pub group_fewer : (by : List ℕ) (key : TimedRow) (rows : List TimedRow) → length (rows_in by key rows) ≤ length rows
 group_fewer by key [] = omega arith
 group_fewer by key (row ∷ rows) = fewer_step row (rows_in by key rows) (same_row key (group_key by row)) (length rows) (group_fewer by key rows)
 
-sums_at : (columns : List Column) (with : List Aggregate) (rows more : List TimedRow) (time : ℤ) → ((place : ℕ) → total_in place more ≤ total_in place (rows_at time rows))
-    → AllByRecursion (λ (aggregate : Aggregate). (t : ℤ) → total_in aggregate.column (rows_at t rows) ≤ magnitude_limit) with
-    → AllByRecursion (λ (aggregate : Aggregate). total_in aggregate.column more ≤ magnitude_limit) with
-sums_at columns [] rows more time least sums = tt
-sums_at columns (aggregate ∷ with) rows more time least sums =
-    let first = sums.0 time in
-    (omega (arith, least aggregate.column), sums_at columns with rows more time least sums.1)
+unless_count : (what : AggregateKind) (P Q : Type 0) → (P → Q) → UnlessCount what P → UnlessCount what Q
+unless_count kind.Sum P Q h p = h p
+unless_count kind.Count P Q h p = tt
+unless_count kind.Min P Q h p = h p
+unless_count kind.Max P Q h p = h p
+unless_count kind.Mean P Q h p = h p
+unless_count kind.Merge P Q h p = h p
+
+-- the magnitudes in a column sum to no more than the greatest sum
+abbrev pub Fits : List TimedRow → ℕ → Type 0
+Fits rows place = total_in place rows ≤ greatest_sum
+
+pub sums_at : (with : List Aggregate) (rows more : List TimedRow) (time : ℤ) → ((place : ℕ) → total_in place more ≤ total_in place (rows_at time rows))
+    → AllByRecursion (λ (aggregate : Aggregate). UnlessCount aggregate.what (SumsFit rows aggregate.column)) with
+    → AllByRecursion (λ (aggregate : Aggregate). UnlessCount aggregate.what (Fits more aggregate.column)) with
+sums_at [] rows more time least sums = tt
+sums_at (aggregate ∷ with) rows more time least sums =
+    let place = aggregate.column in
+    let at_once : SumsFit rows place → Fits more place = λ fit. let first = fit time in omega (arith, least place) in
+    (unless_count aggregate.what (SumsFit rows place) (Fits more place) at_once sums.0, sums_at with rows more time least sums.1)
 
 -- the partial groups, group by group
-abbrev group_at : List ℕ → List TimedRow → TimedRow → RowGroup
+abbrev pub group_at : List ℕ → List TimedRow → TimedRow → RowGroup
 group_at by rows key = (key, rows_in by key rows)
 
-abbrev parts_at : List ℕ → List Aggregate → List TimedRow → TimedRow → PartialGroup
+abbrev pub parts_at : List ℕ → List Aggregate → List TimedRow → TimedRow → PartialGroup
 parts_at by with rows key = (key, parts_over with (rows_in by key rows))
 
-groups_are : (by : List ℕ) (with : List Aggregate) (rows keys : List TimedRow) → map (in_parts with) (map (group_at by rows) keys) ≡ map (parts_at by with rows) keys
+pub groups_are : (by : List ℕ) (with : List Aggregate) (rows keys : List TimedRow) → map (in_parts with) (map (group_at by rows) keys) ≡ map (parts_at by with rows) keys
 groups_are by with rows [] = refl
 groups_are by with rows (key ∷ keys) = ap (λ rest. parts_at by with rows key ∷ rest) (groups_are by with rows keys)
 
-if_there : (b : Bool) (parts : List AggregatePart) (P : List AggregatePart → Type 0) → (b ≡ true → P parts) → IfSome (cond b (Some parts) None) P
+pub if_there : (b : Bool) (parts : List AggregatePart) (P : List AggregatePart → Type 0) → (b ≡ true → P parts) → IfSome (cond b (Some parts) None) P
 if_there true parts P h = h refl
 if_there false parts P h = tt
 
 module _ (columns : List Column) (by : List ℕ) (with : List Aggregate) (rows : List TimedRow) (can : CanGroup columns by with rows) (i : ℕ) (row : TimedRow)
-    (is : row ≡ get_or rows i row) (h : i < length rows) (few : i < magnitude_limit) where
+    (is : row ≡ get_or rows i row) (h : i < length rows) (few : i < greatest_sum) where
   abbrev so_far : List TimedRow
   so_far = take i rows
 
@@ -279,10 +295,10 @@ module _ (columns : List Column) (by : List ℕ) (with : List Aggregate) (rows :
       let xs = rows_in by key so_far in
       let shaped = subst (AllByRecursion (λ (r : TimedRow). FitColumns columns r.cells)) grown
       (all_in_group (λ (r : TimedRow). FitColumns columns r.cells) by key (take (i + 1) rows) (all_taken (λ (r : TimedRow). FitColumns columns r.cells) rows (i + 1) can.shaped)) in
-      let fewer : length (xs ++ row ∷ []) ≤ magnitude_limit = omega (arith, length-append xs (row ∷ []), group_fewer by key so_far, length-take-le i rows (omega arith)) in
+      let fewer : length (xs ++ row ∷ []) ≤ greatest_sum = omega (arith, length-append xs (row ∷ []), group_fewer by key so_far, length-take-le i rows (omega arith)) in
       let least = λ (place : ℕ). subst (λ zs. total_in place zs ≤ total_in place (rows_at key.time rows)) grown
       (omega (arith, group_total by key place (take (i + 1) rows), total_taken place key.time rows (i + 1))) in
-      parts_can columns xs (row ∷ []) shaped (rows_some by key so_far there) fewer with can.taken (sums_at columns with rows (xs ++ row ∷ []) key.time least can.sums)
+      parts_can columns xs (row ∷ []) shaped (rows_some by key so_far there) fewer with can.taken (sums_at with rows (xs ++ row ∷ []) key.time least can.sums)
 
   -- the next row can be put into its group
   pub can_take_row : CanTakeGroup (partial_groups by with (take i rows)) (group_key by row, parts_over with (row ∷ []))

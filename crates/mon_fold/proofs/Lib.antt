@@ -1,8 +1,10 @@
 pub mod AggregatePartLemmas
 pub mod AlignmentLemmas
 pub mod GroupBounds
+pub mod GroupKeyLemmas
 pub mod KeptGroups
 pub mod MeanLemmas
+pub mod MergeableGroups
 pub mod PartialGroupLemmas
 pub mod PiecesLemmas
 pub mod SmallGroups

@@ -5,19 +5,19 @@ use Rattle.std.specs.List.{cons_option, filter_map}
 use Rattle.std.specs.Option.{option_map}
 use Rattle.std.proofs.lemmas.List.{take_more}
 use Rattle.std.proofs.lemmas.List.Elements.{filter_map-append}
-use Rattle.mon_value.specs.Aggregates.{sum_of, number_of, merged_of, counts_of}
-use Rattle.mon_value.specs.Groups.{aggregate_made, column_of, counts_in, distributions_in, group_key, group_row, grouped, number_in, numbers_in, rows_by_group, same_row}
+use Rattle.mon_value.specs.Aggregates.{sum_of, item_count, merged_of, counts_of}
+use Rattle.mon_value.specs.Groups.{aggregate_made, column_of, counts_in, distributions_in, group_key, group_row, group_rows, number_in, numbers_in, rows_by_group}
+use Rattle.mon_value.specs.Same.{same_row}
 use Rattle.mon_value.specs.declared.aggregates.Aggregate.{Aggregate}
 use Rattle.mon_value.specs.declared.aggregates.AggregateKind.{AggregateKind}
 use Rattle.mon_value.specs.declared.aggregates.AggregateKind.TheVariants as kind
 use Rattle.mon_value.specs.declared.tables.TimedRow.{TimedRow}
 use Rattle.mon_value.specs.declared.values.Value.TheVariants as value
-use Rattle.mon_value.proofs.AggregateLemmas.{number_of-append, sum_of-append}
+use Rattle.mon_value.proofs.AggregateLemmas.{item_count-append, sum_of-append}
 use Rattle.mon_value.proofs.CountsLemmas.{counts_added-nil, counts_of-append}
-use Rattle.mon_value.proofs.MergedRows.{merged_rows, merged_rows_by_group}
-use Rattle.mon_value.proofs.RowGroups.{RowGroup, own_group, rows_by_group-push, with_rows}
+use Rattle.mon_value.proofs.GroupLemmas.{merged_rows, merged_rows_by_group, RowGroup, own_group, rows_by_group-push, with_rows}
 use Rattle.mon_fold.specs.declared.aggregate_parts.AggregatePart.TheVariants as part
-use Rattle.mon_fold.specs.NumberPartLemmas.{greatest_of-append, least_of-append, sums-append, where_counted}
+use Rattle.mon_value.proofs.NumberPartLemmas.{greatest_of-append, least_of-append, sums-append, where_counted}
 use Rattle.mon_fold.specs.PartialGroups.{combined_counts, merged_groups, merged_part, merged_parts, part_finished, part_over, partial_groups, PartialGroup, parts_over, row_finished, with_group}
 
 -- ---- one aggregate
@@ -40,7 +40,7 @@ merged_of-append (x ∷ xs) (y ∷ ys) = ap Some (sym (counts_of-append (x ∷ x
 pub part_joins : (what : AggregateKind) (column : ℕ) (xs ys : List TimedRow) → merged_part (part_over what column xs) (part_over what column ys) ≡ part_over what column (xs ++ ys)
 part_joins kind.Sum column xs ys =
     rw (numbers-append column xs ys) (ap (λ sum. part.Sum (record { sum = sum })) (sums-append (numbers_in (column_of column xs)) (numbers_in (column_of column ys))))
-part_joins kind.Count column xs ys = ap (λ number. part.Count (record { number = number })) (sym (number_of-append xs ys))
+part_joins kind.Count column xs ys = ap (λ number. part.Count (record { number = number })) (sym (item_count-append xs ys))
 part_joins kind.Min column xs ys =
     rw (numbers-append column xs ys) (ap (λ least. part.Min (record { least = least })) (least_of-append (numbers_in (column_of column xs)) (numbers_in (column_of column ys))))
 part_joins kind.Max column xs ys =
@@ -49,7 +49,7 @@ part_joins kind.Mean column xs ys =
     let a = numbers_in (column_of column xs) in
     let b = numbers_in (column_of column ys) in
     let sums = sum_of-append a b in
-    let numbers = number_of-append a b in
+    let numbers = item_count-append a b in
     rw (numbers-append column xs ys) (λ i. part.Mean (record { sum = sym sums i; number = sym numbers i }))
 part_joins kind.Merge column xs ys =
     rw (distributions-append column xs ys) (ap part.Merge (merged_of-append (distributions_in (column_of column xs)) (distributions_in (column_of column ys))))
@@ -57,12 +57,12 @@ part_joins kind.Merge column xs ys =
 -- a part that stands for rows finishes to what the aggregate makes of them
 part_finishes : (what : AggregateKind) (column : ℕ) (rows : List TimedRow) → part_finished (part_over what column rows) ≡ aggregate_made what column rows
 part_finishes kind.Sum column rows = refl
-part_finishes kind.Count column rows = ap (λ (z : Option ℤ). option_map value.Int z) (where_counted rows (number_of rows))
+part_finishes kind.Count column rows = ap (λ (z : Option ℤ). option_map value.Int z) (where_counted rows (item_count rows))
 part_finishes kind.Min column rows = refl
 part_finishes kind.Max column rows = refl
 part_finishes kind.Mean column rows =
     let numbers = numbers_in (column_of column rows) in
-    ap (λ (z : Option ℤ). option_map value.Int z) (where_counted numbers (int_div_euclid (sum_of numbers) (number_of numbers)))
+    ap (λ (z : Option ℤ). option_map value.Int z) (where_counted numbers (int_div_euclid (sum_of numbers) (item_count numbers)))
 part_finishes kind.Merge column rows = refl
 
 -- ---- the aggregates of a group
@@ -125,7 +125,7 @@ module _ (with : List Aggregate) where
       λ i. record { time = group.0.time; cells = cells i } ∷ rest i
 
   -- the groups of rows finish to the rows grouped
-  pub groups_finish : (by : List ℕ) (rows : List TimedRow) → map row_finished (partial_groups by with rows) ≡ grouped by with rows
+  pub groups_finish : (by : List ℕ) (rows : List TimedRow) → map row_finished (partial_groups by with rows) ≡ group_rows by with rows
   groups_finish by rows = finish_each (rows_by_group by rows)
 
 -- ---- a loop over rows

@@ -4,26 +4,26 @@ use Rattle.std.specs.List.{flat_map}
 use Rattle.std.proofs.lemmas.List.{take_more, drop_more, take-append-drop}
 use Rattle.std.proofs.lemmas.List.Concat.{flat_map-append}
 use Rattle.std.proofs.lemmas.List.Sorted.{IsPermutation-refl, IsPermutation-append_comm}
-use Rattle.mon_value.proofs.Permutations.{along_permutation}
+use Rattle.mon_value.proofs.PermutationLemmas.{along_permutation}
 use Rattle.mon_fold.specs.Mergings.{Merging, nothing, one, both, items_of, part_made, IsAllowed}
 
 -- the items of all the pieces
-abbrev pub joined : {A : Type 0} → List (List A) → List A
-joined pieces = flat_map (λ piece. piece) pieces
+abbrev pub items_of_pieces : {A : Type 0} → List (List A) → List A
+items_of_pieces pieces = flat_map (λ piece. piece) pieces
 
-pub joined-split : {A : Type 0} (pieces : List (List A)) (i : ℕ) (d : List A) → i < length pieces
-    → joined pieces ≡ (joined (take i pieces) ++ get_or pieces i d) ++ joined (drop (i + 1) pieces)
-joined-split pieces i d h =
-    let whole : joined (take i pieces ++ drop i pieces) ≡ joined pieces = ap joined (take-append-drop i pieces) in
+pub items_of_pieces-split : {A : Type 0} (pieces : List (List A)) (i : ℕ) (d : List A) → i < length pieces
+    → items_of_pieces pieces ≡ (items_of_pieces (take i pieces) ++ get_or pieces i d) ++ items_of_pieces (drop (i + 1) pieces)
+items_of_pieces-split pieces i d h =
+    let whole : items_of_pieces (take i pieces ++ drop i pieces) ≡ items_of_pieces pieces = ap items_of_pieces (take-append-drop i pieces) in
     sym whole ∙ flat_map-append (λ piece. piece) (take i pieces) (drop i pieces)
-    ∙ ap (λ rest. joined (take i pieces) ++ joined rest) (drop_more pieces i d h)
-    ∙ sym (append_assoc (joined (take i pieces)) (get_or pieces i d) (joined (drop (i + 1) pieces)))
+    ∙ ap (λ rest. items_of_pieces (take i pieces) ++ items_of_pieces rest) (drop_more pieces i d h)
+    ∙ sym (append_assoc (items_of_pieces (take i pieces)) (get_or pieces i d) (items_of_pieces (drop (i + 1) pieces)))
 
 pub joined_more : {A : Type 0} (pieces : List (List A)) (i : ℕ) (d : List A) → i < length pieces
-    → joined (take i pieces) ++ get_or pieces i d ≡ joined (take (i + 1) pieces)
+    → items_of_pieces (take i pieces) ++ get_or pieces i d ≡ items_of_pieces (take (i + 1) pieces)
 joined_more pieces i d h =
-    sym (ap joined (take_more pieces i d h) ∙ flat_map-append (λ piece. piece) (take i pieces) (get_or pieces i d ∷ [])
-    ∙ ap (λ rest. joined (take i pieces) ++ rest) (append-nil (get_or pieces i d)))
+    sym (ap items_of_pieces (take_more pieces i d h) ∙ flat_map-append (λ piece. piece) (take i pieces) (get_or pieces i d ∷ [])
+    ∙ ap (λ rest. items_of_pieces (take i pieces) ++ rest) (append-nil (get_or pieces i d)))
 
 -- a value is absent exactly where another is
 pub none_exactly : {B : Type 0} {a b : Option B} {P : Type 0} → a ≡ b → IsNone b ↔ P → IsNone a ↔ P
@@ -42,12 +42,12 @@ module _ {A : Type 0} (fits : List A → Type 0) (chosen : (xs ys zs : List A) �
   fits_more items i d h all =
       subst fits (take_more items i d h) (fits_front (take (i + 1) items) (drop (i + 1) items) (subst fits (sym (take-append-drop (i + 1) items)) all))
 
-  pub fits_pieces_more : (pieces : List (List A)) (i : ℕ) (d : List A) → i < length pieces → fits (joined pieces) → fits (joined (take i pieces) ++ get_or pieces i d)
+  pub fits_pieces_more : (pieces : List (List A)) (i : ℕ) (d : List A) → i < length pieces → fits (items_of_pieces pieces) → fits (items_of_pieces (take i pieces) ++ get_or pieces i d)
   fits_pieces_more pieces i d h all =
-      fits_front (joined (take i pieces) ++ get_or pieces i d) (joined (drop (i + 1) pieces)) (subst fits (joined-split pieces i d h) all)
+      fits_front (items_of_pieces (take i pieces) ++ get_or pieces i d) (items_of_pieces (drop (i + 1) pieces)) (subst fits (items_of_pieces-split pieces i d h) all)
 
-  pub fits_piece : (pieces : List (List A)) (i : ℕ) (d : List A) → i < length pieces → fits (joined pieces) → fits (get_or pieces i d)
-  fits_piece pieces i d h all = fits_back (joined (take i pieces)) (get_or pieces i d) (fits_pieces_more pieces i d h all)
+  pub fits_piece : (pieces : List (List A)) (i : ℕ) (d : List A) → i < length pieces → fits (items_of_pieces pieces) → fits (get_or pieces i d)
+  fits_piece pieces i d h all = fits_back (items_of_pieces (take i pieces)) (get_or pieces i d) (fits_pieces_more pieces i d h all)
 
 -- parts of items that fit together can be merged
 pub can_merge_at : {A P : Type 0} (part_of : List A → P) (can_merge : P → P → Type 0) (fits : List A → Type 0)
@@ -55,7 +55,7 @@ pub can_merge_at : {A P : Type 0} (part_of : List A → P) (can_merge : P → P 
     → (a b : P) (xs ys : List A) → a ≡ part_of xs → b ≡ part_of ys → fits (xs ++ ys) → can_merge a b
 can_merge_at part_of can_merge fits merges a b xs ys left right all = rw (left, right) (merges xs ys all)
 
--- ---- parts of lists that are joined
+-- ---- parts of lists that are items_of_pieces
 
 module _ {A P : Type 0} (part_of : List A → P) (merged : P → P → P)
     (joins : (xs ys : List A) → merged (part_of xs) (part_of ys) ≡ part_of (xs ++ ys)) where
@@ -64,8 +64,8 @@ module _ {A P : Type 0} (part_of : List A → P) (merged : P → P → P)
   part_more items i d h = joins (take i items) (get_or items i d ∷ []) ∙ ap part_of (sym (take_more items i d h))
 
   pub part_pieces_more : (pieces : List (List A)) (i : ℕ) (d : List A) → i < length pieces
-      → merged (part_of (joined (take i pieces))) (part_of (get_or pieces i d)) ≡ part_of (joined (take (i + 1) pieces))
-  part_pieces_more pieces i d h = joins (joined (take i pieces)) (get_or pieces i d) ∙ ap part_of (joined_more pieces i d h)
+      → merged (part_of (items_of_pieces (take i pieces))) (part_of (get_or pieces i d)) ≡ part_of (items_of_pieces (take (i + 1) pieces))
+  part_pieces_more pieces i d h = joins (items_of_pieces (take i pieces)) (get_or pieces i d) ∙ ap part_of (joined_more pieces i d h)
 
   -- what is made is the part of the items that went in
   pub part_made_is : (merging : Merging A) → part_made part_of merged merging ≡ part_of (items_of merging)

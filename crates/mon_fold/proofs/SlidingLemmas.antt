@@ -7,7 +7,8 @@ use Rattle.std.proofs.lemmas.List.{map-append, ext_get_or, length-take-le, lengt
 use Rattle.std.proofs.lemmas.List.Elements.{filter_map-append}
 use Rattle.std.proofs.lemmas.List.Sums.{sum_by-append}
 use Rattle.mon_value.specs.Aggregates.{sum_of, counts_added, counts_of}
-use Rattle.mon_value.specs.Alignments.{CanAdd, CanAddAll, magnitude, values_of}
+use Rattle.mon_value.specs.Alignments.{CanAdd, CanAddAll, values_of}
+use Rattle.mon_value.specs.Values.{magnitude}
 use Rattle.mon_value.specs.Groups.{number_in, counts_in, numbers_in, distributions_in, total_of}
 use Rattle.mon_value.specs.declared.rows.Point.{Point}
 use Rattle.mon_value.specs.declared.values.Value.{Value}
@@ -24,17 +25,17 @@ dropped_twice n zero xs = let e : zero + n ≡ n = omega arith in rw e
 dropped_twice n (suc m) [] = let e : suc m + n ≡ suc (m + n) = omega arith in rw e (drop-nil n)
 dropped_twice n (suc m) (x ∷ xs) = let e : suc m + n ≡ suc (m + n) = omega arith in rw e (dropped_twice n m xs)
 
-pub between_joined : (start middle end : ℕ) (points : List Point) → start ≤ middle → middle ≤ end
+pub between_both : (start middle end : ℕ) (points : List Point) → start ≤ middle → middle ≤ end
     → points_between start end points ≡ points_between start middle points ++ points_between middle end points
-between_joined start middle end points h k =
+between_both start middle end points h k =
     let count : end - start ≡ (middle - start) + (end - middle) = omega arith in
     let place : start + (middle - start) ≡ middle = omega arith in
     ap (λ n. take n (drop start points)) count
     ∙ take-add (middle - start) (end - middle) (drop start points)
     ∙ ap (λ rest. take (middle - start) (drop start points) ++ take (end - middle) rest) (dropped_twice (middle - start) start points ∙ ap (λ n. drop n points) place)
 
-values_joined : (xs ys : List Point) → values_of (xs ++ ys) ≡ values_of xs ++ values_of ys
-values_joined xs ys = map-append (λ (p : Point). p.value) xs ys
+values_of_both : (xs ys : List Point) → values_of (xs ++ ys) ≡ values_of xs ++ values_of ys
+values_of_both xs ys = map-append (λ (p : Point). p.value) xs ys
 
 all_dropped : (P : Value → Type 0) (n : ℕ) (points : List Point) → AllByRecursion P (values_of points) → AllByRecursion P (values_of (drop n points))
 all_dropped P zero points all = all
@@ -66,9 +67,9 @@ total-numbers x (p ∷ points) some all = total-number x p.value (values_of poin
     total-number x (value.Text s) values h = absurd h
     total-number x (value.Dist counts) values h = absurd h
 
-pub numbers_joined : (xs ys : List Point) → sum_of (numbers_in (values_of (xs ++ ys))) ≡ sum_of (numbers_in (values_of xs)) +ℤ sum_of (numbers_in (values_of ys))
-numbers_joined xs ys =
-    ap (λ values. sum_of (numbers_in values)) (values_joined xs ys)
+pub numbers_of_both : (xs ys : List Point) → sum_of (numbers_in (values_of (xs ++ ys))) ≡ sum_of (numbers_in (values_of xs)) +ℤ sum_of (numbers_in (values_of ys))
+numbers_of_both xs ys =
+    ap (λ values. sum_of (numbers_in values)) (values_of_both xs ys)
     ∙ ap sum_of (filter_map-append number_in (values_of xs) (values_of ys))
     ∙ sum_of-append (numbers_in (values_of xs)) (numbers_in (values_of ys))
 
@@ -86,10 +87,10 @@ total-counts counts (p ∷ points) some all = total-count counts p.value (values
     total-count counts (value.Text s) values h all = absurd h
     total-count counts (value.Dist more) values h all = total-distributions more values (all_between (value.Dist counts) (value.Dist more) values h all)
 
-pub counts_joined : (xs ys : List Point)
+pub counts_of_both : (xs ys : List Point)
     → counts_of (distributions_in (values_of (xs ++ ys))) ≡ counts_added (counts_of (distributions_in (values_of xs))) (counts_of (distributions_in (values_of ys)))
-counts_joined xs ys =
-    ap (λ values. counts_of (distributions_in values)) (values_joined xs ys)
+counts_of_both xs ys =
+    ap (λ values. counts_of (distributions_in values)) (values_of_both xs ys)
     ∙ ap counts_of (filter_map-append counts_in (values_of xs) (values_of ys))
     ∙ counts_of-append (distributions_in (values_of xs)) (distributions_in (values_of ys))
 
@@ -132,7 +133,7 @@ count_within points i k =
     let some = counts_of (distributions_in (values_of (take i points))) in
     let rest = counts_of (distributions_in (values_of (drop i points))) in
     let joined : counts_of (distributions_in (values_of points)) ≡ counts_added some rest =
-    ap (λ ps. counts_of (distributions_in (values_of ps))) (sym (take-append-drop i points)) ∙ counts_joined (take i points) (drop i points) in
+    ap (λ ps. counts_of (distributions_in (values_of ps))) (sym (take-append-drop i points)) ∙ counts_of_both (take i points) (drop i points) in
     omega (arith, ap (λ counts. get_or counts k 0) joined, get_or-counts_added some rest k)
 
 -- ---- a window from a later one
@@ -142,9 +143,9 @@ between_long start end points h =
     let rest = length-drop start points in
     length-take-le (end - start) (drop start points) (omega arith)
 
-abbrev number_of : Option Value → ℤ
-number_of (Some (value.Int z)) = z
-number_of other = pos 0
+abbrev number_in_total : Option Value → ℤ
+number_in_total (Some (value.Int z)) = z
+number_in_total other = pos 0
 
 abbrev bucket_counts_of : Option Value → List ℕ
 bucket_counts_of (Some (value.Dist counts)) = counts
@@ -154,12 +155,12 @@ abbrev is_number : Option Value → Type 0
 is_number (Some (value.Int z)) = Unit {0}
 is_number other = ⊥
 
-abbrev is_some : Option Value → Type 0
-is_some None = ⊥
-is_some (Some v) = Unit {0}
+abbrev has_value : Option Value → Type 0
+has_value None = ⊥
+has_value (Some v) = Unit {0}
 
 pub none_or_some : (total : Option Value) (v : Value) → total ≡ None → total ≡ Some v → ⊥
-none_or_some total v none some = subst is_some (sym some ∙ none) tt
+none_or_some total v none some = subst has_value (sym some ∙ none) tt
 
 pub sum-magnitude : (points : List Point) → unsigned_abs (sum_of (numbers_in (values_of points))) ≤ sum_by magnitude (values_of points)
 sum-magnitude points = omega (arith, sum_of-magnitude (numbers_in (values_of points)), numbers-magnitude (values_of points))
@@ -215,7 +216,7 @@ neither_alone [] start end some within alike no_number no_counts = omega (arith,
 neither_alone (p ∷ all) start end some within alike no_number no_counts = of_neither (p ∷ all) start end some p.value alike.0 alike no_number no_counts
 
 magnitude_joined : (xs ys : List Point) → sum_by magnitude (values_of (xs ++ ys)) ≡ sum_by magnitude (values_of xs) + sum_by magnitude (values_of ys)
-magnitude_joined xs ys = ap (sum_by magnitude) (values_joined xs ys) ∙ sum_by-append magnitude (values_of xs) (values_of ys)
+magnitude_joined xs ys = ap (sum_by magnitude) (values_of_both xs ys) ∙ sum_by-append magnitude (values_of xs) (values_of ys)
 
 -- a window from `start` to `end`, from one that is later and shares points with it
 module _ (all : List Point) (start middle end last : ℕ) (alike : CanAddAll (values_of all)) (earlier : start ≤ middle) (shared : middle < end)
@@ -223,8 +224,8 @@ module _ (all : List Point) (start middle end last : ℕ) (alike : CanAddAll (va
   magnitudes : (sum_by magnitude (values_of (points_between start end all)) ≡ sum_by magnitude (values_of (points_between start middle all)) + sum_by magnitude (values_of (points_between middle end all)))
       × (sum_by magnitude (values_of (points_between middle last all)) ≡ sum_by magnitude (values_of (points_between middle end all)) + sum_by magnitude (values_of (points_between end last all)))
   magnitudes = (
-    ap (λ ps. sum_by magnitude (values_of ps)) (between_joined start middle end all earlier (omega arith)) ∙ magnitude_joined (points_between start middle all) (points_between middle end all),
-    ap (λ ps. sum_by magnitude (values_of ps)) (between_joined middle end last all (omega arith) no_later) ∙ magnitude_joined (points_between middle end all) (points_between end last all),
+    ap (λ ps. sum_by magnitude (values_of ps)) (between_both start middle end all earlier (omega arith)) ∙ magnitude_joined (points_between start middle all) (points_between middle end all),
+    ap (λ ps. sum_by magnitude (values_of ps)) (between_both middle end last all (omega arith) no_later) ∙ magnitude_joined (points_between middle end all) (points_between end last all),
   )
 
   pub new-magnitude : sum_by magnitude (values_of (points_between start middle all)) ≤ sum_by magnitude (values_of (points_between start end all))
@@ -246,7 +247,7 @@ module _ (all : List Point) (start middle end last : ℕ) (alike : CanAddAll (va
       → z ≡ sum_of (numbers_in (values_of (points_between middle last all)))
   slid-number z total =
       let numbers = numbers_alone all middle last some_last z alike total in
-      ap number_of (sym total ∙ total-numbers z (points_between middle last all) some_last (all_among (CanAdd (value.Int z)) middle last all numbers))
+      ap number_in_total (sym total ∙ total-numbers z (points_between middle last all) some_last (all_among (CanAdd (value.Int z)) middle last all numbers))
 
   pub slid-bound : (z : ℤ) → total_of (values_of (points_between middle last all)) ≡ Some (value.Int z)
       → unsigned_abs z ≤ sum_by magnitude (values_of (points_between middle last all))
@@ -260,8 +261,8 @@ module _ (all : List Point) (start middle end last : ℕ) (alike : CanAddAll (va
   slid-sum z total =
       let numbers = numbers_alone all middle last some_last z alike total in
       let sum_among = λ (ps : List Point). sum_of (numbers_in (values_of ps)) in
-      let before = ap sum_among (between_joined middle end last all (omega arith) no_later) ∙ numbers_joined (points_between middle end all) (points_between end last all) in
-      let now = ap sum_among (between_joined start middle end all earlier (omega arith)) ∙ numbers_joined (points_between start middle all) (points_between middle end all) in
+      let before = ap sum_among (between_both middle end last all (omega arith) no_later) ∙ numbers_of_both (points_between middle end all) (points_between end last all) in
+      let now = ap sum_among (between_both start middle end all earlier (omega arith)) ∙ numbers_of_both (points_between start middle all) (points_between middle end all) in
       let same = slid-number z total in
       total-numbers z (points_between start end all) some_now (all_among (CanAdd (value.Int z)) start end all numbers)
       ∙ ap (λ n. Some (value.Int n)) (omega (arith, ints))
@@ -276,7 +277,7 @@ module _ (all : List Point) (start middle end last : ℕ) (alike : CanAddAll (va
       let kept = counts_of (distributions_in (values_of (points_between middle end all))) in
       let gone = counts_of (distributions_in (values_of (points_between end last all))) in
       let merged = ap bucket_counts_of (sym total ∙ total-counts counts (points_between middle last all) some_last (counts-among counts total middle last)) in
-      let joined = ap (λ ps. counts_of (distributions_in (values_of ps))) (between_joined middle end last all (omega arith) no_later) ∙ counts_joined (points_between middle end all) (points_between end last all) in
+      let joined = ap (λ ps. counts_of (distributions_in (values_of ps))) (between_both middle end last all (omega arith) no_later) ∙ counts_of_both (points_between middle end all) (points_between end last all) in
       ap (λ all_counts. get_or all_counts k 0) (merged ∙ joined) ∙ get_or-counts_added kept gone k
 
   pub gone-held : (counts : List ℕ) → total_of (values_of (points_between middle last all)) ≡ Some (value.Dist counts) → (k : ℕ)
@@ -304,6 +305,6 @@ module _ (all : List Point) (start middle end last : ℕ) (alike : CanAddAll (va
         ≡ Some (value.Dist (counts_added left (counts_of (distributions_in (values_of (points_between start middle all))))))
     slid-merged =
         let new = counts_of (distributions_in (values_of (points_between start middle all))) in
-        let joined = ap (λ ps. counts_of (distributions_in (values_of ps))) (between_joined start middle end all earlier (omega arith)) ∙ counts_joined (points_between start middle all) (points_between middle end all) in
+        let joined = ap (λ ps. counts_of (distributions_in (values_of ps))) (between_both start middle end all earlier (omega arith)) ∙ counts_of_both (points_between start middle all) (points_between middle end all) in
         total-counts counts (points_between start end all) some_now (counts-among counts total start end)
         ∙ ap (λ n. Some (value.Dist n)) (joined ∙ counts_added-comm new _ ∙ ap (λ kept. counts_added kept new) (sym left-kept))

@@ -1,6 +1,7 @@
 -- The rows that the tests of groups are about.
 use Rattle.std.proofs.Common.{◌≡◌, ◌≤◌, ◌^◌, ℕ, ℤ, pos, negsuc, List, [], ◌∷◌, refl, sym, subst, arith}
-use Rattle.mon_value.specs.GroupConditions.{CanGroup, HasType, rows_at, TakesType}
+use Rattle.mon_value.specs.GroupConditions.{CanGroup, rows_at, TakesType}
+use Rattle.mon_value.specs.Columns.{HasType}
 use Rattle.mon_value.specs.declared.aggregates.Aggregate.{Aggregate}
 use Rattle.mon_value.specs.declared.aggregates.AggregateKind.TheVariants as kind
 use Rattle.mon_value.specs.declared.columns.Column.{Column}
@@ -30,7 +31,7 @@ can_group column is =
       shaped = ((typed (pos 3), tt), ((typed (negsuc 0), tt), ((typed (pos 6), tt), tt)));
       listed = tt;
       taken = (summed, (tt, (averaged, tt)));
-      sums = (small 0 (omega arith), (small 7 (omega arith), (small 0 (omega arith), tt)));
+      sums = (small 0 (omega arith), (tt, (small 0 (omega arith), tt)));
     }
 
 pub can_group_seen : (columns : List Column) (by : List ℕ) (with : List Aggregate) (all : List TimedRow) (column : Column) (a b c : TimedRow) → column.of ≡ type.Int

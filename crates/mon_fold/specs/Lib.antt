@@ -1,6 +1,6 @@
-pub mod CountsPartLemmas
+pub mod CountsSoFar
+pub mod FoldLaws
+pub mod GroupKeys
 pub mod Mergings
-pub mod NumberPartLemmas
 pub mod PartialGroups
-pub mod Parts
 pub mod SlidingWindows

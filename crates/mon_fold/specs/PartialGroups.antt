@@ -1,32 +1,38 @@
 -- Groups whose aggregates are kept as parts.
-use Rattle.std.specs.Prelude.{◌≡◌, ◌≤◌, ℕ, pos, ◌+ℤ◌, int_lt, false, List, [], ◌∷◌, ◌++◌, length, map, All, codes, slice_get, Option, Some, None, option_map, IfSome, if◌then◌else◌}
+use Rattle.std.specs.Prelude.{◌≡◌, ◌≤◌, ℕ, pos, ◌+ℤ◌, int_lt, false, List, [], ◌∷◌, ◌++◌, length, map, filter, not, is_some, All, codes, slice_get, Option, Some, None, option_map, IfSome, if◌then◌else◌}
 use Rattle.std.specs.Int.{int_div_euclid, int_min, int_max}
 use Rattle.std.specs.List.{filter_map}
 use Rattle.std.specs.Map.{lookup}
-use Rattle.mon_value.specs.Aggregates.{where_any, sum_of, number_of, least_of, greatest_of, merged_of, counts_added}
-use Rattle.mon_value.specs.Groups.{column_of, numbers_in, distributions_in, rows_by_group, same_row}
+use Rattle.mon_value.specs.Aggregates.{where_any, sum_of, item_count, least_of, greatest_of, merged_of, counts_added}
+use Rattle.mon_value.specs.Groups.{column_of, numbers_in, distributions_in, rows_by_group}
+use Rattle.mon_value.specs.Limits.{greatest_sum}
+use Rattle.mon_value.specs.Parts.{combined_numbers, IsWithin}
+use Rattle.mon_value.specs.Same.{same_row}
 use Rattle.mon_value.specs.declared.aggregates.Aggregate.{Aggregate}
 use Rattle.mon_value.specs.declared.aggregates.AggregateKind.{AggregateKind}
 use Rattle.mon_value.specs.declared.aggregates.AggregateKind.TheVariants as kind
 use Rattle.mon_value.specs.declared.columns.Column.{Column}
+use Rattle.mon_value.specs.declared.limits.TheConstants.{ROW_BITS}
 use Rattle.mon_value.specs.declared.tables.TimedRow.{TimedRow}
 use Rattle.mon_value.specs.declared.values.Value.{Value}
 use Rattle.mon_value.specs.declared.values.Value.TheVariants as value
 use Rattle.mon_value.specs.declared.values.ValueType.TheVariants as type
 use Rattle.mon_fold.specs.declared.aggregate_parts.AggregatePart.{AggregatePart}
 use Rattle.mon_fold.specs.declared.aggregate_parts.AggregatePart.TheVariants as part
-use Rattle.mon_fold.specs.Parts.{combined, IsWithin, magnitude_limit}
 
 -- ---- one aggregate
 
 -- the part that stands for rows
 abbrev pub part_over : AggregateKind → ℕ → List TimedRow → AggregatePart
-part_over kind.Sum column rows = part.Sum (record { sum = where_any (numbers_in (column_of column rows)) (sum_of (numbers_in (column_of column rows))) })
-part_over kind.Count column rows = part.Count (record { number = number_of rows })
+part_over kind.Sum column rows =
+    let numbers = numbers_in (column_of column rows) in
+    part.Sum (record { sum = where_any numbers (sum_of numbers) })
+part_over kind.Count column rows = part.Count (record { number = item_count rows })
 part_over kind.Min column rows = part.Min (record { least = least_of (numbers_in (column_of column rows)) })
 part_over kind.Max column rows = part.Max (record { greatest = greatest_of (numbers_in (column_of column rows)) })
 part_over kind.Mean column rows =
-    part.Mean (record { sum = sum_of (numbers_in (column_of column rows)); number = number_of (numbers_in (column_of column rows)) })
+    let numbers = numbers_in (column_of column rows) in
+    part.Mean (record { sum = sum_of numbers; number = item_count numbers })
 part_over kind.Merge column rows = part.Merge (merged_of (distributions_in (column_of column rows)))
 
 -- distributions merged, of which one or both may be absent
@@ -37,13 +43,13 @@ combined_counts (Some counts) (Some others) = Some (counts_added counts others)
 
 -- two parts of one aggregate together
 abbrev pub merged_part : AggregatePart → AggregatePart → AggregatePart
-merged_part (part.Sum a) (part.Sum b) = part.Sum (record { sum = combined ◌+ℤ◌ a.sum b.sum })
+merged_part (part.Sum a) (part.Sum b) = part.Sum (record { sum = combined_numbers ◌+ℤ◌ a.sum b.sum })
 merged_part (part.Sum a) other = part.Sum a
 merged_part (part.Count a) (part.Count b) = part.Count (record { number = a.number +ℤ b.number })
 merged_part (part.Count a) other = part.Count a
-merged_part (part.Min a) (part.Min b) = part.Min (record { least = combined int_min a.least b.least })
+merged_part (part.Min a) (part.Min b) = part.Min (record { least = combined_numbers int_min a.least b.least })
 merged_part (part.Min a) other = part.Min a
-merged_part (part.Max a) (part.Max b) = part.Max (record { greatest = combined int_max a.greatest b.greatest })
+merged_part (part.Max a) (part.Max b) = part.Max (record { greatest = combined_numbers int_max a.greatest b.greatest })
 merged_part (part.Max a) other = part.Max a
 merged_part (part.Mean a) (part.Mean b) = part.Mean (record { sum = a.sum +ℤ b.sum; number = a.number +ℤ b.number })
 merged_part (part.Mean a) other = part.Mean a
@@ -55,11 +61,11 @@ abbrev pub CanMergeCounts : Option (List ℕ) → Option (List ℕ) → Type 0
 CanMergeCounts a None = Unit {0}
 CanMergeCounts None (Some others) = ⊥
 CanMergeCounts (Some counts) (Some others) =
-    (length counts ≡ length others) × All (λ count. count ≤ magnitude_limit) (counts_added counts others)
+    (length counts ≡ length others) × All (λ count. count ≤ greatest_sum) (counts_added counts others)
 
 -- two parts of one aggregate that can be merged: what comes out is within bounds
 abbrev pub CanMergePart : AggregatePart → AggregatePart → Type 0
-CanMergePart (part.Sum a) (part.Sum b) = IfSome (combined ◌+ℤ◌ a.sum b.sum) IsWithin
+CanMergePart (part.Sum a) (part.Sum b) = IfSome (combined_numbers ◌+ℤ◌ a.sum b.sum) IsWithin
 CanMergePart (part.Sum a) other = Unit {0}
 CanMergePart (part.Count a) (part.Count b) = IsWithin (a.number +ℤ b.number)
 CanMergePart (part.Count a) other = Unit {0}
@@ -76,7 +82,8 @@ part_finished (part.Sum a) = option_map value.Int a.sum
 part_finished (part.Count a) = option_map value.Int (if int_lt (pos 0) a.number then Some a.number else None)
 part_finished (part.Min a) = option_map value.Int a.least
 part_finished (part.Max a) = option_map value.Int a.greatest
-part_finished (part.Mean a) = option_map value.Int (if int_lt (pos 0) a.number then Some (int_div_euclid a.sum a.number) else None)
+part_finished (part.Mean a) =
+    option_map value.Int (if int_lt (pos 0) a.number then Some (int_div_euclid a.sum a.number) else None)
 part_finished (part.Merge a) = option_map value.Dist a
 
 -- ---- groups
@@ -124,6 +131,10 @@ abbrev pub CanMergeGroups : List PartialGroup → List PartialGroup → Type 0
 CanMergeGroups groups [] = Unit {0}
 CanMergeGroups groups (new ∷ more) = CanTakeGroup groups new × CanMergeGroups (with_group groups new) more
 
+-- those of the others that no group has the key of
+abbrev pub new_to : List PartialGroup → List PartialGroup → List PartialGroup
+new_to groups others = filter (λ other. not (is_some (lookup (same_row other.0) groups))) others
+
 -- the row that a group finishes to
 abbrev pub row_finished : PartialGroup → TimedRow
 row_finished group = record { time = group.0.time; cells = group.0.cells ++ filter_map part_finished group.1 }
@@ -132,7 +143,14 @@ row_finished group = record { time = group.0.time; cells = group.0.cells ++ filt
 
 -- the column of a count
 abbrev pub count_column : Column
-count_column = record { name = codes "count"; of = type.Int; key = false; anchor = None; cell_bits = 24; total_bits = 24 }
+count_column = record {
+  name = codes "count";
+  of = type.Int;
+  key = false;
+  anchor = None;
+  cell_bits = ROW_BITS;
+  total_bits = ROW_BITS;
+}
 
 -- the column of an aggregate: that which it looks at, but for a count
 abbrev pub column_made : List Column → ℕ → AggregateKind → Option Column
@@ -143,9 +161,13 @@ column_made columns place kind.Max = slice_get columns place
 column_made columns place kind.Mean = slice_get columns place
 column_made columns place kind.Merge = slice_get columns place
 
+-- the columns of aggregates
+abbrev pub columns_made : List Column → List Aggregate → List Column
+columns_made columns with = filter_map (λ aggregate. column_made columns aggregate.column aggregate.what) with
+
 -- the columns of finished groups: the grouping columns, and then one for each aggregate
 abbrev pub group_columns : List Column → List ℕ → List Aggregate → List Column
-group_columns columns by with = filter_map (slice_get columns) by ++ filter_map (λ aggregate. column_made columns aggregate.column aggregate.what) with
+group_columns columns by with = filter_map (slice_get columns) by ++ columns_made columns with
 
 -- partial groups: the columns that they finish to, the aggregates' kinds, and the groups
 pub record GroupsSoFar : Type 0 where

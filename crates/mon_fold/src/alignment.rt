@@ -1,6 +1,6 @@
 // Series brought to the times of a grid.
 ghost use Rattle.std.specs.Prelude.{◌≡◌, IfOk, OnOk, ◌++◌, option_map};
-ghost use Rattle.mon_value.specs.Alignments.{aligned, CanAlign, newest, timed};
+ghost use Rattle.mon_value.specs.Alignments.{aligned_values, CanAlign, newest_point, timed_values};
 ghost use Rattle.mon_value.specs.Grids.{IsLawful, time_count};
 ghost use Rattle.mon_value.specs.declared.aligners.Aligner.TheVariants.{Delta, NextOlder};
 
@@ -19,7 +19,7 @@ pub fn align(
     grid: &Grid,
 ) -> Result<TimedValues, OutOfMemory>
     requires { CanAlign by grid.now points.now.points }
-    ensures aligned { IfOk result (λ values. values ≡ aligned by grid.now points.now.points) }
+    ensures aligned_values { IfOk result (λ values. values ≡ aligned_values by grid.now points.now.points) }
 {
     match by {
         Aligner::NextOlder(seconds) => newest_values(alloc, points, seconds, grid),
@@ -35,7 +35,7 @@ fn newest_values(
     grid: &Grid,
 ) -> Result<TimedValues, OutOfMemory>
     requires { CanAlign (NextOlder seconds) grid.now points.now.points }
-    ensures { IfOk result (λ values. values ≡ aligned (NextOlder seconds) grid.now points.now.points) }
+    ensures { IfOk result (λ values. values ≡ aligned_values (NextOlder seconds) grid.now points.now.points) }
 {
     let mut values = TimedValues::new(alloc);
     let mut time = grid.moment;
@@ -55,7 +55,7 @@ fn added_values(
     grid: &Grid,
 ) -> Result<TimedValues, OutOfMemory>
     requires { CanAlign (Delta seconds) grid.now points.now.points }
-    ensures { IfOk result (λ values. values ≡ aligned (Delta seconds) grid.now points.now.points) }
+    ensures { IfOk result (λ values. values ≡ aligned_values (Delta seconds) grid.now points.now.points) }
 {
     let mut values = TimedValues::new(alloc);
     let mut window = Window::behind(points.points());
@@ -79,7 +79,7 @@ fn times_of(grid: &Grid) -> u64
 
 // Adds the value at the time, where there is one.
 fn add_value(values: &mut TimedValues, time: i64, value: Option<Value>) -> Result<(), OutOfMemory>
-    ensures { OnOk result (values.new ≡ values.old ++ timed time value) }
+    ensures { OnOk result (values.new ≡ values.old ++ timed_values time value) }
 {
     if let Some(value) = value {
         values.push(TimedValue { time, value })?;
@@ -89,7 +89,7 @@ fn add_value(values: &mut TimedValues, time: i64, value: Option<Value>) -> Resul
 
 // The value of the newest point.
 fn newest_value(alloc: Global, window: &[Point]) -> Result<Option<Value>, OutOfMemory>
-    ensures { IfOk result (λ value. value ≡ option_map (λ point. point.value) (newest window.now)) }
+    ensures { IfOk result (λ value. value ≡ option_map (λ point. point.value) (newest_point window.now)) }
 {
     match window.last() {
         Some(point) => Ok(Some(point.value.copy(alloc)?)),

@@ -2,12 +2,12 @@
 ghost use Rattle.std.specs.Prelude.{⊤, refl};
 ghost use Rattle.std.specs.Int.{int_min, int_max};
 ghost use Rattle.mon_value.specs.Aggregates.{least_of, greatest_of};
-ghost use Rattle.mon_fold.specs.Parts.{combined};
-ghost use Rattle.mon_fold.specs.NumberPartLemmas as parts;
+ghost use Rattle.mon_value.specs.Parts.{combined_numbers};
+ghost use Rattle.mon_value.proofs.NumberPartLemmas as parts;
 ghost use Rattle.mon_value.proofs.AggregateLemmas as lists;
 
 use crate::folds::Fold;
-use mon_value::OutOfMemory;
+use mon_value::{OutOfMemory, TryCopy};
 use std::alloc::Global;
 
 /// The least of numbers.
@@ -30,6 +30,18 @@ pub struct GreatestPart {
     pub greatest: Option<i128>,
 }
 
+impl TryCopy for LeastPart {
+    fn copy(&self, _alloc: Global) -> Result<LeastPart, OutOfMemory> {
+        Ok(*self)
+    }
+}
+
+impl TryCopy for GreatestPart {
+    fn copy(&self, _alloc: Global) -> Result<GreatestPart, OutOfMemory> {
+        Ok(*self)
+    }
+}
+
 impl Fold for MinFold {
     type In = i128;
 
@@ -37,15 +49,15 @@ impl Fold for MinFold {
 
     type Out = i128;
 
-    ghost folded = { λ _ items. least_of items };
+    ghost fold_of = { λ _ items. least_of items };
 
     ghost part_of = { λ _ items. record { least = least_of items } };
 
-    ghost merged = { λ a b. record { least = combined int_min a.least b.least } };
+    ghost merge_of = { λ a b. record { least = combined_numbers int_min a.least b.least } };
 
     ghost can_merge = { λ _ _. ⊤ };
 
-    ghost finished = { λ part. part.least };
+    ghost finish_of = { λ part. part.least };
 
     ghost fits = { λ _ _. ⊤ };
 
@@ -70,25 +82,19 @@ impl Fold for MinFold {
         part.least
     }
 
-    ghost any_order = { λ _. lists.least_of-permutation };
-
-    ghost nothing = { λ _ items. parts.no_least_where_nothing items };
-
-    ghost finishes = { λ _ items _. refl };
-
-    ghost joins = { λ _ xs ys. Prim.rw (parts.least_of-append xs ys) };
-
-    ghost commutes = { λ a b.
-        Prim.rw (parts.combined-comm int_min lists.int_min-comm a.least b.least) };
-
-    ghost associates = { λ a b c.
-        Prim.rw (parts.combined-assoc int_min lists.int_min-assoc a.least b.least c.least) };
-
-    ghost fitting_alike = { λ _ _ _. tt };
-
-    ghost chosen_fit = { λ _ xs ys zs _ _. tt };
-
-    ghost merges = { λ _ xs ys _. tt };
+    ghost laws = { record {
+      any_order = λ _. lists.least_of-permutation;
+      nothing = λ _ items. parts.no_least_where_nothing items;
+      finishes = λ _ items _. refl;
+      joins = λ _ xs ys. Prim.rw (parts.least_of-append xs ys);
+      commutes = λ a b.
+          Prim.rw (parts.combined_numbers-comm int_min lists.int_min-comm a.least b.least);
+      associates = λ a b c.
+          Prim.rw (parts.combined_numbers-assoc int_min lists.int_min-assoc a.least b.least c.least);
+      fitting_alike = λ _ _ _. tt;
+      chosen_fit = λ _ xs ys zs _ _. tt;
+      merges = λ _ xs ys _. tt;
+    } };
 }
 
 impl Fold for MaxFold {
@@ -98,15 +104,15 @@ impl Fold for MaxFold {
 
     type Out = i128;
 
-    ghost folded = { λ _ items. greatest_of items };
+    ghost fold_of = { λ _ items. greatest_of items };
 
     ghost part_of = { λ _ items. record { greatest = greatest_of items } };
 
-    ghost merged = { λ a b. record { greatest = combined int_max a.greatest b.greatest } };
+    ghost merge_of = { λ a b. record { greatest = combined_numbers int_max a.greatest b.greatest } };
 
     ghost can_merge = { λ _ _. ⊤ };
 
-    ghost finished = { λ part. part.greatest };
+    ghost finish_of = { λ part. part.greatest };
 
     ghost fits = { λ _ _. ⊤ };
 
@@ -131,23 +137,17 @@ impl Fold for MaxFold {
         part.greatest
     }
 
-    ghost any_order = { λ _. lists.greatest_of-permutation };
-
-    ghost nothing = { λ _ items. parts.no_greatest_where_nothing items };
-
-    ghost finishes = { λ _ items _. refl };
-
-    ghost joins = { λ _ xs ys. Prim.rw (parts.greatest_of-append xs ys) };
-
-    ghost commutes = { λ a b.
-        Prim.rw (parts.combined-comm int_max lists.int_max-comm a.greatest b.greatest) };
-
-    ghost associates = { λ a b c.
-        Prim.rw (parts.combined-assoc int_max lists.int_max-assoc a.greatest b.greatest c.greatest) };
-
-    ghost fitting_alike = { λ _ _ _. tt };
-
-    ghost chosen_fit = { λ _ xs ys zs _ _. tt };
-
-    ghost merges = { λ _ xs ys _. tt };
+    ghost laws = { record {
+      any_order = λ _. lists.greatest_of-permutation;
+      nothing = λ _ items. parts.no_greatest_where_nothing items;
+      finishes = λ _ items _. refl;
+      joins = λ _ xs ys. Prim.rw (parts.greatest_of-append xs ys);
+      commutes = λ a b.
+          Prim.rw (parts.combined_numbers-comm int_max lists.int_max-comm a.greatest b.greatest);
+      associates = λ a b c.
+          Prim.rw (parts.combined_numbers-assoc int_max lists.int_max-assoc a.greatest b.greatest c.greatest);
+      fitting_alike = λ _ _ _. tt;
+      chosen_fit = λ _ xs ys zs _ _. tt;
+      merges = λ _ xs ys _. tt;
+    } };
 }

@@ -58,7 +58,10 @@ fn table(
 }
 
 fn aggregates(alloc: Global) -> Result<Aggregates, OutOfMemory>
-    ensures { IfOk result (λ with. with ≡ record { what = AggregateKind.Sum; column = 0 } ∷ record { what = AggregateKind.Count; column = 7 } ∷ record { what = AggregateKind.Mean; column = 0 } ∷ []) }
+    ensures { IfOk result (λ with. with ≡ record { what = AggregateKind.Sum; column = 0 }
+        ∷ record { what = AggregateKind.Count; column = 7 }
+        ∷ record { what = AggregateKind.Mean; column = 0 }
+        ∷ []) }
 {
     let sum = Aggregate {
         what: AggregateKind::Sum,

@@ -1,22 +1,25 @@
 // Rows in groups, and groups from several places together.
-ghost use Rattle.std.specs.Prelude.{◌≡◌, ◌≤◌, ◌<◌, ◌+◌, ◌++◌, [], ◌∷◌, length, map, slice_get, List, ℕ, IfOk, IsOk, OnOk, OnErr};
+ghost use Rattle.std.specs.Prelude.{◌≡◌, ◌≤◌, ◌++◌, length, map, slice_get, List, ℕ, IfOk, OnOk, OnErr};
 ghost use Rattle.std.specs.List.{filter_map};
-ghost use Rattle.indexmap.specs.IndexMap.{spare};
 ghost use Rattle.mon_value.specs.GroupConditions.{CanGroup};
-ghost use Rattle.mon_value.specs.Groups.{group_key, grouped};
+ghost use Rattle.mon_value.specs.Groups.{group_rows};
+ghost use Rattle.mon_value.specs.Limits.{greatest_sum};
 ghost use Rattle.mon_value.specs.declared.aggregates.Aggregate.{Aggregate};
+ghost use Rattle.mon_value.specs.declared.columns.Column.{Column};
 ghost use Rattle.mon_value.specs.declared.tables.TimedRow.{TimedRow};
-ghost use Rattle.mon_fold.specs.PartialGroups.{CanMergeGroups, CanMergeParts, CanTakeGroup, column_made, count_column, group_columns, merged_groups, merged_parts, partial_groups, part_finished, parts_over, row_finished, with_group};
+ghost use Rattle.mon_fold.specs.PartialGroups.{CanMergeGroups, column_made, columns_made, count_column, group_columns};
+ghost use Rattle.mon_fold.specs.PartialGroups.{merged_groups, partial_groups, part_finished, row_finished};
 
-use crate::aggregate_parts::{AggregateParts, finish_part, merge_each, part_of_row};
+use crate::aggregate_parts::{AggregateParts, finish_part};
+use crate::grouping::groups_of;
+use crate::merging::{copied_groups, new_groups, put_groups};
 use indexmap::IndexMap;
 use mon_value::{
     Aggregate, AggregateKind, Aggregates, Cells, Column, Columns, ListOf, OutOfMemory, Positions,
-    Table, Text, TimedRow, TimedRows, TryCopy, ValueType,
+    ROW_BITS, Table, Text, TimedRow, TimedRows, TryCopy, ValueType,
 };
 use std::alloc::Global;
 use std::marker::Model;
-use std::mem;
 
 /// Groups of rows whose aggregates are kept as parts, so that groups from several places can be merged
 /// before they are finished. Each group has the time and the grouping cells of its rows. Groups stand in
@@ -34,6 +37,16 @@ impl Model for Parts {
     ghost Value = { GroupsSoFar };
 
     ghost view = { λ parts. record { columns = parts.columns; kinds = parts.kinds; groups = parts.groups.entries } };
+}
+
+impl TryCopy for Parts {
+    fn copy(&self, alloc: Global) -> Result<Parts, OutOfMemory> {
+        Ok(Parts {
+            columns: self.columns.copy(alloc)?,
+            kinds: ListOf::from_vec(Vec::from_slice(alloc, self.kinds.as_slice())?),
+            groups: copied_groups(alloc, &self.groups)?,
+        })
+    }
 }
 
 /// The rows of a table in partial groups: one for each time and list of grouping cells that occurs.
@@ -56,101 +69,6 @@ pub fn group(
         kinds,
         groups,
     })
-}
-
-// The partial groups of a table's rows.
-fn groups_of(
-    alloc: Global,
-    t: &Table,
-    by: &[u32],
-    with: &[Aggregate],
-) -> Result<IndexMap<TimedRow, AggregateParts>, OutOfMemory>
-    requires { CanGroup t.now.columns by.now with.now t.now.rows }
-    ensures { IfOk result (λ groups. groups.entries ≡ partial_groups by.now with.now t.now.rows) }
-{
-    let mut groups = IndexMap::new(alloc);
-    for row in t.rows.as_slice() {
-        put_row(alloc, &mut groups, by, with, row)?;
-    }
-    Ok(groups)
-}
-
-// Puts a row into its group.
-fn put_row(
-    alloc: Global,
-    groups: &mut IndexMap<TimedRow, AggregateParts>,
-    by: &[u32],
-    with: &[Aggregate],
-    row: &TimedRow,
-) -> Result<(), OutOfMemory>
-    requires { CanTakeGroup groups.old.entries (group_key by.now row.now, parts_over with.now (row.now ∷ [])) }
-    ensures { OnOk result (groups.new.entries ≡ with_group groups.old.entries (group_key by.now row.now, parts_over with.now (row.now ∷ []))) }
-{
-    let key = key_of(alloc, by, row)?;
-    let parts = parts_of_row(alloc, with, row)?;
-    put_group(alloc, groups, key, parts)
-}
-
-// What tells the group of a row.
-fn key_of(alloc: Global, by: &[u32], row: &TimedRow) -> Result<TimedRow, OutOfMemory>
-    ensures { IfOk result (λ key. key ≡ group_key by.now row.now) }
-{
-    let mut cells = Cells::new(alloc);
-    add_at(alloc, &mut cells, row.cells.as_slice(), by)?;
-    Ok(TimedRow {
-        time: row.time,
-        cells,
-    })
-}
-
-// The parts that stand for one row.
-fn parts_of_row(
-    alloc: Global,
-    with: &[Aggregate],
-    row: &TimedRow,
-) -> Result<AggregateParts, OutOfMemory>
-    ensures { IfOk result (λ parts. parts ≡ parts_over with.now (row.now ∷ [])) }
-{
-    let mut parts = AggregateParts::new(alloc);
-    for aggregate in with {
-        parts.push(part_of_row(alloc, aggregate, row)?)?;
-    }
-    Ok(parts)
-}
-
-// Puts a group into groups: merged into the one of its time and cells, or at the end. Only a group at
-// the end takes memory, and none where there is room.
-fn put_group(
-    alloc: Global,
-    groups: &mut IndexMap<TimedRow, AggregateParts>,
-    key: TimedRow,
-    parts: AggregateParts,
-) -> Result<(), OutOfMemory>
-    requires { CanTakeGroup groups.old.entries (key, parts) }
-    ensures added { OnOk result (groups.new.entries ≡ with_group groups.old.entries (key, parts)) }
-    ensures room { spare groups.old ≤ spare groups.new + 1 }
-    ensures succeeds { 0 < spare groups.old → IsOk result }
-{
-    match groups.get_mut(&key) {
-        Some(kept) => {
-            merge_lists(alloc, kept, &parts);
-            Ok(())
-        }
-        None => {
-            groups.insert(key, parts)?;
-            Ok(())
-        }
-    }
-}
-
-// Merges the parts of each aggregate. No memory is taken.
-fn merge_lists(alloc: Global, into: &mut AggregateParts, others: &AggregateParts)
-    requires { CanMergeParts into.old others.now }
-    ensures { into.new ≡ merged_parts into.old others.now }
-{
-    let mut parts = mem::replace(into, AggregateParts::new(alloc)).into_vec();
-    merge_each(parts.as_mut_slice(), others.as_slice());
-    *into = AggregateParts::from_vec(parts);
 }
 
 // The kinds of aggregates.
@@ -217,7 +135,7 @@ fn add_columns_made(
     columns: &[Column],
     with: &[Aggregate],
 ) -> Result<(), OutOfMemory>
-    ensures { OnOk result (made.new ≡ made.old ++ filter_map (λ aggregate. column_made columns.now aggregate.column aggregate.what) with.now) }
+    ensures { OnOk result (made.new ≡ made.old ++ columns_made columns.now with.now) }
 {
     for aggregate in with {
         if let Some(column) = column_of_aggregate(alloc, columns, aggregate)? {
@@ -250,8 +168,8 @@ fn column_of_count(alloc: Global) -> Result<Column, OutOfMemory>
         of: ValueType::Int,
         key: false,
         anchor: None,
-        cell_bits: 24,
-        total_bits: 24,
+        cell_bits: ROW_BITS,
+        total_bits: ROW_BITS,
     })
 }
 
@@ -288,7 +206,7 @@ fn finish_row(key: TimedRow, parts: AggregateParts) -> Result<TimedRow, OutOfMem
 fn add_finished(mut cells: Cells, parts: AggregateParts) -> Result<Cells, OutOfMemory>
     ensures { IfOk result (λ all. all ≡ cells ++ filter_map part_finished parts) }
 {
-    for part in parts.into_vec() {
+    for part in parts {
         if let Some(value) = finish_part(part) {
             cells.push(value)?;
         }
@@ -296,8 +214,8 @@ fn add_finished(mut cells: Cells, parts: AggregateParts) -> Result<Cells, OutOfM
     Ok(cells)
 }
 
-/// Merges other groups in: each into the one of its time and cells, or at the end. Where memory runs out
-/// the groups stay.
+/// Merges other groups in: each into the one of its time and cells, or a copy of it at the end. Only groups
+/// at the end take memory. Where it runs out the groups stay.
 pub fn merge_parts(alloc: Global, into: &mut Parts, other: &Parts) -> Result<(), OutOfMemory>
     requires columns { into.old.columns ≡ other.now.columns }
     requires kinds { into.old.kinds ≡ other.now.kinds }
@@ -307,39 +225,10 @@ pub fn merge_parts(alloc: Global, into: &mut Parts, other: &Parts) -> Result<(),
     ensures kinds { into.new.kinds ≡ into.old.kinds }
     ensures kept { OnErr result (into.new ≡ into.old) }
 {
-    let copies = copies_of(alloc, &other.groups)?;
+    let copies = new_groups(alloc, &into.groups, &other.groups)?;
     into.groups.reserve(copies.len())?;
-    put_groups(alloc, &mut into.groups, copies);
+    put_groups(&mut into.groups, &other.groups, copies);
     Ok(())
-}
-
-// Copies of groups.
-fn copies_of(
-    alloc: Global,
-    groups: &IndexMap<TimedRow, AggregateParts>,
-) -> Result<Vec<(TimedRow, AggregateParts)>, OutOfMemory>
-    ensures { IfOk result (λ copies. copies.items ≡ groups.now.entries) }
-{
-    let mut copies = Vec::with_capacity(alloc, groups.len())?;
-    for (key, parts) in groups.iter() {
-        copies.push((key.copy(alloc)?, parts.copy(alloc)?))?;
-    }
-    Ok(copies)
-}
-
-// Puts groups into groups, for which there is room. No memory is taken.
-fn put_groups(
-    alloc: Global,
-    groups: &mut IndexMap<TimedRow, AggregateParts>,
-    others: Vec<(TimedRow, AggregateParts)>,
-)
-    requires room { length others.items ≤ spare groups.old }
-    requires can { CanMergeGroups groups.old.entries others.items }
-    ensures { groups.new.entries ≡ merged_groups groups.old.entries others.items }
-{
-    for (key, parts) in others {
-        let _ = put_group(alloc, groups, key, parts);
-    }
 }
 
 /// Partial groups stand for their rows: those of two lists of rows together are those of both, and they
@@ -348,5 +237,12 @@ pub fn groups_stand_for_rows()
     ensures merge { (by : List ℕ) (with : List Aggregate) (xs ys : List TimedRow)
         → merged_groups (partial_groups by with xs) (partial_groups by with ys) ≡ partial_groups by with (xs ++ ys) }
     ensures finish { (by : List ℕ) (with : List Aggregate) (rows : List TimedRow)
-        → map row_finished (partial_groups by with rows) ≡ grouped by with rows }
+        → map row_finished (partial_groups by with rows) ≡ group_rows by with rows }
+{}
+
+/// Groups of rows that can be grouped together can be merged.
+pub fn groups_can_merge()
+    ensures { (columns : List Column) (by : List ℕ) (with : List Aggregate) (xs ys : List TimedRow)
+        → CanGroup columns by with (xs ++ ys) → length (xs ++ ys) ≤ greatest_sum
+        → CanMergeGroups (partial_groups by with xs) (partial_groups by with ys) }
 {}

@@ -2,21 +2,23 @@
 //! part finishes to what all of its items come to.
 #![tactic(auto)]
 
-pub mod aggregate_parts;
-pub mod alignment;
+mod aggregate_parts;
+mod alignment;
 #[cfg(test)]
 mod alignment_tests;
-pub mod extremes;
-pub mod folds;
+mod extremes;
+mod folds;
 #[cfg(test)]
 mod group_tests;
-pub mod groups;
-pub mod means;
-pub mod merges;
-pub mod numbers;
-pub mod pieces;
+mod grouping;
+mod groups;
+mod means;
+mod merges;
+mod merging;
+mod numbers;
+mod pieces;
 mod sliding;
-pub mod sums;
+mod sums;
 #[cfg(test)]
 mod tests;
 
@@ -24,9 +26,12 @@ pub use aggregate_parts::{AggregatePart, AggregateParts};
 pub use alignment::align;
 pub use extremes::{GreatestPart, LeastPart, MaxFold, MinFold};
 pub use folds::Fold;
-pub use groups::{Parts, finish_parts, group, groups_stand_for_rows, merge_parts};
+pub use groups::{
+    Parts, finish_parts, group, groups_can_merge, groups_stand_for_rows, merge_parts,
+};
 pub use means::{MeanFold, MeanPart, means_are_floors};
 pub use merges::{MergeFold, MergePart};
+pub use mon_value::{Aggregate, AggregateKind, Aligner, Grid, TimedValue};
 pub use numbers::{CountFold, CountPart};
 pub use pieces::{fold_pieces, merges_in_any_order};
 pub use sums::{SumFold, SumPart};

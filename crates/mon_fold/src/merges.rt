@@ -1,13 +1,14 @@
 // Distributions, merged.
 ghost use Rattle.std.specs.Prelude.{◌≡◌, ◌≤◌, ◌||◌, IfOk, length, replicate, sum, sum_by, All, Some, None, if◌then◌else◌};
 ghost use Rattle.mon_value.specs.Aggregates.{counts_added, counts_of, merged_of};
-ghost use Rattle.mon_fold.specs.Parts.{is_any, IsZero, magnitude_limit};
-ghost use Rattle.mon_fold.specs.CountsPartLemmas as parts;
-ghost use Rattle.mon_fold.specs.NumberPartLemmas as numbers;
+ghost use Rattle.mon_value.specs.Limits.{greatest_sum};
+ghost use Rattle.mon_value.specs.Parts.{is_any, IsZero};
+ghost use Rattle.mon_value.proofs.CountsPartLemmas as parts;
+ghost use Rattle.mon_value.proofs.NumberPartLemmas as numbers;
 ghost use Rattle.mon_value.proofs.CountsLemmas as counted;
 
 use crate::folds::Fold;
-use mon_value::{Counts, OutOfMemory};
+use mon_value::{Counts, OutOfMemory, TryCopy};
 use std::alloc::Global;
 use std::marker::Model;
 
@@ -22,16 +23,33 @@ pub struct MergeFold {
 /// The counts of the distributions so far, and whether there was one.
 #[derive(Debug, Drop)]
 pub struct MergePart {
-    counts: Vec<u128>,
+    counts: Counts,
     any: bool,
 }
 
 impl Model for MergePart {
-    ghost use Rattle.mon_fold.specs.Parts.{CountsSoFar};
+    ghost use Rattle.mon_fold.specs.CountsSoFar.{CountsSoFar};
 
     ghost Value = { CountsSoFar };
 
-    ghost view = { λ part. record { counts = part.counts.items; any = part.any } };
+    ghost view = { λ part. record { counts = part.counts; any = part.any } };
+}
+
+impl TryCopy for MergePart {
+    fn copy(&self, alloc: Global) -> Result<MergePart, OutOfMemory> {
+        Ok(MergePart {
+            counts: self.counts.copy(alloc)?,
+            any: self.any,
+        })
+    }
+}
+
+impl TryCopy for MergeFold {
+    fn copy(&self, alloc: Global) -> Result<MergeFold, OutOfMemory> {
+        Ok(MergeFold {
+            zero: self.zero.copy(alloc)?,
+        })
+    }
 }
 
 impl MergeFold {
@@ -52,86 +70,65 @@ impl Fold for MergeFold {
 
     type Out = Counts;
 
-    ghost folded = { λ _ items. merged_of items };
+    ghost fold_of = { λ _ items. merged_of items };
 
     ghost part_of = { λ fold items. record {
       counts = counts_added fold.zero (counts_of items);
       any = is_any items;
     } };
 
-    ghost merged = { λ a b. record {
+    ghost merge_of = { λ a b. record {
       counts = counts_added a.counts b.counts;
       any = a.any || b.any;
     } };
 
     ghost can_merge = { λ a b. (length a.counts ≡ length b.counts)
-        × All (λ count. count ≤ magnitude_limit) (counts_added a.counts b.counts) };
+        × All (λ count. count ≤ greatest_sum) (counts_added a.counts b.counts) };
 
-    ghost finished = { λ part. if part.any then Some part.counts else None };
+    ghost finish_of = { λ part. if part.any then Some part.counts else None };
 
     ghost alike = { λ fold items. All (λ counts. length counts ≡ length fold.zero) items };
 
     ghost fits = { λ fold items. All (λ counts. length counts ≡ length fold.zero) items
-        × (sum_by sum items ≤ magnitude_limit) };
+        × (sum_by sum items ≤ greatest_sum) };
 
     fn start(&self, alloc: Global) -> Result<MergePart, OutOfMemory> {
         Ok(MergePart {
-            counts: Vec::from_slice(alloc, self.zero.as_slice())?,
+            counts: self.zero.copy(alloc)?,
             any: false,
         })
     }
 
     fn add(&self, part: &mut MergePart, item: &Counts) {
-        add_counts(part.counts.as_mut_slice(), item.as_slice());
+        part.counts.merge(item);
         part.any = true;
     }
 
     fn merge(&self, into: &mut MergePart, other: &MergePart) {
-        add_counts(into.counts.as_mut_slice(), other.counts.as_slice());
+        into.counts.merge(&other.counts);
         into.any |= other.any;
     }
 
     fn finish(&self, part: MergePart) -> Option<Counts> {
-        if part.any {
-            Some(Counts::from_vec(part.counts))
-        } else {
-            None
-        }
+        part.any.then_some(part.counts)
     }
 
-    ghost any_order = { λ _. counted.merged_of-permutation };
-
-    ghost nothing = { λ _ items. numbers.none_where_nothing items (counts_of items) };
-
-    ghost finishes = { λ fold items same. parts.merged_finishes fold.zero fold.zeros items same };
-
-    ghost joins = { λ fold xs ys.
-        Prim.rw (parts.counts-append fold.zero fold.zeros xs ys, parts.is_any-append xs ys) };
-
-    ghost commutes = { λ a b.
-        Prim.rw (counted.counts_added-comm a.counts b.counts, parts.or-comm a.any b.any) };
-
-    ghost associates = { λ a b c.
-        Prim.rw (counted.counts_added-assoc a.counts b.counts c.counts, parts.or-assoc a.any b.any c.any) };
-
-    ghost fitting_alike = { λ _ _ fits. fits.0 };
-
-    ghost chosen_fit = { λ fold xs ys zs same fits. (
-      parts.lengths-chosen (length fold.zero) xs ys zs same fits.0,
-      numbers.sum_by-chosen sum xs ys zs magnitude_limit same fits.1,
-    ) };
-
-    ghost merges = { λ fold xs ys fits.
-        parts.counts_within fold.zero fold.zeros xs ys magnitude_limit fits.0 fits.1 };
-}
-
-// Adds counts to others, bucket by bucket.
-fn add_counts(into: &mut [u128], counts: &[u128])
-    requires as_long { length counts.now ≤ length into.old }
-    requires within { All (λ count. count ≤ magnitude_limit) (counts_added into.old counts.now) }
-    ensures { into.new ≡ counts_added into.old counts.now }
-{
-    for (i, more) in counts.iter().enumerate() {
-        into[i] += *more;
-    }
+    ghost laws = { record {
+      any_order = λ _. counted.merged_of-permutation;
+      nothing = λ _ items. numbers.none_where_nothing items (counts_of items);
+      finishes = λ fold items same. parts.merged_finishes fold.zero fold.zeros items same;
+      joins = λ fold xs ys.
+          Prim.rw (parts.counts-append fold.zero fold.zeros xs ys, parts.is_any-append xs ys);
+      commutes = λ a b.
+          Prim.rw (counted.counts_added-comm a.counts b.counts, parts.or-comm a.any b.any);
+      associates = λ a b c.
+          Prim.rw (counted.counts_added-assoc a.counts b.counts c.counts, parts.or-assoc a.any b.any c.any);
+      fitting_alike = λ _ _ fits. fits.0;
+      chosen_fit = λ fold xs ys zs same fits. (
+        parts.lengths-chosen (length fold.zero) xs ys zs same fits.0,
+        numbers.sum_by-chosen sum xs ys zs greatest_sum same fits.1,
+      );
+      merges = λ fold xs ys fits.
+          parts.counts_within fold.zero fold.zeros xs ys greatest_sum fits.0 fits.1;
+    } };
 }

@@ -1,12 +1,13 @@
 // The number of items.
 ghost use Rattle.std.specs.Prelude.{◌≤◌, pos, ◌+ℤ◌, int_lt, Some, None, length, if◌then◌else◌};
-ghost use Rattle.mon_value.specs.Aggregates.{where_any, number_of};
-ghost use Rattle.mon_fold.specs.Parts.{IsWithin, magnitude_limit};
-ghost use Rattle.mon_fold.specs.NumberPartLemmas as parts;
+ghost use Rattle.mon_value.specs.Aggregates.{where_any, item_count};
+ghost use Rattle.mon_value.specs.Limits.{greatest_sum};
+ghost use Rattle.mon_value.specs.Parts.{IsWithin};
+ghost use Rattle.mon_value.proofs.NumberPartLemmas as parts;
 ghost use Rattle.mon_value.proofs.AggregateLemmas as lists;
 
 use crate::folds::Fold;
-use mon_value::OutOfMemory;
+use mon_value::{OutOfMemory, TryCopy};
 use std::alloc::Global;
 
 /// The number of items.
@@ -19,6 +20,12 @@ pub struct CountPart {
     pub number: i128,
 }
 
+impl TryCopy for CountPart {
+    fn copy(&self, _alloc: Global) -> Result<CountPart, OutOfMemory> {
+        Ok(*self)
+    }
+}
+
 impl Fold for CountFold {
     type In = ();
 
@@ -26,17 +33,17 @@ impl Fold for CountFold {
 
     type Out = i128;
 
-    ghost folded = { λ _ items. where_any items (number_of items) };
+    ghost fold_of = { λ _ items. where_any items (item_count items) };
 
-    ghost part_of = { λ _ items. record { number = number_of items } };
+    ghost part_of = { λ _ items. record { number = item_count items } };
 
-    ghost merged = { λ a b. record { number = a.number +ℤ b.number } };
+    ghost merge_of = { λ a b. record { number = a.number +ℤ b.number } };
 
     ghost can_merge = { λ a b. IsWithin (a.number +ℤ b.number) };
 
-    ghost finished = { λ part. if int_lt (pos 0) part.number then Some part.number else None };
+    ghost finish_of = { λ part. if int_lt (pos 0) part.number then Some part.number else None };
 
-    ghost fits = { λ _ items. length items ≤ magnitude_limit };
+    ghost fits = { λ _ items. length items ≤ greatest_sum };
 
     fn start(&self, _alloc: Global) -> Result<CountPart, OutOfMemory> {
         Ok(CountPart { number: 0 })
@@ -54,23 +61,17 @@ impl Fold for CountFold {
         (part.number > 0).then_some(part.number)
     }
 
-    ghost any_order = { λ _ xs ys same.
-        lists.where_any-permutation xs ys (number_of xs) (number_of ys) same
-        (lists.number_of-permutation xs ys same) };
-
-    ghost nothing = { λ _ items. parts.none_where_nothing items (number_of items) };
-
-    ghost finishes = { λ _ items _. parts.where_counted items (number_of items) };
-
-    ghost joins = { λ _ xs ys. Prim.rw (lists.number_of-append xs ys) };
-
-    ghost commutes = { λ a b. Prim.rw (lists.add-comm a.number b.number) };
-
-    ghost associates = { λ a b c. Prim.rw (lists.add-assoc a.number b.number c.number) };
-
-    ghost fitting_alike = { λ _ _ _. tt };
-
-    ghost chosen_fit = { λ _ xs ys zs same fits. parts.length-chosen xs ys zs magnitude_limit same fits };
-
-    ghost merges = { λ _ xs ys fits. parts.number_within xs ys fits };
+    ghost laws = { record {
+      any_order = λ _ xs ys same.
+          lists.where_any-permutation xs ys (item_count xs) (item_count ys) same
+          (lists.item_count-permutation xs ys same);
+      nothing = λ _ items. parts.none_where_nothing items (item_count items);
+      finishes = λ _ items _. parts.where_counted items (item_count items);
+      joins = λ _ xs ys. Prim.rw (lists.item_count-append xs ys);
+      commutes = λ a b. Prim.rw (lists.add-comm a.number b.number);
+      associates = λ a b c. Prim.rw (lists.add-assoc a.number b.number c.number);
+      fitting_alike = λ _ _ _. tt;
+      chosen_fit = λ _ xs ys zs same fits. parts.length-chosen xs ys zs greatest_sum same fits;
+      merges = λ _ xs ys fits. parts.number_within xs ys fits;
+    } };
 }

@@ -15,7 +15,7 @@ pub fn fold_pieces<F: Fold>(
     pieces: &[ListOf<F::In>],
 ) -> Result<Option<F::Out>, OutOfMemory>
     requires within { F.fits fold.now (flat_map (λ piece. piece) pieces.now) }
-    ensures whole { IfOk result (λ out. out ≡ F.folded fold.now (flat_map (λ piece. piece) pieces.now)) }
+    ensures whole { IfOk result (λ out. out ≡ F.fold_of fold.now (flat_map (λ piece. piece) pieces.now)) }
     ensures nothing { IfOk result (λ out. IsNone out ↔ (flat_map (λ piece. piece) pieces.now ≡ [])) }
 {
     let mut whole = fold.start(alloc)?;
@@ -42,16 +42,16 @@ fn part_of_items<F: Fold>(alloc: Global, fold: &F, items: &[F::In]) -> Result<F:
 /// of its items come to, whichever way it was made, and to none exactly where there was none.
 pub fn merges_in_any_order<F: Fold>(fold: &F)
     ensures any_order { (xs ys : List F.In) → IsPermutation xs ys
-        → F.folded fold.now xs ≡ F.folded fold.now ys }
-    ensures commutes { (a b : F.Part) → F.merged a b ≡ F.merged b a }
-    ensures associates { (a b c : F.Part) → F.merged (F.merged a b) c ≡ F.merged a (F.merged b c) }
+        → F.fold_of fold.now xs ≡ F.fold_of fold.now ys }
+    ensures commutes { (a b : F.Part) → F.merge_of a b ≡ F.merge_of b a }
+    ensures associates { (a b c : F.Part) → F.merge_of (F.merge_of a b) c ≡ F.merge_of a (F.merge_of b c) }
 
     // `part_made ..` is the part that is made by the steps of a merging.
     ensures allowed { (merging : Merging F.In) → F.fits fold.now (items_of merging)
-        → IsAllowed (F.part_of fold.now) F.merged F.can_merge merging }
+        → IsAllowed (F.part_of fold.now) F.merge_of F.can_merge merging }
     ensures finishes { (merging : Merging F.In) (items : List F.In)
         → IsPermutation (items_of merging) items → F.alike fold.now items
-        → F.finished (part_made (F.part_of fold.now) F.merged merging) ≡ F.folded fold.now items }
+        → F.finish_of (part_made (F.part_of fold.now) F.merge_of merging) ≡ F.fold_of fold.now items }
     ensures nothing { (merging : Merging F.In) → F.alike fold.now (items_of merging)
-        → IsNone (F.finished (part_made (F.part_of fold.now) F.merged merging)) ↔ (items_of merging ≡ []) }
+        → IsNone (F.finish_of (part_made (F.part_of fold.now) F.merge_of merging)) ↔ (items_of merging ≡ []) }
 {}

@@ -1,19 +1,20 @@
 // Windows that slide over the points of a series from time to time, and what their points add up to.
 ghost use Rattle.std.specs.List.{AllByRecursion};
-ghost use Rattle.std.specs.Prelude.{ℕ, ◌≡◌, ◌≤◌, ◌<◌, ◌+◌, sum, pos, neg_ℤ, ◌≤ℤ◌, IfOk, sum_by, length, get_or, [], ◌∷◌};
+ghost use Rattle.std.specs.Prelude.{ℕ, ◌≡◌, ◌≤◌, ◌<◌, ◌+◌, sum, neg_ℤ, ◌≤ℤ◌, IfOk, sum_by, length, get_or, [], ◌∷◌};
 ghost use Rattle.mon_value.specs.Aggregates.{sum_of, counts_added, counts_of};
-ghost use Rattle.mon_value.specs.Alignments.{CanAdd, CanAddAll, magnitude, most_aligned, SumFits, value_at, values_of};
+ghost use Rattle.mon_value.specs.Alignments.{CanAdd, CanAddAll, most_aligned, SumFits, value_at, values_of};
+ghost use Rattle.mon_value.specs.Values.{magnitude};
 ghost use Rattle.mon_value.specs.Grids.{IsDuration};
 ghost use Rattle.mon_value.specs.Groups.{numbers_in, distributions_in, total_of};
 ghost use Rattle.mon_value.specs.declared.aligners.Aligner.TheVariants.{Delta};
 ghost use Rattle.mon_fold.specs.SlidingWindows.{points_between, IsTotalled};
 
 use mon_series::Series;
-use mon_value::{Counts, OutOfMemory, Point, TryCopy, Value};
+use mon_value::{Counts, LONGEST_DURATION, OutOfMemory, Point, TryCopy, Value};
 use std::alloc::Global;
 
-// Points that follow one another, by the place of the first and that behind the last, and what they
-// add up to.
+/// Points that follow one another, by the place of the first and that behind the last, and what they
+/// add up to.
 #[derive(Debug, Drop)]
 pub(crate) struct Window {
     start: usize,
@@ -22,7 +23,7 @@ pub(crate) struct Window {
 }
 
 impl Window {
-    // The window without points behind all of them.
+    /// The window without points behind all of them.
     pub(crate) fn behind(all: &[Point]) -> Window
         ensures { IsTotalled result all.now }
     {
@@ -33,7 +34,7 @@ impl Window {
         }
     }
 
-    // A copy of what the points add up to.
+    /// A copy of what the points add up to.
     pub(crate) fn total(&self, alloc: Global) -> Result<Option<Value>, OutOfMemory>
         ensures { IfOk result (λ total. total ≡ self.now.total) }
     {
@@ -44,7 +45,7 @@ impl Window {
     }
 }
 
-// The window of the points that end in the seconds up to the time, from another window.
+/// The window of the points that end in the seconds up to the time, from another window.
 pub(crate) fn window_at(
     alloc: Global,
     points: &Series,
@@ -52,7 +53,7 @@ pub(crate) fn window_at(
     time: i64,
     seconds: i64,
 ) -> Result<Window, OutOfMemory>
-    requires after { neg_ℤ (pos 1000000000) ≤ℤ time }
+    requires after { neg_ℤ LONGEST_DURATION ≤ℤ time }
     requires looks_back { IsDuration seconds }
     requires alike { CanAddAll (values_of points.now.points) }
     requires sums { SumFits (Delta seconds) points.now.points time }
@@ -131,13 +132,13 @@ fn sum_of_numbers(window: &[Point]) -> i128
 {
     let mut sum = 0;
     for point in window {
-        sum += number_of(&point.value);
+        sum += number_or_zero(&point.value);
     }
     sum
 }
 
 // The number that a value is, and 0 where it is none.
-fn number_of(value: &Value) -> i128
+fn number_or_zero(value: &Value) -> i128
     ensures { result ≡ sum_of (numbers_in (value.now ∷ [])) }
 {
     match value {
@@ -161,19 +162,19 @@ fn merge_into(mut counts: Counts, points: &[Point]) -> Counts
 }
 
 // The counts without those of the points, which added again would give the counts.
-fn take_off(counts: Counts, points: &[Point]) -> Counts
+fn take_off(mut counts: Counts, points: &[Point]) -> Counts
     requires alike { AllByRecursion (CanAdd (Value.Dist counts)) (values_of points.now) }
     requires held { (k : ℕ) → get_or (counts_of (distributions_in (values_of points.now))) k 0 ≤ get_or counts k 0 }
     ensures buckets { length result ≡ length counts }
-    ensures taken { (k : ℕ) → get_or result k 0 + get_or (counts_of (distributions_in (values_of points.now))) k 0 ≡ get_or counts k 0 }
+    ensures taken { (k : ℕ) →
+        get_or result k 0 + get_or (counts_of (distributions_in (values_of points.now))) k 0 ≡ get_or counts k 0 }
 {
-    let mut items = counts.into_vec();
     for point in points {
         if let Value::Dist(less) = &point.value {
-            subtract(items.as_mut_slice(), less.as_slice());
+            subtract(counts.as_mut_slice(), less.as_slice());
         }
     }
-    Counts::from_vec(items)
+    counts
 }
 
 // Takes each count of the second off the one in its place in the first.

@@ -1,6 +1,7 @@
-pub mod CountLists
-pub mod FieldLists
-pub mod Fitting
-pub mod Reading
-pub mod Spelled
-pub mod Texts
+mod AllTextLemmas
+mod CountsOfLemmas
+mod FieldsReadLemmas
+pub mod OptionFilterLemmas
+pub mod ReadFitsLemmas
+mod RecordsLemmas
+mod SpellsKeyLemmas

@@ -1,5 +1,6 @@
 pub mod Cells
 pub mod FaultTexts
 pub mod Fitting
+pub mod Keys
 pub mod Leading
 pub mod Records

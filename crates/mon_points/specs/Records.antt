@@ -4,6 +4,7 @@ use Rattle.std.specs.List.{list_all}
 use Rattle.std.specs.Option.{ok_or}
 use Rattle.std.specs.Str.{is_utf8}
 use Rattle.csv.specs.Reading.{default_config, records, strip_bom}
+use Rattle.mon_value.specs.Answers.{◌>>=◌}
 use Rattle.mon_value.specs.declared.values.FieldValue.{FieldValue}
 use Rattle.mon_value.specs.declared.schemas.Field.{Field}
 use Rattle.mon_value.specs.declared.schemas.TargetSchema.{TargetSchema}
@@ -17,12 +18,6 @@ use Rattle.mon_points.specs.declared.faults.RowFault.{RowFault}
 use Rattle.mon_points.specs.declared.faults.RowFault.TheVariants as fault
 use Rattle.mon_points.specs.declared.records.RowRead.{RowRead}
 use Rattle.mon_points.specs.declared.records.RowRead.TheVariants as read
-
-infixl 10 ◌>>=◌
--- the next step, where the one before it has no fault
-abbrev pub ◌>>=◌ : {A B : Type 0} → Result A RowFault → (A → Result B RowFault) → Result B RowFault
-(Ok x) >>= f = f x
-(Err e) >>= f = Err e
 
 -- the values of fields that are numbered on from n, or the first bad one
 abbrev pub fields_read : ℕ → List Field → List (List ℕ) → Result (List FieldValue) RowFault
@@ -45,18 +40,24 @@ unfoldable pub key_read : TargetSchema → MetricSchema → List (List ℕ) → 
 key_read target metric cells = do
   of_target ← fields_read 1 target.fields cells
   of_metric ← fields_read (length target.fields + 1) metric.fields (drop (length target.fields) cells)
-  Ok (record { target = record { schema = target.name; fields = of_target }; metric = metric.name; fields = of_metric })
+  Ok (record {
+    target = record { schema = target.name; fields = of_target };
+    metric = metric.name;
+    fields = of_metric;
+  })
 
 -- one cell for each field
-abbrev pub counted : TargetSchema → MetricSchema → List (List ℕ) → Result (List (List ℕ)) RowFault
-counted target metric cells = if length cells == length target.fields + length metric.fields then Ok cells else Err fault.Fields
+abbrev pub field_cells : TargetSchema → MetricSchema → List (List ℕ) → Result (List (List ℕ)) RowFault
+field_cells target metric cells =
+    if length cells == length target.fields + length metric.fields then Ok cells else Err fault.Fields
 
--- a record is the schema, the metric, the start, the end and the value, and then the fields: its row, or its first fault
+-- a record is the schema, the metric, the start, the end and the value, and then the fields: its row, or
+-- its first fault
 unfoldable pub row_read : SchemaLists → List (List ℕ) → Result Row RowFault
 row_read schemas (schema ∷ metric ∷ start ∷ end ∷ value ∷ rest) = do
   target ← ok_or (target_named schema schemas.targets) fault.UnknownSchema
   measured ← ok_or (metric_named metric schemas.metrics) fault.UnknownMetric
-  cells ← counted target measured rest
+  cells ← field_cells target measured rest
   point ← point_read measured start end value
   key ← key_read target measured cells
   Ok (record { key = key; point = point })
@@ -68,7 +69,8 @@ read_as (Err fault) = read.Fault fault
 
 -- a record with a cell that is not UTF-8 reads as that fault, before any other
 abbrev pub record_read : SchemaLists → List (List ℕ) → RowRead
-record_read schemas cells = if list_all is_utf8 cells then read_as (row_read schemas cells) else read.Fault fault.NotUtf8
+record_read schemas cells =
+    if list_all is_utf8 cells then read_as (row_read schemas cells) else read.Fault fault.NotUtf8
 
 -- the records of a file, behind a byte order mark if there is one, each read
 abbrev pub reads_of : SchemaLists → List ℕ → List RowRead

@@ -1,12 +1,14 @@
 //! Points as text: each record of a points file is read as a row, or as the first of its faults.
 #![tactic(auto)]
 
-pub mod cells;
-pub mod faults;
-pub mod records;
+mod cells;
+mod faults;
+mod keys;
+mod records;
 
 pub use faults::RowFault;
-pub use records::{RowRead, RowReads, read_rows};
+pub use keys::KeyCache;
+pub use records::{RowRead, RowReads, read_rows, read_rows_with};
 
 #[cfg(test)]
 mod tests;

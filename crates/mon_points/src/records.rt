@@ -1,31 +1,41 @@
 // The records of a points file.
-ghost use Rattle.std.specs.Prelude.{◌≡◌, ◌+◌, ◌-◌, ◌<◌, ◌≤◌, ◌^◌, length, drop, IfOk, MatchOption};
+ghost use Rattle.std.specs.Prelude.{◌≡◌, ◌<◌, ◌≤◌, length, drop, IfOk, MatchOption};
 ghost use Rattle.std.specs.List.{AllByRecursion};
 ghost use Rattle.csv.specs.Records.{fields_of};
 ghost use Rattle.mon_value.specs.Answers.{Gives};
 ghost use Rattle.mon_points.specs.Fitting.{ReadFits};
-ghost use Rattle.mon_points.specs.Leading.{cells_of};
-ghost use Rattle.mon_points.specs.Records.{fields_read, key_read, point_read, record_read, reads_of, row_read};
+ghost use Rattle.mon_points.specs.Leading.{IsRecord, record_cells};
+ghost use Rattle.mon_points.specs.Records.{point_read, read_as, record_read, reads_of, row_read};
 
-use crate::cells::{read_field, read_times, read_value};
+use crate::cells::{read_times, read_value};
 use crate::faults::RowFault;
+use crate::keys::{KeyCache, LEADING};
 use csv::{ByteRecord, ReaderBuilder, StringRecord};
 use mon_schema::Schemas;
-use mon_value::{
-    Field, FieldValues, ListOf, MetricSchema, OutOfMemory, Point, Refusal, Row, SeriesKey, Target,
-    TargetSchema, TryCopy,
-};
+use mon_value::{ListOf, MetricSchema, OutOfMemory, Point, Refusal, Row, TryCopy};
 use std::alloc::{AllocError, Global};
+use std::mem;
 
 /// What a record reads as.
 #[derive(Debug, PartialEq, Eq, Drop)]
 pub enum RowRead {
+    /// A row.
     Row(Row),
+    /// The first fault of a record that is no row.
     Fault(RowFault),
 }
 
 /// What the records of a file read as, in their order.
 pub type RowReads = ListOf<RowRead>;
+
+impl TryCopy for RowRead {
+    fn copy(&self, alloc: Global) -> Result<RowRead, AllocError> {
+        match self {
+            RowRead::Row(row) => Ok(RowRead::Row(row.copy(alloc)?)),
+            RowRead::Fault(fault) => Ok(RowRead::Fault(*fault)),
+        }
+    }
+}
 
 // The cells of a record that come before its fields.
 #[derive(Drop)]
@@ -37,39 +47,78 @@ struct Leading<'a> {
     value: &'a str,
 }
 
-// How many these are.
-const LEADING: usize = 5;
-
 /// Reads the records of a points file: comma-separated cells in lines, with `"` as the quote, and no
 /// header. A record is `schema,metric,start,end,value`, the target's fields and the metric's.
 pub fn read_rows(alloc: Global, bytes: &[u8], schemas: &Schemas) -> Result<RowReads, OutOfMemory>
     ensures exact { IfOk result (λ reads. reads ≡ reads_of schemas.now bytes.now) }
     ensures fit { IfOk result (λ reads. AllByRecursion (ReadFits schemas.now) reads) }
+    ensures few { IfOk result (λ reads. length reads ≤ length bytes.now) }
 {
-    let records = ReaderBuilder::new()
-        .has_headers(false)
-        .flexible(true)
-        .from_reader(alloc, bytes)
-        .into_byte_records();
-    let mut reads = RowReads::new(alloc);
-    for record in records {
-        // Bytes in memory are always read, and records may differ in length: only memory is wanting.
-        let Ok(record) = record else {
-            return Err(AllocError);
-        };
-        reads.push(read_record(alloc, record, schemas)?)?;
-    }
-    Ok(reads)
+    read_rows_with(alloc, bytes, schemas, &mut KeyCache::new(alloc))
 }
 
-// What a record reads as.
-fn read_record(alloc: Global, cells: ByteRecord, schemas: &Schemas) -> Result<RowRead, OutOfMemory>
-    ensures read { IfOk result (λ read. read ≡ record_read schemas.now (fields_of cells)) }
+/// Reads the records of a points file as `read_rows` does, and shares the keys of series that were read
+/// before.
+pub fn read_rows_with(
+    alloc: Global,
+    bytes: &[u8],
+    schemas: &Schemas,
+    keys: &mut KeyCache,
+) -> Result<RowReads, OutOfMemory>
+    ensures exact { IfOk result (λ reads. reads ≡ reads_of schemas.now bytes.now) }
+    ensures fit { IfOk result (λ reads. AllByRecursion (ReadFits schemas.now) reads) }
+    ensures few { IfOk result (λ reads. length reads ≤ length bytes.now) }
 {
-    let Ok(cells) = StringRecord::from_byte_record(cells) else {
-        return Ok(RowRead::Fault(RowFault::NotUtf8));
-    };
-    match read_row(alloc, &cells, schemas) {
+    let mut reader = ReaderBuilder::new()
+        .has_headers(false)
+        .flexible(true)
+        .from_reader(alloc, bytes);
+    let mut record = ByteRecord::new(alloc);
+    let mut reads = RowReads::new(alloc);
+    'records: loop {
+        // Bytes in memory are always read, and records may differ in length: only memory is wanting.
+        let Ok(found) = reader.read_byte_record(&mut record) else {
+            return Err(AllocError);
+        };
+        if !found {
+            return Ok(reads);
+        }
+        reads.push(read_record(alloc, &mut record, schemas, keys)?)?;
+    }
+}
+
+// What a record reads as. The record keeps its memory for the next one.
+fn read_record(
+    alloc: Global,
+    cells: &mut ByteRecord,
+    schemas: &Schemas,
+    keys: &mut KeyCache,
+) -> Result<RowRead, OutOfMemory>
+    ensures read { IfOk result (λ read. read ≡ record_read schemas.now (fields_of cells.old)) }
+{
+    match StringRecord::from_byte_record(mem::replace(cells, ByteRecord::new(alloc))) {
+        Ok(texts) => {
+            let read = read_texts(alloc, &texts, schemas, keys)?;
+            *cells = texts.into_byte_record();
+            Ok(read)
+        }
+        Err(fault) => {
+            *cells = fault.into_byte_record();
+            Ok(RowRead::Fault(RowFault::NotUtf8))
+        }
+    }
+}
+
+// What a record of texts reads as.
+fn read_texts(
+    alloc: Global,
+    cells: &StringRecord,
+    schemas: &Schemas,
+    keys: &mut KeyCache,
+) -> Result<RowRead, OutOfMemory>
+    ensures read { IfOk result (λ read. read ≡ read_as (row_read schemas.now (fields_of cells.now))) }
+{
+    match read_row(alloc, cells, schemas, keys) {
         Ok(row) => Ok(RowRead::Row(row)),
         Err(Refusal::Fault(fault)) => Ok(RowRead::Fault(fault)),
         Err(Refusal::OutOfMemory) => Err(AllocError),
@@ -81,18 +130,19 @@ fn read_row(
     alloc: Global,
     cells: &StringRecord,
     schemas: &Schemas,
+    keys: &mut KeyCache,
 ) -> Result<Row, Refusal<RowFault>>
     ensures row { Gives result (row_read schemas.now (fields_of cells.now)) }
 {
     match leading_cells(cells) {
-        Some(leading) => read_fitting(alloc, &leading, cells, schemas),
+        Some(leading) => read_fitting(alloc, &leading, cells, schemas, keys),
         None => Err(Refusal::Fault(RowFault::Fields)),
     }
 }
 
 // The cells of a record that come before its fields.
 fn leading_cells(cells: &StringRecord) -> Option<Leading<'_>>
-    ensures leading { MatchOption result (length (fields_of cells.now) < 5) (λ leading. fields_of cells.now ≡ cells_of leading (drop 5 (fields_of cells.now))) }
+    ensures leading { MatchOption result (length (fields_of cells.now) < 5) (IsRecord (fields_of cells.now)) }
 {
     Some(Leading {
         schema: cells.get(0)?,
@@ -110,9 +160,10 @@ fn read_fitting(
     leading: &Leading<'_>,
     cells: &StringRecord,
     schemas: &Schemas,
+    keys: &mut KeyCache,
 ) -> Result<Row, Refusal<RowFault>>
     requires behind { 5 ≤ length (fields_of cells.now) }
-    ensures row { Gives result (row_read schemas.now (cells_of leading.now (drop 5 (fields_of cells.now)))) }
+    ensures row { Gives result (row_read schemas.now (record_cells leading.now (drop 5 (fields_of cells.now)))) }
 {
     let Some(target) = schemas.target(leading.schema.as_bytes()) else {
         return Err(Refusal::Fault(RowFault::UnknownSchema));
@@ -124,7 +175,7 @@ fn read_fitting(
         return Err(Refusal::Fault(RowFault::Fields));
     }
     let point = read_point(alloc, metric, leading)?;
-    let key = read_key(alloc, target, metric, cells)?;
+    let key = keys.key(alloc, target, metric, cells)?;
     Ok(Row { key, point })
 }
 
@@ -144,53 +195,4 @@ fn read_point(
         return Err(Refusal::Fault(RowFault::BadValue));
     };
     Ok(Point { start, end, value })
-}
-
-// The series of a record that has a cell for each field.
-#[tactic(auto, unfolding(crate::specs::Records::key_read))]
-fn read_key(
-    alloc: Global,
-    target: &TargetSchema,
-    metric: &MetricSchema,
-    cells: &StringRecord,
-) -> Result<SeriesKey, Refusal<RowFault>>
-    requires counted { length (fields_of cells.now) ≡ 5 + length target.now.fields + length metric.now.fields }
-    requires small { length (fields_of cells.now) < 2 ^ 64 }
-    ensures key { Gives result (key_read target.now metric.now (drop 5 (fields_of cells.now))) }
-{
-    let of_target = target.fields.as_slice();
-    let of_metric = metric.fields.as_slice();
-    let target_fields = read_fields(alloc, of_target, cells, LEADING)?;
-    let metric_fields = read_fields(alloc, of_metric, cells, LEADING + of_target.len())?;
-    Ok(SeriesKey {
-        target: Target {
-            schema: target.name.copy(alloc)?,
-            fields: target_fields,
-        },
-        metric: metric.name.copy(alloc)?,
-        fields: metric_fields,
-    })
-}
-
-// The values of fields whose cells begin at a place of the record.
-fn read_fields(
-    alloc: Global,
-    fields: &[Field],
-    cells: &StringRecord,
-    place: usize,
-) -> Result<FieldValues, Refusal<RowFault>>
-    requires behind { 5 ≤ place }
-    requires there { place + length fields.now ≤ length (fields_of cells.now) }
-    requires counted { length (fields_of cells.now) < 2 ^ 64 }
-    ensures values { Gives result (fields_read (place - 4) fields.now (drop place (fields_of cells.now))) }
-{
-    let mut values = FieldValues::new(alloc);
-    for (i, field) in fields.iter().enumerate() {
-        let cell = cells.get(place + i).unwrap();
-        let Some(value) = read_field(alloc, field.of, cell)? else {
-            return Err(Refusal::Fault(RowFault::BadField(place - LEADING + i + 1)));
-        };
-        values.push(value)?;
-    }
-    Ok(values)
 }

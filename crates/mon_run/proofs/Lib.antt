@@ -1,17 +1,13 @@
-pub mod SeriesGroups
-pub mod Held
-pub mod Alignable
-pub mod FittingRows
-pub mod RecordCount
-pub mod WroteMore
-pub mod Courses
-pub mod Endings
-pub mod Lawful
-pub mod Told
-pub mod LineCuts
-pub mod LineCount
-pub mod Contents
-pub mod Cut
-pub mod CutRuns
-pub mod Written
-pub mod KnownLocations
+mod AlignLemmas
+mod ContentLemmas
+mod EndLemmas
+mod FeedLemmas
+mod FittingLemmas
+mod HeldLemmas
+mod LocationLemmas
+mod PlaceLemmas
+mod ReadLemmas
+mod RunLemmas
+mod SinkLemmas
+mod StepLemmas
+mod TakeLemmas

@@ -1,7 +1,7 @@
+pub mod Endings
 pub mod Feeds
-pub mod Fitting
-pub mod Groups
 pub mod Meaning
 pub mod Outside
-pub mod Runs
-pub mod Scripts
+pub mod Plans
+pub mod Texts
+pub mod within

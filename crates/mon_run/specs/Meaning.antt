@@ -1,13 +1,13 @@
 -- What a plain fetch means: a table over a flat list of rows.
 use Rattle.std.specs.Prelude.{ℕ, ℤ, pos, ◌&&◌, Bool, List, [], ◌∷◌, ◌++◌, map, if◌then◌else◌}
 use Rattle.std.specs.List.{flat_map}
-use Rattle.mon_value.specs.Alignments.{aligned}
-pub use Rattle.mon_value.specs.Order.{field_as_value}
-use Rattle.mon_value.specs.Sources.{points_of, series_of, same_text}
+use Rattle.mon_value.specs.Alignments.{aligned_values}
+use Rattle.mon_value.specs.Same.{same_text}
+use Rattle.mon_value.specs.SeriesRows.{row_of}
+use Rattle.mon_value.specs.Sources.{points_of, series_of}
 use Rattle.mon_value.specs.declared.aligners.Aligner.{Aligner}
 use Rattle.mon_value.specs.declared.aligners.Aligner.TheVariants.{Delta, NextOlder}
 use Rattle.mon_value.specs.declared.grids.Grid.{Grid}
-use Rattle.mon_value.specs.declared.grids.TimedValue.{TimedValue}
 use Rattle.mon_value.specs.declared.rows.Point.{Point}
 use Rattle.mon_value.specs.declared.rows.Row.{Row}
 use Rattle.mon_value.specs.declared.rows.SeriesKey.{SeriesKey}
@@ -15,10 +15,9 @@ use Rattle.mon_value.specs.declared.schemas.Kind.{Kind}
 use Rattle.mon_value.specs.declared.schemas.Kind.TheVariants as kind
 use Rattle.mon_value.specs.declared.schemas.MetricSchema.{MetricSchema}
 use Rattle.mon_value.specs.declared.tables.TimedRow.{TimedRow}
-use Rattle.mon_value.specs.declared.values.Value.{Value}
 use Rattle.mon_value.specs.declared.values.ValueType.{ValueType}
 use Rattle.mon_value.specs.declared.values.ValueType.TheVariants as type
-use Rattle.mon_run.specs.declared.fetch.Fetch.{Fetch}
+pub use Rattle.mon_script.specs.Fetches.{Fetch}
 
 -- a fetch looks 60 seconds back
 abbrev pub reach : ℤ
@@ -47,19 +46,15 @@ meets fetch key = same_text key.target.schema fetch.target.name && same_text key
 
 -- the columns of a fetch: the target's fields, the metric's, and the metric's own column
 abbrev pub column_names : Fetch → List (List ℕ)
-column_names fetch = map (λ field. field.name) fetch.target.fields ++ map (λ field. field.name) fetch.metric.fields ++ fetch.metric.column ∷ []
-
--- a row of a table: the series' fields and the value
-abbrev pub cells_of : SeriesKey → Value → List Value
-cells_of key value = map field_as_value key.target.fields ++ map field_as_value key.fields ++ value ∷ []
-
-abbrev pub row_of : SeriesKey → TimedValue → TimedRow
-row_of key aligned = record { time = aligned.time; cells = cells_of key aligned.value }
+column_names fetch =
+    map (λ field. field.name) fetch.target.fields ++ map (λ field. field.name) fetch.metric.fields
+    ++ fetch.metric.column ∷ []
 
 -- what a series gives at a moment: a row with what it comes to there, if it comes to anything
 abbrev pub series_rows : ℤ → Fetch → SeriesKey → List Point → List TimedRow
 series_rows moment fetch key points =
-    if meets fetch key then map (row_of key) (aligned (default_aligner fetch.metric) (grid_at moment) points) else []
+    if meets fetch key then map (row_of key) (aligned_values (default_aligner fetch.metric) (grid_at moment) points)
+    else []
 
 -- the meaning of a plain fetch: the rows of each series
 abbrev pub meaning : Fetch → List Row → ℤ → List TimedRow

@@ -1,7 +1,12 @@
--- What a run reads of files.
-use Rattle.std.specs.Prelude.{◌≡◌, ◌<◌, ◌≤◌, ◌⊎◌, ℕ, ◌-◌, ◌^◌, List, [], ◌∷◌, ◌++◌, map, Option, Some, None, option_map, unwrap_or, if◌then◌else◌}
-use Rattle.mon_value.specs.Sources.{same_text}
-use Rattle.mon_run.specs.declared.memory.MemoryFile.{MemoryFile}
+-- What a run reads and writes: folders and sinks as contracts see them.
+use Rattle.std.specs.Prelude.{◌≡◌, ◌<◌, ◌≤◌, ◌⊎◌, ℕ, ◌+◌, ◌-◌, ◌^◌, nat_lt, Bool, true, false, List, [], ◌∷◌, ◌++◌, length, map, Option, Some, None, option_map, unwrap_or, Result, Ok, Err, if◌then◌else◌}
+use Rattle.mon_value.specs.Same.{same_text}
+use Rattle.mon_run.specs.declared.folder.FolderFault.{FolderFault}
+use Rattle.mon_run.specs.declared.folder.FolderFault.TheVariants as fault
+use Rattle.mon_run.specs.declared.outside.asked.Asked.{Asked}
+use Rattle.mon_run.specs.declared.outside.memory_files.MemoryFile.{MemoryFile}
+
+-- ---- files
 
 -- names with contents
 abbrev pub Files : Type 0
@@ -16,20 +21,90 @@ content_in (file ∷ files) name = if same_text name file.0 then Some file.1 els
 abbrev pub content_of : Files → List ℕ → List ℕ
 content_of files name = unwrap_or (content_in files name) []
 
--- what a folder in memory tells
+-- a file may have 64 MiB
+abbrev pub is_too_long : Files → List ℕ → Bool
+is_too_long files name = nat_lt 67108864 (length (content_of files name))
+
+-- the files of a folder in memory
 abbrev pub files_of : List MemoryFile → Files
 files_of = map (λ file. (file.name, file.content.items))
+
+-- ---- folders
+
+-- a folder: its files, where it tells them; the reads that it was asked for; the count of its faults; the name
+-- of the last read that failed
+pub record FolderState : Type 0 where
+  pub files : Option Files
+  pub asked : List Asked
+  pub faults : ℕ
+  pub last : List ℕ
+
+-- what holds of the files that a folder tells
+abbrev pub Told : FolderState → (Files → Type 0) → Type 0
+Told folder claim = (files : Files) → folder.files ≡ Some files → claim files
+
+-- a read of a name, and whether it failed
+abbrev pub asking : List ℕ → Bool → Asked
+asking name failed = record { name = name; failed = failed }
+
+-- whether a read failed
+abbrev pub is_failed : {T : Type 0} → Result T FolderFault → Bool
+is_failed (Ok content) = false
+is_failed (Err fault.Failed) = true
+is_failed (Err fault.TooLong) = false
+is_failed (Err fault.OutOfMemory) = false
+
+-- a read is added to those that were asked for, with whether it failed; where memory ran out it may be missing
+abbrev pub Asks : {T : Type 0} → Result T FolderFault → List ℕ → List Asked → List Asked → Type 0
+Asks (Ok content) name before after = after ≡ before ++ asking name false ∷ []
+Asks (Err fault.Failed) name before after = after ≡ before ++ asking name true ∷ []
+Asks (Err fault.TooLong) name before after = after ≡ before ++ asking name false ∷ []
+Asks (Err fault.OutOfMemory) name before after = (after ≡ before) ⊎ (after ≡ before ++ asking name false ∷ [])
 
 -- a count of faults rose: it is greater, or it stands at its last value
 abbrev pub Rose : ℕ → ℕ → Type 0
 Rose before after = (before < after) ⊎ (2 ^ 64 - 1 ≤ after)
 
--- A sink took the front of a text: what it had written before is behind it, and `rest` is what it did not take.
-pub record Wrote (before after : Option (List ℕ)) (text rest : List ℕ) : Type 0 where
-  pub front : List ℕ
-  pub split : text ≡ front ++ rest
-  pub written : after ≡ option_map (λ bytes. bytes ++ front) before
+-- how many of the reads failed
+abbrev pub failed_reads : List Asked → ℕ
+failed_reads [] = 0
+failed_reads (read ∷ reads) = if read.failed then failed_reads reads + 1 else failed_reads reads
 
--- A sink took the front of a text, or all of it.
-abbrev pub WroteFront : Option (List ℕ) → Option (List ℕ) → List ℕ → Type 0
-WroteFront before after text = (rest : List ℕ) × Wrote before after text rest
+-- the name of the last read that failed, behind the one before
+abbrev pub last_failed : List ℕ → List Asked → List ℕ
+last_failed name [] = name
+last_failed name (read ∷ reads) = last_failed (if read.failed then read.name else name) reads
+
+-- a folder whose faults are the reads that failed
+abbrev pub states : Option Files → List Asked → FolderState
+states files asked = record { files = files; asked = asked; faults = failed_reads asked; last = last_failed [] asked }
+
+-- a folder without faults
+abbrev pub calm_states : Files → List Asked → FolderState
+calm_states files asked = record { files = Some files; asked = asked; faults = 0; last = [] }
+
+-- ---- sinks
+
+-- a sink: the bytes that were written, where it tells them; the count of its faults
+pub record SinkState : Type 0 where
+  pub written : Option (List ℕ)
+  pub faults : ℕ
+
+abbrev pub sink_states : Option (List ℕ) → ℕ → SinkState
+sink_states written faults = record { written = written; faults = faults }
+
+-- what was written, and a text behind it
+abbrev pub written_then : List ℕ → Option (List ℕ) → Option (List ℕ)
+written_then text written = option_map (λ bytes. bytes ++ text) written
+
+-- a sink took a text
+abbrev pub Takes : List ℕ → SinkState → SinkState → Type 0
+Takes text before after = after.written ≡ written_then text before.written
+
+-- a sink took the front of a text, and not all of it
+pub record TakesFront (text : List ℕ) (before after : SinkState) : Type 0 where
+  pub front : List ℕ
+  pub rest : List ℕ
+  pub split : text ≡ front ++ rest
+  pub some : 0 < length rest
+  pub takes : Takes front before after

@@ -1,7 +1,9 @@
 // A plain fetch, and what it gives of one series.
 ghost use Rattle.std.specs.Prelude.{◌≡◌, ◌≤ℤ◌, ◌++◌, pos, map, true, IfOk, OnOk};
-ghost use Rattle.mon_run.specs.Fitting.{ValuesFit};
+ghost use Rattle.mon_run.specs.within.Sound.{ValuesFit};
 ghost use Rattle.mon_run.specs.Meaning as spec;
+ghost use Rattle.mon_value.specs.Order.{field_as_value};
+ghost use Rattle.mon_value.specs.SeriesRows.{cells_of as cells_seen, row_of};
 
 use mon_fold::align;
 use mon_schema::{Kind, MetricSchema, TargetSchema};
@@ -11,21 +13,30 @@ use mon_value::{
     TryCopy, Value, ValueType,
 };
 use std::alloc::Global;
+use std::marker::Model;
 
 /// What a plain fetch asks for: the series of one target schema and one metric.
-#[derive(Debug, Drop)]
-pub struct Fetch {
-    pub target: TargetSchema,
-    pub metric: MetricSchema,
+#[derive(Drop)]
+pub(crate) struct Fetch<'a> {
+    pub target: &'a TargetSchema,
+    pub metric: &'a MetricSchema,
+}
+
+impl<'a> Model for Fetch<'a> {
+    ghost use Rattle.mon_script.specs.Fetches.{Fetch, fetch_of};
+
+    ghost Value = { Fetch };
+
+    ghost view = { λ fetch. fetch_of fetch.target.now fetch.metric.now };
 }
 
 /// A plain fetch looks so many seconds back.
 const REACH: i64 = 60;
 
-impl Fetch {
+impl<'a> Fetch<'a> {
     // Whether a series is of the fetch's schema and metric.
     fn is_met(&self, key: &SeriesKey) -> bool
-        ensures same { result ≡ spec.meets self.now key.now }
+        ensures met { result ≡ spec.meets self.now key.now }
     {
         key.target.schema == self.target.name && key.metric == self.metric.name
     }
@@ -41,7 +52,8 @@ impl Fetch {
     ) -> Result<(), OutOfMemory>
         requires moment { pos 0 ≤ℤ moment }
         requires fit { spec.meets self.now key.now ≡ true → ValuesFit self.now.metric series.now.points }
-        ensures added { OnOk result (rows.new ≡ rows.old ++ spec.series_rows moment self.now key.now series.now.points) }
+        ensures added { OnOk result (rows.new ≡ rows.old
+            ++ spec.series_rows moment self.now key.now series.now.points) }
     {
         if !self.is_met(key) {
             return Ok(());
@@ -53,7 +65,7 @@ impl Fetch {
         let values = align(
             alloc,
             series,
-            default_aligner(&self.metric),
+            default_aligner(self.metric),
             &grid_at(moment),
         )?;
         add_values(alloc, key, values.as_slice(), rows)
@@ -62,7 +74,7 @@ impl Fetch {
 
 // How the points of a metric are brought to a moment.
 fn default_aligner(metric: &MetricSchema) -> Aligner
-    ensures same { result ≡ spec.default_aligner metric.now }
+    ensures aligner { result ≡ spec.default_aligner metric.now }
 {
     match (metric.kind, &metric.value) {
         (Kind::Delta, ValueType::Int) => Aligner::Delta(REACH),
@@ -73,7 +85,7 @@ fn default_aligner(metric: &MetricSchema) -> Aligner
 
 // The grid whose one time is the moment.
 fn grid_at(moment: i64) -> Grid
-    ensures same { result ≡ spec.grid_at moment }
+    ensures grid { result ≡ spec.grid_at moment }
 {
     Grid {
         moment,
@@ -89,7 +101,7 @@ fn add_values(
     values: &[TimedValue],
     rows: &mut TimedRows,
 ) -> Result<(), OutOfMemory>
-    ensures added { OnOk result (rows.new ≡ rows.old ++ map (spec.row_of key.now) values.now) }
+    ensures added { OnOk result (rows.new ≡ rows.old ++ map (row_of key.now) values.now) }
 {
     for aligned in values {
         rows.push(TimedRow {
@@ -102,7 +114,7 @@ fn add_values(
 
 // The cells of a series' row: its fields and the value.
 fn cells_of(alloc: Global, key: &SeriesKey, value: &Value) -> Result<Cells, OutOfMemory>
-    ensures same { IfOk result (λ cells. cells ≡ spec.cells_of key.now value.now) }
+    ensures cells { IfOk result (λ cells. cells ≡ cells_seen key.now value.now) }
 {
     let mut cells = Cells::new(alloc);
     add_fields(alloc, &mut cells, key.target.fields.as_slice())?;
@@ -113,7 +125,7 @@ fn cells_of(alloc: Global, key: &SeriesKey, value: &Value) -> Result<Cells, OutO
 
 // Adds fields as cells.
 fn add_fields(alloc: Global, cells: &mut Cells, fields: &[FieldValue]) -> Result<(), OutOfMemory>
-    ensures added { OnOk result (cells.new ≡ cells.old ++ map spec.field_as_value fields.now) }
+    ensures added { OnOk result (cells.new ≡ cells.old ++ map field_as_value fields.now) }
 {
     for field in fields {
         cells.push(as_value(alloc, field)?)?;
@@ -123,7 +135,7 @@ fn add_fields(alloc: Global, cells: &mut Cells, fields: &[FieldValue]) -> Result
 
 // A field's value as a cell.
 fn as_value(alloc: Global, field: &FieldValue) -> Result<Value, OutOfMemory>
-    ensures same { IfOk result (λ value. value ≡ spec.field_as_value field.now) }
+    ensures value { IfOk result (λ value. value ≡ field_as_value field.now) }
 {
     match field {
         FieldValue::Int(number) => Ok(Value::Int(i128::from(*number))),

@@ -1,6 +1,6 @@
 // Where a run reads its files.
-ghost use Rattle.std.specs.Prelude.{◌≡◌, ◌<◌, ◌≤◌, ℕ, List, Option, Some, length, IfOk, IfErr, IsErrOf, MatchOption, IfSome};
-ghost use Rattle.mon_run.specs.Outside.{Files, Rose, content_of};
+ghost use Rattle.std.specs.Prelude.{◌≡◌, ◌<◌, ◌≤◌, length, IfOk, IsErrOf};
+ghost use Rattle.mon_run.specs.Outside.{Asks, FolderState, Rose, Told, content_of};
 
 use std::alloc::{AllocError, Global};
 
@@ -26,22 +26,22 @@ impl From<AllocError> for FolderFault {
     }
 }
 
-/// A folder of files. One that tells its files is seen with their names and contents. Each has a
+/// A folder of files. Contracts see its files, where it tells them, the reads that it was asked for, a
 /// count of its faults, which never falls, and the name of the last read that failed.
 pub trait Folder {
-    ghost files: { Self → Option Files };
-
-    ghost faults: { Self → ℕ };
-
-    ghost last: { Self → List ℕ };
+    ghost state: { Self → FolderState };
 
     /// The content of a file that has at most `most` bytes. It fails only where the count of faults
     /// rose, and keeps the name then.
     fn read(&mut self, alloc: Global, name: &str, most: u64) -> Result<Vec<u8>, FolderFault>
-        ensures same { files self.new ≡ files self.old }
-        ensures counts { faults self.old ≤ faults self.new }
-        ensures failed { IsErrOf result FolderFault.Failed → Rose (faults self.old) (faults self.new) × (last self.new ≡ name.now) }
-        ensures too_long { IsErrOf result FolderFault.TooLong → IfSome (files self.old) (λ told. most < length (content_of told name.now)) }
+        ensures files { (state self.new).files ≡ (state self.old).files }
+        ensures counts { (state self.old).faults ≤ (state self.new).faults }
+        ensures asked { Asks result name.now (state self.old).asked (state self.new).asked }
+        ensures failed { IsErrOf result FolderFault.Failed → Rose (state self.old).faults (state self.new).faults
+            × ((state self.new).last ≡ name.now) }
+        ensures too_long { IsErrOf result FolderFault.TooLong → Told (state self.old)
+            (λ files. most < length (content_of files name.now)) }
         ensures bounded { IfOk result (λ content. length content.items ≤ most) }
-        ensures whole { IfOk result (λ content. IfSome (files self.old) (λ told. content.items ≡ content_of told name.now)) };
+        ensures whole { IfOk result (λ content. Told (state self.old)
+            (λ files. content.items ≡ content_of files name.now)) };
 }

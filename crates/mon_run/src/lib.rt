@@ -1,36 +1,29 @@
 //! The run of a script: feeds of points, and queries over what was accepted.
 #![tactic(auto)]
 
-mod close;
+mod accepted;
 mod command;
-mod failures;
-mod feed;
+mod feeds;
 mod fetch;
-mod files;
 mod folder;
-mod lines;
 mod locations;
-mod memory;
-mod memory_sink;
 mod outcome;
-mod reading;
-mod script;
+mod outside;
+mod runs;
 mod sink;
-mod standard_output;
 mod stop;
-mod store;
 mod tables;
 mod texts;
 mod zone;
 
+pub use accepted::Accepted;
 pub use command::run;
-pub use files::FileFolder;
 pub use folder::{Folder, FolderFault};
-pub use memory::{CalmFolder, MemoryFile, MemoryFiles, MemoryFolder};
-pub use memory_sink::MemorySink;
 pub use outcome::{LineEnd, LineEnds, Outcome, RowRefusal, RowRefusals, RowRefused};
+pub use outside::{
+    Asked, CalmFolder, FileFolder, MemoryFile, MemoryFiles, MemoryFolder, MemorySink, OutSink,
+};
 pub use sink::{Failed, Sink};
-pub use standard_output::OutSink;
 
 #[cfg(test)]
 mod tests;

@@ -1,7 +1,7 @@
 // The locations that the zone lists, to be asked for one by one.
 ghost use Rattle.std.specs.Prelude.{◌≡◌, ℕ, List, IfOk};
 ghost use Rattle.std.specs.List.{list_any};
-ghost use Rattle.mon_value.specs.Sources.{same_text};
+ghost use Rattle.mon_value.specs.Same.{same_text};
 
 use indexmap::IndexSet;
 use mon_value::{OutOfMemory, Text};
@@ -25,7 +25,8 @@ impl<'a> Model for Locations<'a> {
 impl<'a> Locations<'a> {
     /// The locations that a list has.
     pub(crate) fn of(alloc: Global, texts: &'a [Text]) -> Result<Locations<'a>, OutOfMemory>
-        ensures same { IfOk result (λ locations. (text : List ℕ) → list_any (same_text text) locations ≡ list_any (same_text text) texts.now) }
+        ensures known { IfOk result (λ locations. (text : List ℕ) → list_any (same_text text) locations
+            ≡ list_any (same_text text) texts.now) }
     {
         let mut known = IndexSet::new(alloc);
         for text in texts {
@@ -36,7 +37,7 @@ impl<'a> Locations<'a> {
 
     /// Whether a text is one of the locations.
     pub(crate) fn has(&self, text: &Text) -> bool
-        ensures same { result ≡ list_any (same_text text.now) self.now }
+        ensures known { result ≡ list_any (same_text text.now) self.now }
     {
         self.known.contains(text.as_str())
     }

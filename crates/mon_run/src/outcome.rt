@@ -1,6 +1,7 @@
 // What a run came to.
+use crate::accepted::Accepted;
 use mon_points::RowFault;
-use mon_value::{ListOf, RowList};
+use mon_value::ListOf;
 
 /// Why a record was refused.
 #[derive(Clone, Copy, Debug, PartialEq, Eq)]
@@ -24,9 +25,10 @@ pub type RowRefusals = ListOf<RowRefusal>;
 /// How a line of a script ended.
 #[derive(Debug, Drop)]
 pub enum LineEnd {
-    /// A feed, with the rows that it accepted and the records that it refused.
+    /// A feed, with how many rows it accepted and the records that it refused. Its rows are the next
+    /// ones of the outcome.
     Fed {
-        accepted: RowList,
+        accepted: usize,
         refused: RowRefusals,
     },
     /// A query at a moment, in seconds from the epoch.
@@ -39,9 +41,9 @@ pub enum LineEnd {
 pub type LineEnds = ListOf<LineEnd>;
 
 /// What a run came to: its exit status, the rows that it accepted, and how its lines ended.
-#[derive(Debug, Drop)]
+#[derive(Drop)]
 pub struct Outcome {
     pub status: u8,
-    pub accepted: RowList,
+    pub accepted: Accepted,
     pub lines: LineEnds,
 }

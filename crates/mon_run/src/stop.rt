@@ -1,6 +1,6 @@
 // Why a run stops before its last line has run.
-use crate::script::ScriptFault;
 use mon_config::ConfigFault;
+use mon_script::ScriptFault;
 use mon_value::{Refusal, Text};
 use std::alloc::{AllocError, AllocFailed};
 
@@ -47,7 +47,7 @@ impl<T: Drop> From<AllocFailed<T>> for Stop {
 
 impl From<Refusal<ConfigFault>> for Stop {
     ghost use Rattle.std.specs.Prelude.{◌≡◌};
-    ghost use Rattle.mon_run.specs.Runs.{config_stop};
+    ghost use Rattle.mon_run.specs.within.Stops.{config_stop};
 
     ghost from_gives = { λ refusal stop. stop ≡ config_stop refusal };
 
@@ -61,7 +61,7 @@ impl From<Refusal<ConfigFault>> for Stop {
 
 impl From<Refusal<ScriptFault>> for Stop {
     ghost use Rattle.std.specs.Prelude.{◌≡◌};
-    ghost use Rattle.mon_run.specs.Runs.{script_stop};
+    ghost use Rattle.mon_run.specs.within.Stops.{script_stop};
 
     ghost from_gives = { λ refusal stop. stop ≡ script_stop refusal };
 

@@ -6,7 +6,9 @@ ghost use Rattle.mon_table.specs.Tables.{column_names, table_text};
 use crate::fetch::Fetch;
 use mon_schema::Field;
 use mon_table::{Table, TimedRows, print};
-use mon_value::{Column, Columns, FieldType, OutOfMemory, Text, TryCopy, ValueType};
+use mon_value::{
+    Column, Columns, FieldType, NUMBER_BITS, OutOfMemory, SUM_BITS, Text, TryCopy, ValueType,
+};
 use std::alloc::Global;
 
 /// The text of a fetch's table.
@@ -34,7 +36,8 @@ fn columns_of(alloc: Global, fetch: &Fetch) -> Result<Columns, OutOfMemory>
 
 // Adds fields as key columns.
 fn add_keys(alloc: Global, columns: &mut Columns, fields: &[Field]) -> Result<(), OutOfMemory>
-    ensures names { OnOk result (column_names columns.new ≡ column_names columns.old ++ map (λ field. field.name) fields.now) }
+    ensures names { OnOk result (column_names columns.new ≡ column_names columns.old ++ map
+        (λ field. field.name) fields.now) }
 {
     for field in fields {
         let of = match field.of {
@@ -56,7 +59,7 @@ fn column(alloc: Global, name: &Text, of: ValueType, key: bool) -> Result<Column
         of,
         key,
         anchor: None,
-        cell_bits: 63,
-        total_bits: 87,
+        cell_bits: NUMBER_BITS,
+        total_bits: SUM_BITS,
     })
 }

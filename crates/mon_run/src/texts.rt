@@ -1,19 +1,27 @@
 // The texts that a run prints, but for tables.
-ghost use Rattle.std.specs.Prelude.{◌≡◌, ◌++◌, [], IfOk, IfSome, OnOk, string_bytes};
-ghost use Rattle.mon_run.specs.Feeds.{as_fed};
-ghost use Rattle.mon_run.specs.Runs as spec;
+ghost use Rattle.std.specs.Prelude.{◌≡◌, ◌++◌, [], codes, IfOk, OnOk, string_bytes};
+ghost use Rattle.std.specs.Fmt.{decimal};
+ghost use Rattle.mon_run.specs.Texts as spec;
+ghost use Rattle.mon_run.specs.within.Stops as stops;
+ghost use Rattle.mon_table.specs.Tables.{newline};
 
-use crate::feed::Fed;
-use crate::outcome::{RowRefusal, RowRefused};
+use crate::outcome::{RowRefusal, RowRefusals, RowRefused};
+use crate::stop::Stop;
+use mon_config::ConfigFault;
 use mon_value::OutOfMemory;
 use std::alloc::Global;
 
 /// The text of a feed: how many records it accepted and refused, and a line for each that it refused.
-pub(crate) fn feed_text(alloc: Global, name: &str, fed: &Fed) -> Result<String, OutOfMemory>
-    ensures text { IfOk result (λ text. string_bytes text ≡ spec.feed_text name.now (as_fed fed.now)) }
+pub(crate) fn feed_text(
+    alloc: Global,
+    name: &str,
+    accepted: usize,
+    refused: &RowRefusals,
+) -> Result<String, OutOfMemory>
+    ensures text { IfOk result (λ text. string_bytes text ≡ spec.feed_text name.now accepted refused.now) }
 {
-    let mut text = feed_summary(alloc, name, fed.accepted.len(), fed.refused.len())?;
-    for refusal in fed.refused.as_slice() {
+    let mut text = feed_summary(alloc, name, accepted, refused.len())?;
+    for refusal in refused.as_slice() {
         push_refusal(alloc, &mut text, refusal)?;
     }
     Ok(text)
@@ -41,4 +49,44 @@ fn push_refusal(alloc: Global, text: &mut String, refusal: &RowRefusal) -> Resul
         RowRefused::OldPoint(last) => format!(in alloc; "row {number}: OldPoint {last}\n")?,
     };
     text.push_str(line.as_str())
+}
+
+/// The text of its own that a run ends with, where it stops.
+pub(crate) fn own_text(alloc: Global, stop: &Stop) -> Result<String, OutOfMemory>
+    ensures text { IfOk result (λ text. string_bytes text ≡ stops.own_text stop.now) }
+{
+    match stop {
+        Stop::Usage => {
+            format!(in alloc;
+                "usage: mon run CONFIG SCRIPT | weave CONFIG SCHEDULE | gen N | trial N\n"
+            )
+        }
+        Stop::Config(fault) => config_text(alloc, fault),
+        Stop::Script(fault) => script_text(alloc, fault.line),
+        Stop::CannotRead(name) => named(alloc, "cannot read ", name.as_str()),
+        Stop::TooLong(name) => named(alloc, "too long: ", name.as_str()),
+        Stop::WriteFailed | Stop::OutOfMemory => Ok(String::new(alloc)),
+    }
+}
+
+// What a run says of a configuration that is refused.
+fn config_text(alloc: Global, fault: &ConfigFault) -> Result<String, OutOfMemory>
+    ensures text { IfOk result (λ text. string_bytes text ≡ spec.config_text fault.now) }
+{
+    format!(in alloc; "config: {fault}\n")
+}
+
+// What a run says of a line that is refused.
+fn script_text(alloc: Global, line: u32) -> Result<String, OutOfMemory>
+    ensures text { IfOk result (λ text. string_bytes text ≡ codes "script line "
+        ++ (decimal line ++ (codes ": NotBuilt" ++ newline))) }
+{
+    format!(in alloc; "script line {line}: NotBuilt\n")
+}
+
+// What a run says of a file.
+fn named(alloc: Global, front: &str, name: &str) -> Result<String, OutOfMemory>
+    ensures text { IfOk result (λ text. string_bytes text ≡ front.now ++ (name.now ++ newline)) }
+{
+    format!(in alloc; "{front}{name}\n")
 }

@@ -6,7 +6,7 @@ ghost use Rattle.mon_run.specs.Feeds as spec;
 use crate::locations::Locations;
 use mon_config::Config;
 use mon_schema::{Field, is_location};
-use mon_value::{FieldValue, OutOfMemory, Row, Text};
+use mon_value::{FieldValue, OutOfMemory, SeriesKey, Text};
 use std::alloc::Global;
 use std::marker::Model;
 
@@ -21,30 +21,38 @@ pub(crate) struct Zone<'a> {
 impl<'a> Model for Zone<'a> {
     ghost use Rattle.std.specs.Prelude.{◌≡◌, List, ℕ};
     ghost use Rattle.std.specs.List.{list_any};
-    ghost use Rattle.mon_value.specs.Sources.{same_text};
+    ghost use Rattle.mon_value.specs.Same.{same_text};
     ghost use Rattle.mon_config.specs.declared.config.Config.{Config};
 
     ghost Value = { Config };
 
     ghost view = { λ zone. zone.config.now };
 
-    ghost invariant = { λ zone. (text : List ℕ) → list_any (same_text text) zone.locations ≡ list_any (same_text text) zone.config.now.locations };
+    ghost invariant = { λ zone. (text : List ℕ) → list_any (same_text text) zone.locations
+        ≡ list_any (same_text text) zone.config.now.locations };
 }
 
 impl<'a> Zone<'a> {
     /// The zone of a configuration.
     pub(crate) fn new(alloc: Global, config: &'a Config) -> Result<Zone<'a>, OutOfMemory>
-        ensures same { IfOk result (λ zone. zone ≡ config.now) }
+        ensures config { IfOk result (λ zone. zone ≡ config.now) }
     {
         let locations = Locations::of(alloc, config.locations.as_slice())?;
         Ok(Zone { config, locations })
     }
 
-    /// Whether a row's location is one of the zone's.
-    pub(crate) fn lists(&self, row: &Row) -> bool
-        ensures same { result ≡ spec.is_in_zone self.now row.now }
+    /// The configuration.
+    pub(crate) fn config(&self) -> &Config
+        ensures config { result.now ≡ self.now }
     {
-        let target = &row.key.target;
+        self.config
+    }
+
+    /// Whether a series' location is one of the zone's.
+    pub(crate) fn lists(&self, key: &SeriesKey) -> bool
+        ensures listed { result ≡ spec.is_in_zone self.now key.now }
+    {
+        let target = &key.target;
         match self.config.schemas.target(target.schema.as_bytes()) {
             None => false,
             Some(schema) => match location_in(schema.fields.as_slice(), target.fields.as_slice()) {
@@ -57,7 +65,7 @@ impl<'a> Zone<'a> {
 
 // The location of a target: the value of its schema's location field.
 fn location_in<'a>(fields: &[Field], values: &'a [FieldValue]) -> Option<&'a Text>
-    ensures same { option_copied result ≡ spec.location_in fields.now values.now }
+    ensures location { option_copied result ≡ spec.location_in fields.now values.now }
 {
     let mut left = values;
     for field in fields {
@@ -72,7 +80,7 @@ fn location_in<'a>(fields: &[Field], values: &'a [FieldValue]) -> Option<&'a Tex
 
 // The text in a text field.
 fn text_in(value: &FieldValue) -> Option<&Text>
-    ensures same { option_copied result ≡ spec.text_in_field value.now }
+    ensures text { option_copied result ≡ spec.text_in_field value.now }
 {
     match value {
         FieldValue::Text(text) => Some(text),

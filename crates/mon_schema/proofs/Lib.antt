@@ -1,4 +1,4 @@
-pub mod FieldNames
-pub mod Found
-pub mod NoFault
-pub mod Pairs
+mod FaultLemmas
+pub mod FieldNameLemmas
+pub mod NamedLemmas
+mod ZipLemmas

@@ -2,7 +2,7 @@
 use Rattle.std.specs.Prelude.{ℕ, ℤ, ◌==◌, ◌&&◌, ◌||◌, Bool, true, false, not, nat_le, nat_lt, List, [], ◌∷◌, length, map, count_by, Option, Some, None, is_some, if◌then◌else◌}
 use Rattle.std.specs.List.{list_all, list_any}
 use Rattle.mon_value.specs.Distributions.{bounds_rise}
-pub use Rattle.mon_value.specs.Sources.{same_text}
+use Rattle.mon_value.specs.Same.{same_text}
 use Rattle.mon_value.specs.declared.values.FieldType.{FieldType}
 use Rattle.mon_value.specs.declared.values.FieldType.TheVariants as of
 use Rattle.mon_value.specs.declared.values.ValueType.{ValueType}
@@ -14,13 +14,14 @@ use Rattle.mon_value.specs.declared.schemas.TargetSchema.{TargetSchema}
 use Rattle.mon_value.specs.declared.schemas.MetricSchema.{MetricSchema}
 use Rattle.mon_schema.specs.Names.{is_name, is_column_name, is_metric_name}
 use Rattle.mon_schema.specs.SchemaLists.{SchemaLists, target_named, metric_named}
+use Rattle.mon_schema.specs.declared.limits.TheConstants.{MOST_BOUNDS, MOST_FIELDS, MOST_METRICS, MOST_TARGETS}
 use Rattle.mon_schema.specs.declared.faults.SchemaFault.{SchemaFault}
 use Rattle.mon_schema.specs.declared.faults.SchemaFault.TheVariants as fault
 
 -- the same text stands in the list twice
-abbrev pub repeats : List (List ℕ) → Bool
-repeats [] = false
-repeats (name ∷ names) = list_any (same_text name) names || repeats names
+abbrev pub texts_repeat : List (List ℕ) → Bool
+texts_repeat [] = false
+texts_repeat (text ∷ texts) = list_any (same_text text) texts || texts_repeat texts
 
 abbrev pub is_text : FieldType → Bool
 is_text of.Text = true
@@ -38,16 +39,18 @@ have_names fields = list_all (λ field. is_column_name field.name) fields
 abbrev pub is_location : Field → Bool
 is_location field = field.location && is_text field.of
 
--- 64 target schemas are held, or it has more than 16 fields or none
+-- the most target schemas are held, or it has too many fields or none
 abbrev pub is_target_over : SchemaLists → TargetSchema → Bool
-is_target_over held schema = nat_le 64 (length held.targets) || ((length schema.fields == 0) || nat_lt 16 (length schema.fields))
+is_target_over held schema =
+    nat_le MOST_TARGETS (length held.targets)
+    || ((length schema.fields == 0) || nat_lt MOST_FIELDS (length schema.fields))
 
 abbrev pub is_target_named : TargetSchema → Bool
 is_target_named schema = is_name schema.name && have_names schema.fields
 
 -- its name is held, or two of its fields have one name
 abbrev pub is_target_taken : SchemaLists → TargetSchema → Bool
-is_target_taken held schema = is_some (target_named schema.name held.targets) || repeats (names_of schema.fields)
+is_target_taken held schema = is_some (target_named schema.name held.targets) || texts_repeat (names_of schema.fields)
 
 -- a target schema is refused for the first of these
 abbrev pub target_fault : SchemaLists → TargetSchema → Option SchemaFault
@@ -59,20 +62,22 @@ target_fault held schema =
     else if not (list_any is_location schema.fields) then Some fault.NoLocation
     else None
 
--- 1,024 metrics are held, or it has more than 16 fields
+-- the most metrics are held, or it has too many fields
 abbrev pub is_metric_over : SchemaLists → MetricSchema → Bool
-is_metric_over held metric = nat_le 1024 (length held.metrics) || nat_lt 16 (length metric.fields)
+is_metric_over held metric = nat_le MOST_METRICS (length held.metrics) || nat_lt MOST_FIELDS (length metric.fields)
 
 abbrev pub is_metric_named : MetricSchema → Bool
-is_metric_named metric = is_metric_name metric.name && (is_column_name metric.column && have_names metric.fields)
+is_metric_named metric =
+    is_metric_name metric.name && (is_column_name metric.column && have_names metric.fields)
 
 -- its name is held, or two of its columns have one name
 abbrev pub is_metric_taken : SchemaLists → MetricSchema → Bool
-is_metric_taken held metric = is_some (metric_named metric.name held.metrics) || repeats (metric.column ∷ names_of metric.fields)
+is_metric_taken held metric =
+    is_some (metric_named metric.name held.metrics) || texts_repeat (metric.column ∷ names_of metric.fields)
 
--- 1 to 64 bounds, each above the one before it
+-- at least one bound and not too many, each above the one before it
 abbrev pub are_bounds : List ℤ → Bool
-are_bounds bounds = (nat_le 1 (length bounds) && nat_le (length bounds) 64) && bounds_rise bounds
+are_bounds bounds = (nat_le 1 (length bounds) && nat_le (length bounds) MOST_BOUNDS) && bounds_rise bounds
 
 -- a distribution has lawful bounds
 abbrev pub is_bounded : ValueType → Bool

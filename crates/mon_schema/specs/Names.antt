@@ -1,7 +1,8 @@
 -- Which texts are lawful as names.
-use Rattle.std.specs.Prelude.{ℕ, ◌==◌, ◌&&◌, ◌||◌, Bool, true, false, not, nat_le, List, [], ◌∷◌, length, codes, if◌then◌else◌}
+use Rattle.std.specs.Prelude.{ℕ, ◌+◌, ◌==◌, ◌&&◌, ◌||◌, Bool, true, false, not, nat_le, List, [], ◌∷◌, length, codes, if◌then◌else◌}
 use Rattle.std.specs.List.{list_all}
-use Rattle.mon_value.specs.Sources.{same_text}
+use Rattle.mon_value.specs.Same.{same_text}
+use Rattle.mon_schema.specs.declared.limits.TheConstants.{LONGEST_METRIC_NAME, LONGEST_NAME}
 
 abbrev pub is_within : ℕ → ℕ → ℕ → Bool
 is_within low high byte = nat_le low byte && nat_le byte high
@@ -22,11 +23,16 @@ is_name_byte byte = is_name_start byte || is_digit byte
 -- a name has 1 to 64 bytes: a letter or `_`, and then these or digits
 unfoldable pub is_name : List ℕ → Bool
 is_name [] = false
-is_name (first ∷ rest) = is_name_start first && (list_all is_name_byte rest && nat_le (length rest) 63)
+is_name (first ∷ rest) = is_name_start first && (list_all is_name_byte rest && nat_le (length rest + 1) LONGEST_NAME)
 
--- a field or a column has a name other than `time`, `true` and `false`
+-- `time`, `true` and `false` mean something in every query
+abbrev pub is_word : List ℕ → Bool
+is_word name =
+    same_text name (codes "time") || (same_text name (codes "true") || same_text name (codes "false"))
+
+-- a field or a column has a name other than these words
 unfoldable pub is_column_name : List ℕ → Bool
-is_column_name name = is_name name && not (same_text name (codes "time") || (same_text name (codes "true") || same_text name (codes "false")))
+is_column_name name = is_name name && not (is_word name)
 
 abbrev pub slash : ℕ
 slash = 47
@@ -49,4 +55,5 @@ abbrev mutual
 -- a metric's name has at most 256 bytes and is one part or more, each behind a slash
 unfoldable pub is_metric_name : List ℕ → Bool
 is_metric_name [] = false
-is_metric_name (first ∷ rest) = nat_le (length rest) 255 && ((first == slash) && follows_slash rest)
+is_metric_name (first ∷ rest) =
+    nat_le (length rest + 1) LONGEST_METRIC_NAME && ((first == slash) && follows_slash rest)

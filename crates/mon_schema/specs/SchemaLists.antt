@@ -1,6 +1,6 @@
 -- The schemas that are held, and how one is found.
 use Rattle.std.specs.Prelude.{ℕ, List, [], ◌∷◌, ◌++◌, Option, Some, None, if◌then◌else◌}
-use Rattle.mon_value.specs.Sources.{same_text}
+use Rattle.mon_value.specs.Same.{same_text}
 use Rattle.mon_value.specs.declared.schemas.TargetSchema.{TargetSchema}
 use Rattle.mon_value.specs.declared.schemas.MetricSchema.{MetricSchema}
 
@@ -9,15 +9,19 @@ pub record SchemaLists : Type 0 where
   pub targets : List TargetSchema
   pub metrics : List MetricSchema
 
+-- the first of a name
+abbrev pub first_named : {S : Type 0} → (S → List ℕ) → List ℕ → List S → Option S
+first_named name_of name [] = None
+first_named name_of name (schema ∷ schemas) =
+    if same_text name (name_of schema) then Some schema else first_named name_of name schemas
+
 -- the target schema of a name
 abbrev pub target_named : List ℕ → List TargetSchema → Option TargetSchema
-target_named name [] = None
-target_named name (schema ∷ schemas) = if same_text name schema.name then Some schema else target_named name schemas
+target_named name schemas = first_named (λ schema. schema.name) name schemas
 
 -- the metric of a name
 abbrev pub metric_named : List ℕ → List MetricSchema → Option MetricSchema
-metric_named name [] = None
-metric_named name (metric ∷ metrics) = if same_text name metric.name then Some metric else metric_named name metrics
+metric_named name metrics = first_named (λ metric. metric.name) name metrics
 
 -- no schema and no metric
 abbrev pub no_schemas : SchemaLists

@@ -3,24 +3,22 @@ ghost use Rattle.std.specs.Prelude.{◌≡◌};
 ghost use Rattle.mon_value.specs.Distributions as distribution;
 ghost use Rattle.mon_schema.specs.Faults as spec;
 
-use mon_value::{Kind, ValueType};
+use crate::limits::MOST_BOUNDS;
+use mon_value::{Bounds, Kind, ValueType};
 
-/// How many bounds a distribution has at most.
-pub const MOST_BOUNDS: usize = 64;
-
-// Whether a distribution has 1 to 64 bounds, each above the one before it.
+/// Whether a distribution has 1 to 64 bounds, each above the one before it.
 pub(crate) fn is_bounded(of: &ValueType) -> bool
-    ensures same { result ≡ spec.is_bounded of.now }
+    ensures bounded { result ≡ spec.is_bounded of.now }
 {
     match of {
-        ValueType::Dist(bounds) => are_bounds(bounds.as_slice()),
+        ValueType::Dist(bounds) => are_bounds(bounds),
         _ => true,
     }
 }
 
-// Whether points that speak of a time can be added up.
+/// Whether points that speak of a time can be added up.
 pub(crate) fn is_kind_met(kind: Kind, of: &ValueType) -> bool
-    ensures same { result ≡ spec.is_kind_met kind of.now }
+    ensures met { result ≡ spec.is_kind_met kind of.now }
 {
     match kind {
         Kind::Gauge => true,
@@ -28,15 +26,16 @@ pub(crate) fn is_kind_met(kind: Kind, of: &ValueType) -> bool
     }
 }
 
-fn are_bounds(bounds: &[i64]) -> bool
-    ensures same { result ≡ spec.are_bounds bounds.now }
+// Whether there are as many bounds as a distribution has, and each is above the one before it.
+fn are_bounds(bounds: &Bounds) -> bool
+    ensures bounds { result ≡ spec.are_bounds bounds.now }
 {
-    !bounds.is_empty() && bounds.len() <= MOST_BOUNDS && bounds_rise(bounds)
+    !bounds.is_empty() && bounds.len() <= MOST_BOUNDS && bounds_rise(bounds.as_slice())
 }
 
 // Whether each bound is above the one before it.
 fn bounds_rise(bounds: &[i64]) -> bool
-    ensures same { result ≡ distribution.bounds_rise bounds.now }
+    ensures rising { result ≡ distribution.bounds_rise bounds.now }
 {
     let Some((first, rest)) = bounds.split_first() else {
         return true;

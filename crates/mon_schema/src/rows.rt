@@ -1,31 +1,29 @@
 // What a row is tested for.
 ghost use Rattle.std.specs.Prelude.{◌≡◌, ◌^◌, sum, nat_lt};
+ghost use Rattle.mon_value.specs.declared.limits.TheConstants.{NUMBER_BITS};
 ghost use Rattle.mon_schema.specs.Fits as spec;
 
 use mon_value::{
-    Field, FieldType, FieldValue, Kind, MetricSchema, Point, Row, TargetSchema, Text, Value,
-    ValueType,
+    Bounds, Counts, Field, FieldType, FieldValue, Kind, LONGEST_TEXT, MetricSchema, Row,
+    TargetSchema, Value, ValueType,
 };
 
-/// How many bytes a text of a row has at most.
-pub const LONGEST_TEXT: usize = 1024;
+// How many values a distribution counts at most.
+const LARGEST_TOTAL: u128 = i64::MAX as u128;
 
-/// How many values a distribution counts at most.
-pub const LARGEST_TOTAL: u128 = i64::MAX as u128;
-
-// Whether a row is of a target schema and a metric.
+/// Whether a row is of a target schema and a metric.
 pub(crate) fn row_fits(target: &TargetSchema, metric: &MetricSchema, row: &Row) -> bool
-    ensures same { result ≡ spec.row_fits target.now metric.now row.now }
+    ensures fits { result ≡ spec.row_fits target.now metric.now row.now }
 {
     fields_fit(target.fields.as_slice(), row.key.target.fields.as_slice())
         && fields_fit(metric.fields.as_slice(), row.key.fields.as_slice())
-        && times_fit(metric.kind, &row.point)
+        && times_fit(metric.kind, row.point.start, row.point.end)
         && value_fits(&metric.value, &row.point.value)
 }
 
 // Whether there are as many values as fields, each of its field's type.
 fn fields_fit(fields: &[Field], values: &[FieldValue]) -> bool
-    ensures same { result ≡ spec.fields_fit fields.now values.now }
+    ensures fit { result ≡ spec.fields_fit fields.now values.now }
 {
     fields.len() == values.len()
         && fields
@@ -34,59 +32,60 @@ fn fields_fit(fields: &[Field], values: &[FieldValue]) -> bool
             .all(|(field, value)| field_fits(field.of, value))
 }
 
+// Whether a field's value is of the field's type.
 fn field_fits(of: FieldType, value: &FieldValue) -> bool
-    ensures same { result ≡ spec.field_fits of value.now }
+    ensures fits { result ≡ spec.field_fits of value.now }
 {
     match (of, value) {
         // A number that is read is known to have 64 bits.
         (FieldType::Int, &FieldValue::Int(_number)) => true,
         (FieldType::Bool, FieldValue::Bool(_)) => true,
-        (FieldType::Text, FieldValue::Text(text)) => is_short(text),
+        (FieldType::Text, FieldValue::Text(text)) => text_fits(text.as_str()),
         _ => false,
     }
 }
 
-// Whether a point's times are whole seconds from the epoch on, as its metric's kind wants them.
-fn times_fit(kind: Kind, point: &Point) -> bool
-    ensures same { result ≡ spec.times_fit kind point.now }
+/// Whether a point's times are whole seconds from the epoch on, as its metric's kind wants them.
+pub fn times_fit(kind: Kind, start: i64, end: i64) -> bool
+    ensures fit { result ≡ spec.times_fit kind start end }
 {
-    let related = match kind {
-        Kind::Gauge => point.start == point.end,
-        Kind::Delta => point.start < point.end,
+    let is_start = match kind {
+        Kind::Gauge => start == end,
+        Kind::Delta => start < end,
     };
-    point.start >= 0 && point.end >= 0 && related
+    start >= 0 && end >= 0 && is_start
 }
 
+// Whether a point's value is of the metric's type.
 fn value_fits(of: &ValueType, value: &Value) -> bool
-    ensures same { result ≡ spec.value_fits of.now value.now }
+    ensures fits { result ≡ spec.value_fits of.now value.now }
 {
     match (of, value) {
         (ValueType::Int, Value::Int(number)) => i64::try_from(*number).is_ok(),
         (ValueType::Bool, Value::Bool(_)) => true,
-        (ValueType::Text, Value::Text(text)) => is_short(text),
-        (ValueType::Dist(bounds), Value::Dist(counts)) => {
-            counts_fit(bounds.as_slice(), counts.as_slice())
-        }
+        (ValueType::Text, Value::Text(text)) => text_fits(text.as_str()),
+        (ValueType::Dist(bounds), Value::Dist(counts)) => counts_fit(bounds, counts),
         _ => false,
     }
 }
 
-// Whether there is one count for each bucket, and the total is small enough.
-fn counts_fit(bounds: &[i64], counts: &[u128]) -> bool
-    ensures same { result ≡ spec.counts_fit bounds.now counts.now }
+/// Whether a distribution has one count for each bucket, and a total that is small enough.
+pub fn counts_fit(bounds: &Bounds, counts: &Counts) -> bool
+    ensures fit { result ≡ spec.counts_fit bounds.now counts.now }
 {
-    counts.len() == bounds.len() + 1 && is_total_small(counts)
+    counts.len() == bounds.as_slice().len() + 1 && is_total_small(counts.as_slice())
 }
 
-fn is_short(text: &Text) -> bool
-    ensures same { result ≡ spec.is_short text.now }
+/// Whether a text is short enough for a field or a value.
+pub fn text_fits(text: &str) -> bool
+    ensures fits { result ≡ spec.text_fits text.now }
 {
-    text.as_bytes().len() <= LONGEST_TEXT
+    text.len() <= LONGEST_TEXT
 }
 
 // Whether the counts of a distribution sum to at most the largest total.
 fn is_total_small(counts: &[u128]) -> bool
-    ensures same { result ≡ nat_lt (sum counts.now) (2 ^ 63) }
+    ensures small { result ≡ nat_lt (sum counts.now) (2 ^ NUMBER_BITS) }
 {
     let mut left = LARGEST_TOTAL;
     for count in counts {

@@ -7,6 +7,7 @@ ghost use Rattle.mon_value.specs.Answers.{AnswersBy};
 
 use crate::faults::SchemaFault;
 use crate::fields::{columns_repeat, has_location, has_two_locations, have_names, names_repeat};
+use crate::limits::{MOST_FIELDS, MOST_METRICS, MOST_TARGETS};
 use crate::metrics::{is_bounded, is_kind_met};
 use crate::names::{is_column_name, is_metric_name, is_name};
 use crate::rows::row_fits;
@@ -14,15 +15,6 @@ use indexmap::IndexMap;
 use mon_value::{MetricSchema, Refusal, Row, TargetSchema};
 use std::alloc::{AllocFailed, Global};
 use std::marker::Model;
-
-/// How many target schemas are held at most.
-pub const MOST_TARGETS: usize = 64;
-
-/// How many metrics are held at most.
-pub const MOST_METRICS: usize = 1024;
-
-/// How many fields a target or a metric has at most.
-pub const MOST_FIELDS: usize = 16;
 
 /// The schemas of targets and metrics, found by name. Contracts see both lists in the order of adding.
 #[derive(Drop)]
@@ -37,15 +29,16 @@ impl Model for Schemas {
 
     ghost Value = { SchemaLists };
 
-    ghost use Rattle.mon_schema.specs.Held.{lists_held, AreNamed};
+    ghost use Rattle.mon_schema.specs.Held.{schema_lists, AreNamed};
 
-    ghost view = { lists_held };
+    ghost view = { schema_lists };
 
     ghost invariant = { AreNamed };
 }
 
 impl Schemas {
-    ghost use Rattle.mon_schema.specs.SchemaLists.{no_schemas, target_named, metric_named, with_target, with_metric};
+    ghost use Rattle.mon_schema.specs.SchemaLists.{no_schemas, target_named, metric_named};
+    ghost use Rattle.mon_schema.specs.SchemaLists.{with_target, with_metric};
     ghost use Rattle.mon_schema.specs.Faults.{target_fault, metric_fault};
     ghost use Rattle.mon_schema.specs.Fits.{fits};
 
@@ -121,7 +114,7 @@ impl Schemas {
     fn fault_of_target(&self, schema: &TargetSchema) -> Option<SchemaFault>
         ensures fault { result ≡ target_fault self.now schema.now }
     {
-        let fields = schema.fields.as_slice();
+        let fields = &schema.fields;
         if self.targets.len() >= MOST_TARGETS || fields.is_empty() || fields.len() > MOST_FIELDS {
             return Some(SchemaFault::TooMany);
         }
@@ -144,7 +137,7 @@ impl Schemas {
     fn fault_of_metric(&self, metric: &MetricSchema) -> Option<SchemaFault>
         ensures fault { result ≡ metric_fault self.now metric.now }
     {
-        let fields = metric.fields.as_slice();
+        let fields = &metric.fields;
         if self.metrics.len() >= MOST_METRICS || fields.len() > MOST_FIELDS {
             return Some(SchemaFault::TooMany);
         }

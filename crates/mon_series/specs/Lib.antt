@@ -1,1 +1,2 @@
 pub mod SeriesPoints
+pub mod Splits

@@ -2,6 +2,6 @@
 //! that a moment sees.
 #![tactic(auto)]
 
-pub mod series;
+mod series;
 
 pub use series::Series;

@@ -1,9 +1,11 @@
 // A series and its windows.
-ghost use Rattle.std.specs.Prelude.{◌≡◌, ◌+◌, ◌-◌, ◌≤◌, ◌<◌, ◌^◌, ◌==◌, ◌<ℤ◌, ◌≤ℤ◌, pos, neg_ℤ, int_le, int_lt, [], ◌∷◌, ◌++◌, filter, length, take, drop, IfSome, OnOk};
+ghost use Rattle.std.specs.Prelude.{◌≡◌, ◌+◌, ◌-◌, ◌≤◌, ◌<◌, ◌^◌, ◌==◌, ◌-ℤ◌, ◌<ℤ◌, ◌≤ℤ◌, neg_ℤ, [], ◌∷◌, ◌++◌, length, take, drop, IfOk, IfSome, OnOk};
+ghost use Rattle.mon_series.specs.Splits.{points_after, points_until};
+ghost use Rattle.mon_value.specs.Grids.{IsDuration};
 ghost use Rattle.mon_value.specs.Sources.{last_end};
 ghost use Rattle.mon_value.specs.Windows.{EndsRise, window_of};
 
-use mon_value::{OutOfMemory, Point, RoomListOf};
+use mon_value::{LONGEST_DURATION, OutOfMemory, Point, RoomListOf};
 use std::alloc::Global;
 use std::marker::Model;
 
@@ -71,37 +73,46 @@ impl Series {
 
     /// The points in order.
     pub fn points(&self) -> &[Point]
-        ensures same { result.now ≡ self.now.points }
+        ensures points { result.now ≡ self.now.points }
     {
         self.points.as_slice()
     }
 
-    /// The places of the points that `window` gives: of the first, and the one behind the last.
-    pub fn places(&self, t: i64, w: i64) -> (usize, usize)
-        requires time { neg_ℤ (pos 1000000000) ≤ℤ t }
-        requires positive { pos 1 ≤ℤ w }
-        requires bounded { w ≤ℤ pos 1000000000 }
+    /// A series of the same points, with what room its memory has.
+    pub fn copy(&self, alloc: Global) -> Result<Series, OutOfMemory>
+        ensures points { IfOk result (λ copied. copied.points ≡ self.now.points) }
+    {
+        Ok(Series {
+            points: self.points.copy(alloc)?,
+        })
+    }
+
+    /// The places of the points that `window` gives: of the first, and the one behind the last. Where it gives
+    /// none, both are the place behind the points that end before it.
+    pub fn places(&self, time: i64, seconds: i64) -> (usize, usize)
+        requires time { neg_ℤ LONGEST_DURATION ≤ℤ time }
+        requires seconds { IsDuration seconds }
+        ensures before { result.0 ≡ length (points_until (time -ℤ seconds) self.now.points) }
+        ensures ended { result.1 ≡ length (points_until time self.now.points) }
         ensures ordered { result.0 ≤ result.1 }
         ensures within { result.1 ≤ length self.now.points }
-        ensures window { take (result.1 - result.0) (drop result.0 self.now.points) ≡ window_of t w self.now.points }
+        ensures window { take (result.1 - result.0) (drop result.0 self.now.points) ≡ window_of time seconds self.now.points }
     {
-        let (ended, _) = split_at_time(self.points.as_slice(), t);
-        let (before, _) = split_at_time(ended, t - w);
+        let (ended, _) = split_at_time(self.points.as_slice(), time);
+        let (before, _) = split_at_time(ended, time - seconds);
         (before.len(), ended.len())
     }
 
-    /// The points that end in the `w` seconds up to the time `t`: above `t - w` and at most `t`. A
-    /// moment is at least 0, but the times of its grid may lie before it. Two binary searches find
-    /// the points.
-    pub fn window(&self, t: i64, w: i64) -> &[Point]
-        requires time { neg_ℤ (pos 1000000000) ≤ℤ t }
-        requires positive { pos 1 ≤ℤ w }
-        requires bounded { w ≤ℤ pos 1000000000 }
-        ensures window { result.now ≡ window_of t w self.now.points }
+    /// The points that end in so many seconds up to the time: above `time - seconds` and at most `time`. A
+    /// moment is at least 0, but the times of its grid may lie before it. Two binary searches find the points.
+    pub fn window(&self, time: i64, seconds: i64) -> &[Point]
+        requires time { neg_ℤ LONGEST_DURATION ≤ℤ time }
+        requires seconds { IsDuration seconds }
+        ensures window { result.now ≡ window_of time seconds self.now.points }
         ensures rises { EndsRise result.now }
     {
-        let (ended, _) = split_at_time(self.points.as_slice(), t);
-        let (_, window) = split_at_time(ended, t - w);
+        let (ended, _) = split_at_time(self.points.as_slice(), time);
+        let (_, window) = split_at_time(ended, time - seconds);
         window
     }
 }
@@ -109,9 +120,9 @@ impl Series {
 // The points that end at `time` or before, and those that end after it.
 fn split_at_time(points: &[Point], time: i64) -> (&[Point], &[Point])
     requires { EndsRise points.now }
-    ensures ended { result.0.now ≡ filter (λ point. int_le point.end time) points.now }
     ensures joined { points.now ≡ result.0.now ++ result.1.now }
-    ensures later { result.1.now ≡ filter (λ point. int_lt time point.end) points.now }
+    ensures ended { result.0.now ≡ points_until time points.now }
+    ensures later { result.1.now ≡ points_after time points.now }
 {
     points.split_at(points.partition_point(|point| point.end <= time))
 }
@@ -132,34 +143,54 @@ mod tests {
         }
     }
 
-    #[test]
-    fn windows_end_at_their_moment(rt: HostRuntime) -> Result<(), Fail> {
-        let mut series = Series::new(rt.alloc());
-        assert_eq!(rt; series.last(), None);
-        assert!(rt; series.is_empty());
+    // A series of points that end at 40 and 100.
+    fn two_points(alloc: Global) -> Result<Series, Fail> {
+        let mut series = Series::new(alloc);
         series.reserve()?;
         series.push(point(40));
         series.reserve()?;
         series.push(point(100));
+        Ok(series)
+    }
+
+    #[test]
+    fn points_are_kept_and_copied(rt: HostRuntime) -> Result<(), Fail> {
+        let empty = Series::new(rt.alloc());
+        assert_eq!(rt; empty.last(), None);
+        assert!(rt; empty.is_empty());
+        let series = two_points(rt.alloc())?;
         assert_eq!(rt; series.last(), Some(100));
         assert!(rt; !series.is_empty());
-        assert_eq!(rt; series.points().len(), 2);
-        let windows = [
-            (-1_000_000_000, 1_000_000_000, 0),
-            (39, 60, 0),
-            (40, 1, 1),
-            (99, 59, 0),
-            (99, 60, 1),
-            (100, 60, 1),
-            (100, 61, 2),
-            (i64::MAX, 1_000_000_000, 0),
-        ];
-        for (t, w, count) in windows {
-            let window = series.window(t, w);
-            assert_eq!(rt; window.len(), count, "{w} seconds up to {t}");
-            let (start, end) = series.places(t, w);
-            assert_eq!(rt; end - start, count, "places of {w} seconds up to {t}");
+        let copied = series.copy(rt.alloc())?;
+        assert_eq!(rt; copied.points(), series.points());
+        Ok(())
+    }
+
+    #[test]
+    fn windows_end_at_their_moment(rt: HostRuntime) -> Result<(), Fail> {
+        let series = two_points(rt.alloc())?;
+        for (time, seconds, first, behind) in [
+            (-1_000_000_000, 1_000_000_000, 0, 0),
+            (39, 60, 0, 0),
+            (40, 1, 0, 1),
+            (99, 59, 1, 1),
+            (99, 60, 0, 1),
+            (100, 60, 1, 2),
+            (100, 61, 0, 2),
+            (i64::MAX, 1_000_000_000, 2, 2),
+        ] {
+            let (start, end) = series.places(time, seconds);
+            assert_eq!(rt; start, first, "before {seconds} seconds up to {time}");
+            assert_eq!(rt; end, behind, "up to {time}");
         }
+        Ok(())
+    }
+
+    #[test]
+    fn a_window_gives_its_points(rt: HostRuntime) -> Result<(), Fail> {
+        let series = two_points(rt.alloc())?;
+        assert_eq!(rt; series.window(100, 61), series.points());
+        assert!(rt; series.window(99, 59).is_empty());
         Ok(())
     }
 }

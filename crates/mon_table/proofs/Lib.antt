@@ -1,6 +1,6 @@
-pub mod CellPlaces
-pub mod Grouping
-pub mod JoinPlaces
-pub mod JoinedBags
-pub mod SortedRows
-pub mod TextLines
+mod CsvLineLemmas
+mod JoinKeyLemmas
+mod JoinLemmas
+mod JoinRoomLemmas
+mod ReferenceLemmas
+mod RightSideLemmas

@@ -10,7 +10,7 @@ abbrev pub lines_in : Writer (Vec ℕ Global) → List ℕ
 lines_in writer = (writer_under writer).items ++ writer_pending writer
 
 -- a writer of lines that is between two lines
-pub record IsBetween (writer : Writer (Vec ℕ Global)) : Type 0 where
+pub record IsBetweenLines (writer : Writer (Vec ℕ Global)) : Type 0 where
   pub setup : writer_setup writer ≡ line_writer
   pub fields : fields_written writer ≡ 0
   pub wrote : has_written writer ≡ false

@@ -1,6 +1,8 @@
 pub mod Bags
 pub mod CsvLines
-pub mod Groups
+pub mod JoinKeys
+pub mod JoinRoom
 pub mod Places
-pub mod Rooms
+pub mod References
+pub mod RightSides
 pub mod Tables

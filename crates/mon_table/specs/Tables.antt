@@ -1,14 +1,11 @@
 -- How a table prints.
 pub use Rattle.std.specs.Prelude.{codes}
-use Rattle.std.specs.Prelude.{ℕ, true, List, [], ◌∷◌, ◌++◌, length, map, if◌then◌else◌}
-use Rattle.std.specs.Cmp.Lexicographic.{slice_cmp}
+use Rattle.std.specs.Prelude.{ℕ, true, List, [], ◌∷◌, ◌++◌, length, map}
 use Rattle.std.specs.Fmt.{decimal, signed_decimal}
 use Rattle.std.specs.List.{flat_map}
-use Rattle.std.specs.Ordering.{int_cmp, is_gt, ordering_then}
-use Rattle.std.specs.declared.cmp.Ordering.{Ordering}
 use Rattle.csv.specs.Writing.{default_writer, row_text}
 use Rattle.csv.specs.declared.writer.WriterBuilder.{WriterBuilder}
-use Rattle.mon_value.specs.Order.{value_cmp}
+use Rattle.mon_value.specs.Order.{sorted_rows}
 pub use Rattle.mon_value.specs.Values.{value_text}
 use Rattle.mon_value.specs.declared.columns.Column.{Column}
 use Rattle.mon_value.specs.declared.tables.Table.{Table}
@@ -22,23 +19,9 @@ line_writer = record default_writer { flexible = true }
 abbrev pub csv_line : List (List ℕ) → List ℕ
 csv_line cells = row_text line_writer cells
 
--- rows stand by time, and then column by column
-abbrev pub row_cmp : TimedRow → TimedRow → Ordering
-row_cmp a b = ordering_then (int_cmp a.time b.time) (slice_cmp value_cmp a.cells b.cells)
-
--- a row put behind those that it comes after
-abbrev pub placed : TimedRow → List TimedRow → List TimedRow
-placed row [] = row ∷ []
-placed row (next ∷ rows) = if is_gt (row_cmp row next) then next ∷ placed row rows else row ∷ next ∷ rows
-
--- the rows in their order
-abbrev pub sorted : List TimedRow → List TimedRow
-sorted [] = []
-sorted (row ∷ rows) = placed row (sorted rows)
-
 -- a table with its rows in their order
-abbrev pub in_order : Table → Table
-in_order table = record { columns = table.columns; rows = sorted table.rows }
+abbrev pub sorted_table : Table → Table
+sorted_table table = record { columns = table.columns; rows = sorted_rows table.rows }
 
 -- the cells of a row as texts: its time, and then its values
 abbrev pub row_texts : TimedRow → List (List ℕ)
@@ -51,13 +34,18 @@ row_lines rows = flat_map (λ row. csv_line (row_texts row)) rows
 abbrev pub newline : List ℕ
 newline = 10 ∷ []
 
+-- the line of the columns, and a line for each row
+abbrev pub lines_of_rows : List (List ℕ) → List TimedRow → List ℕ
+lines_of_rows names rows = csv_line (codes "time" ∷ names) ++ row_lines rows
+
 -- a table prints as the line of its columns, a line for each row in order, and the number of rows
 abbrev pub table_text : List (List ℕ) → List TimedRow → List ℕ
-table_text names rows = csv_line (codes "time" ∷ names) ++ row_lines (sorted rows) ++ decimal (length rows) ++ codes " rows" ++ newline
+table_text names rows =
+    lines_of_rows names (sorted_rows rows) ++ decimal (length rows) ++ codes " rows" ++ newline
 
 abbrev pub column_names : List Column → List (List ℕ)
 column_names columns = map (λ column. column.name) columns
 
 -- what a table prints
-abbrev pub printed : Table → List ℕ
-printed table = table_text (column_names table.columns) table.rows
+abbrev pub printed_table : Table → List ℕ
+printed_table table = table_text (column_names table.columns) table.rows

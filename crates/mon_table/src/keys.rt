@@ -1,9 +1,10 @@
 // What the rows of a join meet by.
-ghost use Rattle.std.specs.Prelude.{◌≡◌, ◌++◌, map, IfOk, OnOk};
-ghost use Rattle.mon_table.specs.Groups.{key_seen};
-ghost use Rattle.mon_table.specs.Places as spec;
+ghost use Rattle.std.specs.Prelude.{◌≡◌, IfOk};
+ghost use Rattle.std.specs.List.{slice_get};
+ghost use Rattle.std.specs.Option.{option_copied};
+ghost use Rattle.mon_table.specs.JoinKeys.{key_row};
+ghost use Rattle.mon_value.specs.Groups.{group_key};
 
-use crate::places::Common;
 use mon_value::{OutOfMemory, TimedRow, Value};
 use std::alloc::Global;
 
@@ -14,17 +15,19 @@ pub(crate) struct JoinKey<'a> {
     pub(crate) cells: Vec<&'a Value>,
 }
 
-/// The key of a row of the left table.
-pub(crate) fn left_key<'a>(
+/// The key of a row: its time and its cells at these places.
+pub(crate) fn join_key<'a>(
     alloc: Global,
     row: &'a TimedRow,
-    common: &[Common],
+    places: &[usize],
 ) -> Result<JoinKey<'a>, OutOfMemory>
-    ensures key { IfOk result (λ key. key_seen key ≡ spec.left_key common.now row.now) }
+    ensures key { IfOk result (λ key. key_row key ≡ group_key places.now row.now) }
 {
-    let mut cells = Vec::with_capacity(alloc, common.len())?;
-    for place in common {
-        add_cell(&mut cells, row, place.left)?;
+    let mut cells = Vec::with_capacity(alloc, places.len())?;
+    for place in places {
+        if let Some(cell) = cell_at(row, *place) {
+            cells.push(cell)?;
+        }
     }
     Ok(JoinKey {
         time: row.time,
@@ -32,34 +35,9 @@ pub(crate) fn left_key<'a>(
     })
 }
 
-/// The key of a row of the right table.
-pub(crate) fn right_key<'a>(
-    alloc: Global,
-    row: &'a TimedRow,
-    common: &[Common],
-) -> Result<JoinKey<'a>, OutOfMemory>
-    ensures key { IfOk result (λ key. key_seen key ≡ spec.right_key common.now row.now) }
+/// The cell of a row at a place, if it has one there.
+pub(crate) fn cell_at<'a>(row: &'a TimedRow, place: usize) -> Option<&'a Value>
+    ensures cell { option_copied result ≡ slice_get row.now.cells place }
 {
-    let mut cells = Vec::with_capacity(alloc, common.len())?;
-    for place in common {
-        add_cell(&mut cells, row, place.right)?;
-    }
-    Ok(JoinKey {
-        time: row.time,
-        cells,
-    })
-}
-
-// Adds the cell at a place.
-fn add_cell<'a>(
-    cells: &mut Vec<&'a Value>,
-    row: &'a TimedRow,
-    place: usize,
-) -> Result<(), OutOfMemory>
-    ensures added { OnOk result (map (λ cell. cell.now) cells.new.items ≡ map (λ cell. cell.now) cells.old.items ++ spec.cell_at row.now.cells place) }
-{
-    if let Some(cell) = row.cells.as_slice().get(place) {
-        cells.push(cell)?;
-    }
-    Ok(())
+    row.cells.as_slice().get(place)
 }

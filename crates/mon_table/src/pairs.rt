@@ -1,14 +1,16 @@
 // The pairs of a join.
 ghost use Rattle.std.specs.Prelude.{◌≡◌, ◌≤◌, ◌+◌, ◌++◌, length, map, IfOk, OnOk};
 ghost use Rattle.std.specs.List.{flat_map};
-ghost use Rattle.mon_table.specs.Groups.{those};
-ghost use Rattle.mon_table.specs.Places as spec;
-ghost use Rattle.mon_table.specs.Rooms.{over_room, rows_within, within_room};
+ghost use Rattle.mon_table.specs.JoinRoom.{over_room, rows_within_room, table_within_room};
+ghost use Rattle.mon_table.specs.References.{rows_behind};
+ghost use Rattle.mon_table.specs.RightSides.{left_pairs, pair_row};
 ghost use Rattle.mon_value.specs.Answers.{AnswersBy, Gives};
-ghost use Rattle.mon_value.specs.Joins.{IsWhole, joined};
+ghost use Rattle.mon_value.specs.Columns.{IsWhole};
+ghost use Rattle.mon_value.specs.Groups.{cells_at};
+ghost use Rattle.mon_value.specs.Joins.{join_of};
 
-use crate::keys::left_key;
-use crate::places::{common_places, joined_columns, own_places};
+use crate::keys::{cell_at, join_key};
+use crate::places::{Places, joined_columns};
 use crate::right_rows::RightRows;
 use mon_value::{Cells, OutOfMemory, Refusal, Table, TimedRow, TimedRows, TryCopy};
 use std::alloc::Global;
@@ -26,10 +28,10 @@ pub struct OverRoom {
 pub fn join(alloc: Global, a: &Table, b: &Table, room: u64) -> Result<Table, Refusal<OverRoom>>
     requires left { IsWhole a.now }
     requires right { IsWhole b.now }
-    ensures pairs { Gives result (within_room room (joined a.now b.now)) }
+    ensures pairs { Gives result (table_within_room room (join_of a.now b.now)) }
 {
     let rows = joined_rows(alloc, a, b, room)?;
-    let columns = joined_columns(alloc, &a.columns, b.columns.as_slice())?;
+    let columns = joined_columns(alloc, &a.columns, &b.columns)?;
     Ok(Table { columns, rows })
 }
 
@@ -42,14 +44,11 @@ fn joined_rows(
 ) -> Result<TimedRows, Refusal<OverRoom>>
     requires left { IsWhole a.now }
     requires right { IsWhole b.now }
-    ensures rows { Gives result (rows_within room (joined a.now b.now).rows) }
+    ensures rows { Gives result (rows_within_room room (join_of a.now b.now).rows) }
 {
-    let lefts = a.columns.as_slice();
-    let rights = b.columns.as_slice();
-    let common = common_places(alloc, lefts, rights)?;
-    let own = own_places(alloc, lefts, rights)?;
-    let right_rows = RightRows::new(alloc, b.rows.as_slice(), common.as_slice())?;
-    pairs(alloc, a.rows.as_slice(), &right_rows, own.as_slice(), room)
+    let places = Places::new(alloc, a.columns.as_slice(), b.columns.as_slice())?;
+    let right_rows = RightRows::new(alloc, b.rows.as_slice(), &places)?;
+    pairs(alloc, a.rows.as_slice(), &right_rows, room)
 }
 
 // The pairs of all rows of the left.
@@ -57,14 +56,13 @@ fn pairs<'a>(
     alloc: Global,
     lefts: &'a [TimedRow],
     right_rows: &RightRows<'a>,
-    own: &[usize],
     room: u64,
 ) -> Result<TimedRows, Refusal<OverRoom>>
-    ensures pairs { Gives result (rows_within room (flat_map (spec.left_pairs right_rows.now.0 own.now right_rows.now.1) lefts.now)) }
+    ensures pairs { Gives result (rows_within_room room (flat_map (left_pairs right_rows.now) lefts.now)) }
 {
     let mut rows = TimedRows::new(alloc);
     for left in lefts {
-        add_left(alloc, &mut rows, left, right_rows, own, room)?;
+        add_left(alloc, &mut rows, left, right_rows, room)?;
     }
     Ok(rows)
 }
@@ -75,37 +73,26 @@ fn add_left<'a>(
     rows: &mut TimedRows,
     left: &'a TimedRow,
     right_rows: &RightRows<'a>,
-    own: &[usize],
     room: u64,
 ) -> Result<(), Refusal<OverRoom>>
     requires within { length rows.old ≤ room }
-    ensures answers { AnswersBy result (over_room room (length rows.old + length (spec.left_pairs right_rows.now.0 own.now right_rows.now.1 left.now))) }
-    ensures added { OnOk result (rows.new ≡ rows.old ++ spec.left_pairs right_rows.now.0 own.now right_rows.now.1 left.now) }
+    ensures answers { AnswersBy result (over_room room (length rows.old + length (left_pairs right_rows.now left.now))) }
+    ensures added { OnOk result (rows.new ≡ rows.old ++ left_pairs right_rows.now left.now) }
 {
-    let key = left_key(alloc, left, right_rows.common())?;
-    match right_rows.of_key(&key) {
-        Some(partners) => add_pairs(alloc, rows, left, partners.as_slice(), own, room),
-        None => Ok(()),
-    }
-}
-
-// Adds the pairs of a row of the left with these rows, if there is room for them.
-fn add_pairs(
-    alloc: Global,
-    rows: &mut TimedRows,
-    left: &TimedRow,
-    partners: &[&TimedRow],
-    own: &[usize],
-    room: u64,
-) -> Result<(), Refusal<OverRoom>>
-    requires within { length rows.old ≤ room }
-    ensures answers { AnswersBy result (over_room room (length rows.old + length partners.now)) }
-    ensures added { OnOk result (rows.new ≡ rows.old ++ map (spec.pair_row own.now left.now) (those partners.now)) }
-{
+    let key = join_key(alloc, left, right_rows.left_places())?;
+    let Some(partners) = right_rows.of_key(&key) else {
+        return Ok(());
+    };
     if partners.len() as u64 > room - rows.len() as u64 {
         return Err(Refusal::Fault(OverRoom { room }));
     }
-    push_pairs(alloc, rows, left, partners, own)?;
+    push_pairs(
+        alloc,
+        rows,
+        left,
+        partners.as_slice(),
+        right_rows.own_places(),
+    )?;
     Ok(())
 }
 
@@ -117,7 +104,8 @@ fn push_pairs(
     partners: &[&TimedRow],
     own: &[usize],
 ) -> Result<(), OutOfMemory>
-    ensures added { OnOk result (rows.new ≡ rows.old ++ map (spec.pair_row own.now left.now) (those partners.now)) }
+    ensures added { OnOk result (rows.new
+        ≡ rows.old ++ map (pair_row own.now left.now) (rows_behind partners.now)) }
 {
     for right in partners {
         rows.push(TimedRow {
@@ -135,26 +123,13 @@ fn pair_cells(
     right: &TimedRow,
     own: &[usize],
 ) -> Result<Cells, OutOfMemory>
-    ensures cells { IfOk result (λ cells. cells ≡ left.now.cells ++ flat_map (spec.cell_at right.now.cells) own.now) }
+    ensures cells { IfOk result (λ cells. cells ≡ left.now.cells ++ cells_at own.now right.now.cells) }
 {
     let mut cells = left.cells.copy(alloc)?;
     for place in own {
-        push_cell(alloc, &mut cells, right, *place)?;
+        if let Some(cell) = cell_at(right, *place) {
+            cells.push(cell.copy(alloc)?)?;
+        }
     }
     Ok(cells)
-}
-
-// Adds a copy of the cell at a place.
-fn push_cell(
-    alloc: Global,
-    cells: &mut Cells,
-    row: &TimedRow,
-    place: usize,
-) -> Result<(), OutOfMemory>
-    ensures added { OnOk result (cells.new ≡ cells.old ++ spec.cell_at row.now.cells place) }
-{
-    if let Some(cell) = row.cells.as_slice().get(place) {
-        cells.push(cell.copy(alloc)?)?;
-    }
-    Ok(())
 }

@@ -1,30 +1,34 @@
 // The text of a table.
 ghost use Rattle.std.specs.Prelude.{◌≡◌, ◌++◌, ◌∷◌, [], map, IfOk, OnOk, IsUtf8, string_bytes};
 ghost use Rattle.csv.specs.Records.{AllText, fields_of, partial_of};
-ghost use Rattle.mon_table.specs.CsvLines.{IsBetween, lines_in};
+ghost use Rattle.mon_table.specs.CsvLines.{IsBetweenLines, lines_in};
+ghost use Rattle.mon_table.specs.References.{rows_behind};
 ghost use Rattle.mon_table.specs.Tables as spec;
+ghost use Rattle.mon_value.specs.Order.{sorted_rows};
 
 use csv::{ByteRecord, Writer, WriterBuilder};
-use mon_value::{Column, OutOfMemory, Table, Text, TimedRow, Value, write_text};
+use mon_value::{Columns, OutOfMemory, Table, Text, TimedRow, TimedRows, Value, write_text};
 use std::alloc::{AllocError, Global};
 
 /// The text of a table: a line of comma-separated names, `time` and the columns, a line for each row, by
 /// time and then column by column, and how many rows there are. Cells are quoted where they call for it,
 /// so that a reader of comma-separated values reads them back. Each line ends with a line feed.
 pub fn print(alloc: Global, table: &Table) -> Result<Text, OutOfMemory>
-    ensures text { IfOk result (λ text. text ≡ spec.printed table.now) }
+    ensures text { IfOk result (λ text. text ≡ spec.printed_table table.now) }
 {
-    let rows = table.rows.as_slice();
-    let count = format!(in alloc; "{} rows\n", rows.len())?;
-    let rows = in_order(alloc, rows)?;
-    let mut text = lines_of(alloc, table.columns.as_slice(), rows.as_slice())?;
+    let count = format!(in alloc; "{} rows\n", table.rows.len())?;
+    let rows = sorted_references(alloc, &table.rows)?;
+    let mut text = lines_of(alloc, &table.columns, rows.as_slice())?;
     text.push_str(count.as_str())?;
     Ok(Text::from_string(text))
 }
 
 // The rows in their order.
-fn in_order<'a>(alloc: Global, rows: &'a [TimedRow]) -> Result<Vec<&'a TimedRow>, OutOfMemory>
-    ensures order { IfOk result (λ ordered. map (λ row. row.now) ordered.items ≡ spec.sorted rows.now) }
+fn sorted_references<'a>(
+    alloc: Global,
+    rows: &'a TimedRows,
+) -> Result<Vec<&'a TimedRow>, OutOfMemory>
+    ensures order { IfOk result (λ ordered. rows_behind ordered.items ≡ sorted_rows rows.now) }
 {
     let mut ordered = references(alloc, rows)?;
     ordered.sort_unstable();
@@ -32,8 +36,8 @@ fn in_order<'a>(alloc: Global, rows: &'a [TimedRow]) -> Result<Vec<&'a TimedRow>
 }
 
 // The rows, as references.
-fn references<'a>(alloc: Global, rows: &'a [TimedRow]) -> Result<Vec<&'a TimedRow>, OutOfMemory>
-    ensures same { IfOk result (λ all. map (λ row. row.now) all.items ≡ rows.now) }
+fn references<'a>(alloc: Global, rows: &'a TimedRows) -> Result<Vec<&'a TimedRow>, OutOfMemory>
+    ensures rows { IfOk result (λ all. rows_behind all.items ≡ rows.now) }
 {
     let mut all = Vec::with_capacity(alloc, rows.len())?;
     for row in rows {
@@ -43,8 +47,9 @@ fn references<'a>(alloc: Global, rows: &'a [TimedRow]) -> Result<Vec<&'a TimedRo
 }
 
 // The lines of a table.
-fn lines_of(alloc: Global, columns: &[Column], rows: &[&TimedRow]) -> Result<String, OutOfMemory>
-    ensures text { IfOk result (λ text. string_bytes text ≡ spec.csv_line (spec.codes "time" ∷ spec.column_names columns.now) ++ spec.row_lines (map (λ row. row.now) rows.now)) }
+fn lines_of(alloc: Global, columns: &Columns, rows: &[&TimedRow]) -> Result<String, OutOfMemory>
+    ensures text { IfOk result (λ text. string_bytes text
+        ≡ spec.lines_of_rows (spec.column_names columns.now) (rows_behind rows.now)) }
 {
     let mut writer = line_writer(alloc);
     let mut cells = ByteRecord::new(alloc);
@@ -60,7 +65,7 @@ fn lines_of(alloc: Global, columns: &[Column], rows: &[&TimedRow]) -> Result<Str
 // A writer of lines.
 fn line_writer(alloc: Global) -> Writer<Vec<u8>>
     ensures empty { lines_in result ≡ [] }
-    ensures between { IsBetween result }
+    ensures between { IsBetweenLines result }
 {
     WriterBuilder::new()
         .flexible(true)
@@ -69,11 +74,11 @@ fn line_writer(alloc: Global) -> Writer<Vec<u8>>
 
 // Writes a line of texts, behind which what was written is still a text.
 fn put_line(writer: &mut Writer<Vec<u8>>, cells: &ByteRecord) -> Result<(), OutOfMemory>
-    requires between { IsBetween writer.old }
+    requires between { IsBetweenLines writer.old }
     requires written { IsUtf8 (lines_in writer.old) }
     requires texts { AllText (fields_of cells.now) }
     ensures line { OnOk result (lines_in writer.new ≡ lines_in writer.old ++ spec.csv_line (fields_of cells.now)) }
-    ensures between { OnOk result (IsBetween writer.new) }
+    ensures between { OnOk result (IsBetweenLines writer.new) }
     ensures written { OnOk result (IsUtf8 (lines_in writer.new)) }
 {
     write_cells(writer, cells)
@@ -81,9 +86,9 @@ fn put_line(writer: &mut Writer<Vec<u8>>, cells: &ByteRecord) -> Result<(), OutO
 
 // Writes a line. Into memory that fails for want of it alone.
 fn write_cells(writer: &mut Writer<Vec<u8>>, cells: &ByteRecord) -> Result<(), OutOfMemory>
-    requires between { IsBetween writer.old }
+    requires between { IsBetweenLines writer.old }
     ensures line { OnOk result (lines_in writer.new ≡ lines_in writer.old ++ spec.csv_line (fields_of cells.now)) }
-    ensures between { OnOk result (IsBetween writer.new) }
+    ensures between { OnOk result (IsBetweenLines writer.new) }
 {
     match writer.write_byte_record(cells) {
         Ok(()) => Ok(()),
@@ -103,7 +108,7 @@ fn into_text(writer: Writer<Vec<u8>>) -> Result<String, OutOfMemory>
 }
 
 // The names of the columns, as cells.
-fn name_columns(cells: &mut ByteRecord, columns: &[Column]) -> Result<(), OutOfMemory>
+fn name_columns(cells: &mut ByteRecord, columns: &Columns) -> Result<(), OutOfMemory>
     ensures names { OnOk result (fields_of cells.new ≡ spec.codes "time" ∷ spec.column_names columns.now) }
     ensures texts { OnOk result (AllText (fields_of cells.new)) }
 {
@@ -123,7 +128,7 @@ fn fill(alloc: Global, cells: &mut ByteRecord, row: &TimedRow) -> Result<(), Out
     cells.clear();
     let time = row.time;
     push_text(cells, format!(in alloc; "{time}")?.as_str())?;
-    for value in row.cells.as_slice() {
+    for value in &row.cells {
         push_value(alloc, cells, value)?;
     }
     Ok(())

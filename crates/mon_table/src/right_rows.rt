@@ -1,113 +1,109 @@
-// The right side of a join.
-ghost use Rattle.std.specs.Prelude.{◌≡◌, ◌++◌, ◌∷◌, [], if◌then◌else◌, IfOk, OnOk};
-ghost use Rattle.indexmap.specs.IndexMap.{get};
-ghost use Rattle.mon_table.specs.Groups.{key_eq, key_seen, rows_in};
-ghost use Rattle.mon_table.specs.Places.{right_key, same_key};
-ghost use Rattle.mon_table.specs.declared.keys.JoinKey.{JoinKey};
-ghost use Rattle.std.specs.List.{filter};
+// The right rows of a join by their keys.
+ghost use Rattle.std.specs.Prelude.{◌≡◌, IfOk, OnOk};
 ghost use Rattle.std.specs.Option.{option_copied};
+ghost use Rattle.mon_table.specs.JoinKeys.{AddsUnderKey, KeepsByKey, entry_rows, key_row};
+ghost use Rattle.mon_table.specs.RightSides.{side_at};
+ghost use Rattle.mon_value.specs.Groups.{rows_in};
 
-use crate::keys::{JoinKey, right_key};
-use crate::places::Common;
+use crate::keys::{JoinKey, join_key};
+use crate::places::Places;
 use indexmap::IndexMap;
 use mon_value::{OutOfMemory, TimedRow};
 use std::alloc::Global;
 use std::marker::Model;
 
 /// The rows of a join's right table, kept by their keys, so that a left row finds its partners without
-/// going over all of them. Contracts see the columns that both tables have, and the rows.
+/// going over all of them. Contracts see the places of the columns, and the rows.
 #[derive(Drop)]
 pub(crate) struct RightRows<'a> {
-    common: &'a [Common],
+    places: &'a Places,
     rows: &'a [TimedRow],
-    groups: IndexMap<JoinKey<'a>, Vec<&'a TimedRow>>,
+    by_key: IndexMap<JoinKey<'a>, Vec<&'a TimedRow>>,
 }
 
 impl<'a> Model for RightRows<'a> {
-    ghost use Rattle.std.specs.Prelude.{List};
-    ghost use Rattle.mon_table.specs.declared.places.Common.{Common};
-    ghost use Rattle.mon_value.specs.declared.tables.TimedRow.{TimedRow};
+    ghost use Rattle.mon_table.specs.JoinKeys.{KeepsByKey};
+    ghost use Rattle.mon_table.specs.RightSides.{RightSide, side_at};
 
-    ghost Value = { List Common × List TimedRow };
+    ghost Value = { RightSide };
 
-    ghost use Rattle.std.specs.Prelude.{◌≡◌};
-    ghost use Rattle.std.specs.List.{filter};
-    ghost use Rattle.std.specs.Option.{option_copied};
-    ghost use Rattle.indexmap.specs.IndexMap.{get};
-    ghost use Rattle.mon_table.specs.Groups.{key_eq, key_seen, rows_in};
-    ghost use Rattle.mon_table.specs.Places.{right_key, same_key};
-    ghost use Rattle.mon_table.specs.declared.keys.JoinKey.{JoinKey};
+    ghost view = { λ all. side_at all.places.now all.rows.now };
 
-    ghost view = { λ all. (all.common.now, all.rows.now) };
-
-    ghost invariant = { λ all. (key : JoinKey) → rows_in (get key_eq all.groups key) ≡ filter (λ row. same_key (key_seen key) (right_key all.common.now row)) all.rows.now };
+    ghost invariant = { λ all. KeepsByKey all.places.now.rights.items all.rows.now all.by_key };
 }
 
 impl<'a> RightRows<'a> {
-    /// The rows, by their keys in these columns.
+    /// The rows, by their keys in the columns that both tables have.
     pub(crate) fn new(
         alloc: Global,
         rows: &'a [TimedRow],
-        common: &'a [Common],
+        places: &'a Places,
     ) -> Result<RightRows<'a>, OutOfMemory>
-        ensures same { IfOk result (λ all. all ≡ (common.now, rows.now)) }
+        ensures side { IfOk result (λ all. all ≡ side_at places.now rows.now) }
     {
-        let groups = grouped(alloc, rows, common)?;
+        let by_key = rows_by_key(alloc, rows, places.rights.as_slice())?;
         Ok(RightRows {
-            common,
+            places,
             rows,
-            groups,
+            by_key,
         })
     }
 
-    /// The columns that both tables have.
-    pub(crate) fn common(&self) -> &[Common]
-        ensures same { result.now ≡ self.now.0 }
+    /// The places of the left table's columns that the right one has too.
+    pub(crate) fn left_places(&self) -> &[usize]
+        ensures places { result.now ≡ self.now.lefts }
     {
-        self.common
+        self.places.lefts.as_slice()
     }
 
-    /// The rows of a key.
-    pub(crate) fn of_key(&self, key: &JoinKey<'a>) -> Option<&Vec<&'a TimedRow>>
-        ensures found { rows_in (option_copied result) ≡ filter (λ row. same_key (key_seen key.now) (right_key self.now.0 row)) self.now.1 }
+    /// The places of the right table's own columns.
+    pub(crate) fn own_places(&self) -> &[usize]
+        ensures places { result.now ≡ self.now.own }
     {
-        self.groups.get(key)
+        self.places.own.as_slice()
+    }
+
+    /// The rows of a key, if there is one.
+    pub(crate) fn of_key(&self, key: &JoinKey<'a>) -> Option<&Vec<&'a TimedRow>>
+        ensures found { entry_rows (option_copied result) ≡ rows_in self.now.rights (key_row key.now) self.now.rows }
+    {
+        self.by_key.get(key)
     }
 }
 
 // The rows by their keys.
-fn grouped<'a>(
+fn rows_by_key<'a>(
     alloc: Global,
     rows: &'a [TimedRow],
-    common: &[Common],
+    places: &[usize],
 ) -> Result<IndexMap<JoinKey<'a>, Vec<&'a TimedRow>>, OutOfMemory>
-    ensures groups { IfOk result (λ groups. (key : JoinKey) → rows_in (get key_eq groups key) ≡ filter (λ row. same_key (key_seen key) (right_key common.now row)) rows.now) }
+    ensures entries { IfOk result (KeepsByKey places.now rows.now) }
 {
-    let mut groups = IndexMap::new(alloc);
+    let mut by_key = IndexMap::new(alloc);
     for row in rows {
-        add_row(alloc, &mut groups, right_key(alloc, row, common)?, row)?;
+        add_row(alloc, &mut by_key, join_key(alloc, row, places)?, row)?;
     }
-    Ok(groups)
+    Ok(by_key)
 }
 
-// Adds a row to the group of its key, or in a group of its own.
+// Adds a row to those of its key, or under a new key.
 fn add_row<'a>(
     alloc: Global,
-    groups: &mut IndexMap<JoinKey<'a>, Vec<&'a TimedRow>>,
+    by_key: &mut IndexMap<JoinKey<'a>, Vec<&'a TimedRow>>,
     key: JoinKey<'a>,
     row: &'a TimedRow,
 ) -> Result<(), OutOfMemory>
-    ensures added { OnOk result ((other : JoinKey) → rows_in (get key_eq groups.new other) ≡ rows_in (get key_eq groups.old other) ++ (if key_eq other key.entry then row.now ∷ [] else [])) }
+    ensures added { OnOk result (AddsUnderKey by_key.old by_key.new key.entry row.now) }
 {
-    match groups.get_mut(&key) {
-        Some(group) => {
-            group.push(row)?;
+    match by_key.get_mut(&key) {
+        Some(rows) => {
+            rows.push(row)?;
             Ok(())
         }
         None => {
-            let mut group = Vec::new(alloc);
-            group.push(row)?;
-            groups.insert(key, group)?;
+            let mut rows = Vec::new(alloc);
+            rows.push(row)?;
+            by_key.insert(key, rows)?;
             Ok(())
         }
     }

@@ -1,8 +1,8 @@
 // Tables as bags of rows, and their order.
 ghost use Rattle.std.specs.Prelude.{◌≡◌, ◌++◌, IfOk};
-ghost use Rattle.mon_table.specs.Tables as spec;
-ghost use Rattle.mon_table.specs.Tables.{in_order};
-ghost use Rattle.mon_value.specs.Joins.{united};
+ghost use Rattle.mon_table.specs.Tables.{sorted_table};
+ghost use Rattle.mon_value.specs.Joins.{union_of};
+ghost use Rattle.mon_value.specs.Order.{sorted_rows};
 
 use mon_value::{OutOfMemory, Table, TimedRows};
 use std::alloc::Global;
@@ -11,7 +11,7 @@ use std::alloc::Global;
 /// tables have it.
 pub fn union(_alloc: Global, a: Table, b: Table) -> Result<Table, OutOfMemory>
     requires columns { a.columns ≡ b.columns }
-    ensures both { IfOk result (λ table. table ≡ united a b) }
+    ensures both { IfOk result (λ table. table ≡ union_of a b) }
 {
     Ok(Table {
         columns: a.columns,
@@ -31,7 +31,7 @@ fn appended(rows: TimedRows, more: TimedRows) -> Result<TimedRows, OutOfMemory>
 
 /// The table with its rows in order: by time, and then column by column. No memory is taken.
 pub fn sorted(table: Table) -> Table
-    ensures order { result ≡ in_order table }
+    ensures order { result ≡ sorted_table table }
 {
     Table {
         columns: table.columns,
@@ -41,7 +41,7 @@ pub fn sorted(table: Table) -> Table
 
 // The rows in their order.
 fn ordered(rows: TimedRows) -> TimedRows
-    ensures order { result ≡ spec.sorted rows }
+    ensures order { result ≡ sorted_rows rows }
 {
     let mut items = rows.into_vec();
     items.sort_unstable();

@@ -4,8 +4,8 @@ use Rattle.std.specs.Int.{int_min, int_max, int_div_euclid}
 use Rattle.std.proofs.lemmas.Int.{ints, clamps}
 use Rattle.std.proofs.lemmas.List.Sorted.{length_permutation}
 use Rattle.std.proofs.lemmas.List.Sums.{sum_by-cons}
-use Rattle.mon_value.specs.Aggregates.{where_any, sum_of, number_of, least_of, greatest_of, mean_of}
-use Rattle.mon_value.proofs.Permutations.{along_permutation}
+use Rattle.mon_value.specs.Aggregates.{where_any, sum_of, item_count, least_of, greatest_of, mean_of}
+use Rattle.mon_value.proofs.PermutationLemmas.{along_permutation}
 
 -- ---- operations on two numbers
 
@@ -46,11 +46,11 @@ sum_of-magnitude (x ∷ xs) =
     let both : unsigned_abs (x +ℤ sum_of xs) ≤ unsigned_abs x + unsigned_abs (sum_of xs) = grind (arith, ints) in
     omega (arith, sum_by-cons unsigned_abs x xs)
 
-pub number_of-append : {A : Type 0} (xs ys : List A) → number_of (xs ++ ys) ≡ number_of xs +ℤ number_of ys
-number_of-append xs ys = ap pos (length-append xs ys)
+pub item_count-append : {A : Type 0} (xs ys : List A) → item_count (xs ++ ys) ≡ item_count xs +ℤ item_count ys
+item_count-append xs ys = ap pos (length-append xs ys)
 
-pub number_of-permutation : {A : Type 0} (xs ys : List A) → IsPermutation xs ys → number_of xs ≡ number_of ys
-number_of-permutation xs ys same = ap pos (sym (length_permutation xs ys same))
+pub item_count-permutation : {A : Type 0} (xs ys : List A) → IsPermutation xs ys → item_count xs ≡ item_count ys
+item_count-permutation xs ys same = ap pos (sym (length_permutation xs ys same))
 
 pub where_any-permutation : {A B : Type 0} (xs ys : List A) (value other : B) → IsPermutation xs ys → value ≡ other → where_any xs value ≡ where_any ys other
 where_any-permutation [] [] value other same e = refl
@@ -60,8 +60,8 @@ where_any-permutation (x ∷ xs) (y ∷ ys) value other same e = ap Some e
 
 pub mean_of-permutation : (xs ys : List ℤ) → IsPermutation xs ys → mean_of xs ≡ mean_of ys
 mean_of-permutation xs ys same =
-    where_any-permutation xs ys (int_div_euclid (sum_of xs) (number_of xs)) (int_div_euclid (sum_of ys) (number_of ys)) same
-    (rw (sum_of-permutation xs ys same, number_of-permutation xs ys same))
+    where_any-permutation xs ys (int_div_euclid (sum_of xs) (item_count xs)) (int_div_euclid (sum_of ys) (item_count ys)) same
+    (rw (sum_of-permutation xs ys same, item_count-permutation xs ys same))
 
 -- ---- extremes
 

@@ -3,7 +3,7 @@ use Rattle.std.proofs.Common.{◌≡◌, ℕ, zero, suc, ◌+◌, ◌<◌, ◌�
 use Rattle.std.proofs.lemmas.List.Sums.{sum_by-cons}
 use Rattle.mon_value.specs.Aggregates.{counts_added, counts_of, merged_of}
 use Rattle.mon_value.proofs.AggregateLemmas.{where_any-permutation}
-use Rattle.mon_value.proofs.Permutations.{along_permutation}
+use Rattle.mon_value.proofs.PermutationLemmas.{along_permutation}
 
 -- ---- two distributions
 
@@ -30,6 +30,9 @@ pub length-counts_added : (xs ys : List ℕ) → length (counts_added xs ys) ≡
 length-counts_added [] ys = omega arith
 length-counts_added (x ∷ xs) [] = omega arith
 length-counts_added (x ∷ xs) (y ∷ ys) = omega (arith, length-counts_added xs ys)
+
+pub sum-cons : (x : ℕ) (xs : List ℕ) → sum (x ∷ xs) ≡ x + sum xs
+sum-cons x xs = sum_by-cons (λ (n : ℕ). n) x xs
 
 pub sum-counts_added : (xs ys : List ℕ) → sum (counts_added xs ys) ≡ sum xs + sum ys
 sum-counts_added [] ys = omega arith

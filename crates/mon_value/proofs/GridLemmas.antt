@@ -32,7 +32,7 @@ module _ (e low high : ℤ) (p : ℕ) (step : e ≡ pos p) where
 count_reaches : (w p : ℕ) → 1 ≤ p → ((w + (p - 1)) / p) * p < w + p
 count_reaches w p some = omega (arith, mul_comm ((w + (p - 1)) / p) p)
 
-count_some : (w p : ℕ) → 1 ≤ w → 1 ≤ p → 0 < (w + (p - 1)) / p
+pub count_some : (w p : ℕ) → 1 ≤ w → 1 ≤ p → 0 < (w + (p - 1)) / p
 count_some w p some more =
     let whole : p * ((w + (p - 1)) / p) + (w + (p - 1)) % p ≡ w + (p - 1) = omega arith in
     let left : (w + (p - 1)) % p < p = omega arith in

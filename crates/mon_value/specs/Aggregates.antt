@@ -14,8 +14,8 @@ sum_of [] = pos 0
 sum_of (x ∷ xs) = x +ℤ sum_of xs
 
 -- the number of items
-abbrev pub number_of : {A : Type 0} → List A → ℤ
-number_of items = pos (length items)
+abbrev pub item_count : {A : Type 0} → List A → ℤ
+item_count items = pos (length items)
 
 -- the least of the numbers, and none where there is none
 abbrev pub least_of : List ℤ → Option ℤ
@@ -29,7 +29,7 @@ greatest_of (x ∷ xs) = Some (fold int_max x xs)
 
 -- the greatest whole number that is not above the sum divided by the number, also below zero
 abbrev pub mean_of : List ℤ → Option ℤ
-mean_of xs = where_any xs (int_div_euclid (sum_of xs) (number_of xs))
+mean_of xs = where_any xs (int_div_euclid (sum_of xs) (item_count xs))
 
 -- the counts of all the distributions, added bucket by bucket
 abbrev pub counts_of : List (List ℕ) → List ℕ

@@ -1,8 +1,9 @@
 -- Series brought to the times of a grid.
-use Rattle.std.specs.Prelude.{◌≡◌, ◌≤◌, ◌^◌, ℕ, ℤ, unsigned_abs, sum, sum_by, length, List, [], ◌∷◌, map, Option, Some, None, option_map}
+use Rattle.std.specs.Prelude.{◌≡◌, ◌≤◌, ◌^◌, ℕ, ℤ, sum_by, length, List, [], ◌∷◌, map, Option, Some, None, option_map}
 use Rattle.std.specs.List.{AllByRecursion, flat_map}
 use Rattle.mon_value.specs.Groups.{total_of}
 use Rattle.mon_value.specs.Grids.{IsDuration, IsLawful, grid_times}
+use Rattle.mon_value.specs.Values.{magnitude}
 use Rattle.mon_value.specs.Windows.{window_of}
 use Rattle.mon_value.specs.declared.aligners.Aligner.{Aligner}
 use Rattle.mon_value.specs.declared.aligners.Aligner.TheVariants.{Delta, NextOlder}
@@ -18,10 +19,10 @@ seconds_of (Delta seconds) = seconds
 seconds_of (NextOlder seconds) = seconds
 
 -- the newest of the points of a series: the last, since their ends rise
-abbrev pub newest : List Point → Option Point
-newest [] = None
-newest (point ∷ []) = Some point
-newest (point ∷ next ∷ points) = newest (next ∷ points)
+abbrev pub newest_point : List Point → Option Point
+newest_point [] = None
+newest_point (point ∷ []) = Some point
+newest_point (point ∷ next ∷ points) = newest_point (next ∷ points)
 
 abbrev pub values_of : List Point → List Value
 values_of points = map (λ point. point.value) points
@@ -29,7 +30,7 @@ values_of points = map (λ point. point.value) points
 -- what an aligner makes of the points that it sees: the value of the newest, or the sum or the merged
 -- distribution of all; nothing of no points
 abbrev pub value_made : Aligner → List Point → Option Value
-value_made (NextOlder seconds) points = option_map (λ point. point.value) (newest points)
+value_made (NextOlder seconds) points = option_map (λ point. point.value) (newest_point points)
 value_made (Delta seconds) points = total_of (values_of points)
 
 -- what a series has at a time: an aligner sees the points whose ends are above its seconds before the
@@ -37,14 +38,14 @@ value_made (Delta seconds) points = total_of (values_of points)
 abbrev pub value_at : Aligner → List Point → ℤ → Option Value
 value_at by points time = value_made by (window_of time (seconds_of by) points)
 
-abbrev pub timed : ℤ → Option Value → List TimedValue
-timed time None = []
-timed time (Some value) = record { time = time; value = value } ∷ []
+abbrev pub timed_values : ℤ → Option Value → List TimedValue
+timed_values time None = []
+timed_values time (Some value) = record { time = time; value = value } ∷ []
 
 -- a series aligned: the value at each time of the grid, the newest time first, and none at a time at
 -- which the aligner sees no point
-abbrev pub aligned : Aligner → Grid → List Point → List TimedValue
-aligned by grid points = flat_map (λ time. timed time (value_at by points time)) (grid_times grid)
+abbrev pub aligned_values : Aligner → Grid → List Point → List TimedValue
+aligned_values by grid points = flat_map (λ time. timed_values time (value_at by points time)) (grid_times grid)
 
 -- ---- which series can be aligned
 
@@ -61,13 +62,6 @@ CanAdd (value.Text s) b = ⊥
 abbrev pub CanAddAll : List Value → Type 0
 CanAddAll [] = Unit {0}
 CanAddAll (first ∷ values) = AllByRecursion (CanAdd first) (first ∷ values)
-
--- how much a value counts: a number by its distance from 0, a distribution by its total
-abbrev pub magnitude : Value → ℕ
-magnitude (value.Int z) = unsigned_abs z
-magnitude (value.Bool p) = 0
-magnitude (value.Text s) = 0
-magnitude (value.Dist counts) = sum counts
 
 -- what the magnitudes of the points that are added for one time sum to at most
 abbrev pub most_aligned : ℕ

@@ -28,11 +28,6 @@ abbrev pub GivesView : {X T F : Type 0} → (X → T) → Result X (Refusal F) �
 GivesView view (Ok x) answer = answer ≡ Ok (view x)
 GivesView view (Err r) answer = Withholds r answer
 
--- the fault in place of what isn't there
-abbrev pub or_fault : {T F : Type 0} → F → Option T → Result T F
-or_fault fault None = Err fault
-or_fault fault (Some x) = Ok x
-
 -- goes on with the value, or ends in the fault
 infixl 10 ◌>>=◌
 abbrev pub ◌>>=◌ : {A B F : Type 0} → Result A F → (A → Result B F) → Result B F

@@ -21,7 +21,8 @@ running_counts before (count ∷ counts) = (before + count) ∷ running_counts (
 
 -- the first bucket whose running count times 100 is at least p times the total
 abbrev pub percentile_bucket : List ℕ → ℕ → ℕ
-percentile_bucket counts p = position_or_len (λ running. nat_le (p * sum counts) (running * 100)) (running_counts 0 counts)
+percentile_bucket counts p =
+    position_or_len (λ running. nat_le (p * sum counts) (running * 100)) (running_counts 0 counts)
 
 -- the upper bound of a bucket; the last bucket has the last bound
 abbrev pub upper_bound : List ℤ → ℕ → ℤ
@@ -33,4 +34,5 @@ percentile_of counts bounds p = if sum counts == 0 then None else Some (upper_bo
 
 -- a greater percentile of one distribution lies at no lesser bound
 abbrev pub PercentilesRise : List ℕ → List ℤ → Type 0
-PercentilesRise counts bounds = (p q : ℕ) (y z : ℤ) → p ≤ q → percentile_of counts bounds p ≡ Some y → percentile_of counts bounds q ≡ Some z → y ≤ℤ z
+PercentilesRise counts bounds =
+    (p q : ℕ) (y z : ℤ) → p ≤ q → percentile_of counts bounds p ≡ Some y → percentile_of counts bounds q ≡ Some z → y ≤ℤ z

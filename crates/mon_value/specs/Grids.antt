@@ -1,17 +1,15 @@
 -- The times that a query gives rows for.
-use Rattle.std.specs.Prelude.{ℕ, zero, suc, ◌+◌, ◌-◌, ◌/◌, ◌≤◌, ℤ, pos, ◌-ℤ◌, ◌≤ℤ◌, unsigned_abs, List, [], ◌∷◌}
+use Rattle.std.specs.Prelude.{ℕ, zero, suc, ◌+◌, ◌-◌, ◌*◌, ◌/◌, ◌≤◌, ℤ, pos, ◌-ℤ◌, ◌≤ℤ◌, unsigned_abs, List, [], ◌∷◌}
+use Rattle.mon_value.specs.Limits.{LONGEST_DURATION}
 use Rattle.mon_value.specs.declared.grids.Grid.{Grid}
 
--- the most seconds that a duration has, and the most times that a grid has
-abbrev pub longest_duration : ℤ
-longest_duration = pos 1000000000
-
+-- the most times that a grid has
 abbrev pub most_times : ℕ
 most_times = 10000
 
 -- a number of seconds that a query may name
 abbrev pub IsDuration : ℤ → Type 0
-IsDuration seconds = (pos 1 ≤ℤ seconds) × (seconds ≤ℤ longest_duration)
+IsDuration seconds = (pos 1 ≤ℤ seconds) × (seconds ≤ℤ LONGEST_DURATION)
 
 -- how many times a grid has: `within` divided by `every`, rounded up
 abbrev pub time_count : Grid → ℕ
@@ -26,6 +24,10 @@ times_back (suc more) time every = time ∷ times_back more (time -ℤ every) ev
 -- are above `within` seconds before the moment
 abbrev pub grid_times : Grid → List ℤ
 grid_times grid = times_back (time_count grid) grid.moment grid.every
+
+-- the least of its times
+abbrev pub least_time : Grid → ℤ
+least_time grid = grid.moment -ℤ pos ((time_count grid - 1) * unsigned_abs grid.every)
 
 -- a grid that a query may have
 pub record IsLawful (grid : Grid) : Type 0 where

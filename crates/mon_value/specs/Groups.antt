@@ -1,10 +1,10 @@
 -- What the cells of a group's rows come to.
-use Rattle.std.specs.Prelude.{ℤ, ℕ, Bool, false, ◌&&◌, not, nat_eq, List, [], ◌∷◌, ◌++◌, map, filter, slice_get, Option, Some, None, option_map, if◌then◌else◌}
-use Rattle.std.specs.Cmp.Lexicographic.{pointwise}
+use Rattle.std.specs.Prelude.{ℤ, ℕ, List, ◌++◌, map, slice_get, Option, Some, None, option_map}
 use Rattle.std.specs.List.{filter_map}
-use Rattle.std.specs.Ordering.{int_eq}
-use Rattle.mon_value.specs.Sources.{same_text, same_truth}
-use Rattle.mon_value.specs.Aggregates.{where_any, sum_of, number_of, least_of, greatest_of, mean_of, merged_of}
+use Rattle.std.specs.Option.{option_or}
+use Rattle.mon_value.specs.Aggregates.{where_any, sum_of, item_count, least_of, greatest_of, mean_of, merged_of}
+use Rattle.mon_value.specs.Keyed.{items_by_key, items_with, keys_of}
+use Rattle.mon_value.specs.Same.{same_row}
 use Rattle.mon_value.specs.declared.aggregates.Aggregate.{Aggregate}
 use Rattle.mon_value.specs.declared.aggregates.AggregateKind.{AggregateKind}
 use Rattle.mon_value.specs.declared.aggregates.AggregateKind.TheVariants as kind
@@ -40,37 +40,11 @@ sum_in values = option_map value.Int (where_any (numbers_in values) (sum_of (num
 abbrev pub merge_in : List Value → Option Value
 merge_in values = option_map value.Dist (merged_of (distributions_in values))
 
-abbrev pub or_else : {A : Type 0} → Option A → Option A → Option A
-or_else None other = other
-or_else (Some x) other = Some x
-
 -- numbers summed, or else distributions merged
 abbrev pub total_of : List Value → Option Value
-total_of values = or_else (sum_in values) (merge_in values)
+total_of values = option_or (sum_in values) (merge_in values)
 
 -- ---- rows by groups
-
-abbrev pub same_value : Value → Value → Bool
-same_value (value.Int y) (value.Int z) = int_eq y z
-same_value (value.Int y) (value.Bool q) = false
-same_value (value.Int y) (value.Text t) = false
-same_value (value.Int y) (value.Dist others) = false
-same_value (value.Bool p) (value.Int z) = false
-same_value (value.Bool p) (value.Bool q) = same_truth p q
-same_value (value.Bool p) (value.Text t) = false
-same_value (value.Bool p) (value.Dist others) = false
-same_value (value.Text s) (value.Int z) = false
-same_value (value.Text s) (value.Bool q) = false
-same_value (value.Text s) (value.Text t) = same_text s t
-same_value (value.Text s) (value.Dist others) = false
-same_value (value.Dist counts) (value.Int z) = false
-same_value (value.Dist counts) (value.Bool q) = false
-same_value (value.Dist counts) (value.Text t) = false
-same_value (value.Dist counts) (value.Dist others) = pointwise nat_eq counts others
-
--- whether two rows have one time and the same cells
-abbrev pub same_row : TimedRow → TimedRow → Bool
-same_row a b = int_eq a.time b.time && pointwise same_value a.cells b.cells
 
 -- the cells at places
 abbrev pub cells_at : List ℕ → List Value → List Value
@@ -82,17 +56,15 @@ group_key by row = record { time = row.time; cells = cells_at by row.cells }
 
 -- the groups that occur, in the order of their first rows
 abbrev pub group_keys : List ℕ → List TimedRow → List TimedRow
-group_keys by [] = []
-group_keys by (row ∷ rows) = group_key by row ∷ filter (λ key. not (same_row (group_key by row) key)) (group_keys by rows)
+group_keys by = keys_of same_row (group_key by)
 
 -- the rows of a group, in their order
 abbrev pub rows_in : List ℕ → TimedRow → List TimedRow → List TimedRow
-rows_in by key [] = []
-rows_in by key (row ∷ rows) = if same_row key (group_key by row) then row ∷ rows_in by key rows else rows_in by key rows
+rows_in by = items_with same_row (group_key by)
 
 -- the groups with their rows
 abbrev pub rows_by_group : List ℕ → List TimedRow → List (TimedRow × List TimedRow)
-rows_by_group by rows = map (λ key. (key, rows_in by key rows)) (group_keys by rows)
+rows_by_group by = items_by_key same_row (group_key by)
 
 -- the cells of a column
 abbrev pub column_of : ℕ → List TimedRow → List Value
@@ -101,7 +73,7 @@ column_of column rows = filter_map (λ row. slice_get row.cells column) rows
 -- what an aggregate makes of the rows of a group; a count looks at no column
 abbrev pub aggregate_made : AggregateKind → ℕ → List TimedRow → Option Value
 aggregate_made kind.Sum column rows = sum_in (column_of column rows)
-aggregate_made kind.Count column rows = option_map value.Int (where_any rows (number_of rows))
+aggregate_made kind.Count column rows = option_map value.Int (where_any rows (item_count rows))
 aggregate_made kind.Min column rows = option_map value.Int (least_of (numbers_in (column_of column rows)))
 aggregate_made kind.Max column rows = option_map value.Int (greatest_of (numbers_in (column_of column rows)))
 aggregate_made kind.Mean column rows = option_map value.Int (mean_of (numbers_in (column_of column rows)))
@@ -114,6 +86,6 @@ group_row with group = record {
   cells = group.0.cells ++ filter_map (λ aggregate. aggregate_made aggregate.what aggregate.column group.1) with;
 }
 
--- rows grouped: one row for each time and list of grouping cells that occurs
-abbrev pub grouped : List ℕ → List Aggregate → List TimedRow → List TimedRow
-grouped by with rows = map (group_row with) (rows_by_group by rows)
+-- rows group_rows: one row for each time and list of grouping cells that occurs
+abbrev pub group_rows : List ℕ → List Aggregate → List TimedRow → List TimedRow
+group_rows by with rows = map (group_row with) (rows_by_group by rows)

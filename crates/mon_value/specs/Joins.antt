@@ -1,25 +1,12 @@
 -- Tables put together: the pairs of a join, and both sides of a union.
-use Rattle.std.specs.Prelude.{◌≡◌, ℕ, Bool, false, not, ◌&&◌, ◌||◌, List, ◌++◌, length, map, nat_eq}
-use Rattle.std.specs.Cmp.Lexicographic.{pointwise}
-use Rattle.std.specs.List.{AllByRecursion, filter, flat_map, list_all, list_any, zip}
+use Rattle.std.specs.Prelude.{ℕ, Bool, not, ◌&&◌, ◌||◌, List, ◌++◌, map}
+use Rattle.std.specs.List.{filter, flat_map, list_all, list_any, zip}
 use Rattle.std.specs.Ordering.{int_eq}
-use Rattle.mon_value.specs.Sources.{same_text, same_truth}
+use Rattle.mon_value.specs.Same.{same_text, same_value}
 use Rattle.mon_value.specs.declared.columns.Column.{Column}
 use Rattle.mon_value.specs.declared.tables.Table.{Table}
 use Rattle.mon_value.specs.declared.tables.TimedRow.{TimedRow}
 use Rattle.mon_value.specs.declared.values.Value.{Value}
-use Rattle.mon_value.specs.declared.values.Value.TheVariants as value
-
--- whether two cells hold the same
-abbrev pub same_value : Value → Value → Bool
-same_value (value.Int y) (value.Int z) = int_eq y z
-same_value (value.Bool p) (value.Bool q) = same_truth p q
-same_value (value.Text s) (value.Text t) = same_text s t
-same_value (value.Dist counts) (value.Dist others) = pointwise nat_eq counts others
-same_value (value.Int y) b = false
-same_value (value.Bool p) b = false
-same_value (value.Text s) b = false
-same_value (value.Dist counts) b = false
 
 -- a cell and its column
 abbrev pub Named : Type 0
@@ -29,13 +16,14 @@ abbrev pub has_name : List ℕ → List Column → Bool
 has_name name columns = list_any (λ column. same_text name column.name) columns
 
 -- cells of one name are equal; cells of two names may be as they are
-abbrev pub agree : Named → Named → Bool
-agree left right = not (same_text left.0.name right.0.name) || same_value left.1 right.1
+abbrev pub cells_agree : Named → Named → Bool
+cells_agree left right = not (same_text left.0.name right.0.name) || same_value left.1 right.1
 
 -- whether two rows stand at one time, and their cells in all columns of one name are equal
 abbrev pub is_pair : List Column → List Column → TimedRow → TimedRow → Bool
 is_pair lefts rights left right =
-    int_eq left.time right.time && list_all (λ cell. list_all (λ other. agree cell other) (zip rights right.cells)) (zip lefts left.cells)
+    int_eq left.time right.time
+    && list_all (λ cell. list_all (λ other. cells_agree cell other) (zip rights right.cells)) (zip lefts left.cells)
 
 -- the right table's columns whose names are not of the left's
 abbrev pub right_columns : List Column → List Column → List Column
@@ -43,27 +31,24 @@ right_columns lefts rights = filter (λ column. not (has_name column.name lefts)
 
 -- the cells in these columns
 abbrev pub right_cells : List Column → List Column → TimedRow → List Value
-right_cells lefts rights right = map (λ cell. cell.1) (filter (λ (cell : Named). not (has_name cell.0.name lefts)) (zip rights right.cells))
+right_cells lefts rights right =
+    map (λ cell. cell.1) (filter (λ (cell : Named). not (has_name cell.0.name lefts)) (zip rights right.cells))
 
 -- the left's cells, and then those of the right's that have a name of their own
-abbrev pub paired : List Column → List Column → TimedRow → TimedRow → TimedRow
-paired lefts rights left right = record { time = left.time; cells = left.cells ++ right_cells lefts rights right }
+abbrev pub pair_of : List Column → List Column → TimedRow → TimedRow → TimedRow
+pair_of lefts rights left right = record { time = left.time; cells = left.cells ++ right_cells lefts rights right }
 
 -- the rows that one row of the left has in a join
 abbrev pub pairs_of : List Column → List Column → List TimedRow → TimedRow → List TimedRow
-pairs_of lefts rights rows left = map (paired lefts rights left) (filter (is_pair lefts rights left) rows)
+pairs_of lefts rights rows left = map (pair_of lefts rights left) (filter (is_pair lefts rights left) rows)
 
 -- every pair of a left and a right row that stand at one time and are equal in all columns of one name
-abbrev pub joined : Table → Table → Table
-joined left right = record {
+abbrev pub join_of : Table → Table → Table
+join_of left right = record {
   columns = left.columns ++ right_columns left.columns right.columns;
   rows = flat_map (pairs_of left.columns right.columns right.rows) left.rows;
 }
 
 -- the rows of both tables, under the columns that both have
-abbrev pub united : Table → Table → Table
-united a b = record { columns = a.columns; rows = a.rows ++ b.rows }
-
--- each row has one cell for each column
-abbrev pub IsWhole : Table → Type 0
-IsWhole table = AllByRecursion (λ row. length row.cells ≡ length table.columns) table.rows
+abbrev pub union_of : Table → Table → Table
+union_of a b = record { columns = a.columns; rows = a.rows ++ b.rows }

@@ -17,4 +17,6 @@ numeral_of text = if is_numeral text then Some (digits_value 10 text) else None
 -- the number that a text spells: a numeral, or `-` and a numeral
 abbrev pub number_of : List ℕ → Option ℤ
 number_of [] = None
-number_of (byte ∷ text) = if byte == minus_sign then option_map (λ n. neg_ℤ (pos n)) (numeral_of text) else option_map pos (numeral_of (byte ∷ text))
+number_of (byte ∷ text) =
+    if byte == minus_sign then option_map (λ n. neg_ℤ (pos n)) (numeral_of text)
+    else option_map pos (numeral_of (byte ∷ text))

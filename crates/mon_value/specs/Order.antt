@@ -1,10 +1,12 @@
--- The order of values, and that of targets.
+-- The order of values, of targets and of rows.
 use Rattle.std.specs.Prelude.{◌≡◌, ℕ, List}
 use Rattle.std.specs.Cmp.Lexicographic.{slice_cmp}
 use Rattle.std.specs.declared.cmp.Ordering.{Ordering}
 use Rattle.std.specs.declared.cmp.Ordering.TheVariants.{Less, Equal, Greater}
 use Rattle.std.specs.Ordering.{nat_cmp, int_cmp, bool_cmp, ordering_then}
+use Rattle.mon_value.specs.Sorting.{sorted_list}
 use Rattle.mon_value.specs.declared.rows.Target.{Target}
+use Rattle.mon_value.specs.declared.tables.TimedRow.{TimedRow}
 use Rattle.mon_value.specs.declared.values.FieldValue.{FieldValue}
 use Rattle.mon_value.specs.declared.values.FieldValue.TheVariants as field
 use Rattle.mon_value.specs.declared.values.Value.{Value}
@@ -40,6 +42,14 @@ field_cmp a b = value_cmp (field_as_value a) (field_as_value b)
 -- by the schema's name, and then by the fields in their order
 abbrev pub target_cmp : Target → Target → Ordering
 target_cmp a b = ordering_then (text_cmp a.schema b.schema) (slice_cmp field_cmp a.fields b.fields)
+
+-- rows stand by time, and then column by column
+abbrev pub row_cmp : TimedRow → TimedRow → Ordering
+row_cmp a b = ordering_then (int_cmp a.time b.time) (slice_cmp value_cmp a.cells b.cells)
+
+-- the rows in their order
+abbrev pub sorted_rows : List TimedRow → List TimedRow
+sorted_rows = sorted_list row_cmp
 
 -- what the order does not tell apart is equal
 abbrev pub TellsApart : {K : Type 0} → (K → K → Ordering) → Type 0

@@ -53,3 +53,17 @@ impl<T: TryCopy + Drop> TryCopy for Option<T> {
         }
     }
 }
+
+/// Copies of all items, in their order.
+pub(crate) fn copied_items<T: TryCopy + Drop>(
+    alloc: Global,
+    items: &[T],
+) -> Result<Vec<T>, AllocError>
+    ensures items { IfOk result (λ copied. copied.items ≡ items.now) }
+{
+    let mut copied = Vec::with_capacity(alloc, items.len())?;
+    for item in items {
+        copied.push(item.copy(alloc)?)?;
+    }
+    Ok(copied)
+}

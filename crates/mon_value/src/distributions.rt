@@ -1,15 +1,16 @@
 // Distributions: what their counts say of the values behind them.
 ghost use Rattle.std.specs.Prelude.{◌≡◌, ℕ, ℤ, List, true, ◌+◌, ◌^◌, ◌<◌, ◌≤◌, ◌↔◌, All, IsNone, length, sum};
 ghost use Rattle.mon_value.specs.Distributions.{counts_added, bounds_rise, percentile_of, PercentilesRise};
+ghost use Rattle.mon_value.specs.Limits.{greatest_sum};
 
 use crate::lists::ListOf;
 use crate::values::{Bounds, Counts};
 
 impl ListOf<u128> {
-    /// Adds the counts of another distribution of the same bounds.
+    /// Adds the counts of another distribution, bucket by bucket; it has no more buckets than this one.
     pub fn merge(&mut self, other: &Counts)
-        requires buckets { length self.old ≡ length other.now }
-        requires sums { All (λ count. count ≤ 2 ^ 126) (counts_added self.old other.now) }
+        requires buckets { length other.now ≤ length self.old }
+        requires sums { All (λ count. count ≤ greatest_sum) (counts_added self.old other.now) }
         ensures added { self.new ≡ counts_added self.old other.now }
     {
         add_counts(self.items.as_mut_slice(), other.as_slice());
@@ -47,19 +48,21 @@ impl ListOf<u128> {
 /// Distributions may be merged in any order and in any groups, and their totals add up.
 pub fn merging_is_orderless()
     ensures commutes { (a b : List ℕ) → counts_added a b ≡ counts_added b a }
-    ensures associates { (a b c : List ℕ) → counts_added (counts_added a b) c ≡ counts_added a (counts_added b c) }
+    ensures associates { (a b c : List ℕ)
+        → counts_added (counts_added a b) c ≡ counts_added a (counts_added b c) }
     ensures totals { (a b : List ℕ) → sum (counts_added a b) ≡ sum a + sum b }
 {}
 
 /// A greater percentile lies at no lesser bound.
 pub fn percentiles_rise()
-    ensures rise { (counts : List ℕ) (bounds : List ℤ) → bounds_rise bounds ≡ true → PercentilesRise counts bounds }
+    ensures rise { (counts : List ℕ) (bounds : List ℤ) → bounds_rise bounds ≡ true
+        → PercentilesRise counts bounds }
 {}
 
 // Adds each count of the second to the one in its place in the first.
 fn add_counts(counts: &mut [u128], others: &[u128])
-    requires buckets { length counts.old ≡ length others.now }
-    requires sums { All (λ count. count ≤ 2 ^ 126) (counts_added counts.old others.now) }
+    requires buckets { length others.now ≤ length counts.old }
+    requires sums { All (λ count. count ≤ greatest_sum) (counts_added counts.old others.now) }
     ensures added { counts.new ≡ counts_added counts.old others.now }
 {
     for (i, other) in others.iter().enumerate() {

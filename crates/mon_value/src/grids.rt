@@ -1,6 +1,6 @@
 // The times of a table's rows.
-ghost use Rattle.std.specs.Prelude.{◌≡◌, ◌↔◌, ◌<◌, ◌*◌, ℕ, ℤ, pos, ◌-ℤ◌, ◌<ℤ◌, ◌≤ℤ◌, [], ◌∷◌, length, slice_index_or, unsigned_abs};
-ghost use Rattle.mon_value.specs.Grids.{grid_times, IsLawful, time_count};
+ghost use Rattle.std.specs.Prelude.{◌≡◌, ◌↔◌, ◌<◌, ◌-◌, ◌*◌, ℕ, ℤ, pos, ◌-ℤ◌, ◌<ℤ◌, ◌≤ℤ◌, [], ◌∷◌, length, slice_index_or, unsigned_abs};
+ghost use Rattle.mon_value.specs.Grids.{grid_times, IsLawful, least_time, time_count};
 
 use crate::copying::TryCopy;
 use crate::lists::ListOf;
@@ -51,4 +51,8 @@ pub fn grids_reach_back()
         ↔ ((grid.moment -ℤ grid.within) <ℤ (grid.moment -ℤ pos (k * unsigned_abs grid.every))) }
     ensures once { (grid : Grid) → grid.every ≡ grid.within → pos 1 ≤ℤ grid.within
         → grid_times grid ≡ grid.moment ∷ [] }
+    ensures least { (grid : Grid) (k : ℕ) (d : ℤ) → IsLawful grid → k < time_count grid
+        → least_time grid ≤ℤ slice_index_or (grid_times grid) k d }
+    ensures last { (grid : Grid) (d : ℤ) → IsLawful grid
+        → slice_index_or (grid_times grid) (time_count grid - 1) d ≡ least_time grid }
 {}

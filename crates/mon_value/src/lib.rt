@@ -1,36 +1,43 @@
 //! The values that a monitoring store keeps, the lists that the other crates are made of, and the
-//! definitions of values, rows and sources.
+//! definitions of values, rows, tables and the operations on them.
 #![tactic(auto)]
 
-pub mod aggregates;
-pub mod aligners;
-pub mod columns;
-pub mod copying;
-pub mod distributions;
-pub mod grids;
-pub mod lists;
-pub mod numbers;
-pub mod orders;
-pub mod refusals;
-pub mod rooms;
-pub mod rows;
-pub mod schemas;
-pub mod tables;
-pub mod texts;
-pub mod values;
+mod aggregates;
+mod aligners;
+mod columns;
+mod copying;
+mod distributions;
+mod grids;
+mod limits;
+mod lists;
+mod numbers;
+mod orders;
+mod refusals;
+mod rooms;
+mod rows;
+mod schemas;
+mod shared;
+mod tables;
+mod texts;
+mod values;
 
 pub use aggregates::{Aggregate, AggregateKind, Aggregates};
 pub use aligners::Aligner;
 pub use columns::{Anchor, Column, Columns};
 pub use copying::TryCopy;
+pub use distributions::{merging_is_orderless, percentiles_rise};
 pub use grids::{Grid, TimedValue, TimedValues, grids_reach_back};
+pub use limits::{LONGEST_DURATION, LONGEST_FILE, LONGEST_TEXT, NUMBER_BITS, ROW_BITS, SUM_BITS};
 pub use lists::ListOf;
 pub use numbers::read_number;
-pub use orders::{compare, compare_targets};
+pub use orders::{
+    compare, compare_targets, rows_are_ordered, targets_are_ordered, values_are_ordered,
+};
 pub use refusals::{OutOfMemory, Refusal};
 pub use rooms::RoomListOf;
 pub use rows::{Point, Points, Row, RowList, SeriesKey, Target};
 pub use schemas::{Field, Fields, Kind, MetricSchema, MetricSchemas, TargetSchema, TargetSchemas};
+pub use shared::Shared;
 pub use tables::{Cells, Positions, Table, TimedRow, TimedRows};
 pub use texts::{Text, Texts};
 pub use values::{

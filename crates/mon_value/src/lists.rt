@@ -1,11 +1,17 @@
 // The list that the named list types of the crates are.
-ghost use Rattle.std.specs.Prelude.{◌≡◌, ◌+◌, ◌<◌, ◌++◌, ◌∷◌, [], length, slice_get, Some, IfOk, OnOk, OnErr};
+ghost use Rattle.std.specs.Prelude.{◌≡◌, ◌↔◌, ◌-◌, ◌<◌, ◌++◌, ◌∷◌, [], length, slice_get, Some, IsTrue, OnOk, OnErr};
+ghost use Rattle.std.specs.Borrow.{sem};
+ghost use Rattle.std.specs.Option.{option_copied};
+ghost use Rattle.std.specs.Iterator.Adapters.{IterYieldsInOrder};
+ghost use Rattle.std.specs.Slice.Iter.{iter_rest};
 
-use crate::copying::TryCopy;
+use crate::copying::{TryCopy, copied_items};
 use std::alloc::{AllocError, Global};
 use std::cmp::Ordering;
 use std::hash::{Hash, Hasher};
 use std::marker::Model;
+use std::slice::Iter;
+use std::vec::IntoIter;
 
 /// A list that grows at its end. Contracts see the plain list of its items.
 #[derive(Debug, Drop)]
@@ -22,6 +28,8 @@ impl<T> Model for ListOf<T> {
 }
 
 impl<T> ListOf<T> {
+    ghost use Rattle.mon_value.specs.ListLends.{LendsItems};
+
     /// The empty list, which grows from `alloc`.
     pub fn new(alloc: Global) -> Self
         ensures empty { result ≡ [] }
@@ -31,32 +39,55 @@ impl<T> ListOf<T> {
         }
     }
 
-    /// The list of the vector's items.
+    /// The list of the vector's items. No memory is taken.
     pub fn from_vec(items: Vec<T>) -> Self
-        ensures same { result ≡ items.items }
+        ensures items { result ≡ items.items }
     {
         ListOf { items }
     }
 
-    /// The items as a vector.
+    /// The items as a vector. No memory is taken.
     pub fn into_vec(self) -> Vec<T>
-        ensures same { result.items ≡ self }
+        ensures items { result.items ≡ self }
     {
         self.items
     }
 
     /// How many items there are.
     pub fn len(&self) -> usize
-        ensures counts { result ≡ length self.now }
+        ensures count { result ≡ length self.now }
     {
         self.items.len()
     }
 
+    /// Whether there is no item.
+    pub fn is_empty(&self) -> bool
+        ensures none { IsTrue result ↔ (self.now ≡ []) }
+    {
+        self.items.is_empty()
+    }
+
     /// The items as a slice.
     pub fn as_slice(&self) -> &[T]
-        ensures same { result.now ≡ self.now }
+        ensures items { result.now ≡ self.now }
     {
         self.items.as_slice()
+    }
+
+    /// The items as a slice to write to.
+    pub fn as_mut_slice(&mut self) -> &mut [T]
+        ensures* written { sem 𝓛 (LendsItems T.row self.entry result) }
+        ensures items { result.now ≡ self.old }
+    {
+        self.items.as_mut_slice()
+    }
+
+    /// The items in their order.
+    pub fn iter(&self) -> Iter<'_, T>
+        ensures items { iter_rest result ≡ self.now }
+        ensures runs { IterYieldsInOrder T }
+    {
+        self.items.as_slice().iter()
     }
 
     /// The item at a place.
@@ -65,6 +96,20 @@ impl<T> ListOf<T> {
         ensures item { slice_get self.now i ≡ Some result.now }
     {
         &self.items[i]
+    }
+
+    /// The first item, if there is one.
+    pub fn first(&self) -> Option<&T>
+        ensures item { option_copied result ≡ slice_get self.now 0 }
+    {
+        self.items.as_slice().first()
+    }
+
+    /// The last item, if there is one.
+    pub fn last(&self) -> Option<&T>
+        ensures item { option_copied result ≡ slice_get self.now (length self.now - 1) }
+    {
+        self.items.as_slice().last()
     }
 
     /// Adds an item at the end. Where memory runs out the list stays, and the item is gone.
@@ -79,13 +124,39 @@ impl<T> ListOf<T> {
     }
 }
 
+impl<'a, T> IntoIterator for &'a ListOf<T> {
+    ghost use Rattle.mon_value.specs.ListItems.{LendsInOrder};
+
+    type Item = &'a T;
+
+    type IntoIter = Iter<'a, T>;
+
+    ghost into_iter_gives = { λ list items. LendsInOrder list.now items };
+
+    fn into_iter(self) -> Iter<'a, T> {
+        self.items.as_slice().iter()
+    }
+}
+
+impl<T: Drop> IntoIterator for ListOf<T> {
+    ghost use Rattle.mon_value.specs.ListItems.{GivesInOrder};
+
+    type Item = T;
+
+    type IntoIter = IntoIter<T>;
+
+    ghost into_iter_gives = { GivesInOrder };
+
+    fn into_iter(self) -> IntoIter<T> {
+        self.items.into_iter()
+    }
+}
+
 impl<T: TryCopy + Drop> TryCopy for ListOf<T> {
     fn copy(&self, alloc: Global) -> Result<ListOf<T>, AllocError> {
-        let mut items = Vec::with_capacity(alloc, self.items.len())?;
-        for item in self.items.iter() {
-            items.push(item.copy(alloc)?)?;
-        }
-        Ok(ListOf { items })
+        Ok(ListOf {
+            items: copied_items(alloc, self.items.as_slice())?,
+        })
     }
 }
 

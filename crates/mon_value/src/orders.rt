@@ -1,7 +1,8 @@
-// The order of values, and that of targets.
-ghost use Rattle.std.specs.Prelude.{◌≡◌};
+// The order of values, of targets and of rows.
+ghost use Rattle.std.specs.Prelude.{◌≡◌, List, IsPermutation};
 ghost use Rattle.std.specs.Cmp.{IsTotalOrder};
-ghost use Rattle.mon_value.specs.Order.{value_cmp, target_cmp, TellsApart};
+ghost use Rattle.mon_value.specs.declared.tables.TimedRow.{TimedRow};
+ghost use Rattle.mon_value.specs.Order.{row_cmp, sorted_rows, target_cmp, value_cmp, TellsApart};
 
 use crate::rows::Target;
 use crate::values::Value;
@@ -33,4 +34,14 @@ pub fn values_are_ordered()
 pub fn targets_are_ordered()
     ensures total { IsTotalOrder target_cmp }
     ensures equal { TellsApart target_cmp }
+{}
+
+/// The order of rows is total, and rows that it does not tell apart are equal. Sorting keeps the rows,
+/// and the same rows in any order are sorted alike.
+pub fn rows_are_ordered()
+    ensures total { IsTotalOrder row_cmp }
+    ensures equal { TellsApart row_cmp }
+    ensures kept { (rows : List TimedRow) → IsPermutation rows (sorted_rows rows) }
+    ensures alike { (rows others : List TimedRow) → IsPermutation rows others
+        → sorted_rows rows ≡ sorted_rows others }
 {}

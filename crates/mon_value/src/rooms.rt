@@ -1,6 +1,7 @@
 // The list for calls that promise to take no memory.
-ghost use Rattle.std.specs.Prelude.{◌≡◌, ◌+◌, ◌<◌, ◌≤◌, ◌++◌, ◌∷◌, [], length, slice_get, Some, OnOk};
+ghost use Rattle.std.specs.Prelude.{◌≡◌, ◌+◌, ◌<◌, ◌≤◌, ◌++◌, ◌∷◌, [], length, slice_get, Some, IfOk, OnOk};
 
+use crate::copying::{TryCopy, copied_items};
 use crate::lists::ListOf;
 use std::alloc::{AllocError, Global};
 use std::marker::Model;
@@ -33,28 +34,28 @@ impl<T> RoomListOf<T> {
 
     /// The list with what room its memory has. No memory is taken.
     pub fn from_list(list: ListOf<T>) -> Self
-        ensures same { result.items ≡ list }
+        ensures items { result.items ≡ list }
     {
         RoomListOf { items: list.items }
     }
 
     /// The list without its room. No memory is taken.
     pub fn into_list(self) -> ListOf<T>
-        ensures same { result ≡ self.items }
+        ensures items { result ≡ self.items }
     {
         ListOf { items: self.items }
     }
 
     /// How many items there are.
     pub fn len(&self) -> usize
-        ensures counts { result ≡ length self.now.items }
+        ensures count { result ≡ length self.now.items }
     {
         self.items.len()
     }
 
     /// The items as a slice.
     pub fn as_slice(&self) -> &[T]
-        ensures same { result.now ≡ self.now.items }
+        ensures items { result.now ≡ self.now.items }
     {
         self.items.as_slice()
     }
@@ -65,6 +66,17 @@ impl<T> RoomListOf<T> {
         ensures item { slice_get self.now.items i ≡ Some result.now }
     {
         &self.items[i]
+    }
+
+    /// A list of the same items, with what room its memory has.
+    pub fn copy(&self, alloc: Global) -> Result<RoomListOf<T>, AllocError>
+    where
+        T: TryCopy + Drop,
+        ensures items { IfOk result (λ copied. copied.items ≡ self.now.items) }
+    {
+        Ok(RoomListOf {
+            items: copied_items(alloc, self.items.as_slice())?,
+        })
     }
 
     /// Makes room for one item more, so that the next `push` takes no memory.

@@ -1,9 +1,7 @@
 // Series and their points.
-ghost use Rattle.std.specs.Prelude.{◌≡◌, ◌↔◌, IsTrue};
-ghost use Rattle.mon_value.specs.Sources.{same_series};
-
 use crate::copying::TryCopy;
 use crate::lists::ListOf;
+use crate::shared::Shared;
 use crate::texts::Text;
 use crate::values::{FieldValues, Value};
 use std::alloc::{AllocError, Global};
@@ -16,7 +14,7 @@ pub struct Target {
 }
 
 /// What tells a series from every other: its target, its metric's name and the metric's fields.
-#[derive(Debug, PartialEq, Eq, PartialOrd, Ord, Hash, Drop)]
+#[derive(Debug, PartialEq, Eq, Hash, Drop)]
 pub struct SeriesKey {
     pub target: Target,
     pub metric: Text,
@@ -25,17 +23,17 @@ pub struct SeriesKey {
 
 /// One measurement. `start` and `end` are whole seconds from the epoch. A gauge's point has its end
 /// as its start; a delta's speaks of the time after `start` up to `end`.
-#[derive(Debug, PartialEq, Eq, PartialOrd, Ord, Hash, Drop)]
+#[derive(Debug, PartialEq, Eq, Drop)]
 pub struct Point {
     pub start: i64,
     pub end: i64,
     pub value: Value,
 }
 
-/// A point of a series.
-#[derive(Debug, PartialEq, Eq, PartialOrd, Ord, Hash, Drop)]
+/// A point of a series. Rows of one series share its key.
+#[derive(Debug, PartialEq, Eq, Drop)]
 pub struct Row {
-    pub key: SeriesKey,
+    pub key: Shared<SeriesKey>,
     pub point: Point,
 }
 
@@ -81,12 +79,4 @@ impl TryCopy for Row {
             point: self.point.copy(alloc)?,
         })
     }
-}
-
-/// Whether two keys name one series.
-pub fn is_same_series(a: &SeriesKey, b: &SeriesKey) -> bool
-    ensures same { result ≡ same_series a.now b.now }
-    ensures equal { IsTrue result ↔ (a.now ≡ b.now) }
-{
-    a == b
 }

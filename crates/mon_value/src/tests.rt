@@ -1,37 +1,19 @@
+// Each call once; `cases` has tables of orders and of texts.
 ghost use Rattle.std.specs.Prelude.{◌≡◌, IfOk};
 
 use crate::{
     Anchor, Bounds, Column, Counts, FieldValue, FieldValues, ListOf, Point, RoomListOf, Row,
-    SeriesKey, Target, Text, TryCopy, Value, ValueType, compare, compare_targets, write_text,
+    SeriesKey, Shared, Target, Text, TryCopy, Value, ValueType, compare, compare_targets,
+    write_text,
 };
 use std::alloc::{AllocError, Global};
 use std::cmp::Ordering;
 use std::test::Fail;
 
 fn counts(alloc: Global, numbers: &[u128]) -> Result<Counts, AllocError>
-    ensures same { IfOk result (λ counts. counts ≡ numbers.now) }
+    ensures counts { IfOk result (λ counts. counts ≡ numbers.now) }
 {
     Ok(Counts::from_vec(Vec::from_slice(alloc, numbers)?))
-}
-
-// The counts that a text of numbers behind blanks spells.
-fn counts_of(alloc: Global, described: &str) -> Result<Counts, AllocError> {
-    let mut all = Counts::new(alloc);
-    for word in described.split_whitespace() {
-        all.push(word.parse().unwrap_or(0))?;
-    }
-    Ok(all)
-}
-
-// A value as `int N`, `bool B`, `text T` or `dist N N ..`.
-fn value_of(alloc: Global, described: &str) -> Result<Value, AllocError> {
-    let (kind, rest) = described.split_once(' ').unwrap_or((described, ""));
-    match kind.as_bytes().first() {
-        Some(b'i') => Ok(Value::Int(rest.parse().unwrap_or(0))),
-        Some(b'b') => Ok(Value::Bool(rest == "true")),
-        Some(b't') => Ok(Value::Text(Text::from_str(alloc, rest)?)),
-        _ => Ok(Value::Dist(counts_of(alloc, rest)?)),
-    }
 }
 
 fn target_of(alloc: Global, schema: &str, field: i64) -> Result<Target, AllocError> {
@@ -78,56 +60,20 @@ fn distributions_merge(rt: HostRuntime) -> Result<(), Fail> {
 }
 
 #[test]
-fn values_stand_in_order(rt: HostRuntime) -> Result<(), Fail> {
+fn values_and_targets_stand_in_order(rt: HostRuntime) -> Result<(), Fail> {
     let alloc = rt.alloc();
-    let rising = [
-        "int -7",
-        "int 3",
-        "bool false",
-        "bool true",
-        "text ",
-        "text B",
-        "text a",
-        "dist 1 9",
-        "dist 2",
-    ];
-    for (i, a) in rising.iter().enumerate() {
-        for (k, b) in rising.iter().enumerate() {
-            let order = compare(&value_of(alloc, a)?, &value_of(alloc, b)?);
-            assert!(rt; order == i.cmp(&k), "{a} and {b}");
-        }
-    }
+    let order = compare(&Value::Int(3), &Value::Bool(false));
+    assert_eq!(rt; order, Ordering::Less);
+    let order = compare_targets(&target_of(alloc, "T", 1)?, &target_of(alloc, "T", -1)?);
+    assert_eq!(rt; order, Ordering::Greater);
     Ok(())
 }
 
 #[test]
-fn targets_stand_in_order(rt: HostRuntime) -> Result<(), Fail> {
+fn a_distribution_prints(rt: HostRuntime) -> Result<(), Fail> {
     let alloc = rt.alloc();
-    let rising = [("S", 9), ("T", -1), ("T", 1), ("TT", 0)];
-    for (i, a) in rising.iter().enumerate() {
-        for (k, b) in rising.iter().enumerate() {
-            let order = compare_targets(&target_of(alloc, a.0, a.1)?, &target_of(alloc, b.0, b.1)?);
-            assert!(rt; order == i.cmp(&k), "{a:?} and {b:?}");
-        }
-    }
-    Ok(())
-}
-
-#[test]
-fn values_print(rt: HostRuntime) -> Result<(), Fail> {
-    let alloc = rt.alloc();
-    let cases = [
-        ("int -18446744073709551616", "-18446744073709551616"),
-        ("bool true", "true"),
-        ("bool false", "false"),
-        ("text a;b", "a;b"),
-        ("dist 4 3 1", "4;3;1"),
-        ("dist", ""),
-    ];
-    for (described, want) in cases {
-        let text = write_text(alloc, &value_of(alloc, described)?)?;
-        assert!(rt; text.as_str() == want, "{described}");
-    }
+    let value = Value::Dist(counts(alloc, [4, 3, 1].as_slice())?);
+    assert_eq!(rt; write_text(alloc, &value)?.as_str(), "4;3;1");
     Ok(())
 }
 
@@ -135,11 +81,14 @@ fn values_print(rt: HostRuntime) -> Result<(), Fail> {
 fn copies_equal_their_originals(rt: HostRuntime) -> Result<(), Fail> {
     let alloc = rt.alloc();
     let row = Row {
-        key: SeriesKey {
-            target: target_of(alloc, "T", 7)?,
-            metric: empty_text(alloc),
-            fields: FieldValues::new(alloc),
-        },
+        key: Shared::new(
+            alloc,
+            SeriesKey {
+                target: target_of(alloc, "T", 7)?,
+                metric: empty_text(alloc),
+                fields: FieldValues::new(alloc),
+            },
+        )?,
         point: Point {
             start: 10,
             end: 10,
@@ -161,13 +110,32 @@ fn copies_equal_their_originals(rt: HostRuntime) -> Result<(), Fail> {
 
 #[test]
 fn lists_grow_and_keep_room(rt: HostRuntime) -> Result<(), Fail> {
-    let mut list = ListOf::new(rt.alloc());
+    let alloc = rt.alloc();
+    let mut list = ListOf::new(alloc);
+    assert!(rt; list.is_empty());
     list.push(7u32)?;
     let mut roomy = RoomListOf::from_list(list);
     roomy.reserve_one()?;
     roomy.push(8);
     assert_eq!(rt; roomy.len(), 2);
     assert_eq!(rt; *roomy.get(1), 8);
-    assert_eq!(rt; roomy.into_list().as_slice(), [7, 8].as_slice());
+    assert_eq!(rt; roomy.copy(alloc)?.as_slice(), [7, 8].as_slice());
+    let mut list = roomy.into_list();
+    list.as_mut_slice()[0] = 6;
+    assert_eq!(rt; list.first(), Some(&6));
+    assert_eq!(rt; list.last(), Some(&8));
+    assert_eq!(rt; list.iter().copied().sum::<u32>(), 14);
+    assert_eq!(rt; list.into_iter().next(), Some(6));
+    Ok(())
+}
+
+#[test]
+fn shared_values_are_equal_by_content(rt: HostRuntime) -> Result<(), Fail> {
+    let alloc = rt.alloc();
+    let first = Shared::new(alloc, target_of(alloc, "T", 7)?)?;
+    let other = Shared::new(alloc, target_of(alloc, "T", 7)?)?;
+    assert!(rt; first.copy(alloc)? == other);
+    assert!(rt; first.schema.as_str() == "T");
+    assert!(rt; first != Shared::new(alloc, target_of(alloc, "T", 8)?)?);
     Ok(())
 }

@@ -27,14 +27,14 @@ impl Model for Text {
 impl Text {
     /// The text that `content` is.
     pub fn from_string(content: String) -> Self
-        ensures same { result ≡ string_bytes content }
+        ensures bytes { result ≡ string_bytes content }
     {
         Text { content }
     }
 
     /// A copy of a text.
     pub fn from_str(alloc: Global, content: &str) -> Result<Self, AllocError>
-        ensures same { IfOk result (λ text. text ≡ content.now) }
+        ensures bytes { IfOk result (λ text. text ≡ content.now) }
     {
         Ok(Text {
             content: String::from_str(alloc, content)?,
@@ -42,9 +42,9 @@ impl Text {
     }
 
     /// The text that the bytes are, or `None` where they are not UTF-8.
-    #[tactic(auto, using(crate::proofs::Utf8::utf8))]
+    #[tactic(auto, using(crate::proofs::TextLemmas::utf8))]
     pub fn from_utf8(alloc: Global, bytes: &[u8]) -> Result<Option<Self>, AllocError>
-        ensures exact { IfOk result (λ text. text ≡ text_in bytes.now) }
+        ensures text { IfOk result (λ text. text ≡ text_in bytes.now) }
     {
         match str::from_utf8(bytes) {
             Ok(content) => Ok(Some(Text::from_str(alloc, content)?)),
@@ -52,14 +52,16 @@ impl Text {
         }
     }
 
+    /// The text as a string slice.
     pub fn as_str(&self) -> &str
-        ensures same { result.now ≡ self.now }
+        ensures bytes { result.now ≡ self.now }
     {
         self.content.as_str()
     }
 
+    /// The bytes of the text.
     pub fn as_bytes(&self) -> &[u8]
-        ensures same { result.now ≡ self.now }
+        ensures bytes { result.now ≡ self.now }
     {
         self.content.as_bytes()
     }

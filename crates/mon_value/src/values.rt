@@ -100,7 +100,7 @@ pub fn write_text(alloc: Global, value: &Value) -> Result<Text, AllocError>
 }
 
 // The counts in decimal, joined by `;`.
-#[tactic(auto, using(crate::proofs::Joined::joined))]
+#[tactic(auto, using(crate::proofs::ValueTextLemmas::joined))]
 fn counts_text(alloc: Global, counts: &[u128]) -> Result<Text, AllocError>
     ensures text { IfOk result (λ text. text ≡ counts_joined counts.now) }
 {

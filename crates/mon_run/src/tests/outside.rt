@@ -1,20 +1,28 @@
-// The folders and the sink that no run in memory meets.
-use super::{CONFIG, POINTS, SCRIPT, files};
-use crate::{CalmFolder, Failed, FileFolder, Folder, FolderFault, OutSink, Sink};
+// The folders and the sinks at the edge.
+use crate::outside::read_front;
+use crate::{
+    CalmFolder, Failed, FileFolder, Folder, FolderFault, MemoryFile, MemoryFiles, OutSink, Sink,
+};
+use mon_value::Text;
 use std::fmt::Display;
-use std::io::{ErrorKind, Print};
+use std::io::{ErrorKind, Print, Read};
 use std::test::Fail;
 use std::{env, fs, io};
 
 #[test]
 fn a_calm_folder_reads_every_name(rt: HostRuntime) -> Result<(), Fail> {
     let alloc = rt.alloc();
-    let mut folder = CalmFolder::new(files(alloc, CONFIG, SCRIPT, POINTS.as_bytes())?);
-    let read = folder.read(alloc, "p.csv", 17).unwrap_or(Vec::new(alloc));
-    assert_eq!(rt; read.as_slice(), POINTS.as_bytes());
-    let missing = folder.read(alloc, "q.csv", 17).unwrap_or(read);
+    let mut files = MemoryFiles::new(alloc);
+    files.push(MemoryFile {
+        name: Text::from_str(alloc, "p.csv")?,
+        content: b"text".to_vec(alloc)?,
+    })?;
+    let mut folder = CalmFolder::new(alloc, files);
+    let read = folder.read(alloc, "p.csv", 4).unwrap_or(Vec::new(alloc));
+    assert_eq!(rt; read.as_slice(), b"text".as_slice());
+    let missing = folder.read(alloc, "q.csv", 4).unwrap_or(read);
     assert_eq!(rt; missing.len(), 0);
-    assert!(rt; matches!(folder.read(alloc, "p.csv", 16), Err(FolderFault::TooLong)));
+    assert!(rt; matches!(folder.read(alloc, "p.csv", 3), Err(FolderFault::TooLong)));
     Ok(())
 }
 
@@ -25,15 +33,26 @@ fn a_folder_of_files(rt: HostRuntime) -> Result<(), Fail> {
     let Some(name) = path.as_path().to_str() else {
         return Err(Fail::from("no name"));
     };
-    fs::write(&rt, name, POINTS)?;
+    fs::write(&rt, name, b"text")?;
     let mut folder = FileFolder::new(alloc, &rt);
-    let whole = folder.read(alloc, name, 17).unwrap_or(Vec::new(alloc));
-    let long = folder.read(alloc, name, 16);
+    let whole = folder.read(alloc, name, 4).unwrap_or(Vec::new(alloc));
+    let long = folder.read(alloc, name, 3);
     fs::remove_file(&rt, name)?;
-    assert_eq!(rt; whole.as_slice(), POINTS.as_bytes());
+    assert_eq!(rt; whole.as_slice(), b"text".as_slice());
     assert!(rt; matches!(long, Err(FolderFault::TooLong)));
-    assert!(rt; matches!(folder.read(alloc, name, 17), Err(FolderFault::Failed)));
-    assert!(rt; matches!(folder.read(alloc, "/", 17), Err(FolderFault::Failed)));
+    assert!(rt; matches!(folder.read(alloc, name, 4), Err(FolderFault::Failed)));
+    assert!(rt; matches!(folder.read(alloc, "/", 4), Err(FolderFault::Failed)));
+    Ok(())
+}
+
+#[test]
+fn a_read_that_stops_early_and_one_without_end(rt: HostRuntime) -> Result<(), Fail> {
+    let alloc = rt.alloc();
+    let parts = b"te".as_slice().chain(b"xt".as_slice());
+    let whole = read_front(alloc, parts, 9)?;
+    assert_eq!(rt; whole.as_slice(), b"text".as_slice());
+    let front = read_front(alloc, io::repeat(b'a'), 9)?;
+    assert_eq!(rt; front.len(), 9);
     Ok(())
 }
 
@@ -54,9 +73,31 @@ impl Print for Closed {
     }
 }
 
+// An output that takes so many bytes of each write.
+struct Narrow(usize);
+
+impl Print for Narrow {
+    fn print<D: Display + Drop>(&self, _value: D) -> io::Result<()> {
+        Ok(())
+    }
+
+    fn println<D: Display + Drop>(&self, _value: D) -> io::Result<()> {
+        Ok(())
+    }
+
+    fn write_all(&self, _bytes: &[u8]) -> io::Result<()> {
+        Ok(())
+    }
+
+    fn write_some(&self, bytes: &[u8]) -> io::Result<usize> {
+        Ok(bytes.len().min(self.0))
+    }
+}
+
 #[test]
-fn an_output_that_is_closed(rt: HostRuntime) -> Result<(), Fail> {
+fn outputs_that_are_closed_or_narrow(rt: HostRuntime) -> Result<(), Fail> {
     assert_eq!(rt; OutSink::new(&Closed).write(b"text"), Err(Failed));
-    assert_eq!(rt; OutSink::new(&rt).write(b""), Ok(0));
+    assert_eq!(rt; OutSink::new(&Narrow(0)).write(b"text"), Err(Failed));
+    assert_eq!(rt; OutSink::new(&Narrow(3)).write(b"text"), Ok(3));
     Ok(())
 }

@@ -1,7 +1,7 @@
 -- no key so far is unknown, so the first unknown key is that of the rest
 use Rattle.std.proofs.Common.{◌≡◌, map}
 use Rattle.mon_config.specs.Objects.{keys_of}
-use Rattle.mon_config.proofs.Unknown.{first_unknown}
+use Rattle.mon_config.proofs.UnknownKeyLemmas.{first_unknown}
 use Rattle.mon_config.proofs.keys.unknown_in.Given as goal
 
 abbrev pub invariant-loop-key : goal.invariant-loop-key

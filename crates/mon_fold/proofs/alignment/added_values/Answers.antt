@@ -1,7 +1,7 @@
 use Rattle.std.proofs.Common.{◌≡◌, ◌-ℤ◌, ◌<ℤ◌, ◌≤ℤ◌, List, ℤ, to_z, of_z, w64, sym, ap, subst, ◌∙◌, rules, arith}
 use Rattle.std.specs.List.{AllByRecursion}
 use Rattle.std.proofs.lemmas.Int.{ints}
-use Rattle.mon_value.specs.Alignments.{aligned, SumFits, timed, value_at}
+use Rattle.mon_value.specs.Alignments.{aligned_values, SumFits, timed_values, value_at}
 use Rattle.mon_value.specs.Grids.{grid_times}
 use Rattle.mon_value.specs.declared.grids.Grid.{Grid}
 use Rattle.mon_value.specs.declared.grids.TimedValue.{TimedValue}
@@ -19,7 +19,7 @@ IsNext by grid points time = (((grid.moment -ℤ grid.within) <ℤ time) × (tim
 
 -- what a time gives
 abbrev made_at : Aligner → List Point → ℤ → List TimedValue
-made_at by points time = timed time (value_at by points time)
+made_at by points time = timed_values time (value_at by points time)
 
 pub loop-init : goal.loop-init
 loop-init c =
@@ -32,7 +32,7 @@ loop-init c =
     let same : moment ≡ grid.moment = omega (arith, ints) in record {
       whole = begins_whole (made_at by points) grid c.new-values.result c.times_of-end.result moment c.new-values.ensures.empty c.times_of-end.ensures same;
       left = begins_all (IsNext by grid points) grid c.times_of-end.result moment c.times_of-end.ensures same (both_hold _ (SumFits by points) (grid_times grid) (grid_between grid c.requires.lawful) sums);
-      totalled = subst (IsTotalled c.behind-window.result) c.points.ensures.same c.behind-window.ensures;
+      totalled = subst (IsTotalled c.behind-window.result) c.points.ensures.points c.behind-window.ensures;
     }
 
 pub window_at-requires-clause-after : goal.window_at-requires-clause-after
@@ -73,7 +73,7 @@ loop-preserved c =
     let every = c.requires.lawful.every in
     let made = c.in_ok-total.ensures ∙ c.in_ok-window.ensures.total in
     let step : next ≡ time -ℤ grid.every = omega (arith, ints) in record {
-      whole = rw c.in_ok-add_value.ensures (made_more (made_at by points) c.loop.values (aligned by grid points) n k time next grid.every c.loop-test.true step c.loop.invariant.whole (timed time c.in_ok-total.field-0) (ap (timed time) (sym made)));
+      whole = rw c.in_ok-add_value.ensures (made_more (made_at by points) c.loop.values (aligned_values by grid points) n k time next grid.every c.loop-test.true step c.loop.invariant.whole (timed_values time c.in_ok-total.field-0) (ap (timed_values time) (sym made)));
       left = holds_later (IsNext by grid points) n k time next grid.every c.loop-test.true step c.loop.invariant.left;
       totalled = c.in_ok-window.ensures.totalled;
     }

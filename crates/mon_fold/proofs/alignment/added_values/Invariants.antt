@@ -2,7 +2,7 @@
 -- reach, and its sum fits; the last window's total is that of its points
 use Rattle.std.proofs.Common.{◌≡◌, ◌-◌, ◌-ℤ◌, ◌<ℤ◌, ◌≤ℤ◌, ◌++◌}
 use Rattle.std.specs.List.{AllByRecursion, flat_map}
-use Rattle.mon_value.specs.Alignments.{aligned, SumFits, timed, value_at}
+use Rattle.mon_value.specs.Alignments.{aligned_values, SumFits, timed_values, value_at}
 use Rattle.mon_value.specs.declared.aligners.Aligner.TheVariants.{Delta}
 use Rattle.mon_value.specs.Grids.{times_back}
 use Rattle.mon_fold.specs.SlidingWindows.{IsTotalled}
@@ -10,7 +10,7 @@ use Rattle.mon_fold.proofs.alignment.added_values.Given as goal
 
 abbrev pub invariant-loop : goal.invariant-loop
 invariant-loop l = record {
-  whole : l.values ++ flat_map (λ time. timed time (value_at (Delta l.seconds) l.points.points time)) (times_back (l.end - l.counter) l.time l.grid.every) ≡ aligned (Delta l.seconds) l.grid l.points.points;
+  whole : l.values ++ flat_map (λ time. timed_values time (value_at (Delta l.seconds) l.points.points time)) (times_back (l.end - l.counter) l.time l.grid.every) ≡ aligned_values (Delta l.seconds) l.grid l.points.points;
   left : AllByRecursion (λ time. (((l.grid.moment -ℤ l.grid.within) <ℤ time) × (time ≤ℤ l.grid.moment)) × SumFits (Delta l.seconds) l.points.points time) (times_back (l.end - l.counter) l.time l.grid.every);
   totalled : IsTotalled l.window l.points.points;
 }

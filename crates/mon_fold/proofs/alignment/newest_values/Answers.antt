@@ -1,7 +1,7 @@
 use Rattle.std.proofs.Common.{◌≡◌, ◌-ℤ◌, ◌<ℤ◌, ◌≤ℤ◌, List, ℤ, to_z, of_z, w64, option_map, sym, ap, subst, ◌∙◌, rules, arith}
 use Rattle.std.specs.List.{AllByRecursion}
 use Rattle.std.proofs.lemmas.Int.{ints}
-use Rattle.mon_value.specs.Alignments.{aligned, newest, SumFits, timed, value_at}
+use Rattle.mon_value.specs.Alignments.{aligned_values, newest_point, SumFits, timed_values, value_at}
 use Rattle.mon_value.specs.Grids.{grid_times}
 use Rattle.mon_value.specs.declared.grids.Grid.{Grid}
 use Rattle.mon_value.specs.declared.grids.TimedValue.{TimedValue}
@@ -18,7 +18,7 @@ IsNext by grid points time = (((grid.moment -ℤ grid.within) <ℤ time) × (tim
 
 -- what a time gives
 abbrev made_at : Aligner → List Point → ℤ → List TimedValue
-made_at by points time = timed time (value_at by points time)
+made_at by points time = timed_values time (value_at by points time)
 
 pub loop-init : goal.loop-init
 loop-init c =
@@ -63,8 +63,8 @@ loop-preserved c =
     let moment = c.requires.lawful.moment in
     let within = c.requires.lawful.within in
     let every = c.requires.lawful.every in
-    let made = c.in_ok-value.ensures ∙ ap (λ seen. option_map (λ (p : Point). p.value) (newest seen)) c.window.ensures.window in
+    let made = c.in_ok-value.ensures ∙ ap (λ seen. option_map (λ (p : Point). p.value) (newest_point seen)) c.window.ensures.window in
     let step : next ≡ time -ℤ grid.every = omega (arith, ints) in record {
-      whole = rw c.in_ok-add_value.ensures (made_more (made_at by points) c.loop.values (aligned by grid points) n k time next grid.every c.loop-test.true step c.loop.invariant.whole (timed time c.in_ok-value.value) (ap (timed time) (sym made)));
+      whole = rw c.in_ok-add_value.ensures (made_more (made_at by points) c.loop.values (aligned_values by grid points) n k time next grid.every c.loop-test.true step c.loop.invariant.whole (timed_values time c.in_ok-value.value) (ap (timed_values time) (sym made)));
       left = holds_later (IsNext by grid points) n k time next grid.every c.loop-test.true step c.loop.invariant.left;
     }

@@ -2,13 +2,13 @@
 -- reach, and its sum fits
 use Rattle.std.proofs.Common.{◌≡◌, ◌-◌, ◌-ℤ◌, ◌<ℤ◌, ◌≤ℤ◌, ◌++◌}
 use Rattle.std.specs.List.{AllByRecursion, flat_map}
-use Rattle.mon_value.specs.Alignments.{aligned, SumFits, timed, value_at}
+use Rattle.mon_value.specs.Alignments.{aligned_values, SumFits, timed_values, value_at}
 use Rattle.mon_value.specs.declared.aligners.Aligner.TheVariants.{NextOlder}
 use Rattle.mon_value.specs.Grids.{times_back}
 use Rattle.mon_fold.proofs.alignment.newest_values.Given as goal
 
 abbrev pub invariant-loop : goal.invariant-loop
 invariant-loop l = record {
-  whole : l.values ++ flat_map (λ time. timed time (value_at (NextOlder l.seconds) l.points.points time)) (times_back (l.end - l.counter) l.time l.grid.every) ≡ aligned (NextOlder l.seconds) l.grid l.points.points;
+  whole : l.values ++ flat_map (λ time. timed_values time (value_at (NextOlder l.seconds) l.points.points time)) (times_back (l.end - l.counter) l.time l.grid.every) ≡ aligned_values (NextOlder l.seconds) l.grid l.points.points;
   left : AllByRecursion (λ time. (((l.grid.moment -ℤ l.grid.within) <ℤ time) × (time ≤ℤ l.grid.moment)) × SumFits (NextOlder l.seconds) l.points.points time) (times_back (l.end - l.counter) l.time l.grid.every);
 }

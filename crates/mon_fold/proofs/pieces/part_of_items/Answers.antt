@@ -5,7 +5,7 @@ use Rattle.mon_fold.proofs.pieces.part_of_items.Goals as goal
 pub add-requires : goal.add-requires
 add-requires g c =
     let members = g.F.Fold in
-    let laws = g.met.F.Fold in
+    let laws = g.met.F.Fold.laws in
     let fold = c.args.fold.now in
     let items = c.args.items.now in
     let i = c.loop-item.item-index in

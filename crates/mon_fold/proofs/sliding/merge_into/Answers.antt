@@ -6,7 +6,7 @@ use Rattle.mon_fold.proofs.sliding.merge_into.Goals as goal
 use Rattle.mon_fold.proofs.sliding.merge_into.Goals.{in-Dist, in_default}
 
 pub loop-point-init : goal.loop-point-init
-loop-point-init c = record { same = sym (counts_added-nil c.args.counts); long = refl }
+loop-point-init c = record { added = sym (counts_added-nil c.args.counts); long = refl }
 
 pub merge-requires-clause-buckets : goal.merge-requires-clause-buckets
 merge-requires-clause-buckets c =
@@ -18,7 +18,7 @@ merge-requires-clause-sums c =
     let points = c.args.points.now in
     let i = c.loop-point.point-index in
     let more = counts_more c.args.counts points i c.point-item.result c.in-Dist.more c.point-item.is c.in-Dist.is (omega arith) in
-    let both = more ∙ ap (λ so_far. counts_added so_far c.in-Dist.more) (sym c.loop-point.invariant.same) in
+    let both = more ∙ ap (λ so_far. counts_added so_far c.in-Dist.more) (sym c.loop-point.invariant.added) in
     let bound : sum (counts_added c.loop-point.counts c.in-Dist.more) ≤ 2 ^ 126 =
     rw (← both) (omega (arith, total_bounded c.args.counts points (i + 1))) in
     counts_within (counts_added c.loop-point.counts c.in-Dist.more) (2 ^ 126) bound
@@ -31,7 +31,7 @@ loop-point-preserved c =
       | in-Dist w ↦
           let more = counts_more c.args.counts points i c.point-item.result w.in-Dist.more c.point-item.is w.in-Dist.is (omega arith) in
           let long = long_at c.args.counts w.in-Dist.more points i c.point-item.result c.point-item.is w.in-Dist.is (omega arith) c.requires.alike in record {
-            same = w.counts-is ∙ w.merge.ensures.added ∙ ap (λ so_far. counts_added so_far w.in-Dist.more) c.loop-point.invariant.same ∙ sym more;
+            added = w.counts-is ∙ w.merge.ensures.added ∙ ap (λ so_far. counts_added so_far w.in-Dist.more) c.loop-point.invariant.added ∙ sym more;
             long = rw (w.counts-is, w.merge.ensures.added) (omega (arith, length-counts_added c.loop-point.counts w.in-Dist.more));
           }
       | in_default w ↦ absurd (no_other c.args.counts points i c.point-item.result c.point-item.is w.in_default.not-Dist (omega arith) c.requires.alike)

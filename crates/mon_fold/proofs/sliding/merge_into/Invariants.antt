@@ -7,6 +7,6 @@ use Rattle.mon_fold.proofs.sliding.merge_into.Given as goal
 
 abbrev pub invariant-loop-point : goal.invariant-loop-point
 invariant-loop-point l = record {
-  same : l.counts ≡ counts_added l.fn.counts (counts_of (distributions_in (values_of (take l.point-index l.points))));
+  added : l.counts ≡ counts_added l.fn.counts (counts_of (distributions_in (values_of (take l.point-index l.points))));
   long : length l.counts ≡ length l.fn.counts;
 }

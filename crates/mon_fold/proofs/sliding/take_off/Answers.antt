@@ -1,5 +1,5 @@
-use Rattle.std.proofs.Common.{◌≡◌, ◌+◌, ◌≤◌, get_or, length, ap, arith}
-use Rattle.std.proofs.lemmas.List.{with_items_is}
+use Rattle.std.proofs.Common.{◌≡◌, ◌+◌, ◌≤◌, get_or, length, ap, ◌∙◌, arith}
+use Rattle.mon_value.proofs.ListLendsLemmas.{items_written-all}
 use Rattle.mon_fold.proofs.AlignmentLemmas.{long_at, no_other}
 use Rattle.mon_fold.proofs.SlidingLemmas.{count_more, count_within}
 use Rattle.mon_fold.proofs.sliding.take_off.Goals as goal
@@ -8,15 +8,15 @@ use Rattle.mon_fold.proofs.sliding.take_off.Goals.{in-Dist, in_default}
 pub subtract-requires-clause-buckets : goal.subtract-requires-clause-buckets
 subtract-requires-clause-buckets c =
     let long = long_at c.args.counts c.in-Dist.less c.args.points.now c.loop-point.point-index c.point-item.result c.point-item.is c.in-Dist.is (omega arith) c.requires.alike in
-    rw (c.as_slice.ensures.same, c.as_mut_slice.ensures.value, c.loop-point.invariant.long) long
+    rw (c.as_slice.ensures.items, c.as_mut_slice.ensures.items, c.loop-point.invariant.long) long
 
 pub subtract-requires-clause-held : goal.subtract-requires-clause-held
 subtract-requires-clause-held c k =
     let points = c.args.points.now in
     let i = c.loop-point.point-index in
     let more = count_more points i c.point-item.result c.in-Dist.less c.point-item.is c.in-Dist.is (omega arith) k in
-    let bound : get_or c.in-Dist.less k 0 ≤ get_or c.loop-point.items.items k 0 = omega (arith, more, count_within points (i + 1) k, c.requires.held k, c.loop-point.invariant.taken k) in
-    rw (c.as_slice.ensures.same, c.as_mut_slice.ensures.value) bound
+    let bound : get_or c.in-Dist.less k 0 ≤ get_or c.loop-point.counts k 0 = omega (arith, more, count_within points (i + 1) k, c.requires.held k, c.loop-point.invariant.taken k) in
+    rw (c.as_slice.ensures.items, c.as_mut_slice.ensures.items) bound
 
 pub loop-point-preserved : goal.loop-point-preserved
 loop-point-preserved c =
@@ -24,7 +24,7 @@ loop-point-preserved c =
     let i = c.loop-point.point-index in
     elim c.match-point.branch [
       | in-Dist w ↦
-          let written : c.match-point.items.items ≡ w.subtract.new.counts = rw w.items-is (with_items_is c.loop-point.items w.subtract.new.counts (omega arith)) in record {
+          let written : c.match-point.counts ≡ w.subtract.new.counts = w.counts-is ∙ items_written-all c.loop-point.counts w.subtract.new.counts (omega (arith, w.subtract.ensures.buckets, ap length w.as_mut_slice.ensures.items)) in record {
             taken = λ k.
                 let more = count_more points i c.point-item.result w.in-Dist.less c.point-item.is w.in-Dist.is (omega arith) k in
                 omega (
@@ -33,10 +33,10 @@ loop-point-preserved c =
                   c.loop-point.invariant.taken k,
                   w.subtract.ensures.taken k,
                   ap (λ counts. get_or counts k 0) written,
-                  ap (λ counts. get_or counts k 0) w.as_slice.ensures.same,
-                  ap (λ counts. get_or counts k 0) w.as_mut_slice.ensures.value,
+                  ap (λ counts. get_or counts k 0) w.as_slice.ensures.items,
+                  ap (λ counts. get_or counts k 0) w.as_mut_slice.ensures.items,
                 );
-            long = omega (arith, ap length written, w.subtract.ensures.buckets, ap length w.as_mut_slice.ensures.value, c.loop-point.invariant.long);
+            long = omega (arith, ap length written, w.subtract.ensures.buckets, ap length w.as_mut_slice.ensures.items, c.loop-point.invariant.long);
           }
       | in_default w ↦ absurd (no_other c.args.counts points i c.point-item.result c.point-item.is w.in_default.not-Dist (omega arith) c.requires.alike)
     ]

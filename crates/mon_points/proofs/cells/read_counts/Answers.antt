@@ -6,7 +6,7 @@ use Rattle.std.proofs.lemmas.Iterator.Splits.{YieldsList-from_str_split}
 use Rattle.std.proofs.lemmas.List.{length_push}
 use Rattle.mon_value.specs.Values.{semicolon}
 use Rattle.mon_points.specs.Cells.{counts_of}
-use Rattle.mon_points.proofs.CountLists.{counts_of-more, counts_of-none}
+use Rattle.mon_points.proofs.CountsOfLemmas.{counts_of-more, counts_of-none}
 use Rattle.mon_points.proofs.cells.read_counts.Goals as goal
 
 pub returns-in_default : goal.returns-in_default

@@ -1,6 +1,6 @@
 use Rattle.std.proofs.Common.{lit<}
 use Rattle.csv.specs.Records.{fields_of}
-use Rattle.mon_points.proofs.FieldLists.{short_at, leading_at, found_at}
+use Rattle.mon_points.proofs.FieldsReadLemmas.{short_at, leading_at, found_at}
 use Rattle.mon_points.proofs.records.leading_cells.Goals as goal
 
 pub returns-in_err-get : goal.returns-in_err-get

@@ -1,5 +1,5 @@
 use Rattle.csv.specs.Records.{fields_of}
-use Rattle.mon_points.proofs.FieldLists.{row_read-short}
+use Rattle.mon_points.proofs.FieldsReadLemmas.{row_read-short}
 use Rattle.mon_points.proofs.records.read_row.Goals as goal
 
 pub returns-in-None : goal.returns-in-None

@@ -1,26 +1,30 @@
-use Rattle.std.proofs.Common.{map, string_bytes}
-use Rattle.mon_run.proofs.Told.{run_told}
-use Rattle.mon_run.proofs.Written.{run_unread, run_writes}
+use Rattle.std.proofs.Common.{rules, ◌≡◌, ◌∙◌, List, [], ℕ, OnOk, IfErr, map, string_bytes, sym, ap, subst}
+use Rattle.std.proofs.lemmas.Result.{on_ok_weaker}
+use Rattle.mon_run.specs.Endings.{Progress, RunIs, progress}
+use Rattle.mon_run.specs.Plans.{Plan, run_plan}
+use Rattle.mon_run.specs.declared.stop.Stop.{Stop}
+use Rattle.mon_run.specs.within.Stops.{Done, Halts, Stops, run_state}
+use Rattle.mon_run.proofs.EndLemmas.{run_ended}
+use Rattle.mon_run.proofs.RunLemmas.{err_weaker}
 use Rattle.mon_run.proofs.command.run.Goals as goal
 
 pub returns-clause-told : goal.returns-clause-told
-returns-clause-told g c =
-    run_told (g.F.Folder.files c.args.folder.now) (map string_bytes c.args.words.now) c.run_words-ended.result c.close-status.result (g.O.Sink.faults c.run_words-ended.new.out) (g.O.Sink.faults c.close-status.new.out)
-    c.run_words-ended.new.ends c.run_words-ended.new.store c.into_rows.result (g.O.Sink.written c.args.out.now) (g.O.Sink.written c.run_words-ended.new.out) (g.O.Sink.written c.close-status.new.out)
-    c.into_rows.ensures.all c.run_words-ended.ensures.ended c.close-status.ensures.closes
-
-pub returns-clause-front : goal.returns-clause-front
-returns-clause-front g c =
-    run_writes (g.F.Folder.files c.args.folder.now) (map string_bytes c.args.words.now) c.run_words-ended.result c.close-status.result c.run_words-ended.new.ends c.run_words-ended.new.store
-    (g.F.Folder.faults c.args.folder.now) (g.F.Folder.faults c.run_words-ended.new.folder) (g.F.Folder.last c.run_words-ended.new.folder)
-    (g.O.Sink.faults c.args.out.now) (g.O.Sink.faults c.run_words-ended.new.out) (g.O.Sink.faults c.close-status.new.out)
-    (g.O.Sink.written c.args.out.now) (g.O.Sink.written c.run_words-ended.new.out) (g.O.Sink.written c.close-status.new.out)
-    c.run_words-ended.ensures.ended c.run_words-ended.ensures.cuts c.run_words-ended.ensures.causes c.close-status.ensures.closes
-
-pub returns-clause-unread : goal.returns-clause-unread
-returns-clause-unread g c =
-    run_unread (g.F.Folder.files c.args.folder.now) (map string_bytes c.args.words.now) c.run_words-ended.result c.close-status.result c.run_words-ended.new.ends
-    (g.F.Folder.faults c.args.folder.now) (g.F.Folder.faults c.run_words-ended.new.folder) (g.F.Folder.last c.run_words-ended.new.folder)
-    (g.O.Sink.faults c.args.out.now) (g.O.Sink.faults c.run_words-ended.new.out) (g.O.Sink.faults c.close-status.new.out)
-    (g.O.Sink.written c.args.out.now) (g.O.Sink.written c.run_words-ended.new.out) (g.O.Sink.written c.close-status.new.out)
-    c.run_words-ended.ensures.cuts c.run_words-ended.ensures.causes c.close-status.ensures.closes
+returns-clause-told g c = λ files told.
+    let plan : Plan = run_plan files (map string_bytes c.args.words.now) in
+    let fresh : Progress = run_state (g.F.Folder.state c.args.folder.now) (g.O.Sink.state c.args.out.now) c.new-log.result in
+    let before : Progress = progress (g.F.Folder.state c.args.folder.now) (g.O.Sink.state c.args.out.now) [] [] in
+    let mid : Progress = run_state (g.F.Folder.state c.command-ended.new.self.folder.now) (g.O.Sink.state c.command-ended.new.self.out.now) c.command-ended.new.self.log.now in
+    let after : Progress = run_state (g.F.Folder.state c.close-status.new.self.folder.now) (g.O.Sink.state c.close-status.new.self.out.now) c.close-status.new.self.log.now in
+    let start : fresh ≡ before = λ i. progress (g.F.Folder.state c.args.folder.now) (g.O.Sink.state c.args.out.now) (c.new-log.ensures.ends i) (c.new-log.ensures.rows i) in
+    let ended = c.command-ended.result in
+    let done = on_ok_weaker ended (λ completes. completes files told) c.command-ended.ensures.completes in
+    let stops = err_weaker ended (λ (s : Stop). Halts (λ fs. run_plan fs (map string_bytes c.args.words.now)) s fresh mid) (λ (s : Stop). Stops plan s fresh mid) (λ stopped halts. halts files told) c.command-ended.ensures.halts in
+    let ran : RunIs plan c.close-status.result fresh after =
+    run_ended plan fresh mid after ended c.close-status.result done stops c.command-ended.ensures.causes c.command-ended.ensures.counts c.close-status.ensures.counts c.close-status.ensures.folder c.close-status.ensures.closes in
+    let fact : RunIs plan c.close-status.result before after = subst (λ (b : Progress). RunIs plan c.close-status.result b after) start ran in
+    let folder : c.folder-1.given.0 ≡ c.close-status.new.self.folder.now = search rules in
+    let out : c.out-1.given.0 ≡ c.close-status.new.self.out.now = search rules in
+    let log : c.log-2-1.given.0 ≡ c.close-status.new.self.log.now = search rules in
+    let last : after ≡ progress (g.F.Folder.state c.folder-1.given.0) (g.O.Sink.state c.out-1.given.0) c.log-2-1.given.0.ends c.log-2-1.given.0.accepted =
+    λ i. progress (g.F.Folder.state (sym folder i)) (g.O.Sink.state (sym out i)) (sym log i).ends (sym log i).accepted in
+    subst (λ (a : Progress). RunIs plan c.close-status.result before a) last fact

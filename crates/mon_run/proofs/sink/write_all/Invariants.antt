@@ -1,12 +1,12 @@
 -- the sink took the text up to the rest
 use Rattle.std.proofs.Common.{◌≤◌, length}
-use Rattle.mon_run.specs.Outside.{Wrote}
+use Rattle.mon_run.proofs.SinkLemmas.{TookTo}
 use Rattle.mon_run.proofs.sink.write_all.Given as goal
 
 abbrev pub invariant-loop-rest : goal.invariant-loop-rest
 invariant-loop-rest g l = record {
-  counts : g.O.Sink.faults l.fn.out ≤ g.O.Sink.faults l.out;
-  wrote : Wrote (g.O.Sink.written l.fn.out) (g.O.Sink.written l.out) l.text l.rest;
+  counts : (g.O.Sink.state l.fn.out).faults ≤ (g.O.Sink.state l.out).faults;
+  took : TookTo l.text l.rest (g.O.Sink.state l.fn.out) (g.O.Sink.state l.out);
 }
 
 abbrev pub decreases-loop-rest : goal.decreases-loop-rest

@@ -1,10 +1,10 @@
--- no name so far stands again, so the whole list repeats a name where the rest does
+-- no name so far stands again, so the whole list repeat a name where the rest does
 use Rattle.std.proofs.Common.{◌≡◌, length}
-use Rattle.mon_schema.specs.Faults.{repeats, names_of}
+use Rattle.mon_schema.specs.Faults.{texts_repeat, names_of}
 use Rattle.mon_schema.proofs.fields.names_repeat.Given as goal
 
 abbrev pub invariant-loop-field : goal.invariant-loop-field
-invariant-loop-field l = repeats (names_of l.fields) ≡ repeats (names_of l.rest)
+invariant-loop-field l = texts_repeat (names_of l.fields) ≡ texts_repeat (names_of l.rest)
 
 abbrev pub decreases-loop-field : goal.decreases-loop-field
 decreases-loop-field l = length l.rest

@@ -5,7 +5,7 @@ use borrow.Author.Tests.{tests}
 use Rattle.mon_value.specs.declared.schemas.Field.{Field}
 use Rattle.mon_value.specs.declared.values.FieldValue.{FieldValue}
 use Rattle.mon_schema.specs.Fits.{field_fits}
-use Rattle.mon_schema.proofs.Pairs.{list_all-zip}
+use Rattle.mon_schema.proofs.ZipLemmas.{list_all-zip}
 use Rattle.mon_schema.proofs.rows.fields_fit.Goals as goal
 
 -- each pair of a field and its value is tested
@@ -16,4 +16,4 @@ returns-then-fields-values c =
     let test = λ (field : Field) (value : FieldValue). field_fits field.of value in
     let pairs = YieldsList-from_zip (YieldsList-from_slice {s = c.zip.result.a} fields cc) (YieldsList-from_slice {s = c.zip.result.b} values cc) in
     let all = all_from_yields_List (λ (pair : Field × FieldValue). test pair.0 pair.1) c.all.new.self _ c.all.result c.all.ensures.ran pairs (λ x b q k. search (rules, tests)) in
-    record { same = all ∙ list_all-zip test fields values c.if-fields-values.true }
+    record { fit = all ∙ list_all-zip test fields values c.if-fields-values.true }

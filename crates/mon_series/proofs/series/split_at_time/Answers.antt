@@ -2,7 +2,8 @@ use Rattle.std.proofs.Common.{rules, arith, ◌∙◌}
 use Rattle.std.specs.Prelude.{int_le, int_lt}
 use Rattle.std.proofs.lemmas.Int.{ints}
 use Rattle.std.proofs.lemmas.List.Sorted.{IsPartitionPoint-from_clause}
-use Rattle.mon_series.proofs.Rising.{ended_first, filter_first, filter_last}
+use Rattle.mon_series.proofs.EndsRiseLemmas.{ended_first}
+use Rattle.mon_series.proofs.SplitLemmas.{filter_first, filter_last}
 use Rattle.mon_series.proofs.series.split_at_time.Goals as goal
 
 pub returns-clause-ended : goal.returns-clause-ended

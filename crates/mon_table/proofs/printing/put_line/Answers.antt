@@ -1,7 +1,7 @@
 use Rattle.std.proofs.Common.{IsUtf8, sym, subst}
 use Rattle.std.proofs.lemmas.Result.{on_ok_weaker}
 use Rattle.std.proofs.lemmas.Str.{IsUtf8-append}
-use Rattle.mon_table.proofs.TextLines.{line-text}
+use Rattle.mon_table.proofs.CsvLineLemmas.{line-text}
 use Rattle.mon_table.proofs.printing.put_line.Goals as goal
 
 pub returns-clause-written : goal.returns-clause-written

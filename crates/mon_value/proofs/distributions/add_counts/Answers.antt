@@ -1,30 +1,23 @@
-use Rattle.std.proofs.Common.{◌≡◌, ◌<◌, ◌≤◌, ◌^◌, length, get_or, ◌∙◌, sym, arith}
-use Rattle.std.proofs.lemmas.List.{ext_get_or}
-use Rattle.mon_value.specs.Distributions.{counts_added}
-use Rattle.mon_value.proofs.Added.{length-counts_added, get_or-counts_added}
+use Rattle.std.proofs.Common.{sym, arith}
+use Rattle.mon_value.proofs.CountsLemmas.{counts_added-nil, counts_added-take_at, counts_added-take_more, length-counts_added}
 use Rattle.mon_value.proofs.distributions.add_counts.Goals as goal
 
--- the sum of two counts is a count of the sum of the distributions
+pub loop-i-init : goal.loop-i-init
+loop-i-init c = sym (counts_added-nil c.args.counts.now)
+
 pub overflow_add-counts : goal.overflow_add-counts
 overflow_add-counts c =
+    let before = c.args.counts.now in
+    let others = c.args.others.now in
     let i = c.loop-i.i in
-    let before = c.args.counts.now in
-    let others = c.args.others.now in
-    let as_long = length-counts_added before others c.requires.buckets in
-    let within : i < length (counts_added before others) = omega arith in
-    let sum : get_or (counts_added before others) i 0 ≤ 2 ^ 126 = c.requires.sums i 0 within in
-    let here : get_or c.loop-i.counts i 0 ≡ get_or before i 0 = c.loop-i.invariant.left i (omega arith) in
-    let there = get_or-counts_added before others i in
-    omega arith
+    let bound = c.requires.sums i 0 (omega (arith, length-counts_added before others)) in
+    let here = counts_added-take_at before others i in
+    rw c.loop-i.invariant (omega arith)
 
--- both lists hold the sum of each bucket
-pub returns : goal.returns
-returns c =
+pub loop-i-preserved : goal.loop-i-preserved
+loop-i-preserved c =
     let before = c.args.counts.now in
     let others = c.args.others.now in
-    let as_long = length-counts_added before others c.requires.buckets in
-    record {
-      added =
-          ext_get_or 0 c.loop-i.counts (counts_added before others) (omega arith)
-          (λ k within. c.loop-i.invariant.done k (omega arith) ∙ sym (get_or-counts_added before others k));
-    }
+    let i = c.loop-i.i in
+    let more = counts_added-take_more before others i (omega arith) (omega arith) in
+    rw (c.loop-i.invariant, more)

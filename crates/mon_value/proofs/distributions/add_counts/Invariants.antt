@@ -1,9 +1,7 @@
--- the buckets behind the loop hold their sums, and those before it what they held
-use Rattle.std.proofs.Common.{◌≡◌, ℕ, ◌+◌, ◌<◌, ◌≤◌, get_or}
+-- the counts so far are added
+use Rattle.std.proofs.Common.{◌≡◌, take}
+use Rattle.mon_value.specs.Distributions.{counts_added}
 use Rattle.mon_value.proofs.distributions.add_counts.Given as goal
 
 abbrev pub invariant-loop-i : goal.invariant-loop-i
-invariant-loop-i l = record {
-  done : (k : ℕ) → k < l.i → get_or l.counts k 0 ≡ get_or l.initial.counts k 0 + get_or l.others k 0;
-  left : (k : ℕ) → l.i ≤ k → get_or l.counts k 0 ≡ get_or l.initial.counts k 0;
-}
+invariant-loop-i l = l.counts ≡ counts_added l.initial.counts (take l.i l.others)

@@ -1,4 +1,4 @@
-use Rattle.mon_value.proofs.Added.{counts_added-comm, counts_added-assoc, sum-counts_added}
+use Rattle.mon_value.proofs.CountsLemmas.{counts_added-comm, counts_added-assoc, sum-counts_added}
 use Rattle.mon_value.proofs.distributions.merging_is_orderless.Goals as goal
 
 pub returns-clause-commutes : goal.returns-clause-commutes

@@ -9,7 +9,7 @@ use Rattle.std.specs.Int.{w128}
 use Rattle.std.proofs.lemmas.Int.{ints}
 use Rattle.std.proofs.lemmas.Int.Digits.{digits_value_more}
 use Rattle.mon_value.specs.Numbers.{numeral_of}
-use Rattle.mon_value.proofs.Numerals.{digits_grow, value_small, no_numeral, whole_numeral}
+use Rattle.mon_value.proofs.NumberLemmas.{digits_grow, value_small, no_numeral, whole_numeral}
 use Rattle.mon_value.proofs.numbers.read_numeral.Goals as goal
 
 -- a byte that is no digit

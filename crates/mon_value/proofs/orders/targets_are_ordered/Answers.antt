@@ -1,4 +1,4 @@
-use Rattle.mon_value.proofs.Ordered.{target_total, exact_targets}
+use Rattle.mon_value.proofs.OrderLemmas.{target_total, exact_targets}
 use Rattle.mon_value.proofs.orders.targets_are_ordered.Goals as goal
 
 pub returns-clause-total : goal.returns-clause-total

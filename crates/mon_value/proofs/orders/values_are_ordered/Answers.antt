@@ -1,4 +1,4 @@
-use Rattle.mon_value.proofs.Ordered.{value_total, exact_values}
+use Rattle.mon_value.proofs.OrderLemmas.{value_total, exact_values}
 use Rattle.mon_value.proofs.orders.values_are_ordered.Goals as goal
 
 pub returns-clause-total : goal.returns-clause-total

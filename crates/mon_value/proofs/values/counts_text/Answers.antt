@@ -1,6 +1,6 @@
 use Rattle.std.proofs.Common.{◌≡◌, ◌∷◌, take, take_all, ap, arith}
 use Rattle.mon_value.specs.Values.{counts_joined}
-use Rattle.mon_value.proofs.Joined.{counts_joined-cons}
+use Rattle.mon_value.proofs.ValueTextLemmas.{counts_joined-cons}
 use Rattle.mon_value.proofs.values.counts_text.Goals as goal
 
 -- the loop has taken all counts after the first
@@ -13,5 +13,5 @@ returns c =
     let joined = counts_joined-cons first rest in
     let i = c.loop-count.invariant in
     let e = c.in_ok-text.ensures.ok in
-    let s = c.from_string-2.ensures.same in
+    let s = c.from_string-2.ensures.bytes in
     record { text = rw (whole, joined, s, i, all, e) }

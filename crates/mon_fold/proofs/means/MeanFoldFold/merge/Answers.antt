@@ -4,4 +4,4 @@ use Rattle.mon_fold.proofs.MeanLemmas.{same_mean}
 use Rattle.mon_fold.proofs.means.MeanFoldFold.merge.Goals as goal
 
 pub returns : goal.returns
-returns c = record { together = same_mean _ _ (omega (arith, ints)) (omega (arith, ints)) }
+returns c = record { merged = same_mean _ _ (omega (arith, ints)) (omega (arith, ints)) }

@@ -1,9 +1,9 @@
-use Rattle.std.proofs.Common.{rules, ◌≡◌, ℤ, true, sym, subst, to_z, of_z, w64}
+use Rattle.std.proofs.Common.{rules, ◌≡◌, ◌∙◌, ℤ, true, sym, ap, subst, to_z, of_z, w64}
 use Rattle.mon_value.specs.Alignments.{CanAlign}
 use Rattle.mon_value.specs.declared.aligners.Aligner.{Aligner}
 use Rattle.mon_value.specs.declared.grids.Grid.{Grid}
-use Rattle.mon_run.proofs.Alignable.{can_align}
-use Rattle.mon_run.specs.Meaning.{default_aligner, grid_at, meets}
+use Rattle.mon_run.proofs.AlignLemmas.{can_align}
+use Rattle.mon_run.specs.Meaning.{Fetch, default_aligner, grid_at, meets}
 use Rattle.mon_run.proofs.fetch.Fetch.add_rows.Goals as goal
 
 -- the series meets the fetch, so that its values are of the fetch's metric
@@ -16,5 +16,5 @@ align-requires c =
     let moment : ℤ = to_z w64 (of_z w64 c.args.moment) in
     let same : moment ≡ c.args.moment = search rules in
     let here = subst (λ (z : ℤ). CanAlign (default_aligner metric) (grid_at z) points) (sym same) can in
-    subst (λ (grid : Grid). CanAlign c.default_aligner.result grid points) (sym c.grid_at.ensures.same)
-    (subst (λ (by : Aligner). CanAlign by (grid_at moment) points) (sym c.default_aligner.ensures.same) here)
+    subst (λ (grid : Grid). CanAlign c.default_aligner.result grid points) (sym c.grid_at.ensures.grid)
+    (subst (λ (by : Aligner). CanAlign by (grid_at moment) points) (sym (c.default_aligner.ensures.aligner ∙ ap (λ (fetch : Fetch). default_aligner fetch.metric) c.self.view_is)) here)

@@ -1,7 +1,8 @@
 use Rattle.std.proofs.Common.{ap, ◌∙◌, ◌≡◌, None}
+use Rattle.mon_value.specs.declared.schemas.MetricSchema.{MetricSchema}
 use Rattle.mon_schema.specs.SchemaLists.{metric_named}
-use Rattle.mon_schema.proofs.Found.{lookup-metric}
-use Rattle.mon_schema.proofs.NoFault.{metric_named-free}
+use Rattle.mon_schema.proofs.NamedLemmas.{lookup-first_named}
+use Rattle.mon_schema.proofs.FaultLemmas.{metric_named-free}
 use Rattle.mon_schema.proofs.table.Schemas.add_metric.Goals as goal
 
 -- without a fault, nothing is held under its name
@@ -10,7 +11,7 @@ add_new-requires c =
     let held = c.args.self.now in
     let name = c.in_ok-name.name.items in
     let free : metric_named c.args.metric.name held.metrics ≡ None = metric_named-free held c.args.metric cc in
-    lookup-metric name c.self.inside.metrics.entries c.self.invariant.1
+    lookup-first_named (λ (schema : MetricSchema). schema.name) name c.self.inside.metrics.entries c.self.invariant.1
     ∙ ap (λ lists. metric_named name lists.metrics) c.self.view_is
-    ∙ ap (λ text. metric_named text held.metrics) (c.in_ok-name.ensures.items ∙ c.as_bytes.ensures.same)
+    ∙ ap (λ text. metric_named text held.metrics) (c.in_ok-name.ensures.items ∙ c.as_bytes.ensures.bytes)
     ∙ free

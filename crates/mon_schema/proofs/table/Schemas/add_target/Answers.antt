@@ -1,7 +1,8 @@
 use Rattle.std.proofs.Common.{ap, ◌∙◌, ◌≡◌, None}
+use Rattle.mon_value.specs.declared.schemas.TargetSchema.{TargetSchema}
 use Rattle.mon_schema.specs.SchemaLists.{target_named}
-use Rattle.mon_schema.proofs.Found.{lookup-target}
-use Rattle.mon_schema.proofs.NoFault.{target_named-free}
+use Rattle.mon_schema.proofs.NamedLemmas.{lookup-first_named}
+use Rattle.mon_schema.proofs.FaultLemmas.{target_named-free}
 use Rattle.mon_schema.proofs.table.Schemas.add_target.Goals as goal
 
 -- without a fault, nothing is held under its name
@@ -10,7 +11,7 @@ add_new-requires c =
     let held = c.args.self.now in
     let name = c.in_ok-name.name.items in
     let free : target_named c.args.schema.name held.targets ≡ None = target_named-free held c.args.schema cc in
-    lookup-target name c.self.inside.targets.entries c.self.invariant.0
+    lookup-first_named (λ (schema : TargetSchema). schema.name) name c.self.inside.targets.entries c.self.invariant.0
     ∙ ap (λ lists. target_named name lists.targets) c.self.view_is
-    ∙ ap (λ text. target_named text held.targets) (c.in_ok-name.ensures.items ∙ c.as_bytes.ensures.same)
+    ∙ ap (λ text. target_named text held.targets) (c.in_ok-name.ensures.items ∙ c.as_bytes.ensures.bytes)
     ∙ free

@@ -1,11 +1,22 @@
 use Rattle.std.proofs.Common.{◌≤◌, ap, ◌∙◌, length, length-append, arith}
 use Rattle.std.proofs.lemmas.Int.{ints}
 use Rattle.mon_series.specs.SeriesPoints.{SeriesPoints}
-use Rattle.mon_series.proofs.Rising.{window_from, first_items, items_behind, items_between, EndsRise-filter}
+use Rattle.mon_series.proofs.EndsRiseLemmas.{EndsRise-filter}
+use Rattle.mon_series.specs.Splits.{points_until}
+use Rattle.mon_series.proofs.SplitLemmas.{points_until-before, first_items, items_behind, items_between}
+use Rattle.mon_series.proofs.WindowLemmas.{window_from}
 use Rattle.mon_series.proofs.series.Series.places.Goals as goal
 
 pub split_at_time-requires-2 : goal.split_at_time-requires-2
-split_at_time-requires-2 c = rw (c.split_at_time.ensures.ended, c.as_slice.ensures.same) (EndsRise-filter _ _ c.self.invariant)
+split_at_time-requires-2 c = rw (c.split_at_time.ensures.ended, c.as_slice.ensures.items) (EndsRise-filter _ _ c.self.invariant)
+
+-- the points that end before the window are among those that end by its time
+pub returns-clause-before : goal.returns-clause-before
+returns-clause-before c =
+    let same = ap (λ (seen : SeriesPoints). seen.points) c.self.view_is in
+    let points = c.as_slice.ensures.items ∙ same in
+    let before = c.split_at_time-2.ensures.ended ∙ ap (points_until _) (c.split_at_time.ensures.ended ∙ ap (points_until _) points) ∙ points_until-before c.args.self.now.points c.args.time c.args.seconds _ _ (omega (arith, ints)) (omega (arith, ints)) (omega (arith, ints)) in
+    ap length before
 
 pub returns-clause-window : goal.returns-clause-window
 returns-clause-window c =
@@ -18,5 +29,5 @@ returns-clause-window c =
     let behind = items_behind ended before window c.split_at_time-2.ensures.joined in
     let ordered : length before ≤ length ended = omega (arith, ap length c.split_at_time-2.ensures.joined, length-append before window) in
     items_between (length before) (length ended) c.args.self.now.points ordered
-    ∙ rw (← same, ← c.as_slice.ensures.same, front, behind, c.split_at_time-2.ensures.later, c.split_at_time.ensures.ended)
-    (window_from all c.args.t c.args.w _ _ (omega (arith, ints)) (omega (arith, ints)))
+    ∙ rw (← same, ← c.as_slice.ensures.items, front, behind, c.split_at_time-2.ensures.later, c.split_at_time.ensures.ended)
+    (window_from all c.args.time c.args.seconds _ _ (omega (arith, ints)) (omega (arith, ints)))

@@ -1,6 +1,6 @@
 use Rattle.std.proofs.Common.{ap}
 use Rattle.mon_series.specs.SeriesPoints.{SeriesPoints}
-use Rattle.mon_series.proofs.Rising.{EndsRise-push}
+use Rattle.mon_series.proofs.EndsRiseLemmas.{EndsRise-push}
 use Rattle.mon_series.proofs.series.Series.push.Goals as goal
 
 pub invariant_of-self : goal.invariant_of-self

@@ -1,0 +1,35 @@
+// Configurations, and what each is read as.
+use crate::calls::Call;
+use crate::escapes::bytes_of;
+use crate::trouble::Trouble;
+use mon_config::read_config;
+use mon_value::Refusal;
+use std::alloc::Global;
+
+/// A case is a configuration; its answer is `read`, or the fault.
+#[derive(Drop)]
+pub(crate) struct Configurations {
+    alloc: Global,
+}
+
+impl Configurations {
+    pub(crate) fn new(alloc: Global) -> Configurations {
+        Configurations { alloc }
+    }
+}
+
+impl Call for Configurations {
+    fn take(&mut self, _content: &str) -> Result<(), Trouble> {
+        Err(Trouble::Misspelled)
+    }
+
+    fn answer(&mut self, given: &str) -> Result<Vec<u8>, Trouble> {
+        let text = bytes_of(self.alloc, given)?;
+        let answer = match read_config(self.alloc, text.as_slice()) {
+            Ok(_config) => String::from_str(self.alloc, "read")?,
+            Err(Refusal::Fault(fault)) => format!(in self.alloc; "{fault}")?,
+            Err(Refusal::OutOfMemory) => return Err(Trouble::OutOfMemory),
+        };
+        Ok(answer.into_bytes())
+    }
+}

@@ -1,6 +1,0 @@
--- the copies so far and the groups that are left are all
-use Rattle.std.proofs.Common.{◌≡◌, ◌++◌}
-use Rattle.mon_fold.proofs.groups.copies_of.Given as goal
-
-abbrev pub invariant-loop-key : goal.invariant-loop-key
-invariant-loop-key l = l.copies.items ++ l.key-iterator ≡ l.groups.entries

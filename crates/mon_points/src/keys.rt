@@ -1,0 +1,171 @@
+// The series of a cells, whose key the rows of one series share.
+ghost use Rattle.std.specs.Prelude.{◌≡◌, ◌+◌, ◌-◌, ◌<◌, ◌≤◌, ◌^◌, length, drop};
+ghost use Rattle.csv.specs.Records.{fields_of};
+ghost use Rattle.mon_value.specs.Answers.{Gives};
+ghost use Rattle.mon_points.specs.Records.{fields_read, key_read};
+ghost use Rattle.mon_points.specs.Keys as spec;
+
+use crate::cells::{read_field, spells_field};
+use crate::faults::RowFault;
+use csv::StringRecord;
+use indexmap::IndexMap;
+use mon_value::{
+    Field, FieldValue, FieldValues, MetricSchema, OutOfMemory, Refusal, SeriesKey, Shared, Target,
+    TargetSchema, TryCopy,
+};
+use std::alloc::Global;
+
+/// How many cells of a record come before its fields.
+pub(crate) const LEADING: usize = 5;
+
+/// The keys of series that were read before, so that a record of a known series makes none. They are
+/// guesses: a key counts for a record only where the record's cells spell it, so what is read does not
+/// depend on them.
+#[derive(Drop)]
+pub struct KeyCache {
+    keys: IndexMap<Vec<u8>, Shared<SeriesKey>>,
+    // The cells of the record at hand that name its series.
+    cells: Vec<u8>,
+}
+
+impl KeyCache {
+    /// No keys, which take their memory from `alloc` as records are read.
+    pub fn new(alloc: Global) -> KeyCache {
+        KeyCache {
+            keys: IndexMap::new(alloc),
+            cells: Vec::new(alloc),
+        }
+    }
+
+    /// The key of a record that has a cell for each field.
+    pub(crate) fn key(
+        &mut self,
+        alloc: Global,
+        target: &TargetSchema,
+        metric: &MetricSchema,
+        cells: &StringRecord,
+    ) -> Result<Shared<SeriesKey>, Refusal<RowFault>>
+        requires counted { length (fields_of cells.now) ≡ 5 + length target.now.fields + length metric.now.fields }
+        requires small { length (fields_of cells.now) < 2 ^ 64 }
+        ensures key { Gives result (key_read target.now metric.now (drop 5 (fields_of cells.now))) }
+    {
+        self.take_cells(cells)?;
+        if let Some(key) = self.keys.get(self.cells.as_slice())
+            && spells_key(target, metric, cells, key)
+        {
+            return Ok(key.copy(alloc)?);
+        }
+        let key = Shared::new(alloc, read_key(alloc, target, metric, cells)?)?;
+        let name = Vec::from_slice(alloc, self.cells.as_slice())?;
+        self.keys.insert(name, key.copy(alloc)?)?;
+        Ok(key)
+    }
+
+    // Takes the cells of a record that name its series.
+    fn take_cells(&mut self, cells: &StringRecord) -> Result<(), OutOfMemory> {
+        self.cells.clear();
+        for (i, cell) in cells.iter().enumerate() {
+            if i < 2 || i >= LEADING {
+                self.cells.extend_from_slice(cell.as_bytes())?;
+                self.cells.push(b',')?;
+            }
+        }
+        Ok(())
+    }
+}
+
+// Whether the cells of a record spell a key of its schemas.
+fn spells_key(
+    target: &TargetSchema,
+    metric: &MetricSchema,
+    cells: &StringRecord,
+    key: &SeriesKey,
+) -> bool
+    requires counted { length (fields_of cells.now) ≡ 5 + length target.now.fields + length metric.now.fields }
+    requires small { length (fields_of cells.now) < 2 ^ 64 }
+    ensures spelled { result ≡ spec.spells_key target.now metric.now (drop 5 (fields_of cells.now)) key.now }
+{
+    let of_target = target.fields.as_slice();
+    let of_metric = metric.fields.as_slice();
+    key.target.schema == target.name
+        && spells_fields(of_target, cells, LEADING, key.target.fields.as_slice())
+        && key.metric == metric.name
+        && spells_fields(
+            of_metric,
+            cells,
+            LEADING + of_target.len(),
+            key.fields.as_slice(),
+        )
+}
+
+// Whether the cells from a place of the record on spell the values of fields.
+fn spells_fields(
+    fields: &[Field],
+    cells: &StringRecord,
+    place: usize,
+    values: &[FieldValue],
+) -> bool
+    requires there { place + length fields.now ≤ length (fields_of cells.now) }
+    requires small { length (fields_of cells.now) < 2 ^ 64 }
+    ensures spelled { result ≡ spec.spells_fields fields.now (drop place (fields_of cells.now)) values.now }
+{
+    if fields.len() != values.len() {
+        return false;
+    }
+    for (i, field) in fields.iter().enumerate() {
+        let cell = cells.get(place + i).unwrap();
+        if !spells_field(field.of, cell, &values[i]) {
+            return false;
+        }
+    }
+    true
+}
+
+// The series of a record that has a cell for each field.
+#[tactic(auto, unfolding(crate::specs::Records::key_read))]
+fn read_key(
+    alloc: Global,
+    target: &TargetSchema,
+    metric: &MetricSchema,
+    cells: &StringRecord,
+) -> Result<SeriesKey, Refusal<RowFault>>
+    requires counted { length (fields_of cells.now) ≡ 5 + length target.now.fields + length metric.now.fields }
+    requires small { length (fields_of cells.now) < 2 ^ 64 }
+    ensures key { Gives result (key_read target.now metric.now (drop 5 (fields_of cells.now))) }
+{
+    let of_target = target.fields.as_slice();
+    let of_metric = metric.fields.as_slice();
+    let target_fields = read_fields(alloc, of_target, cells, LEADING)?;
+    let metric_fields = read_fields(alloc, of_metric, cells, LEADING + of_target.len())?;
+    Ok(SeriesKey {
+        target: Target {
+            schema: target.name.copy(alloc)?,
+            fields: target_fields,
+        },
+        metric: metric.name.copy(alloc)?,
+        fields: metric_fields,
+    })
+}
+
+// The values of fields whose cells begin at a place of the cells.
+fn read_fields(
+    alloc: Global,
+    fields: &[Field],
+    cells: &StringRecord,
+    place: usize,
+) -> Result<FieldValues, Refusal<RowFault>>
+    requires behind { 5 ≤ place }
+    requires there { place + length fields.now ≤ length (fields_of cells.now) }
+    requires small { length (fields_of cells.now) < 2 ^ 64 }
+    ensures values { Gives result (fields_read (place - 4) fields.now (drop place (fields_of cells.now))) }
+{
+    let mut values = FieldValues::new(alloc);
+    for (i, field) in fields.iter().enumerate() {
+        let cell = cells.get(place + i).unwrap();
+        let Some(value) = read_field(alloc, field.of, cell)? else {
+            return Err(Refusal::Fault(RowFault::BadField(place - LEADING + i + 1)));
+        };
+        values.push(value)?;
+    }
+    Ok(values)
+}

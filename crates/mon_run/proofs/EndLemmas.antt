@@ -1,0 +1,198 @@
+-- How a run ends: as its plan says, or where it could not go on.
+use Rattle.std.proofs.Common.{◌≡◌, ◌∙◌, ◌≤◌, ◌<◌, ◌⊎◌, inl, inr, ℕ, Bool, true, false, cond, List, [], ◌∷◌, ◌++◌, Result, Ok, Err, OnOk, IfErr, refl, sym, ap, subst, append_assoc, append-nil, arith, ◌==◌, ◌||◌}
+use Rattle.std.specs.Bool.{⊤}
+use Rattle.mon_run.specs.Endings.{CutShort, Did, Follows, LastFailed, Misses, Progress, RunIs, Starved, is_status}
+use Rattle.mon_run.specs.Outside.{FolderState, Rose, asking}
+use Rattle.mon_run.specs.Plans.{Ask, Miss, Plan, Step, Write, ending, plan, plan_behind}
+use Rattle.mon_run.specs.Texts.{read_text}
+use Rattle.mon_run.specs.declared.stop.Stop.{Stop}
+use Rattle.mon_run.specs.declared.stop.Stop.TheVariants as stop
+use Rattle.mon_run.specs.within.Stops.{Causes, Closes, Counts, Done, Says, SaysText, Stops, StopsAtRead, StopsBefore, WroteFront, is_silent, own_text, status_of}
+use Rattle.mon_run.proofs.StepLemmas.{did_by, did_then}
+
+-- ---- counts of faults
+
+pub rose_later : (x y z : ℕ) → Rose x y → y ≤ z → Rose x z
+rose_later x y z (inl less) le = inl (omega arith)
+rose_later x y z (inr last) le = inr (omega arith)
+
+pub rose_earlier : (x y z : ℕ) → x ≤ y → Rose y z → Rose x z
+rose_earlier x y z le (inl less) = inl (omega arith)
+rose_earlier x y z le (inr last) = inr last
+
+pub last_earlier : (before mid after : FolderState) → before.faults ≤ mid.faults → LastFailed mid after → LastFailed before after
+last_earlier before mid after le failed = record { earlier = failed.earlier; asked = failed.asked; rose = rose_earlier before.faults mid.faults after.faults le failed.rose }
+
+pub last_later : (before mid after : FolderState) → after ≡ mid → LastFailed before mid → LastFailed before after
+last_later before mid after same failed = subst (LastFailed before) (sym same) failed
+
+pub counts_then : {before mid after : Progress} → Counts before mid → Counts mid after → Counts before after
+counts_then first second = record { reads = let a = first.reads in let b = second.reads in omega arith; writes = let a = first.writes in let b = second.writes in omega arith }
+
+pub causes_earlier : (before mid after : Progress) (stopped : Stop) → Counts before mid → Causes stopped mid after → Causes stopped before after
+causes_earlier before mid after (stop.CannotRead name) counts causes = (causes.0, last_earlier before.folder mid.folder after.folder counts.reads causes.1)
+causes_earlier before mid after stop.WriteFailed counts causes = rose_earlier before.sink.faults mid.sink.faults after.sink.faults counts.writes causes
+causes_earlier before mid after stop.OutOfMemory counts causes = tt
+causes_earlier before mid after stop.Usage counts causes = tt
+causes_earlier before mid after (stop.Config fault) counts causes = tt
+causes_earlier before mid after (stop.Script fault) counts causes = tt
+causes_earlier before mid after (stop.TooLong name) counts causes = tt
+
+-- ---- the end of a plan
+
+abbrev steps_in : Plan → List Step
+steps_in p = p.steps
+
+-- a run says its own text behind its steps
+follows_own : (before mid after : Progress) (p : Plan) (done : List Step) (code : ℕ) (text : List ℕ) (status : ℕ) → p ≡ plan_behind done (ending code text) → Did done before mid → before.sink.faults ≤ mid.sink.faults →
+    SaysText code text status mid after → Follows p status before after
+follows_own before mid after p done code text status is did counts (inl said) =
+    inl (said.0 ∙ sym (ap (λ (q : Plan). q.status) is), did_by (sym (ap steps_in is)) (did_then did said.1))
+follows_own before mid after p done code text status is did counts (inr (inl cut)) =
+    inr (inl (
+      cut.0,
+      record {
+        done = done;
+        text = text;
+        left = [];
+        split = ap steps_in is;
+        front = cut.1.front;
+        rest = cut.1.rest;
+        cut = cut.1.split;
+        some = cut.1.some;
+        did = did_then did cut.1.did;
+      },
+      rose_earlier before.sink.faults mid.sink.faults after.sink.faults counts cut.2,
+    ))
+follows_own before mid after p done code text status is did counts (inr (inr starved)) =
+    inr (inr (
+      starved.0,
+      record { done = done; left = Write text ∷ []; split = ap steps_in is; did = did_by (append-nil done) (did_then did starved.1) },
+    ))
+
+ends_before : (p : Plan) (before mid after : Progress) (code : ℕ) (text : List ℕ) (status : ℕ) → StopsBefore p code text before mid → before.sink.faults ≤ mid.sink.faults → SaysText code text status mid after → RunIs p status before after
+ends_before p before mid after code text status stops counts says = inl (follows_own before mid after p stops.done code text status stops.split stops.did counts says)
+
+missed_plan : (done : List Step) (name : List ℕ) → plan (done ++ Miss name ∷ Write (read_text name) ∷ []) 4 ≡ plan_behind (done ++ Miss name ∷ []) (ending 4 (read_text name))
+missed_plan done name = ap (λ (steps : List Step). plan steps 4) (sym (append_assoc done (Miss name ∷ []) (Write (read_text name) ∷ [])))
+
+ends_at_read : (p : Plan) (before mid after : Progress) (name : List ℕ) (status : ℕ) → StopsAtRead p.steps name before mid → Counts before mid → (mid.folder.last ≡ name) × LastFailed before.folder mid.folder → after.folder ≡ mid.folder →
+    SaysText 4 (read_text name) status mid after → RunIs p status before after
+ends_at_read p before mid after name status stops counts causes same says = inr (record {
+  done = stops.done;
+  name = name;
+  left = stops.left;
+  split = stops.split;
+  follows = follows_own before mid after (plan (stops.done ++ Miss name ∷ Write (read_text name) ∷ []) 4) (stops.done ++ Miss name ∷ []) 4 (read_text name) status (missed_plan stops.done name) stops.did counts.writes says;
+  rose = subst (λ (f : FolderState). Rose before.folder.faults f.faults) (sym same) causes.1.rose;
+  last = ap (λ (f : FolderState). f.last) same ∙ causes.0;
+})
+
+ends_cut : (p : Plan) (before mid after : Progress) (status : ℕ) → CutShort p.steps before mid → Rose before.sink.faults mid.sink.faults → mid.sink.faults ≤ after.sink.faults → (status ≡ 5) × Did [] mid after → RunIs p status before after
+ends_cut p before mid after status cut rose le closes = inl (inr (inl (
+  closes.0,
+  record {
+    done = cut.done;
+    text = cut.text;
+    left = cut.left;
+    split = cut.split;
+    front = cut.front;
+    rest = cut.rest;
+    cut = cut.cut;
+    some = cut.some;
+    did = did_by (append-nil (cut.done ++ Write cut.front ∷ [])) (did_then cut.did closes.1);
+  },
+  rose_later before.sink.faults mid.sink.faults after.sink.faults rose le,
+)))
+
+ends_starved : (p : Plan) (before mid after : Progress) (status : ℕ) → Starved p.steps before mid → (status ≡ 6) × Did [] mid after → RunIs p status before after
+ends_starved p before mid after status starved closes = inl (inr (inr (
+  closes.0,
+  record { done = starved.done; left = starved.left; split = starved.split; did = did_by (append-nil starved.done) (did_then starved.did closes.1) },
+)))
+
+-- however a run ended, it is what its plan says as far as it came
+pub run_ended : (p : Plan) (before mid after : Progress) (ended : Result ⊤ Stop) (status : ℕ) → OnOk ended (Done p before mid) → IfErr ended (λ stopped. Stops p stopped before mid) → IfErr ended (λ stopped. Causes stopped before mid) →
+    Counts before mid → Counts mid after → after.folder ≡ mid.folder → Closes ended status mid after → RunIs p status before after
+run_ended p before mid after (Ok unit) status done stops causes counts later same closes =
+    inl (inl (closes.0 ∙ done.status, did_by (append-nil p.steps) (did_then done.did closes.1)))
+run_ended p before mid after (Err stop.Usage) status done stops causes counts later same closes = ends_before p before mid after 1 _ status stops counts.writes closes
+run_ended p before mid after (Err (stop.Config fault)) status done stops causes counts later same closes = ends_before p before mid after 2 _ status stops counts.writes closes
+run_ended p before mid after (Err (stop.Script fault)) status done stops causes counts later same closes = ends_before p before mid after 3 _ status stops counts.writes closes
+run_ended p before mid after (Err (stop.TooLong name)) status done stops causes counts later same closes = ends_before p before mid after 8 _ status stops counts.writes closes
+run_ended p before mid after (Err (stop.CannotRead name)) status done stops causes counts later same closes = ends_at_read p before mid after name status stops counts causes same closes
+run_ended p before mid after (Err stop.WriteFailed) status done stops causes counts later same closes = ends_cut p before mid after status stops causes later.writes closes
+run_ended p before mid after (Err stop.OutOfMemory) status done stops causes counts later same closes = ends_starved p before mid after status stops closes
+
+-- ---- causes of the statuses, over any folder and sink
+
+-- where status 4 is that of a text, it is the text's own
+says_four : (before after : Progress) (code : ℕ) (text : List ℕ) (status : ℕ) → SaysText code text status before after → status ≡ 4 → code ≡ 4
+says_four before after code text status (inl said) four = sym said.0 ∙ four
+says_four before after code text status (inr (inl cut)) four = let e = cut.0 in omega arith
+says_four before after code text status (inr (inr starved)) four = let e = starved.0 in omega arith
+
+pub unread_last : (before mid after : Progress) (ended : Result ⊤ Stop) (status : ℕ) → IfErr ended (λ stopped. Causes stopped before mid) → after.folder ≡ mid.folder → Closes ended status mid after → status ≡ 4 → LastFailed before.folder after.folder
+unread_last before mid after (Ok unit) status causes same closes four = let e = closes.0 in absurd (omega arith)
+unread_last before mid after (Err (stop.CannotRead name)) status causes same closes four = last_later before.folder mid.folder after.folder same causes.1
+unread_last before mid after (Err stop.WriteFailed) status causes same closes four = let e = closes.0 in absurd (omega arith)
+unread_last before mid after (Err stop.OutOfMemory) status causes same closes four = let e = closes.0 in absurd (omega arith)
+unread_last before mid after (Err stop.Usage) status causes same closes four = let e = says_four mid after 1 _ status closes four in absurd (omega arith)
+unread_last before mid after (Err (stop.Config fault)) status causes same closes four = let e = says_four mid after 2 _ status closes four in absurd (omega arith)
+unread_last before mid after (Err (stop.Script fault)) status causes same closes four = let e = says_four mid after 3 _ status closes four in absurd (omega arith)
+unread_last before mid after (Err (stop.TooLong name)) status causes same closes four = let e = says_four mid after 8 _ status closes four in absurd (omega arith)
+
+says_rose : (before after : Progress) (code : ℕ) (text : List ℕ) (status : ℕ) → SaysText code text status before after → status ≡ 5 → (code ≡ 5 → ⊥) → Rose before.sink.faults after.sink.faults
+says_rose before after code text status (inl said) five other = absurd (other (sym said.0 ∙ five))
+says_rose before after code text status (inr (inl cut)) five other = cut.2
+says_rose before after code text status (inr (inr starved)) five other = let e = starved.0 in absurd (omega arith)
+
+pub unwritten_rose : (before mid after : Progress) (ended : Result ⊤ Stop) (status : ℕ) → IfErr ended (λ stopped. Causes stopped before mid) → Counts before mid → Counts mid after → Closes ended status mid after → status ≡ 5 → Rose before.sink.faults after.sink.faults
+unwritten_rose before mid after (Ok unit) status causes counts later closes five = let e = closes.0 in absurd (omega arith)
+unwritten_rose before mid after (Err stop.WriteFailed) status causes counts later closes five = rose_later before.sink.faults mid.sink.faults after.sink.faults causes later.writes
+unwritten_rose before mid after (Err stop.OutOfMemory) status causes counts later closes five = let e = closes.0 in absurd (omega arith)
+unwritten_rose before mid after (Err (stop.CannotRead name)) status causes counts later closes five =
+    rose_earlier before.sink.faults mid.sink.faults after.sink.faults counts.writes (says_rose mid after 4 _ status closes five (λ e. omega arith))
+unwritten_rose before mid after (Err stop.Usage) status causes counts later closes five =
+    rose_earlier before.sink.faults mid.sink.faults after.sink.faults counts.writes (says_rose mid after 1 _ status closes five (λ e. omega arith))
+unwritten_rose before mid after (Err (stop.Config fault)) status causes counts later closes five =
+    rose_earlier before.sink.faults mid.sink.faults after.sink.faults counts.writes (says_rose mid after 2 _ status closes five (λ e. omega arith))
+unwritten_rose before mid after (Err (stop.Script fault)) status causes counts later closes five =
+    rose_earlier before.sink.faults mid.sink.faults after.sink.faults counts.writes (says_rose mid after 3 _ status closes five (λ e. omega arith))
+unwritten_rose before mid after (Err (stop.TooLong name)) status causes counts later closes five =
+    rose_earlier before.sink.faults mid.sink.faults after.sink.faults counts.writes (says_rose mid after 8 _ status closes five (λ e. omega arith))
+
+says_status : (before after : Progress) (code : ℕ) (text : List ℕ) (status : ℕ) → is_status code ≡ true → SaysText code text status before after → is_status status ≡ true
+says_status before after code text status fine (inl said) = ap is_status said.0 ∙ fine
+says_status before after code text status fine (inr (inl cut)) = ap is_status cut.0
+says_status before after code text status fine (inr (inr starved)) = ap is_status starved.0
+
+pub ended_status : (before after : Progress) (ended : Result ⊤ Stop) (status : ℕ) → Closes ended status before after → is_status status ≡ true
+ended_status before after (Ok unit) status closes = ap is_status closes.0
+ended_status before after (Err stop.WriteFailed) status closes = ap is_status closes.0
+ended_status before after (Err stop.OutOfMemory) status closes = ap is_status closes.0
+ended_status before after (Err stop.Usage) status closes = says_status before after 1 _ status refl closes
+ended_status before after (Err (stop.Config fault)) status closes = says_status before after 2 _ status refl closes
+ended_status before after (Err (stop.Script fault)) status closes = says_status before after 3 _ status refl closes
+ended_status before after (Err (stop.CannotRead name)) status closes = says_status before after 4 _ status refl closes
+ended_status before after (Err (stop.TooLong name)) status closes = says_status before after 8 _ status refl closes
+
+-- ---- closing
+
+pub closes_silent : (before after : Progress) (stopped : Stop) (status : ℕ) → is_silent stopped ≡ true → status ≡ status_of stopped → Did [] before after → Closes (Err stopped) status before after
+closes_silent before after stop.WriteFailed status silent is did = (is, did)
+closes_silent before after stop.OutOfMemory status silent is did = (is, did)
+closes_silent before after stop.Usage status silent is did = absurd cc
+closes_silent before after (stop.Config fault) status silent is did = absurd cc
+closes_silent before after (stop.Script fault) status silent is did = absurd cc
+closes_silent before after (stop.CannotRead name) status silent is did = absurd cc
+closes_silent before after (stop.TooLong name) status silent is did = absurd cc
+
+pub closes_says : (before after : Progress) (stopped : Stop) (status : ℕ) → is_silent stopped ≡ false → Says stopped status before after → Closes (Err stopped) status before after
+closes_says before after stop.WriteFailed status silent says = absurd cc
+closes_says before after stop.OutOfMemory status silent says = absurd cc
+closes_says before after stop.Usage status silent says = says
+closes_says before after (stop.Config fault) status silent says = says
+closes_says before after (stop.Script fault) status silent says = says
+closes_says before after (stop.CannotRead name) status silent says = says
+closes_says before after (stop.TooLong name) status silent says = says

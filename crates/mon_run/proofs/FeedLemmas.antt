@@ -1,0 +1,115 @@
+-- Records, taken one by one.
+use Rattle.std.proofs.Common.{◌≡◌, ◌∙◌, ◌+◌, ℕ, ℤ, Bool, true, false, cond, Option, Some, None, List, [], ◌∷◌, ◌++◌, Result, Ok, Err, OnErr, refl, sym, ap, subst, append_assoc, append-nil}
+use Rattle.std.specs.List.{AllByRecursion, flat_map}
+use Rattle.mon_value.specs.Sources.{last_end, points_of}
+use Rattle.mon_value.specs.declared.rows.Row.{Row}
+use Rattle.mon_config.specs.declared.config.Config.{Config}
+use Rattle.mon_points.specs.Fitting.{ReadFits}
+use Rattle.mon_points.specs.declared.faults.RowFault.TheVariants as row_fault
+use Rattle.mon_points.specs.declared.records.RowRead.{RowRead}
+use Rattle.mon_points.specs.declared.records.RowRead.TheVariants as read
+use Rattle.mon_run.specs.Feeds.{Fed, Verdict, fault_in, fed_by, is_in_zone, old_fault, refusal_of, refusals, row_verdict, taken, unless, verdict, verdicts}
+use Rattle.mon_run.specs.declared.outcome.RowRefusal.{RowRefusal}
+use Rattle.mon_run.specs.declared.outcome.RowRefused.{RowRefused}
+use Rattle.mon_run.specs.declared.outcome.RowRefused.TheVariants as refused
+use Rattle.mon_run.specs.within.Sound.{AllInZone, AreSound}
+use Rattle.mon_run.specs.within.Takings.{Front}
+
+-- ---- records so far and records that are left
+
+-- a feed on its way: the rows that came so far, and what the records that are left come to
+pub record Feeding (config : Config) (first : List Row) (all : List RowRead) (rows : List Row) (left : List RowRead) (refusing : List RowRefusal) (number : ℕ) : Type 0 where
+  pub front : List Row
+  pub came : rows ≡ first ++ front
+  pub accepted : front ++ flat_map taken (verdicts config rows left) ≡ flat_map taken (verdicts config first all)
+  pub refusing_all : refusing ++ refusals (number + 1) (verdicts config rows left) ≡ refusals 1 (verdicts config first all)
+
+pub feeding_first : (config : Config) (rows : List Row) (all left : List RowRead) (refusing : List RowRefusal) → left ≡ all → refusing ≡ [] → Feeding config rows all rows left refusing 0
+feeding_first config rows all left refusing same none = record {
+  front = [];
+  came = sym (append-nil rows);
+  accepted = ap (λ (reads : List RowRead). flat_map taken (verdicts config rows reads)) same;
+  refusing_all = λ i. none i ++ refusals 1 (verdicts config rows (same i));
+}
+
+pub feeding_more : {config : Config} {first rows : List Row} {all : List RowRead} {refusing : List RowRefusal} {number : ℕ} (left reads : List RowRead) (read : RowRead) (rows' : List Row) (refusing' : List RowRefusal) →
+    left ≡ read ∷ reads → rows' ≡ rows ++ taken (verdict config rows read) → refusing' ≡ refusing ++ refusal_of (number + 1) (verdict config rows read) →
+    Feeding config first all rows left refusing number → Feeding config first all rows' reads refusing' (number + 1)
+feeding_more {config} {first} {rows} {all} {refusing} {number} left reads read rows' refusing' next took told f =
+    let v : Verdict = verdict config rows read in
+    let rest : List Verdict = verdicts config (rows ++ taken v) reads in
+    record {
+      front = f.front ++ taken v;
+      came = took ∙ ap (λ (r : List Row). r ++ taken v) f.came ∙ append_assoc first f.front (taken v);
+      accepted = ap (λ (r : List Row). (f.front ++ taken v) ++ flat_map taken (verdicts config r reads)) took
+          ∙ append_assoc f.front (taken v) (flat_map taken rest)
+          ∙ ap (λ (l : List RowRead). f.front ++ flat_map taken (verdicts config rows l)) (sym next)
+          ∙ f.accepted;
+      refusing_all = (λ i. told i ++ refusals (number + 1 + 1) (verdicts config (took i) reads))
+          ∙ append_assoc refusing (refusal_of (number + 1) v) (refusals (number + 1 + 1) rest)
+          ∙ ap (λ (l : List RowRead). refusing ++ refusals (number + 1) (verdicts config rows l)) (sym next)
+          ∙ f.refusing_all;
+    }
+
+-- no record is left
+pub feeding_last : {config : Config} {first rows : List Row} {all : List RowRead} {refusing : List RowRefusal} {number : ℕ} (left : List RowRead) → left ≡ [] → Feeding config first all rows left refusing number →
+    (rows ≡ first ++ (fed_by (verdicts config first all)).accepted) × (refusing ≡ (fed_by (verdicts config first all)).refused)
+feeding_last {config} {first} {rows} {all} {refusing} {number} left none f =
+    let accepted : f.front ≡ flat_map taken (verdicts config first all) =
+    sym (append-nil f.front) ∙ ap (λ (l : List RowRead). f.front ++ flat_map taken (verdicts config rows l)) (sym none) ∙ f.accepted in (
+      f.came ∙ ap (λ (r : List Row). first ++ r) accepted,
+      sym (append-nil refusing) ∙ ap (λ (l : List RowRead). refusing ++ refusals (number + 1) (verdicts config rows l)) (sym none) ∙ f.refusing_all,
+    )
+
+-- where memory runs out, a front of the rows came
+pub feeding_front : {config : Config} {first rows : List Row} {all left : List RowRead} {refusing : List RowRefusal} {number : ℕ} (rows' : List Row) → rows' ≡ rows → Feeding config first all rows left refusing number →
+    Front (fed_by (verdicts config first all)).accepted first rows'
+feeding_front {config} {first} {rows} {all} {left} rows' same f = record { front = f.front; left = flat_map taken (verdicts config rows left); split = sym f.accepted; taken = same ∙ f.came }
+
+-- ---- what is accepted fits
+
+all_more : (P : Row → Type 0) (rows : List Row) (row : Row) → AllByRecursion P rows → P row → AllByRecursion P (rows ++ row ∷ [])
+all_more P [] row all one = (one, tt)
+all_more P (first ∷ rows) row all one = (all.0, all_more P rows row all.1 one)
+
+taken_more : (P : Row → Type 0) (rows : List Row) (v : Verdict) → ((row : Row) → v ≡ Ok row → P row) → AllByRecursion P rows → AllByRecursion P (rows ++ taken v)
+taken_more P rows (Ok row) holds all = all_more P rows row all (holds row refl)
+taken_more P rows (Err fault) holds all = subst (AllByRecursion P) (sym (append-nil rows)) all
+
+unless_row : (row kept : Row) (fault : Option RowRefused) → unless row fault ≡ Ok kept → row ≡ kept
+unless_row row kept None same = cc
+unless_row row kept (Some fault) same = absurd cc
+
+-- a row that is accepted is the row that was read, and of the zone
+row_accepted : (config : Config) (rows : List Row) (row kept : Row) (zoned : Bool) → is_in_zone config row.key ≡ zoned →
+    cond zoned (unless row (old_fault (last_end (points_of row.key rows)) row.point)) (Err (refused.Read row_fault.NotBuilt)) ≡ Ok kept → (row ≡ kept) × (is_in_zone config kept.key ≡ true)
+row_accepted config rows row kept true is same =
+    let e = unless_row row kept (old_fault (last_end (points_of row.key rows)) row.point) same in (e, subst (λ (r : Row). is_in_zone config r.key ≡ true) e is)
+row_accepted config rows row kept false is same = absurd cc
+
+accepted_zoned : (config : Config) (rows : List Row) (record_read : RowRead) (kept : Row) → verdict config rows record_read ≡ Ok kept → is_in_zone config kept.key ≡ true
+accepted_zoned config rows (read.Fault fault) kept same = absurd cc
+accepted_zoned config rows (read.Row row) kept same = (row_accepted config rows row kept (is_in_zone config row.key) refl same).1
+
+accepted_fits : (config : Config) (rows : List Row) (record_read : RowRead) (kept : Row) → ReadFits config.schemas record_read → verdict config rows record_read ≡ Ok kept → ReadFits config.schemas (read.Row kept)
+accepted_fits config rows (read.Fault fault) kept fit same = absurd cc
+accepted_fits config rows (read.Row row) kept fit same = subst (λ (r : Row). ReadFits config.schemas (read.Row r)) (row_accepted config rows row kept (is_in_zone config row.key) refl same).0 fit
+
+pub sound_more : (config : Config) (rows : List Row) (record_read : RowRead) (rows' : List Row) → ReadFits config.schemas record_read → rows' ≡ rows ++ taken (verdict config rows record_read) → AreSound config rows → AreSound config rows'
+sound_more config rows record_read rows' fit took sound =
+    subst (AreSound config) (sym took)
+    (record {
+      fit = taken_more (λ row. ReadFits config.schemas (read.Row row)) rows (verdict config rows record_read) (λ row is. accepted_fits config rows record_read row fit is) sound.fit;
+      zoned = taken_more (λ row. is_in_zone config row.key ≡ true) rows (verdict config rows record_read) (λ row is. accepted_zoned config rows record_read row is) sound.zoned;
+    })
+
+-- ---- a record that is refused
+
+-- where there is a fault the rows stay
+pub kept_where_refused : (rows rows' : List Row) (v : Verdict) (fault : RowRefused) → Some fault ≡ fault_in v → rows' ≡ rows ++ taken v → rows' ≡ rows
+kept_where_refused rows rows' (Ok row) fault is took = absurd cc
+kept_where_refused rows rows' (Err why) fault is took = took ∙ append-nil rows
+
+pub whatever_fails : {T E : Type 0} (result : Result T E) (P : Type 0) → P → OnErr result P
+whatever_fails (Ok value) P holds = tt
+whatever_fails (Err error) P holds = holds

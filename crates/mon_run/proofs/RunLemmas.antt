@@ -1,0 +1,307 @@
+-- The parts of a run: a file, a line, the lines of a script, a script, a configuration.
+use Rattle.std.proofs.Common.{◌≡◌, ◌∙◌, ◌≤◌, ◌⊎◌, inl, inr, ℕ, ℤ, Bool, true, false, cond, Option, Some, None, List, [], ◌∷◌, ◌++◌, map, length, Result, Ok, Err, OnOk, OnErr, IfErr, refl, sym, ap, subst, append_assoc, append-nil}
+use Rattle.std.specs.Bool.{⊤}
+use Rattle.std.specs.List.{flat_map}
+use Rattle.mon_value.specs.Answers.{Withholds}
+use Rattle.mon_value.specs.declared.refusals.Refusal.{Refusal}
+use Rattle.mon_value.specs.declared.refusals.Refusal.TheVariants as refusal
+use Rattle.mon_value.specs.declared.rows.Row.{Row}
+use Rattle.mon_config.specs.Configs.{config_in}
+use Rattle.mon_config.specs.declared.config.Config.{Config}
+use Rattle.mon_config.specs.declared.faults.ConfigFault.{ConfigFault}
+use Rattle.mon_script.specs.Scripts.{script_in}
+use Rattle.mon_script.specs.declared.script.LineForm.{LineForm}
+use Rattle.mon_script.specs.declared.script.LineForm.TheVariants as form
+use Rattle.mon_script.specs.declared.script.ScriptFault.{ScriptFault}
+use Rattle.mon_script.specs.declared.script.ScriptLine.{ScriptLine}
+use Rattle.mon_run.specs.Endings.{CutShort, Did, Progress, Starved, end_in, read_in, row_in, text_in}
+use Rattle.mon_run.specs.Feeds.{Fed, fed}
+use Rattle.mon_run.specs.Outside.{Files, FolderState, SinkState, content_of, is_too_long, written_then}
+use Rattle.mon_run.specs.Plans.{Accept, Ask, End, Plan, Step, Write, command_plan, config_plan, ending, feed_steps, line_plan, line_rows, lines_plan, plan, plan_behind, query_steps, read_plan, script_plan}
+use Rattle.mon_run.specs.Texts.{config_text, feed_text, query_text, script_text, too_long_text}
+use Rattle.mon_run.specs.declared.outcome.LineEnd.{LineEnd}
+use Rattle.mon_run.specs.declared.outcome.LineEnd.TheVariants as line_end
+use Rattle.mon_run.specs.declared.feeds.Fed.{Fed as Answer}
+use Rattle.mon_run.specs.declared.outside.asked.Asked.{Asked}
+use Rattle.mon_run.specs.declared.stop.Stop.{Stop}
+use Rattle.mon_run.specs.declared.stop.Stop.TheVariants as stop
+use Rattle.mon_run.specs.within.Stops.{Done, HasRead, Ran, Stops, WroteFront, config_stop, files_plan, named_plan, script_stop}
+use Rattle.mon_run.specs.within.Takings.{FedAs, Front, Took}
+use Rattle.mon_run.proofs.StepLemmas.{did_by, did_none, did_then, done_behind, not_long, nothing_written, plan_twice, stops_behind}
+
+-- ---- rows that are accepted
+
+abbrev accepts : List Row → List Step
+accepts rows = map (λ row. Accept row) rows
+
+accepted_rows : (rows : List Row) (steps : List Step) → flat_map row_in (accepts rows ++ steps) ≡ rows ++ flat_map row_in steps
+accepted_rows [] steps = refl
+accepted_rows (row ∷ rows) steps = ap (λ (more : List Row). row ∷ more) (accepted_rows rows steps)
+
+no_items : {A : Type 0} (of : Step → List A) → ((row : Row) → of (Accept row) ≡ []) → (rows : List Row) → [] ≡ flat_map of (accepts rows)
+no_items of none [] = refl
+no_items of none (row ∷ rows) = no_items of none rows ∙ (λ i. sym (none row) i ++ flat_map of (accepts rows))
+
+accepted_alone : (rows : List Row) → rows ≡ flat_map row_in (accepts rows)
+accepted_alone [] = refl
+accepted_alone (row ∷ rows) = ap (λ (more : List Row). row ∷ more) (accepted_alone rows)
+
+-- rows were accepted, and nothing else was done
+pub did_accept : (rows : List Row) {before after : Progress} → after.folder ≡ before.folder → after.sink ≡ before.sink → after.ends ≡ before.ends → after.rows ≡ before.rows ++ rows → Did (accepts rows) before after
+did_accept rows {before} {after} folder sink ends came = record {
+  files = ap (λ (f : FolderState). f.files) folder;
+  asked = ap (λ (f : FolderState). f.asked) folder ∙ sym (append-nil before.folder.asked) ∙ ap (λ (more : List Asked). before.folder.asked ++ more) (no_items read_in (λ row. refl) rows);
+  rows = came ∙ ap (λ (more : List Row). before.rows ++ more) (accepted_alone rows);
+  ends = ends ∙ sym (append-nil before.ends) ∙ ap (λ (more : List LineEnd). before.ends ++ more) (no_items end_in (λ row. refl) rows);
+  wrote = ap (λ (s : SinkState). s.written) sink ∙ nothing_written before.sink.written ∙ ap (λ (more : List ℕ). written_then more before.sink.written) (no_items text_in (λ row. refl) rows);
+}
+
+-- ---- in the middle of a part
+
+-- memory ran out behind the first steps of a part
+pub starved_at : {p : Plan} (xs ys : List Step) (rest : Plan) {before after : Progress} → p ≡ plan_behind (xs ++ ys) rest → Did xs before after → Starved p.steps before after
+starved_at xs ys rest is did = record { done = xs; left = ys ++ rest.steps; split = ap (λ (q : Plan). q.steps) is ∙ append_assoc xs ys rest.steps; did = did }
+
+-- the last text of a part was cut
+pub cut_at : {p : Plan} (xs : List Step) (text : List ℕ) (rest : Plan) {before mid after : Progress} → p ≡ plan_behind (xs ++ Write text ∷ []) rest → Did xs before mid → WroteFront text mid after → CutShort p.steps before after
+cut_at xs text rest is did cut = record {
+  done = xs;
+  text = text;
+  left = rest.steps;
+  split = ap (λ (q : Plan). q.steps) is ∙ append_assoc xs (Write text ∷ []) rest.steps;
+  front = cut.front;
+  rest = cut.rest;
+  cut = cut.split;
+  some = cut.some;
+  did = did_then did cut.did;
+}
+
+-- ---- feeds
+
+-- a feed of a file that is not too long
+pub feed_plan : (config : Config) (files : Files) (rows : List Row) (name : List ℕ) (rest : Plan) → is_too_long files name ≡ false →
+    line_plan config files rows (form.Feed name) rest ≡ plan_behind (Ask name ∷ feed_steps name (fed config rows (content_of files name))) rest
+feed_plan config files rows name rest short =
+    let steps = feed_steps name (fed config rows (content_of files name)) in
+    not_long files name (plan_behind steps rest) short ∙ plan_twice (Ask name ∷ []) steps rest
+
+-- the steps of a feed with what it told
+told_steps : (name text : List ℕ) (answer : Answer) (f : Fed) → FedAs answer f → text ≡ feed_text name answer.accepted answer.refused →
+    accepts f.accepted ++ End (line_end.Fed answer.accepted answer.refused) ∷ Write text ∷ [] ≡ feed_steps name f
+told_steps name text answer f told is = λ i.
+    accepts f.accepted ++ End (line_end.Fed (told.accepted i) (told.refused i)) ∷ Write ((is ∙ (λ j. feed_text name (told.accepted j) (told.refused j))) i) ∷ []
+
+pub feed_ran : {config : Config} {files : Files} {name : List ℕ} {answer : Answer} (text : List ℕ) {before mid ended after : Progress} → Took config files name answer before mid →
+    Did (End (line_end.Fed answer.accepted answer.refused) ∷ []) mid ended → Did (Write text ∷ []) ended after → text ≡ feed_text name answer.accepted answer.refused →
+    Ran (line_plan config files before.rows (form.Feed name)) (line_rows config files before.rows (form.Feed name)) before after
+feed_ran {config} {files} {name} {answer} text {before} {mid} {ended} {after} took end write is =
+    let f : Fed = fed config before.rows (content_of files name) in
+    let front : List Step = Ask name ∷ accepts f.accepted in
+    let last : List Step = End (line_end.Fed answer.accepted answer.refused) ∷ [] in
+    let did : Did (Ask name ∷ feed_steps name f) before after =
+    did_by (append_assoc front last (Write text ∷ []) ∙ ap (λ (steps : List Step). Ask name ∷ steps) (told_steps name text answer f took.told is)) (did_then (did_then took.did end) write) in
+    record {
+      steps = Ask name ∷ feed_steps name f;
+      same = λ rest. feed_plan config files before.rows name rest took.short;
+      did = did;
+      accepted = did.rows ∙ ap (λ (more : List Row). before.rows ++ more) (accepted_rows f.accepted (End (line_end.Fed (length f.accepted) f.refused) ∷ Write (feed_text name (length f.accepted) f.refused) ∷ []) ∙ append-nil f.accepted);
+    }
+
+-- memory ran out behind the records of a feed
+pub feed_starved : {config : Config} {files : Files} {name : List ℕ} {answer : Answer} (rest : Plan) {before mid after : Progress} → Took config files name answer before mid → Did [] mid after →
+    Starved (line_plan config files before.rows (form.Feed name) rest).steps before after
+feed_starved {config} {files} {name} rest {before} took none =
+    let f : Fed = fed config before.rows (content_of files name) in
+    let front : List Step = Ask name ∷ accepts f.accepted in
+    starved_at front (End (line_end.Fed (length f.accepted) f.refused) ∷ Write (feed_text name (length f.accepted) f.refused) ∷ []) rest
+    (feed_plan config files before.rows name rest took.short) (did_by (append-nil front) (did_then took.did none))
+
+-- the text of a feed was cut
+pub feed_cut : {config : Config} {files : Files} {name : List ℕ} {answer : Answer} (text : List ℕ) (rest : Plan) {before mid ended after : Progress} → Took config files name answer before mid →
+    Did (End (line_end.Fed answer.accepted answer.refused) ∷ []) mid ended → WroteFront text ended after → text ≡ feed_text name answer.accepted answer.refused →
+    CutShort (line_plan config files before.rows (form.Feed name) rest).steps before after
+feed_cut {config} {files} {name} {answer} text rest {before} took end cut is =
+    let f : Fed = fed config before.rows (content_of files name) in
+    let front : List Step = Ask name ∷ accepts f.accepted in
+    let last : List Step = End (line_end.Fed answer.accepted answer.refused) ∷ [] in
+    cut_at (front ++ last) text rest
+    (feed_plan config files before.rows name rest took.short
+    ∙ ap (λ (steps : List Step). plan_behind (Ask name ∷ steps) rest) (sym (told_steps name text answer f took.told is))
+    ∙ ap (λ (steps : List Step). plan_behind steps rest) (sym (append_assoc front last (Write text ∷ []))))
+    (did_then took.did end) cut
+
+-- memory ran out among the records of a feed
+pub front_starved : (config : Config) (files : Files) (name : List ℕ) (rest : Plan) {before mid after : Progress} → is_too_long files name ≡ false → Did (Ask name ∷ []) before mid →
+    after.folder ≡ mid.folder → after.sink ≡ mid.sink → after.ends ≡ mid.ends → Front (fed config before.rows (content_of files name)).accepted mid.rows after.rows →
+    Starved (line_plan config files before.rows (form.Feed name) rest).steps before after
+front_starved config files name rest {before} {mid} {after} short did folder sink ends f =
+    let answer : Fed = fed config before.rows (content_of files name) in
+    let last : List Step = End (line_end.Fed (length answer.accepted) answer.refused) ∷ Write (feed_text name (length answer.accepted) answer.refused) ∷ [] in
+    starved_at (Ask name ∷ accepts f.front) (accepts f.left ++ last) rest
+    (feed_plan config files before.rows name rest short
+    ∙ ap (λ (rs : List Row). plan_behind (Ask name ∷ (accepts rs ++ last)) rest) f.split
+    ∙ ap (λ (steps : List Step). plan_behind (Ask name ∷ steps) rest) (accepts_both f.front f.left last))
+    (did_then did (did_accept f.front folder sink ends f.taken))
+  where
+    accepts_both : (xs ys : List Row) (steps : List Step) → accepts (xs ++ ys) ++ steps ≡ accepts xs ++ (accepts ys ++ steps)
+    accepts_both [] ys steps = refl
+    accepts_both (x ∷ xs) ys steps = ap (λ (more : List Step). Accept x ∷ more) (accepts_both xs ys steps)
+
+-- ---- queries
+
+pub query_ran : (config : Config) (files : Files) (text table : List ℕ) (moment : ℤ) {before ended after : Progress} → Did (End (line_end.Asked moment) ∷ []) before ended → Did (Write table ∷ []) ended after → table ≡ query_text config.schemas before.rows moment text →
+    Ran (line_plan config files before.rows (form.Query moment text)) [] before after
+query_ran config files text table moment {before} end write is =
+    let did = did_by (ap (λ (t : List ℕ). End (line_end.Asked moment) ∷ Write t ∷ []) is) (did_then end write) in
+    record { steps = query_steps config before.rows moment text; same = λ rest. refl; did = did; accepted = did.rows }
+
+pub query_cut : (config : Config) (files : Files) (text table : List ℕ) (moment : ℤ) (rest : Plan) {before ended after : Progress} → Did (End (line_end.Asked moment) ∷ []) before ended → WroteFront table ended after → table ≡ query_text config.schemas before.rows moment text →
+    CutShort (line_plan config files before.rows (form.Query moment text) rest).steps before after
+query_cut config files text table moment rest {before} end cut is =
+    cut_at (End (line_end.Asked moment) ∷ []) table rest (ap (λ (t : List ℕ). plan_behind (End (line_end.Asked moment) ∷ Write t ∷ []) rest) (sym is)) end cut
+
+pub query_starved : (config : Config) (files : Files) (text : List ℕ) (moment : ℤ) (rest : Plan) {before after : Progress} → Did [] before after → Starved (line_plan config files before.rows (form.Query moment text) rest).steps before after
+query_starved config files text moment rest {before} none = starved_at [] (query_steps config before.rows moment text) rest refl none
+
+-- ---- lines
+
+-- lines that ran, and those that are left
+pub record Reached (config : Config) (files : Files) (lines left : List ScriptLine) (before now : Progress) : Type 0 where
+  pub steps : List Step
+  pub split : lines_plan config files before.rows lines ≡ plan_behind steps (lines_plan config files now.rows left)
+  pub did : Did steps before now
+
+pub reached_first : (config : Config) (files : Files) (lines : List ScriptLine) (p : Progress) → Reached config files lines lines p p
+reached_first config files lines p = record { steps = []; split = refl; did = did_none p }
+
+pub reached_more : {config : Config} {files : Files} {lines left : List ScriptLine} {line : ScriptLine} {before now after : Progress} → Reached config files lines (line ∷ left) before now →
+    Ran (line_plan config files now.rows line.what) (line_rows config files now.rows line.what) now after → Reached config files lines left before after
+reached_more {config} {files} {lines} {left} {line} {before} {now} {after} reached ran = record {
+  steps = reached.steps ++ ran.steps;
+  split = reached.split
+      ∙ ap (plan_behind reached.steps) (ran.same (lines_plan config files (now.rows ++ line_rows config files now.rows line.what) left))
+      ∙ ap (λ (rows : List Row). plan_behind reached.steps (plan_behind ran.steps (lines_plan config files rows left))) (sym ran.accepted)
+      ∙ plan_twice reached.steps ran.steps (lines_plan config files after.rows left);
+  did = did_then reached.did ran.did;
+}
+
+pub reached_all : {config : Config} {files : Files} {lines left : List ScriptLine} {before now : Progress} → left ≡ [] → Reached config files lines left before now → Done (lines_plan config files before.rows lines) before now
+reached_all {config} {files} {lines} {left} {before} {now} none reached =
+    let all : lines_plan config files before.rows lines ≡ plan reached.steps 0 =
+    reached.split ∙ ap (λ (l : List ScriptLine). plan_behind reached.steps (lines_plan config files now.rows l)) none
+    ∙ ap (λ (steps : List Step). plan steps 0) (append-nil reached.steps) in
+    record { status = sym (ap (λ (p : Plan). p.status) all); did = did_by (sym (ap (λ (p : Plan). p.steps) all)) reached.did }
+
+pub reached_stops : {config : Config} {files : Files} {lines left : List ScriptLine} {line : ScriptLine} {before now : Progress} (after : Progress) (stopped : Stop) → Reached config files lines (line ∷ left) before now →
+    ((rest : Plan) → Stops (line_plan config files now.rows line.what rest) stopped now after) → Stops (lines_plan config files before.rows lines) stopped before after
+reached_stops {config} {files} {lines} {left} {line} {before} {now} after stopped reached stops =
+    subst (λ (p : Plan). Stops p stopped before after) (sym reached.split)
+    (stops_behind (line_plan config files now.rows line.what (lines_plan config files (now.rows ++ line_rows config files now.rows line.what) left)) after stopped reached.did (stops (lines_plan config files (now.rows ++ line_rows config files now.rows line.what) left)))
+
+-- ---- scripts
+
+named_is : (config : Config) (files : Files) (name content : List ℕ) → HasRead files name content → named_plan config name files ≡ plan_behind (Ask name ∷ []) (script_plan config files (script_in config.schemas content))
+named_is config files name content has =
+    not_long files name (script_plan config files (script_in config.schemas (content_of files name))) has.short
+    ∙ ap (λ (text : List ℕ). plan_behind (Ask name ∷ []) (script_plan config files (script_in config.schemas text))) (sym has.whole)
+
+pub script_done : (config : Config) {files : Files} {name content : List ℕ} {lines : List ScriptLine} {before mid after : Progress} → HasRead files name content → script_in config.schemas content ≡ Ok lines → Did (Ask name ∷ []) before mid →
+    Done (lines_plan config files [] lines) mid after → Done (named_plan config name files) before after
+script_done config {files} {name} {content} {lines} {before} {mid} {after} has is did done =
+    subst (λ (p : Plan). Done p before after)
+    (sym (named_is config files name content has ∙ ap (λ answer. plan_behind (Ask name ∷ []) (script_plan config files answer)) is))
+    (done_behind did done)
+
+pub script_halts : (config : Config) {files : Files} {name content : List ℕ} {lines : List ScriptLine} {before mid : Progress} (after : Progress) (stopped : Stop) → HasRead files name content → script_in config.schemas content ≡ Ok lines → Did (Ask name ∷ []) before mid →
+    Stops (lines_plan config files [] lines) stopped mid after → Stops (named_plan config name files) stopped before after
+script_halts config {files} {name} {content} {lines} {before} {mid} after stopped has is did stops =
+    subst (λ (p : Plan). Stops p stopped before after)
+    (sym (named_is config files name content has ∙ ap (λ answer. plan_behind (Ask name ∷ []) (script_plan config files answer)) is))
+    (stops_behind (lines_plan config files [] lines) after stopped did stops)
+
+pub script_refused : (config : Config) {files : Files} {name content : List ℕ} {before after : Progress} (fault : Refusal ScriptFault) → HasRead files name content → Withholds fault (script_in config.schemas content) → Did (Ask name ∷ []) before after →
+    Stops (named_plan config name files) (script_stop fault) before after
+script_refused config {files} {name} {content} (refusal.Fault fault) has is did = record {
+  done = Ask name ∷ [];
+  split = named_is config files name content has ∙ ap (λ answer. plan_behind (Ask name ∷ []) (script_plan config files answer)) is;
+  did = did;
+}
+script_refused config {files} {name} {content} refusal.OutOfMemory has is did =
+    starved_at (Ask name ∷ []) [] (script_plan config files (script_in config.schemas content)) (named_is config files name content has) did
+
+pub script_starved : (config : Config) {files : Files} {name content : List ℕ} {before after : Progress} → HasRead files name content → Did (Ask name ∷ []) before after → Starved (named_plan config name files).steps before after
+script_starved config {files} {name} {content} has did = starved_at (Ask name ∷ []) [] (script_plan config files (script_in config.schemas content)) (named_is config files name content has) did
+
+-- ---- configurations
+
+files_are : (files : Files) (config script content : List ℕ) → HasRead files config content → files_plan config script files ≡ plan_behind (Ask config ∷ []) (config_plan files script (config_in content))
+files_are files config script content has =
+    not_long files config (config_plan files script (config_in (content_of files config))) has.short
+    ∙ ap (λ (text : List ℕ). plan_behind (Ask config ∷ []) (config_plan files script (config_in text))) (sym has.whole)
+
+pub files_done : (script : List ℕ) {files : Files} {config content : List ℕ} {read : Config} {before mid after : Progress} → HasRead files config content → config_in content ≡ Ok read → Did (Ask config ∷ []) before mid →
+    Done (named_plan read script files) mid after → Done (files_plan config script files) before after
+files_done script {files} {config} {content} {read} {before} {mid} {after} has is did done =
+    subst (λ (p : Plan). Done p before after)
+    (sym (files_are files config script content has ∙ ap (λ answer. plan_behind (Ask config ∷ []) (config_plan files script answer)) is))
+    (done_behind did done)
+
+pub files_halt : (script : List ℕ) {files : Files} {config content : List ℕ} {read : Config} {before mid : Progress} (after : Progress) (stopped : Stop) → HasRead files config content → config_in content ≡ Ok read → Did (Ask config ∷ []) before mid →
+    Stops (named_plan read script files) stopped mid after → Stops (files_plan config script files) stopped before after
+files_halt script {files} {config} {content} {read} {before} {mid} after stopped has is did stops =
+    subst (λ (p : Plan). Stops p stopped before after)
+    (sym (files_are files config script content has ∙ ap (λ answer. plan_behind (Ask config ∷ []) (config_plan files script answer)) is))
+    (stops_behind (named_plan read script files) after stopped did stops)
+
+pub files_refused : (script : List ℕ) {files : Files} {config content : List ℕ} {before after : Progress} (fault : Refusal ConfigFault) → HasRead files config content → Withholds fault (config_in content) → Did (Ask config ∷ []) before after →
+    Stops (files_plan config script files) (config_stop fault) before after
+files_refused script {files} {config} {content} (refusal.Fault fault) has is did = record {
+  done = Ask config ∷ [];
+  split = files_are files config script content has ∙ ap (λ answer. plan_behind (Ask config ∷ []) (config_plan files script answer)) is;
+  did = did;
+}
+files_refused script {files} {config} {content} refusal.OutOfMemory has is did =
+    starved_at (Ask config ∷ []) [] (config_plan files script (config_in content)) (files_are files config script content has) did
+
+-- ---- a read
+
+-- a read stopped for want of memory, before it was told or behind it
+pub read_starved : (files : Files) (name : List ℕ) (rest : Plan) {before after : Progress} → Did [] before after ⊎ Did (Ask name ∷ []) before after → Starved (read_plan files name rest).steps before after
+read_starved files name rest (inl did) = record { done = []; left = (read_plan files name rest).steps; split = refl; did = did }
+read_starved files name rest (inr did) = record { done = Ask name ∷ []; left = (cond (is_too_long files name) (ending 8 (too_long_text name)) rest).steps; split = refl; did = did }
+
+-- nothing was read
+pub unread : {before after : Progress} → after.folder.files ≡ before.folder.files → after.folder.asked ≡ before.folder.asked → after.rows ≡ before.rows → after.ends ≡ before.ends → after.sink.written ≡ before.sink.written → Did [] before after
+unread {before} files asked rows ends written = record {
+  files = files;
+  asked = asked ∙ sym (append-nil before.folder.asked);
+  rows = rows ∙ sym (append-nil before.rows);
+  ends = ends ∙ sym (append-nil before.ends);
+  wrote = written ∙ nothing_written before.sink.written;
+}
+
+-- ---- what a write leaves
+
+-- where a text was written in part, the stop is that of a failed write
+pub cut_part : (result : Result ⊤ Stop) (Front : Type 0) (P : Stop → Type 0) → OnErr result Front → IfErr result (λ stopped. stopped ≡ stop.WriteFailed) → (Front → P stop.WriteFailed) → IfErr result P
+cut_part (Ok unit) Front P front is then = tt
+cut_part (Err stopped) Front P front is then = subst P (sym is) (then front)
+
+pub err_weaker : (result : Result ⊤ Stop) (P Q : Stop → Type 0) → ((stopped : Stop) → P stopped → Q stopped) → IfErr result P → IfErr result Q
+err_weaker (Ok unit) P Q weaker holds = tt
+err_weaker (Err stopped) P Q weaker holds = weaker stopped holds
+
+-- the records of a file were taken
+pub file_taken : (config : Config) (files : Files) (name content : List ℕ) (answer : Answer) {before mid after : Progress} → is_too_long files name ≡ false → Did (Ask name ∷ []) before mid → mid.rows ≡ before.rows → content ≡ content_of files name →
+    after.folder ≡ mid.folder → after.sink ≡ mid.sink → after.ends ≡ mid.ends → FedAs answer (fed config mid.rows content) → after.rows ≡ mid.rows ++ (fed config mid.rows content).accepted → Took config files name answer before after
+file_taken config files name content answer {before} {mid} {after} short did same text folder sink ends told rows =
+    let is : fed config mid.rows content ≡ fed config before.rows (content_of files name) = λ i. fed config (same i) (text i) in
+    record {
+      short = short;
+      told = subst (FedAs answer) is told;
+      did = did_then did (did_accept (fed config before.rows (content_of files name)).accepted folder sink ends (rows ∙ ap (λ (f : Fed). mid.rows ++ f.accepted) is));
+    }
+
+-- what a call that failed leaves, where its stop is handed on
+pub handed_on : {T : Type 0} (result : Result T Stop) (P : Stop → Type 0) (stopped : Stop) → (s : Stop) × (result ≡ Err s) × (s ≡ stopped) → P stopped → IfErr result P
+handed_on {T} result P stopped (s, is, same) holds = subst (λ (r : Result T Stop). IfErr r P) (sym is) (subst P (sym same) holds)

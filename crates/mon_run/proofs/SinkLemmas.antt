@@ -1,0 +1,33 @@
+-- A sink that goes on with the rest of a text.
+use Rattle.std.proofs.Common.{◌≡◌, ◌∙◌, ◌<◌, ℕ, List, [], ◌++◌, Option, length, take, drop, refl, sym, ap, append_assoc, append-nil}
+use Rattle.std.proofs.lemmas.List.{take-append-drop}
+use Rattle.mon_run.specs.Outside.{SinkState, Takes, TakesFront, written_then}
+use Rattle.mon_run.proofs.StepLemmas.{nothing_written, written_both}
+
+-- a sink took the front of a text, and this is left
+pub record TookTo (text rest : List ℕ) (before after : SinkState) : Type 0 where
+  pub front : List ℕ
+  pub split : text ≡ front ++ rest
+  pub takes : Takes front before after
+
+-- before the first write nothing is taken
+pub took_none : (text : List ℕ) (sink : SinkState) → TookTo text text sink sink
+took_none text sink = record { front = []; split = refl; takes = nothing_written sink.written }
+
+-- a further write takes the front of the rest
+pub took_more : (text rest left : List ℕ) (n : ℕ) (before mid after : SinkState) → TookTo text rest before mid → after.written ≡ written_then (take n rest) mid.written → left ≡ drop n rest → TookTo text left before after
+took_more text rest left n before mid after took more is = record {
+  front = took.front ++ take n rest;
+  split = took.split ∙ ap (λ (r : List ℕ). took.front ++ r) (sym (take-append-drop n rest)) ∙ sym (append_assoc took.front (take n rest) (drop n rest))
+      ∙ ap (λ (r : List ℕ). (took.front ++ take n rest) ++ r) (sym is);
+  takes = more ∙ ap (written_then (take n rest)) took.takes ∙ written_both took.front (take n rest) before.written;
+}
+
+-- with nothing left the whole text was taken
+pub took_all : (text rest : List ℕ) (before after : SinkState) → TookTo text rest before after → rest ≡ [] → Takes text before after
+took_all text rest before after took none =
+    took.takes ∙ ap (λ (front : List ℕ). written_then front before.written) (sym (took.split ∙ ap (λ (r : List ℕ). took.front ++ r) none ∙ append-nil took.front))
+
+-- where a write fails, a front was taken
+pub took_front : (text rest : List ℕ) (before mid after : SinkState) → TookTo text rest before mid → after.written ≡ mid.written → 0 < length rest → TakesFront text before after
+took_front text rest before mid after took same some = record { front = took.front; rest = rest; split = took.split; some = some; takes = same ∙ took.takes }

@@ -1,0 +1,18 @@
+-- the records so far came to rows and refusals, and those that are left come to the rest
+use Rattle.std.proofs.Common.{◌≡◌, ◌+◌, ◌≤◌, length}
+use Rattle.std.specs.List.{AllByRecursion}
+use Rattle.std.specs.Vec.Iter.{into_iter_items, into_iter_len}
+use Rattle.mon_points.specs.Fitting.{ReadFits}
+use Rattle.mon_points.specs.Records.{reads_of}
+use Rattle.mon_run.proofs.FeedLemmas.{Feeding}
+use Rattle.mon_run.specs.within.Sound.{AreSound}
+use Rattle.mon_run.proofs.feeds.feed.Given as goal
+
+abbrev pub invariant-loop-read : goal.invariant-loop-read
+invariant-loop-read l = record {
+  feeding : Feeding l.zone l.fn.accepted (reads_of l.zone.schemas l.content) l.accepted (into_iter_items l.read-iterator) l.refused l.number;
+  sound : AreSound l.zone l.accepted;
+  fit : AllByRecursion (ReadFits l.zone.schemas) (into_iter_items l.read-iterator);
+  left : into_iter_len l.read-iterator ≡ length (into_iter_items l.read-iterator);
+  count : l.number + length (into_iter_items l.read-iterator) ≤ length l.content + 1;
+}

@@ -1,7 +1,0 @@
--- the mark isn't among the bytes so far
-use Rattle.std.proofs.Common.{◌≡◌, ◌++◌, drop, option_map, take}
-use Rattle.mon_run.specs.Scripts.{cut_at}
-use Rattle.mon_run.proofs.script.cut_at.Given as goal
-
-abbrev pub invariant-loop-i : goal.invariant-loop-i
-invariant-loop-i l = cut_at l.mark l.text ≡ option_map (λ cut. (take l.i l.text ++ cut.0, cut.1)) (cut_at l.mark (drop l.i l.text))

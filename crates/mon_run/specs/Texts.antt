@@ -1,0 +1,61 @@
+-- Every text that a run prints.
+use Rattle.std.specs.Prelude.{ℕ, ℤ, List, [], ◌∷◌, ◌++◌, length, codes, Option, Some, None}
+use Rattle.std.specs.Fmt.{decimal, signed_decimal}
+use Rattle.std.specs.List.{flat_map}
+use Rattle.mon_value.specs.declared.rows.Row.{Row}
+use Rattle.mon_config.specs.FaultTexts.{config_fault_text}
+use Rattle.mon_config.specs.declared.faults.ConfigFault.{ConfigFault}
+use Rattle.mon_points.specs.FaultTexts.{row_fault_text}
+use Rattle.mon_schema.specs.SchemaLists.{SchemaLists}
+use Rattle.mon_script.specs.Fetches.{plain_fetch}
+use Rattle.mon_script.specs.declared.script.ScriptFault.{ScriptFault}
+use Rattle.mon_table.specs.Tables.{newline}
+pub use Rattle.mon_table.specs.Tables.{table_text}
+use Rattle.mon_run.specs.Feeds.{Fed}
+use Rattle.mon_run.specs.Meaning.{Fetch, column_names, meaning}
+use Rattle.mon_run.specs.declared.outcome.RowRefused.{RowRefused}
+use Rattle.mon_run.specs.declared.outcome.RowRefused.TheVariants as refused
+use Rattle.mon_run.specs.declared.outcome.RowRefusal.{RowRefusal}
+
+-- ---- lines
+
+abbrev pub row_refused_text : RowRefused → List ℕ
+row_refused_text (refused.Read fault) = row_fault_text fault
+row_refused_text (refused.OldPoint last) = codes "OldPoint " ++ signed_decimal last
+
+abbrev pub refusal_line : RowRefusal → List ℕ
+refusal_line refusal = codes "row " ++ decimal refusal.number ++ codes ": " ++ row_refused_text refusal.fault ++ newline
+
+abbrev pub feed_summary : List ℕ → ℕ → ℕ → List ℕ
+feed_summary name accepted refused =
+    codes "feed " ++ (name ++ (codes ": " ++ (decimal accepted
+    ++ (codes " accepted, " ++ (decimal refused ++ (codes " refused" ++ newline))))))
+
+-- a feed prints how many records it accepted and refused, and a line for each that it refused
+abbrev pub feed_text : List ℕ → ℕ → List RowRefusal → List ℕ
+feed_text name accepted refused = feed_summary name accepted (length refused) ++ flat_map refusal_line refused
+
+-- a query prints its table over the rows that were accepted before it
+abbrev pub fetch_text : List Row → ℤ → Option Fetch → List ℕ
+fetch_text rows moment None = []
+fetch_text rows moment (Some fetch) = table_text (column_names fetch) (meaning fetch rows moment)
+
+abbrev pub query_text : SchemaLists → List Row → ℤ → List ℕ → List ℕ
+query_text schemas rows moment text = fetch_text rows moment (plain_fetch schemas text)
+
+-- ---- ends
+
+abbrev pub usage_text : List ℕ
+usage_text = codes "usage: mon run CONFIG SCRIPT | weave CONFIG SCHEDULE | gen N | trial N" ++ newline
+
+abbrev pub config_text : ConfigFault → List ℕ
+config_text fault = codes "config: " ++ (config_fault_text fault ++ newline)
+
+abbrev pub script_text : ScriptFault → List ℕ
+script_text fault = codes "script line " ++ (decimal fault.line ++ (codes ": NotBuilt" ++ newline))
+
+abbrev pub read_text : List ℕ → List ℕ
+read_text name = codes "cannot read " ++ (name ++ newline)
+
+abbrev pub too_long_text : List ℕ → List ℕ
+too_long_text name = codes "too long: " ++ (name ++ newline)

@@ -1,0 +1,178 @@
+-- How a part of a run leaves it: it did its steps, or it stopped.
+use Rattle.std.specs.Prelude.{◌≡◌, ◌≤◌, ◌<◌, ◌⊎◌, ℕ, Bool, true, false, List, [], ◌∷◌, ◌++◌, length, Some, Result, Ok, Err}
+use Rattle.std.specs.Bool.{⊤}
+use Rattle.mon_value.specs.declared.refusals.Refusal.{Refusal}
+use Rattle.mon_value.specs.declared.refusals.Refusal.TheVariants as refusal
+use Rattle.mon_value.specs.declared.rows.Row.{Row}
+use Rattle.mon_config.specs.declared.config.Config.{Config}
+use Rattle.mon_config.specs.declared.faults.ConfigFault.{ConfigFault}
+use Rattle.mon_script.specs.declared.script.LineForm.{LineForm}
+use Rattle.mon_script.specs.declared.script.ScriptFault.{ScriptFault}
+use Rattle.mon_run.specs.Endings.{CutShort, Did, LastFailed, Progress, Starved, progress}
+use Rattle.mon_run.specs.Outside.{Files, FolderState, Rose, SinkState, Told, content_of, is_too_long}
+use Rattle.mon_run.specs.Plans.{Ask, Miss, Plan, Step, Write, command_plan, config_plan, ending, line_plan, line_rows, plan_behind, read_plan, run_command}
+use Rattle.mon_run.specs.Texts.{config_text, read_text, script_text, too_long_text, usage_text}
+use Rattle.mon_run.specs.declared.runs.Log.{Log}
+use Rattle.mon_run.specs.declared.stop.Stop.{Stop}
+use Rattle.mon_run.specs.declared.stop.Stop.TheVariants as stop
+
+-- a run's progress, as its parts keep it
+abbrev pub run_state : FolderState → SinkState → Log → Progress
+run_state folder sink log = progress folder sink log.ends log.accepted
+
+-- ---- stops
+
+abbrev pub status_of : Stop → ℕ
+status_of stop.Usage = 1
+status_of (stop.Config fault) = 2
+status_of (stop.Script fault) = 3
+status_of (stop.CannotRead name) = 4
+status_of stop.WriteFailed = 5
+status_of stop.OutOfMemory = 6
+status_of (stop.TooLong name) = 8
+
+-- the text of its own that a run ends with
+abbrev pub own_text : Stop → List ℕ
+own_text stop.Usage = usage_text
+own_text (stop.Config fault) = config_text fault
+own_text (stop.Script fault) = script_text fault
+own_text (stop.CannotRead name) = read_text name
+own_text stop.WriteFailed = []
+own_text stop.OutOfMemory = []
+own_text (stop.TooLong name) = too_long_text name
+
+-- a run that stopped by a failed write or for want of memory says nothing
+abbrev pub is_silent : Stop → Bool
+is_silent stop.Usage = false
+is_silent (stop.Config fault) = false
+is_silent (stop.Script fault) = false
+is_silent (stop.CannotRead name) = false
+is_silent stop.WriteFailed = true
+is_silent stop.OutOfMemory = true
+is_silent (stop.TooLong name) = false
+
+-- a configuration or a script that is refused stops a run
+abbrev pub config_stop : Refusal ConfigFault → Stop
+config_stop (refusal.Fault fault) = stop.Config fault
+config_stop refusal.OutOfMemory = stop.OutOfMemory
+
+abbrev pub script_stop : Refusal ScriptFault → Stop
+script_stop (refusal.Fault fault) = stop.Script fault
+script_stop refusal.OutOfMemory = stop.OutOfMemory
+
+-- ---- where a run stops in its plan
+
+-- at its own text, which is still to be written
+pub record StopsBefore (plan : Plan) (status : ℕ) (text : List ℕ) (before after : Progress) : Type 0 where
+  pub done : List Step
+  pub split : plan ≡ plan_behind done (ending status text)
+  pub did : Did done before after
+
+-- at a read that failed
+pub record StopsAtRead (steps : List Step) (name : List ℕ) (before after : Progress) : Type 0 where
+  pub done : List Step
+  pub left : List Step
+  pub split : steps ≡ done ++ Ask name ∷ left
+  pub did : Did (done ++ Miss name ∷ []) before after
+
+abbrev pub Stops : Plan → Stop → Progress → Progress → Type 0
+Stops plan (stop.CannotRead name) before after = StopsAtRead plan.steps name before after
+Stops plan stop.WriteFailed before after = CutShort plan.steps before after
+Stops plan stop.OutOfMemory before after = Starved plan.steps before after
+Stops plan stop.Usage before after = StopsBefore plan 1 usage_text before after
+Stops plan (stop.Config fault) before after = StopsBefore plan 2 (config_text fault) before after
+Stops plan (stop.Script fault) before after = StopsBefore plan 3 (script_text fault) before after
+Stops plan (stop.TooLong name) before after = StopsBefore plan 8 (too_long_text name) before after
+
+-- why, over any folder and sink: the last read failed, or a write did
+abbrev pub Causes : Stop → Progress → Progress → Type 0
+Causes (stop.CannotRead name) before after = (after.folder.last ≡ name) × LastFailed before.folder after.folder
+Causes stop.WriteFailed before after = Rose before.sink.faults after.sink.faults
+Causes stop.OutOfMemory before after = ⊤
+Causes stop.Usage before after = ⊤
+Causes (stop.Config fault) before after = ⊤
+Causes (stop.Script fault) before after = ⊤
+Causes (stop.TooLong name) before after = ⊤
+
+-- the counts of faults never fall
+pub record Counts (before after : Progress) : Type 0 where
+  pub reads : before.folder.faults ≤ after.folder.faults
+  pub writes : before.sink.faults ≤ after.sink.faults
+
+-- ---- parts of a run
+
+-- what is read of a file
+pub record HasRead (files : Files) (name content : List ℕ) : Type 0 where
+  pub whole : content ≡ content_of files name
+  pub short : is_too_long files name ≡ false
+
+-- a read stops, before any rest
+abbrev pub ReadStops : List ℕ → Stop → Progress → Progress → Type 0
+ReadStops name stopped before after = Told before.folder (λ files. (rest : Plan) → Stops (read_plan files name rest) stopped before after)
+
+-- a part of a plan was done, before any rest, and these rows were accepted
+pub record Ran (part : Plan → Plan) (rows : List Row) (before after : Progress) : Type 0 where
+  pub steps : List Step
+  pub same : (rest : Plan) → part rest ≡ plan_behind steps rest
+  pub did : Did steps before after
+  pub accepted : after.rows ≡ before.rows ++ rows
+
+-- a line was done
+abbrev pub LineRuns : Config → LineForm → Progress → Progress → Type 0
+LineRuns config form before after =
+    Told before.folder (λ files. Ran (line_plan config files before.rows form) (line_rows config files before.rows form) before after)
+
+-- a line stops, before any rest
+abbrev pub LineStops : Config → LineForm → Stop → Progress → Progress → Type 0
+LineStops config form stopped before after =
+    Told before.folder (λ files. (rest : Plan) → Stops (line_plan config files before.rows form rest) stopped before after)
+
+-- all of a plan was done
+pub record Done (plan : Plan) (before after : Progress) : Type 0 where
+  pub status : 0 ≡ plan.status
+  pub did : Did plan.steps before after
+
+-- what the files say was done, or stops
+abbrev pub Completes : (Files → Plan) → Progress → Progress → Type 0
+Completes plan before after = Told before.folder (λ files. Done (plan files) before after)
+
+abbrev pub Halts : (Files → Plan) → Stop → Progress → Progress → Type 0
+Halts plan stopped before after = Told before.folder (λ files. Stops (plan files) stopped before after)
+
+-- the plan of a script's file under a configuration
+abbrev pub named_plan : Config → List ℕ → Files → Plan
+named_plan config name files = config_plan files name (Ok config)
+
+abbrev pub files_plan : List ℕ → List ℕ → Files → Plan
+files_plan config script files = command_plan files (Some (run_command config script))
+
+-- a text was taken in part: a front, and not all
+pub record WroteFront (text : List ℕ) (before after : Progress) : Type 0 where
+  pub front : List ℕ
+  pub rest : List ℕ
+  pub split : text ≡ front ++ rest
+  pub some : 0 < length rest
+  pub did : Did (Write front ∷ []) before after
+
+-- ---- the end of a run
+
+-- a text is written and a run has its status; or the text was taken in part (status 5); or memory ran out (status 6)
+abbrev pub SaysText : ℕ → List ℕ → ℕ → Progress → Progress → Type 0
+SaysText code text status before after =
+    ((status ≡ code) × Did (Write text ∷ []) before after)
+    ⊎ (((status ≡ 5) × WroteFront text before after × Rose before.sink.faults after.sink.faults) ⊎ ((status ≡ 6) × Did [] before after))
+
+-- a run says its own text, and has the status of its stop
+abbrev pub Says : Stop → ℕ → Progress → Progress → Type 0
+Says stopped status before after = SaysText (status_of stopped) (own_text stopped) status before after
+
+-- a run that stopped by a failed write or for want of memory says nothing
+abbrev pub Closes : Result ⊤ Stop → ℕ → Progress → Progress → Type 0
+Closes (Ok done) status before after = (status ≡ 0) × Did [] before after
+Closes (Err stop.WriteFailed) status before after = (status ≡ 5) × Did [] before after
+Closes (Err stop.OutOfMemory) status before after = (status ≡ 6) × Did [] before after
+Closes (Err stop.Usage) status before after = Says stop.Usage status before after
+Closes (Err (stop.Config fault)) status before after = Says (stop.Config fault) status before after
+Closes (Err (stop.Script fault)) status before after = Says (stop.Script fault) status before after
+Closes (Err (stop.CannotRead name)) status before after = Says (stop.CannotRead name) status before after
+Closes (Err (stop.TooLong name)) status before after = Says (stop.TooLong name) status before after

@@ -1,0 +1,4 @@
+pub mod Fetches
+pub mod Lawful
+pub mod Lines
+pub mod Scripts

@@ -1,6 +1,0 @@
--- the items so far are copies of the first ones
-use Rattle.std.proofs.Common.{◌≡◌, take}
-use Rattle.mon_value.proofs.lists.ListOfTryCopy.copy.Given as goal
-
-abbrev pub invariant-loop-item : goal.invariant-loop-item
-invariant-loop-item g l = l.items.items ≡ take l.item-index l.item-items
