@@ -1,0 +1,5 @@
+mod BranchLemmas
+mod Chains
+mod EscapeLemmas
+mod PredicatePartLemmas
+mod SumPartLemmas

@@ -1,0 +1,10 @@
+pub mod Bytes
+pub mod Grammar
+pub mod Marks
+pub mod PredicateParts
+pub mod Printed
+pub mod Quotes
+pub mod Rests
+pub mod SumParts
+pub mod Tokens
+pub mod Trees
