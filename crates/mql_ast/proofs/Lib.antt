@@ -1,4 +1,4 @@
-mod BranchLemmas
+pub mod BranchLemmas
 mod Chains
 mod EscapeLemmas
 mod PredicatePartLemmas

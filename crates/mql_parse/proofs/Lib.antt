@@ -1,0 +1,14 @@
+pub mod RestLemmas
+pub mod WordLemmas
+pub mod QuoteLemmas
+pub mod BehindLemmas
+pub mod Links
+pub mod Sound
+pub mod Within
+pub mod SumSound
+pub mod Loops
+pub mod PredicateSound
+pub mod ListSound
+pub mod BranchViews
+pub mod PipeSound
+pub mod TextSound

@@ -1,0 +1,29 @@
+-- Words and digits, one byte more.
+use Rattle.std.proofs.Common.{◌≡◌, ℕ, ◌+◌, ◌<◌, true, false, List, [], ◌∷◌, length, refl, ap, if◌then◌else◌}
+use Rattle.std.proofs.lemmas.Bool.{false≢true}
+use Rattle.mql_ast.specs.Bytes.{is_word_byte, is_digit}
+use Rattle.mql_ast.specs.Rests.{Rest, first_of, behind_first, head, behind}
+use Rattle.mql_ast.specs.Tokens.{word_bytes, behind_word}
+use Rattle.mql_parse.proofs.RestLemmas.{tested_shorter}
+
+pub word_shorter : (s : Rest) → is_word_byte (head s) ≡ true → length (behind s).bytes < length s.bytes
+word_shorter = tested_shorter is_word_byte refl
+
+pub digit_shorter : (s : Rest) → is_digit (head s) ≡ true → length (behind s).bytes < length s.bytes
+digit_shorter = tested_shorter is_digit refl
+
+pub word_bytes_on : (at : ℕ) (bs : List ℕ) → is_word_byte (first_of bs) ≡ true → word_bytes bs ≡ first_of bs ∷ word_bytes (behind_first at bs).bytes
+word_bytes_on at [] h = absurd (false≢true h)
+word_bytes_on at (b ∷ bs) h = ap (λ t. if t then b ∷ word_bytes bs else []) h
+
+pub behind_word_on : (at : ℕ) (bs : List ℕ) → is_word_byte (first_of bs) ≡ true → behind_word at bs ≡ behind_word (behind_first at bs).at (behind_first at bs).bytes
+behind_word_on at [] h = refl
+behind_word_on at (b ∷ bs) h = ap (λ t. if t then behind_word (at + 1) bs else record { at = at; bytes = b ∷ bs }) h
+
+pub word_bytes_off : (bs : List ℕ) → is_word_byte (first_of bs) ≡ false → word_bytes bs ≡ []
+word_bytes_off [] h = refl
+word_bytes_off (b ∷ bs) h = ap (λ t. if t then b ∷ word_bytes bs else []) h
+
+pub behind_word_off : (at : ℕ) (bs : List ℕ) → is_word_byte (first_of bs) ≡ false → behind_word at bs ≡ record { at = at; bytes = bs }
+behind_word_off at [] h = refl
+behind_word_off at (b ∷ bs) h = ap (λ t. if t then behind_word (at + 1) bs else record { at = at; bytes = b ∷ bs }) h

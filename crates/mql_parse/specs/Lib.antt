@@ -1,0 +1,13 @@
+pub mod Outcomes
+pub mod Repeats
+pub mod TokenReading
+pub mod SumReading
+pub mod PredicateReading
+pub mod Folds
+pub mod PipeReading
+pub mod Steps
+pub mod Behind
+pub mod Soundness
+pub mod Views
+pub mod TurnViews
+pub mod PredicateViews
