@@ -14,11 +14,13 @@ pub mod ListLends
 pub mod Numbers
 pub mod Order
 pub mod Parts
+pub mod Patterns
 pub mod Rooms
 pub mod Same
 pub mod SeriesRows
 pub mod Sorting
 pub mod Sources
 pub mod Texts
+pub mod Tops
 pub mod Values
 pub mod Windows
