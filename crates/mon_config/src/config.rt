@@ -14,9 +14,9 @@ use crate::parts::{Parts, parts_in};
 use crate::paths::{Shaped, path_from_top};
 use crate::zones::locations_of;
 use mon_schema::Schemas;
-use mon_value::{OutOfMemory, Refusal, Text, Texts};
+use mon_value::{OutOfMemory, Refusal, Text, Texts, TryCopy};
 use serde_json::Value;
-use std::alloc::Global;
+use std::alloc::{AllocError, Global};
 
 /// What a configuration says.
 #[derive(Drop)]
@@ -31,6 +31,18 @@ pub struct Config {
     pub limit: u64,
     /// How many points a range holds at most.
     pub range_points: u64,
+}
+
+impl TryCopy for Config {
+    fn copy(&self, alloc: Global) -> Result<Config, AllocError> {
+        Ok(Config {
+            schemas: self.schemas.copy(alloc)?,
+            locations: self.locations.copy(alloc)?,
+            buckets: self.buckets,
+            limit: self.limit,
+            range_points: self.range_points,
+        })
+    }
 }
 
 /// The configuration that a JSON text spells, or the first of its faults.

@@ -1,6 +1,7 @@
 // Why a text is no configuration.
 use mon_schema::SchemaFault;
-use mon_value::Text;
+use mon_value::{Text, TryCopy};
+use std::alloc::{AllocError, Global};
 use std::fmt;
 
 /// Why a text is no configuration. A path begins with `$` and goes by `.key` and `[index]`.
@@ -16,6 +17,20 @@ pub enum ConfigFault {
     Schema(SchemaFault, Text),
     /// The zones are of another form than the one that is served so far.
     NotBuilt,
+}
+
+impl TryCopy for ConfigFault {
+    fn copy(&self, alloc: Global) -> Result<ConfigFault, AllocError> {
+        match self {
+            ConfigFault::TooLong => Ok(ConfigFault::TooLong),
+            ConfigFault::NotJson => Ok(ConfigFault::NotJson),
+            ConfigFault::Shape(path) => Ok(ConfigFault::Shape(path.copy(alloc)?)),
+            ConfigFault::Schema(fault, path) => {
+                Ok(ConfigFault::Schema(*fault, path.copy(alloc)?))
+            }
+            ConfigFault::NotBuilt => Ok(ConfigFault::NotBuilt),
+        }
+    }
 }
 
 impl fmt::Display for ConfigFault {

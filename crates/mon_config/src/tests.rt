@@ -1,6 +1,6 @@
 // The call once as it reads, and once as it refuses; `cases` has the table of configurations.
 use crate::{ConfigFault, read_config};
-use mon_value::{Refusal, ValueType};
+use mon_value::{Refusal, TryCopy, ValueType};
 use std::test::Fail;
 
 // A configuration with metrics of three types and two kinds.
@@ -18,6 +18,7 @@ fn a_whole_configuration_is_read(rt: HostRuntime) -> Result<(), Fail> {
     let Ok(config) = read_config(alloc, EXAMPLE.as_bytes()) else {
         return Err(Fail::new("the example is refused"));
     };
+    let config = config.copy(alloc)?;
     assert_eq!(rt; config.buckets, 1024);
     assert_eq!(rt; config.limit, 1000000);
     assert_eq!(rt; config.range_points, 1000000);

@@ -1,4 +1,6 @@
 // Why a record is no row.
+use mon_value::TryCopy;
+use std::alloc::{AllocError, Global};
 use std::fmt;
 
 /// The fault of a record of points.
@@ -23,6 +25,12 @@ pub enum RowFault {
     /// The row's location is none of the store's. The reader, which knows no locations, never gives
     /// it.
     NotBuilt,
+}
+
+impl TryCopy for RowFault {
+    fn copy(&self, _alloc: Global) -> Result<RowFault, AllocError> {
+        Ok(*self)
+    }
 }
 
 impl fmt::Display for RowFault {

@@ -1,4 +1,5 @@
 mod FaultLemmas
 pub mod FieldNameLemmas
+pub mod NamedEntriesLemmas
 pub mod NamedLemmas
 mod ZipLemmas

@@ -1,6 +1,7 @@
 -- How the schemas are kept: each under its name.
-use Rattle.std.specs.Prelude.{◌≡◌}
+use Rattle.std.specs.Prelude.{◌≡◌, ℕ, List, map, Vec}
 use Rattle.std.specs.List.{AllByRecursion}
+use Rattle.std.specs.declared.alloc.Global.{Global}
 use Rattle.indexmap.specs.IndexMap.{values}
 use Rattle.mon_schema.specs.SchemaLists.{SchemaLists}
 use Rattle.mon_schema.specs.declared.table.Schemas.TheInside.{Inside}
@@ -13,3 +14,7 @@ abbrev pub AreNamed : Inside → Type 0
 AreNamed held =
     AllByRecursion (λ entry. entry.0.items ≡ entry.1.name) held.targets.entries
     × AllByRecursion (λ entry. entry.0.items ≡ entry.1.name) held.metrics.entries
+
+-- the entries of a map as contracts see them: each name with its schema
+abbrev pub named_entries : {S : Type 0} → List (Vec ℕ Global × S) → List (List ℕ × S)
+named_entries entries = map (λ entry. (entry.0.items, entry.1)) entries

@@ -1,4 +1,6 @@
 // Why a schema is refused.
+use mon_value::TryCopy;
+use std::alloc::{AllocError, Global};
 use std::fmt;
 
 /// Why a schema was not added.
@@ -18,6 +20,12 @@ pub enum SchemaFault {
     TooMany,
     /// The points of a delta are neither whole numbers nor distributions, and so can't be added up.
     BadKind,
+}
+
+impl TryCopy for SchemaFault {
+    fn copy(&self, _alloc: Global) -> Result<SchemaFault, AllocError> {
+        Ok(*self)
+    }
 }
 
 impl fmt::Display for SchemaFault {

@@ -1,9 +1,10 @@
 // The schemas that are held.
-ghost use Rattle.std.specs.Prelude.{◌≡◌, ◌++◌, ◌∷◌, [], None, OnOk, OnErr, nat_eq};
+ghost use Rattle.std.specs.Prelude.{◌≡◌, ◌++◌, ◌∷◌, [], None, IfOk, OnOk, OnErr, nat_eq};
 ghost use Rattle.std.specs.Cmp.Lexicographic.{pointwise};
 ghost use Rattle.std.specs.Option.{option_copied};
 ghost use Rattle.indexmap.specs.IndexMap.{get};
 ghost use Rattle.mon_value.specs.Answers.{AnswersBy};
+ghost use Rattle.mon_schema.specs.Held.{named_entries};
 
 use crate::faults::SchemaFault;
 use crate::fields::{columns_repeat, has_location, has_two_locations, have_names, names_repeat};
@@ -12,8 +13,8 @@ use crate::metrics::{is_bounded, is_kind_met};
 use crate::names::{is_column_name, is_metric_name, is_name};
 use crate::rows::row_fits;
 use indexmap::IndexMap;
-use mon_value::{MetricSchema, Refusal, Row, TargetSchema};
-use std::alloc::{AllocFailed, Global};
+use mon_value::{MetricSchema, Refusal, Row, TargetSchema, TryCopy};
+use std::alloc::{AllocError, AllocFailed, Global};
 use std::marker::Model;
 
 /// The schemas of targets and metrics, found by name. Contracts see both lists in the order of adding.
@@ -158,6 +159,31 @@ impl Schemas {
         }
         None
     }
+}
+
+impl TryCopy for Schemas {
+    fn copy(&self, alloc: Global) -> Result<Schemas, AllocError> {
+        Ok(Schemas {
+            alloc,
+            targets: copied_schemas(alloc, &self.targets)?,
+            metrics: copied_schemas(alloc, &self.metrics)?,
+        })
+    }
+}
+
+// Copies of schemas, each under a name of its own.
+fn copied_schemas<V: TryCopy + Drop>(
+    alloc: Global,
+    map: &IndexMap<Vec<u8>, V>,
+) -> Result<IndexMap<Vec<u8>, V>, AllocError>
+    ensures entries { IfOk result (λ copied. named_entries copied.entries ≡ named_entries map.now.entries) }
+{
+    let mut copied = IndexMap::with_capacity(alloc, map.len())?;
+    for (name, schema) in map.iter() {
+        let name = Vec::from_slice(alloc, name.as_slice())?;
+        copied.insert(name, schema.copy(alloc)?)?;
+    }
+    Ok(copied)
 }
 
 // Adds what is new under its name.

@@ -2,7 +2,7 @@
 use crate::{Field, Fields, Kind, MetricSchema, SchemaFault, Schemas, TargetSchema};
 use mon_value::{
     FieldType, FieldValue, FieldValues, Point, Refusal, Row, SeriesKey, Shared, Target, Text,
-    Value, ValueType,
+    TryCopy, Value, ValueType,
 };
 use std::alloc::{AllocError, Global};
 use std::test::Fail;
@@ -66,6 +66,7 @@ fn schemas_are_held_and_found(rt: HostRuntime) -> Result<(), Fail> {
     assert!(rt; schemas.target(b"T".as_slice()).is_some());
     assert!(rt; schemas.metric(b"/m".as_slice()).is_some());
     assert!(rt; schemas.fits(&row(alloc)?));
+    assert!(rt; schemas.copy(alloc)?.fits(&row(alloc)?));
     Ok(())
 }
 

@@ -8,8 +8,8 @@ ghost use Rattle.mon_value.specs.Answers.{Gives};
 use crate::forms::form_of;
 use crate::lines::{is_remark, next_line};
 use mon_schema::Schemas;
-use mon_value::{LONGEST_FILE, ListOf, Refusal, Text};
-use std::alloc::Global;
+use mon_value::{LONGEST_FILE, ListOf, Refusal, Text, TryCopy};
+use std::alloc::{AllocError, Global};
 
 /// What a line of a script says.
 #[derive(Debug, Drop)]
@@ -42,6 +42,36 @@ pub enum ScriptKind {
 pub struct ScriptFault {
     pub line: u32,
     pub kind: ScriptKind,
+}
+
+impl TryCopy for LineForm {
+    fn copy(&self, alloc: Global) -> Result<LineForm, AllocError> {
+        match self {
+            LineForm::Feed(name) => Ok(LineForm::Feed(name.copy(alloc)?)),
+            LineForm::Query(moment, text) => Ok(LineForm::Query(*moment, text.copy(alloc)?)),
+        }
+    }
+}
+
+impl TryCopy for ScriptLine {
+    fn copy(&self, alloc: Global) -> Result<ScriptLine, AllocError> {
+        Ok(ScriptLine {
+            number: self.number,
+            what: self.what.copy(alloc)?,
+        })
+    }
+}
+
+impl TryCopy for ScriptKind {
+    fn copy(&self, _alloc: Global) -> Result<ScriptKind, AllocError> {
+        Ok(*self)
+    }
+}
+
+impl TryCopy for ScriptFault {
+    fn copy(&self, _alloc: Global) -> Result<ScriptFault, AllocError> {
+        Ok(*self)
+    }
 }
 
 /// The script that a text spells, or the first of its lines that is refused. The text has at most as

@@ -1,7 +1,7 @@
 // Scripts that are read.
 use crate::{LineForm, ScriptFault, ScriptKind, plain_fetch, read_script};
 use mon_schema::{Field, Kind, MetricSchema, Schemas, TargetSchema};
-use mon_value::{FieldType, Fields, OutOfMemory, Refusal, Text, ValueType};
+use mon_value::{FieldType, Fields, OutOfMemory, Refusal, Text, TryCopy, ValueType};
 use std::alloc::Global;
 use std::test::Fail;
 
@@ -37,6 +37,7 @@ fn the_lines_of_a_script(rt: HostRuntime) -> Result<(), Fail> {
         b"# one\r\n\nfeed p.csv\r\nquery 10 fetch T::/m",
         &schemas,
     )?;
+    let script = script.copy(alloc)?;
     let mut lines = script.as_slice().iter();
     let feed = lines.next().ok_or("no feed")?;
     assert_eq!(rt; feed.number, 3);

@@ -13,13 +13,19 @@ use crate::keys::{cell_at, join_key};
 use crate::places::{Places, joined_columns};
 use crate::right_rows::RightRows;
 use mon_value::{Cells, OutOfMemory, Refusal, Table, TimedRow, TimedRows, TryCopy};
-use std::alloc::Global;
+use std::alloc::{AllocError, Global};
 
 /// A join has more rows than there is room for.
 #[derive(Debug, PartialEq, Eq, Drop)]
 pub struct OverRoom {
     /// The most rows that there is room for.
     pub room: u64,
+}
+
+impl TryCopy for OverRoom {
+    fn copy(&self, _alloc: Global) -> Result<OverRoom, AllocError> {
+        Ok(OverRoom { room: self.room })
+    }
 }
 
 /// Every pair of a row of `a` and a row of `b` that stand at one time and are equal in all columns of
