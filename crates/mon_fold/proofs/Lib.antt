@@ -7,5 +7,4 @@ pub mod MeanLemmas
 pub mod MergeableGroups
 pub mod PartialGroupLemmas
 pub mod PiecesLemmas
-pub mod SmallGroups
 pub mod SlidingLemmas

@@ -4,12 +4,8 @@
 
 mod aggregate_parts;
 mod alignment;
-#[cfg(test)]
-mod alignment_tests;
 mod extremes;
 mod folds;
-#[cfg(test)]
-mod group_tests;
 mod grouping;
 mod groups;
 mod means;

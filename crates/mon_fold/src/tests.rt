@@ -1,4 +1,4 @@
-// What the folds come to on small lists, each called through the bound.
+// Each fold once, called through the bound; `cases` has the tables of alignments and of groups.
 ghost use Rattle.std.specs.Prelude.{◌≡◌, IfOk};
 
 use crate::{CountFold, MaxFold, MeanFold, MergeFold, MinFold, SumFold, fold_pieces};
@@ -30,34 +30,6 @@ fn numbers_in_pieces(rt: HostRuntime) -> Result<(), Fail> {
     assert_eq!(rt; fold_pieces(alloc, &MinFold, &pieces)?, Some(-7));
     assert_eq!(rt; fold_pieces(alloc, &MaxFold, &pieces)?, Some(3));
     assert_eq!(rt; fold_pieces(alloc, &MeanFold, &pieces)?, Some(-1));
-    Ok(())
-}
-
-#[test]
-fn no_number(rt: HostRuntime) -> Result<(), Fail> {
-    let alloc = rt.alloc();
-    let pieces = [numbers(alloc, &[])?, numbers(alloc, &[])?];
-    assert_eq!(rt; fold_pieces(alloc, &SumFold, &pieces)?, None);
-    assert_eq!(rt; fold_pieces(alloc, &MinFold, &pieces)?, None);
-    assert_eq!(rt; fold_pieces(alloc, &MaxFold, &pieces)?, None);
-    assert_eq!(rt; fold_pieces(alloc, &MeanFold, &pieces)?, None);
-    Ok(())
-}
-
-#[test]
-fn a_mean_is_rounded_down(rt: HostRuntime) -> Result<(), Fail> {
-    let alloc = rt.alloc();
-    let pieces = [numbers(alloc, &[-1])?, numbers(alloc, &[-2])?];
-    assert_eq!(rt; fold_pieces(alloc, &MeanFold, &pieces)?, Some(-2));
-    Ok(())
-}
-
-#[test]
-fn a_sum_reaches_its_bound(rt: HostRuntime) -> Result<(), Fail> {
-    let alloc = rt.alloc();
-    let most = 1i128 << 126;
-    let pieces = [numbers(alloc, &[1 - most])?, numbers(alloc, &[-1])?];
-    assert_eq!(rt; fold_pieces(alloc, &SumFold, &pieces)?, Some(-most));
     Ok(())
 }
 
