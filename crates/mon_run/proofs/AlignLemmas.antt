@@ -9,6 +9,7 @@ use Rattle.mon_value.proofs.SameLemmas.{both}
 use Rattle.mon_value.specs.Alignments.{AreAlike, CanAdd, CanAddAll, CanAlign, SumFits, seconds_of, values_of}
 use Rattle.mon_value.specs.Values.{magnitude}
 use Rattle.mon_value.specs.Grids.{grid_times}
+use Rattle.mon_value.specs.declared.limits.TheConstants.{LONGEST_DURATION}
 use Rattle.mon_value.specs.Windows.{ends_within, window_of}
 use Rattle.mon_value.specs.declared.aligners.Aligner.{Aligner}
 use Rattle.mon_value.specs.declared.aligners.Aligner.TheVariants.{Delta, NextOlder}
@@ -101,7 +102,7 @@ all_add of (point ∷ points) adds fit = add_to of point.value (point ∷ points
 at_moment : (P : ℤ → Type 0) (moment : ℤ) → P moment → AllByRecursion P (grid_times (grid_at moment))
 at_moment P moment holds = subst (AllByRecursion P) (sym (one_time (grid_at moment) refl (omega (arith, ints)))) (holds, tt)
 
-aligns : (by : Aligner) (moment : ℤ) (points : List Point) → (pos 1 ≤ℤ seconds_of by) × (seconds_of by ≤ℤ pos 1000000000) → pos 0 ≤ℤ moment → AreAlike by points → SumFits by points moment → CanAlign by (grid_at moment) points
+aligns : (by : Aligner) (moment : ℤ) (points : List Point) → (pos 1 ≤ℤ seconds_of by) × (seconds_of by ≤ℤ LONGEST_DURATION) → pos 0 ≤ℤ moment → AreAlike by points → SumFits by points moment → CanAlign by (grid_at moment) points
 aligns by moment points looks later alike sum = record {
   looks_back = looks;
   lawful = record { moment = later; every = (omega (arith, ints), omega (arith, ints)); within = (omega (arith, ints), omega (arith, ints)); times = omega arith };

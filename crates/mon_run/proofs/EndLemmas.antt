@@ -1,13 +1,20 @@
 -- How a run ends: as its plan says, or where it could not go on.
-use Rattle.std.proofs.Common.{◌≡◌, ◌∙◌, ◌≤◌, ◌<◌, ◌⊎◌, inl, inr, ℕ, Bool, true, false, cond, List, [], ◌∷◌, ◌++◌, Result, Ok, Err, OnOk, IfErr, refl, sym, ap, subst, append_assoc, append-nil, arith, ◌==◌, ◌||◌}
+use Rattle.std.proofs.Common.{◌≡◌, ◌∙◌, ◌≤◌, inl, inr, ℕ, true, false, List, [], ◌∷◌, ◌++◌, Result, Ok, Err, OnOk, IfErr, refl, sym, ap, subst, append_assoc, append-nil, arith}
 use Rattle.std.specs.Bool.{⊤}
-use Rattle.mon_run.specs.Endings.{CutShort, Did, Follows, LastFailed, Misses, Progress, RunIs, Starved, is_status}
-use Rattle.mon_run.specs.Outside.{FolderState, Rose, asking}
-use Rattle.mon_run.specs.Plans.{Ask, Miss, Plan, Step, Write, ending, plan, plan_behind}
+use Rattle.mon_run.specs.Endings.{CutShort, Did, Follows, LastFailed, Progress, RunIs, Starved, is_status}
+use Rattle.mon_run.specs.Faults.{Rose}
+use Rattle.mon_run.specs.Sinks.{SinkState}
+use Rattle.mon_run.specs.Folders.{FolderState, asking}
+use Rattle.mon_run.specs.Plans.{Miss, Plan, Step, Write, ending, plan, plan_behind}
 use Rattle.mon_run.specs.Texts.{read_text}
+use Rattle.mon_value.specs.declared.refusals.Refusal.{Refusal}
+use Rattle.mon_value.specs.declared.refusals.Refusal.TheVariants as refusal
+use Rattle.mon_config.specs.declared.faults.ConfigFault.{ConfigFault}
+use Rattle.mon_script.specs.declared.script.ScriptFault.{ScriptFault}
+use Rattle.mon_run.specs.declared.runs.Run.{Run}
 use Rattle.mon_run.specs.declared.stop.Stop.{Stop}
 use Rattle.mon_run.specs.declared.stop.Stop.TheVariants as stop
-use Rattle.mon_run.specs.within.Stops.{Causes, Closes, Counts, Done, Says, SaysText, Stops, StopsAtRead, StopsBefore, WroteFront, is_silent, own_text, status_of}
+use Rattle.mon_run.specs.within.Stops.{Causes, Closes, Continues, Counts, Done, Says, SaysText, Stops, StopsAtRead, StopsBefore, config_stop, is_silent, script_stop, status_of}
 use Rattle.mon_run.proofs.StepLemmas.{did_by, did_then}
 
 -- ---- counts of faults
@@ -37,6 +44,32 @@ causes_earlier before mid after stop.Usage counts causes = tt
 causes_earlier before mid after (stop.Config fault) counts causes = tt
 causes_earlier before mid after (stop.Script fault) counts causes = tt
 causes_earlier before mid after (stop.TooLong name) counts causes = tt
+
+-- a configuration or a script that is refused is a cause of its own
+pub refused_config : (fault : Refusal ConfigFault) (before after : Progress) → Causes (config_stop fault) before after
+refused_config (refusal.Fault fault) before after = tt
+refused_config refusal.OutOfMemory before after = tt
+
+pub refused_script : (fault : Refusal ScriptFault) (before after : Progress) → Causes (script_stop fault) before after
+refused_script (refusal.Fault fault) before after = tt
+refused_script refusal.OutOfMemory before after = tt
+
+-- the last read failed, under this name
+pub last_read_failed : (name : List ℕ) {before after : FolderState} → after.asked ≡ before.asked ++ asking name true ∷ [] → Rose before.faults after.faults → after.last ≡ name → LastFailed before after
+last_read_failed name {before} {after} asked rose last = record {
+  earlier = before.asked;
+  asked = asked ∙ ap (λ (n : List ℕ). before.asked ++ asking n true ∷ []) (sym last);
+  rose = rose;
+}
+
+-- a run that goes on, and goes on
+pub continues_then : {F O : Type 0} {folder : F → FolderState} {sink : O → SinkState} {before mid after : Run F O} → Continues folder sink before mid → Continues folder sink mid after → Continues folder sink before after
+continues_then first second = record {
+  folder_kept = second.folder_kept ∙ first.folder_kept;
+  out_kept = second.out_kept ∙ first.out_kept;
+  log_kept = second.log_kept ∙ first.log_kept;
+  counts = counts_then first.counts second.counts;
+}
 
 -- ---- the end of a plan
 

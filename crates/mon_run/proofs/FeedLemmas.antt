@@ -1,5 +1,5 @@
 -- Records, taken one by one.
-use Rattle.std.proofs.Common.{◌≡◌, ◌∙◌, ◌+◌, ℕ, ℤ, Bool, true, false, cond, Option, Some, None, List, [], ◌∷◌, ◌++◌, Result, Ok, Err, OnErr, refl, sym, ap, subst, append_assoc, append-nil}
+use Rattle.std.proofs.Common.{◌≡◌, ◌∙◌, ◌+◌, ℕ, Bool, true, false, cond, Option, Some, None, List, [], ◌∷◌, ◌++◌, Result, Ok, Err, OnErr, refl, sym, ap, subst, append_assoc, append-nil}
 use Rattle.std.specs.List.{AllByRecursion, flat_map}
 use Rattle.mon_value.specs.Sources.{last_end, points_of}
 use Rattle.mon_value.specs.declared.rows.Row.{Row}
@@ -8,11 +8,11 @@ use Rattle.mon_points.specs.Fitting.{ReadFits}
 use Rattle.mon_points.specs.declared.faults.RowFault.TheVariants as row_fault
 use Rattle.mon_points.specs.declared.records.RowRead.{RowRead}
 use Rattle.mon_points.specs.declared.records.RowRead.TheVariants as read
-use Rattle.mon_run.specs.Feeds.{Fed, Verdict, fault_in, fed_by, is_in_zone, old_fault, refusal_of, refusals, row_verdict, taken, unless, verdict, verdicts}
+use Rattle.mon_run.specs.Feeds.{Verdict, fault_in, fed_by, is_in_zone, old_fault, refusal_of, refusals, taken, unless, verdict, verdicts}
 use Rattle.mon_run.specs.declared.outcome.RowRefusal.{RowRefusal}
 use Rattle.mon_run.specs.declared.outcome.RowRefused.{RowRefused}
 use Rattle.mon_run.specs.declared.outcome.RowRefused.TheVariants as refused
-use Rattle.mon_run.specs.within.Sound.{AllInZone, AreSound}
+use Rattle.mon_run.specs.within.Sound.{AreSound}
 use Rattle.mon_run.specs.within.Takings.{Front}
 
 -- ---- records so far and records that are left

@@ -1,11 +1,9 @@
 -- What is accepted is of the schemas that are held, and so are the series that a fetch meets.
-use Rattle.std.proofs.Common.{◌≡◌, ◌∙◌, ℕ, ◌&&◌, Option, Some, None, option_map, option_and_then, Bool, true, false, cond, List, [], ◌∷◌, map, refl, sym, ap, subst}
-use Rattle.std.specs.Prelude.{is_some}
+use Rattle.std.proofs.Common.{◌≡◌, ◌∙◌, ℕ, ◌&&◌, Option, Some, None, option_map, option_and_then, Bool, true, false, cond, List, [], ◌∷◌, map, refl, ap, subst}
 use Rattle.std.specs.List.{AllByRecursion}
 use Rattle.mon_value.proofs.SameLemmas.{both, same_series-Decides, same_text-Decides}
 use Rattle.mon_value.specs.Same.{same_series, same_text}
 use Rattle.mon_value.specs.Sources.{points_by_series, points_of, rows_of, series_of}
-use Rattle.mon_value.specs.declared.rows.Point.{Point}
 use Rattle.mon_value.specs.declared.rows.Row.{Row}
 use Rattle.mon_value.specs.declared.rows.SeriesKey.{SeriesKey}
 use Rattle.mon_value.specs.declared.schemas.MetricSchema.{MetricSchema}

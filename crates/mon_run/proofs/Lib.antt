@@ -1,5 +1,6 @@
 mod AlignLemmas
 mod ContentLemmas
+mod CopyLemmas
 mod EndLemmas
 mod FeedLemmas
 mod FittingLemmas

@@ -1,5 +1,5 @@
 -- A set of locations tells the same as the list that it was made of.
-use Rattle.std.proofs.Common.{◌≡◌, ◌∙◌, ◌≤◌, ℕ, Bool, true, false, ◌||◌, cond, List, [], ◌∷◌, ◌++◌, length, drop, refl, sym, ap, subst, nat_eq}
+use Rattle.std.proofs.Common.{◌≡◌, ◌∙◌, ◌≤◌, ℕ, Bool, true, false, ◌||◌, cond, List, [], ◌∷◌, ◌++◌, length, drop, refl, sym, ap, nat_eq}
 use Rattle.std.proofs.lemmas.List.{drop_all}
 use Rattle.std.specs.Cmp.Lexicographic.{pointwise}
 use Rattle.std.specs.List.{list_any}

@@ -1,9 +1,10 @@
 -- The reads of a folder, with one more.
-use Rattle.std.proofs.Common.{◌≡◌, ◌∙◌, ◌≤◌, ◌<◌, ◌+◌, ℕ, Bool, true, false, cond, List, [], ◌∷◌, ◌++◌, Result, Err, ◌⊎◌, inl, refl, sym, ap, subst, arith}
-use Rattle.mon_run.specs.Outside.{Asks, Rose, asking, failed_reads, last_failed}
-use Rattle.mon_run.specs.declared.folder.FolderFault.{FolderFault}
-use Rattle.mon_run.specs.declared.folder.FolderFault.TheVariants as fault
-use Rattle.mon_run.specs.declared.outside.asked.Asked.{Asked}
+use Rattle.std.proofs.Common.{◌≡◌, ◌∙◌, ◌≤◌, ◌<◌, ◌+◌, ℕ, Bool, true, false, cond, List, [], ◌∷◌, ◌++◌, Result, Err, ◌⊎◌, inl, sym, ap, subst, arith}
+use Rattle.mon_run.specs.Faults.{Rose}
+use Rattle.mon_run.specs.Folders.{Asks, asking, failed_reads, last_failed}
+use Rattle.mon_run.specs.declared.outside.folder.FolderFault.{FolderFault}
+use Rattle.mon_run.specs.declared.outside.folder.FolderFault.TheVariants as fault
+use Rattle.mon_run.specs.declared.outside.folder.Asked.{Asked}
 
 counts_at : (first : Bool) (a b : ℕ) → a ≤ b → cond first (a + 1) a ≤ cond first (b + 1) b
 counts_at true a b le = omega arith

@@ -1,5 +1,5 @@
 -- The parts of a run: a file, a line, the lines of a script, a script, a configuration.
-use Rattle.std.proofs.Common.{◌≡◌, ◌∙◌, ◌≤◌, ◌⊎◌, inl, inr, ℕ, ℤ, Bool, true, false, cond, Option, Some, None, List, [], ◌∷◌, ◌++◌, map, length, Result, Ok, Err, OnOk, OnErr, IfErr, refl, sym, ap, subst, append_assoc, append-nil}
+use Rattle.std.proofs.Common.{◌≡◌, ◌∙◌, ◌⊎◌, inl, inr, ℕ, ℤ, false, cond, List, [], ◌∷◌, ◌++◌, map, length, Result, Ok, Err, IfErr, refl, sym, ap, subst, append_assoc, append-nil}
 use Rattle.std.specs.Bool.{⊤}
 use Rattle.std.specs.List.{flat_map}
 use Rattle.mon_value.specs.Answers.{Withholds}
@@ -10,24 +10,26 @@ use Rattle.mon_config.specs.Configs.{config_in}
 use Rattle.mon_config.specs.declared.config.Config.{Config}
 use Rattle.mon_config.specs.declared.faults.ConfigFault.{ConfigFault}
 use Rattle.mon_script.specs.Scripts.{script_in}
-use Rattle.mon_script.specs.declared.script.LineForm.{LineForm}
 use Rattle.mon_script.specs.declared.script.LineForm.TheVariants as form
 use Rattle.mon_script.specs.declared.script.ScriptFault.{ScriptFault}
 use Rattle.mon_script.specs.declared.script.ScriptLine.{ScriptLine}
 use Rattle.mon_run.specs.Endings.{CutShort, Did, Progress, Starved, end_in, read_in, row_in, text_in}
 use Rattle.mon_run.specs.Feeds.{Fed, fed}
-use Rattle.mon_run.specs.Outside.{Files, FolderState, SinkState, content_of, is_too_long, written_then}
-use Rattle.mon_run.specs.Plans.{Accept, Ask, End, Plan, Step, Write, command_plan, config_plan, ending, feed_steps, line_plan, line_rows, lines_plan, plan, plan_behind, query_steps, read_plan, script_plan}
-use Rattle.mon_run.specs.Texts.{config_text, feed_text, query_text, script_text, too_long_text}
+use Rattle.mon_run.specs.Faults.{Rose}
+use Rattle.mon_run.specs.Folders.{Files, FolderState, content_of}
+use Rattle.mon_run.specs.Sinks.{SinkState, written_then}
+use Rattle.mon_run.specs.Plans.{Accept, Ask, End, Plan, Step, Write, config_plan, ending, feed_steps, is_too_long, line_plan, line_rows, lines_plan, plan, plan_behind, query_steps, read_plan, script_plan}
+use Rattle.mon_run.specs.Texts.{feed_text, query_text, too_long_text}
 use Rattle.mon_run.specs.declared.outcome.LineEnd.{LineEnd}
 use Rattle.mon_run.specs.declared.outcome.LineEnd.TheVariants as line_end
 use Rattle.mon_run.specs.declared.feeds.Fed.{Fed as Answer}
-use Rattle.mon_run.specs.declared.outside.asked.Asked.{Asked}
+use Rattle.mon_run.specs.declared.outside.folder.Asked.{Asked}
 use Rattle.mon_run.specs.declared.stop.Stop.{Stop}
 use Rattle.mon_run.specs.declared.stop.Stop.TheVariants as stop
-use Rattle.mon_run.specs.within.Stops.{Done, HasRead, Ran, Stops, WroteFront, config_stop, files_plan, named_plan, script_stop}
+use Rattle.mon_run.specs.within.Stops.{Done, HasRead, Ran, Stops, WriteStops, WroteFront, config_stop, files_plan, named_plan, script_stop}
 use Rattle.mon_run.specs.within.Takings.{FedAs, Front, Took}
-use Rattle.mon_run.proofs.StepLemmas.{did_by, did_none, did_then, done_behind, not_long, nothing_written, plan_twice, stops_behind}
+use Rattle.mon_run.proofs.SinkLemmas.{nothing_written}
+use Rattle.mon_run.proofs.StepLemmas.{did_by, did_none, did_then, done_behind, not_long, plan_twice, stops_behind}
 
 -- ---- rows that are accepted
 
@@ -283,9 +285,10 @@ unread {before} files asked rows ends written = record {
 -- ---- what a write leaves
 
 -- where a text was written in part, the stop is that of a failed write
-pub cut_part : (result : Result ⊤ Stop) (Front : Type 0) (P : Stop → Type 0) → OnErr result Front → IfErr result (λ stopped. stopped ≡ stop.WriteFailed) → (Front → P stop.WriteFailed) → IfErr result P
-cut_part (Ok unit) Front P front is then = tt
-cut_part (Err stopped) Front P front is then = subst P (sym is) (then front)
+pub cut_part : (result : Result ⊤ Stop) (P : Stop → Type 0) {text : List ℕ} {mid after : Progress} → IfErr result (λ stopped. WriteStops text stopped mid after) →
+    (WroteFront text mid after → Rose mid.sink.faults after.sink.faults → P stop.WriteFailed) → IfErr result P
+cut_part (Ok unit) P stops then = tt
+cut_part (Err stopped) P stops then = subst P (sym stops.failed) (then stops.front stops.rose)
 
 pub err_weaker : (result : Result ⊤ Stop) (P Q : Stop → Type 0) → ((stopped : Stop) → P stopped → Q stopped) → IfErr result P → IfErr result Q
 err_weaker (Ok unit) P Q weaker holds = tt

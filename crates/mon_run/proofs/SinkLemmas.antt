@@ -1,8 +1,19 @@
--- A sink that goes on with the rest of a text.
-use Rattle.std.proofs.Common.{◌≡◌, ◌∙◌, ◌<◌, ℕ, List, [], ◌++◌, Option, length, take, drop, refl, sym, ap, append_assoc, append-nil}
+-- What a sink took, text behind text.
+use Rattle.std.proofs.Common.{◌≡◌, ◌∙◌, ◌<◌, ℕ, List, [], ◌++◌, Option, Some, None, length, take, drop, refl, sym, ap, append_assoc, append-nil}
 use Rattle.std.proofs.lemmas.List.{take-append-drop}
-use Rattle.mon_run.specs.Outside.{SinkState, Takes, TakesFront, written_then}
-use Rattle.mon_run.proofs.StepLemmas.{nothing_written, written_both}
+use Rattle.mon_run.specs.Sinks.{SinkState, Takes, TakesFront, written_then}
+
+-- ---- texts behind texts
+
+pub nothing_written : (written : Option (List ℕ)) → written ≡ written_then [] written
+nothing_written None = refl
+nothing_written (Some bytes) = ap Some (sym (append-nil bytes))
+
+pub written_both : (front more : List ℕ) (written : Option (List ℕ)) → written_then more (written_then front written) ≡ written_then (front ++ more) written
+written_both front more None = refl
+written_both front more (Some bytes) = ap Some (append_assoc bytes front more)
+
+-- ---- the front of a text
 
 -- a sink took the front of a text, and this is left
 pub record TookTo (text rest : List ℕ) (before after : SinkState) : Type 0 where

@@ -1,26 +1,18 @@
 -- What was done, step behind step.
-use Rattle.std.proofs.Common.{◌≡◌, ◌∙◌, ℕ, ◌<◌, Bool, true, false, cond, Option, Some, None, List, [], ◌∷◌, ◌++◌, length, Result, Ok, Err, refl, sym, ap, subst, append_assoc, append-nil}
+use Rattle.std.proofs.Common.{◌≡◌, ◌∙◌, ℕ, true, false, cond, Option, List, [], ◌∷◌, ◌++◌, refl, sym, ap, subst, append_assoc, append-nil}
 use Rattle.std.specs.List.{flat_map}
 use Rattle.std.proofs.lemmas.Grind.{flat_map-append}
 use Rattle.mon_value.specs.declared.rows.Row.{Row}
 use Rattle.mon_run.specs.Endings.{CutShort, Did, Progress, Starved, end_in, read_in, row_in, text_in}
-use Rattle.mon_run.specs.Outside.{Files, asking, is_too_long, written_then}
-use Rattle.mon_run.specs.Plans.{Ask, End, Miss, Plan, Step, Write, ending, plan, plan_behind, read_plan}
+use Rattle.mon_run.specs.Folders.{Files}
+use Rattle.mon_run.specs.Sinks.{written_then}
+use Rattle.mon_run.specs.Plans.{Ask, Miss, Plan, Step, Write, ending, is_too_long, plan, plan_behind, read_plan}
 use Rattle.mon_run.specs.Texts.{too_long_text}
 use Rattle.mon_run.specs.declared.outcome.LineEnd.{LineEnd}
 use Rattle.mon_run.specs.declared.stop.Stop.{Stop}
 use Rattle.mon_run.specs.declared.stop.Stop.TheVariants as stop
+use Rattle.mon_run.proofs.SinkLemmas.{nothing_written, written_both}
 use Rattle.mon_run.specs.within.Stops.{Done, Stops, StopsAtRead, StopsBefore}
-
--- ---- texts behind texts
-
-pub nothing_written : (written : Option (List ℕ)) → written ≡ written_then [] written
-nothing_written None = refl
-nothing_written (Some bytes) = ap Some (sym (append-nil bytes))
-
-pub written_both : (front more : List ℕ) (written : Option (List ℕ)) → written_then more (written_then front written) ≡ written_then (front ++ more) written
-written_both front more None = refl
-written_both front more (Some bytes) = ap Some (append_assoc bytes front more)
 
 -- ---- steps behind steps
 

@@ -1,10 +1,7 @@
 -- A row, taken into what is kept.
-use Rattle.std.proofs.Common.{◌≡◌, ◌∙◌, ◌≤◌, ◌<◌, ◌+◌, ℕ, ℤ, zero, suc, Bool, true, false, cond, Option, Some, None, option_map, List, [], ◌∷◌, ◌++◌, map, length, Result, Ok, Err, IfOk, OnOk, OnErr, refl, sym, ap, subst, append-nil, arith, slice_get}
-use Rattle.std.specs.Prelude.{is_some}
-use Rattle.std.specs.List.{AllByRecursion, filter}
+use Rattle.std.proofs.Common.{◌≡◌, ◌∙◌, ◌<◌, ℕ, Bool, true, false, cond, Option, Some, None, List, [], ◌∷◌, ◌++◌, length, Result, Ok, Err, IfOk, OnOk, OnErr, refl, sym, ap, subst, append-nil, arith, slice_get}
 use Rattle.std.specs.Map.{lookup}
 use Rattle.std.specs.declared.alloc.AllocError.{AllocError}
-use Rattle.mon_series.specs.SeriesPoints.{SeriesPoints}
 use Rattle.mon_value.proofs.KeyedLemmas as keyed
 use Rattle.mon_value.proofs.SameLemmas.{same_series-Decides}
 use Rattle.mon_value.proofs.SourceLemmas.{has_series, lookup-points_by_series, points_by_series-push, points_found, points_missing, with_point}
@@ -19,7 +16,7 @@ use Rattle.mon_run.specs.Feeds.{Verdict, fault_in, is_in_zone, old_fault, row_ve
 use Rattle.mon_run.specs.declared.accepted.Place.{Place}
 use Rattle.mon_run.specs.declared.outcome.RowRefused.{RowRefused}
 use Rattle.mon_run.specs.declared.outcome.RowRefused.TheVariants as refused
-use Rattle.mon_run.specs.within.Places.{AllThere, Group, IsKept, KnownGrows, place_at, row_at, row_of_parts, rows_at, unless_refused, with_points}
+use Rattle.mon_run.specs.within.Places.{AllThere, Group, IsKept, KnownGrows, place_at, row_at, rows_at, unless_refused, with_points}
 use Rattle.mon_run.specs.within.Sound.{AllInZone}
 use Rattle.mon_run.proofs.PlaceLemmas.{IsFirst, Keeps, found_first, grown_first, grown_last, keeps_grown, keeps_new, row_grown, row_new, rows_added, rows_kept, there_added}
 

@@ -2,11 +2,13 @@
 use Rattle.std.specs.Prelude.{◌≡◌, ◌<◌, ◌==◌, ◌||◌, ◌⊎◌, ℕ, Bool, true, false, List, [], ◌∷◌, ◌++◌, length}
 use Rattle.std.specs.List.{flat_map}
 use Rattle.mon_value.specs.declared.rows.Row.{Row}
-use Rattle.mon_run.specs.Outside.{FolderState, Rose, SinkState, asking, written_then}
+use Rattle.mon_run.specs.Faults.{Rose}
+use Rattle.mon_run.specs.Folders.{FolderState, asking}
+use Rattle.mon_run.specs.Sinks.{SinkState, written_then}
 use Rattle.mon_run.specs.Plans.{Accept, Ask, End, Miss, Plan, Step, Write, plan}
 use Rattle.mon_run.specs.Texts.{read_text}
 use Rattle.mon_run.specs.declared.outcome.LineEnd.{LineEnd}
-use Rattle.mon_run.specs.declared.outside.asked.Asked.{Asked}
+use Rattle.mon_run.specs.declared.outside.folder.Asked.{Asked}
 
 -- ---- what was done
 

@@ -1,7 +1,9 @@
 pub mod Endings
+pub mod Faults
 pub mod Feeds
+pub mod Folders
 pub mod Meaning
-pub mod Outside
 pub mod Plans
+pub mod Sinks
 pub mod Texts
 pub mod within

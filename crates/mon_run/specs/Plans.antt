@@ -1,5 +1,6 @@
 -- What a run does, step by step, where no read and no write fails and memory is there.
-use Rattle.std.specs.Prelude.{ℕ, ℤ, List, [], ◌∷◌, ◌++◌, map, length, codes, Option, Some, None, Result, Ok, Err, if◌then◌else◌}
+use Rattle.std.specs.Prelude.{ℕ, ℤ, nat_lt, Bool, List, [], ◌∷◌, ◌++◌, map, length, codes, Option, Some, None, Result, Ok, Err, if◌then◌else◌}
+use Rattle.mon_value.specs.declared.limits.TheConstants.{LONGEST_FILE}
 use Rattle.mon_value.specs.Same.{same_text}
 use Rattle.mon_value.specs.declared.rows.Row.{Row}
 use Rattle.mon_config.specs.Configs.{config_in}
@@ -11,7 +12,7 @@ use Rattle.mon_script.specs.declared.script.LineForm.TheVariants as form
 use Rattle.mon_script.specs.declared.script.ScriptFault.{ScriptFault}
 use Rattle.mon_script.specs.declared.script.ScriptLine.{ScriptLine}
 use Rattle.mon_run.specs.Feeds.{Fed, fed}
-use Rattle.mon_run.specs.Outside.{Files, content_of, is_too_long}
+use Rattle.mon_run.specs.Folders.{Files, content_of}
 use Rattle.mon_run.specs.Texts.{config_text, feed_text, query_text, script_text, too_long_text, usage_text}
 use Rattle.mon_run.specs.declared.outcome.LineEnd.{LineEnd}
 use Rattle.mon_run.specs.declared.outcome.LineEnd.TheVariants as end
@@ -58,6 +59,10 @@ command_of (verb ∷ config ∷ script ∷ []) =
 command_of words = None
 
 -- ---- lines
+
+-- a run reads no file of more than 64 MiB
+abbrev pub is_too_long : Files → List ℕ → Bool
+is_too_long files name = nat_lt LONGEST_FILE (length (content_of files name))
 
 -- a file is read before the rest of a plan; a file that is too long ends the run
 abbrev pub read_plan : Files → List ℕ → Plan → Plan

@@ -1,5 +1,5 @@
 -- Every text that a run prints.
-use Rattle.std.specs.Prelude.{ℕ, ℤ, List, [], ◌∷◌, ◌++◌, length, codes, Option, Some, None}
+use Rattle.std.specs.Prelude.{ℕ, ℤ, List, [], ◌++◌, length, codes, Option, Some, None}
 use Rattle.std.specs.Fmt.{decimal, signed_decimal}
 use Rattle.std.specs.List.{flat_map}
 use Rattle.mon_value.specs.declared.rows.Row.{Row}
@@ -11,7 +11,6 @@ use Rattle.mon_script.specs.Fetches.{plain_fetch}
 use Rattle.mon_script.specs.declared.script.ScriptFault.{ScriptFault}
 use Rattle.mon_table.specs.Tables.{newline}
 pub use Rattle.mon_table.specs.Tables.{table_text}
-use Rattle.mon_run.specs.Feeds.{Fed}
 use Rattle.mon_run.specs.Meaning.{Fetch, column_names, meaning}
 use Rattle.mon_run.specs.declared.outcome.RowRefused.{RowRefused}
 use Rattle.mon_run.specs.declared.outcome.RowRefused.TheVariants as refused

@@ -14,8 +14,8 @@ use crate::zone::Zone;
 use indexmap::IndexMap;
 use mon_points::RowFault;
 use mon_series::Series;
-use mon_value::{OutOfMemory, Point, RoomListOf, Row, SeriesKey, Shared, TimedRows};
-use std::alloc::Global;
+use mon_value::{OutOfMemory, Point, RoomListOf, Row, SeriesKey, Shared, TimedRows, TryCopy};
+use std::alloc::{AllocError, Global};
 use std::marker::Model;
 
 /// The place of a point: the number of its series, and its own number in that series.
@@ -23,6 +23,15 @@ use std::marker::Model;
 struct Place {
     series: usize,
     point: usize,
+}
+
+impl TryCopy for Place {
+    fn copy(&self, _alloc: Global) -> Result<Place, AllocError> {
+        Ok(Place {
+            series: self.series,
+            point: self.point,
+        })
+    }
 }
 
 /// The rows that were accepted, in the order in which they came. Contracts see them as one list. Each
@@ -105,6 +114,32 @@ impl Accepted {
         }
         Ok(rows)
     }
+}
+
+impl TryCopy for Accepted {
+    fn copy(&self, alloc: Global) -> Result<Accepted, AllocError> {
+        Ok(Accepted {
+            alloc,
+            series: copied_series(alloc, &self.series)?,
+            order: self.order.copy(alloc)?,
+        })
+    }
+}
+
+// Copies of series, each under its key.
+fn copied_series(
+    alloc: Global,
+    groups: &IndexMap<Shared<SeriesKey>, Series>,
+) -> Result<IndexMap<Shared<SeriesKey>, Series>, AllocError>
+    ensures groups { IfOk result (λ copied. groups_held copied.entries ≡ groups_held groups.now.entries) }
+{
+    let mut copied = IndexMap::with_capacity(alloc, groups.len())?;
+    for (key, series) in groups.iter() {
+        let own = key.copy(alloc)?;
+        let points = series.copy(alloc)?;
+        copied.insert(own, points)?;
+    }
+    Ok(copied)
 }
 
 // Adds a point to a series that is kept, unless it is old.

@@ -1,13 +1,13 @@
 // The run of a command: a configuration, a script, and files of points.
 ghost use Rattle.std.specs.Prelude.{◌≡◌, true, [], map, string_bytes};
 ghost use Rattle.mon_run.specs.Endings.{LastFailed, RunIs, is_status, progress};
-ghost use Rattle.mon_run.specs.Outside.{Rose, Told};
+ghost use Rattle.mon_run.specs.Faults.{Rose};
+ghost use Rattle.mon_run.specs.Folders.{Told};
 ghost use Rattle.mon_run.specs.Plans.{run_plan};
 
-use crate::folder::Folder;
 use crate::outcome::Outcome;
+use crate::outside::{Folder, Sink};
 use crate::runs::{Log, Run};
-use crate::sink::Sink;
 use std::alloc::Global;
 
 /// Runs a command: `run`, the name of a configuration and the name of a script. The lines of the

@@ -31,7 +31,8 @@ pub(crate) fn feed(
     requires sound { AreSound zone.now accepted.old }
     ensures fed { IfOk result (λ fed. FedAs fed (spec.fed zone.now accepted.old content.now)) }
     ensures rows { OnOk result (accepted.new ≡ accepted.old ++ (spec.fed zone.now accepted.old content.now).accepted) }
-    ensures front { OnErr result (Front (spec.fed zone.now accepted.old content.now).accepted accepted.old accepted.new) }
+    ensures front { OnErr result (Front (spec.fed zone.now accepted.old content.now).accepted
+        accepted.old accepted.new) }
     ensures sound { OnOk result (AreSound zone.now accepted.new) }
 {
     let before = accepted.len();

@@ -5,12 +5,10 @@ mod accepted;
 mod command;
 mod feeds;
 mod fetch;
-mod folder;
 mod locations;
 mod outcome;
 mod outside;
 mod runs;
-mod sink;
 mod stop;
 mod tables;
 mod texts;
@@ -18,12 +16,11 @@ mod zone;
 
 pub use accepted::Accepted;
 pub use command::run;
-pub use folder::{Folder, FolderFault};
 pub use outcome::{LineEnd, LineEnds, Outcome, RowRefusal, RowRefusals, RowRefused};
 pub use outside::{
-    Asked, CalmFolder, FileFolder, MemoryFile, MemoryFiles, MemoryFolder, MemorySink, OutSink,
+    Asked, CalmFolder, Failed, FileFolder, Folder, FolderFault, MemoryFile, MemoryFiles,
+    MemoryFolder, MemorySink, OutSink, Sink,
 };
-pub use sink::{Failed, Sink};
 
 #[cfg(test)]
 mod tests;

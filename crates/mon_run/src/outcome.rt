@@ -1,7 +1,8 @@
 // What a run came to.
 use crate::accepted::Accepted;
 use mon_points::RowFault;
-use mon_value::ListOf;
+use mon_value::{ListOf, TryCopy};
+use std::alloc::{AllocError, Global};
 
 /// Why a record was refused.
 #[derive(Clone, Copy, Debug, PartialEq, Eq)]
@@ -46,4 +47,38 @@ pub struct Outcome {
     pub status: u8,
     pub accepted: Accepted,
     pub lines: LineEnds,
+}
+
+impl TryCopy for RowRefused {
+    fn copy(&self, _alloc: Global) -> Result<RowRefused, AllocError> {
+        Ok(*self)
+    }
+}
+
+impl TryCopy for RowRefusal {
+    fn copy(&self, _alloc: Global) -> Result<RowRefusal, AllocError> {
+        Ok(*self)
+    }
+}
+
+impl TryCopy for LineEnd {
+    fn copy(&self, alloc: Global) -> Result<LineEnd, AllocError> {
+        match self {
+            LineEnd::Fed { accepted, refused } => Ok(LineEnd::Fed {
+                accepted: *accepted,
+                refused: refused.copy(alloc)?,
+            }),
+            LineEnd::Asked { moment } => Ok(LineEnd::Asked { moment: *moment }),
+        }
+    }
+}
+
+impl TryCopy for Outcome {
+    fn copy(&self, alloc: Global) -> Result<Outcome, AllocError> {
+        Ok(Outcome {
+            status: self.status,
+            accepted: self.accepted.copy(alloc)?,
+            lines: self.lines.copy(alloc)?,
+        })
+    }
 }

@@ -1,18 +1,14 @@
-// Folders and sinks: in memory, and the system's.
-mod asked;
-mod calm_folder;
+// The outside of a run: folders that files are read of, and sinks that text goes to.
 mod file_folder;
-mod memory_files;
+mod folder;
 mod memory_folder;
-mod memory_sink;
-mod out_sink;
+mod sink;
+mod sinks;
 
-pub use asked::Asked;
-pub use calm_folder::CalmFolder;
 pub use file_folder::FileFolder;
 #[cfg(test)]
 pub(crate) use file_folder::read_front;
-pub use memory_files::{MemoryFile, MemoryFiles};
-pub use memory_folder::MemoryFolder;
-pub use memory_sink::MemorySink;
-pub use out_sink::OutSink;
+pub use folder::{Asked, Folder, FolderFault};
+pub use memory_folder::{CalmFolder, MemoryFile, MemoryFiles, MemoryFolder};
+pub use sink::{Failed, Sink, write_all};
+pub use sinks::{MemorySink, OutSink};

@@ -1,22 +1,23 @@
 // A run: where it reads and writes, and what it has come to.
 ghost use Rattle.std.specs.Prelude.{◌≡◌, ◌≤◌, ◌∷◌, [], length, map, option_map, IfErr, IfOk, OnErr, OnOk, string_bytes};
 ghost use Rattle.std.specs.List.{AllByRecursion};
+ghost use Rattle.mon_run.specs.Folders.{Told};
 ghost use Rattle.mon_script.specs.Lawful.{IsLawful, IsLawfulLine};
 ghost use Rattle.mon_run.specs.Endings.{Did};
-ghost use Rattle.mon_run.specs.Outside.{Told};
 ghost use Rattle.mon_run.specs.Plans as plan;
 ghost use Rattle.mon_run.specs.Plans.{Ask, End, Write};
 ghost use Rattle.mon_run.specs.Texts.{query_text as text_of_query};
 ghost use Rattle.mon_run.specs.within.Sound.{AreSound};
 ghost use Rattle.mon_run.specs.within.Takings.{FileTaken, TakeStops};
-ghost use Rattle.mon_run.specs.within.Stops.{Causes, Closes, Completes, Counts, Halts, HasRead, LineRuns, LineStops, ReadStops, WroteFront, files_plan, is_silent as silent, named_plan, run_state as seen, status_of as code};
+ghost use Rattle.mon_run.specs.within.Stops.{Between, Closes, Completes, Continues, Halts, HasRead, LineRuns, LineStops};
+ghost use Rattle.mon_run.specs.within.Stops.{ReadStops, StopsBetween, WriteStops, files_plan, named_plan};
+ghost use Rattle.mon_run.specs.within.Stops.{is_silent as silent, status_of as code};
 
 use crate::accepted::Accepted;
 use crate::feeds::{Fed, feed};
 use crate::fetch::Fetch;
-use crate::folder::{Folder, FolderFault};
 use crate::outcome::{LineEnd, LineEnds};
-use crate::sink::{Sink, write_all};
+use crate::outside::{Folder, FolderFault, Sink, write_all};
 use crate::stop::Stop;
 use crate::tables::rows_text;
 use crate::texts::{feed_text, own_text};
@@ -63,21 +64,11 @@ impl<'f, 'o, 'l, F: Folder, O: Sink> Run<'f, 'o, 'l, F, O> {
     /// Runs the command that the words say.
     pub fn command(&mut self, words: &[String]) -> Result<(), Stop>
         requires fresh { self.old.log.now.accepted ≡ [] }
-        ensures folder_kept { self.new.folder.ghost_name ≡ self.old.folder.ghost_name }
-        ensures out_kept { self.new.out.ghost_name ≡ self.old.out.ghost_name }
-        ensures log_kept { self.new.log.ghost_name ≡ self.old.log.ghost_name }
-        ensures counts { Counts
-            (seen (F.state self.old.folder.now) (O.state self.old.out.now) self.old.log.now)
-            (seen (F.state self.new.folder.now) (O.state self.new.out.now) self.new.log.now) }
-        ensures completes { OnOk result (Completes (λ files. plan.run_plan files (map string_bytes words.now))
-            (seen (F.state self.old.folder.now) (O.state self.old.out.now) self.old.log.now)
-            (seen (F.state self.new.folder.now) (O.state self.new.out.now) self.new.log.now)) }
-        ensures halts { IfErr result (λ stop. Halts (λ files. plan.run_plan files (map string_bytes words.now)) stop
-            (seen (F.state self.old.folder.now) (O.state self.old.out.now) self.old.log.now)
-            (seen (F.state self.new.folder.now) (O.state self.new.out.now) self.new.log.now)) }
-        ensures causes { IfErr result (λ stop. Causes stop
-            (seen (F.state self.old.folder.now) (O.state self.old.out.now) self.old.log.now)
-            (seen (F.state self.new.folder.now) (O.state self.new.out.now) self.new.log.now)) }
+        ensures continues { Continues F.state O.state self.old self.new }
+        ensures completes { OnOk result (Between F.state O.state
+            (Completes (λ files. plan.run_plan files (map string_bytes words.now))) self.old self.new) }
+        ensures halts { IfErr result (StopsBetween F.state O.state
+            (Halts (λ files. plan.run_plan files (map string_bytes words.now))) self.old self.new) }
     {
         match command_in(words) {
             Some((config, script)) => self.files(config, script),
@@ -88,21 +79,11 @@ impl<'f, 'o, 'l, F: Folder, O: Sink> Run<'f, 'o, 'l, F, O> {
     // Runs a script under a configuration.
     fn files(&mut self, config: &str, script: &str) -> Result<(), Stop>
         requires fresh { self.old.log.now.accepted ≡ [] }
-        ensures folder_kept { self.new.folder.ghost_name ≡ self.old.folder.ghost_name }
-        ensures out_kept { self.new.out.ghost_name ≡ self.old.out.ghost_name }
-        ensures log_kept { self.new.log.ghost_name ≡ self.old.log.ghost_name }
-        ensures counts { Counts
-            (seen (F.state self.old.folder.now) (O.state self.old.out.now) self.old.log.now)
-            (seen (F.state self.new.folder.now) (O.state self.new.out.now) self.new.log.now) }
-        ensures completes { OnOk result (Completes (files_plan config.now script.now)
-            (seen (F.state self.old.folder.now) (O.state self.old.out.now) self.old.log.now)
-            (seen (F.state self.new.folder.now) (O.state self.new.out.now) self.new.log.now)) }
-        ensures halts { IfErr result (λ stop. Halts (files_plan config.now script.now) stop
-            (seen (F.state self.old.folder.now) (O.state self.old.out.now) self.old.log.now)
-            (seen (F.state self.new.folder.now) (O.state self.new.out.now) self.new.log.now)) }
-        ensures causes { IfErr result (λ stop. Causes stop
-            (seen (F.state self.old.folder.now) (O.state self.old.out.now) self.old.log.now)
-            (seen (F.state self.new.folder.now) (O.state self.new.out.now) self.new.log.now)) }
+        ensures continues { Continues F.state O.state self.old self.new }
+        ensures completes { OnOk result (Between F.state O.state
+            (Completes (files_plan config.now script.now)) self.old self.new) }
+        ensures halts { IfErr result (StopsBetween F.state O.state
+            (Halts (files_plan config.now script.now)) self.old self.new) }
     {
         let text = self.read(config)?;
         let config = read_config(self.alloc, text.as_slice())?;
@@ -112,21 +93,11 @@ impl<'f, 'o, 'l, F: Folder, O: Sink> Run<'f, 'o, 'l, F, O> {
     // Runs a script's file under a configuration.
     fn script(&mut self, config: &Config, name: &str) -> Result<(), Stop>
         requires fresh { self.old.log.now.accepted ≡ [] }
-        ensures folder_kept { self.new.folder.ghost_name ≡ self.old.folder.ghost_name }
-        ensures out_kept { self.new.out.ghost_name ≡ self.old.out.ghost_name }
-        ensures log_kept { self.new.log.ghost_name ≡ self.old.log.ghost_name }
-        ensures counts { Counts
-            (seen (F.state self.old.folder.now) (O.state self.old.out.now) self.old.log.now)
-            (seen (F.state self.new.folder.now) (O.state self.new.out.now) self.new.log.now) }
-        ensures completes { OnOk result (Completes (named_plan config.now name.now)
-            (seen (F.state self.old.folder.now) (O.state self.old.out.now) self.old.log.now)
-            (seen (F.state self.new.folder.now) (O.state self.new.out.now) self.new.log.now)) }
-        ensures halts { IfErr result (λ stop. Halts (named_plan config.now name.now) stop
-            (seen (F.state self.old.folder.now) (O.state self.old.out.now) self.old.log.now)
-            (seen (F.state self.new.folder.now) (O.state self.new.out.now) self.new.log.now)) }
-        ensures causes { IfErr result (λ stop. Causes stop
-            (seen (F.state self.old.folder.now) (O.state self.old.out.now) self.old.log.now)
-            (seen (F.state self.new.folder.now) (O.state self.new.out.now) self.new.log.now)) }
+        ensures continues { Continues F.state O.state self.old self.new }
+        ensures completes { OnOk result (Between F.state O.state
+            (Completes (named_plan config.now name.now)) self.old self.new) }
+        ensures halts { IfErr result (StopsBetween F.state O.state
+            (Halts (named_plan config.now name.now)) self.old self.new) }
     {
         let text = self.read(name)?;
         let script = read_script(self.alloc, text.as_slice(), &config.schemas)?;
@@ -138,23 +109,11 @@ impl<'f, 'o, 'l, F: Folder, O: Sink> Run<'f, 'o, 'l, F, O> {
     fn lines(&mut self, zone: &Zone, lines: &[ScriptLine]) -> Result<(), Stop>
         requires lawful { AllByRecursion (IsLawfulLine zone.now.schemas) lines.now }
         requires sound { AreSound zone.now self.old.log.now.accepted }
-        ensures folder_kept { self.new.folder.ghost_name ≡ self.old.folder.ghost_name }
-        ensures out_kept { self.new.out.ghost_name ≡ self.old.out.ghost_name }
-        ensures log_kept { self.new.log.ghost_name ≡ self.old.log.ghost_name }
-        ensures counts { Counts
-            (seen (F.state self.old.folder.now) (O.state self.old.out.now) self.old.log.now)
-            (seen (F.state self.new.folder.now) (O.state self.new.out.now) self.new.log.now) }
-        ensures completes { OnOk result (Completes
-            (λ files. plan.lines_plan zone.now files self.old.log.now.accepted lines.now)
-            (seen (F.state self.old.folder.now) (O.state self.old.out.now) self.old.log.now)
-            (seen (F.state self.new.folder.now) (O.state self.new.out.now) self.new.log.now)) }
-        ensures halts { IfErr result (λ stop. Halts
-            (λ files. plan.lines_plan zone.now files self.old.log.now.accepted lines.now) stop
-            (seen (F.state self.old.folder.now) (O.state self.old.out.now) self.old.log.now)
-            (seen (F.state self.new.folder.now) (O.state self.new.out.now) self.new.log.now)) }
-        ensures causes { IfErr result (λ stop. Causes stop
-            (seen (F.state self.old.folder.now) (O.state self.old.out.now) self.old.log.now)
-            (seen (F.state self.new.folder.now) (O.state self.new.out.now) self.new.log.now)) }
+        ensures continues { Continues F.state O.state self.old self.new }
+        ensures completes { OnOk result (Between F.state O.state
+            (Completes (λ files. plan.lines_plan zone.now files self.old.log.now.accepted lines.now)) self.old self.new) }
+        ensures halts { IfErr result (StopsBetween F.state O.state
+            (Halts (λ files. plan.lines_plan zone.now files self.old.log.now.accepted lines.now)) self.old self.new) }
     {
         for line in lines {
             self.line(zone, &line.what)?;
@@ -166,21 +125,9 @@ impl<'f, 'o, 'l, F: Folder, O: Sink> Run<'f, 'o, 'l, F, O> {
     fn line(&mut self, zone: &Zone, form: &LineForm) -> Result<(), Stop>
         requires lawful { IsLawful zone.now.schemas form.now }
         requires sound { AreSound zone.now self.old.log.now.accepted }
-        ensures folder_kept { self.new.folder.ghost_name ≡ self.old.folder.ghost_name }
-        ensures out_kept { self.new.out.ghost_name ≡ self.old.out.ghost_name }
-        ensures log_kept { self.new.log.ghost_name ≡ self.old.log.ghost_name }
-        ensures counts { Counts
-            (seen (F.state self.old.folder.now) (O.state self.old.out.now) self.old.log.now)
-            (seen (F.state self.new.folder.now) (O.state self.new.out.now) self.new.log.now) }
-        ensures ran { OnOk result (LineRuns zone.now form.now
-            (seen (F.state self.old.folder.now) (O.state self.old.out.now) self.old.log.now)
-            (seen (F.state self.new.folder.now) (O.state self.new.out.now) self.new.log.now)) }
-        ensures stops { IfErr result (λ stop. LineStops zone.now form.now stop
-            (seen (F.state self.old.folder.now) (O.state self.old.out.now) self.old.log.now)
-            (seen (F.state self.new.folder.now) (O.state self.new.out.now) self.new.log.now)) }
-        ensures causes { IfErr result (λ stop. Causes stop
-            (seen (F.state self.old.folder.now) (O.state self.old.out.now) self.old.log.now)
-            (seen (F.state self.new.folder.now) (O.state self.new.out.now) self.new.log.now)) }
+        ensures continues { Continues F.state O.state self.old self.new }
+        ensures ran { OnOk result (Between F.state O.state (LineRuns zone.now form.now) self.old self.new) }
+        ensures stops { IfErr result (StopsBetween F.state O.state (LineStops zone.now form.now) self.old self.new) }
         ensures sound { OnOk result (AreSound zone.now self.new.log.now.accepted) }
     {
         match form {
@@ -192,21 +139,11 @@ impl<'f, 'o, 'l, F: Folder, O: Sink> Run<'f, 'o, 'l, F, O> {
     // Runs a feed.
     fn feed(&mut self, zone: &Zone, name: &Text) -> Result<(), Stop>
         requires sound { AreSound zone.now self.old.log.now.accepted }
-        ensures folder_kept { self.new.folder.ghost_name ≡ self.old.folder.ghost_name }
-        ensures out_kept { self.new.out.ghost_name ≡ self.old.out.ghost_name }
-        ensures log_kept { self.new.log.ghost_name ≡ self.old.log.ghost_name }
-        ensures counts { Counts
-            (seen (F.state self.old.folder.now) (O.state self.old.out.now) self.old.log.now)
-            (seen (F.state self.new.folder.now) (O.state self.new.out.now) self.new.log.now) }
-        ensures ran { OnOk result (LineRuns zone.now (LineForm.Feed name.now)
-            (seen (F.state self.old.folder.now) (O.state self.old.out.now) self.old.log.now)
-            (seen (F.state self.new.folder.now) (O.state self.new.out.now) self.new.log.now)) }
-        ensures stops { IfErr result (λ stop. LineStops zone.now (LineForm.Feed name.now) stop
-            (seen (F.state self.old.folder.now) (O.state self.old.out.now) self.old.log.now)
-            (seen (F.state self.new.folder.now) (O.state self.new.out.now) self.new.log.now)) }
-        ensures causes { IfErr result (λ stop. Causes stop
-            (seen (F.state self.old.folder.now) (O.state self.old.out.now) self.old.log.now)
-            (seen (F.state self.new.folder.now) (O.state self.new.out.now) self.new.log.now)) }
+        ensures continues { Continues F.state O.state self.old self.new }
+        ensures ran { OnOk result (Between F.state O.state
+            (LineRuns zone.now (LineForm.Feed name.now)) self.old self.new) }
+        ensures stops { IfErr result (StopsBetween F.state O.state
+            (LineStops zone.now (LineForm.Feed name.now)) self.old self.new) }
         ensures sound { OnOk result (AreSound zone.now self.new.log.now.accepted) }
     {
         let fed = self.take(zone, name)?;
@@ -221,21 +158,10 @@ impl<'f, 'o, 'l, F: Folder, O: Sink> Run<'f, 'o, 'l, F, O> {
     // Takes the records of a file.
     fn take(&mut self, zone: &Zone, name: &Text) -> Result<Fed, Stop>
         requires sound { AreSound zone.now self.old.log.now.accepted }
-        ensures folder_kept { self.new.folder.ghost_name ≡ self.old.folder.ghost_name }
-        ensures out_kept { self.new.out.ghost_name ≡ self.old.out.ghost_name }
-        ensures log_kept { self.new.log.ghost_name ≡ self.old.log.ghost_name }
-        ensures counts { Counts
-            (seen (F.state self.old.folder.now) (O.state self.old.out.now) self.old.log.now)
-            (seen (F.state self.new.folder.now) (O.state self.new.out.now) self.new.log.now) }
-        ensures took { IfOk result (λ fed. FileTaken zone.now name.now fed
-            (seen (F.state self.old.folder.now) (O.state self.old.out.now) self.old.log.now)
-            (seen (F.state self.new.folder.now) (O.state self.new.out.now) self.new.log.now)) }
-        ensures stops { IfErr result (λ stop. TakeStops zone.now name.now stop
-            (seen (F.state self.old.folder.now) (O.state self.old.out.now) self.old.log.now)
-            (seen (F.state self.new.folder.now) (O.state self.new.out.now) self.new.log.now)) }
-        ensures causes { IfErr result (λ stop. Causes stop
-            (seen (F.state self.old.folder.now) (O.state self.old.out.now) self.old.log.now)
-            (seen (F.state self.new.folder.now) (O.state self.new.out.now) self.new.log.now)) }
+        ensures continues { Continues F.state O.state self.old self.new }
+        ensures took { IfOk result (λ fed. Between F.state O.state
+            (FileTaken zone.now name.now fed) self.old self.new) }
+        ensures stops { IfErr result (StopsBetween F.state O.state (TakeStops zone.now name.now) self.old self.new) }
         ensures sound { OnOk result (AreSound zone.now self.new.log.now.accepted) }
     {
         let content = self.read(name.as_str())?;
@@ -253,21 +179,11 @@ impl<'f, 'o, 'l, F: Folder, O: Sink> Run<'f, 'o, 'l, F, O> {
     fn query(&mut self, zone: &Zone, moment: i64, text: &Text) -> Result<(), Stop>
         requires lawful { IsLawful zone.now.schemas (LineForm.Query moment text.now) }
         requires sound { AreSound zone.now self.old.log.now.accepted }
-        ensures folder_kept { self.new.folder.ghost_name ≡ self.old.folder.ghost_name }
-        ensures out_kept { self.new.out.ghost_name ≡ self.old.out.ghost_name }
-        ensures log_kept { self.new.log.ghost_name ≡ self.old.log.ghost_name }
-        ensures counts { Counts
-            (seen (F.state self.old.folder.now) (O.state self.old.out.now) self.old.log.now)
-            (seen (F.state self.new.folder.now) (O.state self.new.out.now) self.new.log.now) }
-        ensures ran { OnOk result (LineRuns zone.now (LineForm.Query moment text.now)
-            (seen (F.state self.old.folder.now) (O.state self.old.out.now) self.old.log.now)
-            (seen (F.state self.new.folder.now) (O.state self.new.out.now) self.new.log.now)) }
-        ensures stops { IfErr result (λ stop. LineStops zone.now (LineForm.Query moment text.now) stop
-            (seen (F.state self.old.folder.now) (O.state self.old.out.now) self.old.log.now)
-            (seen (F.state self.new.folder.now) (O.state self.new.out.now) self.new.log.now)) }
-        ensures causes { IfErr result (λ stop. Causes stop
-            (seen (F.state self.old.folder.now) (O.state self.old.out.now) self.old.log.now)
-            (seen (F.state self.new.folder.now) (O.state self.new.out.now) self.new.log.now)) }
+        ensures continues { Continues F.state O.state self.old self.new }
+        ensures ran { OnOk result (Between F.state O.state
+            (LineRuns zone.now (LineForm.Query moment text.now)) self.old self.new) }
+        ensures stops { IfErr result (StopsBetween F.state O.state
+            (LineStops zone.now (LineForm.Query moment text.now)) self.old self.new) }
         ensures sound { OnOk result (AreSound zone.now self.new.log.now.accepted) }
     {
         let table = query_text(self.alloc, zone.config(), &self.log.accepted, moment, text)?;
@@ -277,20 +193,11 @@ impl<'f, 'o, 'l, F: Folder, O: Sink> Run<'f, 'o, 'l, F, O> {
 
     // Notes how a line ended.
     fn end(&mut self, end: LineEnd) -> Result<(), Stop>
-        ensures folder_kept { self.new.folder.ghost_name ≡ self.old.folder.ghost_name }
-        ensures out_kept { self.new.out.ghost_name ≡ self.old.out.ghost_name }
-        ensures log_kept { self.new.log.ghost_name ≡ self.old.log.ghost_name }
-        ensures counts { Counts
-            (seen (F.state self.old.folder.now) (O.state self.old.out.now) self.old.log.now)
-            (seen (F.state self.new.folder.now) (O.state self.new.out.now) self.new.log.now) }
-        ensures ended { OnOk result (Did (End end ∷ [])
-            (seen (F.state self.old.folder.now) (O.state self.old.out.now) self.old.log.now)
-            (seen (F.state self.new.folder.now) (O.state self.new.out.now) self.new.log.now)) }
-        ensures kept { OnErr result (Did []
-            (seen (F.state self.old.folder.now) (O.state self.old.out.now) self.old.log.now)
-            (seen (F.state self.new.folder.now) (O.state self.new.out.now) self.new.log.now)) }
-        ensures stops { IfErr result (λ stop. stop ≡ Stop.OutOfMemory) }
+        ensures continues { Continues F.state O.state self.old self.new }
         ensures rows { self.new.log.now.accepted ≡ self.old.log.now.accepted }
+        ensures ended { OnOk result (Between F.state O.state (Did (End end ∷ [])) self.old self.new) }
+        ensures kept { OnErr result (Between F.state O.state (Did []) self.old self.new) }
+        ensures stops { IfErr result (λ stop. stop ≡ Stop.OutOfMemory) }
     {
         self.log.ends.push(end)?;
         Ok(())
@@ -298,25 +205,13 @@ impl<'f, 'o, 'l, F: Folder, O: Sink> Run<'f, 'o, 'l, F, O> {
 
     // Reads a file of the run.
     fn read(&mut self, name: &str) -> Result<Vec<u8>, Stop>
-        ensures folder_kept { self.new.folder.ghost_name ≡ self.old.folder.ghost_name }
-        ensures out_kept { self.new.out.ghost_name ≡ self.old.out.ghost_name }
-        ensures log_kept { self.new.log.ghost_name ≡ self.old.log.ghost_name }
-        ensures counts { Counts
-            (seen (F.state self.old.folder.now) (O.state self.old.out.now) self.old.log.now)
-            (seen (F.state self.new.folder.now) (O.state self.new.out.now) self.new.log.now) }
+        ensures continues { Continues F.state O.state self.old self.new }
         ensures log { self.new.log.now ≡ self.old.log.now }
         ensures bounded { IfOk result (λ content. length content.items ≤ LONGEST_FILE) }
         ensures content { IfOk result (λ content. Told (F.state self.old.folder.now)
             (λ files. HasRead files name.now content.items)) }
-        ensures asked { OnOk result (Did (Ask name.now ∷ [])
-            (seen (F.state self.old.folder.now) (O.state self.old.out.now) self.old.log.now)
-            (seen (F.state self.new.folder.now) (O.state self.new.out.now) self.new.log.now)) }
-        ensures stops { IfErr result (λ stop. ReadStops name.now stop
-            (seen (F.state self.old.folder.now) (O.state self.old.out.now) self.old.log.now)
-            (seen (F.state self.new.folder.now) (O.state self.new.out.now) self.new.log.now)) }
-        ensures causes { IfErr result (λ stop. Causes stop
-            (seen (F.state self.old.folder.now) (O.state self.old.out.now) self.old.log.now)
-            (seen (F.state self.new.folder.now) (O.state self.new.out.now) self.new.log.now)) }
+        ensures asked { OnOk result (Between F.state O.state (Did (Ask name.now ∷ [])) self.old self.new) }
+        ensures stops { IfErr result (StopsBetween F.state O.state (ReadStops name.now) self.old self.new) }
     {
         let kept = Text::from_str(self.alloc, name)?;
         match self.folder.read(self.alloc, name, LONGEST_FILE) {
@@ -329,24 +224,11 @@ impl<'f, 'o, 'l, F: Folder, O: Sink> Run<'f, 'o, 'l, F, O> {
 
     // Writes a text of the run.
     fn write(&mut self, text: &[u8]) -> Result<(), Stop>
-        ensures folder_kept { self.new.folder.ghost_name ≡ self.old.folder.ghost_name }
-        ensures out_kept { self.new.out.ghost_name ≡ self.old.out.ghost_name }
-        ensures log_kept { self.new.log.ghost_name ≡ self.old.log.ghost_name }
-        ensures counts { Counts
-            (seen (F.state self.old.folder.now) (O.state self.old.out.now) self.old.log.now)
-            (seen (F.state self.new.folder.now) (O.state self.new.out.now) self.new.log.now) }
+        ensures continues { Continues F.state O.state self.old self.new }
         ensures folder { F.state self.new.folder.now ≡ F.state self.old.folder.now }
         ensures log { self.new.log.now ≡ self.old.log.now }
-        ensures wrote { OnOk result (Did (Write text.now ∷ [])
-            (seen (F.state self.old.folder.now) (O.state self.old.out.now) self.old.log.now)
-            (seen (F.state self.new.folder.now) (O.state self.new.out.now) self.new.log.now)) }
-        ensures front { OnErr result (WroteFront text.now
-            (seen (F.state self.old.folder.now) (O.state self.old.out.now) self.old.log.now)
-            (seen (F.state self.new.folder.now) (O.state self.new.out.now) self.new.log.now)) }
-        ensures stops { IfErr result (λ stop. stop ≡ Stop.WriteFailed) }
-        ensures causes { IfErr result (λ stop. Causes stop
-            (seen (F.state self.old.folder.now) (O.state self.old.out.now) self.old.log.now)
-            (seen (F.state self.new.folder.now) (O.state self.new.out.now) self.new.log.now)) }
+        ensures wrote { OnOk result (Between F.state O.state (Did (Write text.now ∷ [])) self.old self.new) }
+        ensures stops { IfErr result (StopsBetween F.state O.state (WriteStops text.now) self.old self.new) }
     {
         match write_all(self.out, text) {
             Ok(()) => Ok(()),
@@ -357,16 +239,9 @@ impl<'f, 'o, 'l, F: Folder, O: Sink> Run<'f, 'o, 'l, F, O> {
     // Writes the text of its own that a run ends with, unless a write failed or memory ran out, and
     // gives its status.
     fn say(&mut self, stop: &Stop) -> u8
-        ensures folder_kept { self.new.folder.ghost_name ≡ self.old.folder.ghost_name }
-        ensures out_kept { self.new.out.ghost_name ≡ self.old.out.ghost_name }
-        ensures log_kept { self.new.log.ghost_name ≡ self.old.log.ghost_name }
-        ensures counts { Counts
-            (seen (F.state self.old.folder.now) (O.state self.old.out.now) self.old.log.now)
-            (seen (F.state self.new.folder.now) (O.state self.new.out.now) self.new.log.now) }
+        ensures continues { Continues F.state O.state self.old self.new }
         ensures folder { F.state self.new.folder.now ≡ F.state self.old.folder.now }
-        ensures closes { Closes (Err stop.now) result
-            (seen (F.state self.old.folder.now) (O.state self.old.out.now) self.old.log.now)
-            (seen (F.state self.new.folder.now) (O.state self.new.out.now) self.new.log.now) }
+        ensures closes { Between F.state O.state (Closes (Err stop.now) result) self.old self.new }
     {
         if is_silent(stop) {
             return status_of(stop);
@@ -382,16 +257,9 @@ impl<'f, 'o, 'l, F: Folder, O: Sink> Run<'f, 'o, 'l, F, O> {
 
     /// Ends the run: it says why it stopped, and gives its status.
     pub fn close(&mut self, ended: Result<(), Stop>) -> u8
-        ensures folder_kept { self.new.folder.ghost_name ≡ self.old.folder.ghost_name }
-        ensures out_kept { self.new.out.ghost_name ≡ self.old.out.ghost_name }
-        ensures log_kept { self.new.log.ghost_name ≡ self.old.log.ghost_name }
-        ensures counts { Counts
-            (seen (F.state self.old.folder.now) (O.state self.old.out.now) self.old.log.now)
-            (seen (F.state self.new.folder.now) (O.state self.new.out.now) self.new.log.now) }
+        ensures continues { Continues F.state O.state self.old self.new }
         ensures folder { F.state self.new.folder.now ≡ F.state self.old.folder.now }
-        ensures closes { Closes ended result
-            (seen (F.state self.old.folder.now) (O.state self.old.out.now) self.old.log.now)
-            (seen (F.state self.new.folder.now) (O.state self.new.out.now) self.new.log.now) }
+        ensures closes { Between F.state O.state (Closes ended result) self.old self.new }
     {
         match ended {
             Ok(()) => 0,

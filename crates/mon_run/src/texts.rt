@@ -1,13 +1,11 @@
 // The texts that a run prints, but for tables.
-ghost use Rattle.std.specs.Prelude.{◌≡◌, ◌++◌, [], codes, IfOk, OnOk, string_bytes};
-ghost use Rattle.std.specs.Fmt.{decimal};
+ghost use Rattle.std.specs.Prelude.{◌≡◌, ◌++◌, IfOk, OnOk, string_bytes};
 ghost use Rattle.mon_run.specs.Texts as spec;
 ghost use Rattle.mon_run.specs.within.Stops as stops;
 ghost use Rattle.mon_table.specs.Tables.{newline};
 
 use crate::outcome::{RowRefusal, RowRefusals, RowRefused};
 use crate::stop::Stop;
-use mon_config::ConfigFault;
 use mon_value::OutOfMemory;
 use std::alloc::Global;
 
@@ -61,27 +59,15 @@ pub(crate) fn own_text(alloc: Global, stop: &Stop) -> Result<String, OutOfMemory
                 "usage: mon run CONFIG SCRIPT | weave CONFIG SCHEDULE | gen N | trial N\n"
             )
         }
-        Stop::Config(fault) => config_text(alloc, fault),
-        Stop::Script(fault) => script_text(alloc, fault.line),
+        Stop::Config(fault) => format!(in alloc; "config: {fault}\n"),
+        Stop::Script(fault) => {
+            let line = fault.line;
+            format!(in alloc; "script line {line}: NotBuilt\n")
+        }
         Stop::CannotRead(name) => named(alloc, "cannot read ", name.as_str()),
         Stop::TooLong(name) => named(alloc, "too long: ", name.as_str()),
         Stop::WriteFailed | Stop::OutOfMemory => Ok(String::new(alloc)),
     }
-}
-
-// What a run says of a configuration that is refused.
-fn config_text(alloc: Global, fault: &ConfigFault) -> Result<String, OutOfMemory>
-    ensures text { IfOk result (λ text. string_bytes text ≡ spec.config_text fault.now) }
-{
-    format!(in alloc; "config: {fault}\n")
-}
-
-// What a run says of a line that is refused.
-fn script_text(alloc: Global, line: u32) -> Result<String, OutOfMemory>
-    ensures text { IfOk result (λ text. string_bytes text ≡ codes "script line "
-        ++ (decimal line ++ (codes ": NotBuilt" ++ newline))) }
-{
-    format!(in alloc; "script line {line}: NotBuilt\n")
 }
 
 // What a run says of a file.

@@ -1,5 +1,5 @@
 -- Rows as they are kept: the points of each series, and the places of the points in the order in which they came.
-use Rattle.std.specs.Prelude.{◌≡◌, ℕ, zero, suc, Bool, true, List, [], ◌∷◌, ◌++◌, map, length, is_some, slice_get, Option, Some, None, option_map, Result, IfOk, OnErr}
+use Rattle.std.specs.Prelude.{◌≡◌, ℕ, zero, suc, true, List, [], ◌∷◌, ◌++◌, map, length, is_some, slice_get, Option, Some, None, option_map, Result, IfOk, OnErr}
 use Rattle.std.specs.List.{AllByRecursion}
 use Rattle.std.specs.declared.alloc.AllocError.{AllocError}
 use Rattle.mon_series.specs.SeriesPoints.{SeriesPoints}
@@ -62,12 +62,15 @@ abbrev pub place_at : ℕ → ℕ → Place
 place_at series point = record { series = series; point = point }
 
 -- a group that is kept takes a point, unless that is refused; where memory ran out all stays
-pub record KnownGrows (groups : List Group) (places : List Place) (at : ℕ) (point : Point) (groups' : List Group) (places' : List Place) (result : Result (Option RowRefused) AllocError) : Type 0 where
+pub record KnownGrows (groups : List Group) (places : List Place) (at : ℕ) (point : Point)
+    (groups' : List Group) (places' : List Place) (result : Result (Option RowRefused) AllocError) : Type 0 where
   pub key : SeriesKey
   pub points : List Point
   pub there : slice_get groups at ≡ Some (key, points)
   pub refused : IfOk result (λ refused. refused ≡ old_fault (last_end points) point)
-  pub grown : IfOk result (λ refused. groups' ≡ unless_refused refused (with_points groups at (points ++ point ∷ [])) groups)
-  pub placed : IfOk result (λ refused. places' ≡ unless_refused refused (places ++ place_at at (length points) ∷ []) places)
+  pub grown : IfOk result (λ refused.
+      groups' ≡ unless_refused refused (with_points groups at (points ++ point ∷ [])) groups)
+  pub placed : IfOk result (λ refused.
+      places' ≡ unless_refused refused (places ++ place_at at (length points) ∷ []) places)
   pub kept : OnErr result (groups' ≡ groups)
   pub stayed : OnErr result (places' ≡ places)

@@ -9,16 +9,41 @@ use Rattle.mon_config.specs.declared.faults.ConfigFault.{ConfigFault}
 use Rattle.mon_script.specs.declared.script.LineForm.{LineForm}
 use Rattle.mon_script.specs.declared.script.ScriptFault.{ScriptFault}
 use Rattle.mon_run.specs.Endings.{CutShort, Did, LastFailed, Progress, Starved, progress}
-use Rattle.mon_run.specs.Outside.{Files, FolderState, Rose, SinkState, Told, content_of, is_too_long}
-use Rattle.mon_run.specs.Plans.{Ask, Miss, Plan, Step, Write, command_plan, config_plan, ending, line_plan, line_rows, plan_behind, read_plan, run_command}
+use Rattle.mon_run.specs.Faults.{Rose}
+use Rattle.mon_run.specs.Folders.{Files, FolderState, Told, content_of}
+use Rattle.mon_run.specs.Sinks.{SinkState}
+use Rattle.mon_run.specs.Plans.{Ask, Miss, Plan, Step, Write, command_plan, config_plan, ending, is_too_long, line_plan, line_rows, plan_behind, read_plan, run_command}
 use Rattle.mon_run.specs.Texts.{config_text, read_text, script_text, too_long_text, usage_text}
-use Rattle.mon_run.specs.declared.runs.Log.{Log}
+use Rattle.mon_run.specs.declared.runs.Run.{Run}
 use Rattle.mon_run.specs.declared.stop.Stop.{Stop}
 use Rattle.mon_run.specs.declared.stop.Stop.TheVariants as stop
 
--- a run's progress, as its parts keep it
-abbrev pub run_state : FolderState → SinkState → Log → Progress
-run_state folder sink log = progress folder sink log.ends log.accepted
+-- ---- runs
+
+-- the counts of faults never fall
+pub record Counts (before after : Progress) : Type 0 where
+  pub reads : before.folder.faults ≤ after.folder.faults
+  pub writes : before.sink.faults ≤ after.sink.faults
+
+module _ {F O : Type 0} (folder : F → FolderState) (sink : O → SinkState) where
+  -- what a run has come to
+  abbrev pub seen : Run F O → Progress
+  seen run = progress (folder run.folder.now) (sink run.out.now) run.log.now.ends run.log.now.accepted
+
+  -- what holds of all that a run had come to before and has come to after, and where it stops
+  abbrev pub Between : (Progress → Progress → Type 0) → Run F O → Run F O → Type 0
+  Between claim before after = claim (seen before) (seen after)
+
+  abbrev pub StopsBetween : (Stop → Progress → Progress → Type 0) → Run F O → Run F O → Stop → Type 0
+  StopsBetween claim before after = λ stopped. claim stopped (seen before) (seen after)
+
+  -- a part of a run goes on where the run was: it reads of the same folder, writes to the same sink and notes in
+  -- the same log, and no count of faults falls
+  pub record Continues (before after : Run F O) : Type 0 where
+    pub folder_kept : after.folder.ghost_name ≡ before.folder.ghost_name
+    pub out_kept : after.out.ghost_name ≡ before.out.ghost_name
+    pub log_kept : after.log.ghost_name ≡ before.log.ghost_name
+    pub counts : Counts (seen before) (seen after)
 
 -- ---- stops
 
@@ -94,11 +119,6 @@ Causes (stop.Config fault) before after = ⊤
 Causes (stop.Script fault) before after = ⊤
 Causes (stop.TooLong name) before after = ⊤
 
--- the counts of faults never fall
-pub record Counts (before after : Progress) : Type 0 where
-  pub reads : before.folder.faults ≤ after.folder.faults
-  pub writes : before.sink.faults ≤ after.sink.faults
-
 -- ---- parts of a run
 
 -- what is read of a file
@@ -106,9 +126,14 @@ pub record HasRead (files : Files) (name content : List ℕ) : Type 0 where
   pub whole : content ≡ content_of files name
   pub short : is_too_long files name ≡ false
 
--- a read stops, before any rest
+-- a part of a plan stops, before any rest, and there is a cause
+pub record PartStops (part : Files → Plan → Plan) (stopped : Stop) (before after : Progress) : Type 0 where
+  pub told : Told before.folder (λ files. (rest : Plan) → Stops (part files rest) stopped before after)
+  pub causes : Causes stopped before after
+
+-- a read stops
 abbrev pub ReadStops : List ℕ → Stop → Progress → Progress → Type 0
-ReadStops name stopped before after = Told before.folder (λ files. (rest : Plan) → Stops (read_plan files name rest) stopped before after)
+ReadStops name stopped before after = PartStops (λ files. read_plan files name) stopped before after
 
 -- a part of a plan was done, before any rest, and these rows were accepted
 pub record Ran (part : Plan → Plan) (rows : List Row) (before after : Progress) : Type 0 where
@@ -120,24 +145,27 @@ pub record Ran (part : Plan → Plan) (rows : List Row) (before after : Progress
 -- a line was done
 abbrev pub LineRuns : Config → LineForm → Progress → Progress → Type 0
 LineRuns config form before after =
-    Told before.folder (λ files. Ran (line_plan config files before.rows form) (line_rows config files before.rows form) before after)
+    Told before.folder (λ files. Ran (line_plan config files before.rows form)
+    (line_rows config files before.rows form) before after)
 
--- a line stops, before any rest
+-- a line stops
 abbrev pub LineStops : Config → LineForm → Stop → Progress → Progress → Type 0
 LineStops config form stopped before after =
-    Told before.folder (λ files. (rest : Plan) → Stops (line_plan config files before.rows form rest) stopped before after)
+    PartStops (λ files. line_plan config files before.rows form) stopped before after
 
 -- all of a plan was done
 pub record Done (plan : Plan) (before after : Progress) : Type 0 where
   pub status : 0 ≡ plan.status
   pub did : Did plan.steps before after
 
--- what the files say was done, or stops
+-- what the files say was done
 abbrev pub Completes : (Files → Plan) → Progress → Progress → Type 0
 Completes plan before after = Told before.folder (λ files. Done (plan files) before after)
 
-abbrev pub Halts : (Files → Plan) → Stop → Progress → Progress → Type 0
-Halts plan stopped before after = Told before.folder (λ files. Stops (plan files) stopped before after)
+-- what the files say stops, and there is a cause
+pub record Halts (plan : Files → Plan) (stopped : Stop) (before after : Progress) : Type 0 where
+  pub told : Told before.folder (λ files. Stops (plan files) stopped before after)
+  pub causes : Causes stopped before after
 
 -- the plan of a script's file under a configuration
 abbrev pub named_plan : Config → List ℕ → Files → Plan
@@ -154,13 +182,20 @@ pub record WroteFront (text : List ℕ) (before after : Progress) : Type 0 where
   pub some : 0 < length rest
   pub did : Did (Write front ∷ []) before after
 
+-- a write of a text stops: the sink failed behind a front of it
+pub record WriteStops (text : List ℕ) (stopped : Stop) (before after : Progress) : Type 0 where
+  pub failed : stopped ≡ stop.WriteFailed
+  pub front : WroteFront text before after
+  pub rose : Rose before.sink.faults after.sink.faults
+
 -- ---- the end of a run
 
 -- a text is written and a run has its status; or the text was taken in part (status 5); or memory ran out (status 6)
 abbrev pub SaysText : ℕ → List ℕ → ℕ → Progress → Progress → Type 0
 SaysText code text status before after =
     ((status ≡ code) × Did (Write text ∷ []) before after)
-    ⊎ (((status ≡ 5) × WroteFront text before after × Rose before.sink.faults after.sink.faults) ⊎ ((status ≡ 6) × Did [] before after))
+    ⊎ (((status ≡ 5) × WroteFront text before after × Rose before.sink.faults after.sink.faults)
+    ⊎ ((status ≡ 6) × Did [] before after))
 
 -- a run says its own text, and has the status of its stop
 abbrev pub Says : Stop → ℕ → Progress → Progress → Type 0

@@ -5,8 +5,8 @@ use Rattle.mon_config.specs.declared.config.Config.{Config}
 use Rattle.mon_script.specs.declared.script.LineForm.TheVariants as form
 use Rattle.mon_run.specs.Endings.{Did, Progress}
 use Rattle.mon_run.specs.Feeds.{Fed, fed}
-use Rattle.mon_run.specs.Outside.{Files, Told, content_of, is_too_long}
-use Rattle.mon_run.specs.Plans.{Accept, Ask}
+use Rattle.mon_run.specs.Folders.{Files, Told, content_of}
+use Rattle.mon_run.specs.Plans.{Accept, Ask, is_too_long}
 use Rattle.mon_run.specs.within.Stops.{LineStops}
 use Rattle.mon_run.specs.declared.stop.Stop.{Stop}
 use Rattle.mon_run.specs.declared.feeds.Fed.{Fed as Answer}
@@ -24,10 +24,12 @@ pub record Front (rows before after : List Row) : Type 0 where
   pub taken : after ≡ before ++ front
 
 -- a file's records were taken: its name was asked for, and its rows accepted
-pub record Took (config : Config) (files : Files) (name : List ℕ) (answer : Answer) (before after : Progress) : Type 0 where
+pub record Took (config : Config) (files : Files) (name : List ℕ) (answer : Answer) (before after : Progress)
+    : Type 0 where
   pub short : is_too_long files name ≡ false
   pub told : FedAs answer (fed config before.rows (content_of files name))
-  pub did : Did (Ask name ∷ map (λ row. Accept row) (fed config before.rows (content_of files name)).accepted) before after
+  pub did : Did (Ask name ∷ map (λ row. Accept row) (fed config before.rows (content_of files name)).accepted)
+      before after
 
 abbrev pub FileTaken : Config → List ℕ → Answer → Progress → Progress → Type 0
 FileTaken config name answer before after = Told before.folder (λ files. Took config files name answer before after)

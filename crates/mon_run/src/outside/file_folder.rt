@@ -1,8 +1,7 @@
 // The folder of real files.
 ghost use Rattle.std.specs.Prelude.{◌≤◌, length, IfOk};
 
-use crate::folder::{Folder, FolderFault};
-use crate::outside::asked::{Asked, Reads, has_failed};
+use crate::outside::folder::{Asked, Folder, FolderFault, Reads, has_failed};
 use mon_value::Text;
 use std::alloc::Global;
 use std::io::{ErrorKind, Read};
@@ -29,9 +28,9 @@ impl<'a, R: Files> FileFolder<'a, R> {
 
 impl<'a, R: Files> Folder for FileFolder<'a, R> {
     ghost use Rattle.std.specs.Prelude.{None};
-    ghost use Rattle.mon_run.specs.Outside.{states};
+    ghost use Rattle.mon_run.specs.Folders.{folder_state};
 
-    ghost state = { λ folder. states None folder.reads.items };
+    ghost state = { λ folder. folder_state None folder.reads.items };
 
     fn read(&mut self, alloc: Global, name: &str, most: u64) -> Result<Vec<u8>, FolderFault> {
         let kept = Text::from_str(alloc, name)?;

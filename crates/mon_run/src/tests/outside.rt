@@ -13,10 +13,11 @@ use std::{env, fs, io};
 fn a_calm_folder_reads_every_name(rt: HostRuntime) -> Result<(), Fail> {
     let alloc = rt.alloc();
     let mut files = MemoryFiles::new(alloc);
-    files.push(MemoryFile {
+    let file = MemoryFile {
         name: Text::from_str(alloc, "p.csv")?,
         content: b"text".to_vec(alloc)?,
-    })?;
+    };
+    files.push(file.copy(alloc)?)?;
     let mut folder = CalmFolder::new(alloc, files);
     let read = folder.read(alloc, "p.csv", 4).unwrap_or(Vec::new(alloc));
     assert_eq!(rt; read.as_slice(), b"text".as_slice());

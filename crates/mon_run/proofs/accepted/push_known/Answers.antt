@@ -1,8 +1,6 @@
-use Rattle.std.proofs.Common.{◌≡◌, ◌∙◌, List, ◌∷◌, [], ◌++◌, ℕ, length, false, sym, ap, not}
-use Rattle.std.specs.Prelude.{is_some}
+use Rattle.std.proofs.Common.{◌∙◌, List, ◌∷◌, [], ◌++◌, length, sym, ap}
 use Rattle.mon_value.specs.declared.rows.Point.{Point}
-use Rattle.mon_run.specs.declared.accepted.Place.{Place}
-use Rattle.mon_run.specs.within.Places.{place_at, unless_refused}
+use Rattle.mon_run.specs.within.Places.{place_at}
 use Rattle.mon_run.proofs.HeldLemmas.{known_answer, known_starved, unless_none, unless_some}
 use Rattle.mon_run.proofs.accepted.push_known.Goals as goal
 

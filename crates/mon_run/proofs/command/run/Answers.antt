@@ -1,9 +1,9 @@
-use Rattle.std.proofs.Common.{rules, ◌≡◌, ◌∙◌, List, [], ℕ, OnOk, IfErr, map, string_bytes, sym, ap, subst}
+use Rattle.std.proofs.Common.{rules, ◌≡◌, [], map, string_bytes, sym, subst}
 use Rattle.std.proofs.lemmas.Result.{on_ok_weaker}
 use Rattle.mon_run.specs.Endings.{Progress, RunIs, progress}
 use Rattle.mon_run.specs.Plans.{Plan, run_plan}
 use Rattle.mon_run.specs.declared.stop.Stop.{Stop}
-use Rattle.mon_run.specs.within.Stops.{Done, Halts, Stops, run_state}
+use Rattle.mon_run.specs.within.Stops.{Causes, Halts, Stops, seen}
 use Rattle.mon_run.proofs.EndLemmas.{run_ended}
 use Rattle.mon_run.proofs.RunLemmas.{err_weaker}
 use Rattle.mon_run.proofs.command.run.Goals as goal
@@ -11,16 +11,17 @@ use Rattle.mon_run.proofs.command.run.Goals as goal
 pub returns-clause-told : goal.returns-clause-told
 returns-clause-told g c = λ files told.
     let plan : Plan = run_plan files (map string_bytes c.args.words.now) in
-    let fresh : Progress = run_state (g.F.Folder.state c.args.folder.now) (g.O.Sink.state c.args.out.now) c.new-log.result in
+    let fresh : Progress = progress (g.F.Folder.state c.args.folder.now) (g.O.Sink.state c.args.out.now) c.new-log.result.ends c.new-log.result.accepted in
     let before : Progress = progress (g.F.Folder.state c.args.folder.now) (g.O.Sink.state c.args.out.now) [] [] in
-    let mid : Progress = run_state (g.F.Folder.state c.command-ended.new.self.folder.now) (g.O.Sink.state c.command-ended.new.self.out.now) c.command-ended.new.self.log.now in
-    let after : Progress = run_state (g.F.Folder.state c.close-status.new.self.folder.now) (g.O.Sink.state c.close-status.new.self.out.now) c.close-status.new.self.log.now in
+    let mid : Progress = seen g.F.Folder.state g.O.Sink.state c.command-ended.new.self in
+    let after : Progress = seen g.F.Folder.state g.O.Sink.state c.close-status.new.self in
     let start : fresh ≡ before = λ i. progress (g.F.Folder.state c.args.folder.now) (g.O.Sink.state c.args.out.now) (c.new-log.ensures.ends i) (c.new-log.ensures.rows i) in
     let ended = c.command-ended.result in
     let done = on_ok_weaker ended (λ completes. completes files told) c.command-ended.ensures.completes in
-    let stops = err_weaker ended (λ (s : Stop). Halts (λ fs. run_plan fs (map string_bytes c.args.words.now)) s fresh mid) (λ (s : Stop). Stops plan s fresh mid) (λ stopped halts. halts files told) c.command-ended.ensures.halts in
+    let stops = err_weaker ended (λ (s : Stop). Halts (λ fs. run_plan fs (map string_bytes c.args.words.now)) s fresh mid) (λ (s : Stop). Stops plan s fresh mid) (λ stopped halts. halts.told files told) c.command-ended.ensures.halts in
+    let causes = err_weaker ended (λ (s : Stop). Halts (λ fs. run_plan fs (map string_bytes c.args.words.now)) s fresh mid) (λ (s : Stop). Causes s fresh mid) (λ stopped halts. halts.causes) c.command-ended.ensures.halts in
     let ran : RunIs plan c.close-status.result fresh after =
-    run_ended plan fresh mid after ended c.close-status.result done stops c.command-ended.ensures.causes c.command-ended.ensures.counts c.close-status.ensures.counts c.close-status.ensures.folder c.close-status.ensures.closes in
+    run_ended plan fresh mid after ended c.close-status.result done stops causes c.command-ended.ensures.continues.counts c.close-status.ensures.continues.counts c.close-status.ensures.folder c.close-status.ensures.closes in
     let fact : RunIs plan c.close-status.result before after = subst (λ (b : Progress). RunIs plan c.close-status.result b after) start ran in
     let folder : c.folder-1.given.0 ≡ c.close-status.new.self.folder.now = search rules in
     let out : c.out-1.given.0 ≡ c.close-status.new.self.out.now = search rules in

@@ -1,4 +1,4 @@
-use Rattle.std.proofs.Common.{◌≡◌, ◌∙◌, None, List, [], ◌∷◌, ◌++◌, ℕ, length, OnOk, IfOk, Option, position, sym, ap, subst}
+use Rattle.std.proofs.Common.{◌≡◌, ◌∙◌, None, List, [], ◌∷◌, ◌++◌, ℕ, length, OnOk, IfOk, position, sym, ap, subst}
 use Rattle.std.specs.Prelude.{is_some}
 use Rattle.std.specs.Map.{keys_of, lookup}
 use Rattle.std.proofs.lemmas.List.{length-map}
@@ -6,7 +6,6 @@ use Rattle.std.proofs.lemmas.Result.{on_ok_weaker}
 use Rattle.mon_value.specs.Same.{same_series}
 use Rattle.mon_value.specs.declared.rows.Row.{Row}
 use Rattle.mon_run.specs.Feeds.{fault_in, is_in_zone, row_verdict, taken}
-use Rattle.mon_run.specs.declared.outcome.RowRefused.{RowRefused}
 use Rattle.mon_run.specs.within.Places.{IsKept, groups_held, place_at, rows_at}
 use Rattle.mon_run.specs.within.Sound.{AllInZone}
 use Rattle.mon_run.proofs.HeldLemmas.{held_first, lookup_none, same_test}

@@ -1,4 +1,4 @@
-use Rattle.std.proofs.Common.{◌∙◌, ap, sym, List, ℕ}
+use Rattle.std.proofs.Common.{◌∙◌, ap, List, ℕ}
 use Rattle.std.specs.List.{list_any}
 use Rattle.mon_config.proofs.TextsRepeatLemmas.{any_lent, lent}
 use Rattle.mon_value.specs.Same.{same_text}

@@ -1,25 +1,24 @@
-use Rattle.std.proofs.Common.{rules, ◌≡◌, Option, Some, None, [], List, ℕ, OnOk, IfErr, map, string_bytes, sym, ap, subst}
+use Rattle.std.proofs.Common.{Option, [], OnOk, IfErr, sym, ap, subst}
 use Rattle.mon_run.specs.Endings.{Progress}
-use Rattle.mon_run.specs.Plans.{Command, command_of, command_plan, run_command, run_plan}
+use Rattle.mon_run.specs.Plans.{Command, command_plan}
 use Rattle.mon_run.specs.declared.stop.Stop.{Stop}
-use Rattle.mon_run.specs.declared.stop.Stop.TheVariants as stop
-use Rattle.mon_run.specs.within.Stops.{Completes, Halts, run_state}
+use Rattle.mon_run.specs.within.Stops.{Completes, Halts, seen}
 use Rattle.mon_run.proofs.StepLemmas.{did_none}
 use Rattle.mon_run.proofs.runs.Run.command.Goals as goal
 
 pub returns-in-Some-clause-completes : goal.returns-in-Some-clause-completes
 returns-in-Some-clause-completes g c =
-    let before : Progress = (run_state (g.F.Folder.state c.args.self.now.folder.now) (g.O.Sink.state c.args.self.now.out.now) c.args.self.now.log.now) in
-    let after : Progress = (run_state (g.F.Folder.state c.files.new.self.folder.now) (g.O.Sink.state c.files.new.self.out.now) c.files.new.self.log.now) in
+    let before : Progress = seen g.F.Folder.state g.O.Sink.state c.args.self.now in
+    let after : Progress = seen g.F.Folder.state g.O.Sink.state c.files.new.self in
     subst (λ (command : Option Command). OnOk c.files.result (Completes (λ files. command_plan files command) before after)) c.in-Some.ensures.command c.files.ensures.completes
 
 pub returns-in-Some-clause-halts : goal.returns-in-Some-clause-halts
 returns-in-Some-clause-halts g c =
-    let before : Progress = (run_state (g.F.Folder.state c.args.self.now.folder.now) (g.O.Sink.state c.args.self.now.out.now) c.args.self.now.log.now) in
-    let after : Progress = (run_state (g.F.Folder.state c.files.new.self.folder.now) (g.O.Sink.state c.files.new.self.out.now) c.files.new.self.log.now) in
+    let before : Progress = seen g.F.Folder.state g.O.Sink.state c.args.self.now in
+    let after : Progress = seen g.F.Folder.state g.O.Sink.state c.files.new.self in
     subst (λ (command : Option Command). IfErr c.files.result (λ (s : Stop). Halts (λ files. command_plan files command) s before after)) c.in-Some.ensures.command c.files.ensures.halts
 
 pub returns-in-None-clause-halts : goal.returns-in-None-clause-halts
 returns-in-None-clause-halts g c =
-    let before : Progress = (run_state (g.F.Folder.state c.args.self.now.folder.now) (g.O.Sink.state c.args.self.now.out.now) c.args.self.now.log.now) in
-    λ files told. record { done = []; split = ap (command_plan files) (sym c.in-None.ensures.command); did = did_none before }
+    let before : Progress = seen g.F.Folder.state g.O.Sink.state c.args.self.now in
+    record { told = λ files told. record { done = []; split = ap (command_plan files) (sym c.in-None.ensures.command); did = did_none before }; causes = tt }

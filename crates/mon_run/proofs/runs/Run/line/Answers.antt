@@ -3,19 +3,19 @@ use Rattle.mon_script.specs.declared.script.LineForm.{LineForm}
 use Rattle.mon_script.specs.declared.script.LineForm.TheVariants as form
 use Rattle.mon_run.specs.Endings.{Progress}
 use Rattle.mon_run.specs.declared.stop.Stop.{Stop}
-use Rattle.mon_run.specs.within.Stops.{LineRuns, LineStops, run_state}
+use Rattle.mon_run.specs.within.Stops.{LineRuns, LineStops, seen}
 use Rattle.mon_run.proofs.runs.Run.line.Goals as goal
 
 pub returns-in-Feed-clause-stops : goal.returns-in-Feed-clause-stops
 returns-in-Feed-clause-stops g c =
-    let before : Progress = (run_state (g.F.Folder.state c.args.self.now.folder.now) (g.O.Sink.state c.args.self.now.out.now) c.args.self.now.log.now) in
-    let after : Progress = (run_state (g.F.Folder.state c.feed.new.self.folder.now) (g.O.Sink.state c.feed.new.self.out.now) c.feed.new.self.log.now) in
+    let before : Progress = seen g.F.Folder.state g.O.Sink.state c.args.self.now in
+    let after : Progress = seen g.F.Folder.state g.O.Sink.state c.feed.new.self in
     subst (λ (line : LineForm). IfErr c.feed.result (λ (s : Stop). LineStops c.args.zone.now line s before after)) (sym c.in-Feed.is) c.feed.ensures.stops
 
 pub returns-in-Query-clause-ran : goal.returns-in-Query-clause-ran
 returns-in-Query-clause-ran g c =
-    let before : Progress = (run_state (g.F.Folder.state c.args.self.now.folder.now) (g.O.Sink.state c.args.self.now.out.now) c.args.self.now.log.now) in
-    let after : Progress = (run_state (g.F.Folder.state c.query.new.self.folder.now) (g.O.Sink.state c.query.new.self.out.now) c.query.new.self.log.now) in
+    let before : Progress = seen g.F.Folder.state g.O.Sink.state c.args.self.now in
+    let after : Progress = seen g.F.Folder.state g.O.Sink.state c.query.new.self in
     let moment : ℤ = to_z w64 (of_z w64 c.in-Query.moment) in
     let same : moment ≡ c.in-Query.moment = search rules in
     let here = subst (λ (z : ℤ). OnOk c.query.result (LineRuns c.args.zone.now (form.Query z c.in-Query.text) before after)) same c.query.ensures.ran in
@@ -23,8 +23,8 @@ returns-in-Query-clause-ran g c =
 
 pub returns-in-Query-clause-stops : goal.returns-in-Query-clause-stops
 returns-in-Query-clause-stops g c =
-    let before : Progress = (run_state (g.F.Folder.state c.args.self.now.folder.now) (g.O.Sink.state c.args.self.now.out.now) c.args.self.now.log.now) in
-    let after : Progress = (run_state (g.F.Folder.state c.query.new.self.folder.now) (g.O.Sink.state c.query.new.self.out.now) c.query.new.self.log.now) in
+    let before : Progress = seen g.F.Folder.state g.O.Sink.state c.args.self.now in
+    let after : Progress = seen g.F.Folder.state g.O.Sink.state c.query.new.self in
     let moment : ℤ = to_z w64 (of_z w64 c.in-Query.moment) in
     let same : moment ≡ c.in-Query.moment = search rules in
     let here = subst (λ (z : ℤ). IfErr c.query.result (λ (s : Stop). LineStops c.args.zone.now (form.Query z c.in-Query.text) s before after)) same c.query.ensures.stops in

@@ -1,14 +1,14 @@
 use Rattle.std.proofs.Common.{◌≡◌, ◌∙◌, ◌∷◌, [], List, ℕ, false, inl, sym, subst}
 use Rattle.mon_run.specs.Endings.{Did, Progress}
 use Rattle.mon_run.specs.Plans.{Write}
-use Rattle.mon_run.specs.within.Stops.{is_silent, own_text, run_state}
+use Rattle.mon_run.specs.within.Stops.{is_silent, own_text, seen}
 use Rattle.mon_run.proofs.EndLemmas.{closes_says}
 use Rattle.mon_run.proofs.runs.Run.say.Goals as goal
 
 pub returns-in-Ok-write-clause-closes : goal.returns-in-Ok-write-clause-closes
 returns-in-Ok-write-clause-closes g c =
-    let before : Progress = (run_state (g.F.Folder.state c.args.self.now.folder.now) (g.O.Sink.state c.args.self.now.out.now) c.args.self.now.log.now) in
-    let after : Progress = (run_state (g.F.Folder.state c.write.new.self.folder.now) (g.O.Sink.state c.write.new.self.out.now) c.write.new.self.log.now) in
+    let before : Progress = seen g.F.Folder.state g.O.Sink.state c.args.self.now in
+    let after : Progress = seen g.F.Folder.state g.O.Sink.state c.write.new.self in
     let stopped = c.args.stop.now in
     let speaks : is_silent stopped ≡ false = sym c.is_silent.ensures.silent ∙ c.if-is_silent.false in
     let did : Did (Write (own_text stopped) ∷ []) before after =

@@ -1,6 +1,6 @@
 use Rattle.std.proofs.Common.{arith}
 use Rattle.mon_run.proofs.SinkLemmas.{took_more, took_none}
-use Rattle.mon_run.proofs.sink.write_all.Goals as goal
+use Rattle.mon_run.proofs.outside.sink.write_all.Goals as goal
 
 pub loop-rest-init : goal.loop-rest-init
 loop-rest-init g c = record { counts = omega arith; took = took_none _ _ }

@@ -1,7 +1,7 @@
 -- the sink took the text up to the rest
 use Rattle.std.proofs.Common.{◌≤◌, length}
 use Rattle.mon_run.proofs.SinkLemmas.{TookTo}
-use Rattle.mon_run.proofs.sink.write_all.Given as goal
+use Rattle.mon_run.proofs.outside.sink.write_all.Given as goal
 
 abbrev pub invariant-loop-rest : goal.invariant-loop-rest
 invariant-loop-rest g l = record {

@@ -1,10 +1,10 @@
--- What a run reads and writes: folders and sinks as contracts see them.
-use Rattle.std.specs.Prelude.{◌≡◌, ◌<◌, ◌≤◌, ◌⊎◌, ℕ, ◌+◌, ◌-◌, ◌^◌, nat_lt, Bool, true, false, List, [], ◌∷◌, ◌++◌, length, map, Option, Some, None, option_map, unwrap_or, Result, Ok, Err, if◌then◌else◌}
+-- Folders as contracts see them, and what is read of them.
+use Rattle.std.specs.Prelude.{◌≡◌, ◌⊎◌, ℕ, ◌+◌, Bool, true, false, List, [], ◌∷◌, ◌++◌, map, Option, Some, None, unwrap_or, Result, Ok, Err, if◌then◌else◌}
 use Rattle.mon_value.specs.Same.{same_text}
-use Rattle.mon_run.specs.declared.folder.FolderFault.{FolderFault}
-use Rattle.mon_run.specs.declared.folder.FolderFault.TheVariants as fault
-use Rattle.mon_run.specs.declared.outside.asked.Asked.{Asked}
-use Rattle.mon_run.specs.declared.outside.memory_files.MemoryFile.{MemoryFile}
+use Rattle.mon_run.specs.declared.outside.folder.Asked.{Asked}
+use Rattle.mon_run.specs.declared.outside.folder.FolderFault.{FolderFault}
+use Rattle.mon_run.specs.declared.outside.folder.FolderFault.TheVariants as fault
+use Rattle.mon_run.specs.declared.outside.memory_folder.MemoryFile.{MemoryFile}
 
 -- ---- files
 
@@ -21,13 +21,12 @@ content_in (file ∷ files) name = if same_text name file.0 then Some file.1 els
 abbrev pub content_of : Files → List ℕ → List ℕ
 content_of files name = unwrap_or (content_in files name) []
 
--- a file may have 64 MiB
-abbrev pub is_too_long : Files → List ℕ → Bool
-is_too_long files name = nat_lt 67108864 (length (content_of files name))
+-- a file in memory, and the files of a folder in memory
+abbrev pub file_of : MemoryFile → List ℕ × List ℕ
+file_of file = (file.name, file.content.items)
 
--- the files of a folder in memory
 abbrev pub files_of : List MemoryFile → Files
-files_of = map (λ file. (file.name, file.content.items))
+files_of = map file_of
 
 -- ---- folders
 
@@ -61,10 +60,6 @@ Asks (Err fault.Failed) name before after = after ≡ before ++ asking name true
 Asks (Err fault.TooLong) name before after = after ≡ before ++ asking name false ∷ []
 Asks (Err fault.OutOfMemory) name before after = (after ≡ before) ⊎ (after ≡ before ++ asking name false ∷ [])
 
--- a count of faults rose: it is greater, or it stands at its last value
-abbrev pub Rose : ℕ → ℕ → Type 0
-Rose before after = (before < after) ⊎ (2 ^ 64 - 1 ≤ after)
-
 -- how many of the reads failed
 abbrev pub failed_reads : List Asked → ℕ
 failed_reads [] = 0
@@ -76,35 +71,10 @@ last_failed name [] = name
 last_failed name (read ∷ reads) = last_failed (if read.failed then read.name else name) reads
 
 -- a folder whose faults are the reads that failed
-abbrev pub states : Option Files → List Asked → FolderState
-states files asked = record { files = files; asked = asked; faults = failed_reads asked; last = last_failed [] asked }
+abbrev pub folder_state : Option Files → List Asked → FolderState
+folder_state files asked =
+    record { files = files; asked = asked; faults = failed_reads asked; last = last_failed [] asked }
 
 -- a folder without faults
-abbrev pub calm_states : Files → List Asked → FolderState
-calm_states files asked = record { files = Some files; asked = asked; faults = 0; last = [] }
-
--- ---- sinks
-
--- a sink: the bytes that were written, where it tells them; the count of its faults
-pub record SinkState : Type 0 where
-  pub written : Option (List ℕ)
-  pub faults : ℕ
-
-abbrev pub sink_states : Option (List ℕ) → ℕ → SinkState
-sink_states written faults = record { written = written; faults = faults }
-
--- what was written, and a text behind it
-abbrev pub written_then : List ℕ → Option (List ℕ) → Option (List ℕ)
-written_then text written = option_map (λ bytes. bytes ++ text) written
-
--- a sink took a text
-abbrev pub Takes : List ℕ → SinkState → SinkState → Type 0
-Takes text before after = after.written ≡ written_then text before.written
-
--- a sink took the front of a text, and not all of it
-pub record TakesFront (text : List ℕ) (before after : SinkState) : Type 0 where
-  pub front : List ℕ
-  pub rest : List ℕ
-  pub split : text ≡ front ++ rest
-  pub some : 0 < length rest
-  pub takes : Takes front before after
+abbrev pub calm_folder_state : Files → List Asked → FolderState
+calm_folder_state files asked = record { files = Some files; asked = asked; faults = 0; last = [] }

@@ -1,13 +1,14 @@
-// Where a run writes its text.
+// Where text is written.
 ghost use Rattle.std.specs.Prelude.{◌≡◌, ◌<◌, ◌≤◌, ◌++◌, length, take, option_map, IfOk, OnErr, OnOk};
-ghost use Rattle.mon_run.specs.Outside.{Rose, SinkState, Takes, TakesFront};
+ghost use Rattle.mon_run.specs.Faults.{Rose};
+ghost use Rattle.mon_run.specs.Sinks.{SinkState, Takes, TakesFront};
 
 /// A sink did not take what it was given.
 #[derive(Clone, Copy, Debug, PartialEq, Eq)]
 pub struct Failed;
 
-/// What takes the text of a run. Contracts see the bytes that were written, where it tells them, and a
-/// count of its faults, which never falls.
+/// What takes text. Contracts see the bytes that were written, where it tells them, and a count of its
+/// faults, which never falls.
 pub trait Sink {
     ghost state: { Self → SinkState };
 
@@ -25,7 +26,7 @@ pub trait Sink {
 }
 
 /// Writes a text whole, or the front of it before the first write that failed.
-pub(crate) fn write_all<O: Sink>(out: &mut O, text: &[u8]) -> Result<(), Failed>
+pub fn write_all<O: Sink>(out: &mut O, text: &[u8]) -> Result<(), Failed>
     ensures counts { (O.state out.old).faults ≤ (O.state out.new).faults }
     ensures whole { OnOk result (Takes text.now (O.state out.old) (O.state out.new)) }
     ensures failed { OnErr result (Rose (O.state out.old).faults (O.state out.new).faults) }

@@ -1,9 +1,10 @@
-// The sink in memory, which tells what was written.
+// Sinks: in memory, and the standard output.
 ghost use Rattle.std.specs.Prelude.{◌≡◌, [], Some};
-ghost use Rattle.mon_run.specs.Outside.{sink_states};
+ghost use Rattle.mon_run.specs.Sinks.{sink_state};
 
-use crate::sink::{Failed, Sink};
+use crate::outside::sink::{Failed, Sink};
 use std::alloc::Global;
+use std::io::Print;
 
 /// A sink in memory that tells what was written. It has room for a number of bytes, and fails from
 /// then on.
@@ -17,7 +18,7 @@ pub struct MemorySink {
 impl MemorySink {
     /// A sink with room for this many bytes.
     pub fn new(alloc: Global, room: usize) -> MemorySink
-        ensures nothing { ⟦<MemorySink as Sink>⟧.state result ≡ sink_states (Some []) 0 }
+        ensures nothing { ⟦<MemorySink as Sink>⟧.state result ≡ sink_state (Some []) 0 }
     {
         MemorySink {
             written: Vec::new(alloc),
@@ -43,9 +44,9 @@ impl MemorySink {
 
 impl Sink for MemorySink {
     ghost use Rattle.std.specs.Prelude.{Some};
-    ghost use Rattle.mon_run.specs.Outside.{sink_states};
+    ghost use Rattle.mon_run.specs.Sinks.{sink_state};
 
-    ghost state = { λ sink. sink_states (Some sink.written.items) sink.faults };
+    ghost state = { λ sink. sink_state (Some sink.written.items) sink.faults };
 
     fn write(&mut self, piece: &[u8]) -> Result<usize, Failed> {
         let taken = piece.len().min(self.room);
@@ -56,5 +57,36 @@ impl Sink for MemorySink {
         }
         self.room -= taken;
         Ok(taken)
+    }
+}
+
+/// The standard output. It tells nothing of what was written.
+#[derive(Drop)]
+pub struct OutSink<'a, P: Print> {
+    output: &'a P,
+    faults: u64,
+}
+
+impl<'a, P: Print> OutSink<'a, P> {
+    /// The output of a system.
+    pub fn new(output: &'a P) -> OutSink<'a, P> {
+        OutSink { output, faults: 0 }
+    }
+}
+
+impl<'a, P: Print> Sink for OutSink<'a, P> {
+    ghost use Rattle.std.specs.Prelude.{None};
+    ghost use Rattle.mon_run.specs.Sinks.{sink_state};
+
+    ghost state = { λ sink. sink_state None sink.faults };
+
+    fn write(&mut self, piece: &[u8]) -> Result<usize, Failed> {
+        match self.output.write_some(piece) {
+            Ok(taken) if taken > 0 => Ok(taken),
+            _ => {
+                self.faults = self.faults.saturating_add(1);
+                Err(Failed)
+            }
+        }
     }
 }

@@ -1,9 +1,9 @@
 use Rattle.std.proofs.Common.{arith, ◌≡◌, ◌∙◌, ap, sym, ℕ, ◌+◌, List, ◌∷◌, drop, Some}
 use Rattle.std.proofs.lemmas.List.{drop_more}
 use Rattle.mon_value.specs.Same.{same_text}
-use Rattle.mon_run.specs.declared.outside.memory_files.MemoryFile.{MemoryFile}
+use Rattle.mon_run.specs.declared.outside.memory_folder.MemoryFile.{MemoryFile}
 use Rattle.mon_run.proofs.ContentLemmas.{content-here, content-later}
-use Rattle.mon_run.proofs.outside.memory_files.content_named.Goals as goal
+use Rattle.mon_run.proofs.outside.memory_folder.content_named.Goals as goal
 
 pub returns-then-eq : goal.returns-then-eq
 returns-then-eq c =

@@ -1,7 +1,9 @@
-// Where a run reads its files.
+// Where files are read.
 ghost use Rattle.std.specs.Prelude.{◌≡◌, ◌<◌, ◌≤◌, length, IfOk, IsErrOf};
-ghost use Rattle.mon_run.specs.Outside.{Asks, FolderState, Rose, Told, content_of};
+ghost use Rattle.mon_run.specs.Faults.{Rose};
+ghost use Rattle.mon_run.specs.Folders.{Asks, FolderState, Told, content_of, is_failed};
 
+use mon_value::{RoomListOf, Text, TryCopy};
 use std::alloc::{AllocError, Global};
 
 /// Why a file was not read.
@@ -17,7 +19,7 @@ pub enum FolderFault {
 
 impl From<AllocError> for FolderFault {
     ghost use Rattle.std.specs.Prelude.{◌≡◌};
-    ghost use Rattle.mon_run.specs.declared.folder.FolderFault.TheVariants.{OutOfMemory};
+    ghost use Rattle.mon_run.specs.declared.outside.folder.FolderFault.TheVariants.{OutOfMemory};
 
     ghost from_gives = { λ _ fault. fault ≡ OutOfMemory };
 
@@ -44,4 +46,32 @@ pub trait Folder {
         ensures bounded { IfOk result (λ content. length content.items ≤ most) }
         ensures whole { IfOk result (λ content. Told (state self.old)
             (λ files. content.items ≡ content_of files name.now)) };
+}
+
+/// A read that a folder was asked for.
+#[derive(Debug, Drop)]
+pub struct Asked {
+    /// The name of the file.
+    pub name: Text,
+    /// Whether the folder could not read it.
+    pub failed: bool,
+}
+
+impl TryCopy for Asked {
+    fn copy(&self, alloc: Global) -> Result<Asked, AllocError> {
+        Ok(Asked {
+            name: self.name.copy(alloc)?,
+            failed: self.failed,
+        })
+    }
+}
+
+/// The reads that a folder was asked for, in order.
+pub(crate) type Reads = RoomListOf<Asked>;
+
+/// Whether a read failed.
+pub(crate) fn has_failed(content: &Result<Vec<u8>, FolderFault>) -> bool
+    ensures failed { result ≡ is_failed content.now }
+{
+    matches!(content, Err(FolderFault::Failed))
 }
