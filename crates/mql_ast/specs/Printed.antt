@@ -95,8 +95,10 @@ share_text p = codes ", " ++ (decimal p ++ codes ")")
 abbrev pub sum_text : Bool → SumTree → List ℕ
 sum_text operand (Column column) = column.text
 sum_text operand (Number at value) = signed_decimal value
-sum_text operand (Plus left right) = in_parentheses operand (sum_text false left ++ (codes " + " ++ sum_text true right))
-sum_text operand (Minus left right) = in_parentheses operand (sum_text false left ++ (codes " - " ++ sum_text true right))
+sum_text operand (Plus left right) =
+    in_parentheses operand (sum_text false left ++ (codes " + " ++ sum_text true right))
+sum_text operand (Minus left right) =
+    in_parentheses operand (sum_text false left ++ (codes " - " ++ sum_text true right))
 sum_text operand (Percentile at column p) =
     codes "percentile(" ++ (column.text ++ share_text p)
 
@@ -123,7 +125,8 @@ column_text (Some column) = column.text
 
 abbrev pub aggregate_text : Aggregate → List ℕ
 aggregate_text aggregate =
-    label_text aggregate.name ++ (fold_text aggregate.fold ++ (codes "(" ++ (column_text aggregate.column ++ codes ")")))
+    label_text aggregate.name
+    ++ (fold_text aggregate.fold ++ (codes "(" ++ (column_text aggregate.column ++ codes ")")))
 
 abbrev pub duration_text : ℤ → List ℕ
 duration_text seconds = signed_decimal seconds ++ codes "s"

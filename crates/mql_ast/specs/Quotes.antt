@@ -1,5 +1,5 @@
 -- Texts in quotes and patterns, byte by byte.
-use Rattle.std.specs.Prelude.{◌≡◌, ℕ, ◌+◌, ◌-◌, Bool, true, false, ◌==◌, ◌||◌, ◌&&◌, nat_le, List, [], ◌∷◌, ◌++◌, Option, Some, None, option_and_then, if◌then◌else◌}
+use Rattle.std.specs.Prelude.{ℕ, ◌+◌, ◌-◌, Bool, ◌==◌, ◌||◌, ◌&&◌, nat_le, List, [], ◌∷◌, ◌++◌, Option, Some, None, option_and_then, if◌then◌else◌}
 use Rattle.mon_value.specs.Texts.{text_in}
 use Rattle.mql_ast.specs.Rests.{Rest}
 use Rattle.mql_ast.specs.Tokens.{sign_at}
@@ -130,7 +130,8 @@ with_piece piece pieces go = option_and_then (λ text. go (pieces ++ text ∷ []
 abbrev pub after_pattern_step : PatternStep → ℕ → Rest → List (List ℕ) → List ℕ →
     (Open → Sign → List (List ℕ) → List ℕ → Option (List (List ℕ) × Rest)) → Option (List (List ℕ) × Rest)
 after_pattern_step PatternEnd b rest pieces content go = with_piece (text_in content) pieces (λ all. Some (all, rest))
-after_pattern_step PatternCut b rest pieces content go = with_piece (text_in content) pieces (λ all. go Whole Plain all [])
+after_pattern_step PatternCut b rest pieces content go =
+    with_piece (text_in content) pieces (λ all. go Whole Plain all [])
 after_pattern_step (PatternPass next mark) b rest pieces content go = go next mark pieces content
 after_pattern_step (PatternKeep next mark) b rest pieces content go = go next mark pieces (content ++ b ∷ [])
 after_pattern_step PatternUnfit b rest pieces content go = None

@@ -1,5 +1,6 @@
 -- The tokens of query texts. Blanks stand before a token.
-use Rattle.std.specs.Prelude.{ℕ, ℤ, pos, ◌+◌, ◌-◌, ◌*◌, ◌^◌, ◌-ℤ◌, Bool, true, false, ◌==◌, ◌&&◌, not, nat_le, List, codes, [], ◌∷◌, Option, Some, None, option_and_then, if◌then◌else◌}
+use Rattle.std.specs.Prelude.{ℕ, ℤ, pos, ◌+◌, ◌-◌, ◌*◌, ◌^◌, ◌-ℤ◌, unsigned_abs, Bool, true, false, ◌==◌, ◌&&◌, not, nat_le, List, codes, [], ◌∷◌, Option, Some, None, option_and_then, if◌then◌else◌}
+use Rattle.mon_value.specs.declared.limits.TheConstants.{LONGEST_DURATION}
 use Rattle.mql_ast.specs.declared.names.Name.{Name}
 use Rattle.mql_ast.specs.Bytes.{is_letter, is_digit, is_word_byte, is_metric_byte}
 use Rattle.mql_ast.specs.Rests.{Rest, head, behind, skip}
@@ -67,7 +68,8 @@ digits_from most value at (b ∷ bs) =
 abbrev pub positive_at : ℕ → Rest → Option (ℕ × Rest)
 positive_at most s =
     let t = skip s in
-    if is_digit (head t) && not (head t == 48) then digits_from most (head t - 48) (behind t).at (behind t).bytes else None
+    if is_digit (head t) && not (head t == 48)
+    then digits_from most (head t - 48) (behind t).at (behind t).bytes else None
 
 -- a number: 0, or one from 1 on
 abbrev pub number_at : ℕ → Rest → Option (ℕ × Rest)
@@ -87,13 +89,15 @@ abbrev pub unit_seconds : ℕ → ℕ
 unit_seconds b =
     if b == 115 then 1 else (if b == 109 then 60 else (if b == 104 then 3600 else (if b == 100 then 86400 else 0)))
 
+-- the longest duration, in seconds
 abbrev pub longest : ℕ
-longest = 1000000000
+longest = unsigned_abs LONGEST_DURATION
 
 abbrev pub with_unit : ℕ × Rest → Option (ℤ × Rest)
 with_unit n =
     let seconds = n.0 * unit_seconds (head n.1) in
-    if unit_seconds (head n.1) == 0 then None else (if nat_le seconds longest then Some (pos seconds, behind n.1) else None)
+    if unit_seconds (head n.1) == 0 then None else
+    (if nat_le seconds longest then Some (pos seconds, behind n.1) else None)
 
 -- a duration: a number, and a unit directly behind it
 abbrev pub duration_at : Rest → Option (ℤ × Rest)

@@ -1,6 +1,7 @@
 //! The trees of query texts, and the text that a tree is printed as.
 #![tactic(auto)]
 
+mod copying;
 mod expressions;
 mod names;
 mod operations;

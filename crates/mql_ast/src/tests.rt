@@ -36,9 +36,8 @@ fn difference(alloc: Global) -> Result<Expr, AllocError> {
     ))
 }
 
-#[test]
-fn prints_parentheses_where_they_are_needed(rt: HostRuntime) -> Result<(), Fail> {
-    let alloc = rt.alloc();
+// A filter by the opposite of a choice, and an item with parentheses.
+fn query(alloc: Global) -> Result<Query, AllocError> {
     let both = Predicate::Or(
         Box::new(alloc, condition(alloc)?)?,
         Box::new(alloc, condition(alloc)?)?,
@@ -62,14 +61,28 @@ fn prints_parentheses_where_they_are_needed(rt: HostRuntime) -> Result<(), Fail>
         schema: name(alloc, "T")?,
         metric: name(alloc, "/m")?,
     };
-    let text = print_query(
-        alloc,
-        &Query {
-            pipe: Pipe { source, ops },
-        },
-    )?;
+    Ok(Query {
+        pipe: Pipe { source, ops },
+    })
+}
+
+#[test]
+fn prints_parentheses_where_they_are_needed(rt: HostRuntime) -> Result<(), Fail> {
+    let alloc = rt.alloc();
+    let text = print_query(alloc, &query(alloc)?)?;
     let wanted =
         r#"fetch T::/m | filter !(u == "a\"b\\" || u == "a\"b\\") | value [d: v - (v + -3)]"#;
     assert_eq!(rt; text.as_str(), wanted);
+    Ok(())
+}
+
+#[test]
+fn a_copy_prints_as_its_original(rt: HostRuntime) -> Result<(), Fail> {
+    let alloc = rt.alloc();
+    let original = query(alloc)?;
+    let text = print_query(alloc, &original)?;
+    let copied = original.copy(alloc)?;
+    let again = print_query(alloc, &copied)?;
+    assert_eq!(rt; again.as_str(), text.as_str());
     Ok(())
 }

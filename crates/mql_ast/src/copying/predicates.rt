@@ -1,0 +1,93 @@
+// Copies of predicates.
+ghost use Rattle.std.specs.Prelude.{◌≡◌, ◌+◌, IfOk};
+ghost use Rattle.mql_ast.specs.Trees.{predicate_tree};
+ghost use Rattle.mql_ast.specs.PredicateParts.{nodes};
+ghost use Rattle.mql_ast.specs.PredicateLinks.{link_tree, linked_tree, linked_nodes};
+
+use crate::predicates::Predicate;
+use mon_value::TryCopy;
+use std::alloc::{AllocError, Global};
+
+// What is made of a predicate: its opposite, or an operator and what stands on its right.
+#[derive(Clone, Copy)]
+pub enum PredicateLink<'a> {
+    Not,
+    And(&'a Predicate),
+    Or(&'a Predicate),
+}
+
+impl Predicate {
+    /// A copy of a predicate: the same tree. The stack doesn't grow with a chain.
+    #[cycle(predicate_copies)]
+    #[tactic(auto, using(crate::proofs::PredicateLinkLemmas::linked_tree_push, crate::proofs::PredicateLinkLemmas::linked_nodes_push))]
+    pub fn copy(&self, alloc: Global) -> Result<Predicate, AllocError>
+        ensures tree { IfOk result (λ copied. predicate_tree copied ≡ predicate_tree self.now) }
+    {
+        let mut links = Vec::new(alloc);
+        let mut copied = copied_first(alloc, &mut links, self)?;
+        while let Some(link) = links.pop() {
+            copied = gone_on(alloc, copied, link)?;
+        }
+        Ok(copied)
+    }
+}
+
+// A copy of the first condition of a predicate. What is made of it is put among the links, the last
+// first.
+#[tactic(auto, using(crate::proofs::PredicateLinkLemmas::linked_tree_push, crate::proofs::PredicateLinkLemmas::linked_nodes_push))]
+fn copied_first<'a>(
+    alloc: Global,
+    links: &mut Vec<PredicateLink<'a>>,
+    predicate: &'a Predicate,
+) -> Result<Predicate, AllocError>
+    ensures tree { IfOk result (λ first. linked_tree links.new.items (predicate_tree first)
+        ≡ linked_tree links.old.items (predicate_tree predicate.now)) }
+    ensures nodes { IfOk result (λ first. linked_nodes links.new.items + nodes first
+        ≡ linked_nodes links.old.items + nodes predicate.now) }
+{
+    let mut first = predicate;
+    loop {
+        match first {
+            Predicate::Not(inner) => {
+                links.push(PredicateLink::Not)?;
+                first = inner;
+            }
+            Predicate::And(left, right) => {
+                links.push(PredicateLink::And(right))?;
+                first = left;
+            }
+            Predicate::Or(left, right) => {
+                links.push(PredicateLink::Or(right))?;
+                first = left;
+            }
+            Predicate::Compare(column, how, literal) => {
+                let column = column.copy(alloc)?;
+                let literal = literal.copy(alloc)?;
+                return Ok(Predicate::Compare(column, *how, literal));
+            }
+            Predicate::Like(column, pattern) => {
+                let column = column.copy(alloc)?;
+                let pattern = pattern.copy(alloc)?;
+                return Ok(Predicate::Like(column, pattern));
+            }
+        }
+    }
+}
+
+// What is made of a predicate, with a copy of what stands on the right.
+#[cycle(predicate_copies)]
+fn gone_on(alloc: Global, left: Predicate, link: PredicateLink<'_>) -> Result<Predicate, AllocError>
+    ensures tree { IfOk result (λ copied. predicate_tree copied ≡ link_tree link.entry (predicate_tree left)) }
+{
+    match link {
+        PredicateLink::Not => Ok(Predicate::Not(Box::new(alloc, left)?)),
+        PredicateLink::And(right) => {
+            let right = right.copy(alloc)?;
+            Ok(Predicate::And(Box::new(alloc, left)?, Box::new(alloc, right)?))
+        }
+        PredicateLink::Or(right) => {
+            let right = right.copy(alloc)?;
+            Ok(Predicate::Or(Box::new(alloc, left)?, Box::new(alloc, right)?))
+        }
+    }
+}
