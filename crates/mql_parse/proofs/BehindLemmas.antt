@@ -43,7 +43,8 @@ pub behind_is_shorter : (s r : Rest) → Behind s r → length r.bytes < length 
 behind_is_shorter s r f = omega (arith, f.read, ap length f.bytes, length-append f.front r.bytes)
 
 -- one byte
-first_behind : (at : ℕ) (bs : List ℕ) → (first_of bs ≡ 0 → ⊥) → Behind (record { at = at; bytes = bs }) (behind_first at bs)
+first_behind : (at : ℕ) (bs : List ℕ) → (first_of bs ≡ 0 → ⊥) → Behind (record { at = at; bytes = bs })
+    (behind_first at bs)
 first_behind at [] h = absurd (h refl)
 first_behind at (b ∷ bs) h = record { front = b ∷ []; bytes = refl; place = omega arith; read = omega arith }
 
@@ -58,11 +59,13 @@ pub tested_behind : (test : ℕ → Bool) → test 0 ≡ false → (s : Rest) �
 tested_behind test fails s h = byte_behind s (λ e. absurd (false≢true (sym fails ∙ ap test (sym e) ∙ h)))
 
 -- one byte more in front
-longer : (b at : ℕ) (bs : List ℕ) (r : Rest) → From (record { at = at + 1; bytes = bs }) r → From (record { at = at; bytes = b ∷ bs }) r
+longer : (b at : ℕ) (bs : List ℕ) (r : Rest) → From (record { at = at + 1; bytes = bs }) r →
+    From (record { at = at; bytes = b ∷ bs }) r
 longer b at bs r f = record { front = b ∷ f.front; bytes = ap (λ t. b ∷ t) f.bytes; place = omega (arith, f.place) }
 
 -- what is left behind a byte that passes a test, or here
-passing : (test : Bool) (b at : ℕ) (bs : List ℕ) (r : Rest) → From (record { at = at + 1; bytes = bs }) r → From (record { at = at; bytes = b ∷ bs }) (if test then r else record { at = at; bytes = b ∷ bs })
+passing : (test : Bool) (b at : ℕ) (bs : List ℕ) (r : Rest) → From (record { at = at + 1; bytes = bs }) r →
+    From (record { at = at; bytes = b ∷ bs }) (if test then r else record { at = at; bytes = b ∷ bs })
 passing true b at bs r f = longer b at bs r f
 passing false b at bs r f = from_itself (record { at = at; bytes = b ∷ bs })
 
@@ -82,17 +85,22 @@ word_from at (b ∷ bs) = passing (is_word_byte b) b at bs (behind_word (at + 1)
 letter_is_word : (b : ℕ) → is_letter b ≡ true → is_word_byte b ≡ true
 letter_is_word b h = ap (λ t. t || is_digit b) h
 
-word_here_behind : (at : ℕ) (bs : List ℕ) → is_word_byte (first_of bs) ≡ true → Behind (record { at = at; bytes = bs }) (behind_word at bs)
+word_here_behind : (at : ℕ) (bs : List ℕ) → is_word_byte (first_of bs) ≡ true →
+    Behind (record { at = at; bytes = bs }) (behind_word at bs)
 word_here_behind at [] h = absurd (false≢true h)
-word_here_behind at (b ∷ bs) h = subst (λ r. Behind (record { at = at; bytes = b ∷ bs }) r) (sym (ap (λ t. if t then behind_word (at + 1) bs else record { at = at; bytes = b ∷ bs }) h))
-    (behind_from _ (record { at = at + 1; bytes = bs }) _ (record { front = b ∷ []; bytes = refl; place = omega arith; read = omega arith }) (word_from (at + 1) bs))
+word_here_behind at (b ∷ bs) h =
+    subst (λ r. Behind (record { at = at; bytes = b ∷ bs }) r)
+    (sym (ap (λ t. if t then behind_word (at + 1) bs else record { at = at; bytes = b ∷ bs }) h))
+    (behind_from _ (record { at = at + 1; bytes = bs }) _
+    (record { front = b ∷ []; bytes = refl; place = omega arith; read = omega arith }) (word_from (at + 1) bs))
 
 -- a test that was passed, and what came of it
 pub chosen : {A : Type 0} (t : Bool) (x y : A) → (if t then Some x else None) ≡ Some y → (t ≡ true) × (x ≡ y)
 chosen true x y e = (refl, cc)
 chosen false x y e = absurd (cc)
 
-pub chosen_any : {A : Type 0} (t : Bool) (o : Option A) (y : A) → (if t then o else None) ≡ Some y → (t ≡ true) × (o ≡ Some y)
+pub chosen_any : {A : Type 0} (t : Bool) (o : Option A) (y : A) → (if t then o else None) ≡ Some y →
+    (t ≡ true) × (o ≡ Some y)
 chosen_any true o y e = (refl, e)
 chosen_any false o y e = absurd (cc)
 
@@ -102,12 +110,15 @@ sign_taken b s r e = chosen (head (skip s) == b) (behind (skip s)) r e
 pub sign_behind : (b : ℕ) → 0 == b ≡ false → (s r : Rest) → sign_at b s ≡ Some r → Behind s r
 sign_behind b nonzero s r e =
     let t = sign_taken b s r e in
-    subst (λ m. Behind s m) t.1 (from_behind s (skip s) (behind (skip s)) (skip_from s) (tested_behind (λ x. x == b) nonzero (skip s) t.0))
+    subst (λ m. Behind s m) t.1 (from_behind s (skip s) (behind (skip s)) (skip_from s)
+    (tested_behind (λ x. x == b) nonzero (skip s) t.0))
 
 pub name_behind : (s r : Rest) (n : Name) → name_at s ≡ Some (n, r) → Behind s r
 name_behind s r n e =
     let t = chosen (is_letter (head (skip s))) (word_here (skip s)) (n, r) e in
-    subst (λ m. Behind s m) (ap (λ x. x.1) t.1) (from_behind s (skip s) _ (skip_from s) (word_here_behind (skip s).at (skip s).bytes (letter_is_word (head (skip s)) t.0)))
+    subst (λ m. Behind s m) (ap (λ x. x.1) t.1)
+    (from_behind s (skip s) _ (skip_from s)
+    (word_here_behind (skip s).at (skip s).bytes (letter_is_word (head (skip s)) t.0)))
 
 -- what is left of one byte on
 pub one_from : (s : Rest) → From s (behind s)

@@ -9,5 +9,6 @@ use Rattle.mql_ast.specs.Trees.{Branches, source_tree, branches}
 use Rattle.mql_ast.proofs.BranchLemmas.{branches_of_source}
 use Rattle.mql_parse.specs.Views.{vec_trees}
 
-pub branches_seen : (at : ℕ) (pipes : Vec Pipe Global) (how : How) (how_at : ℕ) → source_tree (source.Branches at pipes how how_at) ≡ Branches at (branches (vec_trees pipes)) how how_at
+pub branches_seen : (at : ℕ) (pipes : Vec Pipe Global) (how : How) (how_at : ℕ) →
+    source_tree (source.Branches at pipes how how_at) ≡ Branches at (branches (vec_trees pipes)) how how_at
 branches_seen = branches_of_source

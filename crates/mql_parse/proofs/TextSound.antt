@@ -10,40 +10,54 @@ use Rattle.mql_ast.specs.Trees.{PipeTree, query_tree}
 use Rattle.mql_ast.specs.Rests.{Rest, skip}
 use Rattle.mql_ast.specs.Grammar.{start, levels, longest_text, SpellsAtLength, Spells, Pipe}
 use Rattle.mql_parse.specs.declared.faults.ParseFault.{ParseFault}
+use Rattle.mql_parse.specs.FaultDepths.{SpellsWithin}
 use Rattle.mql_parse.specs.PipeReading as pipes
 use Rattle.mql_parse.proofs.BehindLemmas.{skip_from}
 use Rattle.mql_parse.proofs.Sound.{if_sound, bind_sound, if_ok_weaker}
 use Rattle.mql_parse.proofs.PipeSound.{IsPipe, pipe_sound}
 
-nothing_passed : (text front bytes : List ℕ) (at : ℕ) → text ≡ front ++ bytes → at ≡ 0 + length front → at ≡ 0 → record { at = at; bytes = bytes } ≡ start text
-nothing_passed text [] bytes at e p h = ap (λ n. record { at = n; bytes = bytes }) h ∙ ap (λ t. record { at = 0; bytes = t }) (sym e)
+nothing_passed : (text front bytes : List ℕ) (at : ℕ) → text ≡ front ++ bytes → at ≡ 0 + length front → at ≡ 0 →
+    record { at = at; bytes = bytes } ≡ start text
+nothing_passed text [] bytes at e p h =
+    ap (λ n. record { at = n; bytes = bytes }) h ∙ ap (λ t. record { at = 0; bytes = t }) (sym e)
 nothing_passed text (b ∷ front) bytes at e p h = absurd (omega (arith, p, h))
 
 -- a text with no blank first
 begins : (text : List ℕ) → ((skip (start text)).at == 0) ≡ true → skip (start text) ≡ start text
 begins text h =
     let f = skip_from (start text) in
-    nothing_passed text f.front (skip (start text)).bytes (skip (start text)).at f.bytes f.place (eqb-true (skip (start text)).at 0 h)
+    nothing_passed text f.front (skip (start text)).bytes (skip (start text)).at f.bytes f.place
+    (eqb-true (skip (start text)).at 0 h)
 
-ended_sound : (text : List ℕ) (tree : PipeTree) (r : Rest) (bs : List ℕ) → bs ≡ r.bytes → skip (start text) ≡ start text → Pipe levels (start text) r tree → IfOk (pipes.ended_in tree r bs) (λ t. SpellsAtLength t text)
-ended_sound text tree r [] e b p = record { begins = b; end = r; whole = p; ended = sym e }
-ended_sound text tree r (b ∷ bs) e h p = tt
+ended_sound : (d : ℕ) (text : List ℕ) (tree : PipeTree) (r : Rest) (bs : List ℕ) → bs ≡ r.bytes →
+    skip (start text) ≡ start text → Pipe d (start text) r tree → IfOk (pipes.query_end_in tree r bs)
+    (λ t. SpellsWithin d t text)
+ended_sound d text tree r [] e b p = record { begins = b; end = r; whole = p; ended = sym e }
+ended_sound d text tree r (b ∷ bs) e h p = tt
 
-query_sound : (text : List ℕ) → IfOk (pipes.query text) (λ tree. SpellsAtLength tree text)
-unfolding pipes.query
-query_sound text =
-    if_sound ((skip (start text)).at == 0) _ _ (λ tree. SpellsAtLength tree text)
-    (λ h. bind_sound (pipes.pipe levels (start text)) pipes.ended (IsPipe levels (start text)) (λ tree. SpellsAtLength tree text) (pipe_sound levels (start text))
-    (λ x p. ended_sound text x.0 x.1 x.1.bytes refl (begins text h) p))
+pub query_sound : (d : ℕ) (text : List ℕ) → IfOk (pipes.query_within d text) (λ tree. SpellsWithin d tree text)
+unfolding pipes.query_within
+query_sound d text =
+    if_sound ((skip (start text)).at == 0) _ _ (λ tree. SpellsWithin d tree text)
+    (λ h. bind_sound (pipes.pipe d (start text)) pipes.query_end (IsPipe d (start text))
+    (λ tree. SpellsWithin d tree text) (pipe_sound d (start text))
+    (λ x p. ended_sound d text x.0 x.1 x.1.bytes refl (begins text h) p))
     (λ h. tt)
 
-pub text_sound : (text : List ℕ) → IfOk (pipes.parsed text) (λ tree. Spells tree text)
-unfolding pipes.parsed
+-- the levels of a query
+pub at_length : (tree : PipeTree) (text : List ℕ) → SpellsWithin levels tree text → SpellsAtLength tree text
+at_length tree text s = record { begins = s.begins; end = s.end; whole = s.whole; ended = s.ended }
+
+pub text_sound : (text : List ℕ) → IfOk (pipes.text_outcome text) (λ tree. Spells tree text)
+unfolding pipes.text_outcome
 text_sound text =
     if_sound (nat_lt longest_text (length text)) _ _ (λ tree. Spells tree text)
     (λ h. tt)
-    (λ h. if_ok_weaker (pipes.query text) (λ tree. SpellsAtLength tree text) (λ tree. Spells tree text) (λ tree s. record { fits = ltb-false longest_text (length text) h; spelled = s }) (query_sound text))
+    (λ h. if_ok_weaker (pipes.query text) (λ tree. SpellsWithin levels tree text) (λ tree. Spells tree text)
+    (λ tree s. record { fits = ltb-false longest_text (length text) h; spelled = at_length tree text s })
+    (query_sound levels text))
 
-pub spelled_by : (text : List ℕ) (result : Result Query (Refusal ParseFault)) → GivesView query_tree result (pipes.parsed text) → IfOk result (λ query. Spells (query_tree query) text)
+pub spelled_by : (text : List ℕ) (result : Result Query (Refusal ParseFault)) →
+    GivesView query_tree result (pipes.text_outcome text) → IfOk result (λ query. Spells (query_tree query) text)
 spelled_by text (Ok query) h = subst (λ answer. IfOk answer (λ tree. Spells tree text)) h (text_sound text)
 spelled_by text (Err refusal) h = tt

@@ -12,11 +12,13 @@ word_shorter = tested_shorter is_word_byte refl
 pub digit_shorter : (s : Rest) → is_digit (head s) ≡ true → length (behind s).bytes < length s.bytes
 digit_shorter = tested_shorter is_digit refl
 
-pub word_bytes_on : (at : ℕ) (bs : List ℕ) → is_word_byte (first_of bs) ≡ true → word_bytes bs ≡ first_of bs ∷ word_bytes (behind_first at bs).bytes
+pub word_bytes_on : (at : ℕ) (bs : List ℕ) → is_word_byte (first_of bs) ≡ true →
+    word_bytes bs ≡ first_of bs ∷ word_bytes (behind_first at bs).bytes
 word_bytes_on at [] h = absurd (false≢true h)
 word_bytes_on at (b ∷ bs) h = ap (λ t. if t then b ∷ word_bytes bs else []) h
 
-pub behind_word_on : (at : ℕ) (bs : List ℕ) → is_word_byte (first_of bs) ≡ true → behind_word at bs ≡ behind_word (behind_first at bs).at (behind_first at bs).bytes
+pub behind_word_on : (at : ℕ) (bs : List ℕ) → is_word_byte (first_of bs) ≡ true →
+    behind_word at bs ≡ behind_word (behind_first at bs).at (behind_first at bs).bytes
 behind_word_on at [] h = refl
 behind_word_on at (b ∷ bs) h = ap (λ t. if t then behind_word (at + 1) bs else record { at = at; bytes = b ∷ bs }) h
 
@@ -24,6 +26,7 @@ pub word_bytes_off : (bs : List ℕ) → is_word_byte (first_of bs) ≡ false �
 word_bytes_off [] h = refl
 word_bytes_off (b ∷ bs) h = ap (λ t. if t then b ∷ word_bytes bs else []) h
 
-pub behind_word_off : (at : ℕ) (bs : List ℕ) → is_word_byte (first_of bs) ≡ false → behind_word at bs ≡ record { at = at; bytes = bs }
+pub behind_word_off : (at : ℕ) (bs : List ℕ) → is_word_byte (first_of bs) ≡ false →
+    behind_word at bs ≡ record { at = at; bytes = bs }
 behind_word_off at [] h = refl
 behind_word_off at (b ∷ bs) h = ap (λ t. if t then behind_word (at + 1) bs else record { at = at; bytes = b ∷ bs }) h

@@ -8,13 +8,15 @@ use Rattle.mql_ast.specs.declared.operations.FoldWord.{FoldWord}
 use Rattle.mql_ast.specs.declared.operations.FoldWord.TheVariants as fold
 use Rattle.mql_ast.specs.Rests.{Rest, head, behind, skip}
 use Rattle.mql_parse.specs.declared.faults.What.TheVariants as what
-use Rattle.mql_parse.specs.Outcomes.{Outcome, unexpected, exact, sign, changed, up_to}
-use Rattle.mql_parse.specs.Repeats.{Turn, Done, Again, on_read, repeated, list_turn}
+use Rattle.mql_parse.specs.Outcomes.{Outcome, unexpected, exact, sign, map_outcome, up_to}
+use Rattle.mql_parse.specs.Repeats.{Turn, Done, Again, on_read, repetition, list_turn}
 use Rattle.mql_parse.specs.TokenReading.{name}
 
 -- names between brackets, from behind the first
 unfoldable pub names : Rest → Outcome (List Name)
-names s = if head (skip s) == 93 then Ok ([], behind (skip s)) else repeated (list_turn 93 what.CloseBracket name) [] s
+names s =
+    if head (skip s) == 93 then Ok ([], behind (skip s))
+    else repetition (list_turn 93 what.CloseBracket name) [] s
 
 -- the fold of this name
 abbrev pub fold_of : List ℕ → Option FoldWord
@@ -50,7 +52,7 @@ fold_here s =
     (if head s == 109 then fold_behind_m (behind s) else Err (unexpected what.Aggregate s))))
 
 abbrev pub some_column : Rest → Outcome (Option Name)
-some_column s = changed Some (name s)
+some_column s = map_outcome Some (name s)
 
 -- the column of a fold, from behind its parenthesis. A count has none
 abbrev pub folded_column : FoldWord → Rest → Outcome (Option Name)
@@ -66,24 +68,27 @@ abbrev pub aggregate_of : ℕ → Option Name → FoldWord → Option Name → A
 aggregate_of at label word column = record { at = at; name = label; fold = word; column = column }
 
 -- a fold from behind its parenthesis
-unfoldable pub folded : ℕ → Option Name → FoldWord → Rest → Outcome Aggregate
-folded at label word s = changed (aggregate_of at label word) (up_to 41 what.CloseParenthesis (folded_column word s))
+unfoldable pub fold_call : ℕ → Option Name → FoldWord → Rest → Outcome Aggregate
+fold_call at label word s =
+    map_outcome (aggregate_of at label word) (up_to 41 what.CloseParenthesis (folded_column word s))
 
 -- a fold with a name, from behind the colon
 abbrev pub labelled_fold : Name → Rest → Outcome Aggregate
 labelled_fold label s = do
   word ← fold_here (skip s)
   open_parenthesis ← sign 40 what.OpenParenthesis word.1
-  folded (skip s).at (Some label) word.0 open_parenthesis
+  fold_call (skip s).at (Some label) word.0 open_parenthesis
 
 -- a fold without a name, behind its word
 abbrev pub bare_fold : ℕ → Option FoldWord → Rest → Outcome Aggregate
 bare_fold at None t = Err (unexpected what.Colon t)
-bare_fold at (Some word) t = if head t == 40 then folded at None word (behind t) else Err (unexpected what.OpenParenthesis t)
+bare_fold at (Some word) t =
+    if head t == 40 then fold_call at None word (behind t) else Err (unexpected what.OpenParenthesis t)
 
 unfoldable pub aggregate : Rest → Outcome Aggregate
 aggregate s = name s >>= λ first.
-    (if head (skip first.1) == 58 then labelled_fold first.0 (behind (skip first.1)) else bare_fold first.0.at (fold_of first.0.text) (skip first.1))
+    (if head (skip first.1) == 58 then labelled_fold first.0 (behind (skip first.1))
+    else bare_fold first.0.at (fold_of first.0.text) (skip first.1))
 
 abbrev pub aggregates_on : List Aggregate → Aggregate × Rest → Turn (List Aggregate)
 aggregates_on so_far read =
@@ -95,4 +100,4 @@ aggregate_turn so_far s = on_read (aggregates_on so_far) (aggregate s)
 
 -- aggregates with a comma between each two
 unfoldable pub aggregates : Rest → Outcome (List Aggregate)
-aggregates s = repeated aggregate_turn [] s
+aggregates s = repetition aggregate_turn [] s

@@ -8,6 +8,11 @@ pub mod PipeReading
 pub mod Steps
 pub mod Behind
 pub mod Soundness
+pub mod Steadiness
+pub mod FaultPlaces
+pub mod FaultKinds
+pub mod FaultDepths
 pub mod Views
 pub mod TurnViews
 pub mod PredicateViews
+pub mod FaultWords

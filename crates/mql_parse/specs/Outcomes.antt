@@ -14,8 +14,8 @@ abbrev pub Outcome : Type 0 → Type 0
 Outcome A = Result (A × Rest) ParseFault
 
 -- a part that is read in any case
-abbrev pub reached : {A : Type 0} → A × Rest → Outcome A
-reached read = Ok read
+abbrev pub outcome_of : {A : Type 0} → A × Rest → Outcome A
+outcome_of read = Ok read
 
 -- what is left at a cursor
 abbrev pub rest_of : Cursor → Rest
@@ -57,16 +57,16 @@ abbrev pub apart : What → Rest → Result Rest ParseFault
 apart what s = if is_word_byte (head s) then Err (unexpected what s) else Ok s
 
 -- the value of a part that was read, changed
-abbrev pub changed : {A B : Type 0} → (A → B) → Outcome A → Outcome B
-changed f read = read >>= λ x. Ok (f x.0, x.1)
+abbrev pub map_outcome : {A B : Type 0} → (A → B) → Outcome A → Outcome B
+map_outcome f read = read >>= λ x. Ok (f x.0, x.1)
 
 -- a part that was read, up to a sign behind it
 abbrev pub up_to : {A : Type 0} → ℕ → What → Outcome A → Outcome A
 up_to b what read = read >>= λ x. sign b what x.1 >>= λ r. Ok (x.0, r)
 
 -- bytes that were read, behind others
-abbrev pub prefixed : List ℕ → Outcome (List ℕ) → Outcome (List ℕ)
-prefixed front read = changed (λ bytes. front ++ bytes) read
+abbrev pub with_front : List ℕ → Outcome (List ℕ) → Outcome (List ℕ)
+with_front front read = map_outcome (λ bytes. front ++ bytes) read
 
 abbrev pub added_bytes : List ℕ → Result Cursor (Refusal ParseFault) → Result (List ℕ × Rest) (Refusal ParseFault)
 added_bytes after (Ok from) = Ok (after, rest_of from)
@@ -75,4 +75,4 @@ added_bytes after (Err refusal) = Err refusal
 -- a call puts the bytes that are to be read behind those of a text, and leaves what is to be left
 abbrev pub Adds : List ℕ → List ℕ → Result Cursor (Refusal ParseFault) → Outcome (List ℕ) → Type 0
 Adds before after result outcome =
-    GivesView (λ x. x) (added_bytes after result) (prefixed before outcome)
+    GivesView (λ x. x) (added_bytes after result) (with_front before outcome)

@@ -11,8 +11,8 @@ use Rattle.mql_ast.specs.Tokens.{word_here}
 use Rattle.mql_parse.specs.declared.faults.ParseKind.TheVariants.{TooDeep}
 use Rattle.mql_parse.specs.declared.faults.What.{What}
 use Rattle.mql_parse.specs.declared.faults.What.TheVariants as what
-use Rattle.mql_parse.specs.Outcomes.{Outcome, fault, unexpected, sign, changed}
-use Rattle.mql_parse.specs.Repeats.{Turn, Done, goes_on, repeated, list_turn}
+use Rattle.mql_parse.specs.Outcomes.{Outcome, fault, unexpected, sign, map_outcome}
+use Rattle.mql_parse.specs.Repeats.{Turn, Done, goes_on, repetition, list_turn}
 use Rattle.mql_parse.specs.TokenReading.{name, positive, signed}
 
 -- a sum, and whether it ends in the bare word `percentile`, behind which a parenthesis may come
@@ -20,8 +20,8 @@ pub record SumSeen : Type 0 where
   pub sum : SumTree
   pub bare : Bool
 
-abbrev pub seen : SumTree → Bool → SumSeen
-seen sum bare = record { sum = sum; bare = bare }
+abbrev pub seen_sum : SumTree → Bool → SumSeen
+seen_sum sum bare = record { sum = sum; bare = bare }
 
 abbrev pub is_percentile : List ℕ → Bool
 is_percentile word = pointwise nat_eq word (codes "percentile")
@@ -33,16 +33,17 @@ percentile at s = do
   comma ← sign 44 what.Comma column.1
   p ← positive 100 comma
   r ← sign 41 what.CloseParenthesis p.1
-  Ok (seen (Percentile at column.0 p.0) false, r)
+  Ok (seen_sum (Percentile at column.0 p.0) false, r)
 
 -- a column, or a percentile of one
 abbrev pub word_read : Name × Rest → Outcome SumSeen
 word_read word =
-    if is_percentile word.0.text then (if head (skip word.1) == 40 then percentile word.0.at (behind (skip word.1)) else Ok (seen (Column word.0) true, word.1))
-    else Ok (seen (Column word.0) false, word.1)
+    if is_percentile word.0.text then (if head (skip word.1) == 40 then percentile word.0.at (behind (skip word.1))
+    else Ok (seen_sum (Column word.0) true, word.1))
+    else Ok (seen_sum (Column word.0) false, word.1)
 
 abbrev pub number_term : Rest → Outcome SumSeen
-number_term s = changed (λ z. seen (Number (skip s).at z) false) (signed s)
+number_term s = map_outcome (λ z. seen_sum (Number (skip s).at z) false) (signed s)
 
 -- a term, where a parenthesis at its front is read so
 unfoldable pub term_with : (Rest → Rest → Outcome SumSeen) → Rest → Outcome SumSeen
@@ -53,32 +54,32 @@ term_with group s =
     (if b == 45 || is_digit b then number_term s else
     (if is_letter b then word_read (word_here t) else Err (unexpected what.Name t)))
 
-abbrev pub added : SumSeen → SumSeen → SumSeen
-added left right = seen (Plus left.sum right.sum) right.bare
+abbrev pub sum_plus : SumSeen → SumSeen → SumSeen
+sum_plus left right = seen_sum (Plus left.sum right.sum) right.bare
 
-abbrev pub taken : SumSeen → SumSeen → SumSeen
-taken left right = seen (Minus left.sum right.sum) right.bare
+abbrev pub sum_minus : SumSeen → SumSeen → SumSeen
+sum_minus left right = seen_sum (Minus left.sum right.sum) right.bare
 
 -- a further term
 unfoldable pub term_turn : (Rest → Outcome SumSeen) → SumSeen → Rest → Turn SumSeen
 term_turn term left s =
     let t = skip s in
-    if head t == 43 then goes_on (added left) (term (behind t)) else
-    (if head t == 45 then goes_on (taken left) (term (behind t)) else Done left s)
+    if head t == 43 then goes_on (sum_plus left) (term (behind t)) else
+    (if head t == 45 then goes_on (sum_minus left) (term (behind t)) else Done left s)
 
 unfoldable pub sum_with : (Rest → Outcome SumSeen) → Rest → Outcome SumSeen
-sum_with term s = term s >>= λ first. repeated (term_turn term) first.0 first.1
+sum_with term s = term s >>= λ first. repetition (term_turn term) first.0 first.1
 
 abbrev pub behind_sum : Bool → What
 behind_sum bare = if bare then what.OpenParenthesis else what.CloseParenthesis
 
-abbrev pub closed : SumSeen × Rest → Outcome SumSeen
-closed inner = sign 41 (behind_sum inner.0.bare) inner.1 >>= λ r. Ok (seen inner.0.sum false, r)
+abbrev pub sum_end : SumSeen × Rest → Outcome SumSeen
+sum_end inner = sign 41 (behind_sum inner.0.bare) inner.1 >>= λ r. Ok (seen_sum inner.0.sum false, r)
 
 -- a sum in parentheses, from behind the first, which stands here
 unfoldable pub sum_group : ℕ → Rest → Rest → Outcome SumSeen
 sum_group zero here s = Err (fault TooDeep here)
-sum_group (suc d) here s = sum_with (term_with (sum_group d)) s >>= closed
+sum_group (suc d) here s = sum_with (term_with (sum_group d)) s >>= sum_end
 
 abbrev pub term : ℕ → Rest → Outcome SumSeen
 term d = term_with (sum_group d)
@@ -92,20 +93,21 @@ single column = record { name = None; sum = Column column }
 abbrev pub labelled_item : Name → SumTree → ItemTree
 labelled_item label sum = record { name = Some label; sum = sum }
 
-abbrev pub labelled : Name → SumSeen → ItemTree
-labelled label read = labelled_item label read.sum
+abbrev pub labelled_sum : Name → SumSeen → ItemTree
+labelled_sum label read = labelled_item label read.sum
 
 -- a name and a sum, or a single column
 abbrev pub item_behind : (Rest → Outcome SumSeen) → Name × Rest → Outcome ItemTree
 item_behind sum first =
-    if head (skip first.1) == 58 then changed (labelled first.0) (sum (behind (skip first.1))) else Ok (single first.0, first.1)
+    if head (skip first.1) == 58 then map_outcome (labelled_sum first.0) (sum (behind (skip first.1)))
+    else Ok (single first.0, first.1)
 
 unfoldable pub item_with : (Rest → Outcome SumSeen) → Rest → Outcome ItemTree
 item_with sum s = name s >>= item_behind sum
 
 -- items between brackets, from behind the first
 unfoldable pub items_with : (Rest → Outcome SumSeen) → Rest → Outcome (List ItemTree)
-items_with sum s = repeated (list_turn 93 what.CloseBracket (item_with sum)) [] s
+items_with sum s = repetition (list_turn 93 what.CloseBracket (item_with sum)) [] s
 
 abbrev pub items : ℕ → Rest → Outcome (List ItemTree)
 items d = items_with (sum d)

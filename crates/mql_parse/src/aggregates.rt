@@ -1,7 +1,7 @@
 // The names and aggregates of `group_by`.
 ghost use Rattle.std.specs.Prelude.{◌≡◌, []};
 ghost use Rattle.mql_parse.specs.Outcomes.{rest_of, Reads, itself};
-ghost use Rattle.mql_parse.specs.Repeats.{list_turn, repeated};
+ghost use Rattle.mql_parse.specs.Repeats.{list_turn, repetition};
 ghost use Rattle.mql_parse.specs.TokenReading as reading;
 ghost use Rattle.mql_parse.specs.Folds as folds;
 ghost use Rattle.mql_parse.specs.TurnViews.{Turns};
@@ -28,7 +28,8 @@ pub fn names<'a>(alloc: Global, from: Cursor<'a>) -> Read<'a, Names>
 }
 
 fn some_names<'a>(alloc: Global, from: Cursor<'a>) -> Read<'a, Names>
-    ensures read { Reads itself result (repeated (list_turn 93 What.CloseBracket reading.name) [] (rest_of from.entry)) }
+    ensures read { Reads itself result
+        (repetition (list_turn 93 What.CloseBracket reading.name) [] (rest_of from.entry)) }
 {
     let mut names = Names::new(alloc);
     let mut from = from;
@@ -143,7 +144,7 @@ fn bare_fold<'a>(
 }
 
 // A fold from behind its parenthesis.
-#[tactic(auto, unfolding(crate::specs::Folds::folded))]
+#[tactic(auto, unfolding(crate::specs::Folds::fold_call))]
 fn folded<'a>(
     alloc: Global,
     at: u32,
@@ -151,7 +152,7 @@ fn folded<'a>(
     fold: FoldWord,
     from: Cursor<'a>,
 ) -> Read<'a, Aggregate>
-    ensures read { Reads itself result (folds.folded at label fold (rest_of from.entry)) }
+    ensures read { Reads itself result (folds.fold_call at label fold (rest_of from.entry)) }
 {
     let (column, from) = folded_column(alloc, fold, from)?;
     let from = from.sign(b')', What::CloseParenthesis)?;

@@ -60,9 +60,9 @@ fn likeness<'a>(alloc: Global, column: Name, from: Cursor<'a>) -> Read<'a, Predi
     Ok((Predicate::Like(column, Pattern { at, pieces }), from))
 }
 
-#[tactic(auto, unfolding(crate::specs::PredicateReading::compared))]
+#[tactic(auto, unfolding(crate::specs::PredicateReading::comparison_kind))]
 fn how_compared<'a>(from: Cursor<'a>) -> Read<'a, Compared>
-    ensures read { Reads compared_seen result (predicates.compared (rest_of from.entry)) }
+    ensures read { Reads compared_seen result (predicates.comparison_kind (rest_of from.entry)) }
 {
     let here = from.skip();
     let byte = here.head();

@@ -1,4 +1,6 @@
 // Where and why a text is no query.
+ghost use Rattle.std.specs.Prelude.{◌≡◌};
+ghost use Rattle.mql_parse.specs.FaultWords.{what_word};
 
 /// The place of a fault, and what it is. The place is the length of the longest front of the text that
 /// begins some query.
@@ -60,7 +62,9 @@ pub enum What {
 
 impl What {
     /// The word or the signs as a person reads them.
-    pub fn word(self) -> &'static str {
+    pub fn word(self) -> &'static str
+        ensures text { result.now ≡ what_word self }
+    {
         match self {
             What::Fetch => "fetch",
             What::Name => "name",

@@ -2,7 +2,7 @@
 ghost use Rattle.std.specs.Prelude.{◌≡◌};
 ghost use Rattle.mql_ast.specs.Trees.{predicate_tree};
 ghost use Rattle.mql_parse.specs.Outcomes.{rest_of, Reads};
-ghost use Rattle.mql_parse.specs.Repeats.{repeated};
+ghost use Rattle.mql_parse.specs.Repeats.{repetition};
 ghost use Rattle.mql_parse.specs.PredicateReading as predicates;
 ghost use Rattle.mql_parse.specs.TurnViews.{Turns};
 ghost use Rattle.mql_parse.specs.Views.{filter_seen};
@@ -39,7 +39,8 @@ fn further_conjunctions<'a>(
     first: FilterRead,
     from: Cursor<'a>,
 ) -> Read<'a, FilterRead>
-    ensures read { Reads filter_seen result (repeated (predicates.filter_turn (predicates.conjunction levels)) (filter_seen first) (rest_of from.entry)) }
+    ensures read { Reads filter_seen result
+        (repetition (predicates.filter_turn (predicates.conjunction levels)) (filter_seen first) (rest_of from.entry)) }
 {
     let mut left = first;
     let mut from = from;
@@ -62,7 +63,8 @@ fn further_conjunction<'a>(
     left: FilterRead,
     from: Cursor<'a>,
 ) -> Turn<'a, FilterRead>
-    ensures turn { Turns filter_seen result (predicates.filter_turn (predicates.conjunction levels) (filter_seen left) (rest_of from.entry)) }
+    ensures turn { Turns filter_seen result
+        (predicates.filter_turn (predicates.conjunction levels) (filter_seen left) (rest_of from.entry)) }
 {
     let predicate = left.predicate;
     let bar = from.skip();

@@ -36,7 +36,8 @@ pub fn items<'a>(alloc: Global, levels: u32, from: Cursor<'a>) -> Read<'a, Items
 
 // The items with a further one, and what stands behind it.
 fn further_item<'a>(alloc: Global, levels: u32, items: Items, from: Cursor<'a>) -> Turn<'a, Items>
-    ensures turn { Turns item_trees result (list_turn 93 What.CloseBracket (sums.item_with (sums.sum levels)) (item_trees items) (rest_of from.entry)) }
+    ensures turn { Turns item_trees result
+        (list_turn 93 What.CloseBracket (sums.item_with (sums.sum levels)) (item_trees items) (rest_of from.entry)) }
 {
     let mut items = items;
     let (item, from) = item(alloc, levels, from)?;

@@ -8,12 +8,13 @@ ghost use Rattle.mql_parse.specs.TokenReading as reading;
 use crate::bytes::is_digit;
 use crate::cursor::{Cursor, Read};
 use crate::faults::{ParseKind, What};
+use mon_value::LONGEST_DURATION;
 
 /// The greatest magnitude of a negative number.
 const MOST_NEGATIVE: u64 = 9223372036854775808;
 
 /// The longest duration, in seconds.
-const LONGEST: u64 = 1_000_000_000;
+const LONGEST: u64 = LONGEST_DURATION as u64;
 
 /// A number without a sign, from 0 to the greatest that may stand here.
 #[tactic(auto, unfolding(crate::specs::TokenReading::number))]

@@ -53,7 +53,7 @@ fn read(at: u32, what: OpKind, bar: bool) -> OpRead
 fn filter<'a>(alloc: Global, levels: u32, here: Cursor<'a>) -> Read<'a, OpRead>
     ensures read { Reads op_seen result (pipes.filter_here levels (rest_of here.entry)) }
 {
-    let from = spaced(b"filter", What::Name, here)?;
+    let from = word_apart(b"filter", What::Name, here)?;
     let (filter, from) = predicate(alloc, levels, from)?;
     Ok((
         read(here.at, OpKind::Filter(filter.predicate), filter.bar),
@@ -62,8 +62,12 @@ fn filter<'a>(alloc: Global, levels: u32, here: Cursor<'a>) -> Read<'a, OpRead>
 }
 
 // What is left behind a keyword behind which a name or a number comes, which needs a blank.
-fn spaced<'a>(word: &[u8], next: What, here: Cursor<'a>) -> Result<Cursor<'a>, Refusal<ParseFault>>
-    ensures rest { Leaves result (pipes.spaced word.now next (rest_of here.entry)) }
+fn word_apart<'a>(
+    word: &[u8],
+    next: What,
+    here: Cursor<'a>,
+) -> Result<Cursor<'a>, Refusal<ParseFault>>
+    ensures rest { Leaves result (pipes.word_apart word.now next (rest_of here.entry)) }
 {
     let from = here.exact(word, What::Operation)?;
     from.apart(next)
@@ -92,20 +96,20 @@ fn deed<'a>(alloc: Global, levels: u32, here: Cursor<'a>) -> Read<'a, OpKind>
     }
 }
 
-#[tactic(auto, unfolding(crate::specs::PipeReading::lasting))]
+#[tactic(auto, unfolding(crate::specs::PipeReading::duration_deed))]
 fn every<'a>(here: Cursor<'a>) -> Read<'a, OpKind>
-    ensures read { Reads deed_tree result (pipes.lasting DeedTree.Every (codes "every") (rest_of here.entry)) }
+    ensures read { Reads deed_tree result (pipes.duration_deed DeedTree.Every (codes "every") (rest_of here.entry)) }
 {
-    let from = spaced(b"every", What::Number, here)?;
+    let from = word_apart(b"every", What::Number, here)?;
     let (seconds, from) = duration(from)?;
     Ok((OpKind::Every(seconds), from))
 }
 
-#[tactic(auto, unfolding(crate::specs::PipeReading::lasting))]
+#[tactic(auto, unfolding(crate::specs::PipeReading::duration_deed))]
 fn within<'a>(here: Cursor<'a>) -> Read<'a, OpKind>
-    ensures read { Reads deed_tree result (pipes.lasting DeedTree.Within (codes "within") (rest_of here.entry)) }
+    ensures read { Reads deed_tree result (pipes.duration_deed DeedTree.Within (codes "within") (rest_of here.entry)) }
 {
-    let from = spaced(b"within", What::Number, here)?;
+    let from = word_apart(b"within", What::Number, here)?;
     let (seconds, from) = duration(from)?;
     Ok((OpKind::Within(seconds), from))
 }
@@ -114,7 +118,7 @@ fn within<'a>(here: Cursor<'a>) -> Read<'a, OpKind>
 fn align<'a>(here: Cursor<'a>) -> Read<'a, OpKind>
     ensures read { Reads deed_tree result (pipes.align (rest_of here.entry)) }
 {
-    let from = spaced(b"align", What::Aligner, here)?;
+    let from = word_apart(b"align", What::Aligner, here)?;
     aligner(from.skip())
 }
 
@@ -170,7 +174,7 @@ fn value<'a>(alloc: Global, levels: u32, here: Cursor<'a>) -> Read<'a, OpKind>
 fn top<'a>(alloc: Global, here: Cursor<'a>) -> Read<'a, OpKind>
     ensures read { Reads deed_tree result (pipes.top (rest_of here.entry)) }
 {
-    let from = spaced(b"top", What::Number, here)?;
+    let from = word_apart(b"top", What::Number, here)?;
     let (n, from) = positive(from, MOST_ROWS)?;
     let from = from.sign(b',', What::Comma)?;
     let (column, from) = name(alloc, from)?;

@@ -1,9 +1,12 @@
 // Whole query texts.
-ghost use Rattle.std.specs.Prelude.{◌≡◌};
+ghost use Rattle.std.specs.Prelude.{◌≡◌, ◌<◌, ◌≤◌, length, Ok, Err};
 ghost use Rattle.mon_value.specs.Answers.{GivesView};
-ghost use Rattle.std.specs.Result.{IfOk};
-ghost use Rattle.mql_ast.specs.Grammar.{Spells};
-ghost use Rattle.mql_ast.specs.Trees.{pipe_tree, query_tree};
+ghost use Rattle.std.specs.Result.{IfErr, IfOk};
+ghost use Rattle.mql_ast.specs.Grammar.{Spells, longest_text};
+ghost use Rattle.mql_ast.specs.Trees.{PipeTree, pipe_tree, query_tree};
+ghost use Rattle.mql_parse.specs.FaultDepths.{DepthKind};
+ghost use Rattle.mql_parse.specs.FaultKinds.{FaultKind};
+ghost use Rattle.mql_parse.specs.FaultPlaces.{FaultOf, IsAtLongestFront, too_long};
 ghost use Rattle.mql_parse.specs.Outcomes.{rest_of};
 ghost use Rattle.mql_parse.specs.PipeReading as pipes;
 
@@ -20,17 +23,25 @@ const LONGEST_TEXT: usize = 65_536;
 /// How many levels of braces, parentheses and `!` a text may have.
 const LEVELS: u32 = 64;
 
-/// The query that a text is, or the place and kind of its fault.
+/// The query that a text is, or the place and kind of its fault. A text that a tree spells is read as that
+/// tree, which is the only one. The place is the length of the longest front of the text that begins some
+/// query text; a text above 65,536 bytes has the fault `TooLong` at 65,536.
 pub fn parse(alloc: Global, text: &[u8]) -> Result<Query, Refusal<ParseFault>>
-    ensures exact { GivesView query_tree result (pipes.parsed text.now) }
+    ensures exact { GivesView query_tree result (pipes.text_outcome text.now) }
     ensures spelled { IfOk result (λ query. Spells (query_tree query) text.now) }
+    ensures complete { (tree : PipeTree) → Spells tree text.now → GivesView query_tree result (Ok tree) }
+    ensures place { length text.now ≤ longest_text → IfErr result (FaultOf (IsAtLongestFront text.now)) }
+    ensures kind { length text.now ≤ longest_text → IfErr result (FaultOf (FaultKind text.now)) }
+    ensures depth { length text.now ≤ longest_text → IfErr result (FaultOf (DepthKind text.now)) }
+    ensures too_long { longest_text < length text.now → GivesView query_tree result (Err too_long) }
+    ensures unique { (one other : PipeTree) → Spells one text.now → Spells other text.now → one ≡ other }
 {
     read(alloc, text)
 }
 
-#[tactic(auto, unfolding(crate::specs::PipeReading::parsed))]
+#[tactic(auto, unfolding(crate::specs::PipeReading::text_outcome))]
 fn read(alloc: Global, text: &[u8]) -> Result<Query, Refusal<ParseFault>>
-    ensures exact { GivesView query_tree result (pipes.parsed text.now) }
+    ensures exact { GivesView query_tree result (pipes.text_outcome text.now) }
 {
     if text.len() > LONGEST_TEXT {
         return Err(Refusal::Fault(ParseFault {
@@ -42,7 +53,7 @@ fn read(alloc: Global, text: &[u8]) -> Result<Query, Refusal<ParseFault>>
 }
 
 // A query from the first byte to the last.
-#[tactic(auto, unfolding(crate::specs::PipeReading::query))]
+#[tactic(auto, unfolding(crate::specs::PipeReading::query_within))]
 fn query(alloc: Global, from: Cursor<'_>) -> Result<Query, Refusal<ParseFault>>
     requires { from.at ≡ 0 }
     ensures exact { GivesView query_tree result (pipes.query from.entry.bytes.now) }
@@ -55,7 +66,7 @@ fn query(alloc: Global, from: Cursor<'_>) -> Result<Query, Refusal<ParseFault>>
 }
 
 fn ended(pipe: Pipe, rest: Cursor<'_>) -> Result<Query, Refusal<ParseFault>>
-    ensures exact { GivesView query_tree result (pipes.ended (pipe_tree pipe, rest_of rest.entry)) }
+    ensures exact { GivesView query_tree result (pipes.query_end (pipe_tree pipe, rest_of rest.entry)) }
 {
     if rest.is_end() {
         Ok(Query { pipe })

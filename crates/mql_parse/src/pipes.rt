@@ -3,7 +3,7 @@ ghost use Rattle.std.specs.Prelude.{◌≡◌};
 ghost use Rattle.mql_ast.specs.Rests.{behind};
 ghost use Rattle.mql_ast.specs.Trees.{Branches, branches, deed_tree, pipe_tree, source_tree};
 ghost use Rattle.mql_parse.specs.Outcomes.{rest_of, Reads, itself};
-ghost use Rattle.mql_parse.specs.Repeats.{repeated};
+ghost use Rattle.mql_parse.specs.Repeats.{repetition};
 ghost use Rattle.mql_parse.specs.PipeReading as reading;
 ghost use Rattle.mql_parse.specs.TurnViews.{Turns};
 ghost use Rattle.mql_parse.specs.Views.{op_trees, ops_seen, vec_trees};
@@ -60,7 +60,8 @@ fn fetch<'a>(alloc: Global, here: Cursor<'a>) -> Read<'a, Source>
 #[cycle(pipes)]
 #[tactic(auto, using(crate::proofs::PipeSound::group_deeper, crate::proofs::PipeSound::group_too_deep))]
 fn group<'a>(alloc: Global, levels: u32, here: Cursor<'a>) -> Read<'a, Source>
-    ensures read { Reads source_tree result (reading.pipe_group levels (rest_of here.entry) (behind (rest_of here.entry))) }
+    ensures read { Reads source_tree result
+        (reading.pipe_group levels (rest_of here.entry) (behind (rest_of here.entry))) }
 {
     if levels == 0 {
         return Err(here.fault(ParseKind::TooDeep));
@@ -89,7 +90,8 @@ fn further_branches<'a>(
     first: Vec<Pipe>,
     from: Cursor<'a>,
 ) -> Read<'a, Vec<Pipe>>
-    ensures read { Reads vec_trees result (repeated (reading.branch_turn (reading.pipe levels)) (vec_trees first) (rest_of from.entry)) }
+    ensures read { Reads vec_trees result
+        (repetition (reading.branch_turn (reading.pipe levels)) (vec_trees first) (rest_of from.entry)) }
 {
     let mut pipes = first;
     let mut from = from;
@@ -114,7 +116,8 @@ fn further_branch<'a>(
     pipes: Vec<Pipe>,
     from: Cursor<'a>,
 ) -> Turn<'a, Vec<Pipe>>
-    ensures turn { Turns vec_trees result (reading.branch_turn (reading.pipe levels) (vec_trees pipes) (rest_of from.entry)) }
+    ensures turn { Turns vec_trees result
+        (reading.branch_turn (reading.pipe levels) (vec_trees pipes) (rest_of from.entry)) }
 {
     let mut pipes = pipes;
     let (pipe, from) = pipe(alloc, levels, from)?;
@@ -131,9 +134,9 @@ fn further_branch<'a>(
 }
 
 // What becomes of branches that were read, behind their last brace.
-#[tactic(auto, unfolding(crate::specs::PipeReading::joined))]
+#[tactic(auto, unfolding(crate::specs::PipeReading::branches_how))]
 fn joined<'a>(at: u32, pipes: Vec<Pipe>, from: Cursor<'a>) -> Read<'a, Source>
-    ensures read { Reads source_tree result (reading.joined at (vec_trees pipes) (rest_of from.entry)) }
+    ensures read { Reads source_tree result (reading.branches_how at (vec_trees pipes) (rest_of from.entry)) }
 {
     let from = from.sign(b'|', What::Bar)?;
     let start = from.skip();
@@ -193,7 +196,8 @@ fn further_operations<'a>(
     first: OpsRead,
     from: Cursor<'a>,
 ) -> Read<'a, OpsRead>
-    ensures read { Reads ops_seen result (repeated (reading.operation_turn levels) (ops_seen first) (rest_of from.entry)) }
+    ensures read { Reads ops_seen result
+        (repetition (reading.operation_turn levels) (ops_seen first) (rest_of from.entry)) }
 {
     let mut read = first;
     let mut from = from;

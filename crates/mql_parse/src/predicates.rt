@@ -4,7 +4,7 @@ ghost use Rattle.mql_ast.specs.Rests.{behind};
 ghost use Rattle.mql_ast.specs.Trees as PredicateTree;
 ghost use Rattle.mql_ast.specs.Trees.{predicate_tree};
 ghost use Rattle.mql_parse.specs.Outcomes.{rest_of, Reads};
-ghost use Rattle.mql_parse.specs.Repeats.{repeated};
+ghost use Rattle.mql_parse.specs.Repeats.{repetition};
 ghost use Rattle.mql_parse.specs.PredicateReading as predicates;
 ghost use Rattle.mql_parse.specs.TurnViews.{Turns};
 
@@ -33,7 +33,8 @@ fn further_negations<'a>(
     first: Predicate,
     from: Cursor<'a>,
 ) -> Read<'a, Predicate>
-    ensures read { Reads predicate_tree result (repeated (predicates.and_turn (predicates.negation levels)) (predicate_tree first) (rest_of from.entry)) }
+    ensures read { Reads predicate_tree result
+        (repetition (predicates.and_turn (predicates.negation levels)) (predicate_tree first) (rest_of from.entry)) }
 {
     let mut left = first;
     let mut from = from;
@@ -57,7 +58,8 @@ fn further_negation<'a>(
     left: Predicate,
     from: Cursor<'a>,
 ) -> Turn<'a, Predicate>
-    ensures turn { Turns predicate_tree result (predicates.and_turn (predicates.negation levels) (predicate_tree left) (rest_of from.entry)) }
+    ensures turn { Turns predicate_tree result
+        (predicates.and_turn (predicates.negation levels) (predicate_tree left) (rest_of from.entry)) }
 {
     let sign = from.skip();
     if sign.head() != b'&' {
@@ -88,7 +90,8 @@ fn further_conjunctions<'a>(
     first: Predicate,
     from: Cursor<'a>,
 ) -> Read<'a, Predicate>
-    ensures read { Reads predicate_tree result (repeated (predicates.or_turn (predicates.conjunction levels)) (predicate_tree first) (rest_of from.entry)) }
+    ensures read { Reads predicate_tree result
+        (repetition (predicates.or_turn (predicates.conjunction levels)) (predicate_tree first) (rest_of from.entry)) }
 {
     let mut left = first;
     let mut from = from;
@@ -112,7 +115,8 @@ fn further_conjunction<'a>(
     left: Predicate,
     from: Cursor<'a>,
 ) -> Turn<'a, Predicate>
-    ensures turn { Turns predicate_tree result (predicates.or_turn (predicates.conjunction levels) (predicate_tree left) (rest_of from.entry)) }
+    ensures turn { Turns predicate_tree result
+        (predicates.or_turn (predicates.conjunction levels) (predicate_tree left) (rest_of from.entry)) }
 {
     let sign = from.skip();
     if sign.head() != b'|' {
@@ -149,7 +153,8 @@ fn negation<'a>(alloc: Global, levels: u32, from: Cursor<'a>) -> Read<'a, Predic
 #[cycle(predicates)]
 #[tactic(auto, using(crate::proofs::PredicateSound::opposite_deeper, crate::proofs::PredicateSound::too_deep))]
 fn opposite<'a>(alloc: Global, levels: u32, here: Cursor<'a>) -> Read<'a, Predicate>
-    ensures read { Reads predicate_tree result (predicates.deeper levels predicates.Opposite (rest_of here.entry) (behind (rest_of here.entry))) }
+    ensures read { Reads predicate_tree result
+        (predicates.deeper levels predicates.Opposite (rest_of here.entry) (behind (rest_of here.entry))) }
 {
     if levels == 0 {
         return Err(here.fault(ParseKind::TooDeep));
@@ -162,7 +167,8 @@ fn opposite<'a>(alloc: Global, levels: u32, here: Cursor<'a>) -> Read<'a, Predic
 #[cycle(predicates)]
 #[tactic(auto, using(crate::proofs::PredicateSound::group_deeper, crate::proofs::PredicateSound::too_deep))]
 fn group<'a>(alloc: Global, levels: u32, here: Cursor<'a>) -> Read<'a, Predicate>
-    ensures read { Reads predicate_tree result (predicates.deeper levels predicates.Group (rest_of here.entry) (behind (rest_of here.entry))) }
+    ensures read { Reads predicate_tree result
+        (predicates.deeper levels predicates.Group (rest_of here.entry) (behind (rest_of here.entry))) }
 {
     if levels == 0 {
         return Err(here.fault(ParseKind::TooDeep));
@@ -179,7 +185,8 @@ fn not(alloc: Global, inner: Predicate) -> Result<Predicate, AllocError>
 }
 
 fn both(alloc: Global, left: Predicate, right: Predicate) -> Result<Predicate, AllocError>
-    ensures tree { IfOk result (λ x. predicate_tree x ≡ PredicateTree.And (predicate_tree left) (predicate_tree right)) }
+    ensures tree { IfOk result
+        (λ x. predicate_tree x ≡ PredicateTree.And (predicate_tree left) (predicate_tree right)) }
 {
     let left = Box::new(alloc, left)?;
     let right = Box::new(alloc, right)?;

@@ -92,7 +92,7 @@ pub fn text<'a>(alloc: Global, from: Cursor<'a>) -> Read<'a, Text>
     'bytes: while !from.is_end() {
         let byte = from.head();
         match text_step(state, byte) {
-            TextStep::End => return finished(alloc, content.as_slice(), from),
+            TextStep::End => return text_end(alloc, content.as_slice(), from),
             TextStep::Pass(next) => state = next,
             TextStep::Keep(next) => {
                 content.push(byte)?;
@@ -139,8 +139,9 @@ fn text_step(state: Open, byte: u8) -> TextStep
 }
 
 // The text of the content up to the quote here.
-fn finished<'a>(alloc: Global, content: &[u8], from: Cursor<'a>) -> Read<'a, Text>
-    ensures read { Reads itself result (reading.finished (text_in content.now) (rest_of from.entry) (behind (rest_of from.entry))) }
+fn text_end<'a>(alloc: Global, content: &[u8], from: Cursor<'a>) -> Read<'a, Text>
+    ensures read { Reads itself result
+        (reading.text_end (text_in content.now) (rest_of from.entry) (behind (rest_of from.entry))) }
 {
     match Text::from_utf8(alloc, content)? {
         Some(text) => Ok((text, from.behind())),

@@ -3,7 +3,7 @@ ghost use Rattle.std.specs.Prelude.{◌≡◌, IfOk};
 ghost use Rattle.mql_ast.specs.Rests.{behind};
 ghost use Rattle.mql_ast.specs.Tokens.{word_here};
 ghost use Rattle.mql_parse.specs.Outcomes.{rest_of, Reads};
-ghost use Rattle.mql_parse.specs.Repeats.{repeated};
+ghost use Rattle.mql_parse.specs.Repeats.{repetition};
 ghost use Rattle.mql_ast.specs.Trees as SumTree;
 ghost use Rattle.mql_parse.specs.SumReading as sums;
 ghost use Rattle.mql_parse.specs.TurnViews.{Turns};
@@ -46,7 +46,8 @@ fn further_terms<'a>(
     first: SumRead,
     from: Cursor<'a>,
 ) -> Read<'a, SumRead>
-    ensures read { Reads sum_seen result (repeated (sums.term_turn (sums.term levels)) (sum_seen first) (rest_of from.entry)) }
+    ensures read { Reads sum_seen result
+        (repetition (sums.term_turn (sums.term levels)) (sum_seen first) (rest_of from.entry)) }
 {
     let mut left = first;
     let mut from = from;
@@ -88,7 +89,7 @@ fn further_term<'a>(
 
 // A sum and a further term.
 fn added(alloc: Global, left: SumRead, right: SumRead) -> Result<SumRead, AllocError>
-    ensures sum { IfOk result (λ x. sum_seen x ≡ sums.added (sum_seen left) (sum_seen right)) }
+    ensures sum { IfOk result (λ x. sum_seen x ≡ sums.sum_plus (sum_seen left) (sum_seen right)) }
 {
     let bare = right.bare;
     let left = Box::new(alloc, left.sum)?;
@@ -101,7 +102,7 @@ fn added(alloc: Global, left: SumRead, right: SumRead) -> Result<SumRead, AllocE
 
 // A sum without a further term.
 fn taken(alloc: Global, left: SumRead, right: SumRead) -> Result<SumRead, AllocError>
-    ensures sum { IfOk result (λ x. sum_seen x ≡ sums.taken (sum_seen left) (sum_seen right)) }
+    ensures sum { IfOk result (λ x. sum_seen x ≡ sums.sum_minus (sum_seen left) (sum_seen right)) }
 {
     let bare = right.bare;
     let left = Box::new(alloc, left.sum)?;
@@ -145,7 +146,7 @@ fn group<'a>(alloc: Global, levels: u32, here: Cursor<'a>) -> Read<'a, SumRead>
 
 // A sum that was read, up to the parenthesis behind it.
 fn closed<'a>(inner: SumRead, from: Cursor<'a>) -> Read<'a, SumRead>
-    ensures read { Reads sum_seen result (sums.closed (sum_seen inner, rest_of from.entry)) }
+    ensures read { Reads sum_seen result (sums.sum_end (sum_seen inner, rest_of from.entry)) }
 {
     let from = from.sign(b')', behind_sum(inner.bare))?;
     Ok((
@@ -205,7 +206,7 @@ fn is_percentile(word: &Name) -> bool
 }
 
 fn of_column(column: Name, bare: bool) -> SumRead
-    ensures { sum_seen result ≡ sums.seen (SumTree.Column column) bare }
+    ensures { sum_seen result ≡ sums.seen_sum (SumTree.Column column) bare }
 {
     SumRead {
         sum: Expr::Column(column),

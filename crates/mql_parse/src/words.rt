@@ -28,7 +28,7 @@ pub fn name<'a>(alloc: Global, from: Cursor<'a>) -> Read<'a, Name>
 /// The letters, digits and `_` that stand here.
 #[tactic(auto, using(crate::proofs::WordLemmas::word_shorter))]
 pub fn word<'a>(alloc: Global, from: Cursor<'a>) -> Read<'a, Name>
-    ensures read { Reads itself result (outcomes.reached (word_here (rest_of from.entry))) }
+    ensures read { Reads itself result (outcomes.outcome_of (word_here (rest_of from.entry))) }
 {
     let at = from.at;
     let mut text = String::new(alloc);
@@ -66,7 +66,8 @@ pub fn metric<'a>(alloc: Global, from: Cursor<'a>) -> Read<'a, Name>
 
 // The bytes of a metric behind its first slash, which are put behind the text.
 fn metric_bytes<'a>(text: &mut String, from: Cursor<'a>) -> Result<Cursor<'a>, Refusal<ParseFault>>
-    ensures read { Adds (string_bytes text.old) (string_bytes text.new) result (reading.metric_from true from.entry.at from.entry.bytes.now) }
+    ensures read { Adds (string_bytes text.old) (string_bytes text.new) result
+        (reading.metric_from true from.entry.at from.entry.bytes.now) }
 {
     let mut from = from;
     let mut after_slash = true;

@@ -1,7 +1,7 @@
 -- What is left goes on the sum so far to the same sum.
 use Rattle.std.proofs.Common.{◌≡◌, ◌+◌, ◌*◌, length}
 use Rattle.mql_parse.specs.Outcomes.{rest_of}
-use Rattle.mql_parse.specs.Repeats.{repeated}
+use Rattle.mql_parse.specs.Repeats.{repetition}
 use Rattle.mql_parse.specs.SumReading.{term, term_turn}
 use Rattle.mql_parse.specs.Views.{sum_seen}
 use Rattle.mql_parse.proofs.sums.+sums.Given as goal
@@ -23,7 +23,7 @@ decreases-group l = 5 * l.levels
 
 abbrev pub invariant-further_terms-terms : goal.invariant-further_terms-terms
 invariant-further_terms-terms l =
-    repeated (term_turn (term l.levels)) (sum_seen l.left) (rest_of l.from) ≡ repeated (term_turn (term l.fn.levels)) (sum_seen l.fn.first) (rest_of l.fn.from)
+    repetition (term_turn (term l.levels)) (sum_seen l.left) (rest_of l.from) ≡ repetition (term_turn (term l.fn.levels)) (sum_seen l.fn.first) (rest_of l.fn.from)
 
 abbrev pub decreases-further_terms-terms : goal.decreases-further_terms-terms
 decreases-further_terms-terms l = length l.from.bytes.now

@@ -1,0 +1,476 @@
+-- What was read of a list before its fault can be completed.
+use Rattle.std.proofs.Common.{◌≡◌, ℕ, true, false, ◌==◌, ◌⊎◌, inl, inr, List, [], ◌∷◌, ◌++◌, codes, refl, sym, ap, ◌∙◌, subst, append_assoc, Option, Some, None, IfSome, Ok, Err}
+use Rattle.mon_value.specs.Answers.{◌>>=◌}
+use Rattle.mql_ast.specs.declared.names.Name.{Name}
+use Rattle.mql_ast.specs.declared.operations.Aggregate.{Aggregate}
+use Rattle.mql_ast.specs.declared.operations.FoldWord.{FoldWord}
+use Rattle.mql_ast.specs.declared.operations.FoldWord.TheVariants as fold
+use Rattle.mql_ast.specs.Trees.{ItemTree}
+use Rattle.mql_ast.specs.Rests.{Rest, head, behind, skip}
+use Rattle.mql_ast.specs.Grammar as grammar
+use Rattle.mql_ast.specs.Grammar.{NameList, one_name, more_names, fold_named, Folded, counted, Folding, unnamed, named, FoldingList, one_folding, more_foldings, ItemOf, single, labelled, ItemList, one_item, more_items}
+use Rattle.mql_parse.specs.declared.faults.What.{What}
+use Rattle.mql_parse.specs.declared.faults.What.TheVariants as what
+use Rattle.mql_parse.specs.Outcomes.{Outcome, unexpected, exact, sign, map_outcome, up_to}
+use Rattle.mql_parse.specs.Repeats.{Done, Again, Stuck, list_or_end, list_turn, repetition}
+use Rattle.mql_parse.specs.TokenReading as reading
+use Rattle.mql_parse.specs.SumReading as sums
+use Rattle.mql_parse.specs.Folds as folds
+use Rattle.mql_parse.proofs.ListSound.{names_turn_behind, items_turn_behind, aggregates_turn_behind, fold_of_sound}
+use Rattle.mql_parse.proofs.Endings.{Anyhow, Worded, Parted, Text, Then, join, changed, worded, anyhow, Default, Finish, finish_before, Ends, behind_read, Reads, stay, as_it_is, cut_as, cut_then, bind_ends, ends_as, done_ends, if_ends, TurnEnds, if_turns, on_read_ends, loop_ends}
+use Rattle.mql_parse.proofs.TokenEndings.{at_place, AreBlanks, skip_cut, wrong, wrong_here, IsSign, SignSpan, sign_text, sign_cut, sign_ends, sign_default, WordSpan, word_text, exact_ends, all_nonzero, NamedSpan, NameSpan, some_name, named_ends, name_ends, name_default, open_parenthesis, close_parenthesis, close_bracket, comma, colon}
+use Rattle.mql_parse.proofs.SumEndings.{SumText, sum_ends}
+use Rattle.mql_parse.proofs.ValueEndings.{FirstByte, first_is, byte_is, first_joined}
+use Rattle.mql_parse.proofs.Loops.{GoesBehind}
+
+-- a part, one list of such parts, and the sign that ends it
+module _ {A : Type 0} (part : Rest → Outcome A) (close : ℕ) (what : What) (closes : IsSign close)
+    (behind_turn : GoesBehind (list_turn close what part)) (Part Parts : List ℕ → List ℕ → Type 0)
+    (parted : (s : Rest) → Reads (Text Anyhow false Part) s (part s)) (one : (x z : List ℕ) → Part x z → Parts x z)
+    (more : (x z : List ℕ) → Then (Then Parts (SignSpan 44)) Part x z → Parts x z) where
+  -- where a further part comes: at the front, or behind a comma
+  abbrev Wanted : List ℕ → Type 0
+  Wanted w = (w ≡ []) ⊎ Text Anyhow true (Then Parts (SignSpan 44)) w
+
+  abbrev Listed : List ℕ → Type 0
+  Listed = Text Anyhow true (Then Parts (SignSpan close))
+
+  grown : (w v : List ℕ) → Wanted w → Text Anyhow false Part v → Text Anyhow false Parts (w ++ v)
+  grown w v (inl e) f = subst (λ t. Text Anyhow false Parts (t ++ v)) (sym e) (changed one v f)
+  grown w v (inr f) g = changed more (w ++ v) (join w v refl f g)
+
+  listed : (w v u : List ℕ) → Wanted w → Text Anyhow false Part v → Text Parted true (SignSpan close) u →
+      Listed (w ++ (v ++ u))
+  listed w v u f g h = subst Listed (append_assoc w v u) (join (w ++ v) u refl (grown w v f g) h)
+
+  further : (w v u : List ℕ) → Wanted w → Text Anyhow false Part v → Text Parted true (SignSpan 44) u →
+      Wanted (w ++ (v ++ u))
+  further w v u f g h =
+      inr (subst (Text Anyhow true (Then Parts (SignSpan 44))) (append_assoc w v u)
+      (join (w ++ v) u refl (grown w v f g) h))
+
+  list_turn_ends : (so_far : List A) (s : Rest) (w : List ℕ) → Wanted w →
+      TurnEnds (λ a v. Wanted (w ++ v)) (λ a v. Listed (w ++ v)) (λ v. Listed (w ++ v)) s
+      (list_turn close what part so_far s)
+  list_turn_ends so_far s w f =
+      on_read_ends s (list_or_end close what so_far) (part s) (parted s)
+      (λ v g. record { text = close ∷ []; is = listed w v (close ∷ []) f g (sign_text close closes [] tt) })
+      (λ x v g. let t = skip x.1 in let all = so_far ++ x.0 ∷ [] in
+      if_turns x.1 (head t == 44) (Again all (behind t)) _
+      (λ h. record { way = cut_as x.1 (behind t) (sign_cut 44 comma x.1 h) (λ u k. further w v u f g k) })
+      (λ _. if_turns x.1 (head t == close) (Done all (behind t)) (Stuck (unexpected what t))
+      (λ h. record { way = cut_as x.1 (behind t) (sign_cut close closes x.1 h) (λ u k. listed w v u f g k) })
+      (λ _. record {
+        way = wrong x.1 (close ∷ [])
+            (λ bs e. listed w v (bs ++ close ∷ []) f g (sign_text close closes bs e));
+      })))
+
+  pub list_ends : (s : Rest) → Reads (Text Anyhow true (Then Parts (SignSpan close))) s
+      (repetition (list_turn close what part) [] s)
+  list_ends s =
+      loop_ends (list_turn close what part) behind_turn (λ a w. Wanted w) (λ a w. Listed w) Listed list_turn_ends [] s
+      [] (inl refl)
+
+-- names between brackets
+abbrev NamesSpan : List ℕ → List ℕ → Type 0
+NamesSpan x z = (at : ℕ) → (n : ℕ × List Name) × NameList (at_place at x) (at_place n.0 z) n.1
+
+abbrev pub GroupingSpan : List ℕ → List ℕ → Type 0
+GroupingSpan x z = (at : ℕ) → (n : ℕ × List Name) × grammar.Grouping (at_place at x) (at_place n.0 z) n.1
+
+-- from behind the bracket
+abbrev pub InGrouping : List ℕ → List ℕ → Type 0
+InGrouping x z = SignSpan 93 x z ⊎ Then NamesSpan (SignSpan 93) x z
+
+pub grouping_span : (x z : List ℕ) → Then (SignSpan 91) InGrouping x z → GroupingSpan x z
+grouping_span x z k = either k.second
+  where
+    either : InGrouping k.between z → GroupingSpan x z
+    either (inl f) = λ at. let a = k.first at in let b = f a.0 in ((b.0, []), grammar.no_names a.1 b.1)
+    either (inr f) = λ at. let a = k.first at in let b = f.first a.0 in let c = f.second b.0.0 in
+        ((c.0, b.0.1), grammar.some_names a.1 b.1 c.1)
+
+some_names_ends : (s : Rest) → Reads (Text Anyhow true (Then NamesSpan (SignSpan 93))) s
+    (repetition (list_turn 93 what.CloseBracket reading.name) [] s)
+some_names_ends =
+    list_ends reading.name 93 what.CloseBracket close_bracket names_turn_behind NameSpan NamesSpan
+    (λ s. ends_as s (reading.name s) (name_ends s) (λ x w f. anyhow w f) (λ w f. anyhow w f))
+    (λ x z f at. let n = f at in ((n.0.0, n.0.1 ∷ []), one_name n.1))
+    (λ x z k at. let a = k.first.first at in let b = k.first.second a.0.0 in let c = k.second b.0 in
+    ((c.0.0, a.0.1 ++ c.0.1 ∷ []), more_names a.1 b.1 c.1))
+
+pub names_ends : (s : Rest) → Reads (Text Anyhow true InGrouping) s (folds.names s)
+unfolding folds.names
+names_ends s = if_ends s (head (skip s) == 93) (Ok ([], behind (skip s))) _
+    (λ h. record {
+      way = cut_as s (behind (skip s)) (sign_cut 93 close_bracket s h)
+          (λ w f. changed (λ x z k. inl k) w (anyhow w f));
+    })
+    (λ _. ends_as s (repetition (list_turn 93 what.CloseBracket reading.name) [] s) (some_names_ends s)
+    (λ x w f. changed (λ x z k. inr k) w f) (λ w f. changed (λ x z k. inr k) w f))
+
+-- `]`
+pub names_default : Default (Text Anyhow true InGrouping)
+names_default =
+    record {
+      text = 93 ∷ [];
+      is = changed (λ x z k. inl k) (93 ∷ [])
+          (anyhow (93 ∷ []) (sign_text 93 close_bracket [] tt));
+    }
+
+-- items
+abbrev ItemSpan : ℕ → List ℕ → List ℕ → Type 0
+ItemSpan d x z = (at : ℕ) → (n : ℕ × ItemTree) × ItemOf d (at_place at x) (at_place n.0 z) n.1
+
+abbrev pub ItemsSpan : ℕ → List ℕ → List ℕ → Type 0
+ItemsSpan d x z = (at : ℕ) → (n : ℕ × List ItemTree) × ItemList d (at_place at x) (at_place n.0 z) n.1
+
+abbrev ItemText : ℕ → List ℕ → Type 0
+ItemText d = Text Anyhow false (ItemSpan d)
+
+single_text : (d : ℕ) (w : List ℕ) → Text Worded false NameSpan w → ItemText d w
+single_text d w f = anyhow w (changed (λ x z k at. let n = k at in ((n.0.0, sums.single n.0.1), single n.1)) w f)
+
+labelled_text : (d : ℕ) (w v u : List ℕ) → Text Worded false NameSpan w → Text Parted true (SignSpan 58) v →
+    SumText d u → ItemText d (w ++ (v ++ u))
+labelled_text d w v u f g h =
+    anyhow (w ++ (v ++ u))
+    (changed (λ x z k at. let a = k.first at in let b = k.second.first a.0.0 in let c = k.second.second b.0 in
+    ((c.0.0, sums.labelled_item a.0.1 c.0.1), labelled a.1 b.1 c.1)) (w ++ (v ++ u))
+    (join w (v ++ u) refl f (join v u refl g h)))
+
+item_ends : (d : ℕ) (s : Rest) → Reads (ItemText d) s (sums.item_with (sums.sum d) s)
+unfolding sums.item_with
+item_ends d s =
+    bind_ends s (reading.name s) (sums.item_behind (sums.sum d)) (name_ends s)
+    (λ w f. as_it_is (ItemText d) w (single_text d w f))
+    (λ x w f. let m = behind (skip x.1) in
+    if_ends x.1 (head (skip x.1) == 58) (map_outcome (sums.labelled_sum x.0) (sums.sum d m)) (Ok (sums.single x.0, x.1))
+    (λ h. cut_then x.1 m (map_outcome (sums.labelled_sum x.0) (sums.sum d m)) (sign_cut 58 colon x.1 h) (λ v g.
+    done_ends m (sums.sum d m) (λ y. (sums.labelled_sum x.0 y.0, y.1))
+    (ends_as m (sums.sum d m) (sum_ends d m) (λ y u k. labelled_text d w v u f g k)
+    (λ u k. labelled_text d w v u f g k)) (λ y. refl) (λ y u k. k)))
+    (λ h. record { way = stay (ItemText d) x.1 w (single_text d w f) }))
+
+pub items_ends : (d : ℕ) (s : Rest) → Reads (Text Anyhow true (Then (ItemsSpan d) (SignSpan 93))) s (sums.items d s)
+unfolding sums.items_with
+items_ends d =
+    list_ends (sums.item_with (sums.sum d)) 93 what.CloseBracket close_bracket (items_turn_behind d) (ItemSpan d)
+    (ItemsSpan d) (item_ends d)
+    (λ x z f at. let n = f at in ((n.0.0, n.0.1 ∷ []), one_item n.1))
+    (λ x z k at. let a = k.first.first at in let b = k.first.second a.0.0 in let c = k.second b.0 in
+    ((c.0.0, a.0.1 ++ c.0.1 ∷ []), more_items a.1 b.1 c.1))
+
+-- ` a]`
+pub items_default : (d : ℕ) → Default (Text Anyhow true (Then (ItemsSpan d) (SignSpan 93)))
+items_default d = record {
+  text = name_default.text ++ 93 ∷ [];
+  is = join name_default.text (93 ∷ []) refl
+      (changed (λ x z f at. let n = f at in ((n.0.0, n.0.1 ∷ []), one_item n.1)) name_default.text
+      (single_text d name_default.text (worded name_default.text name_default.is)))
+      (sign_text 93 close_bracket [] tt);
+}
+
+-- the words of folds
+abbrev FoldWordText : FoldWord → List ℕ → Type 0
+FoldWordText f = Text Anyhow true (WordSpan (fold_named f))
+
+abbrev AnyFoldWord : List ℕ → Type 0
+AnyFoldWord w = (f : FoldWord) × FoldWordText f w
+
+read_as_ends : (L : FoldWord → List ℕ → Type 0) (f : FoldWord) (end : List ℕ) → all_nonzero end ≡ true → (m : Rest) →
+    L f end → Ends behind_read (λ x u. L x.0 u) (λ u. (g : FoldWord) × L g u) m (folds.read_as f end m)
+read_as_ends L f end nonzero m h =
+    done_ends m (exact what.Aggregate end m) (λ r. (f, r))
+    (ends_as m (exact what.Aggregate end m) (exact_ends what.Aggregate end nonzero m) (λ r u g. subst (L f) (sym g) h)
+    (λ u g. (f, subst (L f) (sym g) h))) (λ r. refl) (λ r u k. k)
+
+-- a word that is read from its first byte on
+whole_ends : (s : Rest) (f : FoldWord) (c : ℕ) (cs : List ℕ) → all_nonzero (c ∷ cs) ≡ true →
+    ((bs : List ℕ) → AreBlanks bs → FoldWordText f (bs ++ c ∷ cs)) →
+    Ends behind_read (λ x. FoldWordText x.0) AnyFoldWord s (folds.read_as f (c ∷ cs) (skip s))
+whole_ends s f c cs nonzero h =
+    cut_then s (skip s) (folds.read_as f (c ∷ cs) (skip s)) (skip_cut s)
+    (λ bs e. read_as_ends (λ g u. FoldWordText g (bs ++ u)) f (c ∷ cs) nonzero (skip s) (h bs e))
+
+count_text : (bs : List ℕ) → AreBlanks bs → FoldWordText fold.Count (bs ++ codes "count")
+count_text bs e = word_text Anyhow 99 (codes "ount") refl tt bs e
+
+sum_word_text : (bs : List ℕ) → AreBlanks bs → FoldWordText fold.Sum (bs ++ codes "sum")
+sum_word_text bs e = word_text Anyhow 115 (codes "um") refl tt bs e
+
+aggregate_text : (bs : List ℕ) → AreBlanks bs → FoldWordText fold.Aggregate (bs ++ codes "aggregate")
+aggregate_text bs e = word_text Anyhow 97 (codes "ggregate") refl tt bs e
+
+-- a word that begins with `m`
+m_text : (f : FoldWord) (cs : List ℕ) → fold_named f ≡ 109 ∷ cs → (v u : List ℕ) → FirstByte 109 v → u ≡ cs →
+    FoldWordText f (v ++ u)
+m_text f cs spelled v u c e =
+    first_joined (FoldWordText f) 109 v u cs c e (subst (λ t. Text Anyhow true (WordSpan t) (c.0 ++ 109 ∷ cs))
+    (sym spelled) (word_text Anyhow 109 cs refl tt c.0 c.1.0))
+
+behind_me_ends : (m : Rest) (v u : List ℕ) → FirstByte 109 v → u ≡ 101 ∷ [] →
+    Ends behind_read (λ x y. FoldWordText x.0 (v ++ (u ++ y))) (λ y. AnyFoldWord (v ++ (u ++ y))) m
+    (folds.fold_behind_me m)
+behind_me_ends m v u c e =
+    let text : (f : FoldWord) (b : ℕ) (end y : List ℕ) → fold_named f ≡ 109 ∷ 101 ∷ b ∷ end → y ≡ b ∷ [] →
+    FoldWordText f (v ++ (u ++ (y ++ end))) =
+    λ f b end y spelled g. m_text f (101 ∷ b ∷ end) spelled v (u ++ (y ++ end)) c (ap (λ t. t ++ (y ++ end)) e
+    ∙ ap (λ t. 101 ∷ (t ++ end)) g) in
+    if_ends m (head m == 97) (folds.read_as fold.Mean (codes "n") (behind m)) _
+    (λ h. cut_then m (behind m) (folds.read_as fold.Mean (codes "n") (behind m)) (byte_is 97 refl m h)
+    (λ y g. read_as_ends (λ f q. FoldWordText f (v ++ (u ++ (y ++ q)))) fold.Mean (codes "n") refl (behind m)
+    (text fold.Mean 97 (codes "n") y refl g)))
+    (λ _. if_ends m (head m == 114) (folds.read_as fold.Merge (codes "ge") (behind m))
+    (Err (unexpected what.Aggregate m))
+    (λ h. cut_then m (behind m) (folds.read_as fold.Merge (codes "ge") (behind m)) (byte_is 114 refl m h)
+    (λ y g. read_as_ends (λ f q. FoldWordText f (v ++ (u ++ (y ++ q)))) fold.Merge (codes "ge") refl (behind m)
+    (text fold.Merge 114 (codes "ge") y refl g)))
+    (λ _. record { way = wrong_here m (codes "an") (fold.Mean, text fold.Mean 97 (codes "n") (97 ∷ []) refl refl) }))
+
+behind_m_ends : (m : Rest) (v : List ℕ) → FirstByte 109 v → Ends behind_read (λ x u. FoldWordText x.0 (v ++ u))
+    (λ u. AnyFoldWord (v ++ u)) m (folds.fold_behind_m m)
+unfolding folds.fold_behind_m
+behind_m_ends m v c =
+    let text : (f : FoldWord) (b : ℕ) (end u : List ℕ) → fold_named f ≡ 109 ∷ b ∷ end → u ≡ b ∷ [] →
+    FoldWordText f (v ++ (u ++ end)) =
+    λ f b end u spelled g. m_text f (b ∷ end) spelled v (u ++ end) c (ap (λ t. t ++ end) g) in
+    if_ends m (head m == 105) (folds.read_as fold.Min (codes "n") (behind m)) _
+    (λ h. cut_then m (behind m) (folds.read_as fold.Min (codes "n") (behind m)) (byte_is 105 refl m h)
+    (λ u g. read_as_ends (λ f q. FoldWordText f (v ++ (u ++ q))) fold.Min (codes "n") refl (behind m)
+    (text fold.Min 105 (codes "n") u refl g)))
+    (λ _. if_ends m (head m == 97) (folds.read_as fold.Max (codes "x") (behind m)) _
+    (λ h. cut_then m (behind m) (folds.read_as fold.Max (codes "x") (behind m)) (byte_is 97 refl m h)
+    (λ u g. read_as_ends (λ f q. FoldWordText f (v ++ (u ++ q))) fold.Max (codes "x") refl (behind m)
+    (text fold.Max 97 (codes "x") u refl g)))
+    (λ _. if_ends m (head m == 101) (folds.fold_behind_me (behind m)) (Err (unexpected what.Aggregate m))
+    (λ h. cut_then m (behind m) (folds.fold_behind_me (behind m)) (byte_is 101 refl m h)
+    (λ u g. behind_me_ends (behind m) v u c g))
+    (λ _. record { way = wrong_here m (codes "in") (fold.Min, text fold.Min 105 (codes "n") (105 ∷ []) refl refl) })))
+
+fold_here_ends : (s : Rest) → Ends behind_read (λ x. FoldWordText x.0) AnyFoldWord s (folds.fold_here (skip s))
+unfolding folds.fold_here
+fold_here_ends s =
+    let t = skip s in
+    if_ends s (head t == 99) (folds.read_as fold.Count (codes "count") t) _
+    (λ _. whole_ends s fold.Count 99 (codes "ount") refl count_text)
+    (λ _. if_ends s (head t == 115) (folds.read_as fold.Sum (codes "sum") t) _
+    (λ _. whole_ends s fold.Sum 115 (codes "um") refl sum_word_text)
+    (λ _. if_ends s (head t == 97) (folds.read_as fold.Aggregate (codes "aggregate") t) _
+    (λ _. whole_ends s fold.Aggregate 97 (codes "ggregate") refl aggregate_text)
+    (λ _. if_ends s (head t == 109) (folds.fold_behind_m (behind t)) (Err (unexpected what.Aggregate t))
+    (λ h. cut_then s (behind t) (folds.fold_behind_m (behind t)) (first_is 109 refl s h)
+    (λ v c. behind_m_ends (behind t) v c))
+    (λ _. record { way = wrong s (codes "sum") (λ bs e. (fold.Sum, sum_word_text bs e)) }))))
+
+-- folds
+abbrev FoldedSpan : FoldWord → List ℕ → List ℕ → Type 0
+FoldedSpan f x z = (at : ℕ) → (n : ℕ × Option Name) × Folded f (at_place at x) (at_place n.0 z) n.1
+
+abbrev FoldedText : FoldWord → List ℕ → Type 0
+FoldedText f = Text Parted true (FoldedSpan f)
+
+counted_text : (v u : List ℕ) → Text Parted true (SignSpan 40) v → Text Parted true (SignSpan 41) u →
+    FoldedText fold.Count (v ++ u)
+counted_text v u f g =
+    changed (λ x z k at. let a = k.first at in let b = k.second a.0 in ((b.0, None), counted a.1 b.1)) (v ++ u)
+    (join v u refl f g)
+
+folded_text : (w : FoldWord) → (w ≡ fold.Count → ⊥) → (v u y : List ℕ) → Text Parted true (SignSpan 40) v →
+    Text Worded false NameSpan u → Text Parted true (SignSpan 41) y → FoldedText w (v ++ (u ++ y))
+folded_text w h v u y f g k =
+    changed (λ x z t at. let a = t.first at in let b = t.second.first a.0 in let c = t.second.second b.0.0 in
+    ((c.0, Some b.0.1), grammar.folded h a.1 b.1 c.1)) (v ++ (u ++ y)) (join v (u ++ y) refl f (join u y refl g k))
+
+abbrev CallEnds : FoldWord → List ℕ → Rest → Outcome Aggregate → Type 0
+CallEnds w v s o = Reads (λ u. FoldedText w (v ++ u)) s o
+
+count_ends : (at : ℕ) (label : Option Name) (s : Rest) (v : List ℕ) → Text Parted true (SignSpan 40) v →
+    CallEnds fold.Count v s
+    (map_outcome (folds.aggregate_of at label fold.Count) (sign 41 what.CloseParenthesis s >>= λ r. Ok (None, r)))
+count_ends at label s v f =
+    done_ends s (sign 41 what.CloseParenthesis s >>= λ r. Ok (None, r))
+    (λ x. (folds.aggregate_of at label fold.Count x.0, x.1))
+    (done_ends {left' = behind_read} s (sign 41 what.CloseParenthesis s) (λ r. (None, r))
+    (ends_as s (sign 41 what.CloseParenthesis s) (sign_ends 41 what.CloseParenthesis close_parenthesis s)
+    (λ r u g. counted_text v u f g) (λ u g. counted_text v u f g)) (λ r. refl) (λ r u g. g)) (λ x. refl)
+    (λ x u g. g)
+
+named_fold_ends : (at : ℕ) (label : Option Name) (w : FoldWord) → (w ≡ fold.Count → ⊥) → (s : Rest) (v : List ℕ) →
+    Text Parted true (SignSpan 40) v →
+    CallEnds w v s (map_outcome (folds.aggregate_of at label w) (up_to 41 what.CloseParenthesis (folds.some_column s)))
+named_fold_ends at label w h s v f =
+    done_ends s (up_to 41 what.CloseParenthesis (folds.some_column s)) (λ x. (folds.aggregate_of at label w x.0, x.1))
+    (bind_ends {left' = behind_read} s (folds.some_column s) _
+    (done_ends {left' = behind_read} s (reading.name s) (λ x. (Some x.0, x.1)) (name_ends s) (λ x. refl)
+    (λ x u g. g)) (λ u g. let e = sign_default 41 close_parenthesis in
+    record { text = e.text; is = folded_text w h v u e.text f g e.is })
+    (λ x u g. done_ends x.1 (sign 41 what.CloseParenthesis x.1) (λ r. (x.0, r))
+    (ends_as x.1 (sign 41 what.CloseParenthesis x.1) (sign_ends 41 what.CloseParenthesis close_parenthesis x.1)
+    (λ r y k. folded_text w h v u y f g k) (λ y k. folded_text w h v u y f g k)) (λ r. refl) (λ r y k. k)))
+    (λ x. refl) (λ x u g. g)
+
+fold_call_ends : (at : ℕ) (label : Option Name) (w : FoldWord) (s : Rest) (v : List ℕ) →
+    Text Parted true (SignSpan 40) v → CallEnds w v s (folds.fold_call at label w s)
+unfolding folds.fold_call
+fold_call_ends at label fold.Count s v f = count_ends at label s v f
+fold_call_ends at label fold.Sum s v f = named_fold_ends at label fold.Sum (λ i. cc) s v f
+fold_call_ends at label fold.Min s v f = named_fold_ends at label fold.Min (λ i. cc) s v f
+fold_call_ends at label fold.Max s v f = named_fold_ends at label fold.Max (λ i. cc) s v f
+fold_call_ends at label fold.Mean s v f = named_fold_ends at label fold.Mean (λ i. cc) s v f
+fold_call_ends at label fold.Merge s v f = named_fold_ends at label fold.Merge (λ i. cc) s v f
+fold_call_ends at label fold.Aggregate s v f = named_fold_ends at label fold.Aggregate (λ i. cc) s v f
+
+-- `)` or ` a)` behind the parenthesis
+in_named_fold : (w : FoldWord) → (w ≡ fold.Count → ⊥) → (v : List ℕ) → Text Parted true (SignSpan 40) v →
+    Default (λ u. FoldedText w (v ++ u))
+in_named_fold w h v f = let n = name_default in let e = sign_default 41 close_parenthesis in
+    record { text = n.text ++ e.text; is = folded_text w h v n.text e.text f (worded n.text n.is) e.is }
+
+in_fold : (w : FoldWord) (v : List ℕ) → Text Parted true (SignSpan 40) v → Default (λ u. FoldedText w (v ++ u))
+in_fold fold.Count v f = let e = sign_default 41 close_parenthesis in
+    record { text = e.text; is = counted_text v e.text f e.is }
+in_fold fold.Sum v f = in_named_fold fold.Sum (λ i. cc) v f
+in_fold fold.Min v f = in_named_fold fold.Min (λ i. cc) v f
+in_fold fold.Max v f = in_named_fold fold.Max (λ i. cc) v f
+in_fold fold.Mean v f = in_named_fold fold.Mean (λ i. cc) v f
+in_fold fold.Merge v f = in_named_fold fold.Merge (λ i. cc) v f
+in_fold fold.Aggregate v f = in_named_fold fold.Aggregate (λ i. cc) v f
+
+folded_default : (w : FoldWord) → Default (FoldedText w)
+folded_default w = let o = sign_default 40 open_parenthesis in let d = in_fold w o.text o.is in
+    record { text = o.text ++ d.text; is = d.is }
+
+-- aggregates
+abbrev FoldingSpan : List ℕ → List ℕ → Type 0
+FoldingSpan x z = (at : ℕ) → (n : ℕ × Aggregate) × Folding (at_place at x) (at_place n.0 z) n.1
+
+abbrev FoldingText : List ℕ → Type 0
+FoldingText = Text Anyhow true FoldingSpan
+
+named_text : (f : FoldWord) (w v u y : List ℕ) → Text Worded false NameSpan w → Text Parted true (SignSpan 58) v →
+    FoldWordText f u → FoldedText f y → FoldingText (w ++ (v ++ (u ++ y)))
+named_text f w v u y g h k l = anyhow (w ++ (v ++ (u ++ y))) (changed (λ x z t at.
+    let a = t.first at in
+    let b = t.second.first a.0.0 in
+    let c = t.second.second.first b.0 in
+    let e = t.second.second.second c.0 in (
+      (e.0.0, folds.aggregate_of (skip (at_place b.0 t.second.between)).at (Some a.0.1) f e.0.1),
+      named a.1 b.1 c.1
+          e.1,
+    )) (w ++ (v ++ (u ++ y))) (join w (v ++ (u ++ y)) refl g (join v (u ++ y) refl h (join u y refl k l))))
+
+unnamed_text : (text : List ℕ) (f : FoldWord) (w v : List ℕ) → text ≡ fold_named f →
+    Text Worded false (NamedSpan text) w → FoldedText f v → FoldingText (w ++ v)
+unnamed_text text f w v e g h =
+    anyhow (w ++ v)
+    (changed (λ x z t at. let a = t.first at in let b = t.second a.0.0 in
+    ((b.0.0, folds.aggregate_of (skip (at_place at x)).at None f b.0.1), unnamed a.1 e b.1)) (w ++ v)
+    (join w v refl g h))
+
+-- `:count()`
+abbrev counting : List ℕ
+counting = codes "count" ++ (folded_default fold.Count).text
+
+counting_text : (w v : List ℕ) → Text Worded false NameSpan w → Text Parted true (SignSpan 58) v →
+    FoldingText (w ++ (v ++ counting))
+counting_text w v f g =
+    named_text fold.Count w v (codes "count") (folded_default fold.Count).text f g (count_text [] tt)
+    (folded_default fold.Count).is
+
+labelled_fold_ends : (label : Name) (s : Rest) (w v : List ℕ) → Text Worded false NameSpan w →
+    Text Parted true (SignSpan 58) v → Reads (λ u. FoldingText (w ++ (v ++ u))) s (folds.labelled_fold label s)
+labelled_fold_ends label s w v f g =
+    bind_ends s (folds.fold_here (skip s)) _ (fold_here_ends s)
+    (λ u h. let d = folded_default h.0 in record { text = d.text; is = named_text h.0 w v u d.text f g h.1 d.is })
+    (λ x u h. bind_ends x.1 (sign 40 what.OpenParenthesis x.1) _
+    (sign_ends 40 what.OpenParenthesis open_parenthesis x.1)
+    (λ y k. let d = in_fold x.0 y k in record { text = d.text; is = named_text x.0 w v u (y ++ d.text) f g h d.is })
+    (λ o y k. ends_as o (folds.fold_call (skip s).at (Some label) x.0 o)
+    (fold_call_ends (skip s).at (Some label) x.0 o y k) (λ z q l. named_text x.0 w v u (y ++ q) f g h l)
+    (λ q l. named_text x.0 w v u (y ++ q) f g h l)))
+
+bare_fold_ends : (at : ℕ) (text : List ℕ) (m : Rest) (w : List ℕ) → Text Worded false (NamedSpan text) w →
+    (o : Option FoldWord) → IfSome o (λ f. text ≡ fold_named f) → Reads (λ u. FoldingText (w ++ u)) m
+    (folds.bare_fold at o (skip m))
+bare_fold_ends at text m w f None h =
+    record {
+      way = wrong m (58 ∷ counting)
+          (λ bs e. subst (λ t. FoldingText (w ++ t)) (append_assoc bs (58 ∷ []) counting)
+          (counting_text w (bs ++ 58 ∷ []) (changed (some_name text) w f) (sign_text 58 colon bs e)));
+    }
+bare_fold_ends at text m w f (Some g) h =
+    let t = skip m in
+    if_ends m (head t == 40) (folds.fold_call at None g (behind t)) (Err (unexpected what.OpenParenthesis t))
+    (λ k. cut_then m (behind t) (folds.fold_call at None g (behind t)) (sign_cut 40 open_parenthesis m k)
+    (λ v l. ends_as (behind t) (folds.fold_call at None g (behind t)) (fold_call_ends at None g (behind t) v l)
+    (λ x u q. unnamed_text text g w (v ++ u) h f q) (λ u q. unnamed_text text g w (v ++ u) h f q)))
+    (λ _. record { way = opened })
+  where
+    opened : Finish (λ u. FoldingText (w ++ u)) m (skip m).at
+    opened =
+        let c = skip_cut m in
+        let d = in_fold g (c.front ++ 40 ∷ []) (sign_text 40 open_parenthesis c.front c.is) in
+        finish_before {N = λ u. FoldingText (w ++ u)} m (skip m) (skip m).at c.front c.bytes c.place
+        (wrong_here (skip m) (40 ∷ d.text) (subst (λ t. FoldingText (w ++ t)) (append_assoc c.front (40 ∷ []) d.text)
+        (unnamed_text text g w ((c.front ++ 40 ∷ []) ++ d.text) h f d.is)))
+
+pub aggregate_ends : (s : Rest) → Reads FoldingText s (folds.aggregate s)
+unfolding folds.aggregate
+aggregate_ends s =
+    bind_ends s (reading.name s) _ (named_ends s)
+    (λ w f. record { text = 58 ∷ counting; is = counting_text w (58 ∷ []) f (sign_text 58 colon [] tt) })
+    (λ x w f. let m = behind (skip x.1) in
+    if_ends x.1 (head (skip x.1) == 58) (folds.labelled_fold x.0 m) _
+    (λ h. cut_then x.1 m (folds.labelled_fold x.0 m) (sign_cut 58 colon x.1 h)
+    (λ v g. labelled_fold_ends x.0 m w v (changed (some_name x.0.text) w f) g))
+    (λ h. bare_fold_ends x.0.at x.0.text x.1 w f (folds.fold_of x.0.text) (fold_of_sound x.0.text)))
+
+abbrev pub FoldingsSpan : List ℕ → List ℕ → Type 0
+FoldingsSpan x z = (at : ℕ) → (n : ℕ × List Aggregate) × FoldingList (at_place at x) (at_place n.0 z) n.1
+
+abbrev pub FoldingsText : List ℕ → Type 0
+FoldingsText = Text Anyhow true FoldingsSpan
+
+abbrev MoreFoldings : List ℕ → Type 0
+MoreFoldings w = (w ≡ []) ⊎ Text Anyhow true (Then FoldingsSpan (SignSpan 44)) w
+
+foldings_grown : (w v : List ℕ) → MoreFoldings w → FoldingText v → FoldingsText (w ++ v)
+foldings_grown w v (inl e) f =
+    subst (λ t. FoldingsText (t ++ v)) (sym e)
+    (changed (λ x z f at. let n = f at in ((n.0.0, n.0.1 ∷ []), one_folding n.1)) v f)
+foldings_grown w v (inr f) g =
+    changed (λ x z k at. let a = k.first.first at in let b = k.first.second a.0.0 in let c = k.second b.0 in
+    ((c.0.0, a.0.1 ++ c.0.1 ∷ []), more_foldings a.1 b.1 c.1)) (w ++ v) (join w v refl f g)
+
+aggregate_turn_ends : (so_far : List Aggregate) (s : Rest) (w : List ℕ) → MoreFoldings w →
+    TurnEnds (λ a v. MoreFoldings (w ++ v)) (λ a v. FoldingsText (w ++ v)) (λ v. FoldingsText (w ++ v)) s
+    (folds.aggregate_turn so_far s)
+unfolding folds.aggregate_turn
+aggregate_turn_ends so_far s w f =
+    on_read_ends s (folds.aggregates_on so_far) (folds.aggregate s) (aggregate_ends s)
+    (λ v g. as_it_is (λ u. FoldingsText (w ++ u)) v (foldings_grown w v f g))
+    (λ x v g. let t = skip x.1 in let all = so_far ++ x.0 ∷ [] in
+    if_turns x.1 (head t == 44) (Again all (behind t)) (Done all x.1)
+    (λ h. record {
+      way = cut_as x.1 (behind t) (sign_cut 44 comma x.1 h)
+          (λ u k. inr (subst (Text Anyhow true (Then FoldingsSpan (SignSpan 44))) (append_assoc w v u)
+          (join (w ++ v) u refl (foldings_grown w v f g) k)));
+    })
+    (λ _. record { way = stay (λ u. FoldingsText (w ++ u)) x.1 v (foldings_grown w v f g) }))
+
+pub aggregates_ends : (s : Rest) → Reads FoldingsText s (folds.aggregates s)
+unfolding folds.aggregates
+aggregates_ends s =
+    loop_ends folds.aggregate_turn aggregates_turn_behind (λ a w. MoreFoldings w) (λ a w. FoldingsText w) FoldingsText
+    aggregate_turn_ends [] s [] (inl refl)
+
+-- ` a:count()`
+pub aggregates_default : Default FoldingsText
+aggregates_default =
+    record {
+      text = name_default.text ++ (58 ∷ counting);
+      is = foldings_grown []
+          (name_default.text ++ (58 ∷ counting)) (inl refl)
+          (counting_text name_default.text (58 ∷ []) (worded name_default.text name_default.is) (sign_text 58 colon [] tt));
+    }

@@ -1,0 +1,481 @@
+-- What was read of a token before its fault can be completed to a whole token.
+use Rattle.std.proofs.Common.{◌≡◌, ℕ, ◌+◌, Bool, true, false, ◌==◌, ◌||◌, ◌&&◌, not, List, [], ◌∷◌, ◌++◌, length, refl, sym, ap, ◌∙◌, subst, arith, if◌then◌else◌, append_assoc, Option, Some, None, Result, Ok, Err}
+use Rattle.std.proofs.lemmas.Bool.{false≢true}
+use Rattle.std.proofs.lemmas.Bool.Decides.{nat_tests}
+use Rattle.mon_value.specs.Answers.{◌>>=◌}
+use Rattle.mql_ast.specs.Bytes.{is_blank, is_letter, is_digit, is_word_byte, is_metric_byte}
+use Rattle.mql_ast.specs.Rests.{Rest, first_of, behind_first, behind_blanks, head, behind, skip}
+use Rattle.mql_ast.specs.Tokens.{sign_at, past, word_at, word_bytes, behind_word, word_here, name_at}
+use Rattle.mql_parse.specs.declared.faults.ParseFault.{ParseFault}
+use Rattle.mql_parse.specs.declared.faults.What.{What}
+use Rattle.mql_parse.specs.declared.faults.What.TheVariants as what
+use Rattle.mql_parse.specs.Outcomes.{unexpected, exact, sign, apart}
+use Rattle.mql_parse.specs.TokenReading as reading
+use Rattle.mql_parse.proofs.RestLemmas.{skip_off}
+use Rattle.mql_parse.proofs.WordLemmas.{word_bytes_on, word_bytes_off, behind_word_off}
+use Rattle.mql_parse.proofs.Endings.{is_inner, Front, Anyhow, Worded, Parted, OpensAs, Text, Then, join, changed, worded, Default, Cut, Finish, Ends, behind_read, Reads, Leaves, cut_before, cut_as, cut_then, bind_ends, ends_as, if_ends}
+
+abbrev pub at_place : ℕ → List ℕ → Rest
+at_place at bs = record { at = at; bytes = bs }
+
+-- tests of bytes
+pub blank_outer : (b : ℕ) → is_blank b ≡ true → is_inner b ≡ false
+blank_outer b h = grind (arith, nat_tests)
+
+pub letter_not_blank : (b : ℕ) → is_letter b ≡ true → is_blank b ≡ false
+letter_not_blank b h = grind (arith, nat_tests)
+
+pub digit_not_blank : (b : ℕ) → is_digit b ≡ true → is_blank b ≡ false
+digit_not_blank b h = grind (arith, nat_tests)
+
+pub letter_in_word : (b : ℕ) → is_letter b ≡ true → is_word_byte b ≡ true
+letter_in_word b h = ap (λ t. t || is_digit b) h
+
+pub digit_in_word : (b : ℕ) → is_digit b ≡ true → is_word_byte b ≡ true
+digit_in_word b h = either (is_letter b)
+  where
+    either : (t : Bool) → (t || is_digit b) ≡ true
+    either true = refl
+    either false = h
+
+neither : (a b : Bool) → (a || b) ≡ false → (a ≡ false) × (b ≡ false)
+neither true b h = absurd (false≢true (sym h))
+neither false b h = (refl, h)
+
+pub outer_no_metric : (b : ℕ) → is_inner b ≡ false → (is_metric_byte b ≡ false) × ((b == 47) ≡ false)
+outer_no_metric b h = neither (is_metric_byte b) (b == 47) h
+
+pub outer_no_word : (b : ℕ) → is_inner b ≡ false → is_word_byte b ≡ false
+outer_no_word b h = (neither (is_word_byte b) (b == 46) (outer_no_metric b h).0).0
+
+pub outer_no_digit : (b : ℕ) → is_inner b ≡ false → is_digit b ≡ false
+outer_no_digit b h = (neither (is_letter b) (is_digit b) (outer_no_word b h)).1
+
+-- blanks
+abbrev pub AreBlanks : List ℕ → Type 0
+AreBlanks [] = Unit {0}
+AreBlanks (b ∷ bs) = (is_blank b ≡ true) × AreBlanks bs
+
+blanks_passed : (bs z : List ℕ) (at : ℕ) → AreBlanks bs → behind_blanks at (bs ++ z) ≡ behind_blanks (at + length bs) z
+blanks_passed [] z at h = ap (λ n. behind_blanks n z) (omega arith)
+blanks_passed (b ∷ bs) z at h =
+    ap (λ t. if t then behind_blanks (at + 1) (bs ++ z) else at_place at (b ∷ (bs ++ z))) h.0
+    ∙ blanks_passed bs z (at + 1) h.1 ∙ ap (λ n. behind_blanks n z) (omega arith)
+
+pub skip_over : (bs z : List ℕ) (at : ℕ) → AreBlanks bs → skip (at_place at (bs ++ z)) ≡ skip
+    (at_place (at + length bs) z)
+unfolding skip
+skip_over bs z at h = blanks_passed bs z at h
+
+blanks_cut : (at : ℕ) (bs : List ℕ) → Cut AreBlanks (at_place at bs) (behind_blanks at bs)
+blanks_cut at [] = record { front = []; bytes = refl; place = omega arith; is = tt }
+blanks_cut at (b ∷ bs) = step (is_blank b) refl (blanks_cut (at + 1) bs)
+  where
+    step : (t : Bool) → is_blank b ≡ t → Cut AreBlanks (at_place (at + 1) bs) (behind_blanks (at + 1) bs) →
+        Cut AreBlanks (at_place at (b ∷ bs)) (if t then behind_blanks (at + 1) bs else at_place at (b ∷ bs))
+    step true h c =
+        record { front = b ∷ c.front; bytes = ap (λ t. b ∷ t) c.bytes; place = omega (arith, c.place); is = (h, c.is) }
+    step false h c = record { front = []; bytes = refl; place = omega arith; is = tt }
+
+pub skip_cut : (s : Rest) → Cut AreBlanks s (skip s)
+unfolding skip
+skip_cut s = blanks_cut s.at s.bytes
+
+pub blanks_open : (o : Front) (bs w : List ℕ) → AreBlanks bs → OpensAs o w → OpensAs o (bs ++ w)
+blanks_open Anyhow bs w h f = tt
+blanks_open Worded [] w h f = f
+blanks_open Worded (b ∷ bs) w h f = λ v g u. blank_outer b h.0
+blanks_open Parted [] w h f = f
+blanks_open Parted (b ∷ bs) w h f = λ u. blank_outer b h.0
+
+-- blanks before a token are of it
+pub blanks_before : {o : Front} {c : Bool} {R : List ℕ → List ℕ → Type 0} (bs w : List ℕ) → AreBlanks bs →
+    ((x z : List ℕ) → R x z → R (bs ++ x) z) → Text o c R w → Text o c R (bs ++ w)
+blanks_before {o = o} {R = R} bs w h k f = record {
+  opens = blanks_open o bs w h f.opens;
+  fills = λ z e. subst (λ t. R t z) (sym (append_assoc bs w z)) (k (w ++ z) z (f.fills z e));
+}
+
+-- one byte
+pub byte_cut : (test : ℕ → Bool) → test 0 ≡ false → (s : Rest) → test (head s) ≡ true →
+    Cut (λ w. w ≡ head s ∷ []) s (behind s)
+byte_cut test z s h = of_bytes s.at s.bytes h
+  where
+    of_bytes : (at : ℕ) (bs : List ℕ) → test (first_of bs) ≡ true → Cut (λ w. w ≡ first_of bs ∷ []) (at_place at bs)
+        (behind_first at bs)
+    of_bytes at [] h = absurd (false≢true (sym z ∙ h))
+    of_bytes at (b ∷ bs) h = record { front = b ∷ []; bytes = refl; place = omega arith; is = refl }
+
+-- where what stands here is refused, blanks aside
+pub wrong : {L : List ℕ → Type 0} (s : Rest) (tail : List ℕ) → ((bs : List ℕ) → AreBlanks bs → L (bs ++ tail)) →
+    Finish L s (skip s).at
+wrong s tail h = let c = skip_cut s in
+    record {
+      front = c.front;
+      left = (skip s).bytes;
+      bytes = c.bytes;
+      place = c.place;
+      tail = tail;
+      is = h c.front
+          c.is;
+    }
+
+-- where it is refused here
+pub wrong_here : {L : List ℕ → Type 0} (s : Rest) (tail : List ℕ) → L tail → Finish L s s.at
+wrong_here s tail h = record { front = []; left = s.bytes; bytes = refl; place = omega arith; tail = tail; is = h }
+
+-- tokens
+abbrev pub SignSpan : ℕ → List ℕ → List ℕ → Type 0
+SignSpan b x z = (at : ℕ) → (n : ℕ) × (sign_at b (at_place at x) ≡ Some (at_place n z))
+
+abbrev pub WordSpan : List ℕ → List ℕ → List ℕ → Type 0
+WordSpan cs x z = (at : ℕ) → (n : ℕ) × (word_at cs (at_place at x) ≡ Some (at_place n z))
+
+-- a keyword that no word byte goes on
+abbrev pub SpacedSpan : List ℕ → List ℕ → List ℕ → Type 0
+SpacedSpan cs x z = WordSpan cs x z × (is_word_byte (first_of z) ≡ false)
+
+abbrev pub Token : {A : Type 0} → (Rest → Option (A × Rest)) → List ℕ → List ℕ → Type 0
+Token {A = A} read x z = (at : ℕ) → (n : ℕ × A) × (read (at_place at x) ≡ Some (n.1, at_place n.0 z))
+
+abbrev pub NamedSpan : List ℕ → List ℕ → List ℕ → Type 0
+NamedSpan text x z =
+    (at : ℕ) → (n : ℕ × ℕ) × (name_at (at_place at x) ≡ Some (record { at = n.1; text = text }, at_place n.0 z))
+
+abbrev pub NameSpan : List ℕ → List ℕ → Type 0
+NameSpan x z = Token name_at x z
+
+-- signs: neither blanks nor what goes on a name
+abbrev pub IsSign : ℕ → Type 0
+IsSign b = (is_inner b ≡ false) × ((is_blank b ≡ false) × ((b == b ≡ true) × (0 == b ≡ false)))
+
+sign_over : (b : ℕ) (bs : List ℕ) → AreBlanks bs → (x z : List ℕ) → SignSpan b x z → SignSpan b (bs ++ x) z
+sign_over b bs h x z f = λ at. let n = f (at + length bs) in
+    (n.0, ap (λ t. if head t == b then Some (behind t) else None) (skip_over bs x at h) ∙ n.1)
+
+one_sign : (b : ℕ) → IsSign b → Text Parted true (SignSpan b) (b ∷ [])
+one_sign b h = record {
+  opens = λ u. h.0;
+  fills = λ z _ at. (
+    at + 1,
+    ap (λ t. if head t == b then Some (behind t) else None)
+        (skip_off (at_place at (b ∷ z)) h.1.0) ∙ ap (λ t. if t then Some (at_place (at + 1) z) else None) h.1.1.0,
+  );
+}
+
+pub sign_text : (b : ℕ) → IsSign b → (bs : List ℕ) → AreBlanks bs → Text Parted true (SignSpan b) (bs ++ b ∷ [])
+sign_text b h bs e = blanks_before bs (b ∷ []) e (sign_over b bs e) (one_sign b h)
+
+pub sign_default : (b : ℕ) → IsSign b → Default (Text Parted true (SignSpan b))
+sign_default b h = record { text = b ∷ []; is = one_sign b h }
+
+equal_byte : (a b : ℕ) → (a == b) ≡ true → a ≡ b
+equal_byte a b h = grind (arith, nat_tests)
+
+pub sign_cut : (b : ℕ) → IsSign b → (s : Rest) → (head (skip s) == b) ≡ true → Cut (Text Parted true (SignSpan b)) s
+    (behind (skip s))
+sign_cut b h s e =
+    let c = skip_cut s in
+    cut_before {N = Text Parted true (SignSpan b)} s (skip s) (behind (skip s)) c.front c.bytes c.place
+    (cut_as (skip s) (behind (skip s)) (byte_cut (λ x. x == b) h.1.1.1 (skip s) e)
+    (λ w f. subst (λ v. Text Parted true (SignSpan b) (c.front ++ v))
+    (ap (λ x. x ∷ []) (sym (equal_byte (head (skip s)) b e)) ∙ sym f) (sign_text b h c.front c.is)))
+
+pub sign_ends : (b : ℕ) (w : What) → IsSign b → (s : Rest) → Leaves (Text Parted true (SignSpan b)) s (sign b w s)
+sign_ends b w h s =
+    if_ends s (head (skip s) == b) (Ok (behind (skip s))) (Err (unexpected w (skip s)))
+    (λ e. record { way = sign_cut b h s e }) (λ e. record { way = wrong s (b ∷ []) (sign_text b h) })
+
+-- keywords
+abbrev pub all_nonzero : List ℕ → Bool
+all_nonzero [] = true
+all_nonzero (c ∷ cs) = not (0 == c) && all_nonzero cs
+
+both_hold : (a b : Bool) → (not a && b) ≡ true → (a ≡ false) × (b ≡ true)
+both_hold true b h = absurd (false≢true h)
+both_hold false b h = (refl, h)
+
+pub exact_ends : (w : What) (cs : List ℕ) → all_nonzero cs ≡ true → (s : Rest) → Leaves (λ v. v ≡ cs) s (exact w cs s)
+exact_ends w [] h s = record { way = record { front = []; bytes = refl; place = omega arith; is = refl } }
+exact_ends w (c ∷ cs) h s =
+    let nonzero = both_hold (0 == c) (all_nonzero cs) h in
+    if_ends s (head s == c) (exact w cs (behind s)) (Err (unexpected w s))
+    (λ e. cut_then s (behind s) (exact w cs (behind s)) (byte_cut (λ x. x == c) nonzero.0 s e)
+    (λ v g. let first : v ≡ c ∷ [] = g ∙ ap (λ x. x ∷ []) (equal_byte (head s) c e) in
+    ends_as (behind s) (exact w cs (behind s)) (exact_ends w cs nonzero.1 (behind s)) (λ r u f. ap (λ t. t ++ u) first
+    ∙ ap (λ t. c ∷ t) f) (λ u f. ap (λ t. t ++ u) first ∙ ap (λ t. c ∷ t) f)))
+    (λ e. record { way = wrong_here s (c ∷ cs) refl })
+
+same_byte : (c : ℕ) → (c == c) ≡ true
+same_byte c = grind (arith, nat_tests)
+
+past_over : (cs z : List ℕ) (at : ℕ) → past cs (at_place at (cs ++ z)) ≡ Some (at_place (at + length cs) z)
+past_over [] z at = ap (λ n. Some (at_place n z)) (omega arith)
+past_over (c ∷ cs) z at = ap (λ t. if t then past cs (at_place (at + 1) (cs ++ z)) else None) (same_byte c)
+    ∙ past_over cs z (at + 1) ∙ ap (λ n. Some (at_place n z)) (omega arith)
+
+word_over : (cs bs : List ℕ) → AreBlanks bs → (x z : List ℕ) → WordSpan cs x z → WordSpan cs (bs ++ x) z
+word_over cs bs h x z f = λ at. let n = f (at + length bs) in (n.0, ap (past cs) (skip_over bs x at h) ∙ n.1)
+
+one_word : (o : Front) (c : ℕ) (cs : List ℕ) → is_blank c ≡ false → OpensAs o (c ∷ cs) →
+    Text o true (WordSpan (c ∷ cs)) (c ∷ cs)
+one_word o c cs h f =
+    record {
+      opens = f;
+      fills = λ z _ at. (
+        at + length (c ∷ cs),
+        ap (past (c ∷ cs))
+            (skip_off (at_place at (c ∷ (cs ++ z))) h) ∙ past_over (c ∷ cs) z at,
+      );
+    }
+
+pub word_text : (o : Front) (c : ℕ) (cs : List ℕ) → is_blank c ≡ false → OpensAs o (c ∷ cs) → (bs : List ℕ) →
+    AreBlanks bs → Text o true (WordSpan (c ∷ cs)) (bs ++ c ∷ cs)
+word_text o c cs h f bs e = blanks_before bs (c ∷ cs) e (word_over (c ∷ cs) bs e) (one_word o c cs h f)
+
+pub word_default : (o : Front) (c : ℕ) (cs : List ℕ) → is_blank c ≡ false → OpensAs o (c ∷ cs) →
+    Default (Text o true (WordSpan (c ∷ cs)))
+word_default o c cs h f = record { text = c ∷ cs; is = one_word o c cs h f }
+
+-- a keyword or a sign of several bytes, behind blanks
+pub word_ends : (o : Front) (w : What) (c : ℕ) (cs : List ℕ) → is_blank c ≡ false → OpensAs o (c ∷ cs) →
+    all_nonzero (c ∷ cs) ≡ true → (s : Rest) → Leaves (Text o true (WordSpan (c ∷ cs))) s (exact w (c ∷ cs) (skip s))
+word_ends o w c cs h f z s =
+    cut_then s (skip s) (exact w (c ∷ cs) (skip s)) (skip_cut s)
+    (λ bs e. ends_as (skip s) (exact w (c ∷ cs) (skip s)) (exact_ends w (c ∷ cs) z (skip s))
+    (λ r u g. subst (λ t. Text o true (WordSpan (c ∷ cs)) (bs ++ t)) (sym g) (word_text o c cs h f bs e))
+    (λ u g. subst (λ t. Text o true (WordSpan (c ∷ cs)) (bs ++ t)) (sym g) (word_text o c cs h f bs e)))
+
+pub spaced : {o : Front} (cs w : List ℕ) → Text o true (WordSpan cs) w → Text o false (SpacedSpan cs) w
+spaced cs w f = record { opens = f.opens; fills = λ z h. (f.fills z tt, outer_no_word (first_of z) h) }
+
+-- what is read where no word byte stands stands apart
+pub parted : {B : Type 0} {left : B → Rest} {k : B → Bool} {R : B → List ℕ → List ℕ → Type 0} {c : Bool} {S : List ℕ →
+    List ℕ → Type 0} (m : Rest) (o : Result B ParseFault) → is_word_byte (head m) ≡ false → Default (Text Parted c S) →
+    Ends left (λ y. Text Worded (k y) (R y)) (Text Worded c S) m o → Ends left (λ y. Text Parted (k y) (R y))
+    (Text Parted c S) m o
+parted {left = left} m (Ok y) h d f = let t = f.way in record {
+  way = record {
+    front = t.front;
+    bytes = t.bytes;
+    place = t.place;
+    is = record {
+      opens = t.is.opens (left y).bytes (ap (λ u. is_word_byte (first_of u)) (sym t.bytes) ∙ h);
+      fills = t.is.fills;
+    };
+  };
+}
+parted {c = c} {S = S} m (Err e) h d f =
+    record { way = by_front f.way.front f.way.left f.way.bytes f.way.place f.way.tail f.way.is }
+  where
+    by_front : (front left : List ℕ) → m.bytes ≡ front ++ left → e.at ≡ m.at + length front → (tail : List ℕ) →
+        Text Worded c S (front ++ tail) → Finish (Text Parted c S) m e.at
+    by_front [] left b p tail t = record { front = []; left = left; bytes = b; place = p; tail = d.text; is = d.is }
+    by_front (x ∷ front) left b p tail t = record {
+      front = x ∷ front;
+      left = left;
+      bytes = b;
+      place = p;
+      tail = tail;
+      is = record {
+        opens = t.opens [] (ap (λ u. is_word_byte (first_of u)) (sym b) ∙ h);
+        fills = t.fills;
+      };
+    }
+
+pub apart_ends : {B : Type 0} {left : B → Rest} {k : B → Bool} {R : B → List ℕ → List ℕ → Type 0} {c : Bool}
+    {S : List ℕ → List ℕ → Type 0} (w : What) (m : Rest) (f : Rest → Result B ParseFault) → Default (Text Parted c S) →
+    Ends left (λ y. Text Worded (k y) (R y)) (Text Worded c S) m (f m) → Ends left (λ y. Text Parted (k y) (R y))
+    (Text Parted c S) m (apart w m >>= f)
+apart_ends {left = left} {k = k} {R = R} {c = c} {S = S} w m f d g = either (is_word_byte (head m)) refl
+  where
+    either : (t : Bool) → is_word_byte (head m) ≡ t → Ends left (λ y. Text Parted (k y) (R y)) (Text Parted c S) m
+        ((if t then Err (unexpected w m) else Ok m) >>= f)
+    either true h = record { way = wrong_here m d.text d.is }
+    either false h = parted m (f m) h d g
+
+in_turn : {A B C : Type 0} (o : Result A ParseFault) (g : A → Result B ParseFault) (f : B → Result C ParseFault) →
+    ((o >>= g) >>= f) ≡ (o >>= λ x. g x >>= f)
+in_turn (Ok x) g f = refl
+in_turn (Err e) g f = refl
+
+-- what is read behind a keyword that no word byte goes on
+pub spaced_ends : {B : Type 0} {left : B → Rest} {k : B → Bool} {R : B → List ℕ → List ℕ → Type 0} {c' : Bool}
+    {S : List ℕ → List ℕ → Type 0} (v w : What) (c : ℕ) (cs : List ℕ) → is_blank c ≡ false →
+    all_nonzero (c ∷ cs) ≡ true → (s : Rest) (f : Rest → Result B ParseFault) → Default (Text Parted c' S) →
+    ((m : Rest) → Ends left (λ y. Text Worded (k y) (R y)) (Text Worded c' S) m (f m)) →
+    Ends left (λ y. Text Anyhow (k y) (Then (SpacedSpan (c ∷ cs)) (R y)))
+    (Text Anyhow c' (Then (SpacedSpan (c ∷ cs)) S)) s (exact v (c ∷ cs) (skip s) >>= λ m. apart w m >>= f)
+spaced_ends v w c cs blank nonzero s f d g =
+    bind_ends s (exact v (c ∷ cs) (skip s)) _ (word_ends Anyhow v c cs blank tt nonzero s)
+    (λ x t. record { text = d.text; is = join x d.text refl (spaced (c ∷ cs) x t) d.is })
+    (λ m x t. ends_as m (apart w m >>= f) (apart_ends w m f d (g m)) (λ y u h. join x u refl (spaced (c ∷ cs) x t) h)
+    (λ u h. join x u refl (spaced (c ∷ cs) x t) h))
+
+pub word_spaced_ends : {B : Type 0} {left : B → Rest} {k : B → Bool} {R : B → List ℕ → List ℕ → Type 0} {c' : Bool}
+    {S : List ℕ → List ℕ → Type 0} (v w : What) (c : ℕ) (cs : List ℕ) → is_blank c ≡ false →
+    all_nonzero (c ∷ cs) ≡ true → (s : Rest) (f : Rest → Result B ParseFault) → Default (Text Parted c' S) →
+    ((m : Rest) → Ends left (λ y. Text Worded (k y) (R y)) (Text Worded c' S) m (f m)) →
+    Ends left (λ y. Text Anyhow (k y) (Then (SpacedSpan (c ∷ cs)) (R y)))
+    (Text Anyhow c' (Then (SpacedSpan (c ∷ cs)) S)) s ((exact v (c ∷ cs) (skip s) >>= λ m. apart w m) >>= f)
+word_spaced_ends {left = left} {k = k} {R = R} {c' = c'} {S = S} v w c cs blank nonzero s f d g =
+    subst (λ o. Ends left (λ y. Text Anyhow (k y) (Then (SpacedSpan (c ∷ cs)) (R y)))
+    (Text Anyhow c' (Then (SpacedSpan (c ∷ cs)) S)) s o)
+    (sym (in_turn (exact v (c ∷ cs) (skip s)) (λ m. apart w m) f))
+    (spaced_ends v w c cs blank nonzero s f d g)
+
+-- names
+abbrev AreWord : List ℕ → Type 0
+AreWord [] = Unit {0}
+AreWord (b ∷ bs) = (is_word_byte b ≡ true) × AreWord bs
+
+word_cut : (at : ℕ) (bs : List ℕ) → Cut (λ w. AreWord w × (w ≡ word_bytes bs)) (at_place at bs) (behind_word at bs)
+word_cut at [] = record { front = []; bytes = refl; place = omega arith; is = (tt, refl) }
+word_cut at (b ∷ bs) = step (is_word_byte b) refl (word_cut (at + 1) bs)
+  where
+    step : (t : Bool) → is_word_byte b ≡ t → Cut (λ w. AreWord w × (w ≡ word_bytes bs)) (at_place (at + 1) bs)
+        (behind_word (at + 1) bs) →
+        Cut (λ w. AreWord w × (w ≡ (if t then b ∷ word_bytes bs else []))) (at_place at (b ∷ bs))
+        (if t then behind_word (at + 1) bs else at_place at (b ∷ bs))
+    step true h c =
+        record {
+          front = b ∷ c.front;
+          bytes = ap (λ t. b ∷ t) c.bytes;
+          place = omega (arith, c.place);
+          is =
+              ((h, c.is.0), ap (λ t. b ∷ t) c.is.1);
+        }
+    step false h c = record { front = []; bytes = refl; place = omega arith; is = (tt, refl) }
+
+whole_word : (w z : List ℕ) → AreWord w → is_word_byte (first_of z) ≡ false → word_bytes (w ++ z) ≡ w
+whole_word [] z h e = word_bytes_off z e
+whole_word (b ∷ w) z h e =
+    ap (λ t. if t then b ∷ word_bytes (w ++ z) else []) h.0 ∙ ap (λ t. b ∷ t) (whole_word w z h.1 e)
+
+behind_whole : (w z : List ℕ) (at : ℕ) → AreWord w → is_word_byte (first_of z) ≡ false →
+    behind_word at (w ++ z) ≡ at_place (at + length w) z
+behind_whole [] z at h e = behind_word_off at z e ∙ ap (λ n. at_place n z) (omega arith)
+behind_whole (b ∷ w) z at h e = ap (λ t. if t then behind_word (at + 1) (w ++ z) else at_place at (b ∷ (w ++ z))) h.0
+    ∙ behind_whole w z (at + 1) h.1 e ∙ ap (λ n. at_place n z) (omega arith)
+
+name_over : (text bs : List ℕ) → AreBlanks bs → (x z : List ℕ) → NamedSpan text x z → NamedSpan text (bs ++ x) z
+name_over text bs h x z f = λ at. let n = f (at + length bs) in
+    (n.0, ap (λ t. if is_letter (head t) then Some (word_here t) else None) (skip_over bs x at h) ∙ n.1)
+
+one_name : (w : List ℕ) → AreWord w → is_letter (first_of w) ≡ true → Text Worded false (NamedSpan w) w
+one_name [] h e = absurd (false≢true e)
+one_name (c ∷ w) h e = record {
+  opens = λ v g u. absurd (false≢true (sym g ∙ h.0));
+  fills = λ z stops at. (
+    (at + length (c ∷ w), at),
+    ap (λ t. if is_letter (head t) then Some (word_here t) else None)
+        (skip_off (at_place at (c ∷ (w ++ z))) (letter_not_blank c e))
+        ∙ ap (λ t. if t then Some (word_here (at_place at (c ∷ (w ++ z)))) else None) e
+        ∙ ap (λ t. Some (record { at = at; text = t }, behind_word at (c ∷ (w ++ z))))
+        (whole_word (c ∷ w) z h (outer_no_word (first_of z) stops))
+        ∙ ap (λ r. Some (record { at = at; text = c ∷ w }, r))
+        (behind_whole (c ∷ w) z at h (outer_no_word (first_of z) stops)),
+  );
+}
+
+name_text : (bs w : List ℕ) → AreBlanks bs → AreWord w → is_letter (first_of w) ≡ true →
+    Text Worded false (NamedSpan w) (bs ++ w)
+name_text bs w e h l = blanks_before bs w e (name_over w bs e) (one_name w h l)
+
+pub some_name : (text x z : List ℕ) → NamedSpan text x z → NameSpan x z
+some_name text x z f = λ at. let n = f at in ((n.0.0, record { at = n.0.1; text = text }), n.1)
+
+-- ` a`
+pub name_default : Default (Text Parted false NameSpan)
+name_default =
+    record {
+      text = 32 ∷ 97 ∷ [];
+      is = record {
+        opens = λ u. refl;
+        fills =
+            (changed (some_name (97 ∷ [])) (32 ∷ 97 ∷ []) (name_text (32 ∷ []) (97 ∷ []) (refl, tt) (refl, tt) refl)).fills;
+      };
+    }
+
+any_name_over : (bs : List ℕ) → AreBlanks bs → (x z : List ℕ) → NameSpan x z → NameSpan (bs ++ x) z
+any_name_over bs h x z f = λ at. let n = f (at + length bs) in
+    (n.0, ap (λ t. if is_letter (head t) then Some (word_here t) else None) (skip_over bs x at h) ∙ n.1)
+
+pub name_after : (bs : List ℕ) → AreBlanks bs → Text Worded false NameSpan (bs ++ name_default.text)
+name_after bs h = blanks_before bs name_default.text h (any_name_over bs h) (worded name_default.text name_default.is)
+
+-- a name that stands here
+pub name_cut : (s : Rest) → is_letter (head (skip s)) ≡ true →
+    Cut (Text Worded false (NamedSpan (word_bytes (skip s).bytes))) s (word_here (skip s)).1
+name_cut s h =
+    let c = skip_cut s in
+    let t = skip s in
+    cut_before {N = Text Worded false (NamedSpan (word_bytes t.bytes))} s t (behind_word t.at t.bytes) c.front c.bytes
+    c.place
+    (cut_as t (behind_word t.at t.bytes) (word_cut t.at t.bytes)
+    (λ w f. subst (λ v. Text Worded false (NamedSpan v) (c.front ++ w)) f.1
+    (name_text c.front w c.is f.0
+    (ap (λ v. is_letter (first_of v)) (f.1 ∙ word_bytes_on t.at t.bytes (letter_in_word (head t) h)) ∙ h))))
+
+pub named_ends : (s : Rest) → Ends behind_read (λ x. Text Worded false (NamedSpan x.0.text))
+    (Text Worded false NameSpan) s (reading.name s)
+unfolding reading.name
+named_ends s =
+    if_ends s (is_letter (head (skip s))) (Ok (word_here (skip s))) (Err (unexpected what.Name (skip s)))
+    (λ h. record { way = name_cut s h }) (λ h. record { way = wrong s name_default.text name_after })
+
+pub name_ends : (s : Rest) → Reads (Text Worded false NameSpan) s (reading.name s)
+name_ends s = ends_as s (reading.name s) (named_ends s) (λ x w f. changed (some_name x.0.text) w f) (λ w f. f)
+
+-- the first byte of a token, behind blanks
+pub first_cut : (test : ℕ → Bool) → test 0 ≡ false → (s : Rest) → test (head (skip s)) ≡ true →
+    Cut (λ v. (bs : List ℕ) × (AreBlanks bs × (v ≡ bs ++ head (skip s) ∷ []))) s (behind (skip s))
+first_cut test z s h =
+    let c = skip_cut s in
+    cut_before {N = λ v. (bs : List ℕ) × (AreBlanks bs × (v ≡ bs ++ head (skip s) ∷ []))} s (skip s) (behind (skip s))
+    c.front c.bytes c.place
+    (cut_as (skip s) (behind (skip s)) (byte_cut test z (skip s) h)
+    (λ w f. (c.front, (c.is, ap (λ t. c.front ++ t) f))))
+
+-- the signs
+pub plus_sign : IsSign 43
+plus_sign = (refl, (refl, (refl, refl)))
+
+pub minus_sign : IsSign 45
+minus_sign = (refl, (refl, (refl, refl)))
+
+pub open_parenthesis : IsSign 40
+open_parenthesis = (refl, (refl, (refl, refl)))
+
+pub close_parenthesis : IsSign 41
+close_parenthesis = (refl, (refl, (refl, refl)))
+
+pub open_bracket : IsSign 91
+open_bracket = (refl, (refl, (refl, refl)))
+
+pub close_bracket : IsSign 93
+close_bracket = (refl, (refl, (refl, refl)))
+
+pub open_brace : IsSign 123
+open_brace = (refl, (refl, (refl, refl)))
+
+pub close_brace : IsSign 125
+close_brace = (refl, (refl, (refl, refl)))
+
+pub comma : IsSign 44
+comma = (refl, (refl, (refl, refl)))
+
+pub colon : IsSign 58
+colon = (refl, (refl, (refl, refl)))
+
+pub semicolon : IsSign 59
+semicolon = (refl, (refl, (refl, refl)))
+
+pub bar : IsSign 124
+bar = (refl, (refl, (refl, refl)))
+
+pub exclamation : IsSign 33
+exclamation = (refl, (refl, (refl, refl)))
+
+pub quote : IsSign 34
+quote = (refl, (refl, (refl, refl)))
