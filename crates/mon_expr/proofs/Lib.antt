@@ -1,0 +1,12 @@
+mod BehindLemmas
+mod ConditionLemmas
+mod ExprLemmas
+mod FindLemmas
+mod GreedyLemmas
+mod MatchLemmas
+mod NextPlaces
+mod NoValueLemmas
+mod SumLemmas
+mod SumSizeLemmas
+mod TermLemmas
+mod TurnLemmas

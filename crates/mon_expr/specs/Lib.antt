@@ -1,0 +1,5 @@
+pub mod BoundPredicates
+pub mod BoundSums
+pub mod ConditionLists
+pub mod Greedy
+pub mod SumTerms
