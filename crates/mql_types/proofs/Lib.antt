@@ -1,0 +1,10 @@
+mod ColumnNameLemmas
+mod FaultLemmas
+mod ItemLemmas
+mod ListedLemmas
+mod OperandLemmas
+mod PredicateLemmas
+mod StepLemmas
+mod TakenLemmas
+mod TimesLemmas
+mod TypingLemmas

@@ -1,0 +1,9 @@
+-- What was made, in front of what is left.
+use Rattle.std.proofs.Common.{◌≡◌, ◌++◌, drop}
+use Rattle.mql_types.specs.Branches.{union_columns}
+use Rattle.mql_types.proofs.branches.union_columns.Given as goal
+
+abbrev pub invariant-loop-left : goal.invariant-loop-left
+invariant-loop-left l =
+    l.columns ++ union_columns l.schemas (drop l.left-index l.lefts) l.rest
+    ≡ union_columns l.schemas l.lefts l.rights

@@ -1,0 +1,16 @@
+pub mod Branches
+pub mod Faults
+pub mod Fetches
+pub mod Filters
+pub mod Groupings
+pub mod Items
+pub mod Levels
+pub mod Loads
+pub mod Meaning
+pub mod Nodes
+pub mod OperandLinks
+pub mod PartViews
+pub mod PredicateParts
+pub mod Times
+pub mod Typing
+pub mod Widths

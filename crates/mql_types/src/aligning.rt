@@ -1,0 +1,96 @@
+// Alignment, as a query says it and by default.
+ghost use Rattle.std.specs.Prelude.{◌≡◌, IfOk, map, None};
+ghost use Rattle.mql_types.specs.Faults.{first_with};
+ghost use Rattle.mql_types.specs.Nodes.{node_tree};
+ghost use Rattle.mql_types.specs.PartViews.{part_view};
+ghost use Rattle.mql_types.specs.Typing as spec;
+
+use crate::branches::with_width;
+use crate::faults::{Faults, TypeKind};
+use crate::nodes::{Node, NodeInfo};
+use crate::parts::Part;
+use crate::widths::Width;
+use mon_value::{Aligner, Column, Columns, Kind, Shared, TryCopy};
+use std::alloc::{AllocError, Global};
+
+/// A table: what isn't aligned yet is aligned here, at no place of the text.
+pub(crate) fn aligned_tree(alloc: Global, every: i64, part: Part) -> Result<Node, AllocError>
+    ensures node { IfOk result (λ node. node_tree node ≡ spec.aligned_tree every (part_view part)) }
+{
+    match part.points {
+        Some(Kind::Gauge) => align_node(alloc, None, Aligner::NextOlder(every), part.node),
+        Some(Kind::Delta) => align_node(alloc, None, Aligner::Delta(every), part.node),
+        None => Ok(part.node),
+    }
+}
+
+/// An alignment, which leaves the keys and widens the value.
+pub(crate) fn align_node(
+    alloc: Global,
+    at: Option<u32>,
+    by: Aligner,
+    input: Node,
+) -> Result<Node, AllocError>
+    ensures node { IfOk result (λ node. node_tree node ≡ spec.align_node at by (node_tree input)) }
+{
+    let columns = aligned_columns(alloc, by, input.columns())?;
+    let info = NodeInfo {
+        at,
+        columns: Shared::new(alloc, columns)?,
+        level: input.info().level,
+    };
+    Ok(Node::Align {
+        info,
+        by,
+        input: Box::new(alloc, input)?,
+    })
+}
+
+fn aligned_columns(alloc: Global, by: Aligner, columns: &[Column]) -> Result<Columns, AllocError>
+    ensures columns { IfOk result (λ made. made ≡ map (spec.aligned_column by) columns.now) }
+{
+    let mut made = Columns::new(alloc);
+    for column in columns {
+        made.push(aligned_column(by, column.copy(alloc)?))?;
+    }
+    Ok(made)
+}
+
+fn aligned_column(by: Aligner, column: Column) -> Column
+    ensures column { result ≡ spec.aligned_column by column }
+{
+    if column.key {
+        column
+    } else {
+        with_width(column, aligned_width(by))
+    }
+}
+
+fn aligned_width(by: Aligner) -> Width
+    ensures width { result ≡ spec.aligned_width by }
+{
+    match by {
+        Aligner::Delta(_) => Width::of_delta(),
+        Aligner::NextOlder(_) => Width::of_number(),
+    }
+}
+
+/// Tells an alignment of a table, of a gauge as a delta, or of a delta as a gauge.
+pub(crate) fn tell_align(points: Option<Kind>, at: u32, by: Aligner, found: &mut Faults)
+    ensures faults { found.new.first ≡ first_with found.old.first (spec.align_faults points at by) }
+{
+    let Some(kind) = points else {
+        found.tell(at, TypeKind::BadOrder);
+        return;
+    };
+    match kind {
+        Kind::Gauge => match by {
+            Aligner::Delta(_) => found.tell(at, TypeKind::NotDelta),
+            Aligner::NextOlder(_) => {}
+        },
+        Kind::Delta => match by {
+            Aligner::Delta(_) => {}
+            Aligner::NextOlder(_) => found.tell(at, TypeKind::NotGauge),
+        },
+    }
+}

@@ -1,0 +1,143 @@
+// What a fetch gives.
+ghost use Rattle.std.specs.Prelude.{◌≡◌, ◌++◌, IfOk, OnOk, map};
+ghost use Rattle.std.specs.Option.{option_copied};
+ghost use Rattle.mon_schema.specs.Faults.{texts_repeat};
+ghost use Rattle.mql_types.specs.Fetches as spec;
+
+use crate::places::has_name;
+use mon_value::{
+    Anchor, Column, Columns, Field, FieldType, Kind, MetricSchema, NUMBER_BITS, SUM_BITS,
+    TargetSchema, Text, TryCopy, ValueType,
+};
+use std::alloc::{AllocError, Global};
+
+/// The columns of a fetch, and none where a name is unknown.
+pub(crate) fn fetch_columns(
+    alloc: Global,
+    target: Option<&TargetSchema>,
+    metric: Option<&MetricSchema>,
+) -> Result<Columns, AllocError>
+    ensures columns { IfOk result (λ columns. columns
+        ≡ spec.fetch_columns (option_copied target.entry) (option_copied metric.entry)) }
+{
+    let Some(target) = target else {
+        return Ok(Columns::new(alloc));
+    };
+    let Some(metric) = metric else {
+        return Ok(Columns::new(alloc));
+    };
+    columns_fetched(alloc, target, metric)
+}
+
+// The target's fields and the metric's, and then the value.
+fn columns_fetched(
+    alloc: Global,
+    target: &TargetSchema,
+    metric: &MetricSchema,
+) -> Result<Columns, AllocError>
+    ensures columns { IfOk result (λ columns. columns ≡ spec.columns_fetched target.now metric.now) }
+{
+    let mut columns = target_columns(alloc, &target.name, target.fields.as_slice())?;
+    push_metric_keys(alloc, &mut columns, metric.fields.as_slice())?;
+    columns.push(value_column(alloc, metric)?)?;
+    Ok(columns)
+}
+
+// The fields of a target, each anchored to itself.
+fn target_columns(alloc: Global, schema: &Text, fields: &[Field]) -> Result<Columns, AllocError>
+    ensures columns { IfOk result (λ columns. columns ≡ spec.target_columns schema.now 0 fields.now) }
+{
+    let mut columns = Columns::new(alloc);
+    for (place, field) in fields.iter().enumerate() {
+        let anchor = Anchor::Field {
+            schema: schema.copy(alloc)?,
+            field: number_of(place)?,
+        };
+        columns.push(key_column(alloc, Some(anchor), field)?)?;
+    }
+    Ok(columns)
+}
+
+/// A place as a number of 32 bits; memory for more columns than that isn't found.
+pub(crate) fn number_of(place: usize) -> Result<u32, AllocError>
+    ensures number { IfOk result (λ number. number ≡ place) }
+{
+    match u32::try_from(place) {
+        Ok(number) => Ok(number),
+        Err(_) => Err(AllocError),
+    }
+}
+
+fn push_metric_keys(
+    alloc: Global,
+    columns: &mut Columns,
+    fields: &[Field],
+) -> Result<(), AllocError>
+    ensures columns { OnOk result (columns.new ≡ columns.old ++ map (spec.key_column None) fields.now) }
+{
+    for field in fields {
+        columns.push(key_column(alloc, None, field)?)?;
+    }
+    Ok(())
+}
+
+fn key_column(alloc: Global, anchor: Option<Anchor>, field: &Field) -> Result<Column, AllocError>
+    ensures column { IfOk result (λ column. column ≡ spec.key_column anchor field.now) }
+{
+    Ok(Column {
+        name: field.name.copy(alloc)?,
+        of: field_value_type(field.of),
+        key: true,
+        anchor,
+        cell_bits: NUMBER_BITS,
+        total_bits: SUM_BITS,
+    })
+}
+
+fn field_value_type(of: FieldType) -> ValueType
+    ensures of { result ≡ spec.field_value_type of }
+{
+    match of {
+        FieldType::Int => ValueType::Int,
+        FieldType::Bool => ValueType::Bool,
+        FieldType::Text => ValueType::Text,
+    }
+}
+
+fn value_column(alloc: Global, metric: &MetricSchema) -> Result<Column, AllocError>
+    ensures column { IfOk result (λ column. column ≡ spec.value_column metric.now) }
+{
+    Ok(Column {
+        name: metric.column.copy(alloc)?,
+        of: metric.value.copy(alloc)?,
+        key: false,
+        anchor: None,
+        cell_bits: NUMBER_BITS,
+        total_bits: SUM_BITS,
+    })
+}
+
+/// The kind of a metric; one that is unknown is taken for a gauge.
+pub(crate) fn kind_of(metric: Option<&MetricSchema>) -> Kind
+    ensures kind { result ≡ spec.kind_of (option_copied metric.entry) }
+{
+    match metric {
+        Some(metric) => metric.kind,
+        None => Kind::Gauge,
+    }
+}
+
+/// Whether two columns of a fetch, which are few, have one name.
+#[tactic(auto, using(crate::proofs::ColumnNameLemmas::named_columns))]
+pub(crate) fn names_repeat(columns: &[Column]) -> bool
+    ensures repeated { result ≡ texts_repeat (spec.column_names columns.now) }
+{
+    let mut rest = columns;
+    while let Some((column, others)) = rest.split_first() {
+        if has_name(others, &column.name) {
+            return true;
+        }
+        rest = others;
+    }
+    false
+}

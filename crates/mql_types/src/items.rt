@@ -1,0 +1,204 @@
+// What `value` gives: the keys, and a column for each item.
+ghost use Rattle.std.specs.Prelude.{◌≡◌, ◌++◌, IfOk, OnOk, map};
+ghost use Rattle.std.specs.List.{filter_map, flat_map};
+ghost use Rattle.std.specs.Option.{option_copied};
+ghost use Rattle.mql_ast.specs.Trees.{item_tree, sum_tree};
+ghost use Rattle.mql_types.specs.Faults.{first_with};
+ghost use Rattle.mql_types.specs.Fetches.{column_names};
+ghost use Rattle.mql_types.specs.Items as spec;
+
+use crate::faults::Faults;
+use crate::filters::tell_unknown;
+use crate::places::{column_named, push_some};
+use crate::sums::sum_operand;
+use crate::taken::Taken;
+use crate::widths::Width;
+use mon_value::{Column, Columns, Text, TryCopy, ValueType};
+use mql_ast::{Expr, Item, Name};
+use std::alloc::{AllocError, Global};
+
+/// The columns that `value` gives: the keys, and a column for each item of which the type is known. Tells what is
+/// wrong in the items.
+#[tactic(auto, using(crate::proofs::FaultLemmas::faults))]
+pub(crate) fn value_columns(
+    alloc: Global,
+    columns: &[Column],
+    items: &[Item],
+    found: &mut Faults,
+) -> Result<Columns, AllocError>
+    ensures columns { IfOk result (λ made. made ≡ spec.value_columns columns.now (map item_tree items.now)) }
+    ensures faults { OnOk result (found.new.first
+        ≡ first_with found.old.first (spec.value_faults columns.now (map item_tree items.now))) }
+{
+    let mut taken = Taken::new(alloc)?;
+    let keys = keys(alloc, columns, &mut taken)?;
+    tell_names(items, &mut taken, found)?;
+    item_columns(alloc, columns, items, keys, found)
+}
+
+// The keys, whose names are taken.
+fn keys<'a>(
+    alloc: Global,
+    columns: &'a [Column],
+    taken: &mut Taken<'a>,
+) -> Result<Columns, AllocError>
+    ensures keys { IfOk result (λ keys. keys ≡ spec.key_columns columns.now) }
+    ensures taken { OnOk result (taken.new
+        ≡ spec.with_names taken.old (column_names (spec.key_columns columns.now))) }
+{
+    let mut keys = Columns::new(alloc);
+    for column in columns {
+        if column.key {
+            taken.take(column.name.as_str())?;
+            keys.push(column.copy(alloc)?)?;
+        }
+    }
+    Ok(keys)
+}
+
+// Takes the names that items give, and tells those that were taken.
+#[tactic(auto, using(crate::proofs::TakenLemmas::taken_names))]
+fn tell_names<'a>(
+    items: &'a [Item],
+    taken: &mut Taken<'a>,
+    found: &mut Faults,
+) -> Result<(), AllocError>
+    ensures faults { OnOk result (found.new.first ≡ first_with found.old.first
+        (spec.taken_faults taken.old (map spec.item_name (map item_tree items.now)))) }
+{
+    for item in items {
+        taken.tell(item_text(item), item_at(item), found)?;
+    }
+    Ok(())
+}
+
+// The keys, and a column for each item of which the type is known.
+#[tactic(auto, using(crate::proofs::ItemLemmas::item_steps))]
+fn item_columns(
+    alloc: Global,
+    columns: &[Column],
+    items: &[Item],
+    keys: Columns,
+    found: &mut Faults,
+) -> Result<Columns, AllocError>
+    ensures columns { IfOk result (λ made. made
+        ≡ keys ++ filter_map (spec.item_column columns.now) (map item_tree items.now)) }
+    ensures faults { OnOk result (found.new.first ≡ first_with found.old.first
+        (flat_map (spec.item_sum_faults columns.now) (map item_tree items.now))) }
+{
+    let mut made = keys;
+    for item in items {
+        let column = item_column(alloc, columns, item, found)?;
+        push_some(&mut made, column)?;
+    }
+    Ok(made)
+}
+
+// The column that an item gives, if its type is known. Tells what is wrong in it.
+fn item_column(
+    alloc: Global,
+    columns: &[Column],
+    item: &Item,
+    found: &mut Faults,
+) -> Result<Option<Column>, AllocError>
+    ensures column { IfOk result (λ column. column ≡ spec.item_column columns.now (item_tree item.now)) }
+    ensures faults { OnOk result (found.new.first
+        ≡ first_with found.old.first (spec.item_sum_faults columns.now (item_tree item.now))) }
+{
+    match column_alone(&item.sum) {
+        Some(source) => {
+            tell_unknown(columns, source, found);
+            renamed_column(alloc, columns, &source.text, item_text(item))
+        }
+        None => {
+            let sum = sum_operand(alloc, columns, &item.sum, found)?;
+            match sum.width {
+                Some(width) => {
+                    let column = plain_column(alloc, item_text(item), ValueType::Int, width)?;
+                    Ok(Some(column))
+                }
+                None => Ok(None),
+            }
+        }
+    }
+}
+
+// A column as it is, by another name, where it is known.
+fn renamed_column(
+    alloc: Global,
+    columns: &[Column],
+    source: &Text,
+    name: &str,
+) -> Result<Option<Column>, AllocError>
+    ensures column { IfOk result (λ column. column ≡ spec.renamed name.now source.now columns.now) }
+{
+    match column_named(columns, source) {
+        Some(column) => {
+            let of = column.of.copy(alloc)?;
+            Ok(Some(plain_column(alloc, name, of, Width::of(column))?))
+        }
+        None => Ok(None),
+    }
+}
+
+/// A column without an anchor that is no key.
+pub(crate) fn plain_column(
+    alloc: Global,
+    name: &str,
+    of: ValueType,
+    width: Width,
+) -> Result<Column, AllocError>
+    ensures column { IfOk result (λ column. column ≡ spec.plain_column name.now of width) }
+{
+    Ok(Column {
+        name: Text::from_str(alloc, name)?,
+        of,
+        key: false,
+        anchor: None,
+        cell_bits: width.cell,
+        total_bits: width.total,
+    })
+}
+
+// The column that a sum is alone, if it is one.
+fn column_alone(sum: &Expr) -> Option<&Name>
+    ensures column { option_copied result ≡ spec.column_alone (sum_tree sum.now) }
+{
+    match sum {
+        Expr::Column(name) => Some(name),
+        Expr::Number { at: _, value: _ } => None,
+        Expr::Plus(_, _) => None,
+        Expr::Minus(_, _) => None,
+        Expr::Percentile {
+            at: _,
+            column: _,
+            p: _,
+        } => None,
+    }
+}
+
+// The name that an item gives its column.
+fn item_text(item: &Item) -> &str
+    ensures text { result.now ≡ (spec.item_name (item_tree item.now)).text }
+{
+    match &item.name {
+        Some(name) => name.text.as_str(),
+        None => match column_alone(&item.sum) {
+            Some(name) => name.text.as_str(),
+            None => "",
+        },
+    }
+}
+
+// Where that name stands.
+fn item_at(item: &Item) -> u32
+    ensures at { result ≡ (spec.item_name (item_tree item.now)).at }
+{
+    match &item.name {
+        Some(name) => name.at,
+        None => match column_alone(&item.sum) {
+            Some(name) => name.at,
+            None => 0,
+        },
+    }
+}

@@ -1,0 +1,193 @@
+// Where an operation is done.
+ghost use Rattle.std.specs.Prelude.{◌≡◌, IfOk};
+ghost use Rattle.std.specs.List.{list_any};
+ghost use Rattle.mon_value.specs.declared.columns.Anchor.TheVariants as anchor;
+ghost use Rattle.mql_types.specs.Levels as spec;
+
+use mon_schema::Schemas;
+use mon_value::{Anchor, Column, Field, Text, TryCopy};
+use std::alloc::{AllocError, Global};
+
+/// How high an operation is done: each leaf does it for its own rows, each zone for those of its leaves,
+/// or the root for all.
+#[derive(Clone, Copy, Debug, PartialEq, Eq)]
+pub enum Level {
+    Leaf,
+    Zone,
+    Root,
+}
+
+impl Level {
+    /// The higher of two levels.
+    pub(crate) fn higher(self, other: Level) -> Level
+        ensures level { result ≡ spec.higher_level self other }
+    {
+        match self {
+            Level::Leaf => other,
+            Level::Zone => match other {
+                Level::Root => Level::Root,
+                _ => Level::Zone,
+            },
+            Level::Root => Level::Root,
+        }
+    }
+}
+
+/// The level at which rows that agree in some columns can be brought together, where they come from a level: a leaf,
+/// where the columns tell the whole target of one schema; a zone, where they tell its location; or else the root.
+pub(crate) fn meeting_level(schemas: &Schemas, level: Level, columns: &[Column]) -> Level
+    ensures level { result ≡ spec.meeting_level schemas.now level columns.now }
+{
+    match level {
+        Level::Leaf => {
+            if tell_target(schemas, columns) {
+                Level::Leaf
+            } else {
+                located_level(schemas, columns)
+            }
+        }
+        Level::Zone => located_level(schemas, columns),
+        Level::Root => Level::Root,
+    }
+}
+
+fn located_level(schemas: &Schemas, columns: &[Column]) -> Level
+    ensures level { result ≡ spec.located_level schemas.now columns.now }
+{
+    if have_location(schemas, columns) {
+        Level::Zone
+    } else {
+        Level::Root
+    }
+}
+
+fn have_location(schemas: &Schemas, columns: &[Column]) -> bool
+    ensures had { result ≡ list_any (spec.is_located schemas.now) columns.now }
+{
+    columns.iter().any(|column| is_located(schemas, column))
+}
+
+// Whether the columns tell the whole target of one schema.
+fn tell_target(schemas: &Schemas, columns: &[Column]) -> bool
+    ensures told { result ≡ spec.tell_target schemas.now columns.now }
+{
+    columns.iter().any(|column| match &column.anchor {
+        Some(anchor) => names_target(schemas, columns, anchor),
+        None => false,
+    })
+}
+
+// Whether the columns tell the whole target of the schema that an anchor names.
+fn names_target(schemas: &Schemas, columns: &[Column], anchor: &Anchor) -> bool
+    ensures told { result ≡ spec.names_target schemas.now columns.now anchor.now }
+{
+    match anchor {
+        Anchor::Field { schema, field: _ } => match schemas.target(schema.as_bytes()) {
+            Some(target) => have_fields(columns, schema, target.fields.as_slice()),
+            None => false,
+        },
+        Anchor::Location => false,
+    }
+}
+
+// Whether each of a schema's fields is the anchor of a column.
+fn have_fields(columns: &[Column], schema: &Text, fields: &[Field]) -> bool
+    ensures had { result ≡ spec.have_fields schema.now 0 fields.now columns.now }
+{
+    for (place, _field) in fields.iter().enumerate() {
+        if !have_field(columns, schema, place) {
+            return false;
+        }
+    }
+    true
+}
+
+// Whether one of the columns is anchored to a field of a schema.
+fn have_field(columns: &[Column], wanted: &Text, place: usize) -> bool
+    ensures had { result ≡ list_any (spec.is_anchored (anchor.Field wanted.now place)) columns.now }
+{
+    columns.iter().any(|column| is_field(column, wanted, place))
+}
+
+// Whether a column is anchored to a field of a schema.
+fn is_field(column: &Column, wanted: &Text, place: usize) -> bool
+    ensures field { result ≡ spec.is_anchored (anchor.Field wanted.now place) column.now }
+{
+    match &column.anchor {
+        Some(Anchor::Field { schema, field }) => *wanted == *schema && place == *field as usize,
+        _ => false,
+    }
+}
+
+// Whether a column says where its targets are.
+fn is_located(schemas: &Schemas, column: &Column) -> bool
+    ensures located { result ≡ spec.is_located schemas.now column.now }
+{
+    match &column.anchor {
+        Some(anchor) => is_location_anchor(schemas, anchor),
+        None => false,
+    }
+}
+
+// Whether an anchor says where a target is.
+fn is_location_anchor(schemas: &Schemas, anchor: &Anchor) -> bool
+    ensures location { result ≡ spec.is_location_anchor schemas.now anchor.now }
+{
+    match anchor {
+        Anchor::Location => true,
+        Anchor::Field { schema, field } => match schemas.target(schema.as_bytes()) {
+            Some(target) => marks_location(target.fields.as_slice(), *field),
+            None => false,
+        },
+    }
+}
+
+// Whether the field at a place is marked as the location.
+fn marks_location(fields: &[Field], place: u32) -> bool
+    ensures marked { result ≡ spec.marks_location place fields.now }
+{
+    match fields.get(place as usize) {
+        Some(field) => field.location,
+        None => false,
+    }
+}
+
+/// What two columns that hold the same are both anchored to.
+pub(crate) fn common_anchor(
+    alloc: Global,
+    schemas: &Schemas,
+    one: &Option<Anchor>,
+    other: &Option<Anchor>,
+) -> Result<Option<Anchor>, AllocError>
+    ensures anchor { IfOk result (λ common. common ≡ spec.common_anchor schemas.now one.now other.now) }
+{
+    let Some(one) = one else {
+        return Ok(None);
+    };
+    let Some(other) = other else {
+        return Ok(None);
+    };
+    if same_anchor(one, other) {
+        return Ok(Some(one.copy(alloc)?));
+    }
+    if is_location_anchor(schemas, one) && is_location_anchor(schemas, other) {
+        return Ok(Some(Anchor::Location));
+    }
+    Ok(None)
+}
+
+// Whether two anchors are the same.
+fn same_anchor(one: &Anchor, other: &Anchor) -> bool
+    ensures same { result ≡ spec.same_anchor one.now other.now }
+{
+    match one {
+        Anchor::Location => matches!(other, Anchor::Location),
+        Anchor::Field { schema, field } => match other {
+            Anchor::Field {
+                schema: other,
+                field: place,
+            } => *schema == *other && *field == *place,
+            Anchor::Location => false,
+        },
+    }
+}

@@ -1,0 +1,231 @@
+// Operations on a part of a query.
+ghost use Rattle.std.specs.Prelude.{◌≡◌, ◌++◌, IfOk, OnOk, map, Some};
+ghost use Rattle.mql_ast.specs.Trees.{deed_tree, item_tree, op_tree, predicate_tree};
+ghost use Rattle.mql_types.specs.Faults.{first_with};
+ghost use Rattle.mql_types.specs.Filters.{condition_faults, predicate_faults};
+ghost use Rattle.mql_types.specs.Items.{is_number, value_faults};
+ghost use Rattle.mql_types.specs.Levels.{meeting_level};
+ghost use Rattle.mql_types.specs.Nodes as node;
+ghost use Rattle.mql_types.specs.Nodes.{columns_of, level_of, node_tree};
+ghost use Rattle.mql_types.specs.PartViews.{part_view};
+ghost use Rattle.mql_types.specs.Typing as spec;
+
+use crate::aligning::{align_node, aligned_tree, tell_align};
+use crate::faults::{Faults, TypeKind, TypeWord, type_word};
+use crate::fetches::number_of;
+use crate::filters::tell_predicate;
+use crate::groupings::Grouping;
+use crate::items::value_columns;
+use crate::levels::{Level, meeting_level};
+use crate::nodes::{Node, NodeInfo};
+use crate::parts::{Part, Setting, table};
+use crate::places::{column_named, place_named};
+use mon_value::{Column, Columns, Shared, TryCopy, ValueType};
+use mql_ast::{Aggregate, Item, Items, Name, Op, OpKind, Predicate};
+use std::alloc::{AllocError, Global};
+
+/// A part with operations more. Tells what is wrong in them.
+#[tactic(auto, using(crate::proofs::FaultLemmas::faults))]
+pub(crate) fn ops_part(
+    setting: Setting<'_>,
+    part: Part,
+    ops: &[Op],
+    found: &mut Faults,
+) -> Result<Part, AllocError>
+    ensures part { IfOk result (λ made. part_view made
+        ≡ spec.ops_part setting.entry.schemas.now setting.entry.every (part_view part) (map op_tree ops.now)) }
+    ensures faults { OnOk result (found.new.first ≡ first_with found.old.first
+        (spec.ops_faults setting.entry.schemas.now setting.entry.every (part_view part) (map op_tree ops.now))) }
+{
+    let mut made = part;
+    for op in ops {
+        made = op_part(setting, made, op, found)?;
+    }
+    Ok(made)
+}
+
+// A part with an operation more.
+fn op_part(
+    setting: Setting<'_>,
+    part: Part,
+    op: &Op,
+    found: &mut Faults,
+) -> Result<Part, AllocError>
+    ensures part { IfOk result (λ made. part_view made ≡ spec.deed_part setting.entry.schemas.now setting.entry.every
+        (part_view part) op.now.at (deed_tree op.now.what)) }
+    ensures faults { OnOk result (found.new.first ≡ first_with found.old.first
+        (spec.deed_faults setting.entry.every (part_view part) op.now.at (deed_tree op.now.what))) }
+{
+    match &op.what {
+        OpKind::Filter(predicate) => filter_part(setting.alloc, part, op.at, predicate, found),
+        OpKind::Align(by) => {
+            tell_align(part.points, op.at, *by, found);
+            let node = align_node(setting.alloc, Some(op.at), *by, part.node)?;
+            Ok(table(node))
+        }
+        OpKind::GroupBy(names, aggregates) => {
+            let input = aligned_tree(setting.alloc, setting.every, part)?;
+            let grouping = Grouping::new(
+                setting.alloc,
+                input.columns(),
+                names.as_slice(),
+                aggregates.as_slice(),
+                found,
+            )?;
+            Ok(table(group_node(setting, op.at, grouping, input)?))
+        }
+        OpKind::Value(items) => {
+            let input = aligned_tree(setting.alloc, setting.every, part)?;
+            Ok(table(value_node(setting.alloc, op.at, items, input, found)?))
+        }
+        OpKind::Top(most, column) => {
+            let input = aligned_tree(setting.alloc, setting.every, part)?;
+            tell_rank(input.columns(), column, found);
+            Ok(table(top_node(setting.alloc, op.at, *most, column, input)?))
+        }
+        OpKind::Every(_) => Ok(part),
+        OpKind::Within(_) => Ok(part),
+    }
+}
+
+// A filter leaves the columns and the level.
+fn filter_part(
+    alloc: Global,
+    part: Part,
+    at: u32,
+    predicate: &Predicate,
+    found: &mut Faults,
+) -> Result<Part, AllocError>
+    ensures part { IfOk result (λ made. part_view made
+        ≡ spec.filter_part at (predicate_tree predicate.now) (part_view part)) }
+    ensures faults { OnOk result (found.new.first ≡ first_with found.old.first
+        (predicate_faults (columns_of (node_tree part.node)) (predicate_tree predicate.now))) }
+{
+    tell_predicate(alloc, part.node.columns(), predicate, found)?;
+    let info = NodeInfo {
+        at: Some(at),
+        columns: part.node.info().columns.copy(alloc)?,
+        level: part.node.info().level,
+    };
+    let by = predicate.copy(alloc)?;
+    let input = Box::new(alloc, part.node)?;
+    Ok(Part {
+        node: Node::Filter { info, by, input },
+        points: part.points,
+    })
+}
+
+// Groups are made where rows that agree in the listed columns meet.
+fn group_node(
+    setting: Setting<'_>,
+    at: u32,
+    grouping: Grouping,
+    input: Node,
+) -> Result<Node, AllocError>
+    ensures node { IfOk result (λ made. node_tree made ≡ node.GroupBy
+        (spec.info (Some at) (grouping.keys ++ grouping.made)
+        (meeting_level setting.entry.schemas.now (level_of (node_tree input)) grouping.keys))
+        grouping.places grouping.aggregates (node_tree input)) }
+{
+    let level = meeting_level(
+        setting.schemas,
+        input.info().level,
+        grouping.keys.as_slice(),
+    );
+    let columns = both_columns(grouping.keys, grouping.made)?;
+    let info = NodeInfo {
+        at: Some(at),
+        columns: Shared::new(setting.alloc, columns)?,
+        level,
+    };
+    Ok(Node::GroupBy {
+        info,
+        by: grouping.places,
+        with: grouping.aggregates,
+        input: Box::new(setting.alloc, input)?,
+    })
+}
+
+// Columns with others behind them.
+fn both_columns(keys: Columns, made: Columns) -> Result<Columns, AllocError>
+    ensures columns { IfOk result (λ columns. columns ≡ keys ++ made) }
+{
+    let mut columns = keys;
+    for column in made {
+        columns.push(column)?;
+    }
+    Ok(columns)
+}
+
+fn value_node(
+    alloc: Global,
+    at: u32,
+    items: &Items,
+    input: Node,
+    found: &mut Faults,
+) -> Result<Node, AllocError>
+    ensures node { IfOk result (λ made. node_tree made
+        ≡ spec.value_node at (map item_tree items.now) (node_tree input)) }
+    ensures faults { OnOk result (found.new.first ≡ first_with found.old.first
+        (value_faults (columns_of (node_tree input)) (map item_tree items.now))) }
+{
+    let columns = value_columns(alloc, input.columns(), items.as_slice(), found)?;
+    let info = NodeInfo {
+        at: Some(at),
+        columns: Shared::new(alloc, columns)?,
+        level: input.info().level,
+    };
+    Ok(Node::Value {
+        info,
+        items: copied_items(alloc, items)?,
+        input: Box::new(alloc, input)?,
+    })
+}
+
+fn copied_items(alloc: Global, items: &Items) -> Result<Items, AllocError>
+    ensures items { IfOk result (λ copied. map item_tree copied ≡ map item_tree items.now) }
+{
+    let mut copied = Items::new(alloc);
+    for item in items {
+        copied.push(item.copy(alloc)?)?;
+    }
+    Ok(copied)
+}
+
+// The rows that come first are known at the root alone.
+fn top_node(
+    alloc: Global,
+    at: u32,
+    most: u32,
+    column: &Name,
+    input: Node,
+) -> Result<Node, AllocError>
+    ensures node { IfOk result (λ made. node_tree made ≡ spec.top_node at most column.now (node_tree input)) }
+{
+    let place = place_named(input.columns(), &column.text).unwrap_or(0);
+    let info = NodeInfo {
+        at: Some(at),
+        columns: input.info().columns.copy(alloc)?,
+        level: Level::Root,
+    };
+    Ok(Node::Top {
+        info,
+        most,
+        column: number_of(place)?,
+        input: Box::new(alloc, input)?,
+    })
+}
+
+// Tells a column that isn't there, or isn't of numbers, by which rows are ranked.
+fn tell_rank(columns: &[Column], name: &Name, found: &mut Faults)
+    ensures faults { found.new.first ≡ first_with found.old.first
+        (condition_faults columns.now name.now is_number TypeWord.Int) }
+{
+    match column_named(columns, &name.text) {
+        Some(column) => {
+            let kind = TypeKind::Mismatch(type_word(&column.of), TypeWord::Int);
+            found.tell_where(!matches!(column.of, ValueType::Int), name.at, kind);
+        }
+        None => found.tell(name.at, TypeKind::UnknownColumn),
+    }
+}

@@ -1,0 +1,278 @@
+// The parts of a query, typed from the left.
+ghost use Rattle.std.specs.Prelude.{◌≡◌, IfOk, OnOk, map};
+ghost use Rattle.mql_ast.specs.Trees.{branches, pipe_tree, source_tree};
+ghost use Rattle.mql_types.specs.Faults.{first_with};
+ghost use Rattle.mql_types.specs.Branches as branch;
+ghost use Rattle.mql_types.specs.Fetches as fetch;
+ghost use Rattle.mql_types.specs.Nodes.{columns_of, node_tree};
+ghost use Rattle.mql_types.specs.PartViews.{part_view};
+ghost use Rattle.mql_types.specs.Typing as spec;
+
+use crate::aligning::aligned_tree;
+use crate::branches::{common_columns, join_columns, same_columns, tell_pairs, union_columns};
+use crate::faults::{Faults, TypeKind};
+use crate::fetches::{fetch_columns, kind_of, names_repeat};
+use crate::levels::{Level, meeting_level};
+use crate::nodes::{Node, NodeInfo};
+use crate::operations::ops_part;
+use crate::widths::tell_wide_columns;
+use mon_schema::Schemas;
+use mon_value::{Columns, Kind, Shared, Text, TryCopy};
+use mql_ast::{How, Name, Pipe, Source};
+use std::alloc::{AllocError, Global};
+
+/// What every part is typed by: the schemas that are held, and the seconds from one time to the next.
+#[derive(Clone, Copy)]
+pub(crate) struct Setting<'a> {
+    pub(crate) alloc: Global,
+    pub(crate) schemas: &'a Schemas,
+    pub(crate) every: i64,
+}
+
+/// A part of a query: its tree, and the kind of its metric while its points aren't aligned.
+#[derive(Drop)]
+pub(crate) struct Part {
+    pub(crate) node: Node,
+    pub(crate) points: Option<Kind>,
+}
+
+/// A table.
+pub(crate) fn table(node: Node) -> Part
+    ensures part { part_view result ≡ spec.table (node_tree node) }
+{
+    Part { node, points: None }
+}
+
+/// The part that a pipe is. Tells what is wrong in it.
+#[cycle(parts)]
+#[tactic(auto, using(crate::proofs::FaultLemmas::faults))]
+pub(crate) fn pipe_part(
+    setting: Setting<'_>,
+    pipe: &Pipe,
+    found: &mut Faults,
+) -> Result<Part, AllocError>
+    ensures part { IfOk result (λ part. part_view part
+        ≡ spec.pipe_part setting.entry.schemas.now setting.entry.every (pipe_tree pipe.now)) }
+    ensures faults { OnOk result (found.new.first ≡ first_with found.old.first
+        (spec.pipe_faults setting.entry.schemas.now setting.entry.every (pipe_tree pipe.now))) }
+{
+    let source = source_part(setting, &pipe.source, found)?;
+    ops_part(setting, source, pipe.ops.as_slice(), found)
+}
+
+#[cycle(parts)]
+#[tactic(auto, using(crate::proofs::FaultLemmas::faults))]
+fn source_part(
+    setting: Setting<'_>,
+    source: &Source,
+    found: &mut Faults,
+) -> Result<Part, AllocError>
+    ensures part { IfOk result (λ part. part_view part
+        ≡ spec.source_part setting.entry.schemas.now setting.entry.every (source_tree source.now)) }
+    ensures faults { OnOk result (found.new.first ≡ first_with found.old.first
+        (spec.source_faults setting.entry.schemas.now setting.entry.every (source_tree source.now))) }
+{
+    match source {
+        Source::Fetch { at, schema, metric } => fetch_part(setting, *at, schema, metric, found),
+        Source::Branches {
+            at: _,
+            pipes,
+            how,
+            how_at,
+        } => {
+            let how = Joint {
+                how: *how,
+                at: *how_at,
+            };
+            let node = branches_node(setting, pipes.as_slice(), how, found)?;
+            Ok(table(node))
+        }
+    }
+}
+
+// Branches are taken from the left, two at a time.
+#[cycle(parts)]
+#[tactic(auto, using(crate::proofs::FaultLemmas::faults))]
+fn branches_node(
+    setting: Setting<'_>,
+    pipes: &[Pipe],
+    how: Joint,
+    found: &mut Faults,
+) -> Result<Node, AllocError>
+    ensures node { IfOk result (λ node. node_tree node
+        ≡ spec.branches_node setting.entry.schemas.now setting.entry.every how.how how.at
+        (branches (map pipe_tree pipes.now))) }
+    ensures faults { OnOk result (found.new.first ≡ first_with found.old.first
+        (spec.branches_faults setting.entry.schemas.now setting.entry.every how.how how.at
+        (branches (map pipe_tree pipes.now)))) }
+{
+    let Some((first, rest)) = pipes.split_first() else {
+        return no_branch(setting.alloc, how.at);
+    };
+    let mut left = branch_table(setting, first, found)?;
+    for pipe in rest {
+        let right = branch_table(setting, pipe, found)?;
+        left = branch_node(setting, how, left, right, found)?;
+    }
+    Ok(left)
+}
+
+// A branch, whose table is aligned.
+#[cycle(parts)]
+#[tactic(auto, using(crate::proofs::FaultLemmas::faults))]
+fn branch_table(setting: Setting<'_>, pipe: &Pipe, found: &mut Faults) -> Result<Node, AllocError>
+    ensures node { IfOk result (λ node. node_tree node ≡ spec.aligned_tree setting.entry.every
+        (spec.pipe_part setting.entry.schemas.now setting.entry.every (pipe_tree pipe.now))) }
+    ensures faults { OnOk result (found.new.first ≡ first_with found.old.first
+        (spec.pipe_faults setting.entry.schemas.now setting.entry.every (pipe_tree pipe.now))) }
+{
+    let part = pipe_part(setting, pipe, found)?;
+    aligned_tree(setting.alloc, setting.every, part)
+}
+
+/// How branches come together, and where the text says so.
+#[derive(Clone, Copy)]
+pub(crate) struct Joint {
+    pub(crate) how: How,
+    pub(crate) at: u32,
+}
+
+// Two tables brought together.
+fn branch_node(
+    setting: Setting<'_>,
+    how: Joint,
+    left: Node,
+    right: Node,
+    found: &mut Faults,
+) -> Result<Node, AllocError>
+    ensures node { IfOk result (λ node. node_tree node
+        ≡ spec.branch_node setting.entry.schemas.now how.how how.at (node_tree left) (node_tree right)) }
+    ensures faults { OnOk result (found.new.first ≡ first_with found.old.first
+        (spec.branch_faults setting.entry.schemas.now how.how how.at
+        (columns_of (node_tree left)) (columns_of (node_tree right)))) }
+{
+    match how.how {
+        How::Join => {
+            let info = join_info(setting, how.at, &left, &right, found)?;
+            let left = Box::new(setting.alloc, left)?;
+            let right = Box::new(setting.alloc, right)?;
+            Ok(Node::Join { info, left, right })
+        }
+        How::Union => {
+            let info = union_info(setting, how.at, &left, &right, found)?;
+            let left = Box::new(setting.alloc, left)?;
+            let right = Box::new(setting.alloc, right)?;
+            Ok(Node::Union { info, left, right })
+        }
+    }
+}
+
+// What is told of a join.
+#[tactic(auto, using(crate::proofs::FaultLemmas::faults))]
+fn join_info(
+    setting: Setting<'_>,
+    at: u32,
+    left: &Node,
+    right: &Node,
+    found: &mut Faults,
+) -> Result<NodeInfo, AllocError>
+    ensures info { IfOk result (λ made. made
+        ≡ spec.join_info setting.entry.schemas.now at (node_tree left.now) (node_tree right.now)) }
+    ensures faults { OnOk result (found.new.first ≡ first_with found.old.first (branch.join_faults
+        setting.entry.schemas.now at (columns_of (node_tree left.now)) (columns_of (node_tree right.now)))) }
+{
+    let lefts = left.columns();
+    let rights = right.columns();
+    tell_pairs(at, lefts, rights, found);
+    let columns = join_columns(setting.alloc, setting.schemas, lefts, rights)?;
+    tell_wide_columns(columns.as_slice(), at, found);
+    let common = common_columns(setting.alloc, setting.schemas, lefts, rights)?;
+    let level = left.info().level.higher(right.info().level);
+    Ok(NodeInfo {
+        at: Some(at),
+        columns: Shared::new(setting.alloc, columns)?,
+        level: meeting_level(setting.schemas, level, common.as_slice()),
+    })
+}
+
+// What is told of a union.
+#[tactic(auto, using(crate::proofs::FaultLemmas::faults))]
+fn union_info(
+    setting: Setting<'_>,
+    at: u32,
+    left: &Node,
+    right: &Node,
+    found: &mut Faults,
+) -> Result<NodeInfo, AllocError>
+    ensures info { IfOk result (λ made. made
+        ≡ spec.union_info setting.entry.schemas.now at (node_tree left.now) (node_tree right.now)) }
+    ensures faults { OnOk result (found.new.first ≡ first_with found.old.first (branch.union_faults
+        setting.entry.schemas.now at (columns_of (node_tree left.now)) (columns_of (node_tree right.now)))) }
+{
+    let lefts = left.columns();
+    let rights = right.columns();
+    found.tell_where(!same_columns(lefts, rights), at, TypeKind::BranchColumns);
+    let columns = union_columns(setting.alloc, setting.schemas, lefts, rights)?;
+    tell_wide_columns(columns.as_slice(), at, found);
+    Ok(NodeInfo {
+        at: Some(at),
+        columns: Shared::new(setting.alloc, columns)?,
+        level: left.info().level.higher(right.info().level),
+    })
+}
+
+// A fetch, which each leaf does.
+#[tactic(auto, using(crate::proofs::FaultLemmas::faults))]
+fn fetch_part(
+    setting: Setting<'_>,
+    at: u32,
+    schema: &Name,
+    metric: &Name,
+    found: &mut Faults,
+) -> Result<Part, AllocError>
+    ensures part { IfOk result (λ part. part_view part
+        ≡ spec.fetch_part setting.entry.schemas.now at schema.now metric.now) }
+    ensures faults { OnOk result (found.new.first ≡ first_with found.old.first
+        (fetch.fetch_faults setting.entry.schemas.now at schema.now metric.now)) }
+{
+    let target = setting.schemas.target(schema.text.as_bytes());
+    let measured = setting.schemas.metric(metric.text.as_bytes());
+    found.tell_where(target.is_none(), schema.at, TypeKind::UnknownSchema);
+    found.tell_where(measured.is_none(), metric.at, TypeKind::UnknownMetric);
+    let columns = fetch_columns(setting.alloc, target, measured)?;
+    found.tell_where(
+        names_repeat(columns.as_slice()),
+        at,
+        TypeKind::DuplicateColumn,
+    );
+    let info = NodeInfo {
+        at: Some(at),
+        columns: Shared::new(setting.alloc, columns)?,
+        level: Level::Leaf,
+    };
+    let node = Node::Fetch {
+        info,
+        schema: schema.text.copy(setting.alloc)?,
+        metric: metric.text.copy(setting.alloc)?,
+    };
+    Ok(Part {
+        node,
+        points: Some(kind_of(measured)),
+    })
+}
+
+// What stands for branches where there is none, as in no text.
+fn no_branch(alloc: Global, at: u32) -> Result<Node, AllocError>
+    ensures node { IfOk result (λ node. node_tree node ≡ spec.no_branch at) }
+{
+    let info = NodeInfo {
+        at: Some(at),
+        columns: Shared::new(alloc, Columns::new(alloc))?,
+        level: Level::Leaf,
+    };
+    Ok(Node::Fetch {
+        info,
+        schema: Text::from_str(alloc, "")?,
+        metric: Text::from_str(alloc, "")?,
+    })
+}
