@@ -2,29 +2,42 @@
 //! differs and how many cases held.
 #![tactic(auto)]
 
+mod alignable;
 mod calls;
 mod case_tables;
 mod configurations;
 mod descriptions;
 mod escapes;
+mod expressions;
 mod files;
+mod groupable;
+mod groups;
 mod points;
+mod queries;
 mod records;
 mod runs;
 mod schemas;
 mod scripts;
+mod series;
+mod sizes;
 mod tables;
 mod trouble;
+mod typing;
 mod values;
 
 use crate::calls::{Report, check};
 use crate::case_tables::{CaseTable, read_table};
 use crate::configurations::Configurations;
+use crate::expressions::{AllPatterns, Patterns, Predicates};
+use crate::groups::Groups;
 use crate::points::PointTexts;
+use crate::queries::{QueryFronts, QueryTexts};
 use crate::runs::Runs;
 use crate::schemas::SchemaLines;
 use crate::scripts::Scripts;
+use crate::series::Alignments;
 use crate::tables::Tables;
+use crate::typing::TypedTexts;
 use crate::values::{NumberTexts, Orders, TargetOrders, ValueTexts};
 use std::alloc::AllocError;
 use std::process::ExitCode;
@@ -96,8 +109,16 @@ fn report_on(
         "mon_schema::Schemas" => check(rt, name, table, SchemaLines::new(alloc))?,
         "mon_config::read_config" => check(rt, name, table, Configurations::new(alloc))?,
         "mon_points::read_rows" => check(rt, name, table, PointTexts::new(alloc))?,
+        "mon_fold::align" => check(rt, name, table, Alignments::new(alloc))?,
+        "mon_fold::group" => check(rt, name, table, Groups::new(alloc))?,
         "mon_table" => check(rt, name, table, Tables::new(alloc))?,
         "mon_script::read_script" => check(rt, name, table, Scripts::new(alloc))?,
+        "mon_expr::matches" => check(rt, name, table, Patterns::new(alloc))?,
+        "mon_expr::matches on all texts" => check(rt, name, table, AllPatterns::new(alloc))?,
+        "mon_expr::holds" => check(rt, name, table, Predicates::new(alloc))?,
+        "mql_parse::parse" => check(rt, name, table, QueryTexts::new(alloc))?,
+        "mql_parse::parse at fronts" => check(rt, name, table, QueryFronts::new(alloc))?,
+        "mql_types::check" => check(rt, name, table, TypedTexts::new(alloc))?,
         "mon_run::run" => check(rt, name, table, Runs::new(alloc))?,
         _ => return Ok(None),
     };

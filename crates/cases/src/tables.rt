@@ -81,8 +81,8 @@ fn printed(alloc: Global, table: &Table) -> Result<String, Trouble> {
     Ok(String::from_str(alloc, text.as_str())?)
 }
 
-// The rows of a table in the order in which they stand.
-fn rows_written(alloc: Global, table: &Table) -> Result<String, Trouble> {
+/// The rows of a table in the order in which they stand.
+pub(crate) fn rows_written(alloc: Global, table: &Table) -> Result<String, Trouble> {
     let mut text = String::new(alloc);
     for row in table.rows.as_slice() {
         add_row(alloc, &mut text, row)?;
@@ -195,8 +195,8 @@ fn add_rows(alloc: Global, rows: &mut TimedRows, line: &str) -> Result<(), Troub
     Ok(())
 }
 
-// The row of a line.
-fn row_of(alloc: Global, line: &str) -> Result<TimedRow, Trouble> {
+/// The row of a line.
+pub(crate) fn row_of(alloc: Global, line: &str) -> Result<TimedRow, Trouble> {
     let (time, cells) = line.split_once('|').unwrap_or((line, ""));
     Ok(TimedRow {
         time: number_in(time)?,

@@ -1,0 +1,108 @@
+// Which series can be aligned.
+ghost use Rattle.std.specs.Prelude.{◌≤◌, IsTrue, sum_by};
+ghost use Rattle.std.specs.List.{AllByRecursion};
+ghost use Rattle.mon_value.specs.Alignments.{CanAdd, CanAddAll, CanAlign, most_aligned, values_of};
+ghost use Rattle.mon_value.specs.Grids.{IsDuration, IsLawful};
+ghost use Rattle.mon_value.specs.Values.{magnitude};
+
+use crate::sizes::room_behind;
+use mon_value::{Aligner, Grid, LONGEST_DURATION, Point, Value};
+
+// The most times of a grid.
+const MOST_TIMES: u64 = 10_000;
+
+// The most that the points of a series count in all, so that those of each window do.
+const MOST_COUNTED: u128 = 1 << 124;
+
+/// Whether `align` can be called: durations that a query may name, a lawful grid and, for a delta, points
+/// that add up to no more than its bound.
+pub(crate) fn can_align(by: Aligner, grid: &Grid, points: &[Point]) -> bool
+    ensures can { IsTrue result → CanAlign by grid.now points.now }
+{
+    if !is_lawful(grid) {
+        return false;
+    }
+    match by {
+        Aligner::NextOlder(seconds) => is_duration(seconds),
+        Aligner::Delta(seconds) => is_duration(seconds) && can_add(points),
+    }
+}
+
+fn is_duration(seconds: i64) -> bool
+    ensures duration { IsTrue result → IsDuration seconds }
+{
+    1 <= seconds && seconds <= LONGEST_DURATION
+}
+
+fn is_lawful(grid: &Grid) -> bool
+    ensures lawful { IsTrue result → IsLawful grid.now }
+{
+    if grid.moment < 0 {
+        return false;
+    }
+    if !is_duration(grid.every) {
+        return false;
+    }
+    if !is_duration(grid.within) {
+        return false;
+    }
+    let every = grid.every.unsigned_abs();
+    (grid.within.unsigned_abs() + (every - 1)) / every <= MOST_TIMES
+}
+
+// Whether the values add up to no more than the bound.
+fn can_add(points: &[Point]) -> bool
+    ensures alike { IsTrue result → CanAddAll (values_of points.now) }
+    ensures small { IsTrue result → sum_by magnitude (values_of points.now) ≤ most_aligned }
+{
+    if !are_alike(points) {
+        return false;
+    }
+    are_small(points)
+}
+
+// Whether the values can all be added.
+fn are_alike(points: &[Point]) -> bool
+    ensures alike { IsTrue result → CanAddAll (values_of points.now) }
+{
+    match points.split_first() {
+        Some((first, _)) => all_add_to(&first.value, points),
+        None => true,
+    }
+}
+
+fn all_add_to(first: &Value, points: &[Point]) -> bool
+    ensures alike { IsTrue result → AllByRecursion (CanAdd first.now) (values_of points.now) }
+{
+    for point in points {
+        if !add_up(first, &point.value) {
+            return false;
+        }
+    }
+    true
+}
+
+// Whether two values can be added.
+fn add_up(value: &Value, other: &Value) -> bool
+    ensures add { IsTrue result → CanAdd value.now other.now }
+{
+    match (value, other) {
+        (Value::Int(_), Value::Int(_)) => true,
+        (Value::Dist(counts), Value::Dist(others)) => others.len() == counts.len(),
+        _ => false,
+    }
+}
+
+// Whether the values count no more than the bound.
+fn are_small(points: &[Point]) -> bool
+    ensures small { IsTrue result → sum_by magnitude (values_of points.now) ≤ most_aligned }
+{
+    let mut room = MOST_COUNTED;
+    for point in points {
+        match room_behind(room, &point.value) {
+            Some(left) => room = left,
+            None => return false,
+        }
+    }
+    true
+}
