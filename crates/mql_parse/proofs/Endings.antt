@@ -1,11 +1,14 @@
 -- What was read of a part before its fault can be completed to a whole part.
-use Rattle.std.proofs.Common.{◌≡◌, ℕ, zero, suc, ◌+◌, ◌<◌, Bool, true, false, ◌==◌, ◌||◌, List, [], ◌++◌, length, refl, sym, ap, ◌∙◌, subst, arith, if◌then◌else◌, append_assoc, length-append, Result, Ok, Err}
+use Rattle.std.proofs.Common.{◌≡◌, ℕ, zero, suc, ◌+◌, ◌<◌, Bool, true, false, ◌==◌, ◌||◌, List, [], ◌∷◌, ◌++◌, length, refl, sym, ap, ◌∙◌, subst, arith, if◌then◌else◌, append_assoc, length-append, Result, Ok, Err}
 use Rattle.std.proofs.lemmas.Bool.{false≢true}
 use Rattle.std.proofs.lemmas.List.{append-nil}
 use Rattle.mon_value.specs.Answers.{◌>>=◌}
 use Rattle.mql_ast.specs.Bytes.{is_word_byte, is_metric_byte}
 use Rattle.mql_ast.specs.Rests.{Rest, first_of}
 use Rattle.mql_parse.specs.declared.faults.ParseFault.{ParseFault}
+use Rattle.mql_parse.specs.declared.faults.ParseKind.{ParseKind}
+use Rattle.mql_parse.specs.declared.faults.ParseKind.TheVariants.{BadToken, BadPattern, Expected, NumberTooLarge, TooDeep, TooLong}
+use Rattle.mql_parse.specs.FaultNumbers.{IsNumber}
 use Rattle.mql_parse.specs.Outcomes.{Outcome}
 use Rattle.mql_parse.specs.Repeats.{Turn, Done, Again, Stuck, turn_outcome, repetition, goes_on, on_read}
 use Rattle.mql_parse.specs.Behind.{Behind}
@@ -108,19 +111,57 @@ pub record Cut (L : List ℕ → Type 0) (s r : Rest) : Type 0 where
   pub place : r.at ≡ s.at + length front
   pub is : L front
 
--- what stands before this place is the front of a text of a kind
-pub record Finish (L : List ℕ → Type 0) (s : Rest) (at : ℕ) : Type 0 where
+-- the byte at this place stands behind a number, and with 1 in place of the number begins a text of a kind
+pub record Smaller (L : List ℕ → Type 0) (s : Rest) (at : ℕ) : Type 0 where
+  pub before : List ℕ
+  pub number : List ℕ
+  pub byte : ℕ
+  pub after : List ℕ
+  pub is_number : IsNumber number
+  pub bytes : s.bytes ≡ before ++ (number ++ byte ∷ after)
+  pub place : at ≡ s.at + (length before + length number)
+  pub tail : List ℕ
+  pub is : L (before ++ 49 ∷ byte ∷ tail)
+
+-- what is claimed of a number that is too large, and nothing of another kind of fault
+abbrev pub IfTooLarge : ParseKind → Type 0 → Type 0
+IfTooLarge NumberTooLarge P = P
+IfTooLarge (Expected w) P = Unit {0}
+IfTooLarge TooDeep P = Unit {0}
+IfTooLarge BadToken P = Unit {0}
+IfTooLarge BadPattern P = Unit {0}
+IfTooLarge TooLong P = Unit {0}
+
+pub if_too_large : {P Q : Type 0} (kind : ParseKind) → (P → Q) → IfTooLarge kind P → IfTooLarge kind Q
+if_too_large NumberTooLarge f h = f h
+if_too_large (Expected w) f h = tt
+if_too_large TooDeep f h = tt
+if_too_large BadToken f h = tt
+if_too_large BadPattern f h = tt
+if_too_large TooLong f h = tt
+
+pub known_smaller : {P : Type 0} (kind : ParseKind) → P → IfTooLarge kind P
+known_smaller NumberTooLarge h = h
+known_smaller (Expected w) h = tt
+known_smaller TooDeep h = tt
+known_smaller BadToken h = tt
+known_smaller BadPattern h = tt
+known_smaller TooLong h = tt
+
+-- what stands before a fault is the front of a text of a kind
+pub record Finish (L : List ℕ → Type 0) (s : Rest) (f : ParseFault) : Type 0 where
   pub front : List ℕ
   pub left : List ℕ
   pub bytes : s.bytes ≡ front ++ left
-  pub place : at ≡ s.at + length front
+  pub place : f.at ≡ s.at + length front
   pub tail : List ℕ
   pub is : L (front ++ tail)
+  pub smaller : IfTooLarge f.kind (Smaller L s f.at)
 
 abbrev pub EndsIn : {A : Type 0} → (A → Rest) → (A → List ℕ → Type 0) → (List ℕ → Type 0) → Rest →
     Result A ParseFault → Type 0
 EndsIn left P E s (Ok x) = Cut (P x) s (left x)
-EndsIn left P E s (Err f) = Finish E s f.at
+EndsIn left P E s (Err f) = Finish E s f
 
 -- what was read is of the one kind, or what stands before the fault is a front of the other
 pub record Ends {A : Type 0} (left : A → Rest) (P : A → List ℕ → Type 0) (E : List ℕ → Type 0) (s : Rest)
@@ -149,26 +190,56 @@ cut_before s m r w e p g = record {
   is = g.is;
 }
 
-pub finish_before : {N : List ℕ → Type 0} (s m : Rest) (at : ℕ) (w : List ℕ) → s.bytes ≡ w ++ m.bytes →
-    m.at ≡ s.at + length w → Finish (λ v. N (w ++ v)) m at → Finish N s at
-finish_before {N = N} s m at w e p g = record {
+smaller_before : {N : List ℕ → Type 0} (s m : Rest) (at : ℕ) (w : List ℕ) → s.bytes ≡ w ++ m.bytes →
+    m.at ≡ s.at + length w → Smaller (λ v. N (w ++ v)) m at → Smaller N s at
+smaller_before {N = N} s m at w e p g = record {
+  before = w ++ g.before;
+  number = g.number;
+  byte = g.byte;
+  after = g.after;
+  is_number = g.is_number;
+  bytes = e ∙ ap (λ t. w ++ t) g.bytes ∙ sym (append_assoc w g.before (g.number ++ g.byte ∷ g.after));
+  place = omega (arith, p, g.place, length-append w g.before);
+  tail = g.tail;
+  is = subst N (sym (append_assoc w g.before (49 ∷ g.byte ∷ g.tail))) g.is;
+}
+
+pub finish_before : {N : List ℕ → Type 0} (s m : Rest) (f : ParseFault) (w : List ℕ) → s.bytes ≡ w ++ m.bytes →
+    m.at ≡ s.at + length w → Finish (λ v. N (w ++ v)) m f → Finish N s f
+finish_before {N = N} s m f w e p g = record {
   front = w ++ g.front;
   left = g.left;
   bytes = e ∙ ap (λ t. w ++ t) g.bytes ∙ sym (append_assoc w g.front g.left);
   place = omega (arith, p, g.place, length-append w g.front);
   tail = g.tail;
   is = subst N (sym (append_assoc w g.front g.tail)) g.is;
+  smaller = if_too_large f.kind (smaller_before {N = N} s m f.at w e p) g.smaller;
 }
 
-pub finish_as : {L M : List ℕ → Type 0} (s : Rest) (at : ℕ) → Finish L s at →
-    ((w : List ℕ) → L w → Default (λ v. M (w ++ v))) → Finish M s at
-finish_as {M = M} s at f h = let d = h (f.front ++ f.tail) f.is in record {
+smaller_as : {L M : List ℕ → Type 0} (s : Rest) (at : ℕ) → ((w : List ℕ) → L w → Default (λ v. M (w ++ v))) →
+    Smaller L s at → Smaller M s at
+smaller_as {M = M} s at h g = let d = h (g.before ++ 49 ∷ g.byte ∷ g.tail) g.is in record {
+  before = g.before;
+  number = g.number;
+  byte = g.byte;
+  after = g.after;
+  is_number = g.is_number;
+  bytes = g.bytes;
+  place = g.place;
+  tail = g.tail ++ d.text;
+  is = subst M (append_assoc g.before (49 ∷ g.byte ∷ g.tail) d.text) d.is;
+}
+
+pub finish_as : {L M : List ℕ → Type 0} (s : Rest) (e : ParseFault) → Finish L s e →
+    ((w : List ℕ) → L w → Default (λ v. M (w ++ v))) → Finish M s e
+finish_as {M = M} s e f h = let d = h (f.front ++ f.tail) f.is in record {
   front = f.front;
   left = f.left;
   bytes = f.bytes;
   place = f.place;
   tail = f.tail ++ d.text;
   is = subst M (append_assoc f.front f.tail d.text) d.is;
+  smaller = if_too_large e.kind (smaller_as {M = M} s e.at h) f.smaller;
 }
 
 -- nothing more is needed
@@ -189,7 +260,7 @@ pub ends_before_it : {B : Type 0} {left : B → Rest} {R : B → List ℕ → Ty
 ends_before_it {left = left} {R = R} {F = F} s m w (Ok y) e p h =
     record { way = cut_before {N = R y} s m (left y) w e p h.way }
 ends_before_it {left = left} {R = R} {F = F} s m w (Err f) e p h =
-    record { way = finish_before {N = F} s m f.at w e p h.way }
+    record { way = finish_before {N = F} s m f w e p h.way }
 
 pub cut_then : {B : Type 0} {left : B → Rest} {L : List ℕ → Type 0} {R : B → List ℕ → Type 0} {F : List ℕ → Type 0}
     (s m : Rest) (o : Result B ParseFault) → Cut L s m →
@@ -202,13 +273,13 @@ pub bind_ends : {A B : Type 0} {left : A → Rest} {left' : B → Rest} {P : A �
     ((x : A) (w : List ℕ) → P x w → Ends left' (λ y v. R y (w ++ v)) (λ v. F (w ++ v)) (left x) (f x)) →
     Ends left' R F s (o >>= f)
 bind_ends {left = left} s (Ok x) f h d g = cut_then s (left x) (f x) h.way (g x)
-bind_ends {F = F} s (Err e) f h d g = record { way = finish_as {M = F} s e.at h.way d }
+bind_ends {F = F} s (Err e) f h d g = record { way = finish_as {M = F} s e h.way d }
 
 pub ends_as : {A : Type 0} {left : A → Rest} {P Q : A → List ℕ → Type 0} {E F : List ℕ → Type 0} (s : Rest)
     (o : Result A ParseFault) → Ends left P E s o → ((x : A) (w : List ℕ) → P x w → Q x w) →
     ((w : List ℕ) → E w → F w) → Ends left Q F s o
 ends_as {left = left} s (Ok x) h f g = record { way = cut_as s (left x) h.way (f x) }
-ends_as {F = F} s (Err e) h f g = record { way = finish_as {M = F} s e.at h.way (λ w t. as_it_is F w (g w t)) }
+ends_as {F = F} s (Err e) h f g = record { way = finish_as {M = F} s e h.way (λ w t. as_it_is F w (g w t)) }
 
 -- the value that was read, changed
 pub done_ends : {A B : Type 0} {left : A → Rest} {left' : B → Rest} {P : A → List ℕ → Type 0} {Q : B → List ℕ →
@@ -239,7 +310,7 @@ abbrev pub TurnIn : {A : Type 0} → (A → List ℕ → Type 0) → (A → List
     Type 0
 TurnIn on ends E s (Done a r) = Cut (ends a) s r
 TurnIn on ends E s (Again a r) = Cut (on a) s r
-TurnIn on ends E s (Stuck f) = Finish E s f.at
+TurnIn on ends E s (Stuck f) = Finish E s f
 
 -- where a turn ends, where it goes on, and where it is at fault
 pub record TurnEnds {A : Type 0} (on ends : A → List ℕ → Type 0) (E : List ℕ → Type 0) (s : Rest) (t : Turn A) : Type
@@ -260,14 +331,14 @@ turn_before {on = on} {ends = ends} {E = E} s m w (Done a r) e p h =
 turn_before {on = on} {ends = ends} {E = E} s m w (Again a r) e p h =
     record { way = cut_before {N = on a} s m r w e p h.way }
 turn_before {on = on} {ends = ends} {E = E} s m w (Stuck f) e p h =
-    record { way = finish_before {N = E} s m f.at w e p h.way }
+    record { way = finish_before {N = E} s m f w e p h.way }
 
 pub turns_as : {A : Type 0} {on ends on' ends' : A → List ℕ → Type 0} {E E' : List ℕ → Type 0} (s : Rest)
     (t : Turn A) → TurnEnds on ends E s t → ((a : A) (w : List ℕ) → on a w → on' a w) →
     ((a : A) (w : List ℕ) → ends a w → ends' a w) → ((w : List ℕ) → E w → E' w) → TurnEnds on' ends' E' s t
 turns_as s (Done a r) h f g k = record { way = cut_as s r h.way (g a) }
 turns_as s (Again a r) h f g k = record { way = cut_as s r h.way (f a) }
-turns_as {E' = E'} s (Stuck e) h f g k = record { way = finish_as {M = E'} s e.at h.way (λ w t. as_it_is E' w (k w t)) }
+turns_as {E' = E'} s (Stuck e) h f g k = record { way = finish_as {M = E'} s e h.way (λ w t. as_it_is E' w (k w t)) }
 
 pub cut_turns : {A : Type 0} {L : List ℕ → Type 0} {on ends : A → List ℕ → Type 0} {E : List ℕ → Type 0} (s m : Rest)
     (t : Turn A) → Cut L s m →
@@ -281,14 +352,14 @@ pub on_read_ends : {A B : Type 0} {P : A × Rest → List ℕ → Type 0} {F : L
     ((x : A × Rest) (w : List ℕ) → P x w → TurnEnds (λ a v. on a (w ++ v)) (λ a v. ends a (w ++ v))
     (λ v. E (w ++ v)) x.1 (f x)) → TurnEnds on ends E s (on_read f o)
 on_read_ends s f (Ok x) h d g = cut_turns s x.1 (f x) h.way (g x)
-on_read_ends {E = E} s f (Err e) h d g = record { way = finish_as {M = E} s e.at h.way d }
+on_read_ends {E = E} s f (Err e) h d g = record { way = finish_as {M = E} s e h.way d }
 
 pub goes_on_ends : {A B : Type 0} {P : B × Rest → List ℕ → Type 0} {F : List ℕ → Type 0} {on ends : A → List ℕ →
     Type 0} {E : List ℕ → Type 0} (s : Rest) (f : B → A) (o : Outcome B) → Ends behind_read P F s o →
     ((w : List ℕ) → F w → E w) → ((x : B × Rest) (w : List ℕ) → P x w → on (f x.0) w) →
     TurnEnds on ends E s (goes_on f o)
 goes_on_ends s f (Ok x) h d g = record { way = cut_as s x.1 h.way (g x) }
-goes_on_ends {E = E} s f (Err e) h d g = record { way = finish_as {M = E} s e.at h.way (λ w t. as_it_is E w (d w t)) }
+goes_on_ends {E = E} s f (Err e) h d g = record { way = finish_as {M = E} s e h.way (λ w t. as_it_is E w (d w t)) }
 
 module _ {A : Type 0} (turn : A → Rest → Turn A) (behind : GoesBehind turn) (on ends : A → List ℕ → Type 0)
     (E : List ℕ → Type 0)

@@ -12,6 +12,7 @@ pub mod ListComplete
 pub mod ListEndings
 pub mod ListSound
 pub mod Loops
+pub mod MetricEndings
 pub mod NumberEndings
 pub mod OperationEndings
 pub mod PipeComplete

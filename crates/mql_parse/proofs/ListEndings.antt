@@ -61,7 +61,7 @@ module _ {A : Type 0} (part : Rest → Outcome A) (close : ℕ) (what : What) (c
       (λ _. if_turns x.1 (head t == close) (Done all (behind t)) (Stuck (unexpected what t))
       (λ h. record { way = cut_as x.1 (behind t) (sign_cut close closes x.1 h) (λ u k. listed w v u f g k) })
       (λ _. record {
-        way = wrong x.1 (close ∷ [])
+        way = wrong _ x.1 (close ∷ [])
             (λ bs e. listed w v (bs ++ close ∷ []) f g (sign_text close closes bs e));
       })))
 
@@ -226,7 +226,7 @@ behind_me_ends m v u c e =
     (λ h. cut_then m (behind m) (folds.read_as fold.Merge (codes "ge") (behind m)) (byte_is 114 refl m h)
     (λ y g. read_as_ends (λ f q. FoldWordText f (v ++ (u ++ (y ++ q)))) fold.Merge (codes "ge") refl (behind m)
     (text fold.Merge 114 (codes "ge") y refl g)))
-    (λ _. record { way = wrong_here m (codes "an") (fold.Mean, text fold.Mean 97 (codes "n") (97 ∷ []) refl refl) }))
+    (λ _. record { way = wrong_here _ m (codes "an") (fold.Mean, text fold.Mean 97 (codes "n") (97 ∷ []) refl refl) }))
 
 behind_m_ends : (m : Rest) (v : List ℕ) → FirstByte 109 v → Ends behind_read (λ x u. FoldWordText x.0 (v ++ u))
     (λ u. AnyFoldWord (v ++ u)) m (folds.fold_behind_m m)
@@ -246,7 +246,7 @@ behind_m_ends m v c =
     (λ _. if_ends m (head m == 101) (folds.fold_behind_me (behind m)) (Err (unexpected what.Aggregate m))
     (λ h. cut_then m (behind m) (folds.fold_behind_me (behind m)) (byte_is 101 refl m h)
     (λ u g. behind_me_ends (behind m) v u c g))
-    (λ _. record { way = wrong_here m (codes "in") (fold.Min, text fold.Min 105 (codes "n") (105 ∷ []) refl refl) })))
+    (λ _. record { way = wrong_here _ m (codes "in") (fold.Min, text fold.Min 105 (codes "n") (105 ∷ []) refl refl) })))
 
 fold_here_ends : (s : Rest) → Ends behind_read (λ x. FoldWordText x.0) AnyFoldWord s (folds.fold_here (skip s))
 unfolding folds.fold_here
@@ -261,7 +261,7 @@ fold_here_ends s =
     (λ _. if_ends s (head t == 109) (folds.fold_behind_m (behind t)) (Err (unexpected what.Aggregate t))
     (λ h. cut_then s (behind t) (folds.fold_behind_m (behind t)) (first_is 109 refl s h)
     (λ v c. behind_m_ends (behind t) v c))
-    (λ _. record { way = wrong s (codes "sum") (λ bs e. (fold.Sum, sum_word_text bs e)) }))))
+    (λ _. record { way = wrong _ s (codes "sum") (λ bs e. (fold.Sum, sum_word_text bs e)) }))))
 
 -- folds
 abbrev FoldedSpan : FoldWord → List ℕ → List ℕ → Type 0
@@ -395,7 +395,7 @@ bare_fold_ends : (at : ℕ) (text : List ℕ) (m : Rest) (w : List ℕ) → Text
     (folds.bare_fold at o (skip m))
 bare_fold_ends at text m w f None h =
     record {
-      way = wrong m (58 ∷ counting)
+      way = wrong _ m (58 ∷ counting)
           (λ bs e. subst (λ t. FoldingText (w ++ t)) (append_assoc bs (58 ∷ []) counting)
           (counting_text w (bs ++ 58 ∷ []) (changed (some_name text) w f) (sign_text 58 colon bs e)));
     }
@@ -407,12 +407,13 @@ bare_fold_ends at text m w f (Some g) h =
     (λ x u q. unnamed_text text g w (v ++ u) h f q) (λ u q. unnamed_text text g w (v ++ u) h f q)))
     (λ _. record { way = opened })
   where
-    opened : Finish (λ u. FoldingText (w ++ u)) m (skip m).at
+    opened : Finish (λ u. FoldingText (w ++ u)) m (unexpected what.OpenParenthesis (skip m))
     opened =
         let c = skip_cut m in
         let d = in_fold g (c.front ++ 40 ∷ []) (sign_text 40 open_parenthesis c.front c.is) in
-        finish_before {N = λ u. FoldingText (w ++ u)} m (skip m) (skip m).at c.front c.bytes c.place
-        (wrong_here (skip m) (40 ∷ d.text) (subst (λ t. FoldingText (w ++ t)) (append_assoc c.front (40 ∷ []) d.text)
+        finish_before {N = λ u. FoldingText (w ++ u)} m (skip m) (unexpected what.OpenParenthesis (skip m)) c.front
+        c.bytes c.place
+        (wrong_here _ (skip m) (40 ∷ d.text) (subst (λ t. FoldingText (w ++ t)) (append_assoc c.front (40 ∷ []) d.text)
         (unnamed_text text g w ((c.front ++ 40 ∷ []) ++ d.text) h f d.is)))
 
 pub aggregate_ends : (s : Rest) → Reads FoldingText s (folds.aggregate s)

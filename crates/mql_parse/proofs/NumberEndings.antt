@@ -1,25 +1,30 @@
--- What was read of a number or a metric's name before its fault can be completed.
-use Rattle.std.proofs.Common.{◌≡◌, ℕ, pos, ◌+◌, ◌-◌, ◌*◌, ◌^◌, Bool, true, false, ◌==◌, ◌&&◌, not, nat_le, List, [], ◌∷◌, ◌++◌, length, codes, refl, sym, ap, ◌∙◌, subst, arith, if◌then◌else◌, append_assoc, Option, Some, None, option_and_then, Ok, Err}
+-- What was read of a number before its fault can be completed.
+use Rattle.std.proofs.Common.{◌≡◌, ℕ, pos, ◌+◌, ◌-◌, ◌*◌, ◌^◌, Bool, true, false, ◌==◌, ◌&&◌, not, nat_le, List, [], ◌∷◌, ◌++◌, length, refl, sym, ap, ◌∙◌, subst, arith, if◌then◌else◌, append_assoc, length-append, Option, Some, None, option_and_then, Ok, Err}
 use Rattle.std.proofs.lemmas.Bool.{false≢true}
+use Rattle.std.proofs.lemmas.List.{append-nil}
 use Rattle.std.proofs.lemmas.Bool.Decides.{nat_tests}
-use Rattle.mql_ast.specs.Bytes.{is_digit, is_metric_byte}
+use Rattle.mql_ast.specs.Bytes.{is_digit}
 use Rattle.mql_ast.specs.Rests.{Rest, first_of, head, behind, skip}
 use Rattle.mql_ast.specs.Tokens as grammar
 use Rattle.mql_ast.specs.Tokens.{sign_at, word_at, metric_name, metric_behind, minus, unit_seconds, longest}
+use Rattle.mon_value.specs.Answers.{◌>>=◌}
+use Rattle.mql_parse.specs.declared.faults.ParseFault.{ParseFault}
 use Rattle.mql_parse.specs.declared.faults.ParseKind.TheVariants.{NumberTooLarge}
 use Rattle.mql_parse.specs.declared.faults.What.TheVariants as what
-use Rattle.mql_parse.specs.Outcomes.{fault, unexpected, exact, map_outcome}
+use Rattle.mql_parse.specs.Outcomes.{Outcome, fault, unexpected, map_outcome}
+use Rattle.mql_parse.specs.FaultNumbers.{AreDigits, IsNumber}
 use Rattle.mql_parse.specs.TokenReading as reading
 use Rattle.mql_parse.proofs.RestLemmas.{skip_off}
 use Rattle.mql_parse.proofs.BehindLemmas.{sign_taken}
-use Rattle.mql_parse.proofs.Endings.{Stops, Anyhow, Worded, Parted, OpensAs, opens_on, Text, join, changed, worded, Default, Cut, Ends, behind_read, Reads, ends_before_it, cut_then, bind_ends, ends_as, done_ends, if_ends}
-use Rattle.mql_parse.proofs.TokenEndings.{at_place, AreBlanks, blanks_open, skip_over, digit_not_blank, digit_in_word, outer_no_digit, outer_no_metric, byte_cut, first_cut, wrong, wrong_here, SignSpan, minus_sign, sign_cut, Token, word_ends, word_text, WordSpan}
+use Rattle.mql_parse.proofs.Endings.{Worded, Parted, OpensAs, opens_on, Text, join, changed, worded, Default, Cut, Smaller, known_smaller, Finish, finish_as, cut_before, cut_as, Ends, behind_read, Reads, ends_before_it, cut_then, ends_as, done_ends, if_ends}
+use Rattle.mql_parse.proofs.TokenEndings.{at_place, and_first, AreBlanks, blanks_open, skip_over, digit_not_blank, digit_in_word, outer_no_digit, byte_cut, first_cut, wrong, wrong_here, SignSpan, minus_sign, sign_cut, Token}
 
 -- digits behind others: the number that they make
 abbrev IsDigits : ℕ → ℕ → ℕ → List ℕ → Type 0
 IsDigits most value v u =
     ((z : List ℕ) → is_digit (first_of z) ≡ false → (at : ℕ) →
-    (n : ℕ) × (grammar.digits_from most value at (u ++ z) ≡ Some (v, at_place n z))) × (nat_le v most ≡ true)
+    (n : ℕ) × (grammar.digits_from most value at (u ++ z) ≡ Some (v, at_place n z)))
+    × ((nat_le v most ≡ true) × AreDigits u)
 
 digits_stop : (most value : ℕ) (z : List ℕ) (at : ℕ) → is_digit (first_of z) ≡ false →
     grammar.digits_from most value at z ≡ Some (value, at_place at z)
@@ -29,7 +34,7 @@ digits_stop most value (b ∷ bs) at h =
     (at + 1) bs else None) else Some (value, at_place at (b ∷ bs))) h
 
 no_digits : (most value : ℕ) → nat_le value most ≡ true → IsDigits most value value []
-no_digits most value h = ((λ z e at. (at, digits_stop most value z at e)), h)
+no_digits most value h = ((λ z e at. (at, digits_stop most value z at e)), (h, tt))
 
 digits_more : (most value v b : ℕ) (u : List ℕ) → is_digit b ≡ true → nat_le (value * 10 + (b - 48)) most ≡ true →
     IsDigits most (value * 10 + (b - 48)) v u → IsDigits most value v (b ∷ u)
@@ -40,24 +45,76 @@ digits_more most value v b u d m f = (
         (at + 1) (u ++ z) else None) else Some (value, at_place at (b ∷ (u ++ z)))) d
         ∙ ap (λ t. if t then grammar.digits_from most (value * 10 + (b - 48)) (at + 1) (u ++ z) else None) m ∙ n.1,
   )),
-  f.1,
+  (f.1.0, (d, f.1.1)),
 )
 
+-- a digit with which a number is too large
+record DigitsFault (most value : ℕ) (s : Rest) (f : ParseFault) : Type 0 where
+  front : List ℕ
+  byte : ℕ
+  after : List ℕ
+  bytes : s.bytes ≡ front ++ byte ∷ after
+  place : f.at ≡ s.at + length front
+  made : ℕ
+  is : IsDigits most value made front
+  digit : is_digit byte ≡ true
+
+abbrev DigitsIn : ℕ → ℕ → Rest → Outcome ℕ → Type 0
+DigitsIn most value s (Ok x) = Cut (IsDigits most value x.0) s x.1
+DigitsIn most value s (Err f) = DigitsFault most value s f
+
+record DigitsEnd (most value : ℕ) (s : Rest) (o : Outcome ℕ) : Type 0 where
+  way : DigitsIn most value s o
+
+if_digits : {most value : ℕ} {s : Rest} (t : Bool) (o p : Outcome ℕ) → (t ≡ true → DigitsEnd most value s o) →
+    (t ≡ false → DigitsEnd most value s p) → DigitsEnd most value s (if t then o else p)
+if_digits true o p f g = f refl
+if_digits false o p f g = g refl
+
+digits_before : (most value b at : ℕ) (bs : List ℕ) (o : Outcome ℕ) → is_digit b ≡ true →
+    nat_le (value * 10 + (b - 48)) most ≡ true → DigitsEnd most (value * 10 + (b - 48)) (at_place (at + 1) bs) o →
+    DigitsEnd most value (at_place at (b ∷ bs)) o
+digits_before most value b at bs (Ok x) d m h = record {
+  way = cut_before {N = IsDigits most value x.0} (at_place at (b ∷ bs)) (at_place (at + 1) bs) x.1 (b ∷ []) refl
+      (omega arith)
+      (cut_as (at_place (at + 1) bs) x.1 h.way (λ u f. digits_more most value x.0 b u d m f));
+}
+digits_before most value b at bs (Err f) d m h = record {
+  way = record {
+    front = b ∷ h.way.front;
+    byte = h.way.byte;
+    after = h.way.after;
+    bytes = ap (λ t. b ∷ t) h.way.bytes;
+    place = omega (arith, h.way.place);
+    made = h.way.made;
+    is = digits_more most value h.way.made b h.way.front d m h.way.is;
+    digit = h.way.digit;
+  };
+}
+
 digits_end : (most value at : ℕ) (bs : List ℕ) → nat_le value most ≡ true →
-    Ends behind_read (λ x. IsDigits most value x.0) (λ u. (v : ℕ) × IsDigits most value v u) (at_place at bs)
-    (reading.digits most value at bs)
+    DigitsEnd most value (at_place at bs) (reading.digits most value at bs)
 digits_end most value at [] h =
     record { way = record { front = []; bytes = refl; place = omega arith; is = no_digits most value h } }
 digits_end most value at (b ∷ bs) h =
     let s = at_place at (b ∷ bs) in
     let next = value * 10 + (b - 48) in
     let more = reading.digits most next (at + 1) bs in
-    if_ends s (is_digit b) (if nat_le next most then more else Err (fault NumberTooLarge s)) (Ok (value, s))
-    (λ d. if_ends s (nat_le next most) more (Err (fault NumberTooLarge s))
-    (λ m. ends_before_it s (at_place (at + 1) bs) (b ∷ []) more refl (omega arith)
-    (ends_as (at_place (at + 1) bs) more (digits_end most next (at + 1) bs m)
-    (λ x u f. digits_more most value x.0 b u d m f) (λ u f. (f.0, digits_more most value f.0 b u d m f.1))))
-    (λ m. record { way = wrong_here s [] (value, no_digits most value h) }))
+    if_digits (is_digit b) (if nat_le next most then more else Err (fault NumberTooLarge s)) (Ok (value, s))
+    (λ d. if_digits (nat_le next most) more (Err (fault NumberTooLarge s))
+    (λ m. digits_before most value b at bs more d m (digits_end most next (at + 1) bs m))
+    (λ m. record {
+      way = record {
+        front = [];
+        byte = b;
+        after = bs;
+        bytes = refl;
+        place = omega arith;
+        made = value;
+        is = no_digits most value h;
+        digit = d;
+      };
+    }))
     (λ d. record { way = record { front = []; bytes = refl; place = omega arith; is = no_digits most value h } })
 
 -- a number from 1 on, where no digit stands behind it
@@ -71,12 +128,12 @@ PositiveText most v w =
     (z : List ℕ) → is_digit (first_of z) ≡ false → (at : ℕ) →
     (n : ℕ) × (grammar.positive_at most (at_place at (w ++ z)) ≡ Some (v, at_place n z))
 
-abbrev IsPositive : ℕ → ℕ → List ℕ → Type 0
-IsPositive most v w = OpensAs Worded w × (PositiveText most v w × (nat_le v most ≡ true))
+-- a number behind blanks
+abbrev NumberBehind : List ℕ → Type 0
+NumberBehind w = (bs : List ℕ) × ((u : List ℕ) × (AreBlanks bs × (IsNumber u × (w ≡ bs ++ u))))
 
-and_left : (a b : Bool) → (a && b) ≡ true → a ≡ true
-and_left true b h = refl
-and_left false b h = h
+abbrev IsPositive : ℕ → ℕ → List ℕ → Type 0
+IsPositive most v w = OpensAs Worded w × (PositiveText most v w × ((nat_le v most ≡ true) × NumberBehind w))
 
 digit_first : (b : ℕ) (u : List ℕ) → is_digit b ≡ true → OpensAs Worded (b ∷ u)
 digit_first b u h = λ v g y. absurd (false≢true (sym g ∙ digit_in_word b h))
@@ -84,7 +141,7 @@ digit_first b u h = λ v g y. absurd (false≢true (sym g ∙ digit_in_word b h)
 first_positive : (most v b : ℕ) (bs u : List ℕ) → AreBlanks bs → (is_digit b && not (b == 48)) ≡ true →
     IsDigits most (b - 48) v u → IsPositive most v (bs ++ (b ∷ u))
 first_positive most v b bs u e h f =
-    let d = and_left (is_digit b) (not (b == 48)) h in (
+    let d = and_first (is_digit b) (not (b == 48)) h in (
       blanks_open Worded bs (b ∷ u) e (digit_first b u d),
       (
         (λ z g at. let n = f.0 z g (at + length bs + 1) in (
@@ -94,11 +151,11 @@ first_positive most v b bs u e h f =
               ∙ skip_off (at_place (at + length bs) (b ∷ (u ++ z))) (digit_not_blank b d))
               ∙ ap (λ t. if t then grammar.digits_from most (b - 48) (at + length bs + 1) (u ++ z) else None) h ∙ n.1,
         )),
-        f.1,
+        (f.1.0, (bs, (b ∷ u, (e, ((h, f.1.1), refl))))),
       ),
     )
 
-first_small : (most b : ℕ) → nat_le 9 most ≡ true → is_digit b ≡ true → nat_le (b - 48) most ≡ true
+first_small : (most b : ℕ) → nat_le 19 most ≡ true → is_digit b ≡ true → nat_le (b - 48) most ≡ true
 first_small most b h d = grind (arith, nat_tests)
 
 -- a first digit behind blanks, and digits
@@ -117,28 +174,83 @@ one_after most h bs e =
     blank_last [] e = (refl, tt)
     blank_last (b ∷ bs) e = (e.0, blank_last bs e.1)
 
-at_least_one : (most : ℕ) → nat_le 9 most ≡ true → nat_le 1 most ≡ true
+at_least_one : (most : ℕ) → nat_le 19 most ≡ true → nat_le 1 most ≡ true
 at_least_one most h = grind (arith, nat_tests)
 
-positive_end : (most : ℕ) → nat_le 9 most ≡ true → (s : Rest) → Ends behind_read (λ x. IsPositive most x.0)
-    (λ w. (v : ℕ) × IsPositive most v w) s (reading.positive most s)
+second_small : (most b : ℕ) → nat_le 19 most ≡ true → is_digit b ≡ true → nat_le (1 * 10 + (b - 48)) most ≡ true
+second_small most b h d = grind (arith, nat_tests)
+
+-- 1 and a digit
+one_and_digit : (most b : ℕ) (bs : List ℕ) → nat_le 19 most ≡ true → AreBlanks bs → is_digit b ≡ true →
+    IsPositive most (1 * 10 + (b - 48)) (bs ++ 49 ∷ b ∷ [])
+one_and_digit most b bs le e d =
+    let fits = second_small most b le d in
+    first_positive most (1 * 10 + (b - 48)) 49 bs (b ∷ []) e refl
+    (digits_more most 1 (1 * 10 + (b - 48)) b [] d fits (no_digits most (1 * 10 + (b - 48)) fits))
+
+abbrev SomePositive : ℕ → List ℕ → Type 0
+SomePositive most w = (v : ℕ) × IsPositive most v w
+
+-- digits behind a first one
+module _ (most : ℕ) (le : nat_le 19 most ≡ true) (s m : Rest) (b : ℕ) (h : (is_digit b && not (b == 48)) ≡ true)
+    (c : Cut (λ v. (bs : List ℕ) × (AreBlanks bs × (v ≡ bs ++ b ∷ []))) s m) where
+  number_bytes : (front rest : List ℕ) → m.bytes ≡ front ++ rest → s.bytes ≡ c.is.0 ++ ((b ∷ front) ++ rest)
+  number_bytes front rest e =
+      c.bytes ∙ ap (λ t. c.front ++ t) e ∙ ap (λ t. t ++ (front ++ rest)) c.is.1.1
+      ∙ append_assoc c.is.0 (b ∷ []) (front ++ rest)
+
+  front_length : length c.front ≡ length c.is.0 + 1
+  front_length = ap length c.is.1.1 ∙ length-append c.is.0 (b ∷ [])
+
+  digit_smaller : (f : ParseFault) → DigitsFault most (b - 48) m f → Smaller (SomePositive most) s f.at
+  digit_smaller f g = record {
+    before = c.is.0;
+    number = b ∷ g.front;
+    byte = g.byte;
+    after = g.after;
+    is_number = (h, g.is.1.1);
+    bytes = number_bytes g.front (g.byte ∷ g.after) g.bytes;
+    place = omega (arith, c.place, g.place, front_length);
+    tail = [];
+    is = (1 * 10 + (g.byte - 48), one_and_digit most g.byte c.is.0 le c.is.1.0 g.digit);
+  }
+
+  behind_first : (o : Outcome ℕ) → DigitsEnd most (b - 48) m o →
+      Ends behind_read (λ x. IsPositive most x.0) (SomePositive most) s o
+  behind_first (Ok x) k = record {
+    way = cut_before {N = IsPositive most x.0} s m x.1 c.front c.bytes c.place
+        (cut_as m x.1 k.way (λ u f. behind_first_digit most x.0 b c.front u c.is h f));
+  }
+  behind_first (Err f) k = let g = k.way in record {
+    way = record {
+      front = c.front ++ g.front;
+      left = g.byte ∷ g.after;
+      bytes = c.bytes ∙ ap (λ t. c.front ++ t) g.bytes ∙ sym (append_assoc c.front g.front (g.byte ∷ g.after));
+      place = omega (arith, c.place, g.place, length-append c.front g.front);
+      tail = [];
+      is = subst (SomePositive most) (sym (append-nil (c.front ++ g.front)))
+          (g.made, behind_first_digit most g.made b c.front g.front c.is h g.is);
+      smaller = known_smaller f.kind (digit_smaller f g);
+    };
+  }
+
+positive_end : (most : ℕ) → nat_le 19 most ≡ true → (s : Rest) → Ends behind_read (λ x. IsPositive most x.0)
+    (SomePositive most) s (reading.positive most s)
 unfolding reading.positive
 positive_end most le s =
     let t = skip s in
     let more = reading.digits most (head t - 48) (behind t).at (behind t).bytes in
     if_ends s (is_digit (head t) && not (head t == 48)) more (Err (unexpected what.Number t))
-    (λ h. cut_then s (behind t) more (first_cut (λ b. is_digit b && not (b == 48)) refl s h)
-    (λ w c. ends_as (behind t) more (digits_end most (head t - 48) (behind t).at (behind t).bytes
-    (first_small most (head t) le (and_left (is_digit (head t)) (not (head t == 48)) h)))
-    (λ x u f. behind_first_digit most x.0 (head t) w u c h f)
-    (λ u f. (f.0, behind_first_digit most f.0 (head t) w u c h f.1))))
-    (λ h. record { way = wrong s (32 ∷ 49 ∷ []) (λ bs e. (1, one_after most (at_least_one most le) bs e)) })
+    (λ h. behind_first most le s (behind t) (head t) h (first_cut (λ b. is_digit b && not (b == 48)) refl s h) more
+    (digits_end most (head t - 48) (behind t).at (behind t).bytes
+    (first_small most (head t) le (and_first (is_digit (head t)) (not (head t == 48)) h))))
+    (λ h. record { way = wrong _ s (32 ∷ 49 ∷ []) (λ bs e. (1, one_after most (at_least_one most le) bs e)) })
 
 positive_text : (most v : ℕ) (w : List ℕ) → IsPositive most v w → Text Worded false (Token (grammar.positive_at most)) w
 positive_text most v w f =
     record { opens = f.0; fills = λ z h at. let n = f.1.0 z (outer_no_digit (first_of z) h) at in ((n.0, v), n.1) }
 
-pub positive_ends : (most : ℕ) → nat_le 9 most ≡ true → (s : Rest) →
+pub positive_ends : (most : ℕ) → nat_le 19 most ≡ true → (s : Rest) →
     Reads (Text Worded false (Token (grammar.positive_at most))) s (reading.positive most s)
 positive_ends most le s =
     ends_as s (reading.positive most s) (positive_end most le s) (λ x w f. positive_text most x.0 w f)
@@ -176,35 +288,92 @@ unit_text v c w f u m = record {
   );
 }
 
+no_unit : (c : ℕ) → (unit_seconds c == 0) ≡ false → not (unit_seconds c == 0) ≡ true
+no_unit c h = ap not h
+
+in_seconds : (v : ℕ) (w : List ℕ) → IsPositive longest v w →
+    Text Worded true (Token grammar.duration_at) (w ++ 115 ∷ [])
+in_seconds v w f = unit_text v 115 w f refl (seconds_fit v f.1.1.0)
+
+either_small : (t : Bool) (n m : ℕ) → nat_le (1 * n) longest ≡ true → nat_le (1 * m) longest ≡ true →
+    nat_le (1 * (if t then n else m)) longest ≡ true
+either_small true n m f g = f
+either_small false n m f g = g
+
+one_fits : (c : ℕ) → nat_le (1 * unit_seconds c) longest ≡ true
+one_fits c =
+    either_small (c == 115) 1 _ refl
+    (either_small (c == 109) 60 _ refl
+    (either_small (c == 104) 3600 _ refl (either_small (c == 100) 86400 0 refl refl)))
+
+-- a unit behind a number
+module _ (s r : Rest) (v : ℕ) (c : Cut (IsPositive longest v) s r) (u : (unit_seconds (head r) == 0) ≡ false) where
+  unit_byte : r.bytes ≡ head r ∷ (behind r).bytes
+  unit_byte =
+      let k = byte_cut (λ b. not (unit_seconds b == 0)) refl r (no_unit (head r) u) in
+      k.bytes ∙ ap (λ t. t ++ (behind r).bytes) k.is
+
+  unit_cut : nat_le (v * unit_seconds (head r)) longest ≡ true →
+      Cut (λ t. Text Worded true (Token grammar.duration_at) (c.front ++ t)) r (behind r)
+  unit_cut m = let k = byte_cut (λ b. not (unit_seconds b == 0)) refl r (no_unit (head r) u) in
+      record {
+        front = k.front;
+        bytes = k.bytes;
+        place = k.place;
+        is = subst
+            (λ t. Text Worded true (Token grammar.duration_at) (c.front ++ t)) (sym k.is)
+            (unit_text v (head r) c.front c.is u m);
+      }
+
+  unit_smaller : NumberBehind c.front → Smaller (Text Worded true (Token grammar.duration_at)) s r.at
+  unit_smaller n = record {
+    before = n.0;
+    number = n.1.0;
+    byte = head r;
+    after = (behind r).bytes;
+    is_number = n.1.1.1.0;
+    bytes = c.bytes ∙ ap (λ t. c.front ++ t) unit_byte
+        ∙ ap (λ t. t ++ (head r ∷ (behind r).bytes)) n.1.1.1.1
+        ∙ append_assoc n.0 n.1.0 (head r ∷ (behind r).bytes);
+    place = omega (arith, c.place, ap length n.1.1.1.1, length-append n.0 n.1.0);
+    tail = [];
+    is = subst (Text Worded true (Token grammar.duration_at)) (append_assoc n.0 (49 ∷ []) (head r ∷ []))
+        (unit_text 1 (head r) (n.0 ++ 49 ∷ [])
+        (first_positive longest 1 49 n.0 [] n.1.1.0 refl (no_digits longest 1 refl)) u (one_fits (head r)));
+  }
+
+  unit_too_large : Finish (Text Worded true (Token grammar.duration_at)) s (fault NumberTooLarge r)
+  unit_too_large = record {
+    front = c.front;
+    left = r.bytes;
+    bytes = c.bytes;
+    place = c.place;
+    tail = 115 ∷ [];
+    is = in_seconds v c.front c.is;
+    smaller = unit_smaller c.is.1.1.1;
+  }
+
 pub duration_ends : (s : Rest) → Reads (Text Worded true (Token grammar.duration_at)) s (reading.duration s)
 unfolding reading.duration
-duration_ends s =
-    bind_ends s (reading.positive longest s) reading.units (positive_end longest refl s)
-    (λ w f. record { text = 115 ∷ []; is = unit_text f.0 115 w f.1 refl (seconds_fit f.0 f.1.1.1) })
-    (λ x w f. let c = head x.1 in
-    if_ends x.1 (unit_seconds c == 0) (Err (unexpected what.Unit x.1)) _
-    (λ u. record { way = wrong_here x.1 (115 ∷ []) (unit_text x.0 115 w f refl (seconds_fit x.0 f.1.1)) })
-    (λ u. if_ends x.1 (nat_le (x.0 * unit_seconds c) longest) (Ok (pos (x.0 * unit_seconds c), behind x.1))
-    (Err (fault NumberTooLarge x.1))
-    (λ m. record { way = unit_cut x.0 x.1 w f u m })
-    (λ m. record { way = wrong_here x.1 (115 ∷ []) (unit_text x.0 115 w f refl (seconds_fit x.0 f.1.1)) })))
+duration_ends s = by_number (reading.positive longest s) (positive_end longest refl s)
   where
-    not_false : (t : Bool) → t ≡ false → not t ≡ true
-    not_false false h = refl
-    not_false true h = sym h
-
-    unit_cut : (v : ℕ) (r : Rest) (w : List ℕ) → IsPositive longest v w → (unit_seconds (head r) == 0) ≡ false →
-        nat_le (v * unit_seconds (head r)) longest ≡ true →
-        Cut (λ u. Text Worded true (Token grammar.duration_at) (w ++ u)) r (behind r)
-    unit_cut v r w f u m = let k =
-        byte_cut (λ b. not (unit_seconds b == 0)) refl r (not_false (unit_seconds (head r) == 0) u) in
-        record {
-          front = k.front;
-          bytes = k.bytes;
-          place = k.place;
-          is = subst
-              (λ t. Text Worded true (Token grammar.duration_at) (w ++ t)) (sym k.is) (unit_text v (head r) w f u m);
-        }
+    by_number : (o : Outcome ℕ) → Ends behind_read (λ x. IsPositive longest x.0) (SomePositive longest) s o →
+        Reads (Text Worded true (Token grammar.duration_at)) s (o >>= reading.units)
+    by_number (Err e) h = record {
+      way = finish_as {M = Text Worded true (Token grammar.duration_at)} s e h.way
+          (λ w f. record { text = 115 ∷ []; is = in_seconds f.0 w f.1 });
+    }
+    by_number (Ok x) h =
+        let c = h.way in
+        let r = x.1 in
+        let seconds = x.0 * unit_seconds (head r) in
+        if_ends s (unit_seconds (head r) == 0) (Err (unexpected what.Unit r)) _
+        (λ u. ends_before_it s r c.front (Err (unexpected what.Unit r)) c.bytes c.place
+        (record { way = wrong_here _ r (115 ∷ []) (in_seconds x.0 c.front c.is) }))
+        (λ u. if_ends s (nat_le seconds longest) (Ok (pos seconds, behind r)) (Err (fault NumberTooLarge r))
+        (λ m. ends_before_it s r c.front (Ok (pos seconds, behind r)) c.bytes c.place
+        (record { way = unit_cut s r x.0 c u m }))
+        (λ m. record { way = unit_too_large s r x.0 c u }))
 
 -- ` 1s`
 pub duration_default : Default (Text Parted true (Token grammar.duration_at))
@@ -243,7 +412,7 @@ zero_number most bs e = record {
 digit_byte : (b : ℕ) → (b == 48) ≡ true → b ≡ 48
 digit_byte b h = grind (arith, nat_tests)
 
-number_ends : (most : ℕ) → nat_le 9 most ≡ true → (s : Rest) →
+number_ends : (most : ℕ) → nat_le 19 most ≡ true → (s : Rest) →
     Reads (Text Worded false (Token (grammar.number_at most))) s (reading.number most s)
 unfolding reading.number
 number_ends most le s =
@@ -344,110 +513,4 @@ signed_default =
             (zero_number (2 ^ 63 - 1) (32 ∷ []) (refl, tt)).fills z h at in
             ((n.0.0, pos n.0.1), signed_plain (at_place at (32 ∷ 48 ∷ z)) (n.0.1, at_place n.0.0 z) n.1);
       };
-    }
-
--- a metric's name from behind a slash or another of its bytes
-abbrev MetricText : Bool → List ℕ → Type 0
-MetricText after u =
-    (z : List ℕ) → Stops z → (at : ℕ) →
-    (n : ℕ × List ℕ) × (grammar.metric_from after at (u ++ z) ≡ Some (n.1, at_place n.0 z))
-
-metric_stop : MetricText false []
-metric_stop [] h at = ((at, []), refl)
-metric_stop (b ∷ bs) h at =
-    let t = outer_no_metric b h in (
-      (at, []),
-      ap (λ t. if t then grammar.with_byte b (grammar.metric_from false (at + 1) bs) else
-          (if b == 47 && true then grammar.with_byte b (grammar.metric_from true (at + 1) bs) else Some
-          ([], at_place at (b ∷ bs)))) t.0
-          ∙ ap (λ t. if t && true then grammar.with_byte b (grammar.metric_from true (at + 1) bs) else Some
-          ([], at_place at (b ∷ bs))) t.1,
-    )
-
-metric_more : (after : Bool) (b : ℕ) (u : List ℕ) → is_metric_byte b ≡ true → MetricText false u →
-    MetricText after (b ∷ u)
-metric_more after b u m f z h at =
-    let n = f z h (at + 1) in (
-      (n.0.0, b ∷ n.0.1),
-      ap (λ t. if t then grammar.with_byte b (grammar.metric_from false (at + 1) (u ++ z)) else
-          (if b == 47 && not after then grammar.with_byte b (grammar.metric_from true (at + 1) (u ++ z)) else
-          (if after then None else Some ([], at_place at (b ∷ (u ++ z)))))) m
-          ∙ ap (grammar.with_byte b) n.1,
-    )
-
-metric_slash : (after : Bool) (b : ℕ) (u : List ℕ) → is_metric_byte b ≡ false → (b == 47 && not after) ≡ true →
-    MetricText true u → MetricText after (b ∷ u)
-metric_slash after b u m e f z h at =
-    let n = f z h (at + 1) in (
-      (n.0.0, b ∷ n.0.1),
-      ap (λ t. if t then grammar.with_byte b (grammar.metric_from false (at + 1) (u ++ z)) else
-          (if b == 47 && not after then grammar.with_byte b (grammar.metric_from true (at + 1) (u ++ z)) else
-          (if after then None else Some ([], at_place at (b ∷ (u ++ z)))))) m
-          ∙ ap (λ t. if t then grammar.with_byte b (grammar.metric_from true (at + 1) (u ++ z)) else
-          (if after then None else Some ([], at_place at (b ∷ (u ++ z))))) e ∙ ap (grammar.with_byte b) n.1,
-    )
-
--- one byte more
-one_more : (after : Bool) → MetricText after (97 ∷ [])
-one_more after = metric_more after 97 [] refl metric_stop
-
-none_more : (after : Bool) → after ≡ false → MetricText after []
-none_more after h = subst (λ a. MetricText a []) (sym h) metric_stop
-
-metric_from_ends : (after : Bool) (at : ℕ) (bs : List ℕ) → Reads (MetricText after) (at_place at bs)
-    (reading.metric_from after at bs)
-metric_from_ends after at [] =
-    let s = at_place at [] in
-    if_ends s after (Err (unexpected what.Metric s)) (Ok ([], s))
-    (λ h. record { way = wrong_here s (97 ∷ []) (one_more after) })
-    (λ h. record { way = record { front = []; bytes = refl; place = omega arith; is = none_more after h } })
-metric_from_ends after at (b ∷ bs) =
-    let s = at_place at (b ∷ bs) in
-    let m = at_place (at + 1) bs in
-    let on = reading.with_byte b (reading.metric_from false (at + 1) bs) in
-    let slash = reading.with_byte b (reading.metric_from true (at + 1) bs) in
-    if_ends s (is_metric_byte b) on _
-    (λ h. ends_before_it s m (b ∷ []) on refl (omega arith)
-    (done_ends m (reading.metric_from false (at + 1) bs) (λ x. (b ∷ x.0, x.1))
-    (ends_as m (reading.metric_from false (at + 1) bs) (metric_from_ends false (at + 1) bs)
-    (λ x u f. metric_more after b u h f) (λ u f. metric_more after b u h f)) (λ x. refl) (λ x u f. f)))
-    (λ h. if_ends s (b == 47 && not after) slash _
-    (λ g. ends_before_it s m (b ∷ []) slash refl (omega arith)
-    (done_ends m (reading.metric_from true (at + 1) bs) (λ x. (b ∷ x.0, x.1))
-    (ends_as m (reading.metric_from true (at + 1) bs) (metric_from_ends true (at + 1) bs)
-    (λ x u f. metric_slash after b u h g f) (λ u f. metric_slash after b u h g f)) (λ x. refl) (λ x u f. f)))
-    (λ g. if_ends s after (Err (unexpected what.Metric s)) (Ok ([], s))
-    (λ h. record { way = wrong_here s (97 ∷ []) (one_more after) })
-    (λ h. record { way = record { front = []; bytes = refl; place = omega arith; is = none_more after h } })))
-
-metric_text : (w u : List ℕ) → Text Anyhow true (WordSpan (codes "/")) w → MetricText true u →
-    Text Anyhow false (Token grammar.metric_at) (w ++ u)
-metric_text w u f g = record {
-  opens = tt;
-  fills = λ z h at. let a = f.fills (u ++ z) tt at in let n = g z h a.0 in let place =
-      (skip (at_place at (w ++ (u ++ z)))).at in (
-        (n.0.0, metric_name place n.0.1),
-        ap (λ t. grammar.metric_at (at_place at t)) (append_assoc w u z)
-            ∙ ap (option_and_then (metric_behind place)) a.1
-            ∙ ap (option_and_then (λ x. Some (metric_name place x.0, x.1))) n.1,
-      );
-}
-
-pub metric_ends : (s : Rest) → Reads (Text Anyhow false (Token grammar.metric_at)) s (reading.metric s)
-unfolding reading.metric
-metric_ends s =
-    bind_ends s (exact what.Metric (codes "/") (skip s)) _ (word_ends Anyhow what.Metric 47 [] refl tt refl s)
-    (λ w f. record { text = 97 ∷ []; is = metric_text w (97 ∷ []) f (one_more true) })
-    (λ slash w f. done_ends slash (reading.metric_from true slash.at slash.bytes)
-    (λ read. (record { at = (skip s).at; text = 47 ∷ read.0 }, read.1))
-    (ends_as slash (reading.metric_from true slash.at slash.bytes) (metric_from_ends true slash.at slash.bytes)
-    (λ x u g. metric_text w u f g) (λ u g. metric_text w u f g)) (λ x. refl) (λ x u g. g))
-
--- `/a`
-pub metric_default : Default (Text Anyhow false (Token grammar.metric_at))
-metric_default =
-    record {
-      text = 47 ∷ 97 ∷ [];
-      is = metric_text (47 ∷ []) (97 ∷ []) (word_text Anyhow 47 [] refl tt [] tt)
-          (one_more true);
     }

@@ -86,7 +86,7 @@ aligner_ends m =
     (λ _. done_ends m next (λ x. (tree.Align (aligner.NextOlder x.0), x.1))
     (ends_as m next (aligned_ends 110 (codes "ext_older") refl next_opens refl m)
     (λ x w f. changed (λ x z k. inr k) w f) (λ w f. changed (λ x z k. inr k) w f)) (λ x. refl) (λ x w f. f))
-    (λ _. record { way = wrong m (codes "delta" ++ in_aligned.text) delta_text }))
+    (λ _. record { way = wrong _ m (codes "delta" ++ in_aligned.text) delta_text }))
 
 -- operations other than a filter
 abbrev pub DeedSpan : ℕ → List ℕ → List ℕ → Type 0
@@ -231,7 +231,7 @@ deed_ends d s =
     (λ _. if_ends s (b == 119) (pipes.duration_deed tree.Within (codes "within") t)
     (Err (unexpected what.Operation t)) (λ _. lasting_ends d 119 (codes "ithin") tree.Within refl refl
     (within_span d) s)
-    (λ _. record { way = wrong s (codes "every" ++ duration_default.text) (every_text d) }))))))
+    (λ _. record { way = wrong _ s (codes "every" ++ duration_default.text) (every_text d) }))))))
 
 -- an operation, and the bar behind it where it was read
 abbrev pub OpSpan : ℕ → Bool → List ℕ → List ℕ → Type 0

@@ -9,6 +9,7 @@ use Rattle.mql_ast.specs.Rests.{Rest, head, behind, skip}
 use Rattle.mql_ast.specs.Tokens.{word_at, sign_at, metric_at}
 use Rattle.mql_ast.specs.Grammar as grammar
 use Rattle.mql_ast.specs.Grammar.{Deed, align_delta, align_next_older, Ops, no_ops, more_ops, how_word, Pipe, flow, Source, PipeList, two_pipes, more_pipes}
+use Rattle.mql_parse.specs.declared.faults.ParseKind.TheVariants.{TooDeep}
 use Rattle.mql_parse.specs.declared.faults.What.TheVariants as what
 use Rattle.mql_parse.specs.Outcomes.{unexpected, exact, sign}
 use Rattle.mql_parse.specs.Repeats.{Done, Again, Stuck, repetition}
@@ -16,8 +17,9 @@ use Rattle.mql_parse.specs.TokenReading as reading
 use Rattle.mql_parse.specs.PipeReading as pipes
 use Rattle.mql_parse.proofs.PipeSound.{operation_turn_behind, branch_turn_behind}
 use Rattle.mql_parse.proofs.Endings.{Anyhow, Parted, Text, Then, join, changed, anyhow, unended, Default, both, Ends, behind_read, Reads, stay, as_it_is, cut_as, cut_then, bind_ends, ends_as, done_ends, then_ends, if_ends, TurnEnds, if_turns, turns_as, cut_turns, on_read_ends, loop_ends}
-use Rattle.mql_parse.proofs.TokenEndings.{at_place, AreBlanks, wrong, SignSpan, sign_text, sign_cut, sign_ends, sign_default, WordSpan, word_text, word_default, word_ends, SpacedSpan, spaced, spaced_ends, Token, NameSpan, name_ends, name_default, open_brace, close_brace, semicolon, bar}
-use Rattle.mql_parse.proofs.NumberEndings.{duration_default, metric_ends, metric_default}
+use Rattle.mql_parse.proofs.TokenEndings.{at_place, AreBlanks, refused, wrong, SignSpan, sign_text, sign_cut, sign_ends, sign_default, WordSpan, word_text, word_default, word_ends, SpacedSpan, spaced, spaced_ends, Token, NameSpan, name_ends, name_default, open_brace, close_brace, semicolon, bar}
+use Rattle.mql_parse.proofs.MetricEndings.{metric_ends, metric_default}
+use Rattle.mql_parse.proofs.NumberEndings.{duration_default}
 use Rattle.mql_parse.proofs.OperationEndings.{DeedSpan, every_text, OpSpan, OpText, operation_ends}
 
 -- pipes, and the bar behind one where it was read
@@ -176,7 +178,7 @@ how_ends s =
     (λ _. done_ends s united (λ r. (how.Union, r))
     (ends_as s united (word_ends Anyhow what.How 117 (codes "nion") refl tt refl s)
     (λ r w f. changed union_span w f) (λ w f. changed union_span w f)) (λ r. refl) (λ r w f. f))
-    (λ _. record { way = wrong s (codes "join") join_text }))
+    (λ _. record { way = wrong _ s (codes "join") join_text }))
 
 abbrev BarHow : List ℕ → List ℕ → Type 0
 BarHow = Then (SignSpan 124) HowSpan
@@ -286,7 +288,7 @@ module _ (d : ℕ) (piped : (s : Rest) → Reads (PipeText d) s (pipes.pipe d s)
             (λ u k. closed_text d w v u f g k);
       })
       (λ _. record {
-        way = wrong x.1 (125 ∷ [])
+        way = wrong _ x.1 (125 ∷ [])
             (λ bs e. closed_text d w v (bs ++ 125 ∷ []) f g (sign_text 125 close_brace bs e));
       })))
 
@@ -326,7 +328,7 @@ module _ (d : ℕ) (grouped : (s : Rest) → (head (skip s) == 123) ≡ true →
       let t = skip s in
       if_ends s (head t == 102) (pipes.fetch t) _ (λ _. fetch_ends d s)
       (λ _. if_ends s (head t == 123) (pipes.pipe_group d t (behind t)) (Err (unexpected what.Fetch t)) (grouped s)
-      (λ _. record { way = wrong s (codes "fetch" ++ in_fetch.text) (fetch_text d) }))
+      (λ _. record { way = wrong _ s (codes "fetch" ++ in_fetch.text) (fetch_text d) }))
 
   pipe_ends_with : (s : Rest) → Reads (PipeText d) s (pipes.pipe d s)
   unfolding pipes.pipe_with
@@ -338,7 +340,7 @@ module _ (d : ℕ) (grouped : (s : Rest) → (head (skip s) == 123) ≡ true →
 group_ends : (d : ℕ) (s : Rest) → (head (skip s) == 123) ≡ true →
     Reads (SourceText d) s (pipes.pipe_group d (skip s) (behind (skip s)))
 unfolding pipes.pipe_group
-group_ends zero s h = record { way = wrong s (codes "fetch" ++ in_fetch.text) (fetch_text 0) }
+group_ends zero s h = record { way = refused s (codes "fetch" ++ in_fetch.text) TooDeep tt (fetch_text 0) }
 group_ends (suc d) s h = branches_ends d (pipe_ends_with d (group_ends d)) s h
 
 pub pipe_ends : (d : ℕ) (s : Rest) → Reads (PipeText d) s (pipes.pipe d s)

@@ -9,6 +9,7 @@ use Rattle.mql_ast.specs.Bytes.{is_letter}
 use Rattle.mql_ast.specs.Rests.{Rest, head, behind, skip}
 use Rattle.mql_ast.specs.Tokens.{word_here}
 use Rattle.mql_ast.specs.Grammar.{literal, Disjunction, one_conjunction, or, Conjunction, one_negation, and, Negation, not, in_parentheses, compare, like}
+use Rattle.mql_parse.specs.declared.faults.ParseKind.TheVariants.{TooDeep}
 use Rattle.mql_parse.specs.declared.faults.What.{What}
 use Rattle.mql_parse.specs.declared.faults.What.TheVariants as what
 use Rattle.mql_parse.specs.Outcomes.{Outcome, unexpected, sign}
@@ -19,7 +20,7 @@ use Rattle.mql_parse.specs.PredicateReading.{Compared, WithValue, WithPattern, O
 use Rattle.mql_parse.proofs.PredicateSound.{and_turn_behind, or_turn_behind}
 use Rattle.mql_parse.proofs.PipeSound.{filter_turn_behind}
 use Rattle.mql_parse.proofs.Endings.{Worded, Parted, opens_on, Text, Then, join, changed, worded, unended, Default, default_as, Ends, behind_read, Reads, stay, as_it_is, cut_then, bind_ends, ends_as, done_ends, if_ends, TurnEnds, if_turns, cut_turns, goes_on_ends, loop_ends}
-use Rattle.mql_parse.proofs.TokenEndings.{at_place, AreBlanks, wrong, wrong_here, IsSign, SignSpan, sign_text, sign_cut, sign_ends, sign_default, WordSpan, word_text, NameSpan, some_name, name_cut, name_after, name_default, open_parenthesis, close_parenthesis, exclamation, quote, bar}
+use Rattle.mql_parse.proofs.TokenEndings.{at_place, AreBlanks, refused, wrong, wrong_here, IsSign, SignSpan, sign_text, sign_cut, sign_ends, sign_default, WordSpan, word_text, NameSpan, some_name, name_cut, name_after, name_default, open_parenthesis, close_parenthesis, exclamation, quote, bar}
 use Rattle.mql_parse.proofs.TextEndings.{pattern_rest_ends, no_pattern}
 use Rattle.mql_parse.proofs.ValueEndings.{ComparedSpan, ComparedText, compared_text, equals, two_equals, FirstByte, first_is, byte_is, first_joined, AnyCompared, compared_ends, ValueText, value_ends, no_equals, value_default, PatternText, pattern_text}
 
@@ -153,7 +154,7 @@ module _ (d : ℕ) (opposite group : Rest → Rest → Outcome PredicateTree)
       if_ends s (b == 33) (opposite t (behind t)) _ (opposed s)
       (λ _. if_ends s (b == 40) (group t (behind t)) _ (grouped s)
       (λ _. if_ends s (is_letter b) (predicates.condition t) (Err (unexpected what.Name t)) (condition_ends d s)
-      (λ _. record { way = wrong s (name_default.text ++ condition_rest) (condition_after d) })))
+      (λ _. record { way = wrong _ s (name_default.text ++ condition_rest) (condition_after d) })))
 
 -- a further part behind a sign that is written twice
 doubled_text : (b : ℕ) → IsSign b → (v : List ℕ) → FirstByte b v → Text Parted true (WordSpan (b ∷ b ∷ []))
@@ -185,7 +186,9 @@ module _ (b : ℕ) (h : IsSign b) (Part Whole' : List ℕ → Type 0) (part : Re
       (λ g. cut_turns m k _ (byte_is b h.1.1.1 m g)
       (λ u i. goes_on_ends k (join l) (part k) (parted k) (λ y p. doubled w v u y f c i p)
       (λ x y p. doubled w v u y f c i p)))
-      (λ g. record { way = wrong_here m (b ∷ default.text) (doubled w v (b ∷ []) default.text f c refl default.is) })))
+      (λ g. record {
+        way = wrong_here _ m (b ∷ default.text) (doubled w v (b ∷ []) default.text f c refl default.is);
+      })))
       (λ e. record { way = stay Whole' s w f })
 
 ampersand : IsSign 38
@@ -238,7 +241,8 @@ sign_of Group = 40
 deeper_ends : (d : ℕ) (way : predicates.Deeper) (s : Rest) → (head (skip s) == sign_of way) ≡ true →
     Reads (NegationText d) s (predicates.deeper d way (skip s) (behind (skip s)))
 unfolding predicates.deeper
-deeper_ends zero way s h = record { way = wrong s (name_default.text ++ condition_rest) (condition_after 0) }
+deeper_ends zero way s h =
+    record { way = refused s (name_default.text ++ condition_rest) TooDeep tt (condition_after 0) }
 deeper_ends (suc d) way s h =
     by_way way h (negation_ends_with d (predicates.deeper d Opposite) (predicates.deeper d Group)
     (deeper_ends d Opposite) (deeper_ends d Group))

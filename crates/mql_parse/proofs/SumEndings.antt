@@ -6,6 +6,7 @@ use Rattle.mql_ast.specs.Bytes.{is_letter, is_digit}
 use Rattle.mql_ast.specs.Rests.{Rest, head, behind, skip}
 use Rattle.mql_ast.specs.Tokens.{signed_at, positive_at, word_here}
 use Rattle.mql_ast.specs.Grammar.{Sum, one_term, plus, minus, Term, column, number, percentile, sum_in_parentheses}
+use Rattle.mql_parse.specs.declared.faults.ParseKind.TheVariants.{TooDeep}
 use Rattle.mql_parse.specs.declared.faults.What.TheVariants as what
 use Rattle.mql_parse.specs.Outcomes.{Outcome, unexpected, sign}
 use Rattle.mql_parse.specs.Repeats.{Done, goes_on}
@@ -14,7 +15,7 @@ use Rattle.mql_parse.specs.SumReading as sums
 use Rattle.mql_parse.specs.SumReading.{SumSeen, seen_sum, is_percentile}
 use Rattle.mql_parse.proofs.SumSound.{same_word, term_turn_behind}
 use Rattle.mql_parse.proofs.Endings.{Anyhow, Worded, Parted, Text, Then, join, changed, worded, anyhow, unended, Default, both, default_as, Reads, stay, as_it_is, cut_then, bind_ends, ends_as, done_ends, then_ends, if_ends, TurnEnds, if_turns, cut_turns, goes_on_ends, loop_ends}
-use Rattle.mql_parse.proofs.TokenEndings.{at_place, AreBlanks, wrong, SignSpan, sign_cut, sign_ends, sign_default, Token, NamedSpan, NameSpan, some_name, name_cut, name_ends, name_after, name_default, plus_sign, minus_sign, open_parenthesis, close_parenthesis, comma}
+use Rattle.mql_parse.proofs.TokenEndings.{at_place, AreBlanks, refused, wrong, SignSpan, sign_cut, sign_ends, sign_default, Token, NamedSpan, NameSpan, some_name, name_cut, name_ends, name_after, name_default, plus_sign, minus_sign, open_parenthesis, close_parenthesis, comma}
 use Rattle.mql_parse.proofs.NumberEndings.{positive_ends, positive_default, signed_ends}
 
 abbrev pub SumSpan : ℕ → List ℕ → List ℕ → Type 0
@@ -130,7 +131,7 @@ module _ (d : ℕ) (group : Rest → Rest → Outcome SumSeen) (grouped : (s : R
       (ends_as s (reading.signed s) (signed_ends s) (λ x w f. number_text d w f) (λ w f. number_text d w f))
       (λ x. refl) (λ x w f. f))
       (λ _. if_ends s (is_letter b) (sums.word_read (word_here t)) (Err (unexpected what.Name t)) (word_ends d s)
-      (λ _. record { way = wrong s name_default.text (column_after d) })))
+      (λ _. record { way = wrong _ s name_default.text (column_after d) })))
 
 -- sums of such terms
 module _ (d : ℕ) (termed : (s : Rest) → Reads (TermText d) s (sums.term d s)) where
@@ -158,7 +159,7 @@ module _ (d : ℕ) (termed : (s : Rest) → Reads (TermText d) s (sums.term d s)
 group_ends : (d : ℕ) (s : Rest) → (head (skip s) == 40) ≡ true →
     Reads (TermText d) s (sums.sum_group d (skip s) (behind (skip s)))
 unfolding sums.sum_group
-group_ends zero s h = record { way = wrong s name_default.text (column_after 0) }
+group_ends zero s h = record { way = refused s name_default.text TooDeep tt (column_after 0) }
 group_ends (suc d) s h =
     let m = behind (skip s) in
     cut_then s m _ (sign_cut 40 open_parenthesis s h) (λ w f.

@@ -1,5 +1,5 @@
 -- A text is too deep exactly where more levels would let it go on.
-use Rattle.std.proofs.Common.{◌≡◌, ℕ, ◌+◌, ◌<◌, ◌≤◌, Bool, true, false, ◌==◌, List, [], ◌∷◌, ◌++◌, length, take, drop, refl, sym, ap, ◌∙◌, subst, arith, if◌then◌else◌, append_assoc, Result, Ok, Err}
+use Rattle.std.proofs.Common.{◌≡◌, ℕ, ◌+◌, ◌<◌, ◌≤◌, Bool, true, false, ◌==◌, List, [], ◌∷◌, ◌++◌, length, take, drop, refl, sym, ap, ◌∙◌, subst, arith, if◌then◌else◌, Result, Ok, Err}
 use Rattle.std.specs.Result.{IfOk, IfErr}
 use Rattle.std.proofs.lemmas.List.{take-append-drop, take-take}
 use Rattle.mon_value.specs.Answers.{◌>>=◌, GivesView}
@@ -20,7 +20,7 @@ use Rattle.mql_parse.specs.Steadiness.{next, Reaches}
 use Rattle.mql_parse.proofs.Shallow.{unexpected_kind}
 use Rattle.mql_parse.proofs.Deepens.{ByKind, by_kind, by_other, other_kind, Deepens}
 use Rattle.mql_parse.proofs.PipeDepth.{pipe_deepens}
-use Rattle.mql_parse.proofs.FrontEndings.{fault_front_begins}
+use Rattle.mql_parse.proofs.FrontEndings.{shorter_begins, fault_front_begins}
 use Rattle.mql_parse.proofs.TextSound.{query_sound}
 use Rattle.mql_parse.proofs.TextComplete.{query_complete}
 use Rattle.mql_parse.proofs.TextSteady.{fault_place_is_last, text_fault}
@@ -96,13 +96,6 @@ read_spells d text tree h =
     let sound : IsSpelled d text (Ok tree) = subst (IsSpelled d text) h (query_sound d text) in sound
 
 -- fronts of what begins a text begin it too
-shorter_begins : (d : ℕ) (v w : List ℕ) → BeginsWithin d (v ++ w) → BeginsWithin d v
-shorter_begins d v w b = record {
-  more = w ++ b.more;
-  tree = b.tree;
-  spelled = subst (SpellsWithin d b.tree) (append_assoc v w b.more) b.spelled;
-}
-
 front_begins : (d n m : ℕ) (text : List ℕ) → n ≤ m → BeginsWithin d (take m text) → BeginsWithin d (take n text)
 front_begins d n m text l b =
     shorter_begins d (take n text) (drop n (take m text))

@@ -8,10 +8,11 @@ use Rattle.mql_ast.specs.Rests.{Rest}
 use Rattle.mql_ast.specs.Quotes as quotes
 use Rattle.mql_ast.specs.Quotes.{Open, Whole, Escape, More, further, TextStep, TextEnd, TextPass, TextKeep, TextBad, text_step, Sign, Plain, Dot, Backslash, PatternStep, PatternEnd, PatternCut, PatternPass, PatternKeep, PatternUnfit, PatternBad, pattern_step}
 use Rattle.mql_parse.specs.declared.faults.ParseKind.{ParseKind}
-use Rattle.mql_parse.specs.declared.faults.ParseKind.TheVariants.{BadToken, BadPattern}
+use Rattle.mql_parse.specs.declared.faults.ParseKind.TheVariants.{BadToken, BadPattern, Expected}
+use Rattle.mql_parse.specs.declared.faults.What.TheVariants as what
 use Rattle.mql_parse.specs.Outcomes.{Outcome, fault}
 use Rattle.mql_parse.specs.TokenReading as reading
-use Rattle.mql_parse.proofs.Endings.{Reads, ends_before_it, ends_as}
+use Rattle.mql_parse.proofs.Endings.{Smaller, IfTooLarge, Reads, ends_before_it, ends_as}
 use Rattle.mql_parse.proofs.TokenEndings.{at_place}
 use Rattle.mql_parse.proofs.Utf8Steps.{IsCompleted, LeavesOpen, several_further, StepOpens, text_step_opens, LeavesSign, PatternOpens, pattern_step_opens, kept_ascii, text_may_end}
 
@@ -41,10 +42,19 @@ low_within : (low high : ℕ) → nat_le low high ≡ true →
 low_within low high h = (omega arith, (grind (arith, nat_tests), grind (arith, nat_tests)))
 
 -- what a fault here is a front of
-stopped : {A : Type 0} {L : List ℕ → Type 0} (kind : ParseKind) (s : Rest) → (w : List ℕ) × L w →
-    Reads {A = A} L s (Err (fault kind s))
-stopped kind s d =
-    record { way = record { front = []; left = s.bytes; bytes = refl; place = omega arith; tail = d.0; is = d.1 } }
+stopped : {A : Type 0} {L : List ℕ → Type 0} (kind : ParseKind) (s : Rest) → IfTooLarge kind (Smaller L s s.at) →
+    (w : List ℕ) × L w → Reads {A = A} L s (Err (fault kind s))
+stopped kind s k d = record {
+  way = record {
+    front = [];
+    left = s.bytes;
+    bytes = refl;
+    place = omega arith;
+    tail = d.0;
+    is = d.1;
+    smaller = k;
+  };
+}
 
 -- texts, byte by byte
 text_after : ℕ → List ℕ → ℕ → List ℕ → TextStep → Option (List ℕ × Rest)
@@ -124,11 +134,11 @@ text_step_ends u b t at bs (TextKeep next) e h k ih =
     ends_before_it (at_place at (b ∷ bs)) (at_place (at + 1) bs) (b ∷ []) o refl (omega arith)
     (ends_as (at_place (at + 1) bs) o (ih next (t ++ b ∷ []) k) (λ x w f. text_keeps u next b t w e f)
     (λ w f. text_keeps u next b t w e f))
-text_step_ends u b t at bs TextBad e h k ih = stopped BadToken (at_place at (b ∷ bs)) (close_text u t h)
+text_step_ends u b t at bs TextBad e h k ih = stopped BadToken (at_place at (b ∷ bs)) tt (close_text u t h)
 
 text_from_ends : (u : Open) (t : List ℕ) (at : ℕ) (bs : List ℕ) → LeavesOpen u t → Reads (TextOf u t) (at_place at bs)
     (reading.text_from u t at bs)
-text_from_ends u t at [] h = stopped _ (at_place at []) (close_text u t h)
+text_from_ends u t at [] h = stopped (Expected what.Text) (at_place at []) tt (close_text u t h)
 text_from_ends u t at (b ∷ bs) h =
     text_step_ends u b t at bs (text_step u b) refl h (text_step_opens u b t h)
     (λ next more k. text_from_ends next more (at + 1) bs k)
@@ -249,13 +259,13 @@ pattern_step_ends u mark ps b t at bs (PatternKeep next sign) e h k ih =
     (ends_as (at_place (at + 1) bs) o (ih next sign ps (t ++ b ∷ []) k)
     (λ x w f. pattern_keeps u mark ps next sign b t w e f) (λ w f. pattern_keeps u mark ps next sign b t w e f))
 pattern_step_ends u mark ps b t at bs PatternUnfit e h k ih =
-    stopped BadPattern (at_place at (b ∷ bs)) (close_pattern u mark ps t h)
+    stopped BadPattern (at_place at (b ∷ bs)) tt (close_pattern u mark ps t h)
 pattern_step_ends u mark ps b t at bs PatternBad e h k ih =
-    stopped BadToken (at_place at (b ∷ bs)) (close_pattern u mark ps t h)
+    stopped BadToken (at_place at (b ∷ bs)) tt (close_pattern u mark ps t h)
 
 pattern_from_ends : (u : Open) (mark : Sign) (ps : List (List ℕ)) (t : List ℕ) (at : ℕ) (bs : List ℕ) →
     LeavesSign u mark t → Reads (PatternOf u mark ps t) (at_place at bs) (reading.pattern_from u mark ps t at bs)
-pattern_from_ends u mark ps t at [] h = stopped _ (at_place at []) (close_pattern u mark ps t h)
+pattern_from_ends u mark ps t at [] h = stopped (Expected what.Text) (at_place at []) tt (close_pattern u mark ps t h)
 pattern_from_ends u mark ps t at (b ∷ bs) h =
     pattern_step_ends u mark ps b t at bs (pattern_step u mark b) refl h (pattern_step_opens u mark b t h)
     (λ next sign all more k. pattern_from_ends next sign all more (at + 1) bs k)

@@ -1,5 +1,5 @@
 -- The kind of a text's fault fits its byte.
-use Rattle.std.proofs.Common.{◌≡◌, ℕ, ◌≤◌, Bool, true, false, ◌==◌, ◌||◌, not, List, [], ◌∷◌, length, take, drop, refl, sym, ap, ◌∙◌, subst, arith, if◌then◌else◌, None, Result, Ok, Err}
+use Rattle.std.proofs.Common.{◌≡◌, ℕ, ◌≤◌, Bool, true, false, ◌==◌, ◌||◌, not, List, [], ◌∷◌, ◌++◌, length, take, drop, refl, sym, ap, ◌∙◌, subst, arith, if◌then◌else◌, append_assoc, None, Result, Ok, Err}
 use Rattle.std.specs.Result.{IfErr}
 use Rattle.std.proofs.Math.Seq.{take-append_seam, drop-append_seam}
 use Rattle.mon_value.specs.Answers.{◌>>=◌, GivesView}
@@ -16,10 +16,14 @@ use Rattle.mql_parse.specs.declared.faults.What.TheVariants as what
 use Rattle.mql_parse.specs.Outcomes.{Outcome, fault}
 use Rattle.mql_parse.specs.PipeReading.{pipe, behind_query, query_end_in, query_end, query_within, query, text_outcome}
 use Rattle.mql_parse.specs.FaultPlaces.{FaultOf}
+use Rattle.mql_parse.specs.FaultDepths.{BeginsWithin}
+use Rattle.mql_parse.specs.FaultNumbers.{NumberKind}
 use Rattle.mql_parse.specs.FaultKinds.{open_quotes, OutsideKind, KindFits, FaultKind}
 use Rattle.mql_parse.proofs.KindFits.{Outside, FaultFits, Fits, fault_before, unexpected_next, fault_fits}
 use Rattle.mql_parse.proofs.PipeKinds.{pipe_fits}
-use Rattle.mql_parse.proofs.TextSteady.{begins_here, text_fault}
+use Rattle.mql_parse.proofs.TextSteady.{begins_here, begins_at_levels, text_fault}
+use Rattle.mql_parse.proofs.Endings.{IfTooLarge}
+use Rattle.mql_parse.proofs.FrontEndings.{NumberBegins, shorter_begins, fault_number_begins}
 
 -- a fault in place of a tree
 abbrev TreeFits : Rest → Result PipeTree ParseFault → Type 0
@@ -82,3 +86,27 @@ pub fault_kind : (text : List ℕ) (result : Result Query (Refusal ParseFault)) 
 fault_kind text (Ok q) h fits = tt
 fault_kind text (Err (refusal.Fault f)) h fits = query_fault_kind text f (text_fault text f fits h)
 fault_kind text (Err refusal.OutOfMemory) h fits = tt
+
+query_fault_number : (text : List ℕ) (f : ParseFault) → query text ≡ Err f → NumberKind text f
+query_fault_number text f e large =
+    let g : NumberBegins levels text f.at =
+    subst (λ kind. IfTooLarge kind (NumberBegins levels text f.at)) large (fault_number_begins levels text f e) in
+    record {
+      before = g.before;
+      number = g.number;
+      byte = g.byte;
+      after = g.after;
+      is_number = g.is_number;
+      bytes = g.bytes;
+      place = omega (arith, g.place);
+      smaller = begins_at_levels (g.before ++ 49 ∷ g.byte ∷ [])
+          (shorter_begins levels (g.before ++ 49 ∷ g.byte ∷ []) g.tail
+          (subst (BeginsWithin levels) (sym (append_assoc g.before (49 ∷ g.byte ∷ []) g.tail)) g.is));
+    }
+
+-- of a number that is too large
+pub fault_number : (text : List ℕ) (result : Result Query (Refusal ParseFault)) → GivesView query_tree result
+    (text_outcome text) → length text ≤ longest_text → IfErr result (FaultOf (NumberKind text))
+fault_number text (Ok q) h fits = tt
+fault_number text (Err (refusal.Fault f)) h fits = query_fault_number text f (text_fault text f fits h)
+fault_number text (Err refusal.OutOfMemory) h fits = tt

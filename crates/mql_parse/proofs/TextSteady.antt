@@ -132,7 +132,7 @@ text_fault text f fits h = sym (if_false (nat_lt longest_text (length text)) _ _
     (le-ltb longest_text (length text) fits)) ∙ h
 
 -- the levels of a query
-begins_at_levels : (front : List ℕ) → BeginsWithin levels front → Begins front
+pub begins_at_levels : (front : List ℕ) → BeginsWithin levels front → Begins front
 begins_at_levels front b =
     record { more = b.more; tree = b.tree; spelled = at_length b.tree (front ++ b.more) b.spelled }
 

@@ -3,17 +3,20 @@ use Rattle.std.proofs.Common.{◌≡◌, ℕ, ◌+◌, Bool, true, false, ◌==�
 use Rattle.std.proofs.lemmas.Bool.{false≢true}
 use Rattle.std.proofs.lemmas.Bool.Decides.{nat_tests}
 use Rattle.mon_value.specs.Answers.{◌>>=◌}
-use Rattle.mql_ast.specs.Bytes.{is_blank, is_letter, is_digit, is_word_byte, is_metric_byte}
+use Rattle.mql_ast.specs.Bytes.{is_alphabet, is_blank, is_letter, is_digit, is_word_byte, is_metric_byte}
 use Rattle.mql_ast.specs.Rests.{Rest, first_of, behind_first, behind_blanks, head, behind, skip}
 use Rattle.mql_ast.specs.Tokens.{sign_at, past, word_at, word_bytes, behind_word, word_here, name_at}
 use Rattle.mql_parse.specs.declared.faults.ParseFault.{ParseFault}
+use Rattle.mql_parse.specs.declared.faults.ParseKind.{ParseKind}
+use Rattle.mql_parse.specs.declared.faults.ParseKind.TheVariants.{BadToken, Expected}
 use Rattle.mql_parse.specs.declared.faults.What.{What}
 use Rattle.mql_parse.specs.declared.faults.What.TheVariants as what
-use Rattle.mql_parse.specs.Outcomes.{unexpected, exact, sign, apart}
+use Rattle.mql_parse.specs.Outcomes.{kind_of, fault, unexpected, exact, sign, apart}
+use Rattle.mql_parse.specs.FaultNumbers.{IsNumber}
 use Rattle.mql_parse.specs.TokenReading as reading
 use Rattle.mql_parse.proofs.RestLemmas.{skip_off}
 use Rattle.mql_parse.proofs.WordLemmas.{word_bytes_on, word_bytes_off, behind_word_off}
-use Rattle.mql_parse.proofs.Endings.{is_inner, Front, Anyhow, Worded, Parted, OpensAs, Text, Then, join, changed, worded, Default, Cut, Finish, Ends, behind_read, Reads, Leaves, cut_before, cut_as, cut_then, bind_ends, ends_as, if_ends}
+use Rattle.mql_parse.proofs.Endings.{is_inner, Front, Anyhow, Worded, Parted, OpensAs, Text, Then, join, changed, worded, Default, Cut, Smaller, IfTooLarge, if_too_large, Finish, Ends, behind_read, Reads, Leaves, cut_before, cut_as, cut_then, bind_ends, ends_as, if_ends}
 
 abbrev pub at_place : ℕ → List ℕ → Rest
 at_place at bs = record { at = at; bytes = bs }
@@ -37,6 +40,10 @@ digit_in_word b h = either (is_letter b)
     either : (t : Bool) → (t || is_digit b) ≡ true
     either true = refl
     either false = h
+
+pub and_first : (a b : Bool) → (a && b) ≡ true → a ≡ true
+and_first true b h = refl
+and_first false b h = h
 
 neither : (a b : Bool) → (a || b) ≡ false → (a ≡ false) × (b ≡ false)
 neither true b h = absurd (false≢true (sym h))
@@ -106,10 +113,19 @@ byte_cut test z s h = of_bytes s.at s.bytes h
     of_bytes at [] h = absurd (false≢true (sym z ∙ h))
     of_bytes at (b ∷ bs) h = record { front = b ∷ []; bytes = refl; place = omega arith; is = refl }
 
+none_too_large : (P : Type 0) (w : What) (bs : List ℕ) → IfTooLarge (kind_of w bs) P
+none_too_large P w [] = tt
+none_too_large P w (b ∷ bs) = either (is_alphabet b)
+  where
+    either : (t : Bool) → IfTooLarge (if t then Expected w else BadToken) P
+    either true = tt
+    either false = tt
+
 -- where what stands here is refused, blanks aside
-pub wrong : {L : List ℕ → Type 0} (s : Rest) (tail : List ℕ) → ((bs : List ℕ) → AreBlanks bs → L (bs ++ tail)) →
-    Finish L s (skip s).at
-wrong s tail h = let c = skip_cut s in
+pub refused : {L : List ℕ → Type 0} (s : Rest) (tail : List ℕ) (kind : ParseKind) →
+    IfTooLarge kind (Smaller L s (skip s).at) → ((bs : List ℕ) → AreBlanks bs → L (bs ++ tail)) →
+    Finish L s (fault kind (skip s))
+refused s tail kind k h = let c = skip_cut s in
     record {
       front = c.front;
       left = (skip s).bytes;
@@ -118,11 +134,25 @@ wrong s tail h = let c = skip_cut s in
       tail = tail;
       is = h c.front
           c.is;
+      smaller = k;
     }
 
+pub wrong : {L : List ℕ → Type 0} (w : What) (s : Rest) (tail : List ℕ) →
+    ((bs : List ℕ) → AreBlanks bs → L (bs ++ tail)) → Finish L s (unexpected w (skip s))
+wrong {L = L} w s tail h =
+    refused s tail (kind_of w (skip s).bytes) (none_too_large (Smaller L s (skip s).at) w (skip s).bytes) h
+
 -- where it is refused here
-pub wrong_here : {L : List ℕ → Type 0} (s : Rest) (tail : List ℕ) → L tail → Finish L s s.at
-wrong_here s tail h = record { front = []; left = s.bytes; bytes = refl; place = omega arith; tail = tail; is = h }
+pub wrong_here : {L : List ℕ → Type 0} (w : What) (s : Rest) (tail : List ℕ) → L tail → Finish L s (unexpected w s)
+wrong_here {L = L} w s tail h = record {
+  front = [];
+  left = s.bytes;
+  bytes = refl;
+  place = omega arith;
+  tail = tail;
+  is = h;
+  smaller = none_too_large (Smaller L s s.at) w s.bytes;
+}
 
 -- tokens
 abbrev pub SignSpan : ℕ → List ℕ → List ℕ → Type 0
@@ -184,7 +214,7 @@ sign_cut b h s e =
 pub sign_ends : (b : ℕ) (w : What) → IsSign b → (s : Rest) → Leaves (Text Parted true (SignSpan b)) s (sign b w s)
 sign_ends b w h s =
     if_ends s (head (skip s) == b) (Ok (behind (skip s))) (Err (unexpected w (skip s)))
-    (λ e. record { way = sign_cut b h s e }) (λ e. record { way = wrong s (b ∷ []) (sign_text b h) })
+    (λ e. record { way = sign_cut b h s e }) (λ e. record { way = wrong _ s (b ∷ []) (sign_text b h) })
 
 -- keywords
 abbrev pub all_nonzero : List ℕ → Bool
@@ -204,7 +234,7 @@ exact_ends w (c ∷ cs) h s =
     (λ v g. let first : v ≡ c ∷ [] = g ∙ ap (λ x. x ∷ []) (equal_byte (head s) c e) in
     ends_as (behind s) (exact w cs (behind s)) (exact_ends w cs nonzero.1 (behind s)) (λ r u f. ap (λ t. t ++ u) first
     ∙ ap (λ t. c ∷ t) f) (λ u f. ap (λ t. t ++ u) first ∙ ap (λ t. c ∷ t) f)))
-    (λ e. record { way = wrong_here s (c ∷ cs) refl })
+    (λ e. record { way = wrong_here _ s (c ∷ cs) refl })
 
 same_byte : (c : ℕ) → (c == c) ≡ true
 same_byte c = grind (arith, nat_tests)
@@ -268,19 +298,52 @@ parted {left = left} m (Ok y) h d f = let t = f.way in record {
 parted {c = c} {S = S} m (Err e) h d f =
     record { way = by_front f.way.front f.way.left f.way.bytes f.way.place f.way.tail f.way.is }
   where
+    opened : (x : ℕ) (v u : List ℕ) → m.bytes ≡ x ∷ v → Text Worded c S (x ∷ u) → Text Parted c S (x ∷ u)
+    opened x v u b t = record {
+      opens = t.opens [] (ap (λ u. is_word_byte (first_of u)) (sym b) ∙ h);
+      fills = t.fills;
+    }
+
+    no_number_first : (number after : List ℕ) → IsNumber number → m.bytes ≡ number ++ after → ⊥
+    no_number_first [] after n b = absurd n
+    no_number_first (x ∷ number) after n b =
+        false≢true (sym h ∙ ap (λ u. is_word_byte (first_of u)) b
+        ∙ digit_in_word x (and_first (is_digit x) (not (x == 48)) n.0))
+
+    smaller_parted : (at : ℕ) → Smaller (Text Worded c S) m at → Smaller (Text Parted c S) m at
+    smaller_parted at g = record {
+      before = g.before;
+      number = g.number;
+      byte = g.byte;
+      after = g.after;
+      is_number = g.is_number;
+      bytes = g.bytes;
+      place = g.place;
+      tail = g.tail;
+      is = by_first g.before g.bytes g.is;
+    }
+      where
+        by_first : (before : List ℕ) → m.bytes ≡ before ++ (g.number ++ g.byte ∷ g.after) →
+            Text Worded c S (before ++ 49 ∷ g.byte ∷ g.tail) → Text Parted c S (before ++ 49 ∷ g.byte ∷ g.tail)
+        by_first [] b t = absurd (no_number_first g.number (g.byte ∷ g.after) g.is_number b)
+        by_first (x ∷ before) b t =
+            opened x (before ++ (g.number ++ g.byte ∷ g.after)) (before ++ 49 ∷ g.byte ∷ g.tail) b t
+
+    smaller : IfTooLarge e.kind (Smaller (Text Parted c S) m e.at)
+    smaller = if_too_large e.kind (smaller_parted e.at) f.way.smaller
+
     by_front : (front left : List ℕ) → m.bytes ≡ front ++ left → e.at ≡ m.at + length front → (tail : List ℕ) →
-        Text Worded c S (front ++ tail) → Finish (Text Parted c S) m e.at
-    by_front [] left b p tail t = record { front = []; left = left; bytes = b; place = p; tail = d.text; is = d.is }
+        Text Worded c S (front ++ tail) → Finish (Text Parted c S) m e
+    by_front [] left b p tail t =
+        record { front = []; left = left; bytes = b; place = p; tail = d.text; is = d.is; smaller = smaller }
     by_front (x ∷ front) left b p tail t = record {
       front = x ∷ front;
       left = left;
       bytes = b;
       place = p;
       tail = tail;
-      is = record {
-        opens = t.opens [] (ap (λ u. is_word_byte (first_of u)) (sym b) ∙ h);
-        fills = t.fills;
-      };
+      is = opened x (front ++ left) (front ++ tail) b t;
+      smaller = smaller;
     }
 
 pub apart_ends : {B : Type 0} {left : B → Rest} {k : B → Bool} {R : B → List ℕ → List ℕ → Type 0} {c : Bool}
@@ -291,7 +354,7 @@ apart_ends {left = left} {k = k} {R = R} {c = c} {S = S} w m f d g = either (is_
   where
     either : (t : Bool) → is_word_byte (head m) ≡ t → Ends left (λ y. Text Parted (k y) (R y)) (Text Parted c S) m
         ((if t then Err (unexpected w m) else Ok m) >>= f)
-    either true h = record { way = wrong_here m d.text d.is }
+    either true h = record { way = wrong_here _ m d.text d.is }
     either false h = parted m (f m) h d g
 
 in_turn : {A B C : Type 0} (o : Result A ParseFault) (g : A → Result B ParseFault) (f : B → Result C ParseFault) →
@@ -422,7 +485,7 @@ pub named_ends : (s : Rest) → Ends behind_read (λ x. Text Worded false (Named
 unfolding reading.name
 named_ends s =
     if_ends s (is_letter (head (skip s))) (Ok (word_here (skip s))) (Err (unexpected what.Name (skip s)))
-    (λ h. record { way = name_cut s h }) (λ h. record { way = wrong s name_default.text name_after })
+    (λ h. record { way = name_cut s h }) (λ h. record { way = wrong _ s name_default.text name_after })
 
 pub name_ends : (s : Rest) → Reads (Text Worded false NameSpan) s (reading.name s)
 name_ends s = ends_as s (reading.name s) (named_ends s) (λ x w f. changed (some_name x.0.text) w f) (λ w f. f)

@@ -163,7 +163,7 @@ compared_ends s =
           (word_text Parted 61 (126 ∷ []) refl (λ y. refl) c.0 c.1.0));
     })
     (λ _. record {
-      way = wrong_here m (61 ∷ []) (first_joined AnyCompared 61 v (61 ∷ []) (61 ∷ []) c refl
+      way = wrong_here _ m (61 ∷ []) (first_joined AnyCompared 61 v (61 ∷ []) (61 ∷ []) c refl
           (comparison.Equal, compared_text comparison.Equal 61 (61 ∷ []) equals two_equals c.0 c.1.0));
     }))))
     (λ _. if_ends s (b == 33) (exact what.Comparison (codes "=") m >>= λ r. Ok (WithValue comparison.NotEqual, r)) _
@@ -186,7 +186,7 @@ compared_ends s =
     (λ h. cut_then s m (predicates.maybe_equal comparison.Greater comparison.AtLeast m) (first_is 62 refl s h)
     (λ v c. maybe_ends 62 v c comparison.Greater comparison.AtLeast m greater only_greater at_least))
     (λ _. record {
-      way = wrong s (61 ∷ 61 ∷ [])
+      way = wrong _ s (61 ∷ 61 ∷ [])
           (λ bs e. (comparison.Equal, compared_text comparison.Equal 61 (61 ∷ []) equals two_equals bs e));
     }))))
 
@@ -337,7 +337,7 @@ value_ends s =
     (λ _. done_ends s (reading.signed s) (λ x. (field.Int x.0, x.1))
     (ends_as s (reading.signed s) (signed_ends s) (λ x w f. signed_text w f) (λ w f. signed_text w f)) (λ x. refl)
     (λ x w f. f))
-    (λ _. record { way = wrong s (codes "true") true_text }))))
+    (λ _. record { way = wrong _ s (codes "true") true_text }))))
 
 -- no `=` begins a value
 pub no_equals : (x z : List ℕ) → Token value_at x z → (first_of x == 61) ≡ false

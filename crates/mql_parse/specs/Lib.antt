@@ -12,6 +12,7 @@ pub mod Steadiness
 pub mod FaultPlaces
 pub mod FaultKinds
 pub mod FaultDepths
+pub mod FaultNumbers
 pub mod Views
 pub mod TurnViews
 pub mod PredicateViews

@@ -2,7 +2,7 @@
 use Rattle.mql_parse.proofs.TextSound.{spelled_by}
 use Rattle.mql_parse.proofs.TextComplete.{given_tree, one_tree}
 use Rattle.mql_parse.proofs.TextSteady.{fault_place, long_fault}
-use Rattle.mql_parse.proofs.TextKinds.{fault_kind}
+use Rattle.mql_parse.proofs.TextKinds.{fault_kind, fault_number}
 use Rattle.mql_parse.proofs.TextDepth.{fault_depth}
 use Rattle.mql_parse.proofs.parsing.parse.Goals as goal
 
@@ -16,6 +16,7 @@ returns c =
       complete = given_tree text c.read.result e;
       place = fault_place text c.read.result e;
       kind = fault_kind text c.read.result e;
+      number = fault_number text c.read.result e;
       depth = fault_depth text c.read.result e;
       too_long = long_fault text c.read.result e;
       unique = one_tree text;
