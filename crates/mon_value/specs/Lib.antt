@@ -8,6 +8,7 @@ pub mod GroupConditions
 pub mod Groups
 pub mod Joins
 pub mod Keyed
+pub mod LeafHistories
 pub mod Limits
 pub mod ListItems
 pub mod ListLends

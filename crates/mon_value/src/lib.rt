@@ -8,10 +8,12 @@ mod columns;
 mod copying;
 mod distributions;
 mod grids;
+mod histories;
 mod limits;
 mod lists;
 mod numbers;
 mod orders;
+mod positions;
 mod refusals;
 mod rooms;
 mod rows;
@@ -27,11 +29,19 @@ pub use columns::{Anchor, Column, Columns};
 pub use copying::TryCopy;
 pub use distributions::{merging_is_orderless, percentiles_rise};
 pub use grids::{Grid, TimedValue, TimedValues, grids_reach_back};
-pub use limits::{LONGEST_DURATION, LONGEST_FILE, LONGEST_TEXT, NUMBER_BITS, ROW_BITS, SUM_BITS};
+pub use histories::{Ack, Entries, Entry, Miss, Misses, RangeEntries, RangeEntry};
+pub use limits::{
+    LONGEST_DURATION, LONGEST_FILE, LONGEST_TEXT, MOST_SWITCHES, NUMBER_BITS, ROW_BITS, SUM_BITS,
+    WIDEST_SUM,
+};
 pub use lists::ListOf;
 pub use numbers::read_number;
 pub use orders::{
     compare, compare_targets, rows_are_ordered, targets_are_ordered, values_are_ordered,
+};
+pub use positions::{
+    FoundDown, Founds, Leaf, LeafCounts, Leaves, Range, RangeSlot, RangeSlots, Slot, SlotLeaf,
+    SlotLeaves, Slots, Zone,
 };
 pub use refusals::{OutOfMemory, Refusal};
 pub use rooms::RoomListOf;

@@ -17,3 +17,10 @@ pub const ROW_BITS: u32 = 24;
 
 /// The width in bits of the sum of such numbers over the rows of a table.
 pub const SUM_BITS: u32 = 87;
+
+/// The most bits of a sum, whether of a column over its rows or of a row's cells: its magnitude is at
+/// most 2 to that power.
+pub const WIDEST_SUM: u32 = 126;
+
+/// The most times that a leaf goes down or comes up.
+pub const MOST_SWITCHES: u64 = 65_536;

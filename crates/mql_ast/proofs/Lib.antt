@@ -2,7 +2,7 @@ pub mod BranchLemmas
 mod Chains
 mod EscapeLemmas
 mod ListsPrinted
-mod NumbersPrinted
+pub mod NumbersPrinted
 mod OperationsFewest
 mod OperationsPrinted
 mod PatternsPrinted

@@ -3,7 +3,7 @@ use Rattle.std.specs.Prelude.{◌<◌, ◌≤◌, ℕ, ◌+◌, ◌^◌, max, na
 use Rattle.std.specs.List.{AllByRecursion}
 use Rattle.std.specs.Option.{option_zip}
 use Rattle.mon_value.specs.Columns.{FitColumns}
-use Rattle.mon_value.specs.declared.limits.TheConstants.{NUMBER_BITS}
+use Rattle.mon_value.specs.declared.limits.TheConstants.{NUMBER_BITS, WIDEST_SUM}
 use Rattle.mon_value.specs.Values.{magnitude}
 use Rattle.mon_value.specs.declared.columns.Column.{Column}
 use Rattle.mon_value.specs.declared.values.Value.{Value}
@@ -16,10 +16,6 @@ use Rattle.mql_ast.specs.Trees.{SumTree}
 -- the widest cell of which every percentile is computed: a hundred times its total is still a number
 abbrev pub widest_percentile : ℕ
 widest_percentile = 119
-
--- the widest number that a sum may come to
-abbrev pub widest_sum : ℕ
-widest_sum = 126
 
 -- the width in bits of a column of numbers
 abbrev pub number_width : ValueType → ℕ → Option ℕ
@@ -52,7 +48,7 @@ sum_width (tree.Percentile at name p) columns =
 -- a sum that is a column of any type, or a number that is not too wide
 abbrev pub IsTypedSum : SumTree → List Column → Type 0
 IsTypedSum (tree.Column name) columns = IsSome (column_named name.text columns)
-IsTypedSum sum columns = IsSomeAnd (sum_width sum columns) (λ bits. bits ≤ widest_sum)
+IsTypedSum sum columns = IsSomeAnd (sum_width sum columns) (λ bits. bits ≤ WIDEST_SUM)
 
 -- each percentile is one from 1 to 100
 abbrev pub HasShares : SumTree → Type 0

@@ -1,7 +1,7 @@
 -- How many bits the numbers of a column may have, and their sum.
 use Rattle.std.specs.Prelude.{ℕ, ◌+◌, ◌-◌, ◌^◌, nat_lt, min, max, List}
 use Rattle.std.specs.List.{flat_map}
-use Rattle.mon_value.specs.declared.limits.TheConstants.{NUMBER_BITS, ROW_BITS, SUM_BITS}
+use Rattle.mon_value.specs.declared.limits.TheConstants.{NUMBER_BITS, ROW_BITS, SUM_BITS, WIDEST_SUM}
 use Rattle.mon_value.specs.declared.columns.Column.{Column}
 use Rattle.mql_types.specs.declared.faults.TypeFault.{TypeFault}
 use Rattle.mql_types.specs.declared.faults.TypeKind.TheVariants.{TooWide}
@@ -25,10 +25,6 @@ width_of column = record { cell = column.cell_bits; total = column.total_bits }
 
 abbrev pub with_width : Width → Column → Column
 with_width width column = record column { cell_bits = width.cell; total_bits = width.total }
-
--- the most bits that any sum may have
-abbrev pub most_bits : ℕ
-most_bits = 126
 
 -- more bits, as many as a column can name
 abbrev pub more_bits : ℕ → ℕ → ℕ
@@ -54,7 +50,7 @@ united_width a b =
 
 -- a width that sums to too many bits
 abbrev pub width_faults : ℕ → Width → List TypeFault
-width_faults at width = fault_where (nat_lt most_bits width.total) at (TooWide width.total)
+width_faults at width = fault_where (nat_lt WIDEST_SUM width.total) at (TooWide width.total)
 
 -- the columns of which the values sum to too many bits
 abbrev pub wide_faults : ℕ → List Column → List TypeFault

@@ -4,7 +4,7 @@ ghost use Rattle.mql_types.specs.Faults.{first_with};
 ghost use Rattle.mql_types.specs.Widths as spec;
 
 use crate::faults::{Faults, TypeKind};
-use mon_value::{Column, NUMBER_BITS, ROW_BITS, SUM_BITS};
+use mon_value::{Column, NUMBER_BITS, ROW_BITS, SUM_BITS, WIDEST_SUM};
 use std::cmp::{max, min};
 
 /// Two bounds in bits, of what a column holds at one time: each magnitude is at most 2 to the power of `cell`,
@@ -15,40 +15,25 @@ pub(crate) struct Width {
     pub(crate) total: u32,
 }
 
-// The most bits that any sum may have.
-const MOST_BITS: u32 = 126;
+/// What a point or a query has.
+pub(crate) const OF_NUMBER: Width = Width {
+    cell: NUMBER_BITS,
+    total: SUM_BITS,
+};
+
+/// What a delta comes to in a window.
+pub(crate) const OF_DELTA: Width = Width {
+    cell: SUM_BITS,
+    total: SUM_BITS,
+};
+
+/// What the number of a group's rows has.
+pub(crate) const OF_COUNT: Width = Width {
+    cell: ROW_BITS,
+    total: ROW_BITS,
+};
 
 impl Width {
-    /// What a point or a query has.
-    pub(crate) fn of_number() -> Width
-        ensures width { result ≡ spec.number_width }
-    {
-        Width {
-            cell: NUMBER_BITS,
-            total: SUM_BITS,
-        }
-    }
-
-    /// What a delta comes to in a window.
-    pub(crate) fn of_delta() -> Width
-        ensures width { result ≡ spec.delta_width }
-    {
-        Width {
-            cell: SUM_BITS,
-            total: SUM_BITS,
-        }
-    }
-
-    /// What the number of a group's rows has.
-    pub(crate) fn of_count() -> Width
-        ensures width { result ≡ spec.count_width }
-    {
-        Width {
-            cell: ROW_BITS,
-            total: ROW_BITS,
-        }
-    }
-
     /// The width of a column.
     pub(crate) fn of(column: &Column) -> Width
         ensures width { result ≡ spec.width_of column.now }
@@ -107,7 +92,7 @@ impl Width {
     pub(crate) fn tell_wide(self, at: u32, found: &mut Faults)
         ensures faults { found.new.first ≡ first_with found.old.first (spec.width_faults at self) }
     {
-        found.tell_where(self.total > MOST_BITS, at, TypeKind::TooWide(self.total));
+        found.tell_where(self.total > WIDEST_SUM, at, TypeKind::TooWide(self.total));
     }
 }
 

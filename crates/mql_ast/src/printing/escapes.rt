@@ -63,7 +63,8 @@ fn push_escaped(out: &mut String, text: &str, marks: Marks) -> Result<(), AllocE
 
 // A sign, behind a backslash where it is a mark.
 fn push_sign(out: &mut String, sign: char, marks: Marks) -> Result<(), AllocError>
-    ensures { OnOk result (string_bytes out.new ≡ string_bytes out.old ++ ((if marks_of marks sign then 92 ∷ [] else []) ++ encode_utf8 sign)) }
+    ensures { OnOk result (string_bytes out.new
+        ≡ string_bytes out.old ++ ((if marks_of marks sign then 92 ∷ [] else []) ++ encode_utf8 sign)) }
 {
     if marks.has(sign) {
         out.push('\\')?;
