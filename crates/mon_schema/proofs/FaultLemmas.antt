@@ -1,10 +1,11 @@
 -- What holds of a schema without a fault.
-use Rattle.std.proofs.Common.{◌≡◌, ◌||◌, Bool, true, false, not, cond, Option, Some, None, refl}
+use Rattle.std.proofs.Common.{◌≡◌, ◌||◌, Bool, true, false, not, cond, Option, Some, None, List, [], ◌∷◌, ◌++◌, refl}
 use Rattle.std.specs.Prelude.{is_some}
 use Rattle.mon_value.specs.declared.schemas.TargetSchema.{TargetSchema}
 use Rattle.mon_value.specs.declared.schemas.MetricSchema.{MetricSchema}
 use Rattle.mon_schema.specs.SchemaLists.{SchemaLists, target_named, metric_named}
-use Rattle.mon_schema.specs.Faults.{target_fault, metric_fault, is_target_over, is_target_named, is_target_taken, is_metric_over, is_metric_named, is_metric_taken}
+use Rattle.mon_schema.specs.Faults.{target_fault, metric_fault, is_bounded, is_kind_met, is_target_over, is_target_named, is_target_taken, is_metric_over, is_metric_named, is_metric_taken}
+use Rattle.mon_schema.specs.HeldMetrics.{AreHeld, HasNumbers, IsHeld}
 
 -- a chain of tests that ends without a fault has passed the third
 past_third : {F : Type 0} (a b c : Bool) (f g h rest : Option F) → (f ≡ None → ⊥) → (g ≡ None → ⊥) → (h ≡ None → ⊥)
@@ -13,6 +14,16 @@ past_third true b c f g h rest nf ng nh e = absurd (nf e)
 past_third false true c f g h rest nf ng nh e = absurd (ng e)
 past_third false false true f g h rest nf ng nh e = absurd (nh e)
 past_third false false false f g h rest nf ng nh e = refl
+
+-- and the last two
+past_last : {F : Type 0} (a b c d e : Bool) (f g h i j : F) → cond a (Some f) (cond b (Some g) (cond c (Some h) (cond (not d) (Some i) (cond (not e) (Some j) None)))) ≡ None
+    → (d ≡ true) × (e ≡ true)
+past_last true b c d e f g h i j none = absurd cc
+past_last false true c d e f g h i j none = absurd cc
+past_last false false true d e f g h i j none = absurd cc
+past_last false false false false e f g h i j none = absurd cc
+past_last false false false true false f g h i j none = absurd cc
+past_last false false false true true f g h i j none = (refl, refl)
 
 neither : (a b : Bool) → (a || b) ≡ false → a ≡ false
 neither true b h = absurd cc
@@ -36,3 +47,14 @@ metric_named-free held metric h =
     absent (metric_named metric.name held.metrics)
     (neither (is_some (metric_named metric.name held.metrics)) _
     (past_third (is_metric_over held metric) (not (is_metric_named metric)) (is_metric_taken held metric) _ _ _ _ (λ e. cc) (λ e. cc) (λ e. cc) h))
+
+-- a metric without a fault, whose bounds are numbers, is one that schemas take
+pub metric_held : (held : SchemaLists) (metric : MetricSchema) → metric_fault held metric ≡ None → HasNumbers metric.value → IsHeld metric
+metric_held held metric none numbers =
+    let last = past_last (is_metric_over held metric) (not (is_metric_named metric)) (is_metric_taken held metric) (is_bounded metric.value) (is_kind_met metric.kind metric.value) _ _ _ _ _ none in
+    record { numbers = numbers; bounded = last.0; met = last.1 }
+
+-- a metric more at the end of a map
+pub held_more : (metrics : List MetricSchema) (metric : MetricSchema) → AreHeld metrics → IsHeld metric → AreHeld (metrics ++ metric ∷ [])
+held_more [] metric all one = (one, tt)
+held_more (first ∷ metrics) metric all one = (all.0, held_more metrics metric all.1 one)

@@ -1,3 +1,4 @@
+mod BoundLemmas
 mod FaultLemmas
 pub mod FieldNameLemmas
 pub mod NamedEntriesLemmas

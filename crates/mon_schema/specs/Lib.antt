@@ -2,5 +2,6 @@ pub mod FaultTexts
 pub mod Faults
 pub mod Fits
 pub mod Held
+pub mod HeldMetrics
 pub mod Names
 pub mod SchemaLists

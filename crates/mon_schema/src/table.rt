@@ -1,5 +1,5 @@
 // The schemas that are held.
-ghost use Rattle.std.specs.Prelude.{◌≡◌, ◌++◌, ◌∷◌, [], None, IfOk, OnOk, OnErr, nat_eq};
+ghost use Rattle.std.specs.Prelude.{◌≡◌, ◌++◌, ◌∷◌, [], None, IfOk, IsNone, OnOk, OnErr, nat_eq};
 ghost use Rattle.std.specs.Cmp.Lexicographic.{pointwise};
 ghost use Rattle.std.specs.Option.{option_copied};
 ghost use Rattle.indexmap.specs.IndexMap.{get};
@@ -30,11 +30,11 @@ impl Model for Schemas {
 
     ghost Value = { SchemaLists };
 
-    ghost use Rattle.mon_schema.specs.Held.{schema_lists, AreNamed};
+    ghost use Rattle.mon_schema.specs.Held.{schema_lists, AreKept};
 
     ghost view = { schema_lists };
 
-    ghost invariant = { AreNamed };
+    ghost invariant = { AreKept };
 }
 
 impl Schemas {
@@ -42,6 +42,7 @@ impl Schemas {
     ghost use Rattle.mon_schema.specs.SchemaLists.{with_target, with_metric};
     ghost use Rattle.mon_schema.specs.Faults.{target_fault, metric_fault};
     ghost use Rattle.mon_schema.specs.Fits.{fits};
+    ghost use Rattle.mon_schema.specs.HeldMetrics.{AreHeld, HasNumbers};
 
     /// No schemas, which take their memory from `alloc` as they are added.
     pub fn new(alloc: Global) -> Schemas
@@ -134,9 +135,17 @@ impl Schemas {
         None
     }
 
+    /// Each metric that is held has lawful bounds, and a kind that its type meets.
+    pub fn metrics_are_lawful(&self)
+        ensures held { AreHeld self.now.metrics }
+    {
+        let _ = &self.metrics;
+    }
+
     // The first fault of a metric.
     fn fault_of_metric(&self, metric: &MetricSchema) -> Option<SchemaFault>
         ensures fault { result ≡ metric_fault self.now metric.now }
+        ensures numbers { IsNone result → HasNumbers metric.now.value }
     {
         let fields = &metric.fields;
         if self.metrics.len() >= MOST_METRICS || fields.len() > MOST_FIELDS {

@@ -67,6 +67,7 @@ fn schemas_are_held_and_found(rt: HostRuntime) -> Result<(), Fail> {
     assert!(rt; schemas.metric(b"/m".as_slice()).is_some());
     assert!(rt; schemas.fits(&row(alloc)?));
     assert!(rt; schemas.copy(alloc)?.fits(&row(alloc)?));
+    schemas.metrics_are_lawful();
     Ok(())
 }
 

@@ -1,4 +1,5 @@
-use Rattle.std.proofs.Common.{◌∙◌}
+use Rattle.std.proofs.Common.{◌∙◌, subst, sym}
+use Rattle.mon_schema.specs.HeldMetrics.{AreHeld}
 use Rattle.mon_value.specs.declared.schemas.MetricSchema.{MetricSchema}
 use Rattle.mon_value.specs.declared.schemas.TargetSchema.{TargetSchema}
 use Rattle.mon_schema.proofs.NamedEntriesLemmas.{names-named_entries, schemas-named_entries}
@@ -7,10 +8,12 @@ use Rattle.mon_schema.proofs.table.SchemasTryCopy.copy.Goals as goal
 pub invariant_of-result : goal.invariant_of-result
 invariant_of-result c =
     let targets = c.in_ok-copied_schemas.ensures.entries in
-    let metrics = c.in_ok-copied_schemas-2.ensures.entries in (
-      names-named_entries (λ (schema : TargetSchema). schema.name) _ _ targets c.self.invariant.0,
-      names-named_entries (λ (metric : MetricSchema). metric.name) _ _ metrics c.self.invariant.1,
-    )
+    let metrics = c.in_ok-copied_schemas-2.ensures.entries in
+    record {
+      targets = names-named_entries (λ (schema : TargetSchema). schema.name) _ _ targets c.self.invariant.targets;
+      metrics = names-named_entries (λ (metric : MetricSchema). metric.name) _ _ metrics c.self.invariant.metrics;
+      held = subst AreHeld (sym (schemas-named_entries _ _ metrics)) c.self.invariant.held;
+    }
 
 pub returns : goal.returns
 returns c =
