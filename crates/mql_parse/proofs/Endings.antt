@@ -2,13 +2,16 @@
 use Rattle.std.proofs.Common.{◌≡◌, ℕ, zero, suc, ◌+◌, ◌<◌, Bool, true, false, ◌==◌, ◌||◌, List, [], ◌∷◌, ◌++◌, length, refl, sym, ap, ◌∙◌, subst, arith, if◌then◌else◌, append_assoc, length-append, Result, Ok, Err}
 use Rattle.std.proofs.lemmas.Bool.{false≢true}
 use Rattle.std.proofs.lemmas.List.{append-nil}
+use Rattle.std.specs.Result.{IfOk}
 use Rattle.mon_value.specs.Answers.{◌>>=◌}
 use Rattle.mql_ast.specs.Bytes.{is_word_byte, is_metric_byte}
 use Rattle.mql_ast.specs.Rests.{Rest, first_of}
 use Rattle.mql_parse.specs.declared.faults.ParseFault.{ParseFault}
 use Rattle.mql_parse.specs.declared.faults.ParseKind.{ParseKind}
 use Rattle.mql_parse.specs.declared.faults.ParseKind.TheVariants.{BadToken, BadPattern, Expected, NumberTooLarge, TooDeep, TooLong}
+use Rattle.mql_parse.specs.declared.faults.What.{What}
 use Rattle.mql_parse.specs.FaultNumbers.{IsNumber}
+use Rattle.mql_parse.specs.FaultTokens.{IsToken}
 use Rattle.mql_parse.specs.Outcomes.{Outcome}
 use Rattle.mql_parse.specs.Repeats.{Turn, Done, Again, Stuck, turn_outcome, repetition, goes_on, on_read}
 use Rattle.mql_parse.specs.Behind.{Behind}
@@ -97,11 +100,12 @@ pub record Default (L : List ℕ → Type 0) : Type 0 where
   pub text : List ℕ
   pub is : L text
 
-pub both : {o o' : Front} {c c' : Bool} {R S : List ℕ → List ℕ → Type 0} → joins c o' ≡ true → Default (Text o c R) →
+abbrev pub both : {o o' : Front} {c c' : Bool} {R S : List ℕ → List ℕ → Type 0} → joins c o' ≡ true →
+    Default (Text o c R) →
     Default (Text o' c' S) → Default (Text o c' (Then R S))
 both j f g = record { text = f.text ++ g.text; is = join f.text g.text j f.is g.is }
 
-pub default_as : {L M : List ℕ → Type 0} → ((w : List ℕ) → L w → M w) → Default L → Default M
+abbrev pub default_as : {L M : List ℕ → Type 0} → ((w : List ℕ) → L w → M w) → Default L → Default M
 default_as h d = record { text = d.text; is = h d.text d.is }
 
 -- what was read between the two is a text of a kind
@@ -148,6 +152,45 @@ known_smaller BadToken h = tt
 known_smaller BadPattern h = tt
 known_smaller TooLong h = tt
 
+-- the front goes on with a token of this kind, or with the rest of one that was begun, to a text of a kind
+pub record Comes (L : List ℕ → Type 0) (front : List ℕ) (w : What) : Type 0 where
+  pub before : List ℕ
+  pub begun : List ℕ
+  pub byte : ℕ
+  pub rest : List ℕ
+  pub parts : front ≡ before ++ begun
+  pub unfinished : IsToken w begun → ⊥
+  pub token : IsToken w (begun ++ byte ∷ rest)
+  pub more : List ℕ
+  pub is : L (front ++ byte ∷ (rest ++ more))
+
+-- what is claimed of a fault that expects something, and nothing of another kind of fault
+abbrev pub IfExpected : ParseKind → (What → Type 0) → Type 0
+IfExpected NumberTooLarge P = Unit {0}
+IfExpected (Expected w) P = P w
+IfExpected TooDeep P = Unit {0}
+IfExpected BadToken P = Unit {0}
+IfExpected BadPattern P = Unit {0}
+IfExpected TooLong P = Unit {0}
+
+pub if_expected : {P Q : What → Type 0} (kind : ParseKind) → ((w : What) → P w → Q w) → IfExpected kind P →
+    IfExpected kind Q
+if_expected NumberTooLarge f h = tt
+if_expected (Expected w) f h = f w h
+if_expected TooDeep f h = tt
+if_expected BadToken f h = tt
+if_expected BadPattern f h = tt
+if_expected TooLong f h = tt
+
+pub expected_by : {P Q : What → Type 0} (kind : ParseKind) → ((w : What) → kind ≡ Expected w → P w → Q w) →
+    IfExpected kind P → IfExpected kind Q
+expected_by NumberTooLarge f h = tt
+expected_by (Expected w) f h = f w refl h
+expected_by TooDeep f h = tt
+expected_by BadToken f h = tt
+expected_by BadPattern f h = tt
+expected_by TooLong f h = tt
+
 -- what stands before a fault is the front of a text of a kind
 pub record Finish (L : List ℕ → Type 0) (s : Rest) (f : ParseFault) : Type 0 where
   pub front : List ℕ
@@ -157,6 +200,7 @@ pub record Finish (L : List ℕ → Type 0) (s : Rest) (f : ParseFault) : Type 0
   pub tail : List ℕ
   pub is : L (front ++ tail)
   pub smaller : IfTooLarge f.kind (Smaller L s f.at)
+  pub comes : IfExpected f.kind (Comes L front)
 
 abbrev pub EndsIn : {A : Type 0} → (A → Rest) → (A → List ℕ → Type 0) → (List ℕ → Type 0) → Rest →
     Result A ParseFault → Type 0
@@ -204,6 +248,20 @@ smaller_before {N = N} s m at w e p g = record {
   is = subst N (sym (append_assoc w g.before (49 ∷ g.byte ∷ g.tail))) g.is;
 }
 
+comes_before : {N : List ℕ → Type 0} (v front : List ℕ) (w : What) → Comes (λ u. N (v ++ u)) front w →
+    Comes N (v ++ front) w
+comes_before {N = N} v front w g = record {
+  before = v ++ g.before;
+  begun = g.begun;
+  byte = g.byte;
+  rest = g.rest;
+  parts = ap (λ t. v ++ t) g.parts ∙ sym (append_assoc v g.before g.begun);
+  unfinished = g.unfinished;
+  token = g.token;
+  more = g.more;
+  is = subst N (sym (append_assoc v front (g.byte ∷ (g.rest ++ g.more)))) g.is;
+}
+
 pub finish_before : {N : List ℕ → Type 0} (s m : Rest) (f : ParseFault) (w : List ℕ) → s.bytes ≡ w ++ m.bytes →
     m.at ≡ s.at + length w → Finish (λ v. N (w ++ v)) m f → Finish N s f
 finish_before {N = N} s m f w e p g = record {
@@ -214,6 +272,7 @@ finish_before {N = N} s m f w e p g = record {
   tail = g.tail;
   is = subst N (sym (append_assoc w g.front g.tail)) g.is;
   smaller = if_too_large f.kind (smaller_before {N = N} s m f.at w e p) g.smaller;
+  comes = if_expected f.kind (comes_before {N = N} w g.front) g.comes;
 }
 
 smaller_as : {L M : List ℕ → Type 0} (s : Rest) (at : ℕ) → ((w : List ℕ) → L w → Default (λ v. M (w ++ v))) →
@@ -230,6 +289,23 @@ smaller_as {M = M} s at h g = let d = h (g.before ++ 49 ∷ g.byte ∷ g.tail) g
   is = subst M (append_assoc g.before (49 ∷ g.byte ∷ g.tail) d.text) d.is;
 }
 
+comes_as : {L M : List ℕ → Type 0} (front : List ℕ) → ((v : List ℕ) → L v → Default (λ u. M (v ++ u))) → (w : What) →
+    Comes L front w → Comes M front w
+comes_as {M = M} front h w g =
+    let t = g.byte ∷ (g.rest ++ g.more) in
+    let d = h (front ++ t) g.is in record {
+      before = g.before;
+      begun = g.begun;
+      byte = g.byte;
+      rest = g.rest;
+      parts = g.parts;
+      unfinished = g.unfinished;
+      token = g.token;
+      more = g.more ++ d.text;
+      is = subst M (append_assoc front t d.text
+          ∙ ap (λ u. front ++ g.byte ∷ u) (append_assoc g.rest g.more d.text)) d.is;
+    }
+
 pub finish_as : {L M : List ℕ → Type 0} (s : Rest) (e : ParseFault) → Finish L s e →
     ((w : List ℕ) → L w → Default (λ v. M (w ++ v))) → Finish M s e
 finish_as {M = M} s e f h = let d = h (f.front ++ f.tail) f.is in record {
@@ -240,6 +316,7 @@ finish_as {M = M} s e f h = let d = h (f.front ++ f.tail) f.is in record {
   tail = f.tail ++ d.text;
   is = subst M (append_assoc f.front f.tail d.text) d.is;
   smaller = if_too_large e.kind (smaller_as {M = M} s e.at h) f.smaller;
+  comes = if_expected e.kind (comes_as {M = M} f.front h) f.comes;
 }
 
 -- nothing more is needed
@@ -280,6 +357,12 @@ pub ends_as : {A : Type 0} {left : A → Rest} {P Q : A → List ℕ → Type 0}
     ((w : List ℕ) → E w → F w) → Ends left Q F s o
 ends_as {left = left} s (Ok x) h f g = record { way = cut_as s (left x) h.way (f x) }
 ends_as {F = F} s (Err e) h f g = record { way = finish_as {M = F} s e h.way (λ w t. as_it_is F w (g w t)) }
+
+-- what is known of the value besides
+pub ends_known : {A : Type 0} {left : A → Rest} {P : A → List ℕ → Type 0} {E : List ℕ → Type 0} {Q : A → Type 0}
+    (s : Rest) (o : Result A ParseFault) → Ends left P E s o → IfOk o Q → Ends left (λ x w. P x w × Q x) E s o
+ends_known {left = left} s (Ok x) h q = record { way = cut_as s (left x) h.way (λ w f. (f, q)) }
+ends_known s (Err e) h q = record { way = h.way }
 
 -- the value that was read, changed
 pub done_ends : {A B : Type 0} {left : A → Rest} {left' : B → Rest} {P : A → List ℕ → Type 0} {Q : B → List ℕ →

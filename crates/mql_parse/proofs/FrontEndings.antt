@@ -1,5 +1,5 @@
 -- What stands before a fault begins some query text.
-use Rattle.std.proofs.Common.{◌≡◌, ℕ, ◌+◌, ◌≤◌, Bool, true, false, ◌==◌, List, [], ◌∷◌, ◌++◌, length, take, codes, refl, sym, ap, ◌∙◌, subst, arith, if◌then◌else◌, append_assoc, length-append, Result, Ok, Err}
+use Rattle.std.proofs.Common.{◌≡◌, ℕ, ◌+◌, ◌<◌, ◌≤◌, Bool, true, false, ◌==◌, List, [], ◌∷◌, ◌++◌, length, take, codes, refl, sym, ap, ◌∙◌, subst, arith, if◌then◌else◌, append_assoc, length-append, Result, Ok, Err}
 use Rattle.std.proofs.Math.Seq.{take-append_seam}
 use Rattle.std.proofs.lemmas.List.{append-nil}
 use Rattle.std.proofs.lemmas.Bool.{eqb-true}
@@ -10,15 +10,19 @@ use Rattle.mql_ast.specs.Rests.{Rest, skip}
 use Rattle.mql_ast.specs.Grammar.{start, Pipe}
 use Rattle.mql_parse.specs.declared.faults.ParseFault.{ParseFault}
 use Rattle.mql_parse.specs.declared.faults.ParseKind.TheVariants.{Expected}
+use Rattle.mql_parse.specs.declared.faults.What.{What}
 use Rattle.mql_parse.specs.declared.faults.What.TheVariants as what
 use Rattle.mql_parse.specs.Outcomes.{Outcome, fault, unexpected}
 use Rattle.mql_parse.specs.FaultDepths.{SpellsWithin, BeginsWithin}
 use Rattle.mql_parse.specs.PipeReading as pipes
 use Rattle.mql_parse.proofs.RestLemmas.{skip_off}
-use Rattle.mql_parse.proofs.Endings.{Cut, Smaller, IfTooLarge, if_too_large, Finish, EndsIn, behind_read, finish_before}
-use Rattle.mql_parse.proofs.TokenEndings.{at_place, skip_over, skip_cut, wrong}
+use Rattle.mql_parse.proofs.Endings.{Cut, Smaller, IfTooLarge, if_too_large, Comes, IfExpected, expected_by, Finish, EndsIn, behind_read, finish_before}
+use Rattle.mql_parse.proofs.TokenFronts.{nothing_whole, fetch_word}
+use Rattle.mql_parse.proofs.TokenEndings.{at_place, skip_over, skip_cut, bare_token, sign_token, bar, comma, wrong}
 use Rattle.mql_parse.proofs.NumberEndings.{duration_default}
-use Rattle.mql_parse.proofs.PipeEndings.{PipeText, pipe_ends, pipe_default, one_more_operation}
+use Rattle.mql_parse.proofs.ListEndings.{folding_default}
+use Rattle.mql_parse.proofs.FirstFaults.{FetchAt, FetchFirst, pipe_first}
+use Rattle.mql_parse.proofs.PipeEndings.{in_fetch, Longer, PipeSeen, PipeText, pipe_ends, pipe_default, one_more_operation}
 
 -- fronts of what begins a text begin it too
 pub shorter_begins : (d : ℕ) (v w : List ℕ) → BeginsWithin d (v ++ w) → BeginsWithin d v
@@ -74,10 +78,15 @@ abbrev pub NumberBegins : ℕ → List ℕ → ℕ → Type 0
 NumberBegins d text at = Smaller (BeginsWithin d) (start text) at
 
 -- what the claim says of a fault
+record FaultBegins (d : ℕ) (text : List ℕ) (f : ParseFault) : Type 0 where
+  within : f.at ≤ length text
+  begins : BeginsWithin d (take f.at text)
+  smaller : IfTooLarge f.kind (NumberBegins d text f.at)
+  comes : IfExpected f.kind (Comes (BeginsWithin d) (take f.at text))
+
 abbrev FrontBegins : ℕ → List ℕ → Result PipeTree ParseFault → Type 0
 FrontBegins d text (Ok tree) = Unit {0}
-FrontBegins d text (Err f) =
-    (f.at ≤ length text) × (BeginsWithin d (take f.at text) × IfTooLarge f.kind (NumberBegins d text f.at))
+FrontBegins d text (Err f) = FaultBegins d text f
 
 numbered : (d : ℕ) (text : List ℕ) (at : ℕ) → ((skip (start text)).at == 0) ≡ true →
     Smaller (PipeText d) (start text) at → NumberBegins d text at
@@ -102,74 +111,120 @@ numbered d text at h g = record {
         (subst (λ u. ((skip (start u)).at == 0) ≡ true) e h))
         (subst (PipeText d) (sym (append_assoc (b ∷ before) (49 ∷ g.byte ∷ []) g.tail)) t)
 
-finished : (d : ℕ) (text : List ℕ) (e : ParseFault) → ((skip (start text)).at == 0) ≡ true →
-    Finish (PipeText d) (start text) e → FrontBegins d text (Err e)
-finished d text e h f =
-    by_front f.front f.left f.bytes f.place f.tail f.is
-  where
-    smaller : IfTooLarge e.kind (NumberBegins d text e.at)
-    smaller = if_too_large e.kind (numbered d text e.at h) f.smaller
+fetch_comes : (d : ℕ) → Comes (BeginsWithin d) [] what.Fetch
+fetch_comes d = record {
+  before = [];
+  begun = [];
+  byte = 102;
+  rest = codes "etch";
+  parts = refl;
+  unfinished = nothing_whole what.Fetch;
+  token = bare_token what.Fetch (codes "fetch") fetch_word.bare;
+  more = in_fetch.text;
+  is = whole_begins d 102 (codes "etch" ++ in_fetch.text) [] refl
+      (subst (PipeText d) (sym (append-nil (102 ∷ (codes "etch" ++ in_fetch.text)))) (pipe_default d).is);
+}
 
-    by_front : (front left : List ℕ) → text ≡ front ++ left → e.at ≡ 0 + length front → (tail : List ℕ) →
-        PipeText d (front ++ tail) → FrontBegins d text (Err e)
-    by_front [] left b p tail t = (
-      omega (arith, p),
-      (subst (BeginsWithin d) (sym (ap (λ n. take n text) p ∙ ap (take 0) b)) (nothing_begins d), smaller),
-    )
-    by_front (c ∷ front) left b p tail t =
-        let place : e.at ≡ length (c ∷ front) = omega (arith, p) in (
-          omega (arith, p, ap length b, length-append (c ∷ front) left),
-          (
-            subst (BeginsWithin d) (sym (ap (λ n. take n text) place ∙ ap (take (length (c ∷ front))) b
-                ∙ take-append_seam (c ∷ front) left))
-                (whole_begins d c front tail
-                (first_not_blank c (front ++ left) (subst (λ u. ((skip (start u)).at == 0) ≡ true) b h)) t),
-            smaller,
-          ),
-        )
+finished : (d : ℕ) (text : List ℕ) (e : ParseFault) → ((skip (start text)).at == 0) ≡ true → FetchAt 0 e →
+    Finish (PipeText d) (start text) e → FaultBegins d text e
+finished d text e h first f = record {
+  within = omega (arith, f.place, ap length f.bytes, length-append f.front f.left);
+  begins = subst (BeginsWithin d) (sym front) (by_front f.front f.bytes f.is);
+  smaller = if_too_large e.kind (numbered d text e.at h) f.smaller;
+  comes = subst (λ v. IfExpected e.kind (Comes (BeginsWithin d) v)) (sym front)
+      (expected_by e.kind (come f.front f.bytes f.place) f.comes);
+}
+  where
+    front : take e.at text ≡ f.front
+    front =
+        let place : e.at ≡ length f.front = omega (arith, f.place) in
+        ap (λ n. take n text) place ∙ ap (take (length f.front)) f.bytes ∙ take-append_seam f.front f.left
+
+    by_front : (v : List ℕ) → text ≡ v ++ f.left → PipeText d (v ++ f.tail) → BeginsWithin d v
+    by_front [] b t = nothing_begins d
+    by_front (x ∷ v) b t =
+        whole_begins d x v f.tail
+        (first_not_blank x (v ++ f.left) (subst (λ y. ((skip (start y)).at == 0) ≡ true) b h)) t
+
+    come : (v : List ℕ) → text ≡ v ++ f.left → e.at ≡ 0 + length v → (w : What) → e.kind ≡ Expected w →
+        Comes (PipeText d) v w → Comes (BeginsWithin d) v w
+    come [] b p w k g =
+        subst (Comes (BeginsWithin d) []) (sym (first (omega (arith, p)) w k)) (fetch_comes d)
+    come (x ∷ v) b p w k g = record {
+      before = g.before;
+      begun = g.begun;
+      byte = g.byte;
+      rest = g.rest;
+      parts = g.parts;
+      unfinished = g.unfinished;
+      token = g.token;
+      more = g.more;
+      is = whole_begins d x (v ++ g.byte ∷ (g.rest ++ g.more)) []
+          (first_not_blank x (v ++ f.left) (subst (λ y. ((skip (start y)).at == 0) ≡ true) b h))
+          (subst (PipeText d) (sym (append-nil (x ∷ (v ++ g.byte ∷ (g.rest ++ g.more))))) g.is);
+    }
 
 -- behind a whole pipe
-ended : (d : ℕ) (text : List ℕ) (tree : PipeTree) (r : Rest) (bs : List ℕ) → ((skip (start text)).at == 0) ≡ true →
-    Cut (PipeText d) (start text) r → FrontBegins d text (pipes.query_end_in tree r bs)
-ended d text tree r [] h c = tt
-ended d text tree r (b ∷ bs) h c =
-    finished d text (unexpected (pipes.behind_query tree) (skip r)) h
-    (finish_before {N = PipeText d} (start text) r (unexpected (pipes.behind_query tree) (skip r)) c.front c.bytes
-    c.place
-    (wrong _ r (124 ∷ (codes "every" ++ duration_default.text))
-    (λ blanks e. one_more_operation d c.front blanks e c.is)))
+missing : (d : ℕ) (v : List ℕ) (groups : Bool) → PipeText d v → Longer d groups v → (r : Rest) →
+    Finish (λ u. PipeText d (v ++ u)) r (unexpected (if groups then what.Comma else what.Bar) (skip r))
+missing d v false g h r =
+    wrong what.Bar r 124 [] (codes "every" ++ duration_default.text)
+    (bare_token what.Bar (124 ∷ []) (sign_token 124 bar)) (λ bs e. one_more_operation d v bs e g)
+missing d v true g h r =
+    wrong what.Comma r 44 [] folding_default.text (bare_token what.Comma (44 ∷ []) (sign_token 44 comma)) (h refl)
 
-piped : (d : ℕ) (text : List ℕ) → ((skip (start text)).at == 0) ≡ true → (o : Outcome PipeTree) →
-    EndsIn behind_read (λ x. PipeText d) (PipeText d) (start text) o →
+ended : (d : ℕ) (text : List ℕ) (tree : PipeTree) (r : Rest) (bs : List ℕ) → ((skip (start text)).at == 0) ≡ true →
+    0 < (skip r).at → Cut (PipeSeen d tree) (start text) r → FrontBegins d text (pipes.query_end_in tree r bs)
+ended d text tree r [] h k c = tt
+ended d text tree r (b ∷ bs) h k c =
+    finished d text (unexpected (pipes.behind_query tree) (skip r)) h (λ e w q. absurd (omega (arith, e, k)))
+    (finish_before {N = PipeText d} (start text) r (unexpected (pipes.behind_query tree) (skip r)) c.front c.bytes
+    c.place (missing d c.front (pipes.groups_last (pipes.ops_of tree)) c.is.0 c.is.1 r))
+
+piped : (d : ℕ) (text : List ℕ) → ((skip (start text)).at == 0) ≡ true → (o : Outcome PipeTree) → FetchFirst 0 o →
+    EndsIn behind_read (λ x. PipeSeen d x.0) (PipeText d) (start text) o →
     FrontBegins d text (o >>= pipes.query_end)
-piped d text h (Ok x) c = ended d text x.0 x.1 x.1.bytes h c
-piped d text h (Err f) c = finished d text f h c
+piped d text h (Ok x) k c = ended d text x.0 x.1 x.1.bytes h k c
+piped d text h (Err f) k c = finished d text f h k c
 
 query_front : (d : ℕ) (text : List ℕ) → FrontBegins d text (pipes.query_within d text)
 unfolding pipes.query_within
 query_front d text =
     either ((skip (start text)).at == 0)
-    (λ h. piped d text h (pipes.pipe d (start text)) (pipe_ends d (start text)).way)
+    (λ h. piped d text h (pipes.pipe d (start text))
+    (subst (λ n. FetchFirst n (pipes.pipe d (start text))) (eqb-true (skip (start text)).at 0 h)
+    (pipe_first d (start text))) (pipe_ends d (start text)).way)
   where
     either : (t : Bool) → (t ≡ true → FrontBegins d text (pipes.pipe d (start text) >>= pipes.query_end)) →
         FrontBegins d text (if t then (pipes.pipe d (start text) >>= pipes.query_end) else Err
         (fault (Expected what.Fetch) (start text)))
     either true f = f refl
-    either false f = (omega arith, (nothing_begins d, tt))
+    either false f = record {
+      within = omega arith;
+      begins = nothing_begins d;
+      smaller = tt;
+      comes = fetch_comes d;
+    }
 
 -- what stands before the place of a fault begins some query text
 pub fault_front_begins : (d : ℕ) (text : List ℕ) (f : ParseFault) → pipes.query_within d text ≡ Err f →
     BeginsWithin d (take f.at text)
 fault_front_begins d text f e =
-    let front : FrontBegins d text (Err f) = subst (FrontBegins d text) e (query_front d text) in front.1.0
+    let front : FrontBegins d text (Err f) = subst (FrontBegins d text) e (query_front d text) in front.begins
 
 -- and it lies within the text or at its end
 pub fault_within : (d : ℕ) (text : List ℕ) (f : ParseFault) → pipes.query_within d text ≡ Err f → f.at ≤ length text
 fault_within d text f e =
-    let front : FrontBegins d text (Err f) = subst (FrontBegins d text) e (query_front d text) in front.0
+    let front : FrontBegins d text (Err f) = subst (FrontBegins d text) e (query_front d text) in front.within
 
 -- and where a number is too large, its next byte could stand behind a smaller one
 pub fault_number_begins : (d : ℕ) (text : List ℕ) (f : ParseFault) → pipes.query_within d text ≡ Err f →
     IfTooLarge f.kind (NumberBegins d text f.at)
 fault_number_begins d text f e =
-    let front : FrontBegins d text (Err f) = subst (FrontBegins d text) e (query_front d text) in front.1.1
+    let front : FrontBegins d text (Err f) = subst (FrontBegins d text) e (query_front d text) in front.smaller
+
+-- and where something is expected, it may come there
+pub fault_comes : (d : ℕ) (text : List ℕ) (f : ParseFault) → pipes.query_within d text ≡ Err f →
+    IfExpected f.kind (Comes (BeginsWithin d) (take f.at text))
+fault_comes d text f e =
+    let front : FrontBegins d text (Err f) = subst (FrontBegins d text) e (query_front d text) in front.comes

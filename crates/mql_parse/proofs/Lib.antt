@@ -3,6 +3,7 @@ pub mod BranchViews
 pub mod Complete
 pub mod Deepens
 pub mod Endings
+pub mod FirstFaults
 pub mod FoldKinds
 pub mod FoldSteady
 pub mod FrontEndings
@@ -34,6 +35,7 @@ pub mod Shallow
 pub mod ShallowParts
 pub mod Sound
 pub mod Steady
+pub mod SpacedEndings
 pub mod SumComplete
 pub mod SumDepth
 pub mod SumEndings
@@ -43,10 +45,13 @@ pub mod SumSteady
 pub mod TextComplete
 pub mod TextDepth
 pub mod TextEndings
+pub mod TextFronts
 pub mod TextKinds
 pub mod TextSound
 pub mod TextSteady
 pub mod TokenEndings
+pub mod TokenFronts
+pub mod TokenHalts
 pub mod TokenKinds
 pub mod TokenSteady
 pub mod TurnSteady

@@ -1,5 +1,6 @@
 -- What was read of a list before its fault can be completed.
-use Rattle.std.proofs.Common.{◌≡◌, ℕ, true, false, ◌==◌, ◌⊎◌, inl, inr, List, [], ◌∷◌, ◌++◌, codes, refl, sym, ap, ◌∙◌, subst, append_assoc, Option, Some, None, IfSome, Ok, Err}
+use Rattle.std.proofs.Common.{◌≡◌, ℕ, ◌+◌, true, false, ◌==◌, ◌⊎◌, inl, inr, List, [], ◌∷◌, ◌++◌, length, codes, refl, sym, ap, ◌∙◌, subst, arith, append_assoc, length-append, Option, Some, None, IfSome, Ok, Err}
+use Rattle.std.proofs.lemmas.List.{append-nil}
 use Rattle.mon_value.specs.Answers.{◌>>=◌}
 use Rattle.mql_ast.specs.declared.names.Name.{Name}
 use Rattle.mql_ast.specs.declared.operations.Aggregate.{Aggregate}
@@ -13,19 +14,22 @@ use Rattle.mql_parse.specs.declared.faults.What.{What}
 use Rattle.mql_parse.specs.declared.faults.What.TheVariants as what
 use Rattle.mql_parse.specs.Outcomes.{Outcome, unexpected, exact, sign, map_outcome, up_to}
 use Rattle.mql_parse.specs.Repeats.{Done, Again, Stuck, list_or_end, list_turn, repetition}
+use Rattle.mql_parse.specs.FaultTokens.{IsSignToken, IsBare, IsToken}
 use Rattle.mql_parse.specs.TokenReading as reading
 use Rattle.mql_parse.specs.SumReading as sums
 use Rattle.mql_parse.specs.Folds as folds
 use Rattle.mql_parse.proofs.ListSound.{names_turn_behind, items_turn_behind, aggregates_turn_behind, fold_of_sound}
-use Rattle.mql_parse.proofs.Endings.{Anyhow, Worded, Parted, Text, Then, join, changed, worded, anyhow, Default, Finish, finish_before, Ends, behind_read, Reads, stay, as_it_is, cut_as, cut_then, bind_ends, ends_as, done_ends, if_ends, TurnEnds, if_turns, on_read_ends, loop_ends}
-use Rattle.mql_parse.proofs.TokenEndings.{at_place, AreBlanks, skip_cut, wrong, wrong_here, IsSign, SignSpan, sign_text, sign_cut, sign_ends, sign_default, WordSpan, word_text, exact_ends, all_nonzero, NamedSpan, NameSpan, some_name, named_ends, name_ends, name_default, open_parenthesis, close_parenthesis, close_bracket, comma, colon}
+use Rattle.mql_parse.proofs.Endings.{Anyhow, Worded, Parted, Text, Then, join, changed, worded, anyhow, Default, Cut, Finish, finish_before, Ends, behind_read, Reads, stay, as_it_is, cut_as, cut_then, bind_ends, ends_as, done_ends, if_ends, TurnEnds, if_turns, on_read_ends, loop_ends}
+use Rattle.mql_parse.proofs.TokenFronts.{Fronts, WordOf, count_word, sum_word, min_word, max_word, mean_word, merge_word, aggregate_word}
+use Rattle.mql_parse.proofs.TokenEndings.{at_place, AreBlanks, skip_cut, bare_token, sign_token, word_from, begun_here, wrong, wrong_here, IsSign, SignSpan, sign_text, sign_cut, sign_ends, sign_default, WordSpan, word_text, all_nonzero, NamedSpan, NameSpan, some_name, named_ends, name_ends, name_default, open_parenthesis, close_parenthesis, close_bracket, comma, colon}
 use Rattle.mql_parse.proofs.SumEndings.{SumText, sum_ends}
-use Rattle.mql_parse.proofs.ValueEndings.{FirstByte, first_is, byte_is, first_joined}
+use Rattle.mql_parse.proofs.ValueEndings.{FirstByte, first_is, byte_is}
 use Rattle.mql_parse.proofs.Loops.{GoesBehind}
 
 -- a part, one list of such parts, and the sign that ends it
-module _ {A : Type 0} (part : Rest → Outcome A) (close : ℕ) (what : What) (closes : IsSign close)
-    (behind_turn : GoesBehind (list_turn close what part)) (Part Parts : List ℕ → List ℕ → Type 0)
+module _ {A : Type 0} (part : Rest → Outcome A) (close : ℕ) (w : What) (closes : IsSign close)
+    (token : IsSignToken close (close ∷ []) → IsBare w (close ∷ []))
+    (behind_turn : GoesBehind (list_turn close w part)) (Part Parts : List ℕ → List ℕ → Type 0)
     (parted : (s : Rest) → Reads (Text Anyhow false Part) s (part s)) (one : (x z : List ℕ) → Part x z → Parts x z)
     (more : (x z : List ℕ) → Then (Then Parts (SignSpan 44)) Part x z → Parts x z) where
   -- where a further part comes: at the front, or behind a comma
@@ -49,26 +53,26 @@ module _ {A : Type 0} (part : Rest → Outcome A) (close : ℕ) (what : What) (c
       inr (subst (Text Anyhow true (Then Parts (SignSpan 44))) (append_assoc w v u)
       (join (w ++ v) u refl (grown w v f g) h))
 
-  list_turn_ends : (so_far : List A) (s : Rest) (w : List ℕ) → Wanted w →
-      TurnEnds (λ a v. Wanted (w ++ v)) (λ a v. Listed (w ++ v)) (λ v. Listed (w ++ v)) s
-      (list_turn close what part so_far s)
-  list_turn_ends so_far s w f =
-      on_read_ends s (list_or_end close what so_far) (part s) (parted s)
-      (λ v g. record { text = close ∷ []; is = listed w v (close ∷ []) f g (sign_text close closes [] tt) })
+  list_turn_ends : (so_far : List A) (s : Rest) (y : List ℕ) → Wanted y →
+      TurnEnds (λ a v. Wanted (y ++ v)) (λ a v. Listed (y ++ v)) (λ v. Listed (y ++ v)) s
+      (list_turn close w part so_far s)
+  list_turn_ends so_far s y f =
+      on_read_ends s (list_or_end close w so_far) (part s) (parted s)
+      (λ v g. record { text = close ∷ []; is = listed y v (close ∷ []) f g (sign_text close closes [] tt) })
       (λ x v g. let t = skip x.1 in let all = so_far ++ x.0 ∷ [] in
       if_turns x.1 (head t == 44) (Again all (behind t)) _
-      (λ h. record { way = cut_as x.1 (behind t) (sign_cut 44 comma x.1 h) (λ u k. further w v u f g k) })
-      (λ _. if_turns x.1 (head t == close) (Done all (behind t)) (Stuck (unexpected what t))
-      (λ h. record { way = cut_as x.1 (behind t) (sign_cut close closes x.1 h) (λ u k. listed w v u f g k) })
+      (λ h. record { way = cut_as x.1 (behind t) (sign_cut 44 comma x.1 h) (λ u k. further y v u f g k) })
+      (λ _. if_turns x.1 (head t == close) (Done all (behind t)) (Stuck (unexpected w t))
+      (λ h. record { way = cut_as x.1 (behind t) (sign_cut close closes x.1 h) (λ u k. listed y v u f g k) })
       (λ _. record {
-        way = wrong _ x.1 (close ∷ [])
-            (λ bs e. listed w v (bs ++ close ∷ []) f g (sign_text close closes bs e));
+        way = wrong w x.1 close [] [] (bare_token w (close ∷ []) (token (sign_token close closes)))
+            (λ bs e. listed y v (bs ++ close ∷ []) f g (sign_text close closes bs e));
       })))
 
   pub list_ends : (s : Rest) → Reads (Text Anyhow true (Then Parts (SignSpan close))) s
-      (repetition (list_turn close what part) [] s)
+      (repetition (list_turn close w part) [] s)
   list_ends s =
-      loop_ends (list_turn close what part) behind_turn (λ a w. Wanted w) (λ a w. Listed w) Listed list_turn_ends [] s
+      loop_ends (list_turn close w part) behind_turn (λ a w. Wanted w) (λ a w. Listed w) Listed list_turn_ends [] s
       [] (inl refl)
 
 -- names between brackets
@@ -93,7 +97,7 @@ grouping_span x z k = either k.second
 some_names_ends : (s : Rest) → Reads (Text Anyhow true (Then NamesSpan (SignSpan 93))) s
     (repetition (list_turn 93 what.CloseBracket reading.name) [] s)
 some_names_ends =
-    list_ends reading.name 93 what.CloseBracket close_bracket names_turn_behind NameSpan NamesSpan
+    list_ends reading.name 93 what.CloseBracket close_bracket (λ t. t) names_turn_behind NameSpan NamesSpan
     (λ s. ends_as s (reading.name s) (name_ends s) (λ x w f. anyhow w f) (λ w f. anyhow w f))
     (λ x z f at. let n = f at in ((n.0.0, n.0.1 ∷ []), one_name n.1))
     (λ x z k at. let a = k.first.first at in let b = k.first.second a.0.0 in let c = k.second b.0 in
@@ -155,7 +159,8 @@ item_ends d s =
 pub items_ends : (d : ℕ) (s : Rest) → Reads (Text Anyhow true (Then (ItemsSpan d) (SignSpan 93))) s (sums.items d s)
 unfolding sums.items_with
 items_ends d =
-    list_ends (sums.item_with (sums.sum d)) 93 what.CloseBracket close_bracket (items_turn_behind d) (ItemSpan d)
+    list_ends (sums.item_with (sums.sum d)) 93 what.CloseBracket close_bracket (λ t. t) (items_turn_behind d)
+    (ItemSpan d)
     (ItemsSpan d) (item_ends d)
     (λ x z f at. let n = f at in ((n.0.0, n.0.1 ∷ []), one_item n.1))
     (λ x z k at. let a = k.first.first at in let b = k.first.second a.0.0 in let c = k.second b.0 in
@@ -178,20 +183,25 @@ FoldWordText f = Text Anyhow true (WordSpan (fold_named f))
 abbrev AnyFoldWord : List ℕ → Type 0
 AnyFoldWord w = (f : FoldWord) × FoldWordText f w
 
-read_as_ends : (L : FoldWord → List ℕ → Type 0) (f : FoldWord) (end : List ℕ) → all_nonzero end ≡ true → (m : Rest) →
-    L f end → Ends behind_read (λ x u. L x.0 u) (λ u. (g : FoldWord) × L g u) m (folds.read_as f end m)
-read_as_ends L f end nonzero m h =
-    done_ends m (exact what.Aggregate end m) (λ r. (f, r))
-    (ends_as m (exact what.Aggregate end m) (exact_ends what.Aggregate end nonzero m) (λ r u g. subst (L f) (sym g) h)
-    (λ u g. (f, subst (L f) (sym g) h))) (λ r. refl) (λ r u k. k)
+-- the rest of a fold's word
+fold_from : (f : FoldWord) (cs : List ℕ) → all_nonzero cs ≡ true → (s m : Rest) (v before begun : List ℕ) →
+    s.bytes ≡ v ++ m.bytes → m.at ≡ s.at + length v → v ≡ before ++ begun → Fronts what.Aggregate begun cs →
+    IsToken what.Aggregate (begun ++ cs) → FoldWordText f (v ++ cs) → Ends behind_read
+    (λ x. FoldWordText x.0) AnyFoldWord s (folds.read_as f cs m)
+fold_from f cs nonzero s m v before begun e p q u k h =
+    done_ends s (exact what.Aggregate cs m) (λ r. (f, r))
+    (ends_as s (exact what.Aggregate cs m) (word_from what.Aggregate cs nonzero s m v before begun e p q u k)
+    (λ r u g. subst (FoldWordText f) (sym g) h) (λ u g. (f, subst (FoldWordText f) (sym g) h))) (λ r. refl)
+    (λ r u g. g)
 
 -- a word that is read from its first byte on
 whole_ends : (s : Rest) (f : FoldWord) (c : ℕ) (cs : List ℕ) → all_nonzero (c ∷ cs) ≡ true →
-    ((bs : List ℕ) → AreBlanks bs → FoldWordText f (bs ++ c ∷ cs)) →
+    WordOf what.Aggregate (c ∷ cs) → ((bs : List ℕ) → AreBlanks bs → FoldWordText f (bs ++ c ∷ cs)) →
     Ends behind_read (λ x. FoldWordText x.0) AnyFoldWord s (folds.read_as f (c ∷ cs) (skip s))
-whole_ends s f c cs nonzero h =
-    cut_then s (skip s) (folds.read_as f (c ∷ cs) (skip s)) (skip_cut s)
-    (λ bs e. read_as_ends (λ g u. FoldWordText g (bs ++ u)) f (c ∷ cs) nonzero (skip s) (h bs e))
+whole_ends s f c cs nonzero word h =
+    let bs = skip_cut s in
+    fold_from f (c ∷ cs) nonzero s (skip s) bs.front bs.front [] bs.bytes bs.place (sym (append-nil bs.front))
+    word.fronts (bare_token what.Aggregate (c ∷ cs) word.bare) (h bs.front bs.is)
 
 count_text : (bs : List ℕ) → AreBlanks bs → FoldWordText fold.Count (bs ++ codes "count")
 count_text bs e = word_text Anyhow 99 (codes "ount") refl tt bs e
@@ -202,66 +212,109 @@ sum_word_text bs e = word_text Anyhow 115 (codes "um") refl tt bs e
 aggregate_text : (bs : List ℕ) → AreBlanks bs → FoldWordText fold.Aggregate (bs ++ codes "aggregate")
 aggregate_text bs e = word_text Anyhow 97 (codes "ggregate") refl tt bs e
 
--- a word that begins with `m`
-m_text : (f : FoldWord) (cs : List ℕ) → fold_named f ≡ 109 ∷ cs → (v u : List ℕ) → FirstByte 109 v → u ≡ cs →
-    FoldWordText f (v ++ u)
-m_text f cs spelled v u c e =
-    first_joined (FoldWordText f) 109 v u cs c e (subst (λ t. Text Anyhow true (WordSpan t) (c.0 ++ 109 ∷ cs))
-    (sym spelled) (word_text Anyhow 109 cs refl tt c.0 c.1.0))
+-- a word that begins with `m`, of which this was read
+m_word : (f : FoldWord) (bs v x y : List ℕ) → AreBlanks bs → fold_named f ≡ 109 ∷ (x ++ y) → v ≡ bs ++ 109 ∷ [] →
+    FoldWordText f ((v ++ x) ++ y)
+m_word f bs v x y e spelled q =
+    subst (FoldWordText f)
+    (sym (append_assoc v x y ∙ ap (λ t. t ++ (x ++ y)) q ∙ append_assoc bs (109 ∷ []) (x ++ y)))
+    (subst (λ t. Text Anyhow true (WordSpan t) (bs ++ 109 ∷ (x ++ y))) (sym spelled)
+    (word_text Anyhow 109 (x ++ y) refl tt bs e))
 
-behind_me_ends : (m : Rest) (v u : List ℕ) → FirstByte 109 v → u ≡ 101 ∷ [] →
-    Ends behind_read (λ x y. FoldWordText x.0 (v ++ (u ++ y))) (λ y. AnyFoldWord (v ++ (u ++ y))) m
-    (folds.fold_behind_me m)
-behind_me_ends m v u c e =
-    let text : (f : FoldWord) (b : ℕ) (end y : List ℕ) → fold_named f ≡ 109 ∷ 101 ∷ b ∷ end → y ≡ b ∷ [] →
-    FoldWordText f (v ++ (u ++ (y ++ end))) =
-    λ f b end y spelled g. m_text f (101 ∷ b ∷ end) spelled v (u ++ (y ++ end)) c (ap (λ t. t ++ (y ++ end)) e
-    ∙ ap (λ t. 101 ∷ (t ++ end)) g) in
-    if_ends m (head m == 97) (folds.read_as fold.Mean (codes "n") (behind m)) _
-    (λ h. cut_then m (behind m) (folds.read_as fold.Mean (codes "n") (behind m)) (byte_is 97 refl m h)
-    (λ y g. read_as_ends (λ f q. FoldWordText f (v ++ (u ++ (y ++ q)))) fold.Mean (codes "n") refl (behind m)
-    (text fold.Mean 97 (codes "n") y refl g)))
-    (λ _. if_ends m (head m == 114) (folds.read_as fold.Merge (codes "ge") (behind m))
+-- behind `m`, and more of the word
+module _ (s m : Rest) (bs v x : List ℕ) (e : AreBlanks bs) (q : v ≡ bs ++ 109 ∷ []) (bytes : s.bytes ≡
+    (v ++ x) ++ m.bytes)
+    (place : m.at ≡ s.at + length (v ++ x)) where
+  split : v ++ x ≡ bs ++ (109 ∷ x)
+  split = ap (λ t. t ++ x) q ∙ append_assoc bs (109 ∷ []) x
+
+  -- the rest of the word, where its next byte stands here
+  m_on : (f : FoldWord) (b : ℕ) (cs : List ℕ) → (0 == b) ≡ false → all_nonzero cs ≡ true → (head m == b) ≡ true →
+      fold_named f ≡ 109 ∷ ((x ++ b ∷ []) ++ cs) → Fronts what.Aggregate (109 ∷ (x ++ b ∷ [])) cs →
+      IsBare what.Aggregate (109 ∷ ((x ++ b ∷ []) ++ cs)) →
+      Ends behind_read (λ y. FoldWordText y.0) AnyFoldWord s (folds.read_as f cs (behind m))
+  m_on f b cs zero nonzero h spelled u token =
+      let c = byte_is b zero m h in
+      let longer = (v ++ x) ++ b ∷ [] in
+      fold_from f cs nonzero s (behind m) longer bs (109 ∷ (x ++ b ∷ []))
+      (bytes ∙ ap (λ t. (v ++ x) ++ t) (c.bytes ∙ ap (λ t. t ++ (behind m).bytes) c.is)
+      ∙ sym (append_assoc (v ++ x) (b ∷ []) (behind m).bytes))
+      (omega (arith, place, c.place, ap length c.is, length-append (v ++ x) (b ∷ [])))
+      (ap (λ t. t ++ b ∷ []) split ∙ append_assoc bs (109 ∷ x) (b ∷ [])) u
+      (bare_token what.Aggregate (109 ∷ ((x ++ b ∷ []) ++ cs)) token)
+      (subst (FoldWordText f) (ap (λ t. t ++ cs) (sym (append_assoc v x (b ∷ []))))
+      (m_word f bs v (x ++ b ∷ []) cs e spelled q))
+
+  -- where it can't go on
+  m_stuck : (f : FoldWord) (b : ℕ) (cs : List ℕ) → fold_named f ≡ 109 ∷ (x ++ b ∷ cs) →
+      (IsToken what.Aggregate (109 ∷ x) → ⊥) → IsBare what.Aggregate (109 ∷ (x ++ b ∷ cs)) → Finish AnyFoldWord s
+      (unexpected what.Aggregate m)
+  m_stuck f b cs spelled u token =
+      begun_here {L = AnyFoldWord} what.Aggregate s m (v ++ x) bs (109 ∷ x) b cs [] bytes place split u
+      (bare_token what.Aggregate (109 ∷ (x ++ b ∷ cs)) token) (
+        f,
+        subst (λ t. FoldWordText f ((v ++ x) ++ b ∷ t)) (sym (append-nil cs))
+            (m_word f bs v x (b ∷ cs) e spelled q),
+      )
+
+behind_me_ends : (s m : Rest) (bs v : List ℕ) → AreBlanks bs → v ≡ bs ++ 109 ∷ [] →
+    s.bytes ≡ (v ++ 101 ∷ []) ++ m.bytes → m.at ≡ s.at + length (v ++ 101 ∷ []) →
+    Ends behind_read (λ x. FoldWordText x.0) AnyFoldWord s (folds.fold_behind_me m)
+behind_me_ends s m bs v e q bytes place =
+    let x = 101 ∷ [] in
+    if_ends s (head m == 97) (folds.read_as fold.Mean (codes "n") (behind m)) _
+    (λ h. m_on s m bs v x e q bytes place fold.Mean 97
+    (codes "n") refl refl h refl mean_word.fronts.1.1.1 mean_word.bare)
+    (λ _. if_ends s (head m == 114) (folds.read_as fold.Merge (codes "ge") (behind m))
     (Err (unexpected what.Aggregate m))
-    (λ h. cut_then m (behind m) (folds.read_as fold.Merge (codes "ge") (behind m)) (byte_is 114 refl m h)
-    (λ y g. read_as_ends (λ f q. FoldWordText f (v ++ (u ++ (y ++ q)))) fold.Merge (codes "ge") refl (behind m)
-    (text fold.Merge 114 (codes "ge") y refl g)))
-    (λ _. record { way = wrong_here _ m (codes "an") (fold.Mean, text fold.Mean 97 (codes "n") (97 ∷ []) refl refl) }))
+    (λ h. m_on s m bs v x e q bytes place fold.Merge 114 (codes "ge") refl refl h refl merge_word.fronts.1.1.1
+    merge_word.bare)
+    (λ _. record {
+      way = m_stuck s m bs v x e q bytes place fold.Mean 97
+          (codes "n") refl mean_word.fronts.1.1.0 mean_word.bare;
+    }))
 
-behind_m_ends : (m : Rest) (v : List ℕ) → FirstByte 109 v → Ends behind_read (λ x u. FoldWordText x.0 (v ++ u))
-    (λ u. AnyFoldWord (v ++ u)) m (folds.fold_behind_m m)
+behind_m_ends : (s m : Rest) → Cut (FirstByte 109) s m → Ends behind_read (λ x. FoldWordText x.0) AnyFoldWord s
+    (folds.fold_behind_m m)
 unfolding folds.fold_behind_m
-behind_m_ends m v c =
-    let text : (f : FoldWord) (b : ℕ) (end u : List ℕ) → fold_named f ≡ 109 ∷ b ∷ end → u ≡ b ∷ [] →
-    FoldWordText f (v ++ (u ++ end)) =
-    λ f b end u spelled g. m_text f (b ∷ end) spelled v (u ++ end) c (ap (λ t. t ++ end) g) in
-    if_ends m (head m == 105) (folds.read_as fold.Min (codes "n") (behind m)) _
-    (λ h. cut_then m (behind m) (folds.read_as fold.Min (codes "n") (behind m)) (byte_is 105 refl m h)
-    (λ u g. read_as_ends (λ f q. FoldWordText f (v ++ (u ++ q))) fold.Min (codes "n") refl (behind m)
-    (text fold.Min 105 (codes "n") u refl g)))
-    (λ _. if_ends m (head m == 97) (folds.read_as fold.Max (codes "x") (behind m)) _
-    (λ h. cut_then m (behind m) (folds.read_as fold.Max (codes "x") (behind m)) (byte_is 97 refl m h)
-    (λ u g. read_as_ends (λ f q. FoldWordText f (v ++ (u ++ q))) fold.Max (codes "x") refl (behind m)
-    (text fold.Max 97 (codes "x") u refl g)))
-    (λ _. if_ends m (head m == 101) (folds.fold_behind_me (behind m)) (Err (unexpected what.Aggregate m))
-    (λ h. cut_then m (behind m) (folds.fold_behind_me (behind m)) (byte_is 101 refl m h)
-    (λ u g. behind_me_ends (behind m) v u c g))
-    (λ _. record { way = wrong_here _ m (codes "in") (fold.Min, text fold.Min 105 (codes "n") (105 ∷ []) refl refl) })))
+behind_m_ends s m c =
+    let v = c.front in
+    let bs = c.is.0 in
+    let e = c.is.1.0 in
+    let q = c.is.1.1 in
+    let bytes : s.bytes ≡ (v ++ []) ++ m.bytes = c.bytes ∙ ap (λ t. t ++ m.bytes) (sym (append-nil v)) in
+    let place : m.at ≡ s.at + length (v ++ []) = c.place ∙ ap (λ t. s.at + length t) (sym (append-nil v)) in
+    if_ends s (head m == 105) (folds.read_as fold.Min (codes "n") (behind m)) _
+    (λ h. m_on s m bs v [] e q bytes place fold.Min 105 (codes "n") refl refl h refl min_word.fronts.1.1 min_word.bare)
+    (λ _. if_ends s (head m == 97) (folds.read_as fold.Max (codes "x") (behind m)) _
+    (λ h. m_on s m bs v [] e q bytes place fold.Max 97 (codes "x") refl refl h refl max_word.fronts.1.1 max_word.bare)
+    (λ _. if_ends s (head m == 101) (folds.fold_behind_me (behind m)) (Err (unexpected what.Aggregate m))
+    (λ h. let k = byte_is 101 refl m h in
+    behind_me_ends s (behind m) bs v e q
+    (c.bytes ∙ ap (λ t. v ++ t) (k.bytes ∙ ap (λ t. t ++ (behind m).bytes) k.is)
+    ∙ sym (append_assoc v (101 ∷ []) (behind m).bytes))
+    (omega (arith, c.place, k.place, ap length k.is, length-append v (101 ∷ []))))
+    (λ _. record {
+      way = m_stuck s m bs v [] e q bytes place fold.Min 105
+          (codes "n") refl min_word.fronts.1.0 min_word.bare;
+    })))
 
 fold_here_ends : (s : Rest) → Ends behind_read (λ x. FoldWordText x.0) AnyFoldWord s (folds.fold_here (skip s))
 unfolding folds.fold_here
 fold_here_ends s =
     let t = skip s in
     if_ends s (head t == 99) (folds.read_as fold.Count (codes "count") t) _
-    (λ _. whole_ends s fold.Count 99 (codes "ount") refl count_text)
+    (λ _. whole_ends s fold.Count 99 (codes "ount") refl count_word count_text)
     (λ _. if_ends s (head t == 115) (folds.read_as fold.Sum (codes "sum") t) _
-    (λ _. whole_ends s fold.Sum 115 (codes "um") refl sum_word_text)
+    (λ _. whole_ends s fold.Sum 115 (codes "um") refl sum_word sum_word_text)
     (λ _. if_ends s (head t == 97) (folds.read_as fold.Aggregate (codes "aggregate") t) _
-    (λ _. whole_ends s fold.Aggregate 97 (codes "ggregate") refl aggregate_text)
+    (λ _. whole_ends s fold.Aggregate 97 (codes "ggregate") refl aggregate_word aggregate_text)
     (λ _. if_ends s (head t == 109) (folds.fold_behind_m (behind t)) (Err (unexpected what.Aggregate t))
-    (λ h. cut_then s (behind t) (folds.fold_behind_m (behind t)) (first_is 109 refl s h)
-    (λ v c. behind_m_ends (behind t) v c))
-    (λ _. record { way = wrong _ s (codes "sum") (λ bs e. (fold.Sum, sum_word_text bs e)) }))))
+    (λ h. behind_m_ends s (behind t) (first_is 109 refl s h))
+    (λ _. record {
+      way = wrong what.Aggregate s 115 (codes "um") [] (bare_token what.Aggregate (codes "sum") sum_word.bare)
+          (λ bs e. (fold.Sum, sum_word_text bs e));
+    }))))
 
 -- folds
 abbrev FoldedSpan : FoldWord → List ℕ → List ℕ → Type 0
@@ -292,7 +345,7 @@ count_ends at label s v f =
     done_ends s (sign 41 what.CloseParenthesis s >>= λ r. Ok (None, r))
     (λ x. (folds.aggregate_of at label fold.Count x.0, x.1))
     (done_ends {left' = behind_read} s (sign 41 what.CloseParenthesis s) (λ r. (None, r))
-    (ends_as s (sign 41 what.CloseParenthesis s) (sign_ends 41 what.CloseParenthesis close_parenthesis s)
+    (ends_as s (sign 41 what.CloseParenthesis s) (sign_ends 41 what.CloseParenthesis close_parenthesis (λ t. t) s)
     (λ r u g. counted_text v u f g) (λ u g. counted_text v u f g)) (λ r. refl) (λ r u g. g)) (λ x. refl)
     (λ x u g. g)
 
@@ -306,7 +359,7 @@ named_fold_ends at label w h s v f =
     (λ x u g. g)) (λ u g. let e = sign_default 41 close_parenthesis in
     record { text = e.text; is = folded_text w h v u e.text f g e.is })
     (λ x u g. done_ends x.1 (sign 41 what.CloseParenthesis x.1) (λ r. (x.0, r))
-    (ends_as x.1 (sign 41 what.CloseParenthesis x.1) (sign_ends 41 what.CloseParenthesis close_parenthesis x.1)
+    (ends_as x.1 (sign 41 what.CloseParenthesis x.1) (sign_ends 41 what.CloseParenthesis close_parenthesis (λ t. t) x.1)
     (λ r y k. folded_text w h v u y f g k) (λ y k. folded_text w h v u y f g k)) (λ r. refl) (λ r y k. k)))
     (λ x. refl) (λ x u g. g)
 
@@ -342,10 +395,10 @@ folded_default w = let o = sign_default 40 open_parenthesis in let d = in_fold w
     record { text = o.text ++ d.text; is = d.is }
 
 -- aggregates
-abbrev FoldingSpan : List ℕ → List ℕ → Type 0
+abbrev pub FoldingSpan : List ℕ → List ℕ → Type 0
 FoldingSpan x z = (at : ℕ) → (n : ℕ × Aggregate) × Folding (at_place at x) (at_place n.0 z) n.1
 
-abbrev FoldingText : List ℕ → Type 0
+abbrev pub FoldingText : List ℕ → Type 0
 FoldingText = Text Anyhow true FoldingSpan
 
 named_text : (f : FoldWord) (w v u y : List ℕ) → Text Worded false NameSpan w → Text Parted true (SignSpan 58) v →
@@ -384,7 +437,7 @@ labelled_fold_ends label s w v f g =
     bind_ends s (folds.fold_here (skip s)) _ (fold_here_ends s)
     (λ u h. let d = folded_default h.0 in record { text = d.text; is = named_text h.0 w v u d.text f g h.1 d.is })
     (λ x u h. bind_ends x.1 (sign 40 what.OpenParenthesis x.1) _
-    (sign_ends 40 what.OpenParenthesis open_parenthesis x.1)
+    (sign_ends 40 what.OpenParenthesis open_parenthesis (λ t. t) x.1)
     (λ y k. let d = in_fold x.0 y k in record { text = d.text; is = named_text x.0 w v u (y ++ d.text) f g h d.is })
     (λ o y k. ends_as o (folds.fold_call (skip s).at (Some label) x.0 o)
     (fold_call_ends (skip s).at (Some label) x.0 o y k) (λ z q l. named_text x.0 w v u (y ++ q) f g h l)
@@ -395,7 +448,7 @@ bare_fold_ends : (at : ℕ) (text : List ℕ) (m : Rest) (w : List ℕ) → Text
     (folds.bare_fold at o (skip m))
 bare_fold_ends at text m w f None h =
     record {
-      way = wrong _ m (58 ∷ counting)
+      way = wrong what.Colon m 58 [] counting (bare_token what.Colon (58 ∷ []) (sign_token 58 colon))
           (λ bs e. subst (λ t. FoldingText (w ++ t)) (append_assoc bs (58 ∷ []) counting)
           (counting_text w (bs ++ 58 ∷ []) (changed (some_name text) w f) (sign_text 58 colon bs e)));
     }
@@ -413,7 +466,9 @@ bare_fold_ends at text m w f (Some g) h =
         let d = in_fold g (c.front ++ 40 ∷ []) (sign_text 40 open_parenthesis c.front c.is) in
         finish_before {N = λ u. FoldingText (w ++ u)} m (skip m) (unexpected what.OpenParenthesis (skip m)) c.front
         c.bytes c.place
-        (wrong_here _ (skip m) (40 ∷ d.text) (subst (λ t. FoldingText (w ++ t)) (append_assoc c.front (40 ∷ []) d.text)
+        (wrong_here what.OpenParenthesis (skip m) 40 [] d.text
+        (bare_token what.OpenParenthesis (40 ∷ []) (sign_token 40 open_parenthesis)) (subst (λ t. FoldingText
+        (w ++ t)) (append_assoc c.front (40 ∷ []) d.text)
         (unnamed_text text g w ((c.front ++ 40 ∷ []) ++ d.text) h f d.is)))
 
 pub aggregate_ends : (s : Rest) → Reads FoldingText s (folds.aggregate s)
@@ -467,11 +522,18 @@ aggregates_ends s =
     aggregate_turn_ends [] s [] (inl refl)
 
 -- ` a:count()`
+pub folding_default : Default FoldingText
+folding_default = record {
+  text = name_default.text ++ (58 ∷ counting);
+  is = counting_text name_default.text (58 ∷ []) (worded name_default.text name_default.is) (sign_text 58 colon [] tt);
+}
+
 pub aggregates_default : Default FoldingsText
 aggregates_default =
-    record {
-      text = name_default.text ++ (58 ∷ counting);
-      is = foldings_grown []
-          (name_default.text ++ (58 ∷ counting)) (inl refl)
-          (counting_text name_default.text (58 ∷ []) (worded name_default.text name_default.is) (sign_text 58 colon [] tt));
-    }
+    record { text = folding_default.text; is = foldings_grown [] folding_default.text (inl refl) folding_default.is }
+
+-- one more aggregate behind others
+pub one_more_folding : (x z : List ℕ) → Then FoldingsSpan (Then (SignSpan 44) FoldingSpan) x z → FoldingsSpan x z
+one_more_folding x z k at =
+    let a = k.first at in let b = k.second.first a.0.0 in let c = k.second.second b.0 in
+    ((c.0.0, a.0.1 ++ c.0.1 ∷ []), more_foldings a.1 b.1 c.1)

@@ -1,14 +1,21 @@
 -- What was read of a metric's name before its fault can be completed.
-use Rattle.std.proofs.Common.{◌≡◌, ℕ, ◌+◌, Bool, true, false, ◌==◌, ◌&&◌, not, List, [], ◌∷◌, ◌++◌, codes, refl, sym, ap, ◌∙◌, subst, arith, if◌then◌else◌, append_assoc, Some, None, option_and_then, Ok, Err}
+use Rattle.std.proofs.Common.{◌≡◌, ℕ, ◌+◌, Bool, true, false, ◌==◌, ◌&&◌, not, List, [], ◌∷◌, ◌++◌, codes, refl, sym, ap, ◌∙◌, subst, arith, if◌then◌else◌, append_assoc, Some, None, option_and_then, Result, Ok, Err}
+use Rattle.std.proofs.lemmas.List.{append-nil}
+use Rattle.mon_value.specs.Answers.{◌>>=◌}
+use Rattle.mql_ast.specs.declared.names.Name.{Name}
 use Rattle.mql_ast.specs.Bytes.{is_metric_byte}
-use Rattle.mql_ast.specs.Rests.{Rest, skip}
+use Rattle.mql_ast.specs.Rests.{Rest, head, behind, skip}
 use Rattle.mql_ast.specs.Tokens as grammar
-use Rattle.mql_ast.specs.Tokens.{sign_at, word_at, metric_name, metric_behind, minus, unit_seconds, longest}
+use Rattle.mql_ast.specs.Tokens.{metric_name, metric_behind}
+use Rattle.mql_parse.specs.declared.faults.ParseFault.{ParseFault}
 use Rattle.mql_parse.specs.declared.faults.What.TheVariants as what
-use Rattle.mql_parse.specs.Outcomes.{unexpected, exact}
+use Rattle.mql_parse.specs.Outcomes.{unexpected}
+use Rattle.mql_parse.specs.FaultTokens.{IsWhole, IsToken}
 use Rattle.mql_parse.specs.TokenReading as reading
-use Rattle.mql_parse.proofs.Endings.{Stops, Anyhow, Text, Default, Reads, ends_before_it, bind_ends, ends_as, done_ends, if_ends}
-use Rattle.mql_parse.proofs.TokenEndings.{at_place, outer_no_metric, wrong_here, Token, word_ends, word_text, WordSpan}
+use Rattle.mql_parse.proofs.Endings.{Stops, Anyhow, Text, Default, Finish, Ends, Reads, done_ends}
+use Rattle.mql_parse.proofs.TextFronts.{MetricOpen, slash_open, metric_byte_open, metric_slash_open, open_metric}
+use Rattle.mql_parse.proofs.TokenHalts.{Halts, halted_unexpected, if_halts, halts_on, halts_map, halts_end}
+use Rattle.mql_parse.proofs.TokenEndings.{at_place, AreBlanks, outer_no_metric, equal_byte, first_cut, bare_token, wrong, Token, word_text, WordSpan}
 
 -- a metric's name from behind a slash or another of its bytes
 abbrev MetricText : Bool → List ℕ → Type 0
@@ -58,30 +65,33 @@ one_more after = metric_more after 97 [] refl metric_stop
 none_more : (after : Bool) → after ≡ false → MetricText after []
 none_more after h = subst (λ a. MetricText a []) (sym h) metric_stop
 
-metric_from_ends : (after : Bool) (at : ℕ) (bs : List ℕ) → Reads (MetricText after) (at_place at bs)
+metric_from_halts : (after : Bool) (at : ℕ) (bs : List ℕ) → Halts what.Metric (MetricOpen after) (MetricText after)
+    (at_place at bs)
     (reading.metric_from after at bs)
-metric_from_ends after at [] =
+metric_from_halts after at [] =
     let s = at_place at [] in
-    if_ends s after (Err (unexpected what.Metric s)) (Ok ([], s))
-    (λ h. record { way = wrong_here _ s (97 ∷ []) (one_more after) })
+    if_halts after (Err (unexpected what.Metric s)) (Ok ([], s))
+    (λ h. halted_unexpected {K = MetricOpen after} {L = MetricText after} what.Metric s 97 [] (slash_open after h)
+    (one_more after))
     (λ h. record { way = record { front = []; bytes = refl; place = omega arith; is = none_more after h } })
-metric_from_ends after at (b ∷ bs) =
+metric_from_halts after at (b ∷ bs) =
     let s = at_place at (b ∷ bs) in
     let m = at_place (at + 1) bs in
-    let on = reading.with_byte b (reading.metric_from false (at + 1) bs) in
-    let slash = reading.with_byte b (reading.metric_from true (at + 1) bs) in
-    if_ends s (is_metric_byte b) on _
-    (λ h. ends_before_it s m (b ∷ []) on refl (omega arith)
-    (done_ends m (reading.metric_from false (at + 1) bs) (λ x. (b ∷ x.0, x.1))
-    (ends_as m (reading.metric_from false (at + 1) bs) (metric_from_ends false (at + 1) bs)
-    (λ x u f. metric_more after b u h f) (λ u f. metric_more after b u h f)) (λ x. refl) (λ x u f. f)))
-    (λ h. if_ends s (b == 47 && not after) slash _
-    (λ g. ends_before_it s m (b ∷ []) slash refl (omega arith)
-    (done_ends m (reading.metric_from true (at + 1) bs) (λ x. (b ∷ x.0, x.1))
-    (ends_as m (reading.metric_from true (at + 1) bs) (metric_from_ends true (at + 1) bs)
-    (λ x u f. metric_slash after b u h g f) (λ u f. metric_slash after b u h g f)) (λ x. refl) (λ x u f. f)))
-    (λ g. if_ends s after (Err (unexpected what.Metric s)) (Ok ([], s))
-    (λ h. record { way = wrong_here _ s (97 ∷ []) (one_more after) })
+    let on = reading.metric_from false (at + 1) bs in
+    let slash = reading.metric_from true (at + 1) bs in
+    if_halts (is_metric_byte b) (reading.with_byte b on) _
+    (λ h. halts_map s (λ more. b ∷ more) on
+    (halts_on {N = MetricOpen after} {M = MetricText after} s m (b ∷ []) on refl (omega arith)
+    (metric_from_halts false (at + 1) bs)
+    (λ u k. metric_byte_open after b u h k) (λ u f. metric_more after b u h f)))
+    (λ h. if_halts (b == 47 && not after) (reading.with_byte b slash) _
+    (λ g. halts_map s (λ more. b ∷ more) slash
+    (halts_on {N = MetricOpen after} {M = MetricText after} s m (b ∷ []) slash refl (omega arith)
+    (metric_from_halts true (at + 1) bs)
+    (λ u k. metric_slash_open after b u h g k) (λ u f. metric_slash after b u h g f)))
+    (λ g. if_halts after (Err (unexpected what.Metric s)) (Ok ([], s))
+    (λ h. halted_unexpected {K = MetricOpen after} {L = MetricText after} what.Metric s 97 [] (slash_open after h)
+    (one_more after))
     (λ h. record { way = record { front = []; bytes = refl; place = omega arith; is = none_more after h } })))
 
 metric_text : (w u : List ℕ) → Text Anyhow true (WordSpan (codes "/")) w → MetricText true u →
@@ -97,15 +107,42 @@ metric_text w u f g = record {
       );
 }
 
+slash_text : (bs u : List ℕ) → AreBlanks bs → MetricText true u →
+    Text Anyhow false (Token grammar.metric_at) (bs ++ 47 ∷ u)
+slash_text bs u e f =
+    subst (Text Anyhow false (Token grammar.metric_at)) (append_assoc bs (47 ∷ []) u)
+    (metric_text (bs ++ 47 ∷ []) u (word_text Anyhow 47 [] refl tt bs e) f)
+
+slash_token : (u : List ℕ) → MetricText true u → IsToken what.Metric (47 ∷ u)
+slash_token u f =
+    bare_token what.Metric (47 ∷ u)
+    (subst (IsWhole grammar.metric_at) (append-nil (47 ∷ u)) ((slash_text [] u tt f).fills [] refl 0))
+
+pub if_bind : {A B : Type 0} {left : B → Rest} {P : B → List ℕ → Type 0} {E : List ℕ → Type 0} (s : Rest) (t : Bool)
+    (x : A) (e : ParseFault) (f : A → Result B ParseFault) → (t ≡ true → Ends left P E s (f x)) →
+    (t ≡ false → Finish E s e) → Ends left P E s ((if t then Ok x else Err e) >>= f)
+if_bind s true x e f g h = g refl
+if_bind s false x e f g h = record { way = h refl }
+
 pub metric_ends : (s : Rest) → Reads (Text Anyhow false (Token grammar.metric_at)) s (reading.metric s)
 unfolding reading.metric
 metric_ends s =
-    bind_ends s (exact what.Metric (codes "/") (skip s)) _ (word_ends Anyhow what.Metric 47 [] refl tt refl s)
-    (λ w f. record { text = 97 ∷ []; is = metric_text w (97 ∷ []) f (one_more true) })
-    (λ slash w f. done_ends slash (reading.metric_from true slash.at slash.bytes)
-    (λ read. (record { at = (skip s).at; text = 47 ∷ read.0 }, read.1))
-    (ends_as slash (reading.metric_from true slash.at slash.bytes) (metric_from_ends true slash.at slash.bytes)
-    (λ x u g. metric_text w u f g) (λ u g. metric_text w u f g)) (λ x. refl) (λ x u g. g))
+    let t = skip s in
+    let m = behind t in
+    let on = reading.metric_from true m.at m.bytes in
+    let named : List ℕ → Name = λ read. record { at = t.at; text = 47 ∷ read } in
+    if_bind s (head t == 47) m (unexpected what.Metric t) (λ slash. reading.metric_from true slash.at slash.bytes >>=
+    λ read. Ok (record { at = t.at; text = 47 ∷ read.0 }, read.1))
+    (λ h. let c = first_cut (λ b. b == 47) refl s h in
+    let v : c.front ≡ c.is.0 ++ 47 ∷ [] = c.is.1.1 ∙ ap (λ b. c.is.0 ++ b ∷ []) (equal_byte (head t) 47 h) in
+    done_ends s on (λ read. (named read.0, read.1))
+    (halts_end {R = Text Anyhow false (Token grammar.metric_at)} s m c.front c.is.0 (47 ∷ []) on c.bytes c.place v
+    (metric_from_halts true m.at m.bytes)
+    (λ u f. subst (λ x. Text Anyhow false (Token grammar.metric_at) (x ++ u)) (sym v)
+    (subst (Text Anyhow false (Token grammar.metric_at)) (sym (append_assoc c.is.0 (47 ∷ []) u))
+    (slash_text c.is.0 u c.is.1.0 f))) open_metric slash_token) (λ x. refl) (λ x w f. f))
+    (λ h. wrong what.Metric s 47 (97 ∷ []) [] (slash_token (97 ∷ []) (one_more true))
+    (λ bs e. slash_text bs (97 ∷ []) e (one_more true)))
 
 -- `/a`
 pub metric_default : Default (Text Anyhow false (Token grammar.metric_at))

@@ -6,18 +6,19 @@ use Rattle.std.proofs.lemmas.Bool.Decides.{nat_tests}
 use Rattle.mql_ast.specs.Bytes.{is_digit}
 use Rattle.mql_ast.specs.Rests.{Rest, first_of, head, behind, skip}
 use Rattle.mql_ast.specs.Tokens as grammar
-use Rattle.mql_ast.specs.Tokens.{sign_at, word_at, metric_name, metric_behind, minus, unit_seconds, longest}
+use Rattle.mql_ast.specs.Tokens.{sign_at, minus, unit_seconds, longest}
 use Rattle.mon_value.specs.Answers.{◌>>=◌}
 use Rattle.mql_parse.specs.declared.faults.ParseFault.{ParseFault}
 use Rattle.mql_parse.specs.declared.faults.ParseKind.TheVariants.{NumberTooLarge}
 use Rattle.mql_parse.specs.declared.faults.What.TheVariants as what
 use Rattle.mql_parse.specs.Outcomes.{Outcome, fault, unexpected, map_outcome}
 use Rattle.mql_parse.specs.FaultNumbers.{AreDigits, IsNumber}
+use Rattle.mql_parse.specs.FaultTokens.{IsWhole, IsToken}
 use Rattle.mql_parse.specs.TokenReading as reading
 use Rattle.mql_parse.proofs.RestLemmas.{skip_off}
 use Rattle.mql_parse.proofs.BehindLemmas.{sign_taken}
-use Rattle.mql_parse.proofs.Endings.{Worded, Parted, OpensAs, opens_on, Text, join, changed, worded, Default, Cut, Smaller, known_smaller, Finish, finish_as, cut_before, cut_as, Ends, behind_read, Reads, ends_before_it, cut_then, ends_as, done_ends, if_ends}
-use Rattle.mql_parse.proofs.TokenEndings.{at_place, and_first, AreBlanks, blanks_open, skip_over, digit_not_blank, digit_in_word, outer_no_digit, byte_cut, first_cut, wrong, wrong_here, SignSpan, minus_sign, sign_cut, Token}
+use Rattle.mql_parse.proofs.Endings.{Worded, Parted, OpensAs, opens_on, Text, join, changed, worded, Default, Cut, Smaller, known_smaller, Comes, IfExpected, Finish, finish_as, cut_before, cut_as, Ends, behind_read, Reads, ends_before_it, cut_then, ends_as, done_ends, if_ends}
+use Rattle.mql_parse.proofs.TokenEndings.{at_place, and_first, bare_token, blank_token, AreBlanks, blanks_open, skip_over, digit_not_blank, digit_in_word, outer_no_digit, byte_cut, first_cut, wrong, wrong_here, SignSpan, minus_sign, sign_cut, Token}
 
 -- digits behind others: the number that they make
 abbrev IsDigits : ℕ → ℕ → ℕ → List ℕ → Type 0
@@ -58,6 +59,7 @@ record DigitsFault (most value : ℕ) (s : Rest) (f : ParseFault) : Type 0 where
   made : ℕ
   is : IsDigits most value made front
   digit : is_digit byte ≡ true
+  too_large : f.kind ≡ NumberTooLarge
 
 abbrev DigitsIn : ℕ → ℕ → Rest → Outcome ℕ → Type 0
 DigitsIn most value s (Ok x) = Cut (IsDigits most value x.0) s x.1
@@ -89,6 +91,7 @@ digits_before most value b at bs (Err f) d m h = record {
     made = h.way.made;
     is = digits_more most value h.way.made b h.way.front d m h.way.is;
     digit = h.way.digit;
+    too_large = h.way.too_large;
   };
 }
 
@@ -113,12 +116,13 @@ digits_end most value at (b ∷ bs) h =
         made = value;
         is = no_digits most value h;
         digit = d;
+        too_large = refl;
       };
     }))
     (λ d. record { way = record { front = []; bytes = refl; place = omega arith; is = no_digits most value h } })
 
 -- a number from 1 on, where no digit stands behind it
-abbrev positive_of : ℕ → Rest → Option (ℕ × Rest)
+abbrev pub positive_of : ℕ → Rest → Option (ℕ × Rest)
 positive_of most t =
     if is_digit (head t) && not (head t == 48) then grammar.digits_from most (head t - 48) (behind t).at
     (behind t).bytes else None
@@ -231,8 +235,29 @@ module _ (most : ℕ) (le : nat_le 19 most ≡ true) (s m : Rest) (b : ℕ) (h :
       is = subst (SomePositive most) (sym (append-nil (c.front ++ g.front)))
           (g.made, behind_first_digit most g.made b c.front g.front c.is h g.is);
       smaller = known_smaller f.kind (digit_smaller f g);
+      comes = subst (λ kind. IfExpected kind (Comes (SomePositive most) (c.front ++ g.front))) (sym g.too_large) tt;
     };
   }
+
+number_either : (x d : Bool) (y z : ℕ × Rest) (q : Option (ℕ × Rest)) → (if d && not x then q else None) ≡ Some y →
+    (if x then Some z else (if d && not x then q else None)) ≡ Some y
+number_either true true y z q h = absurd (cc)
+number_either true false y z q h = absurd (cc)
+number_either false d y z q h = h
+
+positive_is_number : (most : ℕ) (s : Rest) (x : ℕ × Rest) → grammar.positive_at most s ≡ Some x →
+    grammar.number_at most s ≡ Some x
+positive_is_number most s x h = let t = skip s in
+    number_either (head t == 48) (is_digit (head t)) x (0, behind t)
+    (grammar.digits_from most (head t - 48) (behind t).at (behind t).bytes) h
+
+-- ` 1`
+pub number_token : IsToken what.Number (32 ∷ 49 ∷ [])
+number_token = blank_token what.Number (49 ∷ []) (bare_token what.Number (49 ∷ []) (1, number_one))
+  where
+    number_one : IsWhole (grammar.number_at 1) (49 ∷ [])
+    number_one = let n = (first_positive 1 1 49 [] [] tt refl (no_digits 1 1 refl)).1.0 [] refl 0 in
+        ((n.0, 1), positive_is_number 1 (at_place 0 (49 ∷ [])) (1, at_place n.0 []) n.1)
 
 positive_end : (most : ℕ) → nat_le 19 most ≡ true → (s : Rest) → Ends behind_read (λ x. IsPositive most x.0)
     (SomePositive most) s (reading.positive most s)
@@ -244,7 +269,10 @@ positive_end most le s =
     (λ h. behind_first most le s (behind t) (head t) h (first_cut (λ b. is_digit b && not (b == 48)) refl s h) more
     (digits_end most (head t - 48) (behind t).at (behind t).bytes
     (first_small most (head t) le (and_first (is_digit (head t)) (not (head t == 48)) h))))
-    (λ h. record { way = wrong _ s (32 ∷ 49 ∷ []) (λ bs e. (1, one_after most (at_least_one most le) bs e)) })
+    (λ h. record {
+      way = wrong what.Number s 32 (49 ∷ []) [] number_token
+          (λ bs e. (1, one_after most (at_least_one most le) bs e));
+    })
 
 positive_text : (most v : ℕ) (w : List ℕ) → IsPositive most v w → Text Worded false (Token (grammar.positive_at most)) w
 positive_text most v w f =
@@ -256,15 +284,16 @@ positive_ends most le s =
     ends_as s (reading.positive most s) (positive_end most le s) (λ x w f. positive_text most x.0 w f)
     (λ w f. positive_text most f.0 w f.1)
 
+pub a_positive : (most : ℕ) → nat_le 1 most ≡ true → Text Parted false (Token (grammar.positive_at most)) (32 ∷ 49 ∷ [])
+a_positive most h = record {
+  opens = λ u. refl;
+  fills = (positive_text most 1 (32 ∷ 49 ∷ []) (one_after most h [] tt)).fills;
+}
+
 -- ` 1`
-pub positive_default : (most : ℕ) → nat_le 1 most ≡ true →
+abbrev pub positive_default : (most : ℕ) → nat_le 1 most ≡ true →
     Default (Text Parted false (Token (grammar.positive_at most)))
-positive_default most h =
-    record {
-      text = 32 ∷ 49 ∷ [];
-      is = record
-          { opens = λ u. refl; fills = (positive_text most 1 (32 ∷ 49 ∷ []) (one_after most h [] tt)).fills };
-    }
+positive_default most h = record { text = 32 ∷ 49 ∷ []; is = a_positive most h }
 
 -- durations
 unit_no_digit : (c : ℕ) → (unit_seconds c == 0) ≡ false → is_digit c ≡ false
@@ -305,6 +334,9 @@ one_fits c =
     either_small (c == 115) 1 _ refl
     (either_small (c == 109) 60 _ refl
     (either_small (c == 104) 3600 _ refl (either_small (c == 100) 86400 0 refl refl)))
+
+unit_token : IsToken what.Unit (115 ∷ [])
+unit_token = bare_token what.Unit (115 ∷ []) (115, (refl, refl))
 
 -- a unit behind a number
 module _ (s r : Rest) (v : ℕ) (c : Cut (IsPositive longest v) s r) (u : (unit_seconds (head r) == 0) ≡ false) where
@@ -351,6 +383,7 @@ module _ (s r : Rest) (v : ℕ) (c : Cut (IsPositive longest v) s r) (u : (unit_
     tail = 115 ∷ [];
     is = in_seconds v c.front c.is;
     smaller = unit_smaller c.is.1.1.1;
+    comes = tt;
   }
 
 pub duration_ends : (s : Rest) → Reads (Text Worded true (Token grammar.duration_at)) s (reading.duration s)
@@ -369,34 +402,23 @@ duration_ends s = by_number (reading.positive longest s) (positive_end longest r
         let seconds = x.0 * unit_seconds (head r) in
         if_ends s (unit_seconds (head r) == 0) (Err (unexpected what.Unit r)) _
         (λ u. ends_before_it s r c.front (Err (unexpected what.Unit r)) c.bytes c.place
-        (record { way = wrong_here _ r (115 ∷ []) (in_seconds x.0 c.front c.is) }))
+        (record { way = wrong_here what.Unit r 115 [] [] unit_token (in_seconds x.0 c.front c.is) }))
         (λ u. if_ends s (nat_le seconds longest) (Ok (pos seconds, behind r)) (Err (fault NumberTooLarge r))
         (λ m. ends_before_it s r c.front (Ok (pos seconds, behind r)) c.bytes c.place
         (record { way = unit_cut s r x.0 c u m }))
         (λ m. record { way = unit_too_large s r x.0 c u }))
 
+pub a_duration : Text Parted true (Token grammar.duration_at) (32 ∷ 49 ∷ 115 ∷ [])
+a_duration = record {
+  opens = λ u. refl;
+  fills = (unit_text 1 115 (32 ∷ 49 ∷ []) (one_after longest refl [] tt) refl refl).fills;
+}
+
 -- ` 1s`
-pub duration_default : Default (Text Parted true (Token grammar.duration_at))
-duration_default =
-    record {
-      text = 32 ∷ 49 ∷ 115 ∷ [];
-      is = record
-          { opens = λ u. refl; fills = (unit_text 1 115 (32 ∷ 49 ∷ []) (one_after longest refl [] tt) refl refl).fills };
-    }
+abbrev pub duration_default : Default (Text Parted true (Token grammar.duration_at))
+duration_default = record { text = 32 ∷ 49 ∷ 115 ∷ []; is = a_duration }
 
 -- numbers with a sign or without
-number_either : (x d : Bool) (y z : ℕ × Rest) (q : Option (ℕ × Rest)) → (if d && not x then q else None) ≡ Some y →
-    (if x then Some z else (if d && not x then q else None)) ≡ Some y
-number_either true true y z q h = absurd (cc)
-number_either true false y z q h = absurd (cc)
-number_either false d y z q h = h
-
-positive_is_number : (most : ℕ) (s : Rest) (x : ℕ × Rest) → grammar.positive_at most s ≡ Some x →
-    grammar.number_at most s ≡ Some x
-positive_is_number most s x h = let t = skip s in
-    number_either (head t == 48) (is_digit (head t)) x (0, behind t)
-    (grammar.digits_from most (head t - 48) (behind t).at (behind t).bytes) h
-
 zero_number : (most : ℕ) (bs : List ℕ) → AreBlanks bs → Text Worded false (Token (grammar.number_at most))
     (bs ++ 48 ∷ [])
 zero_number most bs e = record {

@@ -1,26 +1,32 @@
 -- What was read of an operation before its fault can be completed.
-use Rattle.std.proofs.Common.{◌≡◌, ℕ, ℤ, Bool, true, false, ◌==◌, ◌⊎◌, inl, inr, List, [], ◌∷◌, ◌++◌, codes, refl, sym, subst, append_assoc, Err}
+use Rattle.std.proofs.Common.{◌≡◌, ℕ, ℤ, Bool, true, false, ◌==◌, ◌⊎◌, inl, inr, List, [], ◌∷◌, ◌++◌, codes, refl, sym, ap, ◌∙◌, subst, append_assoc, ◌+◌, option_and_then, Ok, Err}
+use Rattle.std.specs.Result.{IfOk}
 use Rattle.std.proofs.lemmas.Bool.{false≢true}
 use Rattle.mon_value.specs.declared.aligners.Aligner.TheVariants as aligner
 use Rattle.mql_ast.specs.Trees as tree
-use Rattle.mql_ast.specs.Trees.{DeedTree, OpTree, PipeTree, SourceTree, branches}
+use Rattle.mql_ast.specs.Trees.{PredicateTree, DeedTree, OpTree}
 use Rattle.mql_ast.specs.Bytes.{is_blank}
 use Rattle.mql_ast.specs.Rests.{Rest, head, skip}
-use Rattle.mql_ast.specs.Tokens.{positive_at, duration_at}
+use Rattle.mql_ast.specs.Tokens.{positive_at, duration_at, with_unit, longest}
 use Rattle.mql_ast.specs.Grammar as grammar
-use Rattle.mql_ast.specs.Grammar.{Deed, align_delta, align_next_older, Ops, no_ops, more_ops, how_word, Pipe, flow, Source, PipeList, two_pipes, more_pipes}
+use Rattle.mql_ast.specs.Grammar.{Deed, align_delta, align_next_older}
 use Rattle.mql_parse.specs.declared.faults.What.TheVariants as what
-use Rattle.mql_parse.specs.Outcomes.{unexpected, exact, sign, map_outcome, up_to}
+use Rattle.mql_parse.specs.Outcomes.{Outcome, unexpected, exact, sign, map_outcome, up_to}
 use Rattle.mql_parse.specs.TokenReading as reading
 use Rattle.mql_parse.specs.SumReading.{items}
 use Rattle.mql_parse.specs.PredicateReading as predicates
 use Rattle.mql_parse.specs.Folds as folds
+use Rattle.mql_parse.specs.FaultTokens.{IsToken}
 use Rattle.mql_parse.specs.PipeReading as pipes
-use Rattle.mql_parse.proofs.Endings.{Anyhow, Worded, Parted, OpensAs, Text, Then, join, changed, worded, unended, Default, both, default_as, Ends, behind_read, Reads, ends_as, done_ends, then_ends, if_ends}
-use Rattle.mql_parse.proofs.TokenEndings.{at_place, AreBlanks, all_nonzero, wrong, SignSpan, sign_ends, sign_default, WordSpan, word_text, word_ends, SpacedSpan, spaced, word_spaced_ends, Token, NameSpan, name_ends, name_default, open_parenthesis, close_parenthesis, open_bracket, comma}
-use Rattle.mql_parse.proofs.NumberEndings.{positive_ends, positive_default, duration_ends, duration_default}
-use Rattle.mql_parse.proofs.PredicateEndings.{DisjunctionSpan, FilterSpan, predicate_ends, predicate_default}
-use Rattle.mql_parse.proofs.ListEndings.{InGrouping, grouping_span, names_ends, names_default, ItemsSpan, items_ends, items_default, FoldingsSpan, aggregates_ends, aggregates_default}
+use Rattle.mql_parse.proofs.Endings.{Anyhow, Worded, Parted, OpensAs, Text, Then, join, changed, worded, unended, Default, both, default_as, Ends, behind_read, ends_known, Reads, ends_as, done_ends, then_ends, if_ends}
+use Rattle.mql_parse.proofs.TokenFronts.{WordOf, filter_word, align_word, group_by_word, value_word, top_word, every_word, within_word, delta_word, next_older_word}
+use Rattle.mql_parse.proofs.TokenEndings.{at_place, AreBlanks, all_nonzero, skip_over, bare_token, blank_token, word_over, sign_text, wrong, SignSpan, sign_ends, sign_default, WordSpan, word_text, word_ends, SpacedSpan, spaced, Token, NameSpan, name_ends, name_default, open_parenthesis, close_parenthesis, open_bracket, comma}
+use Rattle.mql_parse.proofs.SpacedEndings.{Blanked, Opening, word_spaced_ends}
+use Rattle.mql_parse.proofs.NumberEndings.{positive_of, number_token, positive_ends, positive_default, duration_ends, duration_default}
+use Rattle.mql_parse.proofs.PredicateEndings.{predicate_blanked, predicate_opening, DisjunctionSpan, FilterSpan, predicate_ends, predicate_default}
+use Rattle.mql_parse.proofs.ListEndings.{InGrouping, grouping_span, names_ends, names_default, ItemsSpan, items_ends, items_default, FoldingSpan, FoldingsSpan, folding_default, one_more_folding, aggregates_ends, aggregates_default}
+use Rattle.mql_parse.proofs.Sound.{if_sound, bind_sound}
+use Rattle.mql_parse.proofs.SumEndings.{any_ok}
 
 -- aligners
 abbrev AlignedSpan : List ℕ → List ℕ → List ℕ → Type 0
@@ -40,14 +46,16 @@ up_to_ends : (j : Rest) → Reads (Text Worded true (Then (Token duration_at) (S
 up_to_ends j =
     then_ends j (reading.duration j) _ refl (duration_ends j) (sign_default 41 close_parenthesis)
     (λ x. done_ends x.1 (sign 41 what.CloseParenthesis x.1) (λ r. (x.0, r))
-    (sign_ends 41 what.CloseParenthesis close_parenthesis x.1) (λ r. refl) (λ r w f. f))
+    (sign_ends 41 what.CloseParenthesis close_parenthesis (λ t. t) x.1) (λ r. refl) (λ r w f. f))
 
 aligned_ends : (c : ℕ) (cs : List ℕ) → is_blank c ≡ false → OpensAs Worded (c ∷ cs) → all_nonzero (c ∷ cs) ≡ true →
-    (m : Rest) → Reads (Text Worded true (AlignedSpan (c ∷ cs))) m (pipes.aligned_for (c ∷ cs) (skip m))
-aligned_ends c cs blank f nonzero m =
-    then_ends m (exact what.Aligner (c ∷ cs) (skip m)) _ refl (word_ends Worded what.Aligner c cs blank f nonzero m)
+    WordOf what.Aligner (c ∷ cs) → (m : Rest) →
+    Reads (Text Worded true (AlignedSpan (c ∷ cs))) m (pipes.aligned_for (c ∷ cs) (skip m))
+aligned_ends c cs blank f nonzero token m =
+    then_ends m (exact what.Aligner (c ∷ cs) (skip m)) _ refl
+    (word_ends Worded what.Aligner c cs blank f nonzero token m)
     in_aligned (λ k.
-    then_ends k (sign 40 what.OpenParenthesis k) _ refl (sign_ends 40 what.OpenParenthesis open_parenthesis k)
+    then_ends k (sign 40 what.OpenParenthesis k) _ refl (sign_ends 40 what.OpenParenthesis open_parenthesis (λ t. t) k)
     duration_closed up_to_ends)
 
 delta_opens : OpensAs Worded (codes "delta")
@@ -63,14 +71,15 @@ delta_text bs e =
     (join (bs ++ codes "delta") in_aligned.text refl (word_text Worded 100 (codes "elta") refl delta_opens bs e)
     in_aligned.is))
 
+an_aligner : Text Parted true AlignerSpan (32 ∷ (codes "delta" ++ in_aligned.text))
+an_aligner = record { opens = λ u. refl; fills = (delta_text (32 ∷ []) (refl, tt)).fills }
+
 -- ` delta( 1s)`
-aligner_default : Default (Text Parted true AlignerSpan)
-aligner_default =
-    record {
-      text = 32 ∷ (codes "delta" ++ in_aligned.text);
-      is = record
-          { opens = λ u. refl; fills = (delta_text (32 ∷ []) (refl, tt)).fills };
-    }
+abbrev aligner_default : Default (Text Parted true AlignerSpan)
+aligner_default = record { text = 32 ∷ (codes "delta" ++ in_aligned.text); is = an_aligner }
+
+delta_token : IsToken what.Aligner (codes "delta")
+delta_token = bare_token what.Aligner (codes "delta") delta_word.bare
 
 aligner_ends : (m : Rest) → Reads (Text Worded true AlignerSpan) m (pipes.aligner_here (skip m))
 aligner_ends m =
@@ -79,14 +88,35 @@ aligner_ends m =
     let next = pipes.aligned_for (codes "next_older") t in
     if_ends m (head t == 100) (map_outcome (λ z. tree.Align (aligner.Delta z)) delta) _
     (λ _. done_ends m delta (λ x. (tree.Align (aligner.Delta x.0), x.1))
-    (ends_as m delta (aligned_ends 100 (codes "elta") refl delta_opens refl m)
+    (ends_as m delta (aligned_ends 100 (codes "elta") refl delta_opens refl delta_word m)
     (λ x w f. changed (λ x z k. inl k) w f) (λ w f. changed (λ x z k. inl k) w f)) (λ x. refl) (λ x w f. f))
     (λ _. if_ends m (head t == 110) (map_outcome (λ z. tree.Align (aligner.NextOlder z)) next)
     (Err (unexpected what.Aligner t))
     (λ _. done_ends m next (λ x. (tree.Align (aligner.NextOlder x.0), x.1))
-    (ends_as m next (aligned_ends 110 (codes "ext_older") refl next_opens refl m)
+    (ends_as m next (aligned_ends 110 (codes "ext_older") refl next_opens refl next_older_word m)
     (λ x w f. changed (λ x z k. inr k) w f) (λ w f. changed (λ x z k. inr k) w f)) (λ x. refl) (λ x w f. f))
-    (λ _. record { way = wrong _ m (codes "delta" ++ in_aligned.text) delta_text }))
+    (λ _. record { way = wrong what.Aligner m 100 (codes "elta") in_aligned.text delta_token delta_text }))
+
+aligner_blanked : Blanked AlignerSpan
+aligner_blanked x z (inl k) = inl (record {
+  between = k.between;
+  first = word_over (codes "delta") (32 ∷ []) (refl, tt) x k.between k.first;
+  second = k.second;
+})
+aligner_blanked x z (inr k) = inr (record {
+  between = k.between;
+  first = word_over (codes "next_older") (32 ∷ []) (refl, tt) x k.between k.first;
+  second = k.second;
+})
+
+aligner_opening : Opening what.Aligner aligner_default.text
+aligner_opening = record {
+  byte = 32;
+  rest = codes "delta";
+  more = in_aligned.text;
+  is = refl;
+  token = blank_token what.Aligner (codes "delta") delta_token;
+}
 
 -- operations other than a filter
 abbrev pub DeedSpan : ℕ → List ℕ → List ℕ → Type 0
@@ -109,8 +139,9 @@ align_span d x z k = either k.second
 align_ends : (d : ℕ) (s : Rest) → Reads (DeedText d) s (pipes.align (skip s))
 unfolding pipes.align
 align_ends d s =
-    ends_as s _ (word_spaced_ends what.Operation what.Aligner 97 (codes "lign") refl refl s
-    (λ m. pipes.aligner_here (skip m)) aligner_default aligner_ends) (λ x w f. unended w (changed (align_span d) w f))
+    ends_as s _ (word_spaced_ends what.Operation what.Aligner 97 (codes "lign") refl refl align_word s
+    (λ m. pipes.aligner_here (skip m)) aligner_blanked aligner_default aligner_opening
+    aligner_ends) (λ x w f. unended w (changed (align_span d) w f))
     (λ w f. unended w (changed (align_span d) w f))
 
 group_span : (d : ℕ) (x z : List ℕ) → Then (WordSpan (codes "group_by"))
@@ -129,20 +160,111 @@ more_aggregates = both refl (sign_default 44 comma) aggregates_default
 in_group_by : Default (Text Anyhow true (Then InGrouping (Then (SignSpan 44) FoldingsSpan)))
 in_group_by = both refl names_default more_aggregates
 
-group_by_ends : (d : ℕ) (s : Rest) → Reads (DeedText d) s (pipes.group_by (skip s))
+abbrev GroupedSpan : List ℕ → List ℕ → Type 0
+GroupedSpan = Then (WordSpan (codes "group_by"))
+    (Then (SignSpan 91) (Then InGrouping (Then (SignSpan 44) FoldingsSpan)))
+
+abbrev pub GroupedText : List ℕ → Type 0
+GroupedText = Text Anyhow true GroupedSpan
+
+-- a `group_by` may go on with a comma
+abbrev pub DeedSeen : ℕ → DeedTree → List ℕ → Type 0
+DeedSeen d deed w = DeedText d w × (pipes.is_group_by deed ≡ true → GroupedText w)
+
+one_more_span : (x z : List ℕ) → Then GroupedSpan (Then (SignSpan 44) FoldingSpan) x z → GroupedSpan x z
+one_more_span x z k =
+    let word = k.first in
+    let bracket = word.second in
+    let names = bracket.second in
+    let comma = names.second in
+    record {
+      between = word.between;
+      first = word.first;
+      second = record {
+        between = bracket.between;
+        first = bracket.first;
+        second = record {
+          between = names.between;
+          first = names.first;
+          second = record {
+            between = comma.between;
+            first = comma.first;
+            second = one_more_folding comma.between z
+                (record { between = k.between; first = comma.second; second = k.second });
+          };
+        };
+      };
+    }
+
+pub grouped_on : (d : ℕ) (w bs : List ℕ) → AreBlanks bs → GroupedText w →
+    DeedText d (w ++ (bs ++ 44 ∷ folding_default.text))
+grouped_on d w bs e f =
+    let v = bs ++ 44 ∷ folding_default.text in
+    let more : Text Parted true (Then (SignSpan 44) FoldingSpan) v =
+    subst (Text Parted true (Then (SignSpan 44) FoldingSpan)) (append_assoc bs (44 ∷ []) folding_default.text)
+    (join (bs ++ 44 ∷ []) folding_default.text refl (sign_text 44 comma bs e) folding_default.is) in
+    unended (w ++ v) (changed (λ x z k. group_span d x z (one_more_span x z k)) (w ++ v) (join w v refl f more))
+
+group_by_ends : (d : ℕ) (s : Rest) → Ends behind_read (λ x. DeedSeen d x.0) (DeedText d) s (pipes.group_by (skip s))
 unfolding pipes.group_by
 group_by_ends d s = ends_as s _
     (then_ends s (exact what.Operation (codes "group_by") (skip s)) _ refl
-    (word_ends Anyhow what.Operation 103 (codes "roup_by") refl tt refl s)
+    (word_ends Anyhow what.Operation 103 (codes "roup_by") refl tt refl group_by_word s)
     (both refl (sign_default 91 open_bracket) in_group_by) (λ word.
-    then_ends word (sign 91 what.OpenBracket word) _ refl (sign_ends 91 what.OpenBracket open_bracket word)
-    in_group_by (λ bracket.
+    then_ends word (sign 91 what.OpenBracket word) _ refl
+    (sign_ends 91 what.OpenBracket open_bracket (λ t. t) word) in_group_by (λ bracket.
     then_ends bracket (folds.names bracket) _ refl (names_ends bracket) more_aggregates (λ columns.
-    then_ends columns.1 (sign 44 what.Comma columns.1) _ refl (sign_ends 44 what.Comma comma columns.1)
+    then_ends columns.1 (sign 44 what.Comma columns.1) _ refl (sign_ends 44 what.Comma comma (λ t. t) columns.1)
     aggregates_default (λ k.
     done_ends k (folds.aggregates k) (λ x. (tree.GroupBy columns.0 x.0, x.1)) (aggregates_ends k) (λ x. refl)
     (λ x w f. f))))))
-    (λ x w f. unended w (changed (group_span d) w f)) (λ w f. unended w (changed (group_span d) w f))
+    (λ x w f. (unended w (changed (group_span d) w f), λ t. f)) (λ w f. unended w (changed (group_span d) w f))
+
+-- operations that are no `group_by`
+abbrev NoGroup : DeedTree × Rest → Type 0
+NoGroup x = pipes.is_group_by x.0 ≡ false
+
+ok_map : {A : Type 0} (f : A → DeedTree) (o : Outcome A) → ((a : A) → pipes.is_group_by (f a) ≡ false) →
+    IfOk (map_outcome f o) NoGroup
+ok_map f (Ok x) h = h x.0
+ok_map f (Err e) h = tt
+
+other_deed : (d : ℕ) (s : Rest) (o : Outcome DeedTree) → Reads (DeedText d) s o → IfOk o NoGroup →
+    Ends behind_read (λ x. DeedSeen d x.0) (DeedText d) s o
+other_deed d s o h q =
+    ends_as s o (ends_known s o h q) (λ x w f. (f.0, λ t. absurd (false≢true (sym f.1 ∙ t)))) (λ w f. f)
+
+align_other : (t : Rest) → IfOk (pipes.align t) NoGroup
+unfolding pipes.align
+align_other t =
+    bind_sound (pipes.word_apart (codes "align") what.Aligner t) _ (λ m. Unit {0}) NoGroup (any_ok _)
+    (λ m _. if_sound (head (skip m) == 100) _ _ NoGroup
+    (λ _. ok_map (λ z. tree.Align (aligner.Delta z)) (pipes.aligned_for (codes "delta") (skip m)) (λ z. refl))
+    (λ _. if_sound (head (skip m) == 110) _ _ NoGroup
+    (λ _. ok_map (λ z. tree.Align (aligner.NextOlder z)) (pipes.aligned_for (codes "next_older") (skip m)) (λ z. refl))
+    (λ _. tt)))
+
+value_other : (d : ℕ) (t : Rest) → IfOk (pipes.value d t) NoGroup
+unfolding pipes.value
+value_other d t =
+    bind_sound (exact what.Operation (codes "value") t) _ (λ m. Unit {0}) NoGroup (any_ok _)
+    (λ word _. bind_sound (sign 91 what.OpenBracket word) _ (λ m. Unit {0}) NoGroup (any_ok _)
+    (λ bracket _. ok_map tree.Value (items d bracket) (λ all. refl)))
+
+top_other : (t : Rest) → IfOk (pipes.top t) NoGroup
+unfolding pipes.top
+top_other t =
+    bind_sound (pipes.word_apart (codes "top") what.Number t) _ (λ m. Unit {0}) NoGroup (any_ok _)
+    (λ m _. bind_sound (reading.positive 16777216 m) _ (λ n. Unit {0}) NoGroup (any_ok _)
+    (λ n _. bind_sound (sign 44 what.Comma n.1) _ (λ k. Unit {0}) NoGroup (any_ok _)
+    (λ k _. ok_map (λ column. tree.Top n.0 column) (reading.name k) (λ column. refl))))
+
+lasting_other : (deed : ℤ → DeedTree) → ((z : ℤ) → pipes.is_group_by (deed z) ≡ false) → (word : List ℕ) (t : Rest) →
+    IfOk (pipes.duration_deed deed word t) NoGroup
+unfolding pipes.duration_deed
+lasting_other deed h word t =
+    bind_sound (pipes.word_apart word what.Number t) _ (λ m. Unit {0}) NoGroup (any_ok _)
+    (λ m _. ok_map deed (reading.duration m) h)
 
 value_span : (d : ℕ) (x z : List ℕ) →
     Then (WordSpan (codes "value")) (Then (SignSpan 91) (Then (ItemsSpan d) (SignSpan 93))) x z → DeedSpan d x z
@@ -157,9 +279,9 @@ value_ends : (d : ℕ) (s : Rest) → Reads (DeedText d) s (pipes.value d (skip 
 unfolding pipes.value
 value_ends d s = ends_as s _
     (then_ends s (exact what.Operation (codes "value") (skip s)) _ refl
-    (word_ends Anyhow what.Operation 118 (codes "alue") refl tt refl s)
+    (word_ends Anyhow what.Operation 118 (codes "alue") refl tt refl value_word s)
     (both refl (sign_default 91 open_bracket) (items_default d)) (λ word.
-    then_ends word (sign 91 what.OpenBracket word) _ refl (sign_ends 91 what.OpenBracket open_bracket word)
+    then_ends word (sign 91 what.OpenBracket word) _ refl (sign_ends 91 what.OpenBracket open_bracket (λ t. t) word)
     (items_default d) (λ bracket.
     done_ends bracket (items d bracket) (λ x. (tree.Value x.0, x.1)) (items_ends d bracket) (λ x. refl) (λ x w f. f))))
     (λ x w f. unended w (changed (value_span d) w f)) (λ w f. unended w (changed (value_span d) w f))
@@ -180,22 +302,46 @@ some_column = default_as worded name_default
 in_top : Default (Text Parted false (Then (SignSpan 44) NameSpan))
 in_top = both refl (sign_default 44 comma) some_column
 
+positive_blanked : (most : ℕ) → Blanked (Token (positive_at most))
+positive_blanked most x z k at =
+    let n = k (at + 1) in (n.0, ap (positive_of most) (skip_over (32 ∷ []) x at (refl, tt)) ∙ n.1)
+
+top_blanked : Blanked (Then (Token (positive_at 16777216)) (Then (SignSpan 44) NameSpan))
+top_blanked x z k = record {
+  between = k.between;
+  first = positive_blanked 16777216 x k.between k.first;
+  second = k.second;
+}
+
+top_opening : Opening what.Number (32 ∷ 49 ∷ in_top.text)
+top_opening = record { byte = 32; rest = 49 ∷ []; more = in_top.text; is = refl; token = number_token }
+
+duration_blanked : Blanked (Token duration_at)
+duration_blanked x z k at =
+    let n = k (at + 1) in
+    (n.0, ap (λ t. option_and_then with_unit (positive_of longest t)) (skip_over (32 ∷ []) x at (refl, tt)) ∙ n.1)
+
+duration_opening : Opening what.Number duration_default.text
+duration_opening = record { byte = 32; rest = 49 ∷ []; more = 115 ∷ []; is = refl; token = number_token }
+
 top_ends : (d : ℕ) (s : Rest) → Reads (DeedText d) s (pipes.top (skip s))
 unfolding pipes.top
 top_ends d s = ends_as s _
-    (word_spaced_ends what.Operation what.Number 116 (codes "op") refl refl s _
-    (both refl (positive_default 16777216 refl) in_top) (λ m.
+    (word_spaced_ends what.Operation what.Number 116 (codes "op") refl refl top_word s _ top_blanked (both refl
+    (positive_default 16777216 refl) in_top) top_opening (λ m.
     then_ends m (reading.positive 16777216 m) _ refl (positive_ends 16777216 refl m) in_top (λ n.
-    then_ends n.1 (sign 44 what.Comma n.1) _ refl (sign_ends 44 what.Comma comma n.1) some_column (λ k.
+    then_ends n.1 (sign 44 what.Comma n.1) _ refl (sign_ends 44 what.Comma comma (λ t. t) n.1) some_column (λ k.
     done_ends k (reading.name k) (λ x. (tree.Top n.0 x.0, x.1)) (name_ends k) (λ x. refl) (λ x w f. f)))))
     (λ x w f. changed (top_span d) w f) (λ w f. changed (top_span d) w f)
 
 lasting_ends : (d c : ℕ) (cs : List ℕ) (deed : ℤ → DeedTree) → is_blank c ≡ false → all_nonzero (c ∷ cs) ≡ true →
-    ((x z : List ℕ) → Then (SpacedSpan (c ∷ cs)) (Token duration_at) x z → DeedSpan d x z) → (s : Rest) →
+    WordOf what.Operation (c ∷ cs) → ((x z : List ℕ) → Then (SpacedSpan (c ∷ cs)) (Token duration_at) x z →
+    DeedSpan d x z) → (s : Rest) →
     Reads (DeedText d) s (pipes.duration_deed deed (c ∷ cs) (skip s))
 unfolding pipes.duration_deed
-lasting_ends d c cs deed blank nonzero h s = ends_as s _
-    (word_spaced_ends what.Operation what.Number c cs blank nonzero s _ duration_default
+lasting_ends d c cs deed blank nonzero token h s = ends_as s _
+    (word_spaced_ends what.Operation what.Number c cs blank nonzero token s _ duration_blanked duration_default
+    duration_opening
     (λ m. done_ends m (reading.duration m) (λ x. (deed x.0, x.1))
     (ends_as m (reading.duration m) (duration_ends m) (λ x w f. f) (λ w f. f)) (λ x. refl) (λ x w f. f)))
     (λ x w f. unended w (changed h w f)) (λ w f. unended w (changed h w f))
@@ -208,6 +354,10 @@ within_span : (d : ℕ) (x z : List ℕ) → Then (SpacedSpan (codes "within")) 
 within_span d x z k at = let a = k.first.0 at in let b = k.second a.0 in
     ((b.0.0, tree.Within b.0.1), grammar.within a.1 k.first.1 b.1)
 
+every_token : IsToken what.Operation (codes "every")
+every_token =
+    bare_token what.Operation (codes "every") every_word.bare
+
 pub every_text : (d : ℕ) (bs : List ℕ) → AreBlanks bs → DeedText d (bs ++ (codes "every" ++ duration_default.text))
 every_text d bs e =
     subst (DeedText d) (append_assoc bs (codes "every") duration_default.text)
@@ -217,21 +367,27 @@ every_text d bs e =
     (spaced (codes "every") (bs ++ codes "every") (word_text Anyhow 101 (codes "very") refl tt bs e))
     duration_default.is)))
 
-deed_ends : (d : ℕ) (s : Rest) → Reads (DeedText d) s (pipes.deed_here d (skip s))
+deed_ends : (d : ℕ) (s : Rest) → Ends behind_read (λ x. DeedSeen d x.0) (DeedText d) s (pipes.deed_here d (skip s))
 unfolding pipes.deed_here
 deed_ends d s =
     let t = skip s in
     let b = head t in
-    if_ends s (b == 97) (pipes.align t) _ (λ _. align_ends d s)
+    let every = pipes.duration_deed tree.Every (codes "every") t in
+    let within = pipes.duration_deed tree.Within (codes "within") t in
+    if_ends s (b == 97) (pipes.align t) _ (λ _. other_deed d s (pipes.align t) (align_ends d s) (align_other t))
     (λ _. if_ends s (b == 103) (pipes.group_by t) _ (λ _. group_by_ends d s)
-    (λ _. if_ends s (b == 118) (pipes.value d t) _ (λ _. value_ends d s)
-    (λ _. if_ends s (b == 116) (pipes.top t) _ (λ _. top_ends d s)
-    (λ _. if_ends s (b == 101) (pipes.duration_deed tree.Every (codes "every") t) _
-    (λ _. lasting_ends d 101 (codes "very") tree.Every refl refl (every_span d) s)
-    (λ _. if_ends s (b == 119) (pipes.duration_deed tree.Within (codes "within") t)
-    (Err (unexpected what.Operation t)) (λ _. lasting_ends d 119 (codes "ithin") tree.Within refl refl
-    (within_span d) s)
-    (λ _. record { way = wrong _ s (codes "every" ++ duration_default.text) (every_text d) }))))))
+    (λ _. if_ends s (b == 118) (pipes.value d t) _
+    (λ _. other_deed d s (pipes.value d t) (value_ends d s) (value_other d t))
+    (λ _. if_ends s (b == 116) (pipes.top t) _ (λ _. other_deed d s (pipes.top t) (top_ends d s) (top_other t))
+    (λ _. if_ends s (b == 101) every _
+    (λ _. other_deed d s every (lasting_ends d 101 (codes "very") tree.Every refl refl every_word (every_span d) s)
+    (lasting_other tree.Every (λ z. refl) (codes "every") t))
+    (λ _. if_ends s (b == 119) within (Err (unexpected what.Operation t))
+    (λ _. other_deed d s within (lasting_ends d 119 (codes "ithin") tree.Within refl refl within_word (within_span d) s)
+    (lasting_other tree.Within (λ z. refl) (codes "within") t))
+    (λ _. record {
+      way = wrong what.Operation s 101 (codes "very") duration_default.text every_token (every_text d);
+    }))))))
 
 -- an operation, and the bar behind it where it was read
 abbrev pub OpSpan : ℕ → Bool → List ℕ → List ℕ → Type 0
@@ -256,17 +412,35 @@ filtered_span d true x z k =
       second = k.second.second;
     }
 
-pub operation_ends : (d : ℕ) (s : Rest) → Ends behind_read (λ x. OpText d x.0.1) (DeedText d) s (pipes.operation d s)
+abbrev pub OpSeen : ℕ → OpTree × Bool → List ℕ → Type 0
+OpSeen d read w = OpText d read.1 w × (pipes.is_group_by read.0.what ≡ true → GroupedText w)
+
+abbrev NoGroupRead : (OpTree × Bool) × Rest → Type 0
+NoGroupRead x = pipes.is_group_by x.0.0.what ≡ false
+
+filter_map : (at : ℕ) (o : Outcome (PredicateTree × Bool)) →
+    IfOk (map_outcome (λ x. (pipes.op_at at (tree.Filter x.0), x.1)) o) NoGroupRead
+filter_map at (Ok x) = refl
+filter_map at (Err e) = tt
+
+filter_other : (d : ℕ) (t : Rest) → IfOk (pipes.filter_here d t) NoGroupRead
+filter_other d t =
+    bind_sound (pipes.word_apart (codes "filter") what.Name t) _ (λ m. Unit {0}) NoGroupRead (any_ok _)
+    (λ m _. filter_map t.at (predicates.predicate d m))
+
+pub operation_ends : (d : ℕ) (s : Rest) → Ends behind_read (λ x. OpSeen d x.0) (DeedText d) s (pipes.operation d s)
 unfolding pipes.operation
 operation_ends d s =
     let t = skip s in
     if_ends s (head t == 102) (pipes.filter_here d t) _
     (λ _. ends_as s (pipes.filter_here d t)
+    (ends_known s (pipes.filter_here d t)
     (word_spaced_ends {left = behind_read} {k = λ y. y.0.1} {R = λ y. FilterSpan d y.0.1} what.Operation what.Name 102
-    (codes "ilter") refl refl s (λ m. map_outcome (λ x. (pipes.op_at t.at (tree.Filter x.0), x.1))
-    (predicates.predicate d m)) (predicate_default d) (λ m.
+    (codes "ilter") refl refl filter_word s (λ m. map_outcome (λ x. (pipes.op_at t.at (tree.Filter x.0), x.1))
+    (predicates.predicate d m)) (predicate_blanked d) (predicate_default d) (predicate_opening d) (λ m.
     done_ends m (predicates.predicate d m) (λ x. ((pipes.op_at t.at (tree.Filter x.0.0), x.0.1), x.1))
-    (predicate_ends d m) (λ x. refl) (λ x w f. f)))
-    (λ x w f. changed (filtered_span d x.0.1) w f) (λ w f. changed (filter_span d) w f))
+    (predicate_ends d m) (λ x. refl) (λ x w f. f))) (filter_other d t))
+    (λ x w f. (changed (filtered_span d x.0.1) w f.0, λ h. absurd (false≢true (sym f.1 ∙ h))))
+    (λ w f. changed (filter_span d) w f))
     (λ _. done_ends s (pipes.deed_here d t) (λ x. ((pipes.op_at t.at x.0, false), x.1)) (deed_ends d s) (λ x. refl)
     (λ x w f. f))

@@ -184,25 +184,33 @@ branches_how_steady at all =
     (steady_next here joined (λ n. steady_map next here (λ by. Branches at (branches all) by n)
     (λ m. pipes.how_here (skip m)) (steady_skip here pipes.how_here how_steady)))
 
+-- a fetch from behind its word
+abbrev pub behind_fetch : ℕ → Rest → Outcome SourceTree
+behind_fetch n word = do
+  space ← apart what.Name word
+  schema ← reading.name space
+  colons ← exact what.Colons (codes "::") (skip schema.1)
+  map_outcome (λ m. Fetch n schema.0 m) (reading.metric colons)
+
+pub fetch_steady_by : (n : ℕ) (word : List ℕ) → Steady here here (λ t. exact what.Fetch word t >>= behind_fetch n)
+fetch_steady_by n word =
+    let metric_of = λ (schema : Name) (k : Rest). map_outcome (λ m. Fetch n schema m) (reading.metric k) in
+    let colons = λ (schema : Name) (r : Rest). exact what.Colons (codes "::") (skip r) >>= metric_of schema in
+    let named = λ (space : Rest). reading.name space >>= λ schema. colons schema.0 schema.1 in
+    steady_behind_pass here here here (exact what.Fetch word) (behind_fetch n) (exact_steady what.Fetch word)
+    (steady_behind_pass here here here (apart what.Name) named (apart_steady what.Name)
+    (steady_from here named (steady_bind next next here reading.name (λ schema. colons schema.0 schema.1) name_next
+    (λ schema. steady_skip here (λ t. exact what.Colons (codes "::") t >>= metric_of schema)
+    (steady_behind_pass here here here (exact what.Colons (codes "::")) (metric_of schema)
+    (exact_steady what.Colons (codes "::"))
+    (steady_from here (metric_of schema)
+    (steady_map next here (λ m. Fetch n schema m) reading.metric metric_steady)))))))
+
 fetch_steady : Steady here here pipes.fetch
 unfolding pipes.fetch
 fetch_steady =
-    let metric_of = λ (n : ℕ) (schema : Name) (k : Rest). map_outcome (λ m. Fetch n schema m) (reading.metric k) in
-    let colons = λ (n : ℕ) (schema : Name) (r : Rest). exact what.Colons (codes "::") (skip r) >>= metric_of n schema in
-    let named = λ (n : ℕ) (space : Rest). reading.name space >>= λ schema. colons n schema.0 schema.1 in
-    let spaced = λ (n : ℕ) (word : Rest). apart what.Name word >>= named n in
-    let read = λ (n : ℕ) (t : Rest). exact what.Fetch (codes "fetch") t >>= spaced n in
-    steady_here here read
-    (λ n. steady_behind_pass here here here (exact what.Fetch (codes "fetch")) (spaced n)
-    (exact_steady what.Fetch (codes "fetch"))
-    (steady_behind_pass here here here (apart what.Name) (named n) (apart_steady what.Name)
-    (steady_from here (named n) (steady_bind next next here reading.name (λ schema. colons n schema.0 schema.1)
-    name_next
-    (λ schema. steady_skip here (λ t. exact what.Colons (codes "::") t >>= metric_of n schema)
-    (steady_behind_pass here here here (exact what.Colons (codes "::")) (metric_of n schema)
-    (exact_steady what.Colons (codes "::"))
-    (steady_from here (metric_of n schema)
-    (steady_map next here (λ m. Fetch n schema m) reading.metric metric_steady))))))))
+    steady_here here (λ n t. exact what.Fetch (codes "fetch") t >>= behind_fetch n)
+    (λ n. fetch_steady_by n (codes "fetch"))
 
 pub branch_behind_steady : (so_far : List PipeTree) (pipe : PipeTree) →
     SteadyTurn next here (λ r. pipes.branch_behind so_far (pipe, r))

@@ -1,5 +1,5 @@
 -- What was read of a predicate before its fault can be completed.
-use Rattle.std.proofs.Common.{◌≡◌, ℕ, zero, suc, Bool, true, false, ◌==◌, List, [], ◌∷◌, ◌++◌, codes, refl, sym, ap, ◌∙◌, subst, if◌then◌else◌, append_assoc, Err}
+use Rattle.std.proofs.Common.{◌≡◌, ℕ, zero, suc, ◌+◌, Bool, true, false, ◌==◌, List, [], ◌∷◌, ◌++◌, codes, refl, sym, ap, ◌∙◌, subst, if◌then◌else◌, append_assoc, Some, None, Err}
 use Rattle.mql_ast.specs.declared.names.Name.{Name}
 use Rattle.mql_ast.specs.declared.predicates.Comparison.{Comparison}
 use Rattle.mql_ast.specs.declared.predicates.Comparison.TheVariants as comparison
@@ -7,12 +7,12 @@ use Rattle.mql_ast.specs.Trees as tree
 use Rattle.mql_ast.specs.Trees.{PredicateTree}
 use Rattle.mql_ast.specs.Bytes.{is_letter}
 use Rattle.mql_ast.specs.Rests.{Rest, head, behind, skip}
-use Rattle.mql_ast.specs.Tokens.{word_here}
+use Rattle.mql_ast.specs.Tokens.{sign_at, name_at, word_here}
 use Rattle.mql_ast.specs.Grammar.{literal, Disjunction, one_conjunction, or, Conjunction, one_negation, and, Negation, not, in_parentheses, compare, like}
 use Rattle.mql_parse.specs.declared.faults.ParseKind.TheVariants.{TooDeep}
 use Rattle.mql_parse.specs.declared.faults.What.{What}
 use Rattle.mql_parse.specs.declared.faults.What.TheVariants as what
-use Rattle.mql_parse.specs.Outcomes.{Outcome, unexpected, sign}
+use Rattle.mql_parse.specs.Outcomes.{Outcome, unexpected, sign, map_outcome}
 use Rattle.mql_parse.specs.Repeats.{Done, Stuck, goes_on}
 use Rattle.mql_parse.specs.TokenReading as reading
 use Rattle.mql_parse.specs.PredicateReading as predicates
@@ -20,9 +20,14 @@ use Rattle.mql_parse.specs.PredicateReading.{Compared, WithValue, WithPattern, O
 use Rattle.mql_parse.proofs.PredicateSound.{and_turn_behind, or_turn_behind}
 use Rattle.mql_parse.proofs.PipeSound.{filter_turn_behind}
 use Rattle.mql_parse.proofs.Endings.{Worded, Parted, opens_on, Text, Then, join, changed, worded, unended, Default, default_as, Ends, behind_read, Reads, stay, as_it_is, cut_then, bind_ends, ends_as, done_ends, if_ends, TurnEnds, if_turns, cut_turns, goes_on_ends, loop_ends}
-use Rattle.mql_parse.proofs.TokenEndings.{at_place, AreBlanks, refused, wrong, wrong_here, IsSign, SignSpan, sign_text, sign_cut, sign_ends, sign_default, WordSpan, word_text, NameSpan, some_name, name_cut, name_after, name_default, open_parenthesis, close_parenthesis, exclamation, quote, bar}
+use Rattle.mql_parse.proofs.TokenFronts.{WordOf, and_word, or_word}
+use Rattle.mql_parse.proofs.TextFronts.{open_text}
+use Rattle.mql_parse.proofs.TokenEndings.{at_place, AreBlanks, skip_over, bare_token, name_token, begun_here, refused, wrong, IsSign, SignSpan, sign_text, sign_cut, sign_ends, sign_default, WordSpan, word_text, NameSpan, some_name, name_cut, name_after, name_default, open_parenthesis, close_parenthesis, exclamation, quote, bar}
+use Rattle.mql_parse.proofs.SpacedEndings.{Blanked, Opening}
+use Rattle.mql_parse.proofs.MetricEndings.{if_bind}
+use Rattle.mql_parse.proofs.TokenHalts.{halts_end}
 use Rattle.mql_parse.proofs.TextEndings.{pattern_rest_ends, no_pattern}
-use Rattle.mql_parse.proofs.ValueEndings.{ComparedSpan, ComparedText, compared_text, equals, two_equals, FirstByte, first_is, byte_is, first_joined, AnyCompared, compared_ends, ValueText, value_ends, no_equals, value_default, PatternText, pattern_text}
+use Rattle.mql_parse.proofs.ValueEndings.{PatternText, pattern_token, ComparedSpan, ComparedText, compared_text, equals, two_equals, FirstByte, first_is, byte_is, first_joined, AnyCompared, compared_ends, ValueText, value_ends, no_equals, value_default, PatternText, pattern_text}
 
 -- conditions
 abbrev pub NegationSpan : ℕ → List ℕ → List ℕ → Type 0
@@ -75,16 +80,21 @@ how_ends d n w f (WithValue how, k) v g =
     (ends_as k (predicates.value k) (value_ends k) (λ x u h. compare_text d how w v u f g h)
     (λ u h. compare_text d how w v u f g h)) (λ x. refl) (λ x u h. h)
 how_ends d n w f (WithPattern, k) v g =
-    bind_ends k (sign 34 what.Text k) _ (sign_ends 34 what.Text quote k)
-    (λ y p. record {
-      text = 34 ∷ [];
-      is = like_text d w v (y ++ 34 ∷ []) f g
-          (pattern_text y (34 ∷ []) p no_pattern);
-    })
-    (λ q y p. done_ends q (reading.pattern q) (λ x. (tree.Like n (predicates.pattern_of k x.0), x.1))
-    (ends_as q (reading.pattern q) (pattern_rest_ends q)
-    (λ x u h. like_text d w v (y ++ u) f g (pattern_text y u p h))
-    (λ u h. like_text d w v (y ++ u) f g (pattern_text y u p h))) (λ x. refl) (λ x u h. h))
+    let t = skip k in
+    let m = behind t in
+    let liked : (u : List ℕ) → PatternText u → NegationText d (w ++ (v ++ u)) = λ u p. like_text d w v u f g p in
+    if_bind k (head t == 34) m (unexpected what.Text t)
+    (λ q. map_outcome (λ ps. tree.Like n (predicates.pattern_of k ps)) (reading.pattern q))
+    (λ h. let c = first_is 34 refl k h in
+    done_ends k (reading.pattern m) (λ x. (tree.Like n (predicates.pattern_of k x.0), x.1))
+    (halts_end {R = λ u. NegationText d (w ++ (v ++ u))} k m c.front c.is.0 (34 ∷ []) (reading.pattern m) c.bytes
+    c.place c.is.1.1 (pattern_rest_ends m)
+    (λ u p. liked (c.front ++ u) (pattern_text c.front u
+    (subst (Text Parted true (SignSpan 34)) (sym c.is.1.1) (sign_text 34 quote c.is.0 c.is.1.0)) p))
+    open_text pattern_token) (λ x. refl) (λ x u p. p))
+    (λ _. wrong what.Text k 34 (34 ∷ []) [] (pattern_token (34 ∷ []) no_pattern)
+    (λ bs e. liked (bs ++ 34 ∷ 34 ∷ []) (subst PatternText (append_assoc bs (34 ∷ []) (34 ∷ []))
+    (pattern_text (bs ++ 34 ∷ []) (34 ∷ []) (sign_text 34 quote bs e) no_pattern))))
 
 condition_ends : (d : ℕ) (s : Rest) → is_letter (head (skip s)) ≡ true →
     Reads (NegationText d) s (predicates.condition (skip s))
@@ -97,7 +107,7 @@ condition_ends d s l =
     (λ x v h. how_ends d word.0 w g x v h))
 
 -- ` a== 0`
-condition_rest : List ℕ
+pub condition_rest : List ℕ
 condition_rest = 61 ∷ 61 ∷ value_default.text
 
 condition_after : (d : ℕ) (bs : List ℕ) → AreBlanks bs → NegationText d (bs ++ (name_default.text ++ condition_rest))
@@ -154,7 +164,7 @@ module _ (d : ℕ) (opposite group : Rest → Rest → Outcome PredicateTree)
       if_ends s (b == 33) (opposite t (behind t)) _ (opposed s)
       (λ _. if_ends s (b == 40) (group t (behind t)) _ (grouped s)
       (λ _. if_ends s (is_letter b) (predicates.condition t) (Err (unexpected what.Name t)) (condition_ends d s)
-      (λ _. record { way = wrong _ s (name_default.text ++ condition_rest) (condition_after d) })))
+      (λ _. record { way = wrong what.Name s 32 (97 ∷ []) condition_rest name_token (condition_after d) })))
 
 -- a further part behind a sign that is written twice
 doubled_text : (b : ℕ) → IsSign b → (v : List ℕ) → FirstByte b v → Text Parted true (WordSpan (b ∷ b ∷ []))
@@ -172,24 +182,27 @@ module _ (b : ℕ) (h : IsSign b) (Part Whole' : List ℕ → Type 0) (part : Re
       subst (λ t. Whole' (w ++ t)) (ap (λ t. (v ++ t) ++ y) (sym e) ∙ append_assoc v u y)
       (joined w (v ++ b ∷ []) y f (doubled_text b h v c) g)
 
-  double_turn_ends : (what : What) (join : PredicateTree → PredicateTree → PredicateTree) (l : PredicateTree)
-      (s : Rest) (w : List ℕ) → Whole' w →
-      TurnEnds (λ a v. Whole' (w ++ v)) (λ a v. Whole' (w ++ v)) (λ v. Whole' (w ++ v)) s
-      (predicates.double_turn b what join part l s)
-  double_turn_ends what join l s w f =
+  double_turn_ends : (w : What) → WordOf w (b ∷ b ∷ []) →
+      (join : PredicateTree → PredicateTree → PredicateTree) (l : PredicateTree) (s : Rest) (x : List ℕ) → Whole' x →
+      TurnEnds (λ a v. Whole' (x ++ v)) (λ a v. Whole' (x ++ v)) (λ v. Whole' (x ++ v)) s
+      (predicates.double_turn b w join part l s)
+  double_turn_ends w word join l s x f =
       let t = skip s in
       let m = behind t in
       let k = behind m in
-      if_turns s (head t == b) (if head m == b then goes_on (join l) (part k) else Stuck (unexpected what m)) (Done l s)
-      (λ e. cut_turns s m _ (first_is b h.1.1.1 s e) (λ v c.
-      if_turns m (head m == b) (goes_on (join l) (part k)) (Stuck (unexpected what m))
-      (λ g. cut_turns m k _ (byte_is b h.1.1.1 m g)
-      (λ u i. goes_on_ends k (join l) (part k) (parted k) (λ y p. doubled w v u y f c i p)
-      (λ x y p. doubled w v u y f c i p)))
+      let on = goes_on (join l) (part k) in
+      if_turns s (head t == b) (if head m == b then on else Stuck (unexpected w m)) (Done l s)
+      (λ e. let c = first_is b h.1.1.1 s e in
+      if_turns s (head m == b) on (Stuck (unexpected w m))
+      (λ g. cut_turns s m on c (λ v d. cut_turns m k on (byte_is b h.1.1.1 m g)
+      (λ u i. goes_on_ends k (join l) (part k) (parted k) (λ y p. doubled x v u y f d i p)
+      (λ z y p. doubled x v u y f d i p))))
       (λ g. record {
-        way = wrong_here _ m (b ∷ default.text) (doubled w v (b ∷ []) default.text f c refl default.is);
-      })))
-      (λ e. record { way = stay Whole' s w f })
+        way = begun_here {L = λ v. Whole' (x ++ v)} w s m c.front c.is.0 (b ∷ []) b [] default.text c.bytes c.place
+            c.is.1.1 word.fronts.1.0 (bare_token w (b ∷ b ∷ []) word.bare)
+            (doubled x c.front (b ∷ []) default.text f c.is refl default.is);
+      }))
+      (λ e. record { way = stay Whole' s x f })
 
 ampersand : IsSign 38
 ampersand = (refl, (refl, (refl, refl)))
@@ -202,7 +215,7 @@ module _ (d : ℕ) (negated : (s : Rest) → Reads (NegationText d) s (predicate
   unfolding predicates.and_turn
   and_turn_ends =
       double_turn_ends 38 ampersand (NegationText d) (ConjunctionText d) (predicates.negation d) negated
-      (negation_default d) (and_text d) what.And tree.And
+      (negation_default d) (and_text d) what.And and_word tree.And
 
   conjunction_ends_with : (s : Rest) → Reads (ConjunctionText d) s (predicates.conjunction d s)
   unfolding predicates.conjunction_with
@@ -222,7 +235,7 @@ module _ (d : ℕ) (negated : (s : Rest) → Reads (NegationText d) s (predicate
   unfolding predicates.or_turn
   or_turn_ends =
       double_turn_ends 124 bar (ConjunctionText d) (DisjunctionText d) (predicates.conjunction d)
-      conjunction_ends_with conjunction_default (or_text d) what.Or tree.Or
+      conjunction_ends_with conjunction_default (or_text d) what.Or or_word tree.Or
 
   disjunction_ends_with : (s : Rest) → Reads (DisjunctionText d) s (predicates.disjunction d s)
   unfolding predicates.disjunction_with
@@ -242,7 +255,7 @@ deeper_ends : (d : ℕ) (way : predicates.Deeper) (s : Rest) → (head (skip s) 
     Reads (NegationText d) s (predicates.deeper d way (skip s) (behind (skip s)))
 unfolding predicates.deeper
 deeper_ends zero way s h =
-    record { way = refused s (name_default.text ++ condition_rest) TooDeep tt (condition_after 0) }
+    record { way = refused s (name_default.text ++ condition_rest) TooDeep tt (λ front. tt) (condition_after 0) }
 deeper_ends (suc d) way s h =
     by_way way h (negation_ends_with d (predicates.deeper d Opposite) (predicates.deeper d Group)
     (deeper_ends d Opposite) (deeper_ends d Group))
@@ -262,7 +275,7 @@ deeper_ends (suc d) way s h =
         { text = e.text; is = in_parentheses_text d w v e.text f g e.is })
         (λ x v g. done_ends x.1 (sign 41 what.CloseParenthesis x.1) (λ r. (x.0, r))
         (ends_as x.1 (sign 41 what.CloseParenthesis x.1)
-        (sign_ends 41 what.CloseParenthesis close_parenthesis x.1) (λ r u k. in_parentheses_text d w v u f g k)
+        (sign_ends 41 what.CloseParenthesis close_parenthesis (λ t. t) x.1) (λ r u k. in_parentheses_text d w v u f g k)
         (λ u k. in_parentheses_text d w v u f g k)) (λ r. refl) (λ r u k. k)))
 
 negation_ends : (d : ℕ) (s : Rest) → Reads (NegationText d) s (predicates.negation d s)
@@ -315,14 +328,46 @@ predicate_ends d s =
     (λ a v. DisjunctionText d v) (λ a v. FilterText d a.1 v) (DisjunctionText d) (filter_turn_ends d)
     (first.0, false) first.1 w (one_conjunction_text d w f))
 
--- ` a== 0`
-pub predicate_default : (d : ℕ) → Default (Text Parted false (DisjunctionSpan d))
+pub a_predicate : (d : ℕ) → Text Parted false (DisjunctionSpan d) (name_default.text ++ condition_rest)
 unfolding condition_rest
-predicate_default d = record {
-  text = name_default.text ++ condition_rest;
-  is = record {
-    opens = opens_on Parted name_default.text (61 ∷ 61 ∷ value_default.text) name_default.is.opens;
-    fills = (one_conjunction_text d (name_default.text ++ (61 ∷ 61 ∷ value_default.text))
-        (one_negation_text d (name_default.text ++ (61 ∷ 61 ∷ value_default.text)) (condition_after d [] tt))).fills;
-  };
+a_predicate d = record {
+  opens = opens_on Parted name_default.text (61 ∷ 61 ∷ value_default.text) name_default.is.opens;
+  fills = (one_conjunction_text d (name_default.text ++ (61 ∷ 61 ∷ value_default.text))
+      (one_negation_text d (name_default.text ++ (61 ∷ 61 ∷ value_default.text)) (condition_after d [] tt))).fills;
 }
+
+-- ` a== 0`
+abbrev pub predicate_default : (d : ℕ) → Default (Text Parted false (DisjunctionSpan d))
+predicate_default d = record { text = name_default.text ++ condition_rest; is = a_predicate d }
+
+pub predicate_opening : (d : ℕ) → Opening what.Name (predicate_default d).text
+predicate_opening d = record { byte = 32; rest = 97 ∷ []; more = condition_rest; is = refl; token = name_token }
+
+-- a blank may stand in front, since each part begins behind blanks
+sign_same : (b : ℕ) (s s' m : Rest) → skip s ≡ skip s' → sign_at b s ≡ Some m → sign_at b s' ≡ Some m
+sign_same b s s' m e f = ap (λ t. if head t == b then Some (behind t) else None) (sym e) ∙ f
+
+name_same : (s s' : Rest) (x : Name × Rest) → skip s ≡ skip s' → name_at s ≡ Some x → name_at s' ≡ Some x
+name_same s s' x e f = ap (λ t. if is_letter (head t) then Some (word_here t) else None) (sym e) ∙ f
+
+negation_same : {d : ℕ} {s r : Rest} {p : PredicateTree} (s' : Rest) → skip s ≡ skip s' → Negation d s r p →
+    Negation d s' r p
+negation_same {s = s} s' e (not f n) = not (sign_same 33 s s' _ e f) n
+negation_same {s = s} s' e (in_parentheses f n g) = in_parentheses (sign_same 40 s s' _ e f) n g
+negation_same {s = s} s' e (compare f c v) = compare (name_same s s' _ e f) c v
+negation_same {s = s} s' e (like f c p) = like (name_same s s' _ e f) c p
+
+conjunction_same : {d : ℕ} {s r : Rest} {p : PredicateTree} (s' : Rest) → skip s ≡ skip s' → Conjunction d s r p →
+    Conjunction d s' r p
+conjunction_same s' e (one_negation n) = one_negation (negation_same s' e n)
+conjunction_same s' e (and l f n) = and (conjunction_same s' e l) f n
+
+disjunction_same : {d : ℕ} {s r : Rest} {p : PredicateTree} (s' : Rest) → skip s ≡ skip s' → Disjunction d s r p →
+    Disjunction d s' r p
+disjunction_same s' e (one_conjunction n) = one_conjunction (conjunction_same s' e n)
+disjunction_same s' e (or l f n) = or (disjunction_same s' e l) f n
+
+pub predicate_blanked : (d : ℕ) → Blanked (DisjunctionSpan d)
+predicate_blanked d x z k at =
+    let n = k (at + 1) in
+    (n.0, disjunction_same (at_place at (32 ∷ x)) (sym (skip_over (32 ∷ []) x at (refl, tt))) n.1)

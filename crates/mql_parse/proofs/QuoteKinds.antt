@@ -90,7 +90,7 @@ unfolding reading.text
 text_fits s = text_from_fits Whole [] s.at s.bytes IsUtf8-nil
 
 -- a pattern goes on with each byte as a text does
-abbrev SameStep : PatternStep → TextStep → Type 0
+abbrev pub SameStep : PatternStep → TextStep → Type 0
 SameStep PatternEnd step = open_behind step ≡ None
 SameStep PatternCut step = open_behind step ≡ Some Whole
 SameStep (PatternPass u mark) step = open_behind step ≡ Some u
@@ -171,7 +171,7 @@ no_escape : (b : ℕ) → (b == 34) ≡ false → (b == 92) ≡ false → could_
 no_escape b h g = ap could_stand
     (ap (λ t. if t || b == 92 then TextKeep Whole else TextBad) h ∙ ap (λ t. if t then TextKeep Whole else TextBad) g)
 
-same_step : (u : Open) (mark : Sign) (b : ℕ) (t : List ℕ) → LeavesSign u mark t → SameStep (pattern_step u mark b)
+pub same_step : (u : Open) (mark : Sign) (b : ℕ) (t : List ℕ) → LeavesSign u mark t → SameStep (pattern_step u mark b)
     (text_step u b)
 same_step Whole Plain b t k =
     either_step (b == 34) _ _ _ (at_byte 34 b PatternEnd Whole refl)

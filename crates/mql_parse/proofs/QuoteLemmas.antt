@@ -40,3 +40,8 @@ pub pattern_on : (unfinished : Open) (mark : Sign) (pieces : List (List ℕ)) (c
     (pattern_step unfinished mark (head s)) (head s) s (behind s) pieces content
     (λ next sign all more. pattern_from next sign all more (behind s).at (behind s).bytes)
 pattern_on unfinished mark pieces content s h = pattern_goes_on unfinished mark pieces content s.at s.bytes h
+
+-- what a byte more of a text and of a pattern is, and that less is left behind it
+pub ruleset texts = (text_on, end_shorter)
+
+pub ruleset patterns = (pattern_on, end_shorter)

@@ -36,3 +36,6 @@ tested_shorter test fails s h = behind_shorter s (λ e. absurd (false≢true (sy
 
 pub blank_shorter : (s : Rest) → is_blank (head s) ≡ true → length (behind s).bytes < length s.bytes
 blank_shorter = tested_shorter is_blank refl
+
+-- what is behind blanks, and that less is left behind one
+pub ruleset skips = (skip_on, skip_off, blank_shorter)

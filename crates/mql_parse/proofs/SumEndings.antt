@@ -1,11 +1,15 @@
 -- What was read of a sum before its fault can be completed.
-use Rattle.std.proofs.Common.{◌≡◌, ℕ, zero, suc, true, false, ◌==◌, ◌||◌, List, ◌++◌, codes, refl, if◌then◌else◌, Ok, Err}
+use Rattle.std.proofs.Common.{◌≡◌, ℕ, zero, suc, Bool, true, false, ◌==◌, ◌||◌, List, [], ◌∷◌, ◌++◌, codes, refl, sym, ap, ◌∙◌, subst, if◌then◌else◌, append_assoc, Result, Ok, Err}
+use Rattle.std.proofs.lemmas.Bool.{false≢true}
+use Rattle.std.specs.Result.{IfOk}
+use Rattle.mon_value.specs.Answers.{◌>>=◌}
 use Rattle.mql_ast.specs.Trees as tree
 use Rattle.mql_ast.specs.Trees.{SumTree}
 use Rattle.mql_ast.specs.Bytes.{is_letter, is_digit}
 use Rattle.mql_ast.specs.Rests.{Rest, head, behind, skip}
 use Rattle.mql_ast.specs.Tokens.{signed_at, positive_at, word_here}
 use Rattle.mql_ast.specs.Grammar.{Sum, one_term, plus, minus, Term, column, number, percentile, sum_in_parentheses}
+use Rattle.mql_parse.specs.declared.faults.ParseFault.{ParseFault}
 use Rattle.mql_parse.specs.declared.faults.ParseKind.TheVariants.{TooDeep}
 use Rattle.mql_parse.specs.declared.faults.What.TheVariants as what
 use Rattle.mql_parse.specs.Outcomes.{Outcome, unexpected, sign}
@@ -13,9 +17,11 @@ use Rattle.mql_parse.specs.Repeats.{Done, goes_on}
 use Rattle.mql_parse.specs.TokenReading as reading
 use Rattle.mql_parse.specs.SumReading as sums
 use Rattle.mql_parse.specs.SumReading.{SumSeen, seen_sum, is_percentile}
+use Rattle.mql_parse.proofs.Sound.{bind_sound}
+use Rattle.mql_parse.proofs.MetricEndings.{if_bind}
 use Rattle.mql_parse.proofs.SumSound.{same_word, term_turn_behind}
-use Rattle.mql_parse.proofs.Endings.{Anyhow, Worded, Parted, Text, Then, join, changed, worded, anyhow, unended, Default, both, default_as, Reads, stay, as_it_is, cut_then, bind_ends, ends_as, done_ends, then_ends, if_ends, TurnEnds, if_turns, cut_turns, goes_on_ends, loop_ends}
-use Rattle.mql_parse.proofs.TokenEndings.{at_place, AreBlanks, refused, wrong, SignSpan, sign_cut, sign_ends, sign_default, Token, NamedSpan, NameSpan, some_name, name_cut, name_ends, name_after, name_default, plus_sign, minus_sign, open_parenthesis, close_parenthesis, comma}
+use Rattle.mql_parse.proofs.Endings.{Anyhow, Worded, Parted, Text, Then, join, changed, worded, anyhow, unended, Default, both, default_as, Finish, Ends, behind_read, ends_known, Reads, stay, as_it_is, cut_as, cut_then, bind_ends, ends_as, done_ends, then_ends, if_ends, TurnEnds, if_turns, cut_turns, goes_on_ends, loop_ends}
+use Rattle.mql_parse.proofs.TokenEndings.{at_place, AreBlanks, bare_token, sign_token, refused, wrong, name_token, SignSpan, sign_text, sign_cut, sign_ends, sign_default, Token, NamedSpan, NameSpan, some_name, name_cut, name_ends, name_after, name_default, plus_sign, minus_sign, open_parenthesis, close_parenthesis, comma}
 use Rattle.mql_parse.proofs.NumberEndings.{positive_ends, positive_default, signed_ends}
 
 abbrev pub SumSpan : ℕ → List ℕ → List ℕ → Type 0
@@ -87,40 +93,86 @@ minus_text d w v u f g k =
 rest_of_percentile : Default (Text Worded true (Then (Token (positive_at 100)) (SignSpan 41)))
 rest_of_percentile = default_as worded (both refl (positive_default 100 refl) (sign_default 41 close_parenthesis))
 
+-- ` a, 1)`
+call_default : Default (Text Worded true InPercentile)
+call_default = default_as worded (both refl name_default (both refl (sign_default 44 comma) rest_of_percentile))
+
+-- where the last word is a bare `percentile`, its parenthesis may come
+abbrev Called : (List ℕ → Type 0) → Bool → List ℕ → Type 0
+Called T bare w = bare ≡ true → (bs : List ℕ) → AreBlanks bs → T (w ++ (bs ++ 40 ∷ call_default.text))
+
+abbrev SeenText : (List ℕ → Type 0) → SumSeen → List ℕ → Type 0
+SeenText T seen w = T w × Called T seen.bare w
+
+not_bare : (T : List ℕ → Type 0) (bare : Bool) (w : List ℕ) → bare ≡ false → Called T bare w
+not_bare T bare w h t = absurd (false≢true (sym h ∙ t))
+
+called_text : (d : ℕ) (text w : List ℕ) → text ≡ codes "percentile" → Text Worded false (NamedSpan text) w →
+    Called (TermText d) true w
+called_text d text w h f = λ _ bs e.
+    subst (TermText d) (ap (λ t. w ++ t) (append_assoc bs (40 ∷ []) call_default.text))
+    (percentile_text d text w (bs ++ 40 ∷ []) call_default.text h f
+    (sign_text 40 open_parenthesis bs e) call_default.is)
+
 percentile_ends : (at : ℕ) (m : Rest) → Reads (Text Worded true InPercentile) m (sums.percentile at m)
 unfolding sums.percentile
 percentile_ends at m =
     then_ends m (reading.name m) _ refl (name_ends m) (both refl (sign_default 44 comma) rest_of_percentile) (λ column.
-    then_ends column.1 (sign 44 what.Comma column.1) _ refl (sign_ends 44 what.Comma comma column.1)
+    then_ends column.1 (sign 44 what.Comma column.1) _ refl (sign_ends 44 what.Comma comma (λ t. t) column.1)
     rest_of_percentile (λ k.
     then_ends k (reading.positive 100 k) _ refl (positive_ends 100 refl k) (sign_default 41 close_parenthesis) (λ p.
     done_ends p.1 (sign 41 what.CloseParenthesis p.1) (λ r. (seen_sum (tree.Percentile at column.0 p.0) false, r))
-    (sign_ends 41 what.CloseParenthesis close_parenthesis p.1) (λ r. refl) (λ r w f. f))))
+    (sign_ends 41 what.CloseParenthesis close_parenthesis (λ t. t) p.1) (λ r. refl) (λ r w f. f))))
+
+pub any_ok : {A : Type 0} (o : Result A ParseFault) → IfOk o (λ x. Unit {0})
+any_ok (Ok x) = tt
+any_ok (Err f) = tt
+
+abbrev NotBare : SumSeen × Rest → Type 0
+NotBare x = x.0.bare ≡ false
+
+percentile_bare : (at : ℕ) (m : Rest) → IfOk (sums.percentile at m) NotBare
+unfolding sums.percentile
+percentile_bare at m =
+    bind_sound (reading.name m) _ (λ x. Unit {0}) NotBare (any_ok (reading.name m)) (λ column _.
+    bind_sound (sign 44 what.Comma column.1) _ (λ x. Unit {0}) NotBare (any_ok (sign 44 what.Comma column.1)) (λ k _.
+    bind_sound (reading.positive 100 k) _ (λ x. Unit {0}) NotBare (any_ok (reading.positive 100 k)) (λ p _.
+    bind_sound (sign 41 what.CloseParenthesis p.1) _ (λ x. Unit {0}) NotBare
+    (any_ok (sign 41 what.CloseParenthesis p.1)) (λ r _. refl))))
+
+-- what is read of a term or a sum
+abbrev ReadsSeen : (List ℕ → Type 0) → Rest → Outcome SumSeen → Type 0
+ReadsSeen T s o = Ends {A = SumSeen × Rest} behind_read (λ x. SeenText T x.0) T s o
 
 word_ends : (d : ℕ) (s : Rest) → is_letter (head (skip s)) ≡ true →
-    Reads (TermText d) s (sums.word_read (word_here (skip s)))
+    ReadsSeen (TermText d) s (sums.word_read (word_here (skip s)))
 word_ends d s l =
     let word = word_here (skip s) in
     let m = behind (skip word.1) in
     let bare = seen_sum (tree.Column word.0) true in
+    let plain = seen_sum (tree.Column word.0) false in
+    let T = TermText d in
     cut_then s word.1 (sums.word_read word) (name_cut s l) (λ w f.
     let whole = column_text d w (changed (some_name word.0.text) w f) in
     if_ends word.1 (is_percentile word.0.text) (if head (skip word.1) == 40 then sums.percentile word.0.at m else Ok
-    (bare, word.1)) (Ok (seen_sum (tree.Column word.0) false, word.1))
+    (bare, word.1)) (Ok (plain, word.1))
     (λ p. if_ends word.1 (head (skip word.1) == 40) (sums.percentile word.0.at m) (Ok (bare, word.1))
     (λ h. cut_then word.1 m (sums.percentile word.0.at m) (sign_cut 40 open_parenthesis word.1 h) (λ v g.
-    ends_as m (sums.percentile word.0.at m) (percentile_ends word.0.at m)
-    (λ x u k. percentile_text d word.0.text w v u (same_word _ _ p) f g k)
+    ends_as m (sums.percentile word.0.at m)
+    (ends_known m (sums.percentile word.0.at m) (percentile_ends word.0.at m) (percentile_bare word.0.at m))
+    (λ x u k. (percentile_text d word.0.text w v u (same_word _ _ p) f g k.0, not_bare T x.0.bare (w ++ (v ++ u)) k.1))
     (λ u k. percentile_text d word.0.text w v u (same_word _ _ p) f g k)))
-    (λ h. record { way = stay (TermText d) word.1 w whole }))
-    (λ p. record { way = stay (TermText d) word.1 w whole }))
+    (λ h. record {
+      way = stay (SeenText T bare) word.1 w (whole, called_text d word.0.text w (same_word _ _ p) f);
+    }))
+    (λ p. record { way = stay (SeenText T plain) word.1 w (whole, not_bare T false w refl) }))
 
 column_after : (d : ℕ) (bs : List ℕ) → AreBlanks bs → TermText d (bs ++ name_default.text)
 column_after d bs e = column_text d (bs ++ name_default.text) (name_after bs e)
 
 module _ (d : ℕ) (group : Rest → Rest → Outcome SumSeen) (grouped : (s : Rest) → (head (skip s) == 40) ≡ true →
-    Reads (TermText d) s (group (skip s) (behind (skip s)))) where
-  term_ends_with : (s : Rest) → Reads (TermText d) s (sums.term_with group s)
+    ReadsSeen (TermText d) s (group (skip s) (behind (skip s)))) where
+  term_ends_with : (s : Rest) → ReadsSeen (TermText d) s (sums.term_with group s)
   unfolding sums.term_with
   term_ends_with s =
       let t = skip s in
@@ -129,47 +181,105 @@ module _ (d : ℕ) (group : Rest → Rest → Outcome SumSeen) (grouped : (s : R
       (λ _. if_ends s (b == 45 || is_digit b) (sums.number_term s) _
       (λ _. done_ends s (reading.signed s) (λ x. (seen_sum (tree.Number (skip s).at x.0) false, x.1))
       (ends_as s (reading.signed s) (signed_ends s) (λ x w f. number_text d w f) (λ w f. number_text d w f))
-      (λ x. refl) (λ x w f. f))
+      (λ x. refl) (λ x w f. (f, not_bare (TermText d) false w refl)))
       (λ _. if_ends s (is_letter b) (sums.word_read (word_here t)) (Err (unexpected what.Name t)) (word_ends d s)
-      (λ _. record { way = wrong _ s name_default.text (column_after d) })))
+      (λ _. record { way = wrong what.Name s 32 (97 ∷ []) [] name_token (column_after d) })))
+
+-- a further term, and what may come behind it
+further_seen : (d : ℕ) (w v u : List ℕ) (left right : SumSeen) (join : SumSeen → SumSeen → SumSeen) →
+    (join left right).bare ≡ right.bare → ((y : List ℕ) → TermText d y → SumText d (w ++ (v ++ y))) →
+    SeenText (TermText d) right u → SeenText (SumText d) (join left right) (w ++ (v ++ u))
+further_seen d w v u left right join same f g = (
+  f u g.0,
+  λ t bs e. subst (SumText d)
+      (ap (λ y. w ++ y) (sym (append_assoc v u (bs ++ 40 ∷ call_default.text)))
+      ∙ sym (append_assoc w (v ++ u) (bs ++ 40 ∷ call_default.text)))
+      (f (u ++ (bs ++ 40 ∷ call_default.text)) (g.1 (sym same ∙ t) bs e)),
+)
 
 -- sums of such terms
-module _ (d : ℕ) (termed : (s : Rest) → Reads (TermText d) s (sums.term d s)) where
-  term_turn_ends : (a : SumSeen) (s : Rest) (w : List ℕ) → SumText d w → TurnEnds (λ b v. SumText d (w ++ v))
-      (λ b v. SumText d (w ++ v)) (λ v. SumText d (w ++ v)) s (sums.term_turn (sums.term d) a s)
+module _ (d : ℕ) (termed : (s : Rest) → ReadsSeen (TermText d) s (sums.term d s)) where
+  term_turn_ends : (a : SumSeen) (s : Rest) (w : List ℕ) → SeenText (SumText d) a w →
+      TurnEnds (λ b v. SeenText (SumText d) b (w ++ v)) (λ b v. SeenText (SumText d) b (w ++ v))
+      (λ v. SumText d (w ++ v)) s (sums.term_turn (sums.term d) a s)
   unfolding sums.term_turn
   term_turn_ends a s w f =
       let t = skip s in
       if_turns s (head t == 43) (goes_on (sums.sum_plus a) (sums.term d (behind t))) _
       (λ h. cut_turns s (behind t) _ (sign_cut 43 plus_sign s h)
       (λ v g. goes_on_ends (behind t) (sums.sum_plus a) (sums.term d (behind t)) (termed (behind t))
-      (λ u k. plus_text d w v u f g k) (λ x u k. plus_text d w v u f g k)))
+      (λ u k. plus_text d w v u f.0 g k)
+      (λ x u k. further_seen d w v u a x.0 sums.sum_plus refl (λ y p. plus_text d w v y f.0 g p) k)))
       (λ _. if_turns s (head t == 45) (goes_on (sums.sum_minus a) (sums.term d (behind t))) (Done a s)
       (λ h. cut_turns s (behind t) _ (sign_cut 45 minus_sign s h)
       (λ v g. goes_on_ends (behind t) (sums.sum_minus a) (sums.term d (behind t)) (termed (behind t))
-      (λ u k. minus_text d w v u f g k) (λ x u k. minus_text d w v u f g k)))
-      (λ _. record { way = stay (SumText d) s w f }))
+      (λ u k. minus_text d w v u f.0 g k)
+      (λ x u k. further_seen d w v u a x.0 sums.sum_minus refl (λ y p. minus_text d w v y f.0 g p) k)))
+      (λ _. record { way = stay (SeenText (SumText d) a) s w f }))
 
-  sum_ends_with : (s : Rest) → Reads (SumText d) s (sums.sum d s)
+  sum_ends_with : (s : Rest) → ReadsSeen (SumText d) s (sums.sum d s)
   unfolding sums.sum_with
   sum_ends_with s = bind_ends s (sums.term d s) _ (termed s) (λ w f. as_it_is (SumText d) w (one_text d w f))
-      (λ first w f. loop_ends (sums.term_turn (sums.term d)) (term_turn_behind d) (λ a v. SumText d v)
-      (λ a v. SumText d v) (SumText d) term_turn_ends first.0 first.1 w (one_text d w f))
+      (λ first w f. loop_ends (sums.term_turn (sums.term d)) (term_turn_behind d) (λ a v. SeenText (SumText d) a v)
+      (λ a v. SeenText (SumText d) a v) (SumText d) term_turn_ends first.0 first.1 w
+      (one_text d w f.0, λ t bs e. one_text d (w ++ (bs ++ 40 ∷ call_default.text)) (f.1 t bs e)))
+
+-- the parenthesis behind a sum, or one that goes on with it
+sum_end_ends : (d : ℕ) (w v : List ℕ) → Text Parted true (SignSpan 40) w → (x : SumSeen × Rest) →
+    SeenText (SumText d) x.0 v → Ends behind_read (λ y u. TermText (suc d) (w ++ (v ++ u)))
+    (λ u. TermText (suc d) (w ++ (v ++ u))) x.1 (sums.sum_end x)
+sum_end_ends d w v f x g =
+    let r = x.1 in
+    if_bind r (head (skip r) == 41) (behind (skip r)) (unexpected (sums.behind_sum x.0.bare) (skip r))
+    (λ q. Ok (seen_sum x.0.sum false, q))
+    (λ h. record {
+      way = cut_as r (behind (skip r)) (sign_cut 41 close_parenthesis r h) (λ u k. group_text d w v u f g.0 k);
+    })
+    (λ _. closing x.0.bare refl)
+  where
+    closing : (bare : Bool) → x.0.bare ≡ bare → Finish (λ u. TermText (suc d) (w ++ (v ++ u))) x.1
+        (unexpected (sums.behind_sum bare) (skip x.1))
+    closing false h =
+        wrong what.CloseParenthesis x.1 41 [] []
+        (bare_token what.CloseParenthesis (41 ∷ []) (sign_token 41 close_parenthesis))
+        (λ bs e. group_text d w v (bs ++ 41 ∷ []) f g.0 (sign_text 41 close_parenthesis bs e))
+    closing true h =
+        wrong what.OpenParenthesis x.1 40 [] (call_default.text ++ 41 ∷ [])
+        (bare_token what.OpenParenthesis (40 ∷ []) (sign_token 40 open_parenthesis))
+        (λ bs e. subst (λ t. TermText (suc d) (w ++ t))
+        (append_assoc v (bs ++ 40 ∷ call_default.text) (41 ∷ [])
+        ∙ ap (λ t. v ++ t) (append_assoc bs (40 ∷ call_default.text) (41 ∷ [])))
+        (group_text d w (v ++ (bs ++ 40 ∷ call_default.text)) (41 ∷ []) f (g.1 h bs e)
+        (sign_text 41 close_parenthesis [] tt)))
+
+group_bare : (d : ℕ) (t m : Rest) → IfOk (sums.sum_group d t m) NotBare
+unfolding sums.sum_group
+group_bare zero t m = tt
+group_bare (suc d) t m =
+    bind_sound (sums.sum d m) sums.sum_end (λ x. Unit {0}) NotBare (any_ok (sums.sum d m)) (λ x _.
+    bind_sound (sign 41 (sums.behind_sum x.0.bare) x.1) _ (λ r. Unit {0}) NotBare
+    (any_ok (sign 41 (sums.behind_sum x.0.bare) x.1)) (λ r _. refl))
+
+seen_group : (d : ℕ) (s : Rest) (o : Outcome SumSeen) → Reads (TermText d) s o → IfOk o NotBare →
+    ReadsSeen (TermText d) s o
+seen_group d s o h q =
+    ends_as s o (ends_known s o h q) (λ x w f. (f.0, not_bare (TermText d) x.0.bare w f.1)) (λ w f. f)
 
 group_ends : (d : ℕ) (s : Rest) → (head (skip s) == 40) ≡ true →
-    Reads (TermText d) s (sums.sum_group d (skip s) (behind (skip s)))
+    ReadsSeen (TermText d) s (sums.sum_group d (skip s) (behind (skip s)))
 unfolding sums.sum_group
-group_ends zero s h = record { way = refused s name_default.text TooDeep tt (column_after 0) }
+group_ends zero s h = record { way = refused s name_default.text TooDeep tt (λ front. tt) (column_after 0) }
 group_ends (suc d) s h =
     let m = behind (skip s) in
-    cut_then s m _ (sign_cut 40 open_parenthesis s h) (λ w f.
+    let all = sums.sum d m >>= sums.sum_end in
+    seen_group (suc d) s all
+    (cut_then s m all (sign_cut 40 open_parenthesis s h) (λ w f.
     bind_ends m (sums.sum d m) sums.sum_end (sum_ends_with d (term_ends_with d (sums.sum_group d) (group_ends d)) m)
     (λ v g. let e = sign_default 41 close_parenthesis in record
     { text = e.text; is = group_text d w v e.text f g e.is })
-    (λ x v g. done_ends x.1 (sign 41 (sums.behind_sum x.0.bare) x.1) (λ r. (seen_sum x.0.sum false, r))
-    (ends_as x.1 (sign 41 (sums.behind_sum x.0.bare) x.1)
-    (sign_ends 41 (sums.behind_sum x.0.bare) close_parenthesis x.1)
-    (λ r u k. group_text d w v u f g k) (λ u k. group_text d w v u f g k)) (λ r. refl) (λ r u k. k)))
+    (λ x v g. sum_end_ends d w v f x g))) (group_bare (suc d) (skip s) m)
 
 pub sum_ends : (d : ℕ) (s : Rest) → Reads (SumText d) s (sums.sum d s)
-sum_ends d = sum_ends_with d (term_ends_with d (sums.sum_group d) (group_ends d))
+sum_ends d s =
+    ends_as s (sums.sum d s) (sum_ends_with d (term_ends_with d (sums.sum_group d) (group_ends d)) s) (λ x w f. f.0)
+    (λ w f. f)

@@ -18,12 +18,13 @@ use Rattle.mql_parse.specs.PipeReading.{pipe, behind_query, query_end_in, query_
 use Rattle.mql_parse.specs.FaultPlaces.{FaultOf}
 use Rattle.mql_parse.specs.FaultDepths.{BeginsWithin}
 use Rattle.mql_parse.specs.FaultNumbers.{NumberKind}
+use Rattle.mql_parse.specs.FaultTokens.{ExpectedKind}
 use Rattle.mql_parse.specs.FaultKinds.{open_quotes, OutsideKind, KindFits, FaultKind}
 use Rattle.mql_parse.proofs.KindFits.{Outside, FaultFits, Fits, fault_before, unexpected_next, fault_fits}
 use Rattle.mql_parse.proofs.PipeKinds.{pipe_fits}
 use Rattle.mql_parse.proofs.TextSteady.{begins_here, begins_at_levels, text_fault}
-use Rattle.mql_parse.proofs.Endings.{IfTooLarge}
-use Rattle.mql_parse.proofs.FrontEndings.{NumberBegins, shorter_begins, fault_number_begins}
+use Rattle.mql_parse.proofs.Endings.{IfTooLarge, Comes, IfExpected}
+use Rattle.mql_parse.proofs.FrontEndings.{NumberBegins, shorter_begins, fault_number_begins, fault_comes}
 
 -- a fault in place of a tree
 abbrev TreeFits : Rest → Result PipeTree ParseFault → Type 0
@@ -110,3 +111,28 @@ pub fault_number : (text : List ℕ) (result : Result Query (Refusal ParseFault)
 fault_number text (Ok q) h fits = tt
 fault_number text (Err (refusal.Fault f)) h fits = query_fault_number text f (text_fault text f fits h)
 fault_number text (Err refusal.OutOfMemory) h fits = tt
+
+query_fault_expected : (text : List ℕ) (f : ParseFault) → query text ≡ Err f → ExpectedKind text f
+query_fault_expected text f e w kind =
+    let front = take f.at text in
+    let g : Comes (BeginsWithin levels) front w =
+    subst (λ k. IfExpected k (Comes (BeginsWithin levels) front)) kind (fault_comes levels text f e) in
+    record {
+      before = g.before;
+      begun = g.begun;
+      byte = g.byte;
+      rest = g.rest;
+      parts = g.parts;
+      unfinished = g.unfinished;
+      token = g.token;
+      begins = begins_at_levels (front ++ g.byte ∷ g.rest)
+          (shorter_begins levels (front ++ g.byte ∷ g.rest) g.more
+          (subst (BeginsWithin levels) (sym (append_assoc front (g.byte ∷ g.rest) g.more)) g.is));
+    }
+
+-- of what is expected
+pub fault_expected : (text : List ℕ) (result : Result Query (Refusal ParseFault)) → GivesView query_tree result
+    (text_outcome text) → length text ≤ longest_text → IfErr result (FaultOf (ExpectedKind text))
+fault_expected text (Ok q) h fits = tt
+fault_expected text (Err (refusal.Fault f)) h fits = query_fault_expected text f (text_fault text f fits h)
+fault_expected text (Err refusal.OutOfMemory) h fits = tt

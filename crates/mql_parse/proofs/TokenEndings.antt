@@ -1,22 +1,23 @@
 -- What was read of a token before its fault can be completed to a whole token.
-use Rattle.std.proofs.Common.{◌≡◌, ℕ, ◌+◌, Bool, true, false, ◌==◌, ◌||◌, ◌&&◌, not, List, [], ◌∷◌, ◌++◌, length, refl, sym, ap, ◌∙◌, subst, arith, if◌then◌else◌, append_assoc, Option, Some, None, Result, Ok, Err}
+use Rattle.std.proofs.Common.{◌≡◌, ℕ, ◌+◌, Bool, true, false, ◌==◌, ◌||◌, ◌&&◌, not, List, [], ◌∷◌, ◌++◌, length, refl, sym, ap, ◌∙◌, subst, arith, if◌then◌else◌, append_assoc, length-append, Option, Some, None, Ok, Err}
 use Rattle.std.proofs.lemmas.Bool.{false≢true}
+use Rattle.std.proofs.lemmas.List.{append-nil}
 use Rattle.std.proofs.lemmas.Bool.Decides.{nat_tests}
-use Rattle.mon_value.specs.Answers.{◌>>=◌}
 use Rattle.mql_ast.specs.Bytes.{is_alphabet, is_blank, is_letter, is_digit, is_word_byte, is_metric_byte}
 use Rattle.mql_ast.specs.Rests.{Rest, first_of, behind_first, behind_blanks, head, behind, skip}
 use Rattle.mql_ast.specs.Tokens.{sign_at, past, word_at, word_bytes, behind_word, word_here, name_at}
-use Rattle.mql_parse.specs.declared.faults.ParseFault.{ParseFault}
 use Rattle.mql_parse.specs.declared.faults.ParseKind.{ParseKind}
 use Rattle.mql_parse.specs.declared.faults.ParseKind.TheVariants.{BadToken, Expected}
 use Rattle.mql_parse.specs.declared.faults.What.{What}
 use Rattle.mql_parse.specs.declared.faults.What.TheVariants as what
-use Rattle.mql_parse.specs.Outcomes.{kind_of, fault, unexpected, exact, sign, apart}
-use Rattle.mql_parse.specs.FaultNumbers.{IsNumber}
+use Rattle.mql_parse.specs.Outcomes.{kind_of, fault, unexpected, exact, sign}
+use Rattle.mql_parse.specs.FaultTokens.{IsSignToken, IsWordToken, IsBare, IsToken}
+pub use Rattle.mql_parse.specs.FaultTokens.{AreBlanks}
 use Rattle.mql_parse.specs.TokenReading as reading
 use Rattle.mql_parse.proofs.RestLemmas.{skip_off}
 use Rattle.mql_parse.proofs.WordLemmas.{word_bytes_on, word_bytes_off, behind_word_off}
-use Rattle.mql_parse.proofs.Endings.{is_inner, Front, Anyhow, Worded, Parted, OpensAs, Text, Then, join, changed, worded, Default, Cut, Smaller, IfTooLarge, if_too_large, Finish, Ends, behind_read, Reads, Leaves, cut_before, cut_as, cut_then, bind_ends, ends_as, if_ends}
+use Rattle.mql_parse.proofs.TokenFronts.{nothing_whole, both_hold, Fronts, WordOf}
+use Rattle.mql_parse.proofs.Endings.{is_inner, Front, Anyhow, Worded, Parted, OpensAs, Text, changed, worded, Default, Cut, Smaller, IfTooLarge, Comes, IfExpected, Finish, Ends, behind_read, Reads, Leaves, cut_before, cut_as, cut_then, ends_as, if_ends}
 
 abbrev pub at_place : ℕ → List ℕ → Rest
 at_place at bs = record { at = at; bytes = bs }
@@ -59,10 +60,6 @@ pub outer_no_digit : (b : ℕ) → is_inner b ≡ false → is_digit b ≡ false
 outer_no_digit b h = (neither (is_letter b) (is_digit b) (outer_no_word b h)).1
 
 -- blanks
-abbrev pub AreBlanks : List ℕ → Type 0
-AreBlanks [] = Unit {0}
-AreBlanks (b ∷ bs) = (is_blank b ≡ true) × AreBlanks bs
-
 blanks_passed : (bs z : List ℕ) (at : ℕ) → AreBlanks bs → behind_blanks at (bs ++ z) ≡ behind_blanks (at + length bs) z
 blanks_passed [] z at h = ap (λ n. behind_blanks n z) (omega arith)
 blanks_passed (b ∷ bs) z at h =
@@ -113,7 +110,7 @@ byte_cut test z s h = of_bytes s.at s.bytes h
     of_bytes at [] h = absurd (false≢true (sym z ∙ h))
     of_bytes at (b ∷ bs) h = record { front = b ∷ []; bytes = refl; place = omega arith; is = refl }
 
-none_too_large : (P : Type 0) (w : What) (bs : List ℕ) → IfTooLarge (kind_of w bs) P
+pub none_too_large : (P : Type 0) (w : What) (bs : List ℕ) → IfTooLarge (kind_of w bs) P
 none_too_large P w [] = tt
 none_too_large P w (b ∷ bs) = either (is_alphabet b)
   where
@@ -121,38 +118,75 @@ none_too_large P w (b ∷ bs) = either (is_alphabet b)
     either true = tt
     either false = tt
 
--- where what stands here is refused, blanks aside
+pub expected_of : (P : What → Type 0) (w : What) (bs : List ℕ) → P w → IfExpected (kind_of w bs) P
+expected_of P w [] h = h
+expected_of P w (b ∷ bs) h = either (is_alphabet b)
+  where
+    either : (t : Bool) → IfExpected (if t then Expected w else BadToken) P
+    either true = h
+    either false = tt
+
+-- a token with no blanks in front, and with one more
+pub bare_token : (w : What) (t : List ℕ) → IsBare w t → IsToken w t
+bare_token w t h = ([], (t, (tt, (h, refl))))
+
+pub blank_token : (w : What) (t : List ℕ) → IsToken w t → IsToken w (32 ∷ t)
+blank_token w t h = (32 ∷ h.0, (h.1.0, ((refl, h.1.1.0), (h.1.1.1.0, ap (λ u. 32 ∷ u) h.1.1.1.1))))
+
+-- where what stands here is refused, blanks aside, for another reason than that something was expected
 pub refused : {L : List ℕ → Type 0} (s : Rest) (tail : List ℕ) (kind : ParseKind) →
-    IfTooLarge kind (Smaller L s (skip s).at) → ((bs : List ℕ) → AreBlanks bs → L (bs ++ tail)) →
-    Finish L s (fault kind (skip s))
-refused s tail kind k h = let c = skip_cut s in
+    IfTooLarge kind (Smaller L s (skip s).at) → ((front : List ℕ) → IfExpected kind (Comes L front)) →
+    ((bs : List ℕ) → AreBlanks bs → L (bs ++ tail)) → Finish L s (fault kind (skip s))
+refused s tail kind k c h = let blanks = skip_cut s in
     record {
-      front = c.front;
+      front = blanks.front;
       left = (skip s).bytes;
-      bytes = c.bytes;
-      place = c.place;
+      bytes = blanks.bytes;
+      place = blanks.place;
       tail = tail;
-      is = h c.front
-          c.is;
+      is = h blanks.front
+          blanks.is;
       smaller = k;
+      comes = c blanks.front;
     }
 
-pub wrong : {L : List ℕ → Type 0} (w : What) (s : Rest) (tail : List ℕ) →
-    ((bs : List ℕ) → AreBlanks bs → L (bs ++ tail)) → Finish L s (unexpected w (skip s))
-wrong {L = L} w s tail h =
-    refused s tail (kind_of w (skip s).bytes) (none_too_large (Smaller L s (skip s).at) w (skip s).bytes) h
-
--- where it is refused here
-pub wrong_here : {L : List ℕ → Type 0} (w : What) (s : Rest) (tail : List ℕ) → L tail → Finish L s (unexpected w s)
-wrong_here {L = L} w s tail h = record {
-  front = [];
-  left = s.bytes;
-  bytes = refl;
-  place = omega arith;
-  tail = tail;
+-- where this was expected behind what was read, which ends in a part of it
+pub begun_here : {L : List ℕ → Type 0} (w : What) (s m : Rest) (v before begun : List ℕ) (byte : ℕ)
+    (rest more : List ℕ) → s.bytes ≡ v ++ m.bytes → m.at ≡ s.at + length v → v ≡ before ++ begun →
+    (IsToken w begun → ⊥) → IsToken w (begun ++ byte ∷ rest) → L (v ++ byte ∷ (rest ++ more)) →
+    Finish L s (unexpected w m)
+begun_here {L = L} w s m v before begun byte rest more e p q u k h = record {
+  front = v;
+  left = m.bytes;
+  bytes = e;
+  place = p;
+  tail = byte ∷ (rest ++ more);
   is = h;
-  smaller = none_too_large (Smaller L s s.at) w s.bytes;
+  smaller = none_too_large (Smaller L s m.at) w m.bytes;
+  comes = expected_of (Comes L v) w m.bytes (record {
+    before = before;
+    begun = begun;
+    byte = byte;
+    rest = rest;
+    parts = q;
+    unfinished = u;
+    token = k;
+    more = more;
+    is = h;
+  });
 }
+
+-- where it is expected behind blanks, and where it is expected here
+pub wrong : {L : List ℕ → Type 0} (w : What) (s : Rest) (byte : ℕ) (rest more : List ℕ) → IsToken w (byte ∷ rest) →
+    ((bs : List ℕ) → AreBlanks bs → L (bs ++ byte ∷ (rest ++ more))) → Finish L s (unexpected w (skip s))
+wrong {L = L} w s byte rest more k h = let blanks = skip_cut s in
+    begun_here {L = L} w s (skip s) blanks.front blanks.front [] byte rest more blanks.bytes blanks.place
+    (sym (append-nil blanks.front)) (nothing_whole w) k (h blanks.front blanks.is)
+
+pub wrong_here : {L : List ℕ → Type 0} (w : What) (s : Rest) (byte : ℕ) (rest more : List ℕ) →
+    IsToken w (byte ∷ rest) → L (byte ∷ (rest ++ more)) → Finish L s (unexpected w s)
+wrong_here {L = L} w s byte rest more k h =
+    begun_here {L = L} w s s [] [] [] byte rest more refl (omega arith) refl (nothing_whole w) k h
 
 -- tokens
 abbrev pub SignSpan : ℕ → List ℕ → List ℕ → Type 0
@@ -199,7 +233,7 @@ sign_text b h bs e = blanks_before bs (b ∷ []) e (sign_over b bs e) (one_sign 
 pub sign_default : (b : ℕ) → IsSign b → Default (Text Parted true (SignSpan b))
 sign_default b h = record { text = b ∷ []; is = one_sign b h }
 
-equal_byte : (a b : ℕ) → (a == b) ≡ true → a ≡ b
+pub equal_byte : (a b : ℕ) → (a == b) ≡ true → a ≡ b
 equal_byte a b h = grind (arith, nat_tests)
 
 pub sign_cut : (b : ℕ) → IsSign b → (s : Rest) → (head (skip s) == b) ≡ true → Cut (Text Parted true (SignSpan b)) s
@@ -211,30 +245,50 @@ sign_cut b h s e =
     (λ w f. subst (λ v. Text Parted true (SignSpan b) (c.front ++ v))
     (ap (λ x. x ∷ []) (sym (equal_byte (head (skip s)) b e)) ∙ sym f) (sign_text b h c.front c.is)))
 
-pub sign_ends : (b : ℕ) (w : What) → IsSign b → (s : Rest) → Leaves (Text Parted true (SignSpan b)) s (sign b w s)
-sign_ends b w h s =
+pub sign_token : (b : ℕ) → IsSign b → IsSignToken b (b ∷ [])
+sign_token b h = (one_sign b h).fills [] tt 0
+
+pub sign_ends : (b : ℕ) (w : What) → IsSign b → (IsSignToken b (b ∷ []) → IsBare w (b ∷ [])) → (s : Rest) →
+    Leaves (Text Parted true (SignSpan b)) s (sign b w s)
+sign_ends b w h k s =
     if_ends s (head (skip s) == b) (Ok (behind (skip s))) (Err (unexpected w (skip s)))
-    (λ e. record { way = sign_cut b h s e }) (λ e. record { way = wrong _ s (b ∷ []) (sign_text b h) })
+    (λ e. record { way = sign_cut b h s e }) (λ e. record {
+      way = wrong w s b [] [] (bare_token w (b ∷ []) (k (sign_token b h))) (sign_text b h);
+    })
 
 -- keywords
 abbrev pub all_nonzero : List ℕ → Bool
 all_nonzero [] = true
 all_nonzero (c ∷ cs) = not (0 == c) && all_nonzero cs
 
-both_hold : (a b : Bool) → (not a && b) ≡ true → (a ≡ false) × (b ≡ true)
-both_hold true b h = absurd (false≢true h)
-both_hold false b h = (refl, h)
-
-pub exact_ends : (w : What) (cs : List ℕ) → all_nonzero cs ≡ true → (s : Rest) → Leaves (λ v. v ≡ cs) s (exact w cs s)
-exact_ends w [] h s = record { way = record { front = []; bytes = refl; place = omega arith; is = refl } }
-exact_ends w (c ∷ cs) h s =
+-- a word that is read on behind what was read, which ends in a part of it
+pub word_from : (w : What) (cs : List ℕ) → all_nonzero cs ≡ true → (s m : Rest) (v before begun : List ℕ) →
+    s.bytes ≡ v ++ m.bytes → m.at ≡ s.at + length v → v ≡ before ++ begun → Fronts w begun cs →
+    IsToken w (begun ++ cs) → Leaves (λ u. u ≡ v ++ cs) s (exact w cs m)
+word_from w [] h s m v before begun e p q u k =
+    record { way = record { front = v; bytes = e; place = p; is = sym (append-nil v) } }
+word_from w (c ∷ cs) h s m v before begun e p q u k =
     let nonzero = both_hold (0 == c) (all_nonzero cs) h in
-    if_ends s (head s == c) (exact w cs (behind s)) (Err (unexpected w s))
-    (λ e. cut_then s (behind s) (exact w cs (behind s)) (byte_cut (λ x. x == c) nonzero.0 s e)
-    (λ v g. let first : v ≡ c ∷ [] = g ∙ ap (λ x. x ∷ []) (equal_byte (head s) c e) in
-    ends_as (behind s) (exact w cs (behind s)) (exact_ends w cs nonzero.1 (behind s)) (λ r u f. ap (λ t. t ++ u) first
-    ∙ ap (λ t. c ∷ t) f) (λ u f. ap (λ t. t ++ u) first ∙ ap (λ t. c ∷ t) f)))
-    (λ e. record { way = wrong_here _ s (c ∷ cs) refl })
+    if_ends s (head m == c) (exact w cs (behind m)) (Err (unexpected w m))
+    (λ g. let b = byte_cut (λ x. x == c) nonzero.0 m g in
+    let first : b.front ≡ c ∷ [] = b.is ∙ ap (λ x. x ∷ []) (equal_byte (head m) c g) in
+    ends_as s (exact w cs (behind m))
+    (word_from w cs nonzero.1 s (behind m) (v ++ c ∷ []) before (begun ++ c ∷ [])
+    (e ∙ ap (λ t. v ++ t) (b.bytes ∙ ap (λ t. t ++ (behind m).bytes) first)
+    ∙ sym (append_assoc v (c ∷ []) (behind m).bytes))
+    (omega (arith, p, b.place, ap length first, length-append v (c ∷ [])))
+    (ap (λ t. t ++ c ∷ []) q ∙ append_assoc before begun (c ∷ [])) u.1
+    (subst (IsToken w) (sym (append_assoc begun (c ∷ []) cs)) k))
+    (λ r u f. f ∙ append_assoc v (c ∷ []) cs) (λ u f. f ∙ append_assoc v (c ∷ []) cs))
+    (λ g. record {
+      way = begun_here {L = λ u. u ≡ v ++ c ∷ cs} w s m v before begun c cs [] e p q u.0 k
+          (ap (λ t. v ++ c ∷ t) (append-nil cs));
+    })
+
+pub exact_ends : (w : What) (cs : List ℕ) → all_nonzero cs ≡ true → WordOf w cs → (s : Rest) →
+    Leaves (λ v. v ≡ cs) s (exact w cs s)
+exact_ends w cs h k s =
+    word_from w cs h s s [] [] [] refl (omega arith) refl k.fronts (bare_token w cs k.bare)
 
 same_byte : (c : ℕ) → (c == c) ≡ true
 same_byte c = grind (arith, nat_tests)
@@ -244,7 +298,7 @@ past_over [] z at = ap (λ n. Some (at_place n z)) (omega arith)
 past_over (c ∷ cs) z at = ap (λ t. if t then past cs (at_place (at + 1) (cs ++ z)) else None) (same_byte c)
     ∙ past_over cs z (at + 1) ∙ ap (λ n. Some (at_place n z)) (omega arith)
 
-word_over : (cs bs : List ℕ) → AreBlanks bs → (x z : List ℕ) → WordSpan cs x z → WordSpan cs (bs ++ x) z
+pub word_over : (cs bs : List ℕ) → AreBlanks bs → (x z : List ℕ) → WordSpan cs x z → WordSpan cs (bs ++ x) z
 word_over cs bs h x z f = λ at. let n = f (at + length bs) in (n.0, ap (past cs) (skip_over bs x at h) ∙ n.1)
 
 one_word : (o : Front) (c : ℕ) (cs : List ℕ) → is_blank c ≡ false → OpensAs o (c ∷ cs) →
@@ -267,125 +321,23 @@ pub word_default : (o : Front) (c : ℕ) (cs : List ℕ) → is_blank c ≡ fals
     Default (Text o true (WordSpan (c ∷ cs)))
 word_default o c cs h f = record { text = c ∷ cs; is = one_word o c cs h f }
 
+pub word_token : (c : ℕ) (cs : List ℕ) → is_blank c ≡ false → IsWordToken (c ∷ cs) (c ∷ cs)
+word_token c cs h =
+    let n = (one_word Anyhow c cs h tt).fills [] tt 0 in
+    (n.0, ap (λ t. word_at (c ∷ cs) (at_place 0 t)) (sym (append-nil (c ∷ cs))) ∙ n.1)
+
 -- a keyword or a sign of several bytes, behind blanks
 pub word_ends : (o : Front) (w : What) (c : ℕ) (cs : List ℕ) → is_blank c ≡ false → OpensAs o (c ∷ cs) →
-    all_nonzero (c ∷ cs) ≡ true → (s : Rest) → Leaves (Text o true (WordSpan (c ∷ cs))) s (exact w (c ∷ cs) (skip s))
-word_ends o w c cs h f z s =
+    all_nonzero (c ∷ cs) ≡ true → WordOf w (c ∷ cs) → (s : Rest) →
+    Leaves (Text o true (WordSpan (c ∷ cs))) s (exact w (c ∷ cs) (skip s))
+word_ends o w c cs h f z k s =
     cut_then s (skip s) (exact w (c ∷ cs) (skip s)) (skip_cut s)
-    (λ bs e. ends_as (skip s) (exact w (c ∷ cs) (skip s)) (exact_ends w (c ∷ cs) z (skip s))
+    (λ bs e. ends_as (skip s) (exact w (c ∷ cs) (skip s)) (exact_ends w (c ∷ cs) z k (skip s))
     (λ r u g. subst (λ t. Text o true (WordSpan (c ∷ cs)) (bs ++ t)) (sym g) (word_text o c cs h f bs e))
     (λ u g. subst (λ t. Text o true (WordSpan (c ∷ cs)) (bs ++ t)) (sym g) (word_text o c cs h f bs e)))
 
 pub spaced : {o : Front} (cs w : List ℕ) → Text o true (WordSpan cs) w → Text o false (SpacedSpan cs) w
 spaced cs w f = record { opens = f.opens; fills = λ z h. (f.fills z tt, outer_no_word (first_of z) h) }
-
--- what is read where no word byte stands stands apart
-pub parted : {B : Type 0} {left : B → Rest} {k : B → Bool} {R : B → List ℕ → List ℕ → Type 0} {c : Bool} {S : List ℕ →
-    List ℕ → Type 0} (m : Rest) (o : Result B ParseFault) → is_word_byte (head m) ≡ false → Default (Text Parted c S) →
-    Ends left (λ y. Text Worded (k y) (R y)) (Text Worded c S) m o → Ends left (λ y. Text Parted (k y) (R y))
-    (Text Parted c S) m o
-parted {left = left} m (Ok y) h d f = let t = f.way in record {
-  way = record {
-    front = t.front;
-    bytes = t.bytes;
-    place = t.place;
-    is = record {
-      opens = t.is.opens (left y).bytes (ap (λ u. is_word_byte (first_of u)) (sym t.bytes) ∙ h);
-      fills = t.is.fills;
-    };
-  };
-}
-parted {c = c} {S = S} m (Err e) h d f =
-    record { way = by_front f.way.front f.way.left f.way.bytes f.way.place f.way.tail f.way.is }
-  where
-    opened : (x : ℕ) (v u : List ℕ) → m.bytes ≡ x ∷ v → Text Worded c S (x ∷ u) → Text Parted c S (x ∷ u)
-    opened x v u b t = record {
-      opens = t.opens [] (ap (λ u. is_word_byte (first_of u)) (sym b) ∙ h);
-      fills = t.fills;
-    }
-
-    no_number_first : (number after : List ℕ) → IsNumber number → m.bytes ≡ number ++ after → ⊥
-    no_number_first [] after n b = absurd n
-    no_number_first (x ∷ number) after n b =
-        false≢true (sym h ∙ ap (λ u. is_word_byte (first_of u)) b
-        ∙ digit_in_word x (and_first (is_digit x) (not (x == 48)) n.0))
-
-    smaller_parted : (at : ℕ) → Smaller (Text Worded c S) m at → Smaller (Text Parted c S) m at
-    smaller_parted at g = record {
-      before = g.before;
-      number = g.number;
-      byte = g.byte;
-      after = g.after;
-      is_number = g.is_number;
-      bytes = g.bytes;
-      place = g.place;
-      tail = g.tail;
-      is = by_first g.before g.bytes g.is;
-    }
-      where
-        by_first : (before : List ℕ) → m.bytes ≡ before ++ (g.number ++ g.byte ∷ g.after) →
-            Text Worded c S (before ++ 49 ∷ g.byte ∷ g.tail) → Text Parted c S (before ++ 49 ∷ g.byte ∷ g.tail)
-        by_first [] b t = absurd (no_number_first g.number (g.byte ∷ g.after) g.is_number b)
-        by_first (x ∷ before) b t =
-            opened x (before ++ (g.number ++ g.byte ∷ g.after)) (before ++ 49 ∷ g.byte ∷ g.tail) b t
-
-    smaller : IfTooLarge e.kind (Smaller (Text Parted c S) m e.at)
-    smaller = if_too_large e.kind (smaller_parted e.at) f.way.smaller
-
-    by_front : (front left : List ℕ) → m.bytes ≡ front ++ left → e.at ≡ m.at + length front → (tail : List ℕ) →
-        Text Worded c S (front ++ tail) → Finish (Text Parted c S) m e
-    by_front [] left b p tail t =
-        record { front = []; left = left; bytes = b; place = p; tail = d.text; is = d.is; smaller = smaller }
-    by_front (x ∷ front) left b p tail t = record {
-      front = x ∷ front;
-      left = left;
-      bytes = b;
-      place = p;
-      tail = tail;
-      is = opened x (front ++ left) (front ++ tail) b t;
-      smaller = smaller;
-    }
-
-pub apart_ends : {B : Type 0} {left : B → Rest} {k : B → Bool} {R : B → List ℕ → List ℕ → Type 0} {c : Bool}
-    {S : List ℕ → List ℕ → Type 0} (w : What) (m : Rest) (f : Rest → Result B ParseFault) → Default (Text Parted c S) →
-    Ends left (λ y. Text Worded (k y) (R y)) (Text Worded c S) m (f m) → Ends left (λ y. Text Parted (k y) (R y))
-    (Text Parted c S) m (apart w m >>= f)
-apart_ends {left = left} {k = k} {R = R} {c = c} {S = S} w m f d g = either (is_word_byte (head m)) refl
-  where
-    either : (t : Bool) → is_word_byte (head m) ≡ t → Ends left (λ y. Text Parted (k y) (R y)) (Text Parted c S) m
-        ((if t then Err (unexpected w m) else Ok m) >>= f)
-    either true h = record { way = wrong_here _ m d.text d.is }
-    either false h = parted m (f m) h d g
-
-in_turn : {A B C : Type 0} (o : Result A ParseFault) (g : A → Result B ParseFault) (f : B → Result C ParseFault) →
-    ((o >>= g) >>= f) ≡ (o >>= λ x. g x >>= f)
-in_turn (Ok x) g f = refl
-in_turn (Err e) g f = refl
-
--- what is read behind a keyword that no word byte goes on
-pub spaced_ends : {B : Type 0} {left : B → Rest} {k : B → Bool} {R : B → List ℕ → List ℕ → Type 0} {c' : Bool}
-    {S : List ℕ → List ℕ → Type 0} (v w : What) (c : ℕ) (cs : List ℕ) → is_blank c ≡ false →
-    all_nonzero (c ∷ cs) ≡ true → (s : Rest) (f : Rest → Result B ParseFault) → Default (Text Parted c' S) →
-    ((m : Rest) → Ends left (λ y. Text Worded (k y) (R y)) (Text Worded c' S) m (f m)) →
-    Ends left (λ y. Text Anyhow (k y) (Then (SpacedSpan (c ∷ cs)) (R y)))
-    (Text Anyhow c' (Then (SpacedSpan (c ∷ cs)) S)) s (exact v (c ∷ cs) (skip s) >>= λ m. apart w m >>= f)
-spaced_ends v w c cs blank nonzero s f d g =
-    bind_ends s (exact v (c ∷ cs) (skip s)) _ (word_ends Anyhow v c cs blank tt nonzero s)
-    (λ x t. record { text = d.text; is = join x d.text refl (spaced (c ∷ cs) x t) d.is })
-    (λ m x t. ends_as m (apart w m >>= f) (apart_ends w m f d (g m)) (λ y u h. join x u refl (spaced (c ∷ cs) x t) h)
-    (λ u h. join x u refl (spaced (c ∷ cs) x t) h))
-
-pub word_spaced_ends : {B : Type 0} {left : B → Rest} {k : B → Bool} {R : B → List ℕ → List ℕ → Type 0} {c' : Bool}
-    {S : List ℕ → List ℕ → Type 0} (v w : What) (c : ℕ) (cs : List ℕ) → is_blank c ≡ false →
-    all_nonzero (c ∷ cs) ≡ true → (s : Rest) (f : Rest → Result B ParseFault) → Default (Text Parted c' S) →
-    ((m : Rest) → Ends left (λ y. Text Worded (k y) (R y)) (Text Worded c' S) m (f m)) →
-    Ends left (λ y. Text Anyhow (k y) (Then (SpacedSpan (c ∷ cs)) (R y)))
-    (Text Anyhow c' (Then (SpacedSpan (c ∷ cs)) S)) s ((exact v (c ∷ cs) (skip s) >>= λ m. apart w m) >>= f)
-word_spaced_ends {left = left} {k = k} {R = R} {c' = c'} {S = S} v w c cs blank nonzero s f d g =
-    subst (λ o. Ends left (λ y. Text Anyhow (k y) (Then (SpacedSpan (c ∷ cs)) (R y)))
-    (Text Anyhow c' (Then (SpacedSpan (c ∷ cs)) S)) s o)
-    (sym (in_turn (exact v (c ∷ cs) (skip s)) (λ m. apart w m) f))
-    (spaced_ends v w c cs blank nonzero s f d g)
 
 -- names
 abbrev AreWord : List ℕ → Type 0
@@ -448,19 +400,20 @@ name_text bs w e h l = blanks_before bs w e (name_over w bs e) (one_name w h l)
 pub some_name : (text x z : List ℕ) → NamedSpan text x z → NameSpan x z
 some_name text x z f = λ at. let n = f at in ((n.0.0, record { at = n.0.1; text = text }), n.1)
 
--- ` a`
-pub name_default : Default (Text Parted false NameSpan)
-name_default =
-    record {
-      text = 32 ∷ 97 ∷ [];
-      is = record {
-        opens = λ u. refl;
-        fills =
-            (changed (some_name (97 ∷ [])) (32 ∷ 97 ∷ []) (name_text (32 ∷ []) (97 ∷ []) (refl, tt) (refl, tt) refl)).fills;
-      };
-    }
+pub a_name : Text Parted false NameSpan (32 ∷ 97 ∷ [])
+a_name =
+    let name = name_text (32 ∷ []) (97 ∷ []) (refl, tt) (refl, tt) refl in
+    record { opens = λ u. refl; fills = (changed (some_name (97 ∷ [])) (32 ∷ 97 ∷ []) name).fills }
 
-any_name_over : (bs : List ℕ) → AreBlanks bs → (x z : List ℕ) → NameSpan x z → NameSpan (bs ++ x) z
+-- ` a`
+abbrev pub name_default : Default (Text Parted false NameSpan)
+name_default = record { text = 32 ∷ 97 ∷ []; is = a_name }
+
+pub name_token : IsToken what.Name (32 ∷ 97 ∷ [])
+name_token = blank_token what.Name (97 ∷ []) (bare_token what.Name (97 ∷ [])
+    ((changed (some_name (97 ∷ [])) (97 ∷ []) (name_text [] (97 ∷ []) tt (refl, tt) refl)).fills [] refl 0))
+
+pub any_name_over : (bs : List ℕ) → AreBlanks bs → (x z : List ℕ) → NameSpan x z → NameSpan (bs ++ x) z
 any_name_over bs h x z f = λ at. let n = f (at + length bs) in
     (n.0, ap (λ t. if is_letter (head t) then Some (word_here t) else None) (skip_over bs x at h) ∙ n.1)
 
@@ -485,7 +438,8 @@ pub named_ends : (s : Rest) → Ends behind_read (λ x. Text Worded false (Named
 unfolding reading.name
 named_ends s =
     if_ends s (is_letter (head (skip s))) (Ok (word_here (skip s))) (Err (unexpected what.Name (skip s)))
-    (λ h. record { way = name_cut s h }) (λ h. record { way = wrong _ s name_default.text name_after })
+    (λ h. record { way = name_cut s h })
+    (λ h. record { way = wrong what.Name s 32 (97 ∷ []) [] name_token name_after })
 
 pub name_ends : (s : Rest) → Reads (Text Worded false NameSpan) s (reading.name s)
 name_ends s = ends_as s (reading.name s) (named_ends s) (λ x w f. changed (some_name x.0.text) w f) (λ w f. f)

@@ -1,5 +1,6 @@
 -- What was read of a comparison or a value before its fault can be completed.
-use Rattle.std.proofs.Common.{◌≡◌, ℕ, ℤ, ◌+◌, Bool, true, false, ◌==◌, ◌||◌, ◌&&◌, not as not', pos, ◌-◌, ◌^◌, List, [], ◌∷◌, ◌++◌, length, codes, refl, sym, ap, ◌∙◌, subst, if◌then◌else◌, append_assoc, Option, Some, None, option_and_then, Ok, Err, arith}
+use Rattle.std.proofs.Common.{◌≡◌, inl, inr, ℕ, ℤ, ◌+◌, Bool, true, false, ◌==◌, ◌||◌, ◌&&◌, not as not', pos, ◌-◌, ◌^◌, List, [], ◌∷◌, ◌++◌, length, codes, refl, sym, ap, ◌∙◌, subst, if◌then◌else◌, append_assoc, Option, Some, None, option_and_then, Ok, Err, arith}
+use Rattle.std.proofs.lemmas.List.{append-nil}
 use Rattle.std.proofs.lemmas.Bool.Decides.{nat_tests}
 use Rattle.mon_value.specs.Answers.{◌>>=◌}
 use Rattle.mon_value.specs.declared.values.FieldValue.{FieldValue}
@@ -14,14 +15,19 @@ use Rattle.mql_ast.specs.Quotes.{text_at, pattern_at, Whole, Plain}
 use Rattle.mql_ast.specs.Grammar.{comparison_at, and_equal, or_equal, value_at}
 use Rattle.mql_parse.specs.declared.faults.What.TheVariants as what
 use Rattle.mql_parse.specs.Outcomes.{unexpected, exact, sign, map_outcome}
+use Rattle.mql_parse.specs.FaultTokens.{IsWhole, IsToken}
 use Rattle.mql_parse.specs.TokenReading as reading
 use Rattle.mql_parse.specs.PredicateReading as predicates
-use Rattle.mql_parse.specs.PredicateReading.{Compared, WithValue, WithPattern, Opposite, Group}
+use Rattle.mql_parse.specs.PredicateReading.{Compared, WithValue, WithPattern}
 use Rattle.mql_parse.proofs.RestLemmas.{skip_off}
-use Rattle.mql_parse.proofs.Endings.{Anyhow, Worded, Parted, Text, changed, worded, anyhow, Default, Cut, Ends, behind_read, Reads, stay, cut_as, cut_then, ends_as, done_ends, if_ends}
-use Rattle.mql_parse.proofs.TokenEndings.{at_place, AreBlanks, skip_over, skip_cut, blanks_open, wrong, wrong_here, byte_cut, first_cut, IsSign, SignSpan, sign_text, WordSpan, word_text, exact_ends, Token, exclamation, quote}
+use Rattle.mql_parse.proofs.Endings.{Anyhow, Worded, Parted, Text, changed, worded, anyhow, Default, Cut, Finish, Ends, behind_read, Reads, stay, cut_as, cut_then, ends_as, done_ends, if_ends}
+use Rattle.mql_parse.proofs.TokenFronts.{one_equals, one_exclamation, true_word, false_word}
+use Rattle.mql_parse.proofs.TextFronts.{open_text}
+use Rattle.mql_parse.proofs.TokenEndings.{at_place, AreBlanks, skip_over, skip_cut, blanks_open, bare_token, begun_here, wrong, byte_cut, first_cut, IsSign, SignSpan, sign_text, WordSpan, word_text, exact_ends, Token, exclamation, quote}
 use Rattle.mql_parse.proofs.NumberEndings.{signed_ends, signed_default}
-use Rattle.mql_parse.proofs.TextEndings.{TextRest, PatternRest, text_rest_ends}
+use Rattle.mql_parse.proofs.MetricEndings.{if_bind}
+use Rattle.mql_parse.proofs.TextEndings.{TextRest, PatternRest, text_rest_ends, no_text}
+use Rattle.mql_parse.proofs.TokenHalts.{halts_end}
 
 -- comparisons
 abbrev comparison_of : Rest → Option (Comparison × Rest)
@@ -142,6 +148,23 @@ maybe_ends b v c without with m sign f g =
           (first_alone (ComparedText (WithValue without)) b v c (compared_text without b [] sign f c.0 c.1.0));
     })
 
+token_of : (how : Comparison) (c : ℕ) (cs : List ℕ) → IsSign c → Compares how (c ∷ cs) →
+    IsToken what.Comparison (c ∷ cs)
+token_of how c cs h f =
+    let n = (compared_text how c cs h f [] tt).fills [] tt refl 0 in
+    bare_token what.Comparison (c ∷ cs)
+    (inl ((n.0, how), ap (λ t. comparison_at (at_place 0 t)) (sym (append-nil (c ∷ cs))) ∙ n.1))
+
+-- a byte that was read, and the second of two that a comparison goes on with
+second_missing : (how : Comparison) (b : ℕ) (s m : Rest) → IsSign b → Compares how (b ∷ 61 ∷ []) →
+    (IsToken what.Comparison (b ∷ []) → ⊥) → Cut (FirstByte b) s m →
+    Finish AnyCompared s (unexpected what.Comparison m)
+second_missing how b s m sign f u c =
+    begun_here {L = AnyCompared} what.Comparison s m c.front c.is.0 (b ∷ []) 61 [] [] c.bytes c.place c.is.1.1 u
+    (token_of how b (61 ∷ []) sign f)
+    (first_joined AnyCompared b c.front (61 ∷ []) (61 ∷ []) c.is refl
+    (how, compared_text how b (61 ∷ []) sign f c.is.0 c.is.1.0))
+
 pub compared_ends : (s : Rest) → Ends behind_read ComparedIs AnyCompared s (predicates.comparison_kind s)
 unfolding predicates.comparison_kind
 compared_ends s =
@@ -149,35 +172,29 @@ compared_ends s =
     let b = head t in
     let m = behind t in
     if_ends s (b == 61) (predicates.behind_equals m) _
-    (λ h. cut_then s m (predicates.behind_equals m) (first_is 61 refl s h) (λ v c.
-    if_ends m (head m == 61) (Ok (WithValue comparison.Equal, behind m)) _
-    (λ g. record {
+    (λ h. let c = first_is 61 refl s h in
+    if_ends s (head m == 61) (Ok (WithValue comparison.Equal, behind m)) _
+    (λ g. cut_then s m (Ok (WithValue comparison.Equal, behind m)) c (λ v k. record {
       way = cut_as m (behind m) (byte_is 61 refl m g)
-          (λ u e. first_joined (ComparedText (WithValue comparison.Equal)) 61 v u (61 ∷ []) c e
-          (compared_text comparison.Equal 61 (61 ∷ []) equals two_equals c.0 c.1.0));
-    })
-    (λ _. if_ends m (head m == 126) (Ok (WithPattern, behind m)) (Err (unexpected what.Comparison m))
-    (λ g. record {
+          (λ u e. first_joined (ComparedText (WithValue comparison.Equal)) 61 v u (61 ∷ []) k e
+          (compared_text comparison.Equal 61 (61 ∷ []) equals two_equals k.0 k.1.0));
+    }))
+    (λ _. if_ends s (head m == 126) (Ok (WithPattern, behind m)) (Err (unexpected what.Comparison m))
+    (λ g. cut_then s m (Ok (WithPattern, behind m)) c (λ v k. record {
       way = cut_as m (behind m) (byte_is 126 refl m g)
-          (λ u e. first_joined (ComparedText WithPattern) 61 v u (126 ∷ []) c e
-          (word_text Parted 61 (126 ∷ []) refl (λ y. refl) c.0 c.1.0));
-    })
-    (λ _. record {
-      way = wrong_here _ m (61 ∷ []) (first_joined AnyCompared 61 v (61 ∷ []) (61 ∷ []) c refl
-          (comparison.Equal, compared_text comparison.Equal 61 (61 ∷ []) equals two_equals c.0 c.1.0));
-    }))))
+          (λ u e. first_joined (ComparedText WithPattern) 61 v u (126 ∷ []) k e
+          (word_text Parted 61 (126 ∷ []) refl (λ y. refl) k.0 k.1.0));
+    }))
+    (λ _. record { way = second_missing comparison.Equal 61 s m equals two_equals one_equals c })))
     (λ _. if_ends s (b == 33) (exact what.Comparison (codes "=") m >>= λ r. Ok (WithValue comparison.NotEqual, r)) _
-    (λ h. cut_then s m (exact what.Comparison (codes "=") m >>= λ r. Ok (WithValue comparison.NotEqual, r))
-    (first_is 33 refl s h) (λ v c.
-    done_ends m (exact what.Comparison (codes "=") m) (λ r. (WithValue comparison.NotEqual, r))
-    (ends_as m (exact what.Comparison (codes "=") m) (exact_ends what.Comparison (codes "=") refl m)
-    (λ r u e. first_joined (ComparedText (WithValue comparison.NotEqual)) 33 v u (61 ∷ []) c e
-    (compared_text comparison.NotEqual 33 (61 ∷ []) exclamation not_equals c.0 c.1.0))
-    (λ u e. first_joined AnyCompared 33 v u (61 ∷ []) c e (
-      comparison.NotEqual,
-      compared_text comparison.NotEqual 33
-          (61 ∷ []) exclamation not_equals c.0 c.1.0,
-    ))) (λ r. refl) (λ r u f. f)))
+    (λ h. let c = first_is 33 refl s h in
+    if_bind s (head m == 61) (behind m) (unexpected what.Comparison m) (λ r. Ok (WithValue comparison.NotEqual, r))
+    (λ g. cut_then s m (Ok (WithValue comparison.NotEqual, behind m)) c (λ v k. record {
+      way = cut_as m (behind m) (byte_is 61 refl m g)
+          (λ u e. first_joined (ComparedText (WithValue comparison.NotEqual)) 33 v u (61 ∷ []) k e
+          (compared_text comparison.NotEqual 33 (61 ∷ []) exclamation not_equals k.0 k.1.0));
+    }))
+    (λ _. second_missing comparison.NotEqual 33 s m exclamation not_equals one_exclamation c))
     (λ _. if_ends s (b == 60) (predicates.maybe_equal comparison.Less comparison.AtMost m) _
     (λ h. cut_then s m (predicates.maybe_equal comparison.Less comparison.AtMost m) (first_is 60 refl s h)
     (λ v c. maybe_ends 60 v c comparison.Less comparison.AtMost m less only_less at_most))
@@ -186,7 +203,7 @@ compared_ends s =
     (λ h. cut_then s m (predicates.maybe_equal comparison.Greater comparison.AtLeast m) (first_is 62 refl s h)
     (λ v c. maybe_ends 62 v c comparison.Greater comparison.AtLeast m greater only_greater at_least))
     (λ _. record {
-      way = wrong _ s (61 ∷ 61 ∷ [])
+      way = wrong what.Comparison s 61 (61 ∷ []) [] (token_of comparison.Equal 61 (61 ∷ []) equals two_equals)
           (λ bs e. (comparison.Equal, compared_text comparison.Equal 61 (61 ∷ []) equals two_equals bs e));
     }))))
 
@@ -308,28 +325,43 @@ signed_text w f =
           n.1,
     )) w f)
 
+text_token : (u : List ℕ) → TextRest u → IsToken what.Text (34 ∷ u)
+text_token u f =
+    let n = (quoted_only u f) in
+    bare_token what.Text (34 ∷ u) (inl (n.0, n.1))
+  where
+    quoted_only : (u : List ℕ) → TextRest u → IsWhole text_at (34 ∷ u)
+    quoted_only u f =
+        let a = (sign_text 34 quote [] tt).fills u tt 0 in
+        let n = f [] a.0 in (
+          n.0,
+          ap (option_and_then (λ q. quotes.text_from Whole [] q.at q.bytes)) a.1
+              ∙ ap (quotes.text_from Whole [] a.0) (sym (append-nil u)) ∙ n.1,
+        )
+
 pub value_ends : (s : Rest) → Reads ValueText s (predicates.value s)
 unfolding predicates.value
 value_ends s =
     let t = skip s in
     let b = head t in
-    let text = map_outcome (λ x. field.Text x) (reading.text (behind t)) in
+    let m = behind t in
     let yes = exact what.Truth (codes "true") t in
     let no = exact what.Truth (codes "false") t in
-    if_ends s (b == 34) text _
-    (λ h. cut_then s (behind t) text (first_is 34 refl s h) (λ v c. done_ends (behind t) (reading.text (behind t))
-    (λ x. (field.Text x.0, x.1)) (ends_as (behind t) (reading.text (behind t)) (text_rest_ends (behind t))
-    (λ x u f. quoted_text v u c f) (λ u f. quoted_text v u c f)) (λ x. refl) (λ x u f. f)))
+    if_ends s (b == 34) (map_outcome (λ x. field.Text x) (reading.text m)) _
+    (λ h. let c = first_is 34 refl s h in
+    done_ends s (reading.text m) (λ x. (field.Text x.0, x.1))
+    (halts_end {R = ValueText} s m c.front c.is.0 (34 ∷ []) (reading.text m) c.bytes c.place c.is.1.1 (text_rest_ends m)
+    (λ u f. quoted_text c.front u c.is f) open_text text_token) (λ x. refl) (λ x u f. f))
     (λ _. if_ends s (b == 116) (yes >>= λ r. Ok (field.Bool true, r)) _
     (λ _. cut_then s t (yes >>= λ r. Ok (field.Bool true, r)) (skip_cut s)
     (λ bs e. done_ends t yes (λ r. (field.Bool true, r))
-    (ends_as t yes (exact_ends what.Truth (codes "true") refl t)
+    (ends_as t yes (exact_ends what.Truth (codes "true") refl true_word t)
     (λ r u g. subst (λ x. ValueText (bs ++ x)) (sym g) (true_text bs e))
     (λ u g. subst (λ x. ValueText (bs ++ x)) (sym g) (true_text bs e))) (λ r. refl) (λ r u f. f)))
     (λ _. if_ends s (b == 102) (no >>= λ r. Ok (field.Bool false, r)) _
     (λ _. cut_then s t (no >>= λ r. Ok (field.Bool false, r)) (skip_cut s)
     (λ bs e. done_ends t no (λ r. (field.Bool false, r))
-    (ends_as t no (exact_ends what.Truth (codes "false") refl t)
+    (ends_as t no (exact_ends what.Truth (codes "false") refl false_word t)
     (λ r u g. subst (λ x. ValueText (bs ++ x)) (sym g) (false_text bs e))
     (λ u g. subst (λ x. ValueText (bs ++ x)) (sym g) (false_text bs e))) (λ r. refl) (λ r u f. f)))
     (λ _. if_ends s (b == 45 || is_digit b) (map_outcome (λ z. field.Int z) (reading.signed s))
@@ -337,7 +369,11 @@ value_ends s =
     (λ _. done_ends s (reading.signed s) (λ x. (field.Int x.0, x.1))
     (ends_as s (reading.signed s) (signed_ends s) (λ x w f. signed_text w f) (λ w f. signed_text w f)) (λ x. refl)
     (λ x w f. f))
-    (λ _. record { way = wrong _ s (codes "true") true_text }))))
+    (λ _. record {
+      way = wrong what.Text s 34 (34 ∷ []) [] (text_token (34 ∷ []) no_text)
+          (λ bs e. subst ValueText (append_assoc bs (34 ∷ []) (34 ∷ []))
+          (quoted_text (bs ++ 34 ∷ []) (34 ∷ []) (bs, (e, refl)) no_text));
+    }))))
 
 -- no `=` begins a value
 pub no_equals : (x z : List ℕ) → Token value_at x z → (first_of x == 61) ≡ false
@@ -362,6 +398,17 @@ value_default =
 
 abbrev pub PatternText : List ℕ → Type 0
 PatternText = Text Anyhow true (Token pattern_at)
+
+pub pattern_token : (u : List ℕ) → PatternRest u → IsToken what.Text (34 ∷ u)
+pattern_token u f =
+    let a = (sign_text 34 quote [] tt).fills u tt 0 in
+    let n = f [] a.0 in
+    let whole : IsWhole pattern_at (34 ∷ u) = (
+      n.0,
+      ap (option_and_then (λ q. quotes.pattern_from Whole Plain [] [] q.at q.bytes)) a.1
+          ∙ ap (quotes.pattern_from Whole Plain [] [] a.0) (sym (append-nil u)) ∙ n.1,
+    ) in
+    bare_token what.Text (34 ∷ u) (inr whole)
 
 pub pattern_text : (v u : List ℕ) → Text Parted true (SignSpan 34) v → PatternRest u → PatternText (v ++ u)
 pattern_text v u f g = record {

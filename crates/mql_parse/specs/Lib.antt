@@ -13,6 +13,7 @@ pub mod FaultPlaces
 pub mod FaultKinds
 pub mod FaultDepths
 pub mod FaultNumbers
+pub mod FaultTokens
 pub mod Views
 pub mod TurnViews
 pub mod PredicateViews

@@ -71,7 +71,8 @@ abbrev pub text_end : Option (List ℕ) → Rest → Rest → Outcome (List ℕ)
 text_end None s rest = Err (fault BadToken s)
 text_end (Some text) s rest = Ok (text, rest)
 
-abbrev pub after_text_step : TextStep → ℕ → Rest → Rest → List ℕ → (Open → List ℕ → Outcome (List ℕ)) → Outcome (List ℕ)
+abbrev pub after_text_step : TextStep → ℕ → Rest → Rest → List ℕ →
+    (Open → List ℕ → Outcome (List ℕ)) → Outcome (List ℕ)
 after_text_step TextEnd b s rest content go = text_end (text_in content) s rest
 after_text_step (TextPass next) b s rest content go = go next content
 after_text_step (TextKeep next) b s rest content go = go next (content ++ b ∷ [])

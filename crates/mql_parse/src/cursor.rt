@@ -56,7 +56,7 @@ impl<'a> Cursor<'a> {
     }
 
     /// What is left behind the blanks here.
-    #[tactic(auto, using(crate::proofs::RestLemmas::skip_on, crate::proofs::RestLemmas::skip_off, crate::proofs::RestLemmas::blank_shorter))]
+    #[tactic(auto, using(crate::proofs::RestLemmas::skips))]
     pub fn skip(self) -> Cursor<'a>
         ensures rest { rest_of result ≡ rests.skip (rest_of self.entry) }
     {

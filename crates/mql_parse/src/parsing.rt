@@ -8,6 +8,7 @@ ghost use Rattle.mql_parse.specs.FaultDepths.{DepthKind};
 ghost use Rattle.mql_parse.specs.FaultKinds.{FaultKind};
 ghost use Rattle.mql_parse.specs.FaultNumbers.{NumberKind};
 ghost use Rattle.mql_parse.specs.FaultPlaces.{FaultOf, IsAtLongestFront, too_long};
+ghost use Rattle.mql_parse.specs.FaultTokens.{ExpectedKind};
 ghost use Rattle.mql_parse.specs.Outcomes.{rest_of};
 ghost use Rattle.mql_parse.specs.PipeReading as pipes;
 
@@ -34,6 +35,7 @@ pub fn parse(alloc: Global, text: &[u8]) -> Result<Query, Refusal<ParseFault>>
     ensures place { length text.now ≤ longest_text → IfErr result (FaultOf (IsAtLongestFront text.now)) }
     ensures kind { length text.now ≤ longest_text → IfErr result (FaultOf (FaultKind text.now)) }
     ensures number { length text.now ≤ longest_text → IfErr result (FaultOf (NumberKind text.now)) }
+    ensures expected { length text.now ≤ longest_text → IfErr result (FaultOf (ExpectedKind text.now)) }
     ensures depth { length text.now ≤ longest_text → IfErr result (FaultOf (DepthKind text.now)) }
     ensures too_long { longest_text < length text.now → GivesView query_tree result (Err too_long) }
     ensures unique { (one other : PipeTree) → Spells one text.now → Spells other text.now → one ≡ other }

@@ -43,7 +43,7 @@ enum PatternStep {
 }
 
 /// A pattern in quotes, from behind the first quote.
-#[tactic(auto, unfolding(crate::specs::TokenReading::pattern), using(crate::proofs::QuoteLemmas::pattern_on, crate::proofs::QuoteLemmas::end_shorter))]
+#[tactic(auto, unfolding(crate::specs::TokenReading::pattern), using(crate::proofs::QuoteLemmas::patterns))]
 pub fn pattern<'a>(alloc: Global, from: Cursor<'a>) -> Read<'a, Pieces>
     ensures read { Reads itself result (reading.pattern (rest_of from.entry)) }
 {

@@ -82,7 +82,7 @@ enum TextStep {
 }
 
 /// A text in quotes, from behind the first quote.
-#[tactic(auto, unfolding(crate::specs::TokenReading::text), using(crate::proofs::QuoteLemmas::text_on, crate::proofs::QuoteLemmas::end_shorter))]
+#[tactic(auto, unfolding(crate::specs::TokenReading::text), using(crate::proofs::QuoteLemmas::texts))]
 pub fn text<'a>(alloc: Global, from: Cursor<'a>) -> Read<'a, Text>
     ensures read { Reads itself result (reading.text (rest_of from.entry)) }
 {
