@@ -1,0 +1,10 @@
+pub mod FormulaLemmas
+pub mod HintLemmas
+pub mod ListingLemmas
+pub mod MaskLemmas
+pub mod NextLemmas
+pub mod PatternLemmas
+pub mod SetLemmas
+pub mod TruthLemmas
+pub mod WindowLemmas
+pub mod WordLemmas

@@ -1,0 +1,12 @@
+-- The buckets below a number are listed.
+use Rattle.std.proofs.Common.{◌-◌}
+use Rattle.mon_hints.specs.BucketSets.{is_set}
+use Rattle.mon_hints.proofs.ListingLemmas.{ListsBelow}
+use Rattle.mon_hints.proofs.hints.hints_of.Given as goal
+use Rattle.mon_hints.specs.declared.fingerprints.TheConstants.{MOST_BUCKETS}
+
+abbrev pub invariant-loop-bucket : goal.invariant-loop-bucket
+invariant-loop-bucket l = ListsBelow (is_set l.set.words) l.listed l.from
+
+abbrev pub decreases-loop-bucket : goal.decreases-loop-bucket
+decreases-loop-bucket l = MOST_BUCKETS - l.from
