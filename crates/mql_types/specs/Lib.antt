@@ -1,4 +1,7 @@
 pub mod Branches
+pub mod Durations
+pub mod ExplanationParts
+pub mod Explanations
 pub mod Faults
 pub mod Fetches
 pub mod Filters
@@ -7,10 +10,13 @@ pub mod Items
 pub mod Levels
 pub mod Loads
 pub mod Meaning
+pub mod NamedPlaces
 pub mod Nodes
 pub mod OperandLinks
 pub mod PartViews
+pub mod Plans
 pub mod PredicateParts
+pub mod Soundness
 pub mod Times
 pub mod Typing
 pub mod Widths

@@ -9,8 +9,8 @@ use crate::branches::with_width;
 use crate::faults::{Faults, TypeKind};
 use crate::nodes::{Node, NodeInfo};
 use crate::parts::Part;
-use crate::widths::Width;
-use mon_value::{Aligner, Column, Columns, Kind, Shared, TryCopy};
+use crate::widths::{OF_DELTA, OF_NUMBER, Width};
+use mon_value::{Aligner, Column, Columns, Kind, TryCopy};
 use std::alloc::{AllocError, Global};
 
 /// A table: what isn't aligned yet is aligned here, at no place of the text.
@@ -34,13 +34,8 @@ pub(crate) fn align_node(
     ensures node { IfOk result (λ node. node_tree node ≡ spec.align_node at by (node_tree input)) }
 {
     let columns = aligned_columns(alloc, by, input.columns())?;
-    let info = NodeInfo {
-        at,
-        columns: Shared::new(alloc, columns)?,
-        level: input.info().level,
-    };
     Ok(Node::Align {
-        info,
+        info: NodeInfo::new(alloc, at, columns, input.info().level)?,
         by,
         input: Box::new(alloc, input)?,
     })
@@ -70,8 +65,8 @@ fn aligned_width(by: Aligner) -> Width
     ensures width { result ≡ spec.aligned_width by }
 {
     match by {
-        Aligner::Delta(_) => Width::of_delta(),
-        Aligner::NextOlder(_) => Width::of_number(),
+        Aligner::Delta(_) => OF_DELTA,
+        Aligner::NextOlder(_) => OF_NUMBER,
     }
 }
 

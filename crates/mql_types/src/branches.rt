@@ -1,114 +1,143 @@
 // What a join and a union of two tables give.
 ghost use Rattle.std.specs.Prelude.{◌≡◌, ◌++◌, ◌∷◌, [], IfOk, OnOk, map};
-ghost use Rattle.std.specs.List.{list_any};
+ghost use Rattle.std.specs.List.{flat_map, list_any};
 ghost use Rattle.mon_value.specs.Joins as join;
 ghost use Rattle.mql_ast.specs.NamedCells as named;
 ghost use Rattle.mql_types.specs.Branches as spec;
 ghost use Rattle.mql_types.specs.Faults.{first_with};
+ghost use Rattle.mql_types.specs.Groupings.{listed};
 ghost use Rattle.mql_types.specs.Widths as widths;
 
 use crate::faults::{Faults, TypeKind, type_word};
 use crate::levels::common_anchor;
-use crate::places::{column_named, has_name, push_some};
+use crate::parts::Setting;
+use crate::places::NamedColumns;
 use crate::widths::Width;
-use mon_schema::Schemas;
 use mon_value::{Column, Columns, TryCopy, ValueType};
 use std::alloc::{AllocError, Global};
 
-/// The left columns whose names the right has too, in which the rows of a pair agree.
-#[tactic(auto, using(crate::proofs::ListedLemmas::listed_items))]
-pub(crate) fn common_columns(
-    alloc: Global,
-    schemas: &Schemas,
-    lefts: &[Column],
-    rights: &[Column],
-) -> Result<Columns, AllocError>
-    ensures columns { IfOk result (λ columns. columns ≡ spec.common_columns schemas.now lefts.now rights.now) }
-{
-    let mut columns = Columns::new(alloc);
-    for left in lefts {
-        let column = common_column(alloc, schemas, left, rights)?;
-        push_some(&mut columns, column)?;
-    }
-    Ok(columns)
+/// The columns of a join: the left's, and then those of the right's that have a name of their own. Beside them the left
+/// columns whose names the right has too, in which the rows of a pair agree.
+#[derive(Drop)]
+pub(crate) struct Joined {
+    pub(crate) columns: Columns,
+    pub(crate) common: Columns,
 }
 
-// A left column whose name the right has too.
-fn common_column(
-    alloc: Global,
-    schemas: &Schemas,
-    left: &Column,
-    rights: &[Column],
-) -> Result<Option<Column>, AllocError>
-    ensures column { IfOk result (λ column. column ≡ spec.common_column schemas.now rights.now left.now) }
-{
-    match column_named(rights, &left.name) {
-        Some(right) => Ok(Some(anchored_with(alloc, schemas, left, right)?)),
-        None => Ok(None),
+impl Joined {
+    /// The columns of the join of two tables. Tells tables that have no common column, and common columns of two types.
+    #[tactic(auto, using(crate::proofs::FaultLemmas::faults))]
+    pub(crate) fn new(
+        setting: Setting<'_>,
+        at: u32,
+        lefts: &[Column],
+        rights: &[Column],
+        found: &mut Faults,
+    ) -> Result<Joined, AllocError>
+        ensures columns { IfOk result (λ made. made.columns
+            ≡ spec.join_columns setting.entry.schemas.now lefts.now rights.now) }
+        ensures common { IfOk result (λ made. made.common
+            ≡ spec.common_columns setting.entry.schemas.now lefts.now rights.now) }
+        ensures faults { OnOk result (found.new.first
+            ≡ first_with found.old.first (spec.pair_faults at lefts.now rights.now)) }
+    {
+        let left_names = NamedColumns::new(setting.alloc, lefts)?;
+        let right_names = NamedColumns::new(setting.alloc, rights)?;
+        found.tell_where(
+            !have_common(lefts, &right_names),
+            at,
+            TypeKind::BranchColumns,
+        );
+        let mut joined = Joined {
+            columns: Columns::new(setting.alloc),
+            common: Columns::new(setting.alloc),
+        };
+        joined.push_lefts(setting, at, lefts, &right_names, found)?;
+        push_rights(setting.alloc, &left_names, rights, &mut joined.columns)?;
+        Ok(joined)
+    }
+
+    // Adds the left columns.
+    #[tactic(auto, using(crate::proofs::ItemLemmas::item_steps))]
+    fn push_lefts(
+        &mut self,
+        setting: Setting<'_>,
+        at: u32,
+        lefts: &[Column],
+        rights: &NamedColumns<'_>,
+        found: &mut Faults,
+    ) -> Result<(), AllocError>
+        ensures columns { OnOk result (self.new.columns
+            ≡ self.old.columns ++ map (spec.left_column setting.entry.schemas.now rights.now) lefts.now) }
+        ensures common { OnOk result (self.new.common
+            ≡ self.old.common ++ spec.common_columns setting.entry.schemas.now lefts.now rights.now) }
+        ensures faults { OnOk result (found.new.first ≡ first_with found.old.first (flat_map
+            (λ column. spec.mismatch_faults at column (named.column_named column.name rights.now)) lefts.now)) }
+    {
+        for left in lefts {
+            self.push_left(setting, at, left, rights, found)?;
+        }
+        Ok(())
+    }
+
+    // Adds a left column, anchored to what the right's of its name is anchored to as well.
+    fn push_left(
+        &mut self,
+        setting: Setting<'_>,
+        at: u32,
+        left: &Column,
+        rights: &NamedColumns<'_>,
+        found: &mut Faults,
+    ) -> Result<(), AllocError>
+        ensures columns { OnOk result (self.new.columns
+            ≡ self.old.columns ++ spec.left_column setting.entry.schemas.now rights.now left.now ∷ []) }
+        ensures common { OnOk result (self.new.common
+            ≡ self.old.common ++ listed (spec.common_column setting.entry.schemas.now rights.now left.now)) }
+        ensures faults { OnOk result (found.new.first ≡ first_with found.old.first
+            (spec.mismatch_faults at left.now (named.column_named left.now.name rights.now))) }
+    {
+        let Some(right) = rights.get(&left.name) else {
+            return self.columns.push(as_joined(left.copy(setting.alloc)?));
+        };
+        let same = same_type(&left.of, &right.of);
+        found.tell_unlike(same, at, &left.of, type_word(&right.of));
+        let common = anchored_with(setting, left, right)?;
+        self.columns.push(as_joined(common.copy(setting.alloc)?))?;
+        self.common.push(common)
     }
 }
 
-/// The columns of a join: the left's, and then those of the right's that have a name of their own.
+// Adds the right columns that have a name of their own.
 #[tactic(auto, using(crate::proofs::ListedLemmas::right_columns_more))]
-pub(crate) fn join_columns(
+fn push_rights(
     alloc: Global,
-    schemas: &Schemas,
-    lefts: &[Column],
+    lefts: &NamedColumns<'_>,
     rights: &[Column],
-) -> Result<Columns, AllocError>
-    ensures columns { IfOk result (λ columns. columns ≡ spec.join_columns schemas.now lefts.now rights.now) }
+    columns: &mut Columns,
+) -> Result<(), AllocError>
+    ensures added { OnOk result (columns.new
+        ≡ columns.old ++ map spec.as_joined (join.right_columns lefts.now rights.now)) }
 {
-    let mut columns = left_columns(alloc, schemas, lefts, rights)?;
     for right in rights {
-        push_own(alloc, lefts, right, &mut columns)?;
+        push_own(alloc, lefts, right, columns)?;
     }
-    Ok(columns)
-}
-
-fn left_columns(
-    alloc: Global,
-    schemas: &Schemas,
-    lefts: &[Column],
-    rights: &[Column],
-) -> Result<Columns, AllocError>
-    ensures columns { IfOk result (λ columns. columns ≡ map (spec.left_column schemas.now rights.now) lefts.now) }
-{
-    let mut columns = Columns::new(alloc);
-    for left in lefts {
-        columns.push(left_column(alloc, schemas, left, rights)?)?;
-    }
-    Ok(columns)
+    Ok(())
 }
 
 // Adds a right column that has a name of its own.
 fn push_own(
     alloc: Global,
-    lefts: &[Column],
+    lefts: &NamedColumns<'_>,
     right: &Column,
     columns: &mut Columns,
 ) -> Result<(), AllocError>
     ensures added { OnOk result (columns.new
         ≡ columns.old ++ map spec.as_joined (join.right_columns lefts.now (right.now ∷ []))) }
 {
-    if !has_name(lefts, &right.name) {
+    if !lefts.has(&right.name) {
         columns.push(as_joined(right.copy(alloc)?))?;
     }
     Ok(())
-}
-
-// A left column of a join, anchored to what the right's of its name is anchored to as well.
-fn left_column(
-    alloc: Global,
-    schemas: &Schemas,
-    left: &Column,
-    rights: &[Column],
-) -> Result<Column, AllocError>
-    ensures column { IfOk result (λ column. column ≡ spec.left_column schemas.now rights.now left.now) }
-{
-    match column_named(rights, &left.name) {
-        Some(right) => Ok(as_joined(anchored_with(alloc, schemas, left, right)?)),
-        None => Ok(as_joined(left.copy(alloc)?)),
-    }
 }
 
 // A column as a join has it.
@@ -130,84 +159,52 @@ pub(crate) fn with_width(mut column: Column, width: Width) -> Column
 
 // A copy of a column, anchored to what another that holds the same is anchored to as well.
 fn anchored_with(
-    alloc: Global,
-    schemas: &Schemas,
+    setting: Setting<'_>,
     column: &Column,
     other: &Column,
 ) -> Result<Column, AllocError>
-    ensures column { IfOk result (λ made. made ≡ spec.anchored_with schemas.now column.now other.now) }
+    ensures column { IfOk result (λ made. made ≡ spec.anchored_with setting.entry.schemas.now column.now other.now) }
 {
-    Ok(Column {
-        name: column.name.copy(alloc)?,
-        of: column.of.copy(alloc)?,
-        key: column.key,
-        anchor: common_anchor(alloc, schemas, &column.anchor, &other.anchor)?,
-        cell_bits: column.cell_bits,
-        total_bits: column.total_bits,
-    })
-}
-
-/// Tells two tables of a join that have no common column, and common columns of two types.
-#[tactic(auto, using(crate::proofs::FaultLemmas::faults))]
-pub(crate) fn tell_pairs(at: u32, lefts: &[Column], rights: &[Column], found: &mut Faults)
-    ensures faults { found.new.first ≡ first_with found.old.first (spec.pair_faults at lefts.now rights.now) }
-{
-    found.tell_where(!have_common(lefts, rights), at, TypeKind::BranchColumns);
-    for left in lefts {
-        tell_mismatch(at, left, rights, found);
-    }
+    let mut made = column.copy(setting.alloc)?;
+    made.anchor = common_anchor(setting, &column.anchor, &other.anchor)?;
+    Ok(made)
 }
 
 // Whether some name is common.
-fn have_common(lefts: &[Column], rights: &[Column]) -> bool
+fn have_common(lefts: &[Column], rights: &NamedColumns<'_>) -> bool
     ensures had { result ≡ list_any (λ column. join.has_name column.name rights.now) lefts.now }
 {
-    lefts.iter().any(|left| has_name(rights, &left.name))
-}
-
-// Tells a left column of another type than the right's of its name.
-fn tell_mismatch(at: u32, left: &Column, rights: &[Column], found: &mut Faults)
-    ensures faults { found.new.first ≡ first_with found.old.first
-        (spec.mismatch_faults at left.now (named.column_named left.now.name rights.now)) }
-{
-    if let Some(right) = column_named(rights, &left.name) {
-        let kind = TypeKind::Mismatch(type_word(&left.of), type_word(&right.of));
-        found.tell_where(!same_type(&left.of, &right.of), at, kind);
-    }
+    lefts.iter().any(|left| rights.has(&left.name))
 }
 
 /// The columns of a union: the left's, each as wide as the rows of both may be.
 pub(crate) fn union_columns(
-    alloc: Global,
-    schemas: &Schemas,
+    setting: Setting<'_>,
     lefts: &[Column],
     rights: &[Column],
 ) -> Result<Columns, AllocError>
-    ensures columns { IfOk result (λ columns. columns ≡ spec.union_columns schemas.now lefts.now rights.now) }
+    ensures columns { IfOk result (λ columns. columns
+        ≡ spec.union_columns setting.entry.schemas.now lefts.now rights.now) }
 {
-    let mut columns = Columns::new(alloc);
+    let mut columns = Columns::new(setting.alloc);
     let mut rest = rights;
     for left in lefts {
         let Some((right, others)) = rest.split_first() else {
             return Ok(columns);
         };
-        columns.push(united_column(alloc, schemas, left, right)?)?;
+        columns.push(united_column(setting, left, right)?)?;
         rest = others;
     }
     Ok(columns)
 }
 
 // A left column over the rows of both.
-fn united_column(
-    alloc: Global,
-    schemas: &Schemas,
-    left: &Column,
-    right: &Column,
-) -> Result<Column, AllocError>
-    ensures column { IfOk result (λ column. column ≡ spec.united_column schemas.now left.now right.now) }
+fn united_column(setting: Setting<'_>, left: &Column, right: &Column) -> Result<Column, AllocError>
+    ensures column { IfOk result (λ column. column
+        ≡ spec.united_column setting.entry.schemas.now left.now right.now) }
 {
     let width = Width::of(left).united(Width::of(right));
-    Ok(with_width(anchored_with(alloc, schemas, left, right)?, width))
+    Ok(with_width(anchored_with(setting, left, right)?, width))
 }
 
 /// Whether two tables have the same columns in the same order, but for their widths and anchors.

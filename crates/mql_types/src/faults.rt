@@ -1,5 +1,5 @@
 // What a query is refused for.
-ghost use Rattle.std.specs.Prelude.{◌≡◌, None, [], ◌∷◌};
+ghost use Rattle.std.specs.Prelude.{◌≡◌, None, [], ◌∷◌, not};
 ghost use Rattle.mql_types.specs.Faults as spec;
 
 use mon_value::ValueType;
@@ -113,6 +113,14 @@ impl Faults {
         if test {
             self.tell(at, kind);
         }
+    }
+
+    /// Tells that a type isn't the one that was wanted, where it doesn't fit.
+    pub(crate) fn tell_unlike(&mut self, fits: bool, at: u32, of: &ValueType, wanted: TypeWord)
+        ensures first { self.new.first ≡ spec.first_with self.old.first
+            (spec.fault_where (not fits) at (TypeKind.Mismatch (spec.type_word of.now) wanted)) }
+    {
+        self.tell_where(!fits, at, TypeKind::Mismatch(type_word(of), wanted));
     }
 }
 

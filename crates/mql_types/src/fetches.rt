@@ -4,14 +4,17 @@ ghost use Rattle.std.specs.Option.{option_copied};
 ghost use Rattle.mon_schema.specs.Faults.{texts_repeat};
 ghost use Rattle.mql_types.specs.Fetches as spec;
 
-use crate::places::has_name;
+use crate::items::plain_column;
+use crate::taken::Taken;
+use crate::widths::OF_NUMBER;
 use mon_value::{
-    Anchor, Column, Columns, Field, FieldType, Kind, MetricSchema, NUMBER_BITS, SUM_BITS,
-    TargetSchema, Text, TryCopy, ValueType,
+    Anchor, Column, Columns, Field, FieldType, Kind, MetricSchema, TargetSchema, Text, TryCopy,
+    ValueType,
 };
 use std::alloc::{AllocError, Global};
 
-/// The columns of a fetch, and none where a name is unknown.
+/// The columns of a fetch: the target's fields and the metric's, and then the value. There are none where a name is
+/// unknown.
 pub(crate) fn fetch_columns(
     alloc: Global,
     target: Option<&TargetSchema>,
@@ -26,20 +29,10 @@ pub(crate) fn fetch_columns(
     let Some(metric) = metric else {
         return Ok(Columns::new(alloc));
     };
-    columns_fetched(alloc, target, metric)
-}
-
-// The target's fields and the metric's, and then the value.
-fn columns_fetched(
-    alloc: Global,
-    target: &TargetSchema,
-    metric: &MetricSchema,
-) -> Result<Columns, AllocError>
-    ensures columns { IfOk result (λ columns. columns ≡ spec.columns_fetched target.now metric.now) }
-{
     let mut columns = target_columns(alloc, &target.name, target.fields.as_slice())?;
     push_metric_keys(alloc, &mut columns, metric.fields.as_slice())?;
-    columns.push(value_column(alloc, metric)?)?;
+    let of = metric.value.copy(alloc)?;
+    columns.push(plain_column(alloc, metric.column.as_str(), of, OF_NUMBER)?)?;
     Ok(columns)
 }
 
@@ -84,14 +77,11 @@ fn push_metric_keys(
 fn key_column(alloc: Global, anchor: Option<Anchor>, field: &Field) -> Result<Column, AllocError>
     ensures column { IfOk result (λ column. column ≡ spec.key_column anchor field.now) }
 {
-    Ok(Column {
-        name: field.name.copy(alloc)?,
-        of: field_value_type(field.of),
-        key: true,
-        anchor,
-        cell_bits: NUMBER_BITS,
-        total_bits: SUM_BITS,
-    })
+    let of = field_value_type(field.of);
+    let mut column = plain_column(alloc, field.name.as_str(), of, OF_NUMBER)?;
+    column.key = true;
+    column.anchor = anchor;
+    Ok(column)
 }
 
 fn field_value_type(of: FieldType) -> ValueType
@@ -104,19 +94,6 @@ fn field_value_type(of: FieldType) -> ValueType
     }
 }
 
-fn value_column(alloc: Global, metric: &MetricSchema) -> Result<Column, AllocError>
-    ensures column { IfOk result (λ column. column ≡ spec.value_column metric.now) }
-{
-    Ok(Column {
-        name: metric.column.copy(alloc)?,
-        of: metric.value.copy(alloc)?,
-        key: false,
-        anchor: None,
-        cell_bits: NUMBER_BITS,
-        total_bits: SUM_BITS,
-    })
-}
-
 /// The kind of a metric; one that is unknown is taken for a gauge.
 pub(crate) fn kind_of(metric: Option<&MetricSchema>) -> Kind
     ensures kind { result ≡ spec.kind_of (option_copied metric.entry) }
@@ -127,17 +104,16 @@ pub(crate) fn kind_of(metric: Option<&MetricSchema>) -> Kind
     }
 }
 
-/// Whether two columns of a fetch, which are few, have one name.
+/// Whether two columns have one name.
 #[tactic(auto, using(crate::proofs::ColumnNameLemmas::named_columns))]
-pub(crate) fn names_repeat(columns: &[Column]) -> bool
-    ensures repeated { result ≡ texts_repeat (spec.column_names columns.now) }
+pub(crate) fn names_repeat(alloc: Global, columns: &[Column]) -> Result<bool, AllocError>
+    ensures repeated { IfOk result (λ repeated. repeated ≡ texts_repeat (spec.column_names columns.now)) }
 {
-    let mut rest = columns;
-    while let Some((column, others)) = rest.split_first() {
-        if has_name(others, &column.name) {
-            return true;
+    let mut names = Taken::none(alloc);
+    for column in columns {
+        if names.take(column.name.as_str())? {
+            return Ok(true);
         }
-        rest = others;
     }
-    false
+    Ok(false)
 }

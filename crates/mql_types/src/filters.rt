@@ -7,8 +7,8 @@ ghost use Rattle.mql_types.specs.PredicateParts.{remaining_faults, remaining_nod
 ghost use Rattle.mql_ast.specs.PredicateParts.{nodes};
 ghost use Rattle.mon_value.specs.declared.columns.Column.{Column};
 
-use crate::faults::{Faults, TypeKind, TypeWord, type_word};
-use crate::places::column_named;
+use crate::faults::{Faults, TypeWord};
+use crate::places::NamedColumns;
 use mon_value::{Column, FieldValue, ValueType};
 use mql_ast::{Comparison, Name, Predicate};
 use std::alloc::{AllocError, Global};
@@ -25,10 +25,11 @@ pub(crate) fn tell_predicate(
     ensures faults { OnOk result (found.new.first
         ≡ first_with found.old.first (spec.predicate_faults columns.now (predicate_tree predicate.now))) }
 {
+    let columns = NamedColumns::new(alloc, columns)?;
     let mut parts = Vec::new(alloc);
     parts.push(predicate)?;
     while let Some(part) = parts.pop() {
-        tell_part(columns, &mut parts, part, found)?;
+        tell_part(&columns, &mut parts, part, found)?;
     }
     Ok(())
 }
@@ -37,7 +38,7 @@ pub(crate) fn tell_predicate(
 // last.
 #[tactic(auto, using(crate::proofs::PredicateLemmas::parts_pushed))]
 fn tell_part<'a>(
-    columns: &[Column],
+    columns: &NamedColumns<'_>,
     parts: &mut Vec<&'a Predicate>,
     part: &'a Predicate,
     found: &mut Faults,
@@ -85,7 +86,7 @@ fn push_both<'a>(
 
 // Tells a comparison with a literal of another type, or of an order among truth values.
 fn tell_comparison(
-    columns: &[Column],
+    columns: &NamedColumns<'_>,
     name: &Name,
     how: Comparison,
     literal: &FieldValue,
@@ -94,38 +95,21 @@ fn tell_comparison(
     ensures faults { found.new.first ≡ first_with found.old.first (spec.condition_faults columns.now name.now
         (λ of. spec.can_compare of how literal.now) (spec.literal_word literal.now)) }
 {
-    match column_named(columns, &name.text) {
-        Some(column) => {
-            let kind = TypeKind::Mismatch(type_word(&column.of), literal_word(literal));
-            found.tell_where(!can_compare(&column.of, how, literal), name.at, kind);
-        }
-        None => found.tell(name.at, TypeKind::UnknownColumn),
+    if let Some(column) = columns.known(name, found) {
+        let fits = can_compare(&column.of, how, literal);
+        found.tell_unlike(fits, name.at, &column.of, literal_word(literal));
     }
 }
 
 // Tells a pattern that isn't asked of a text.
-fn tell_likeness(columns: &[Column], name: &Name, found: &mut Faults)
+fn tell_likeness(columns: &NamedColumns<'_>, name: &Name, found: &mut Faults)
     ensures faults { found.new.first ≡ first_with found.old.first
         (spec.condition_faults columns.now name.now spec.is_text TypeWord.Text) }
 {
-    match column_named(columns, &name.text) {
-        Some(column) => {
-            let kind = TypeKind::Mismatch(type_word(&column.of), TypeWord::Text);
-            found.tell_where(!matches!(column.of, ValueType::Text), name.at, kind);
-        }
-        None => found.tell(name.at, TypeKind::UnknownColumn),
+    if let Some(column) = columns.known(name, found) {
+        let fits = matches!(column.of, ValueType::Text);
+        found.tell_unlike(fits, name.at, &column.of, TypeWord::Text);
     }
-}
-
-/// Tells a name of no column.
-pub(crate) fn tell_unknown(columns: &[Column], name: &Name, found: &mut Faults)
-    ensures faults { found.new.first ≡ first_with found.old.first (spec.unknown_faults columns.now name.now) }
-{
-    found.tell_where(
-        column_named(columns, &name.text).is_none(),
-        name.at,
-        TypeKind::UnknownColumn,
-    );
 }
 
 // Whether a column of a type can be compared so with a literal.

@@ -1,65 +1,74 @@
 // What `group_by` gives: the columns that it lists, as keys, and its aggregates.
-ghost use Rattle.std.specs.Prelude.{◌≡◌, IfOk, OnOk, map};
+ghost use Rattle.std.specs.Prelude.{◌≡◌, ◌++◌, IfOk, OnOk, map};
 ghost use Rattle.mql_types.specs.Faults.{first_with};
 ghost use Rattle.mql_types.specs.Groupings as spec;
 ghost use Rattle.mql_types.specs.Items.{is_taken, name_texts, reserved_names, taken_faults, with_name, with_names};
 ghost use Rattle.mql_types.specs.Filters.{unknown_faults};
 ghost use Rattle.mql_types.specs.Faults.{fault_where};
+ghost use Rattle.mql_types.specs.declared.faults.TypeKind.TheVariants.{DuplicateColumn};
+ghost use Rattle.mql_types.specs.Levels.{meeting_level};
+ghost use Rattle.mql_types.specs.Nodes.{columns_of, level_of, node_tree};
 ghost use Rattle.std.specs.List.{flat_map};
 
-use crate::faults::{Faults, TypeKind, TypeWord, type_word};
+use crate::faults::{Faults, TypeWord};
 use crate::fetches::number_of;
-use crate::filters::tell_unknown;
 use crate::items::plain_column;
-use crate::places::{column_named, place_named, push_some};
-use crate::taken::Taken;
-use crate::widths::Width;
+use crate::levels::{Level, meeting_level};
+use crate::nodes::Node;
+use crate::parts::Setting;
+use crate::places::{NamedColumns, push_some};
+use crate::taken::{Label, Taken};
+use crate::widths::{OF_COUNT, Width};
 use mon_value::{
     Aggregate, AggregateKind, Aggregates, Column, Columns, Positions, TryCopy, ValueType,
 };
 use mql_ast::{FoldWord, Name};
 use std::alloc::{AllocError, Global};
 
-/// What a `group_by` is made of: the places of its listed columns, those columns as keys, its aggregates and the
-/// columns that they give.
+/// What a `group_by` is made of: the places of its listed columns, its aggregates, its columns and its level.
 #[derive(Drop)]
 pub(crate) struct Grouping {
     pub(crate) places: Positions,
-    pub(crate) keys: Columns,
     pub(crate) aggregates: Aggregates,
-    pub(crate) made: Columns,
+    pub(crate) columns: Columns,
+    pub(crate) level: Level,
 }
 
 impl Grouping {
     /// The grouping of a table by the names, as far as they are known. Tells what is wrong in it.
     #[tactic(auto, using(crate::proofs::TakenLemmas::taken_names))]
     pub(crate) fn new(
-        alloc: Global,
-        columns: &[Column],
+        setting: Setting<'_>,
+        input: &Node,
         names: &[Name],
         aggregates: &[mql_ast::Aggregate],
         found: &mut Faults,
     ) -> Result<Grouping, AllocError>
-        ensures places { IfOk result (λ grouping. grouping.places
-            ≡ spec.listed_places columns.now reserved_names names.now) }
-        ensures keys { IfOk result (λ grouping. grouping.keys ≡ spec.listed_columns columns.now names.now) }
-        ensures aggregates { IfOk result (λ grouping. grouping.aggregates
-            ≡ spec.aggregates_over columns.now aggregates.now) }
-        ensures made { IfOk result (λ grouping. grouping.made ≡ spec.aggregate_columns columns.now aggregates.now) }
-        ensures faults { OnOk result (found.new.first
-            ≡ first_with found.old.first (spec.group_faults columns.now names.now aggregates.now)) }
+        ensures places { IfOk result (λ made. made.places
+            ≡ spec.listed_places (columns_of (node_tree input.now)) reserved_names names.now) }
+        ensures aggregates { IfOk result (λ made. made.aggregates
+            ≡ spec.aggregates_over (columns_of (node_tree input.now)) aggregates.now) }
+        ensures columns { IfOk result (λ made. made.columns
+            ≡ spec.group_columns (columns_of (node_tree input.now)) names.now aggregates.now) }
+        ensures level { IfOk result (λ made. made.level ≡ meeting_level setting.entry.schemas.now
+            (level_of (node_tree input.now)) (spec.listed_columns (columns_of (node_tree input.now)) names.now)) }
+        ensures faults { OnOk result (found.new.first ≡ first_with found.old.first
+            (spec.group_faults (columns_of (node_tree input.now)) names.now aggregates.now)) }
     {
+        let alloc = setting.alloc;
+        let all = NamedColumns::new(alloc, input.columns())?;
         let mut taken = Taken::new(alloc)?;
-        let places = listed_places(alloc, columns, names, &mut taken, found)?;
+        let places = listed_places(alloc, &all, names, &mut taken, found)?;
         tell_names(aggregates, &mut taken, found)?;
-        tell_listed(columns, names, found);
-        tell_folds(columns, aggregates, found);
-        let keys = key_columns_at(alloc, columns, places.as_slice())?;
+        tell_listed(&all, names, found);
+        let mut columns = key_columns_at(alloc, input.columns(), places.as_slice())?;
+        let level = meeting_level(setting.schemas, input.info().level, columns.as_slice());
+        let aggregates = push_folds(alloc, &all, aggregates, &mut columns, found)?;
         Ok(Grouping {
             places,
-            keys,
-            aggregates: aggregates_over(alloc, columns, aggregates)?,
-            made: aggregate_columns(alloc, columns, aggregates)?,
+            aggregates,
+            columns,
+            level,
         })
     }
 }
@@ -68,7 +77,7 @@ impl Grouping {
 #[tactic(auto, using(crate::proofs::TakenLemmas::taken_names))]
 fn listed_places<'a>(
     alloc: Global,
-    columns: &[Column],
+    columns: &NamedColumns<'_>,
     names: &'a [Name],
     taken: &mut Taken<'a>,
     found: &mut Faults,
@@ -88,7 +97,7 @@ fn listed_places<'a>(
 
 // The place of a name that stands for the first time.
 fn new_place<'a>(
-    columns: &[Column],
+    columns: &NamedColumns<'_>,
     name: &'a Name,
     taken: &mut Taken<'a>,
     found: &mut Faults,
@@ -96,12 +105,12 @@ fn new_place<'a>(
     ensures place { IfOk result (λ place. place ≡ spec.new_place columns.now taken.old name.now.text) }
     ensures taken { OnOk result (taken.new ≡ with_name taken.old name.now.text) }
     ensures faults { OnOk result (found.new.first ≡ first_with found.old.first
-        (fault_where (is_taken name.now.text taken.old) name.now.at TypeKind.DuplicateColumn)) }
+        (fault_where (is_taken name.now.text taken.old) name.now.at DuplicateColumn)) }
 {
-    if taken.tell(name.text.as_str(), name.at, found)? {
+    if taken.tell(Label::of(name), found)? {
         return Ok(None);
     }
-    match place_named(columns, &name.text) {
+    match columns.place(&name.text) {
         Some(place) => Ok(Some(number_of(place)?)),
         None => Ok(None),
     }
@@ -118,30 +127,19 @@ fn tell_names<'a>(
         (taken_faults taken.old (map spec.aggregate_name aggregates.now))) }
 {
     for aggregate in aggregates {
-        taken.tell(aggregate_text(aggregate), aggregate_at(aggregate), found)?;
+        taken.tell(label_of(aggregate), found)?;
     }
     Ok(())
 }
 
 // Tells listed names of no column.
 #[tactic(auto, using(crate::proofs::FaultLemmas::faults))]
-fn tell_listed(columns: &[Column], names: &[Name], found: &mut Faults)
+fn tell_listed(columns: &NamedColumns<'_>, names: &[Name], found: &mut Faults)
     ensures faults { found.new.first
         ≡ first_with found.old.first (flat_map (unknown_faults columns.now) names.now) }
 {
     for name in names {
-        tell_unknown(columns, name, found);
-    }
-}
-
-// Tells aggregates that don't take their columns.
-#[tactic(auto, using(crate::proofs::FaultLemmas::faults))]
-fn tell_folds(columns: &[Column], aggregates: &[mql_ast::Aggregate], found: &mut Faults)
-    ensures faults { found.new.first
-        ≡ first_with found.old.first (flat_map (spec.aggregate_faults columns.now) aggregates.now) }
-{
-    for aggregate in aggregates {
-        tell_folded(columns, aggregate, found);
+        columns.known(name, found);
     }
 }
 
@@ -171,122 +169,81 @@ fn key_at(alloc: Global, columns: &[Column], place: u32) -> Result<Option<Column
     }
 }
 
-// What the aggregates make, where their columns are known.
-#[tactic(auto, using(crate::proofs::ListedLemmas::listed_items))]
-fn aggregates_over(
+// What the aggregates make, where their columns are known. Adds the columns that they give, and tells those that don't
+// take their columns.
+#[tactic(auto, using(crate::proofs::ItemLemmas::item_steps))]
+fn push_folds(
     alloc: Global,
-    columns: &[Column],
+    columns: &NamedColumns<'_>,
     aggregates: &[mql_ast::Aggregate],
+    given: &mut Columns,
+    found: &mut Faults,
 ) -> Result<Aggregates, AllocError>
     ensures made { IfOk result (λ made. made ≡ spec.aggregates_over columns.now aggregates.now) }
+    ensures given { OnOk result (given.new ≡ given.old ++ spec.aggregate_columns columns.now aggregates.now) }
+    ensures faults { OnOk result (found.new.first ≡ first_with found.old.first
+        (flat_map (spec.aggregate_faults columns.now) aggregates.now)) }
 {
     let mut made = Aggregates::new(alloc);
     for aggregate in aggregates {
-        push_some(&mut made, aggregate_of(columns, aggregate)?)?;
+        push_fold(alloc, columns, aggregate, &mut made, given, found)?;
     }
     Ok(made)
 }
 
-fn aggregate_of(
-    columns: &[Column],
+// Adds what an aggregate makes and the column that it gives, where its column is known. Tells one that doesn't take its
+// column.
+fn push_fold(
+    alloc: Global,
+    columns: &NamedColumns<'_>,
     aggregate: &mql_ast::Aggregate,
-) -> Result<Option<Aggregate>, AllocError>
-    ensures made { IfOk result (λ made. made ≡ spec.aggregate_of columns.now aggregate.now) }
+    made: &mut Aggregates,
+    given: &mut Columns,
+    found: &mut Faults,
+) -> Result<(), AllocError>
+    ensures made { OnOk result (made.new ≡ made.old ++ spec.listed (spec.aggregate_of columns.now aggregate.now)) }
+    ensures given { OnOk result (given.new ≡ given.old ++ spec.listed (spec.column_made columns.now aggregate.now)) }
+    ensures faults { OnOk result (found.new.first
+        ≡ first_with found.old.first (spec.aggregate_faults columns.now aggregate.now)) }
 {
+    let name = label_of(aggregate).text;
     let Some(source) = &aggregate.column else {
-        return Ok(Some(Aggregate {
+        made.push(Aggregate {
             what: AggregateKind::Count,
             column: 0,
-        }));
+        })?;
+        return given.push(plain_column(alloc, name, ValueType::Int, OF_COUNT)?);
     };
-    let Some(place) = place_named(columns, &source.text) else {
-        return Ok(None);
+    let Some(column) = columns.known(source, found) else {
+        return Ok(());
     };
-    let Some(column) = columns.get(place) else {
-        return Ok(None);
+    let Some(place) = columns.place(&source.text) else {
+        return Ok(());
     };
-    Ok(Some(Aggregate {
-        what: fold_kind(aggregate.fold, &column.of),
+    let fold = aggregate.fold;
+    let takes = fold_takes(fold, &column.of);
+    found.tell_unlike(takes, source.at, &column.of, wanted_word(fold));
+    made.push(Aggregate {
+        what: fold_kind(fold, &column.of),
         column: number_of(place)?,
-    }))
+    })?;
+    let width = fold_width(fold, Width::of(column));
+    given.push(plain_column(alloc, name, column.of.copy(alloc)?, width)?)
 }
 
-// The columns that the aggregates give, where their types are known.
-#[tactic(auto, using(crate::proofs::ListedLemmas::listed_items))]
-fn aggregate_columns(
-    alloc: Global,
-    columns: &[Column],
-    aggregates: &[mql_ast::Aggregate],
-) -> Result<Columns, AllocError>
-    ensures made { IfOk result (λ made. made ≡ spec.aggregate_columns columns.now aggregates.now) }
-{
-    let mut made = Columns::new(alloc);
-    for aggregate in aggregates {
-        let column = column_made(alloc, columns, aggregate)?;
-        push_some(&mut made, column)?;
-    }
-    Ok(made)
-}
-
-fn column_made(
-    alloc: Global,
-    columns: &[Column],
-    aggregate: &mql_ast::Aggregate,
-) -> Result<Option<Column>, AllocError>
-    ensures column { IfOk result (λ column. column ≡ spec.column_made columns.now aggregate.now) }
-{
-    let name = aggregate_text(aggregate);
-    let Some(source) = &aggregate.column else {
-        let count = plain_column(alloc, name, ValueType::Int, Width::of_count())?;
-        return Ok(Some(count));
-    };
-    let Some(column) = column_named(columns, &source.text) else {
-        return Ok(None);
-    };
-    let width = fold_width(aggregate.fold, Width::of(column));
-    let made = plain_column(alloc, name, column.of.copy(alloc)?, width)?;
-    Ok(Some(made))
-}
-
-// Tells an aggregate whose column is unknown, or of a type that its fold doesn't take.
-fn tell_folded(columns: &[Column], aggregate: &mql_ast::Aggregate, found: &mut Faults)
-    ensures faults { found.new.first ≡ first_with found.old.first
-        (spec.folded_faults columns.now aggregate.now.fold aggregate.now.column) }
-{
-    let Some(name) = &aggregate.column else {
-        return;
-    };
-    match column_named(columns, &name.text) {
-        Some(column) => {
-            let kind = TypeKind::Mismatch(type_word(&column.of), wanted_word(aggregate.fold));
-            found.tell_where(!fold_takes(aggregate.fold, &column.of), name.at, kind);
-        }
-        None => found.tell(name.at, TypeKind::UnknownColumn),
-    }
-}
-
-// The name of the column that an aggregate gives.
-fn aggregate_text(aggregate: &mql_ast::Aggregate) -> &str
-    ensures text { result.now ≡ (spec.aggregate_name aggregate.now).text }
+// The name of the column that an aggregate gives, and where it stands.
+fn label_of(aggregate: &mql_ast::Aggregate) -> Label<'_>
+    ensures text { result.text.now ≡ (spec.aggregate_name aggregate.now).text }
+    ensures at { result.at ≡ (spec.aggregate_name aggregate.now).at }
 {
     match &aggregate.name {
-        Some(name) => name.text.as_str(),
+        Some(name) => Label::of(name),
         None => match &aggregate.column {
-            Some(name) => name.text.as_str(),
-            None => "count",
-        },
-    }
-}
-
-// Where that name stands.
-fn aggregate_at(aggregate: &mql_ast::Aggregate) -> u32
-    ensures at { result ≡ (spec.aggregate_name aggregate.now).at }
-{
-    match &aggregate.name {
-        Some(name) => name.at,
-        None => match &aggregate.column {
-            Some(name) => name.at,
-            None => aggregate.at,
+            Some(name) => Label::of(name),
+            None => Label {
+                text: "count",
+                at: aggregate.at,
+            },
         },
     }
 }
@@ -334,7 +291,7 @@ fn fold_width(fold: FoldWord, width: Width) -> Width
     ensures width { result ≡ spec.fold_width fold width }
 {
     match fold {
-        FoldWord::Count => Width::of_count(),
+        FoldWord::Count => OF_COUNT,
         FoldWord::Sum | FoldWord::Merge | FoldWord::Aggregate => width.summed(),
         FoldWord::Min | FoldWord::Max | FoldWord::Mean => width,
     }

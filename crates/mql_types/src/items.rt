@@ -8,10 +8,9 @@ ghost use Rattle.mql_types.specs.Fetches.{column_names};
 ghost use Rattle.mql_types.specs.Items as spec;
 
 use crate::faults::Faults;
-use crate::filters::tell_unknown;
-use crate::places::{column_named, push_some};
+use crate::places::{NamedColumns, push_some};
 use crate::sums::sum_operand;
-use crate::taken::Taken;
+use crate::taken::{Label, Taken};
 use crate::widths::Width;
 use mon_value::{Column, Columns, Text, TryCopy, ValueType};
 use mql_ast::{Expr, Item, Name};
@@ -33,7 +32,8 @@ pub(crate) fn value_columns(
     let mut taken = Taken::new(alloc)?;
     let keys = keys(alloc, columns, &mut taken)?;
     tell_names(items, &mut taken, found)?;
-    item_columns(alloc, columns, items, keys, found)
+    let columns = NamedColumns::new(alloc, columns)?;
+    item_columns(alloc, &columns, items, keys, found)
 }
 
 // The keys, whose names are taken.
@@ -67,7 +67,7 @@ fn tell_names<'a>(
         (spec.taken_faults taken.old (map spec.item_name (map item_tree items.now)))) }
 {
     for item in items {
-        taken.tell(item_text(item), item_at(item), found)?;
+        taken.tell(item_label(item), found)?;
     }
     Ok(())
 }
@@ -76,7 +76,7 @@ fn tell_names<'a>(
 #[tactic(auto, using(crate::proofs::ItemLemmas::item_steps))]
 fn item_columns(
     alloc: Global,
-    columns: &[Column],
+    columns: &NamedColumns<'_>,
     items: &[Item],
     keys: Columns,
     found: &mut Faults,
@@ -97,7 +97,7 @@ fn item_columns(
 // The column that an item gives, if its type is known. Tells what is wrong in it.
 fn item_column(
     alloc: Global,
-    columns: &[Column],
+    columns: &NamedColumns<'_>,
     item: &Item,
     found: &mut Faults,
 ) -> Result<Option<Column>, AllocError>
@@ -105,39 +105,19 @@ fn item_column(
     ensures faults { OnOk result (found.new.first
         ≡ first_with found.old.first (spec.item_sum_faults columns.now (item_tree item.now))) }
 {
+    let name = item_label(item).text;
     match column_alone(&item.sum) {
-        Some(source) => {
-            tell_unknown(columns, source, found);
-            renamed_column(alloc, columns, &source.text, item_text(item))
-        }
-        None => {
-            let sum = sum_operand(alloc, columns, &item.sum, found)?;
-            match sum.width {
-                Some(width) => {
-                    let column = plain_column(alloc, item_text(item), ValueType::Int, width)?;
-                    Ok(Some(column))
-                }
-                None => Ok(None),
+        Some(source) => match columns.known(source, found) {
+            Some(column) => {
+                let of = column.of.copy(alloc)?;
+                Ok(Some(plain_column(alloc, name, of, Width::of(column))?))
             }
-        }
-    }
-}
-
-// A column as it is, by another name, where it is known.
-fn renamed_column(
-    alloc: Global,
-    columns: &[Column],
-    source: &Text,
-    name: &str,
-) -> Result<Option<Column>, AllocError>
-    ensures column { IfOk result (λ column. column ≡ spec.renamed name.now source.now columns.now) }
-{
-    match column_named(columns, source) {
-        Some(column) => {
-            let of = column.of.copy(alloc)?;
-            Ok(Some(plain_column(alloc, name, of, Width::of(column))?))
-        }
-        None => Ok(None),
+            None => Ok(None),
+        },
+        None => match sum_operand(alloc, columns, &item.sum, found)?.width {
+            Some(width) => Ok(Some(plain_column(alloc, name, ValueType::Int, width)?)),
+            None => Ok(None),
+        },
     }
 }
 
@@ -166,39 +146,20 @@ fn column_alone(sum: &Expr) -> Option<&Name>
 {
     match sum {
         Expr::Column(name) => Some(name),
-        Expr::Number { at: _, value: _ } => None,
-        Expr::Plus(_, _) => None,
-        Expr::Minus(_, _) => None,
-        Expr::Percentile {
-            at: _,
-            column: _,
-            p: _,
-        } => None,
+        Expr::Number { .. } | Expr::Plus(..) | Expr::Minus(..) | Expr::Percentile { .. } => None,
     }
 }
 
-// The name that an item gives its column.
-fn item_text(item: &Item) -> &str
-    ensures text { result.now ≡ (spec.item_name (item_tree item.now)).text }
+// The name that an item gives its column, and where it stands.
+fn item_label(item: &Item) -> Label<'_>
+    ensures text { result.text.now ≡ (spec.item_name (item_tree item.now)).text }
+    ensures at { result.at ≡ (spec.item_name (item_tree item.now)).at }
 {
     match &item.name {
-        Some(name) => name.text.as_str(),
+        Some(name) => Label::of(name),
         None => match column_alone(&item.sum) {
-            Some(name) => name.text.as_str(),
-            None => "",
-        },
-    }
-}
-
-// Where that name stands.
-fn item_at(item: &Item) -> u32
-    ensures at { result ≡ (spec.item_name (item_tree item.now)).at }
-{
-    match &item.name {
-        Some(name) => name.at,
-        None => match column_alone(&item.sum) {
-            Some(name) => name.at,
-            None => 0,
+            Some(name) => Label::of(name),
+            None => Label { text: "", at: 0 },
         },
     }
 }

@@ -4,9 +4,10 @@ ghost use Rattle.std.specs.List.{list_any};
 ghost use Rattle.mon_value.specs.declared.columns.Anchor.TheVariants as anchor;
 ghost use Rattle.mql_types.specs.Levels as spec;
 
+use crate::parts::Setting;
 use mon_schema::Schemas;
 use mon_value::{Anchor, Column, Field, Text, TryCopy};
-use std::alloc::{AllocError, Global};
+use std::alloc::AllocError;
 
 /// How high an operation is done: each leaf does it for its own rows, each zone for those of its leaves,
 /// or the root for all.
@@ -136,31 +137,25 @@ fn is_location_anchor(schemas: &Schemas, anchor: &Anchor) -> bool
     match anchor {
         Anchor::Location => true,
         Anchor::Field { schema, field } => match schemas.target(schema.as_bytes()) {
-            Some(target) => marks_location(target.fields.as_slice(), *field),
+            Some(target) => match target.fields.as_slice().get(*field as usize) {
+                Some(field) => field.location,
+                None => false,
+            },
             None => false,
         },
     }
 }
 
-// Whether the field at a place is marked as the location.
-fn marks_location(fields: &[Field], place: u32) -> bool
-    ensures marked { result ≡ spec.marks_location place fields.now }
-{
-    match fields.get(place as usize) {
-        Some(field) => field.location,
-        None => false,
-    }
-}
-
 /// What two columns that hold the same are both anchored to.
 pub(crate) fn common_anchor(
-    alloc: Global,
-    schemas: &Schemas,
+    setting: Setting<'_>,
     one: &Option<Anchor>,
     other: &Option<Anchor>,
 ) -> Result<Option<Anchor>, AllocError>
-    ensures anchor { IfOk result (λ common. common ≡ spec.common_anchor schemas.now one.now other.now) }
+    ensures anchor { IfOk result (λ common. common
+        ≡ spec.common_anchor setting.entry.schemas.now one.now other.now) }
 {
+    let schemas = setting.schemas;
     let Some(one) = one else {
         return Ok(None);
     };
@@ -168,7 +163,7 @@ pub(crate) fn common_anchor(
         return Ok(None);
     };
     if same_anchor(one, other) {
-        return Ok(Some(one.copy(alloc)?));
+        return Ok(Some(one.copy(setting.alloc)?));
     }
     if is_location_anchor(schemas, one) && is_location_anchor(schemas, other) {
         return Ok(Some(Anchor::Location));

@@ -1,10 +1,12 @@
 // The typed tree of a query.
-ghost use Rattle.std.specs.Prelude.{◌≡◌};
+ghost use Rattle.std.specs.Prelude.{◌≡◌, IfOk};
 ghost use Rattle.mql_types.specs.Nodes.{columns_of, info_of, node_tree};
+ghost use Rattle.mql_types.specs.Typing.{info};
 
 use crate::levels::Level;
 use mon_value::{Aggregates, Aligner, Column, Columns, Positions, Shared, Text};
 use mql_ast::{Items, Predicate};
+use std::alloc::{AllocError, Global};
 
 /// A query that has a type: its tree, and the grid of its times in seconds. Every table of the tree that is
 /// grouped, computed, cut to a top, joined, united or given as the answer is aligned.
@@ -22,6 +24,24 @@ pub struct NodeInfo {
     pub at: Option<u32>,
     pub columns: Shared<Columns>,
     pub level: Level,
+}
+
+impl NodeInfo {
+    /// What is told of a node at a place, with columns that it alone has so far.
+    pub(crate) fn new(
+        alloc: Global,
+        at: Option<u32>,
+        columns: Columns,
+        level: Level,
+    ) -> Result<NodeInfo, AllocError>
+        ensures info { IfOk result (λ made. made ≡ info at columns level) }
+    {
+        Ok(NodeInfo {
+            at,
+            columns: Shared::new(alloc, columns)?,
+            level,
+        })
+    }
 }
 
 /// A source or an operation, on what flows into it. Joins and unions of several branches are nested from
@@ -77,48 +97,14 @@ impl Node {
         ensures info { result.now ≡ info_of (node_tree self.now) }
     {
         match self {
-            Node::Fetch {
-                info,
-                schema: _,
-                metric: _,
-            } => info,
-            Node::Filter {
-                info,
-                by: _,
-                input: _,
-            } => info,
-            Node::Align {
-                info,
-                by: _,
-                input: _,
-            } => info,
-            Node::GroupBy {
-                info,
-                by: _,
-                with: _,
-                input: _,
-            } => info,
-            Node::Value {
-                info,
-                items: _,
-                input: _,
-            } => info,
-            Node::Top {
-                info,
-                most: _,
-                column: _,
-                input: _,
-            } => info,
-            Node::Join {
-                info,
-                left: _,
-                right: _,
-            } => info,
-            Node::Union {
-                info,
-                left: _,
-                right: _,
-            } => info,
+            Node::Fetch { info, .. }
+            | Node::Filter { info, .. }
+            | Node::Align { info, .. }
+            | Node::GroupBy { info, .. }
+            | Node::Value { info, .. }
+            | Node::Top { info, .. }
+            | Node::Join { info, .. }
+            | Node::Union { info, .. } => info,
         }
     }
 

@@ -1,27 +1,28 @@
 // Operations on a part of a query.
-ghost use Rattle.std.specs.Prelude.{◌≡◌, ◌++◌, IfOk, OnOk, map, Some};
+ghost use Rattle.std.specs.Prelude.{◌≡◌, IfOk, OnOk, map, Some, unwrap_or};
 ghost use Rattle.mql_ast.specs.Trees.{deed_tree, item_tree, op_tree, predicate_tree};
 ghost use Rattle.mql_types.specs.Faults.{first_with};
 ghost use Rattle.mql_types.specs.Filters.{condition_faults, predicate_faults};
+ghost use Rattle.mql_types.specs.Groupings.{place_found};
 ghost use Rattle.mql_types.specs.Items.{is_number, value_faults};
-ghost use Rattle.mql_types.specs.Levels.{meeting_level};
+ghost use Rattle.mql_types.specs.declared.faults.TypeWord.TheVariants as word;
 ghost use Rattle.mql_types.specs.Nodes as node;
-ghost use Rattle.mql_types.specs.Nodes.{columns_of, level_of, node_tree};
+ghost use Rattle.mql_types.specs.Nodes.{columns_of, node_tree};
 ghost use Rattle.mql_types.specs.PartViews.{part_view};
 ghost use Rattle.mql_types.specs.Typing as spec;
 
 use crate::aligning::{align_node, aligned_tree, tell_align};
-use crate::faults::{Faults, TypeKind, TypeWord, type_word};
+use crate::faults::Faults;
 use crate::fetches::number_of;
 use crate::filters::tell_predicate;
 use crate::groupings::Grouping;
 use crate::items::value_columns;
-use crate::levels::{Level, meeting_level};
+use crate::levels::Level;
 use crate::nodes::{Node, NodeInfo};
 use crate::parts::{Part, Setting, table};
-use crate::places::{column_named, place_named};
-use mon_value::{Column, Columns, Shared, TryCopy, ValueType};
-use mql_ast::{Aggregate, Item, Items, Name, Op, OpKind, Predicate};
+use crate::places::NamedColumns;
+use mon_value::{Column, TryCopy};
+use mql_ast::{Items, Name, Op, OpKind, Predicate};
 use std::alloc::{AllocError, Global};
 
 /// A part with operations more. Tells what is wrong in them.
@@ -65,14 +66,9 @@ fn op_part(
         }
         OpKind::GroupBy(names, aggregates) => {
             let input = aligned_tree(setting.alloc, setting.every, part)?;
-            let grouping = Grouping::new(
-                setting.alloc,
-                input.columns(),
-                names.as_slice(),
-                aggregates.as_slice(),
-                found,
-            )?;
-            Ok(table(group_node(setting, op.at, grouping, input)?))
+            let (names, aggregates) = (names.as_slice(), aggregates.as_slice());
+            let grouping = Grouping::new(setting, &input, names, aggregates, found)?;
+            Ok(table(group_node(setting.alloc, op.at, grouping, input)?))
         }
         OpKind::Value(items) => {
             let input = aligned_tree(setting.alloc, setting.every, part)?;
@@ -80,11 +76,9 @@ fn op_part(
         }
         OpKind::Top(most, column) => {
             let input = aligned_tree(setting.alloc, setting.every, part)?;
-            tell_rank(input.columns(), column, found);
-            Ok(table(top_node(setting.alloc, op.at, *most, column, input)?))
+            Ok(table(top_node(setting.alloc, op.at, *most, column, input, found)?))
         }
-        OpKind::Every(_) => Ok(part),
-        OpKind::Within(_) => Ok(part),
+        OpKind::Every(_) | OpKind::Within(_) => Ok(part),
     }
 }
 
@@ -116,45 +110,16 @@ fn filter_part(
 }
 
 // Groups are made where rows that agree in the listed columns meet.
-fn group_node(
-    setting: Setting<'_>,
-    at: u32,
-    grouping: Grouping,
-    input: Node,
-) -> Result<Node, AllocError>
+fn group_node(alloc: Global, at: u32, grouping: Grouping, input: Node) -> Result<Node, AllocError>
     ensures node { IfOk result (λ made. node_tree made ≡ node.GroupBy
-        (spec.info (Some at) (grouping.keys ++ grouping.made)
-        (meeting_level setting.entry.schemas.now (level_of (node_tree input)) grouping.keys))
-        grouping.places grouping.aggregates (node_tree input)) }
+        (spec.info (Some at) grouping.columns grouping.level) grouping.places grouping.aggregates (node_tree input)) }
 {
-    let level = meeting_level(
-        setting.schemas,
-        input.info().level,
-        grouping.keys.as_slice(),
-    );
-    let columns = both_columns(grouping.keys, grouping.made)?;
-    let info = NodeInfo {
-        at: Some(at),
-        columns: Shared::new(setting.alloc, columns)?,
-        level,
-    };
     Ok(Node::GroupBy {
-        info,
+        info: NodeInfo::new(alloc, Some(at), grouping.columns, grouping.level)?,
         by: grouping.places,
         with: grouping.aggregates,
-        input: Box::new(setting.alloc, input)?,
+        input: Box::new(alloc, input)?,
     })
-}
-
-// Columns with others behind them.
-fn both_columns(keys: Columns, made: Columns) -> Result<Columns, AllocError>
-    ensures columns { IfOk result (λ columns. columns ≡ keys ++ made) }
-{
-    let mut columns = keys;
-    for column in made {
-        columns.push(column)?;
-    }
-    Ok(columns)
 }
 
 fn value_node(
@@ -170,13 +135,8 @@ fn value_node(
         (value_faults (columns_of (node_tree input)) (map item_tree items.now))) }
 {
     let columns = value_columns(alloc, input.columns(), items.as_slice(), found)?;
-    let info = NodeInfo {
-        at: Some(at),
-        columns: Shared::new(alloc, columns)?,
-        level: input.info().level,
-    };
     Ok(Node::Value {
-        info,
+        info: NodeInfo::new(alloc, Some(at), columns, input.info().level)?,
         items: copied_items(alloc, items)?,
         input: Box::new(alloc, input)?,
     })
@@ -192,17 +152,21 @@ fn copied_items(alloc: Global, items: &Items) -> Result<Items, AllocError>
     Ok(copied)
 }
 
-// The rows that come first are known at the root alone.
+// The rows that come first are known at the root alone. Tells a column that isn't there or isn't of numbers, by which
+// rows are ranked.
 fn top_node(
     alloc: Global,
     at: u32,
     most: u32,
     column: &Name,
     input: Node,
+    found: &mut Faults,
 ) -> Result<Node, AllocError>
     ensures node { IfOk result (λ made. node_tree made ≡ spec.top_node at most column.now (node_tree input)) }
+    ensures faults { OnOk result (found.new.first ≡ first_with found.old.first
+        (condition_faults (columns_of (node_tree input)) column.now is_number word.Int)) }
 {
-    let place = place_named(input.columns(), &column.text).unwrap_or(0);
+    let place = ranked_place(alloc, input.columns(), column, found)?;
     let info = NodeInfo {
         at: Some(at),
         columns: input.info().columns.copy(alloc)?,
@@ -216,16 +180,18 @@ fn top_node(
     })
 }
 
-// Tells a column that isn't there, or isn't of numbers, by which rows are ranked.
-fn tell_rank(columns: &[Column], name: &Name, found: &mut Faults)
-    ensures faults { found.new.first ≡ first_with found.old.first
-        (condition_faults columns.now name.now is_number TypeWord.Int) }
+// Where the column stands by which rows are ranked.
+fn ranked_place(
+    alloc: Global,
+    columns: &[Column],
+    name: &Name,
+    found: &mut Faults,
+) -> Result<usize, AllocError>
+    ensures place { IfOk result (λ place. place ≡ unwrap_or (place_found name.now.text columns.now) 0) }
+    ensures faults { OnOk result (found.new.first ≡ first_with found.old.first
+        (condition_faults columns.now name.now is_number word.Int)) }
 {
-    match column_named(columns, &name.text) {
-        Some(column) => {
-            let kind = TypeKind::Mismatch(type_word(&column.of), TypeWord::Int);
-            found.tell_where(!matches!(column.of, ValueType::Int), name.at, kind);
-        }
-        None => found.tell(name.at, TypeKind::UnknownColumn),
-    }
+    let columns = NamedColumns::new(alloc, columns)?;
+    columns.number(name, found);
+    Ok(columns.place(&name.text).unwrap_or(0))
 }

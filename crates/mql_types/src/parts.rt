@@ -9,7 +9,7 @@ ghost use Rattle.mql_types.specs.PartViews.{part_view};
 ghost use Rattle.mql_types.specs.Typing as spec;
 
 use crate::aligning::aligned_tree;
-use crate::branches::{common_columns, join_columns, same_columns, tell_pairs, union_columns};
+use crate::branches::{Joined, same_columns, union_columns};
 use crate::faults::{Faults, TypeKind};
 use crate::fetches::{fetch_columns, kind_of, names_repeat};
 use crate::levels::{Level, meeting_level};
@@ -17,7 +17,7 @@ use crate::nodes::{Node, NodeInfo};
 use crate::operations::ops_part;
 use crate::widths::tell_wide_columns;
 use mon_schema::Schemas;
-use mon_value::{Columns, Kind, Shared, Text, TryCopy};
+use mon_value::{Columns, Kind, Text, TryCopy};
 use mql_ast::{How, Name, Pipe, Source};
 use std::alloc::{AllocError, Global};
 
@@ -183,16 +183,11 @@ fn join_info(
 {
     let lefts = left.columns();
     let rights = right.columns();
-    tell_pairs(at, lefts, rights, found);
-    let columns = join_columns(setting.alloc, setting.schemas, lefts, rights)?;
-    tell_wide_columns(columns.as_slice(), at, found);
-    let common = common_columns(setting.alloc, setting.schemas, lefts, rights)?;
+    let joined = Joined::new(setting, at, lefts, rights, found)?;
+    tell_wide_columns(joined.columns.as_slice(), at, found);
     let level = left.info().level.higher(right.info().level);
-    Ok(NodeInfo {
-        at: Some(at),
-        columns: Shared::new(setting.alloc, columns)?,
-        level: meeting_level(setting.schemas, level, common.as_slice()),
-    })
+    let level = meeting_level(setting.schemas, level, joined.common.as_slice());
+    NodeInfo::new(setting.alloc, Some(at), joined.columns, level)
 }
 
 // What is told of a union.
@@ -212,13 +207,10 @@ fn union_info(
     let lefts = left.columns();
     let rights = right.columns();
     found.tell_where(!same_columns(lefts, rights), at, TypeKind::BranchColumns);
-    let columns = union_columns(setting.alloc, setting.schemas, lefts, rights)?;
+    let columns = union_columns(setting, lefts, rights)?;
     tell_wide_columns(columns.as_slice(), at, found);
-    Ok(NodeInfo {
-        at: Some(at),
-        columns: Shared::new(setting.alloc, columns)?,
-        level: left.info().level.higher(right.info().level),
-    })
+    let level = left.info().level.higher(right.info().level);
+    NodeInfo::new(setting.alloc, Some(at), columns, level)
 }
 
 // A fetch, which each leaf does.
@@ -240,18 +232,10 @@ fn fetch_part(
     found.tell_where(target.is_none(), schema.at, TypeKind::UnknownSchema);
     found.tell_where(measured.is_none(), metric.at, TypeKind::UnknownMetric);
     let columns = fetch_columns(setting.alloc, target, measured)?;
-    found.tell_where(
-        names_repeat(columns.as_slice()),
-        at,
-        TypeKind::DuplicateColumn,
-    );
-    let info = NodeInfo {
-        at: Some(at),
-        columns: Shared::new(setting.alloc, columns)?,
-        level: Level::Leaf,
-    };
+    let repeat = names_repeat(setting.alloc, columns.as_slice())?;
+    found.tell_where(repeat, at, TypeKind::DuplicateColumn);
     let node = Node::Fetch {
-        info,
+        info: NodeInfo::new(setting.alloc, Some(at), columns, Level::Leaf)?,
         schema: schema.text.copy(setting.alloc)?,
         metric: metric.text.copy(setting.alloc)?,
     };
@@ -265,13 +249,8 @@ fn fetch_part(
 fn no_branch(alloc: Global, at: u32) -> Result<Node, AllocError>
     ensures node { IfOk result (λ node. node_tree node ≡ spec.no_branch at) }
 {
-    let info = NodeInfo {
-        at: Some(at),
-        columns: Shared::new(alloc, Columns::new(alloc))?,
-        level: Level::Leaf,
-    };
     Ok(Node::Fetch {
-        info,
+        info: NodeInfo::new(alloc, Some(at), Columns::new(alloc), Level::Leaf)?,
         schema: Text::from_str(alloc, "")?,
         metric: Text::from_str(alloc, "")?,
     })

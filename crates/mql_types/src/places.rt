@@ -1,35 +1,129 @@
 // Columns by their names.
-ghost use Rattle.std.specs.Prelude.{◌≡◌, ◌++◌, OnOk};
+ghost use Rattle.std.specs.Prelude.{◌≡◌, ◌++◌, IfOk, OnOk};
 ghost use Rattle.std.specs.Option.{option_copied};
 ghost use Rattle.mon_value.specs.Joins as join;
 ghost use Rattle.mql_ast.specs.NamedCells as named;
+ghost use Rattle.mql_ast.specs.Trees as tree;
+ghost use Rattle.mql_types.specs.Faults.{first_with};
+ghost use Rattle.mql_types.specs.Filters.{condition_faults, unknown_faults};
 ghost use Rattle.mql_types.specs.Groupings.{listed, place_found};
+ghost use Rattle.mql_types.specs.Items.{is_number, sum_width};
+ghost use Rattle.mql_types.specs.NamedPlaces.{AddsPlace};
 
-use mon_value::{Column, ListOf, Text};
-use std::alloc::AllocError;
+use crate::faults::{Faults, TypeKind, TypeWord};
+use crate::widths::Width;
+use indexmap::IndexMap;
+use mon_value::{Column, ListOf, Text, ValueType};
+use mql_ast::Name;
+use std::alloc::{AllocError, Global};
+use std::marker::Model;
 
-/// Where the first column of a name stands.
-pub(crate) fn place_named(columns: &[Column], name: &Text) -> Option<usize>
-    ensures place { result ≡ place_found name.now columns.now }
-{
-    columns.iter().position(|column| *name == column.name)
+/// The columns of a table, which are found by their names without going through them. Contracts see the list of them.
+#[derive(Drop)]
+pub(crate) struct NamedColumns<'a> {
+    columns: &'a [Column],
+    places: IndexMap<&'a str, usize>,
 }
 
-/// The first column of a name.
-pub(crate) fn column_named<'a>(columns: &'a [Column], name: &Text) -> Option<&'a Column>
-    ensures column { option_copied result ≡ named.column_named name.now columns.now }
-{
-    match place_named(columns, name) {
-        Some(place) => columns.get(place),
-        None => None,
+impl<'a> Model for NamedColumns<'a> {
+    ghost use Rattle.std.specs.Prelude.{List};
+    ghost use Rattle.mon_value.specs.declared.columns.Column.{Column};
+    ghost use Rattle.mql_types.specs.NamedPlaces.{KnowsPlaces};
+
+    ghost Value = { List Column };
+
+    ghost view = { λ all. all.columns.now };
+
+    ghost invariant = { λ all. KnowsPlaces all.columns.now all.places };
+}
+
+impl<'a> NamedColumns<'a> {
+    /// The columns, with the first place of each name.
+    pub(crate) fn new(alloc: Global, columns: &'a [Column]) -> Result<Self, AllocError>
+        ensures columns { IfOk result (λ all. all ≡ columns.now) }
+    {
+        let mut places = IndexMap::new(alloc);
+        for (place, column) in columns.iter().enumerate() {
+            add_place(&mut places, column.name.as_str(), place)?;
+        }
+        Ok(NamedColumns { columns, places })
+    }
+
+    /// The columns in their order.
+    pub(crate) fn as_slice(&self) -> &'a [Column]
+        ensures columns { result.now ≡ self.now }
+    {
+        self.columns
+    }
+
+    /// Where the first column of a name stands.
+    pub(crate) fn place(&self, name: &Text) -> Option<usize>
+        ensures place { result ≡ place_found name.now self.now }
+    {
+        match self.places.get(name.as_str()) {
+            Some(place) => Some(*place),
+            None => None,
+        }
+    }
+
+    /// The first column of a name.
+    pub(crate) fn get(&self, name: &Text) -> Option<&'a Column>
+        ensures column { option_copied result ≡ named.column_named name.now self.now }
+    {
+        match self.place(name) {
+            Some(place) => self.columns.get(place),
+            None => None,
+        }
+    }
+
+    /// Whether a column has the name.
+    pub(crate) fn has(&self, name: &Text) -> bool
+        ensures had { result ≡ join.has_name name.now self.now }
+    {
+        self.place(name).is_some()
+    }
+
+    /// The first column of a name. Tells a name of no column.
+    pub(crate) fn known(&self, name: &Name, found: &mut Faults) -> Option<&'a Column>
+        ensures column { option_copied result ≡ named.column_named name.now.text self.now }
+        ensures faults { found.new.first ≡ first_with found.old.first (unknown_faults self.now name.now) }
+    {
+        let column = self.get(&name.text);
+        found.tell_where(column.is_none(), name.at, TypeKind::UnknownColumn);
+        column
+    }
+
+    /// The width of a column of numbers. Tells a name of no column, or of one of another type.
+    pub(crate) fn number(&self, name: &Name, found: &mut Faults) -> Option<Width>
+        ensures width { result ≡ sum_width self.now (tree.Column name.now) }
+        ensures faults { found.new.first
+            ≡ first_with found.old.first (condition_faults self.now name.now is_number TypeWord.Int) }
+    {
+        let Some(column) = self.known(name, found) else {
+            return None;
+        };
+        let is_number = matches!(column.of, ValueType::Int);
+        found.tell_unlike(is_number, name.at, &column.of, TypeWord::Int);
+        if is_number {
+            Some(Width::of(column))
+        } else {
+            None
+        }
     }
 }
 
-/// Whether a column has the name.
-pub(crate) fn has_name(columns: &[Column], name: &Text) -> bool
-    ensures had { result ≡ join.has_name name.now columns.now }
+// Puts the place of a name with the others, where it stands for the first time.
+fn add_place<'a>(
+    places: &mut IndexMap<&'a str, usize>,
+    name: &'a str,
+    place: usize,
+) -> Result<(), AllocError>
+    ensures added { OnOk result (AddsPlace places.old places.new name.now place) }
 {
-    columns.iter().any(|column| *name == column.name)
+    if places.get(name).is_none() {
+        places.insert(name, place)?;
+    }
+    Ok(())
 }
 
 /// Adds an item, where there is one.

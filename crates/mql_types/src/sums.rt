@@ -1,17 +1,16 @@
 // What the sums of `value` are.
-ghost use Rattle.std.specs.Prelude.{◌≡◌, ◌+◌, ◌<◌, [], ◌∷◌, IfOk, OnOk};
+ghost use Rattle.std.specs.Prelude.{◌≡◌, ◌+◌, ◌<◌, IfOk, OnOk};
 ghost use Rattle.mql_ast.specs.NamedCells.{column_named};
-ghost use Rattle.mql_ast.specs.Trees as tree;
 ghost use Rattle.mql_ast.specs.Trees.{sum_tree};
-ghost use Rattle.mql_types.specs.Faults.{fault_at, first_with};
+ghost use Rattle.mql_types.specs.Faults.{first_with};
 ghost use Rattle.mql_types.specs.Items as spec;
 ghost use Rattle.mql_types.specs.OperandLinks.{link, linked, linked_nodes, seen, seen_sum};
 ghost use Rattle.mql_ast.specs.SumParts.{nodes};
 
 use crate::faults::{Faults, TypeKind, TypeWord, type_word};
-use crate::places;
-use crate::widths::Width;
-use mon_value::{Column, ValueType};
+use crate::places::NamedColumns;
+use crate::widths::{OF_NUMBER, Width};
+use mon_value::ValueType;
 use mql_ast::{Expr, Name};
 use std::alloc::{AllocError, Global};
 
@@ -33,7 +32,7 @@ const PERCENTILE_BITS: u32 = 7;
 #[tactic(auto, using(crate::proofs::OperandLemmas::links_pushed))]
 pub(crate) fn sum_operand(
     alloc: Global,
-    columns: &[Column],
+    columns: &NamedColumns<'_>,
     sum: &Expr,
     found: &mut Faults,
 ) -> Result<Operand, AllocError>
@@ -52,7 +51,7 @@ pub(crate) fn sum_operand(
 // The first term of a sum. What stands on the right of its links is put in the list, the last first.
 #[tactic(auto, using(crate::proofs::OperandLemmas::links_pushed))]
 fn first_term<'a>(
-    columns: &[Column],
+    columns: &NamedColumns<'_>,
     links: &mut Vec<&'a Expr>,
     sum: &'a Expr,
     found: &mut Faults,
@@ -72,7 +71,10 @@ fn first_term<'a>(
                 links.push(right)?;
                 first = left;
             }
-            Expr::Column(name) => return Ok(number(columns, name, found)),
+            Expr::Column(name) => {
+                let width = columns.number(name, found);
+                return Ok(Operand { at: name.at, width });
+            }
             Expr::Number { at, value: _ } => return Ok(a_number(*at)),
             Expr::Percentile { at, column, p: _ } => {
                 tell_percentile(columns, column, found);
@@ -86,7 +88,7 @@ fn first_term<'a>(
 #[cycle(operands)]
 fn gone_on(
     alloc: Global,
-    columns: &[Column],
+    columns: &NamedColumns<'_>,
     left: Operand,
     right: &Expr,
     found: &mut Faults,
@@ -123,58 +125,29 @@ fn a_number(at: u32) -> Operand
 {
     Operand {
         at,
-        width: Some(Width::of_number()),
+        width: Some(OF_NUMBER),
     }
 }
 
-// A column of numbers.
-fn number(columns: &[Column], name: &Name, found: &mut Faults) -> Operand
-    ensures operand { result ≡ spec.operand_of columns.now (tree.Column name.now) }
-    ensures faults { found.new.first
-        ≡ first_with found.old.first (spec.operand_faults columns.now (tree.Column name.now)) }
-{
-    let width = match places::column_named(columns, &name.text) {
-        Some(column) => {
-            let is_number = matches!(column.of, ValueType::Int);
-            let kind = TypeKind::Mismatch(type_word(&column.of), TypeWord::Int);
-            found.tell_where(!is_number, name.at, kind);
-            if is_number {
-                Some(Width::of(column))
-            } else {
-                None
-            }
-        }
-        None => {
-            found.tell(name.at, TypeKind::UnknownColumn);
-            None
-        }
-    };
-    Operand { at: name.at, width }
-}
-
-/// Tells a percentile of what isn't a distribution, or is too wide.
-pub(crate) fn tell_percentile(columns: &[Column], name: &Name, found: &mut Faults)
+// Tells a percentile of what isn't a distribution, or is too wide.
+fn tell_percentile(columns: &NamedColumns<'_>, name: &Name, found: &mut Faults)
     ensures faults { found.new.first ≡ first_with found.old.first
         (spec.percentile_faults (column_named name.now.text columns.now) name.now.at) }
 {
-    match places::column_named(columns, &name.text) {
-        Some(column) => match &column.of {
-            ValueType::Dist(_) => {
-                let bits = column.cell_bits.saturating_add(PERCENTILE_BITS);
-                let wide = column.cell_bits > MOST_PERCENTILE_BITS;
-                found.tell_where(wide, name.at, TypeKind::TooWide(bits));
-            }
-            ValueType::Int => tell_no_distribution(name.at, TypeWord::Int, found),
-            ValueType::Bool => tell_no_distribution(name.at, TypeWord::Bool, found),
-            ValueType::Text => tell_no_distribution(name.at, TypeWord::Text, found),
-        },
-        None => found.tell(name.at, TypeKind::UnknownColumn),
+    let Some(column) = columns.known(name, found) else {
+        return;
+    };
+    match &column.of {
+        ValueType::Dist(_) => {
+            let bits = column.cell_bits.saturating_add(PERCENTILE_BITS);
+            let wide = column.cell_bits > MOST_PERCENTILE_BITS;
+            found.tell_where(wide, name.at, TypeKind::TooWide(bits));
+        }
+        ValueType::Int | ValueType::Bool | ValueType::Text => {
+            found.tell(
+                name.at,
+                TypeKind::Mismatch(type_word(&column.of), TypeWord::Dist),
+            );
+        }
     }
-}
-
-fn tell_no_distribution(at: u32, word: TypeWord, found: &mut Faults)
-    ensures faults { found.new.first
-        ≡ first_with found.old.first (fault_at at (TypeKind.Mismatch word TypeWord.Dist) ∷ []) }
-{
-    found.tell(at, TypeKind::Mismatch(word, TypeWord::Dist));
 }

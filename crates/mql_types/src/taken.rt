@@ -1,12 +1,33 @@
 // The names that no further column may have.
-ghost use Rattle.std.specs.Prelude.{◌≡◌, IfOk, OnOk};
+ghost use Rattle.std.specs.Prelude.{◌≡◌, [], IfOk, OnOk};
 ghost use Rattle.mql_types.specs.Faults.{fault_where, first_with};
 ghost use Rattle.mql_types.specs.Items as spec;
 
 use crate::faults::{Faults, TypeKind};
 use indexmap::IndexSet;
+use mql_ast::Name;
 use std::alloc::{AllocError, Global};
 use std::marker::Model;
+
+/// The name of a column that is made, and where the text says it.
+#[derive(Clone, Copy)]
+pub(crate) struct Label<'a> {
+    pub(crate) text: &'a str,
+    pub(crate) at: u32,
+}
+
+impl<'a> Label<'a> {
+    /// A name of the text.
+    pub(crate) fn of(name: &'a Name) -> Label<'a>
+        ensures text { result.text.now ≡ name.now.text }
+        ensures at { result.at ≡ name.now.at }
+    {
+        Label {
+            text: name.text.as_str(),
+            at: name.at,
+        }
+    }
+}
 
 /// Names that are taken. Contracts see them in the order of their taking, each once.
 #[derive(Drop)]
@@ -23,13 +44,22 @@ impl<'a> Model for Taken<'a> {
 }
 
 impl<'a> Taken<'a> {
+    /// No name is taken.
+    pub(crate) fn none(alloc: Global) -> Taken<'a>
+        ensures none { result ≡ [] }
+    {
+        Taken {
+            names: IndexSet::new(alloc),
+        }
+    }
+
     /// What no column is called: `time`.
     pub(crate) fn new(alloc: Global) -> Result<Taken<'a>, AllocError>
         ensures reserved { IfOk result (λ taken. taken ≡ spec.reserved_names) }
     {
-        let mut names: IndexSet<&'a str> = IndexSet::new(alloc);
-        names.insert("time")?;
-        Ok(Taken { names })
+        let mut taken = Taken::none(alloc);
+        taken.take("time")?;
+        Ok(taken)
     }
 
     /// Takes a name, and says whether it was taken before.
@@ -41,19 +71,14 @@ impl<'a> Taken<'a> {
     }
 
     /// Takes a name, tells where it was taken before, and says so.
-    pub(crate) fn tell(
-        &mut self,
-        name: &'a str,
-        at: u32,
-        found: &mut Faults,
-    ) -> Result<bool, AllocError>
-        ensures taken { IfOk result (λ taken. taken ≡ spec.is_taken name.now self.old) }
-        ensures names { OnOk result (self.new ≡ spec.with_name self.old name.now) }
+    pub(crate) fn tell(&mut self, name: Label<'a>, found: &mut Faults) -> Result<bool, AllocError>
+        ensures taken { IfOk result (λ taken. taken ≡ spec.is_taken name.entry.text.now self.old) }
+        ensures names { OnOk result (self.new ≡ spec.with_name self.old name.entry.text.now) }
         ensures faults { OnOk result (found.new.first ≡ first_with found.old.first
-            (fault_where (spec.is_taken name.now self.old) at TypeKind.DuplicateColumn)) }
+            (fault_where (spec.is_taken name.entry.text.now self.old) name.entry.at TypeKind.DuplicateColumn)) }
     {
-        let before = self.take(name)?;
-        found.tell_where(before, at, TypeKind::DuplicateColumn);
+        let before = self.take(name.text)?;
+        found.tell_where(before, name.at, TypeKind::DuplicateColumn);
         Ok(before)
     }
 }

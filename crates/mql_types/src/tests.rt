@@ -1,5 +1,5 @@
 // One query that has a type, and one that hasn't; `cases` has the tables of texts.
-use crate::{TypeFault, TypeKind, check};
+use crate::{Level, OpLevel, OpWord, TypeFault, TypeKind, check, op_levels};
 use mon_schema::Schemas;
 use mon_value::{
     Aligner, Field, FieldType, Fields, Kind, MetricSchema, Refusal, TargetSchema, Text, ValueType,
@@ -72,6 +72,12 @@ fn a_gauge_is_aligned_by_default(rt: HostRuntime) -> Result<(), Fail> {
             assert!(rt; typed.every == 60 && typed.within == 60);
             assert!(rt; typed.tree.info().at.is_none());
             assert!(rt; typed.tree.columns().len() == 3);
+            let fetch = OpLevel {
+                word: OpWord::Fetch,
+                level: Level::Leaf,
+            };
+            let lines = op_levels(alloc, &typed)?;
+            assert!(rt; lines.len() == 1 && lines.first() == Some(&fetch));
         }
         Err(_refusal) => assert!(rt; false),
     }

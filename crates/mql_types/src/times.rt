@@ -87,10 +87,7 @@ impl Times {
             OpKind::Align(by) => {
                 self.longest = Some(longer(self.longest, seconds_of(*by)));
             }
-            OpKind::Filter(_) => {}
-            OpKind::GroupBy(_, _) => {}
-            OpKind::Value(_) => {}
-            OpKind::Top(_, _) => {}
+            OpKind::Filter(_) | OpKind::GroupBy(..) | OpKind::Value(_) | OpKind::Top(..) => {}
         }
     }
 }
@@ -111,8 +108,7 @@ fn seconds_of(by: Aligner) -> i64
     ensures seconds { result ≡ seconds_of by }
 {
     match by {
-        Aligner::Delta(seconds) => seconds,
-        Aligner::NextOlder(seconds) => seconds,
+        Aligner::Delta(seconds) | Aligner::NextOlder(seconds) => seconds,
     }
 }
 
@@ -136,17 +132,8 @@ fn hear_source(source: &Source, times: &mut Times, found: &mut Faults)
         ≡ first_with found.old.first (spec.source_order_faults (source_tree source.now)) }
 {
     match source {
-        Source::Fetch {
-            at: _,
-            schema: _,
-            metric: _,
-        } => {}
-        Source::Branches {
-            at: _,
-            pipes,
-            how: _,
-            how_at: _,
-        } => hear_branches(pipes.as_slice(), times, found),
+        Source::Fetch { .. } => {}
+        Source::Branches { pipes, .. } => hear_branches(pipes.as_slice(), times, found),
     }
 }
 
@@ -217,11 +204,11 @@ impl Stood {
                 found.tell_where(misplaced || self.within, op.at, TypeKind::BadOrder);
                 self.within = true;
             }
-            OpKind::Filter(_) => {}
-            OpKind::Align(_) => {}
-            OpKind::GroupBy(_, _) => {}
-            OpKind::Value(_) => {}
-            OpKind::Top(_, _) => {}
+            OpKind::Filter(_)
+            | OpKind::Align(_)
+            | OpKind::GroupBy(..)
+            | OpKind::Value(_)
+            | OpKind::Top(..) => {}
         }
     }
 }
@@ -250,12 +237,7 @@ fn is_step(what: &OpKind) -> bool
     ensures step { result ≡ spec.is_step (deed_tree what.now) }
 {
     match what {
-        OpKind::Every(_) => false,
-        OpKind::Within(_) => false,
-        OpKind::Filter(_) => true,
-        OpKind::Align(_) => true,
-        OpKind::GroupBy(_, _) => true,
-        OpKind::Value(_) => true,
-        OpKind::Top(_, _) => true,
+        OpKind::Every(_) | OpKind::Within(_) => false,
+        _ => true,
     }
 }

@@ -5,5 +5,5 @@ use Rattle.mql_types.proofs.branches.union_columns.Given as goal
 
 abbrev pub invariant-loop-left : goal.invariant-loop-left
 invariant-loop-left l =
-    l.columns ++ union_columns l.schemas (drop l.left-index l.lefts) l.rest
-    ≡ union_columns l.schemas l.lefts l.rights
+    l.columns ++ union_columns l.setting.schemas.now (drop l.left-index l.lefts) l.rest
+    ≡ union_columns l.setting.schemas.now l.lefts l.rights

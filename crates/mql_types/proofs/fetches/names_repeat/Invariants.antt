@@ -1,11 +1,10 @@
--- No name so far stands again.
-use Rattle.std.proofs.Common.{◌≡◌, length}
+-- No name so far stands twice, and those names are taken.
+use Rattle.std.proofs.Common.{◌≡◌, drop}
 use Rattle.mon_schema.specs.Faults.{texts_repeat}
 use Rattle.mql_types.specs.Fetches.{column_names}
+use Rattle.mql_types.proofs.ColumnNameLemmas.{repeats_behind}
 use Rattle.mql_types.proofs.fetches.names_repeat.Given as goal
 
 abbrev pub invariant-loop-column : goal.invariant-loop-column
-invariant-loop-column l = texts_repeat (column_names l.columns) ≡ texts_repeat (column_names l.rest)
-
-abbrev pub decreases-loop-column : goal.decreases-loop-column
-decreases-loop-column l = length l.rest
+invariant-loop-column l =
+    repeats_behind l.names (column_names (drop l.column-index l.columns)) ≡ texts_repeat (column_names l.columns)
