@@ -1,0 +1,15 @@
+use Rattle.std.proofs.Common.{List, sym, subst}
+use Rattle.mon_hints.specs.Formulas.{FormulaTree}
+use Rattle.mql_types.proofs.FetchColumnLemmas.{fetches_have_columns}
+use Rattle.mql_types.specs.Nodes.{node_tree, typed_tree}
+use Rattle.mql_types.specs.Plans.{fetches}
+use Rattle.plan_split.specs.Promises.{AllHoldWhereMet}
+use Rattle.plan_split.proofs.FetchLemmas.{fetches_promise}
+use Rattle.plan_split.proofs.splitting.split.Goals as goal
+
+pub returns-clause-promise : goal.returns-clause-promise
+returns-clause-promise c held query typed =
+    let all = fetches (node_tree c.args.typed.tree) in
+    subst (λ (formulas : List FormulaTree). AllHoldWhereMet held c.args.buckets all formulas)
+    (sym c.in_ok-formulas.ensures.formulas)
+    (fetches_promise held c.args.buckets all (fetches_have_columns held query (typed_tree c.args.typed) typed))
