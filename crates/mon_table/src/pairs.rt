@@ -30,7 +30,8 @@ impl TryCopy for OverRoom {
 
 /// Every pair of a row of `a` and a row of `b` that stand at one time and are equal in all columns of
 /// one name. Its columns are those of `a`, and then those of `b` whose names are not of `a`. It is
-/// refused where there are more pairs than `room`, and costs about the sum of both tables and the pairs.
+/// refused where there are more pairs than `room`, before one of them is made, and costs about the sum of
+/// both tables and the pairs.
 pub fn join(alloc: Global, a: &Table, b: &Table, room: u64) -> Result<Table, Refusal<OverRoom>>
     requires left { IsWhole a.now }
     requires right { IsWhole b.now }
@@ -54,7 +55,44 @@ fn joined_rows(
 {
     let places = Places::new(alloc, a.columns.as_slice(), b.columns.as_slice())?;
     let right_rows = RightRows::new(alloc, b.rows.as_slice(), &places)?;
-    pairs(alloc, a.rows.as_slice(), &right_rows, room)
+    let lefts = a.rows.as_slice();
+    test_room(alloc, lefts, &right_rows, room)?;
+    Ok(pairs(alloc, lefts, &right_rows)?)
+}
+
+// Whether there is room for the pairs of all rows of the left, before one of them is made.
+fn test_room<'a>(
+    alloc: Global,
+    lefts: &'a [TimedRow],
+    right_rows: &RightRows<'a>,
+    room: u64,
+) -> Result<(), Refusal<OverRoom>>
+    ensures answers { AnswersBy result (over_room room (length (flat_map (left_pairs right_rows.now) lefts.now))) }
+{
+    let mut free = room;
+    for left in lefts {
+        let count = count_left(alloc, left, right_rows)?;
+        if count > free {
+            return Err(Refusal::Fault(OverRoom { room }));
+        }
+        free -= count;
+    }
+    Ok(())
+}
+
+// How many pairs a row of the left has.
+fn count_left<'a>(
+    alloc: Global,
+    left: &'a TimedRow,
+    right_rows: &RightRows<'a>,
+) -> Result<u64, OutOfMemory>
+    ensures count { IfOk result (λ count. count ≡ length (left_pairs right_rows.now left.now)) }
+{
+    let key = join_key(alloc, left, right_rows.left_places())?;
+    match right_rows.of_key(&key) {
+        Some(partners) => Ok(partners.len() as u64),
+        None => Ok(0),
+    }
 }
 
 // The pairs of all rows of the left.
@@ -62,47 +100,39 @@ fn pairs<'a>(
     alloc: Global,
     lefts: &'a [TimedRow],
     right_rows: &RightRows<'a>,
-    room: u64,
-) -> Result<TimedRows, Refusal<OverRoom>>
-    ensures pairs { Gives result (rows_within_room room (flat_map (left_pairs right_rows.now) lefts.now)) }
+) -> Result<TimedRows, OutOfMemory>
+    ensures pairs { IfOk result (λ rows. rows ≡ flat_map (left_pairs right_rows.now) lefts.now) }
 {
     let mut rows = TimedRows::new(alloc);
     for left in lefts {
-        add_left(alloc, &mut rows, left, right_rows, room)?;
+        add_left(alloc, &mut rows, left, right_rows)?;
     }
     Ok(rows)
 }
 
-// Adds the pairs of a row of the left, if there is room for them.
+// Adds the pairs of a row of the left.
 fn add_left<'a>(
     alloc: Global,
     rows: &mut TimedRows,
     left: &'a TimedRow,
     right_rows: &RightRows<'a>,
-    room: u64,
-) -> Result<(), Refusal<OverRoom>>
-    requires within { length rows.old ≤ room }
-    ensures answers { AnswersBy result (over_room room (length rows.old + length (left_pairs right_rows.now left.now))) }
+) -> Result<(), OutOfMemory>
     ensures added { OnOk result (rows.new ≡ rows.old ++ left_pairs right_rows.now left.now) }
 {
     let key = join_key(alloc, left, right_rows.left_places())?;
     let Some(partners) = right_rows.of_key(&key) else {
         return Ok(());
     };
-    if partners.len() as u64 > room - rows.len() as u64 {
-        return Err(Refusal::Fault(OverRoom { room }));
-    }
     push_pairs(
         alloc,
         rows,
         left,
         partners.as_slice(),
         right_rows.own_places(),
-    )?;
-    Ok(())
+    )
 }
 
-// Adds the pairs of a row of the left.
+// Adds the pairs of a row of the left with its partners.
 fn push_pairs(
     alloc: Global,
     rows: &mut TimedRows,
