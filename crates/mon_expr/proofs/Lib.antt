@@ -5,7 +5,7 @@ mod FindLemmas
 mod GreedyLemmas
 mod MatchLemmas
 mod NextPlaces
-mod NoValueLemmas
+pub mod NoValueLemmas
 mod SumLemmas
 mod SumSizeLemmas
 mod TermLemmas

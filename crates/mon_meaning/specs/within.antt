@@ -1,0 +1,11 @@
+-- What only proofs read: what a query means over series, and how a tree is walked.
+pub mod Counting
+pub mod FetchViews
+pub mod Items
+pub mod KeyFilters
+pub mod MetSeries
+pub mod Paths
+pub mod Readiness
+pub mod Reach
+pub mod SeriesMeaning
+pub mod Times

@@ -1,0 +1,62 @@
+-- The way down a tree.
+use Rattle.std.specs.Prelude.{◌≡◌, ℕ, ◌+◌, List, [], ◌∷◌, length, map}
+use Rattle.std.specs.Borrow.{Bor}
+use Rattle.mon_value.specs.declared.grids.Grid.{Grid}
+use Rattle.mql_types.specs.Nodes as node
+use Rattle.mql_types.specs.Nodes.{NodeTree, node_tree}
+use Rattle.mql_types.specs.declared.nodes.Node.{Node}
+use Rattle.mon_meaning.specs.within.SeriesMeaning.{SeriesGroup, load_by_series, rows_by_series}
+
+-- what flows into an operation first; a source is where rows begin
+abbrev pub first_input : NodeTree → NodeTree
+first_input (node.Fetch info schema metric) = node.Fetch info schema metric
+first_input (node.Filter info by input) = input
+first_input (node.Align info by input) = node.Align info by input
+first_input (node.GroupBy info by with input) = input
+first_input (node.Value info items input) = input
+first_input (node.Top info most column input) = input
+first_input (node.Join info left right) = left
+first_input (node.Union info left right) = left
+
+-- whether no rows flow into a node
+abbrev pub IsSource : NodeTree → Type 0
+IsSource (node.Fetch info schema metric) = Unit {0}
+IsSource (node.Filter info by input) = ⊥
+IsSource (node.Align info by input) = Unit {0}
+IsSource (node.GroupBy info by with input) = ⊥
+IsSource (node.Value info items input) = ⊥
+IsSource (node.Top info most column input) = ⊥
+IsSource (node.Join info left right) = ⊥
+IsSource (node.Union info left right) = ⊥
+
+-- the trees that references point to
+abbrev pub trees_of : List (Bor Node) → List NodeTree
+trees_of nodes = map (λ one. node_tree one.now) nodes
+
+-- nodes from the top of a tree, each the first input of the one before it, down to another
+abbrev pub Leads : List NodeTree → NodeTree → NodeTree → Type 0
+Leads [] top end = top ≡ end
+Leads (node ∷ above) top end = (top ≡ node) × Leads above (first_input node) end
+
+-- the load that an operation adds to that of what flows into it first
+abbrev pub own_load : Grid → NodeTree → List SeriesGroup → ℕ
+own_load grid (node.Fetch info schema metric) series = 0
+own_load grid (node.Filter info by input) series = 0
+own_load grid (node.Align info by input) series = 0
+own_load grid (node.GroupBy info by with input) series = 0
+own_load grid (node.Value info items input) series = 0
+own_load grid (node.Top info most column input) series = 0
+own_load grid (node.Join info left right) series =
+    load_by_series grid right series + length (rows_by_series grid (node.Join info left right) series)
+own_load grid (node.Union info left right) series = load_by_series grid right series
+
+-- how many nodes a tree has
+abbrev pub node_count : NodeTree → ℕ
+node_count (node.Fetch info schema metric) = 1
+node_count (node.Filter info by input) = node_count input + 1
+node_count (node.Align info by input) = node_count input + 1
+node_count (node.GroupBy info by with input) = node_count input + 1
+node_count (node.Value info items input) = node_count input + 1
+node_count (node.Top info most column input) = node_count input + 1
+node_count (node.Join info left right) = node_count left + node_count right + 1
+node_count (node.Union info left right) = node_count left + node_count right + 1

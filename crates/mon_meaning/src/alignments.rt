@@ -1,0 +1,155 @@
+// Points brought to the times of a grid, as rows.
+ghost use Rattle.std.specs.Prelude.{◌≡◌, ◌+◌, ◌++◌, filter, length, map, sum_by, IfErr, IfOk, OnOk};
+ghost use Rattle.std.specs.List.{AllByRecursion, flat_map};
+ghost use Rattle.mon_value.specs.Alignments.{aligned_values, CanAlign};
+ghost use Rattle.mon_value.specs.Alignments as alignment;
+ghost use Rattle.mon_value.specs.Grids as grids;
+ghost use Rattle.mon_value.specs.SeriesRows.{row_of};
+ghost use Rattle.mql_types.specs.Nodes.{node_tree};
+ghost use Rattle.mon_meaning.specs.Central.{series_held};
+ghost use Rattle.mon_meaning.specs.within.Counting.{TellsOver};
+ghost use Rattle.mon_meaning.specs.within.FetchViews.{met_rows, points_kept};
+ghost use Rattle.mon_meaning.specs.within.MetSeries.{CanAlignMet, is_counted, met_count, series_met};
+ghost use Rattle.mon_meaning.specs.within.Readiness.{AreAlignable};
+ghost use Rattle.mon_meaning.specs.within.SeriesMeaning.{align_load, series_rows, SeriesGroup};
+
+use crate::evaluation::Setting;
+use crate::fetches::{Fetch, series_cells};
+use crate::kept_points::{kept_series, points_in_reach};
+use crate::meter::{Meter, OverLimit};
+use mon_fold::align;
+use mon_series::Series;
+use mon_value::{
+    Aligner, Cells, OutOfMemory, Refusal, SeriesKey, Shared, TimedRow, TimedRows, TimedValues,
+    TryCopy,
+};
+use mql_types::Node;
+use std::alloc::Global;
+
+/// The rows of an alignment. The points in reach are counted before a row is made.
+pub(crate) fn aligned_rows(
+    setting: &Setting<'_>,
+    by: Aligner,
+    input: &Node,
+    meter: &mut Meter,
+) -> Result<TimedRows, Refusal<OverLimit>>
+    requires ready { AreAlignable setting.now.grid by (node_tree input.now) (series_held setting.now.series.now.entries) }
+    ensures rows { IfOk result (λ rows. rows
+        ≡ flat_map (series_rows setting.now.grid by (node_tree input.now)) (series_held setting.now.series.now.entries)) }
+    ensures limit { meter.new.limit ≡ meter.old.limit }
+    ensures counted { OnOk result (meter.new.load ≡ meter.old.load
+        + align_load setting.now.grid by (node_tree input.now) (series_held setting.now.series.now.entries)) }
+    ensures over { IfErr result (TellsOver meter.old.limit (meter.old.load
+        + align_load setting.now.grid by (node_tree input.now) (series_held setting.now.series.now.entries))) }
+{
+    let fetch = match Fetch::new(setting.alloc, input)? {
+        Some(fetch) => fetch,
+        None => return Ok(TimedRows::new(setting.alloc)),
+    };
+    let met = met_series(setting, by, &fetch, meter)?;
+    rows_of_series(setting, by, &fetch, met, meter)
+}
+
+/// A series that meets a fetch, and has points in its reach.
+#[derive(Drop)]
+struct Met<'a> {
+    key: &'a Shared<SeriesKey>,
+    series: &'a Series,
+}
+
+// The series that meet a fetch and have points in reach, which are counted.
+fn met_series<'a>(
+    setting: &Setting<'a>,
+    by: Aligner,
+    fetch: &Fetch<'_>,
+    meter: &mut Meter,
+) -> Result<Vec<Met<'a>>, Refusal<OverLimit>>
+    requires lawful { grids.IsLawful setting.now.grid }
+    requires looks_back { grids.IsDuration (alignment.seconds_of by) }
+    ensures met { IfOk result (λ met. series_met met.items
+        ≡ filter (is_counted setting.now.grid by fetch.now) (series_held setting.now.series.now.entries)) }
+    ensures limit { meter.new.limit ≡ meter.old.limit }
+    ensures counted { OnOk result (meter.new.load ≡ meter.old.load
+        + sum_by (met_count setting.now.grid by fetch.now) (series_held setting.now.series.now.entries)) }
+    ensures over { IfErr result (TellsOver meter.old.limit (meter.old.load
+        + sum_by (met_count setting.now.grid by fetch.now) (series_held setting.now.series.now.entries))) }
+{
+    let mut met = Vec::new(setting.alloc);
+    for (key, series) in setting.series.iter() {
+        if !fetch.is_met(setting.alloc, key)? {
+            continue;
+        }
+        let reached = points_in_reach(series, by, &setting.grid).len();
+        if reached > 0 {
+            meter.add(reached)?;
+            met.push(Met { key, series })?;
+        }
+    }
+    Ok(met)
+}
+
+// The rows of series that meet a fetch, which are counted.
+fn rows_of_series(
+    setting: &Setting<'_>,
+    by: Aligner,
+    fetch: &Fetch<'_>,
+    met: Vec<Met<'_>>,
+    meter: &mut Meter,
+) -> Result<TimedRows, Refusal<OverLimit>>
+    requires can { AllByRecursion (CanAlignMet setting.now.grid by fetch.now) (series_met met.items) }
+    ensures rows { IfOk result (λ rows.
+        rows ≡ flat_map (met_rows setting.now.grid by fetch.now) (series_met met.entry.items)) }
+    ensures limit { meter.new.limit ≡ meter.old.limit }
+    ensures counted { OnOk result (meter.new.load ≡ meter.old.load
+        + length (flat_map (met_rows setting.now.grid by fetch.now) (series_met met.entry.items))) }
+    ensures over { IfErr result (TellsOver meter.old.limit (meter.old.load
+        + length (flat_map (met_rows setting.now.grid by fetch.now) (series_met met.entry.items)))) }
+{
+    let mut rows = TimedRows::new(setting.alloc);
+    for one in met {
+        let values = series_values(setting, by, fetch, &one)?;
+        meter.add(values.len())?;
+        add_rows(setting.alloc, one.key, values, &mut rows)?;
+    }
+    Ok(rows)
+}
+
+// The values of a series at the times of the grid.
+fn series_values(
+    setting: &Setting<'_>,
+    by: Aligner,
+    fetch: &Fetch<'_>,
+    met: &Met<'_>,
+) -> Result<TimedValues, OutOfMemory>
+    requires can { CanAlignMet setting.now.grid by fetch.now (met.now.key.now, met.now.series.now.points) }
+    ensures values { IfOk result (λ values. values ≡ aligned_values by setting.now.grid
+        (points_kept fetch.now (met.now.key.now, met.now.series.now.points))) }
+{
+    if fetch.keeps_all() {
+        return align(setting.alloc, met.series, by, &setting.grid);
+    }
+    let reached = points_in_reach(met.series, by, &setting.grid);
+    let kept = kept_series(setting.alloc, fetch, met.key, reached)?;
+    align(setting.alloc, &kept, by, &setting.grid)
+}
+
+// Adds a row for each value of a series.
+fn add_rows(
+    alloc: Global,
+    key: &SeriesKey,
+    values: TimedValues,
+    rows: &mut TimedRows,
+) -> Result<(), OutOfMemory>
+    ensures added { OnOk result (rows.new ≡ rows.old ++ map (row_of key.now) values) }
+{
+    let cells = series_cells(alloc, key)?;
+    for aligned in values {
+        let mut own: Cells = cells.copy(alloc)?;
+        own.push(aligned.value)?;
+        rows.push(TimedRow {
+            time: aligned.time,
+            cells: own,
+        })?;
+    }
+    Ok(())
+}

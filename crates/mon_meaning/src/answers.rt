@@ -1,0 +1,71 @@
+// The central evaluation of a query.
+ghost use Rattle.std.specs.Prelude.{◌≡◌, ◌≤◌, ◌^◌, ◌≤ℤ◌, pos, List};
+ghost use Rattle.mon_value.specs.Sources.{IsSource, points_by_series};
+ghost use Rattle.mon_value.specs.declared.limits.TheConstants.{ROW_BITS};
+ghost use Rattle.mon_value.specs.declared.rows.Row.{Row};
+ghost use Rattle.mql_types.specs.Meaning as meant;
+ghost use Rattle.mql_types.specs.Nodes.{typed_tree};
+ghost use Rattle.mql_types.specs.Soundness.{IsTyped};
+ghost use Rattle.mon_meaning.specs.Central.{IsAnswer, IsAsked, series_held};
+
+use crate::evaluation::{Setting, rows_of};
+use crate::meter::{Meter, OverLimit};
+use crate::operations::table_of;
+use crate::series_maps::{SeriesMap, series_of};
+use mon_value::{Grid, Refusal, RowList, Table};
+use mql_types::Typed;
+use std::alloc::Global;
+
+/// The rows that a typed query means, asked at a moment over rows of any series. They are a bag: their order says nothing.
+/// It is refused exactly where its load is above the limit.
+pub fn central(
+    alloc: Global,
+    typed: &Typed,
+    rows: &RowList,
+    moment: i64,
+    limit: u64,
+) -> Result<Table, Refusal<OverLimit>>
+    requires typed { IsTyped (typed_tree typed.now) rows.now }
+    requires source { IsSource rows.now }
+    requires moment { pos 0 ≤ℤ moment }
+    requires limit { limit ≤ 2 ^ ROW_BITS }
+    ensures answer { IsAnswer (typed_tree typed.now) rows.now moment limit result }
+{
+    let series = series_of(alloc, rows.as_slice())?;
+    central_by_series(alloc, typed, &series, moment, limit)
+}
+
+/// The same over rows that are kept by series, none of which is copied as a whole.
+pub fn central_by_series(
+    alloc: Global,
+    typed: &Typed,
+    series: &SeriesMap,
+    moment: i64,
+    limit: u64,
+) -> Result<Table, Refusal<OverLimit>>
+    requires asked { IsAsked (typed_tree typed.now) (series_held series.now.entries) }
+    requires moment { pos 0 ≤ℤ moment }
+    requires limit { limit ≤ 2 ^ ROW_BITS }
+    ensures answer { (source : List Row) → series_held series.now.entries ≡ points_by_series source
+        → IsAnswer (typed_tree typed.now) source moment limit result }
+{
+    let setting = Setting {
+        alloc,
+        series,
+        grid: grid_of(typed, moment),
+    };
+    let mut meter = Meter::new(limit);
+    let rows = rows_of(&setting, &typed.tree, &mut meter)?;
+    Ok(table_of(alloc, &typed.tree.info().columns, rows)?)
+}
+
+// The times of a query that is asked at a moment.
+fn grid_of(typed: &Typed, moment: i64) -> Grid
+    ensures grid { result ≡ meant.grid_of (typed_tree typed.now) moment }
+{
+    Grid {
+        moment,
+        every: typed.every,
+        within: typed.within,
+    }
+}

@@ -1,0 +1,84 @@
+// The points of a series that an alignment may see.
+ghost use Rattle.std.specs.Prelude.{◌≡◌, IfOk};
+ghost use Rattle.mon_value.specs.Alignments as alignment;
+ghost use Rattle.mon_value.specs.Grids as grids;
+ghost use Rattle.mon_value.specs.Windows.{EndsRise};
+ghost use Rattle.mon_meaning.specs.within.FetchViews.{points_kept};
+ghost use Rattle.mon_meaning.specs.within.Reach.{reached as points_reached};
+
+use crate::fetches::{Fetch, series_cells};
+use mon_series::Series;
+use mon_value::{Aligner, Grid, OutOfMemory, Point, SeriesKey, TryCopy};
+use std::alloc::Global;
+
+/// The points in reach: those that end where an alignment may see them at some time of the grid. Their ends find them.
+pub(crate) fn points_in_reach<'a>(series: &'a Series, by: Aligner, grid: &Grid) -> &'a [Point]
+    requires lawful { grids.IsLawful grid.now }
+    requires looks_back { grids.IsDuration (alignment.seconds_of by) }
+    ensures reached { result.now ≡ points_reached grid.now by series.now.points }
+    ensures rises { EndsRise result.now }
+{
+    match series.last() {
+        Some(_) => reached_points(series, by, grid),
+        None => series.points(),
+    }
+}
+
+// The points in reach of a series, between two places.
+fn reached_points<'a>(series: &'a Series, by: Aligner, grid: &Grid) -> &'a [Point]
+    requires rises { EndsRise series.now.points }
+    requires lawful { grids.IsLawful grid.now }
+    requires looks_back { grids.IsDuration (alignment.seconds_of by) }
+    ensures reached { result.now ≡ points_reached grid.now by series.now.points }
+    ensures rises { EndsRise result.now }
+{
+    let points = series.points();
+    let seconds = seconds_of(by);
+    let (before, _) = series.places(least_time(grid), seconds);
+    let (_, ended) = series.places(grid.moment, seconds);
+    &points[before..ended]
+}
+
+// How many seconds an aligner looks back.
+fn seconds_of(by: Aligner) -> i64
+    ensures seconds { result ≡ alignment.seconds_of by }
+{
+    match by {
+        Aligner::Delta(seconds) => seconds,
+        Aligner::NextOlder(seconds) => seconds,
+    }
+}
+
+// The least of a grid's times.
+fn least_time(grid: &Grid) -> i64
+    requires lawful { grids.IsLawful grid.now }
+    ensures least { result ≡ grids.least_time grid.now }
+{
+    let every = grid.every.unsigned_abs();
+    let times = (grid.within.unsigned_abs() + (every - 1)) / every;
+    let span = (times - 1) * every;
+    grid.moment - span as i64
+}
+
+/// A series of those points in reach of which all filters hold, where the series is met.
+pub(crate) fn kept_series(
+    alloc: Global,
+    fetch: &Fetch<'_>,
+    key: &SeriesKey,
+    reached: &[Point],
+) -> Result<Series, OutOfMemory>
+    requires rises { EndsRise reached.now }
+    ensures kept { IfOk result (λ kept. kept.points ≡ points_kept fetch.now (key.now, reached.now)) }
+{
+    let mut kept = Series::new(alloc);
+    let mut cells = series_cells(alloc, key)?;
+    for point in reached {
+        let (keeps, again) = fetch.keeps(alloc, cells, &point.value)?;
+        cells = again;
+        if keeps {
+            kept.reserve()?;
+            kept.push(point.copy(alloc)?);
+        }
+    }
+    Ok(kept)
+}

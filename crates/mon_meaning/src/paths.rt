@@ -1,0 +1,84 @@
+// The way down a typed tree to what its rows come from.
+ghost use Rattle.std.specs.Prelude.{◌≡◌, ◌<◌, IfOk, IfSome, IsNone};
+ghost use Rattle.mql_types.specs.Nodes.{node_tree};
+ghost use Rattle.mon_meaning.specs.within.Paths.{first_input, IsSource, Leads, node_count, trees_of};
+
+use mon_value::OutOfMemory;
+use mql_types::Node;
+use std::alloc::Global;
+
+/// The nodes from the top of a tree down to a source of rows: an alignment, or a fetch that isn't aligned. Each one is
+/// the input, or the left side, of the one before it.
+#[derive(Drop)]
+pub(crate) struct Path<'a> {
+    pub above: Vec<&'a Node>,
+    pub source: &'a Node,
+}
+
+/// The way down a tree. A loop goes down the inputs and the left sides, where a query may have many thousand
+/// operations or branches.
+pub(crate) fn path_down<'a>(alloc: Global, tree: &'a Node) -> Result<Path<'a>, OutOfMemory>
+    ensures leads { IfOk result (λ path.
+        Leads (trees_of path.above.items) (node_tree tree.now) (node_tree path.source.now)) }
+    ensures source { IfOk result (λ path. IsSource (node_tree path.source.now)) }
+{
+    let mut above = Vec::new(alloc);
+    let mut source = tree;
+    while let Some(input) = input_of(source) {
+        above.push(source)?;
+        source = input;
+    }
+    Ok(Path { above, source })
+}
+
+// What rows flow in first; none into a fetch or an alignment.
+fn input_of(node: &Node) -> Option<&Node>
+    ensures input { IfSome result (λ input. node_tree input.now ≡ first_input (node_tree node.now)) }
+    ensures smaller { IfSome result (λ input. node_count (node_tree input.now) < node_count (node_tree node.now)) }
+    ensures source { IsNone result → IsSource (node_tree node.now) }
+{
+    match node {
+        Node::Filter {
+            info: _,
+            by: _,
+            input,
+        } => Some(input),
+        Node::GroupBy {
+            info: _,
+            by: _,
+            with: _,
+            input,
+        } => Some(input),
+        Node::Value {
+            info: _,
+            items: _,
+            input,
+        } => Some(input),
+        Node::Top {
+            info: _,
+            most: _,
+            column: _,
+            input,
+        } => Some(input),
+        Node::Join {
+            info: _,
+            left,
+            right: _,
+        } => Some(left),
+        Node::Union {
+            info: _,
+            left,
+            right: _,
+        } => Some(left),
+        Node::Fetch {
+            info: _,
+            schema: _,
+            metric: _,
+        } => None,
+        Node::Align {
+            info: _,
+            by: _,
+            input: _,
+        } => None,
+    }
+}
