@@ -1,0 +1,8 @@
+-- nothing so far is at fault, so the first place is that of the rest
+use Rattle.std.proofs.Common.{◌≡◌, drop}
+use Rattle.mon_topo.specs.Faults.{bad_bound_in_zone}
+use Rattle.mon_topo.specs.Places.{first_at}
+use Rattle.mon_topo.proofs.bounds.bad_bound.Given as goal
+
+abbrev pub invariant-loop-i : goal.invariant-loop-i
+invariant-loop-i l = first_at (bad_bound_in_zone l.schemas) l.i (drop l.i l.zones) ≡ first_at (bad_bound_in_zone l.schemas) 0 l.zones

@@ -1,0 +1,10 @@
+pub mod Bounds
+pub mod FaultTexts
+pub mod Faults
+pub mod HeldHistories
+pub mod Indexed
+pub mod Kept
+pub mod Locations
+pub mod Places
+pub mod RangeHistories
+pub mod Zones

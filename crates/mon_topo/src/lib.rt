@@ -1,0 +1,29 @@
+//! The topology of a store: zones with their locations and leaves, and the ranges of targets that the
+//! leaves hold.
+#![tactic(auto)]
+
+mod bounds;
+mod faults;
+mod laws;
+mod limits;
+mod lists;
+mod locations;
+mod names;
+mod naming;
+mod places;
+mod ranges;
+mod repeats;
+mod sizes;
+mod spans;
+mod topology;
+mod zones;
+
+pub use faults::{TopoFault, TopoKind};
+pub use laws::targets_have_one_range;
+pub use limits::{
+    MOST_LEAVES, MOST_LEAVES_OF_ZONE, MOST_RANGES, MOST_REPLICAS, MOST_SLOTS, MOST_ZONES,
+};
+pub use locations::location_of;
+pub use mon_value::{Leaf, LeafCounts, Leaves, Range, Slot, Zone};
+pub use topology::Topology;
+pub use zones::{RangeSpec, RangeSpecs, ZoneSpec, ZoneSpecs};

@@ -1,0 +1,42 @@
+// The location of a target.
+ghost use Rattle.std.specs.Prelude.{◌≡◌};
+ghost use Rattle.std.specs.Option.{option_copied};
+ghost use Rattle.mon_topo.specs.Locations as spec;
+
+use mon_schema::{Field, Schemas, is_location};
+use mon_value::{FieldValue, Target, Text};
+
+/// The location of a target: the value of its schema's location field.
+pub fn location_of<'a>(schemas: &Schemas, target: &'a Target) -> Option<&'a Text>
+    ensures location { option_copied result ≡ spec.location_of schemas.now target.now }
+{
+    match schemas.target(target.schema.as_bytes()) {
+        None => None,
+        Some(schema) => location_in(schema.fields.as_slice(), target.fields.as_slice()),
+    }
+}
+
+// The value of the location field.
+fn location_in<'a>(fields: &[Field], values: &'a [FieldValue]) -> Option<&'a Text>
+    ensures location { option_copied result ≡ spec.location_in fields.now values.now }
+{
+    let mut left = values;
+    for field in fields {
+        let (value, rest) = left.split_first()?;
+        if is_location(field) {
+            return text_in(value);
+        }
+        left = rest;
+    }
+    None
+}
+
+// The text in a text field.
+fn text_in(value: &FieldValue) -> Option<&Text>
+    ensures text { option_copied result ≡ spec.text_in_field value.now }
+{
+    match value {
+        FieldValue::Text(text) => Some(text),
+        _ => None,
+    }
+}

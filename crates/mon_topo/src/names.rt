@@ -1,0 +1,78 @@
+// Names that are found with their numbers.
+ghost use Rattle.std.specs.Prelude.{◌≡◌, ◌+◌, ◌<◌, ◌^◌, not, length, IfOk, OnOk};
+ghost use Rattle.std.specs.List.{list_any};
+ghost use Rattle.std.specs.Map.{keys_of, lookup};
+ghost use Rattle.mon_value.specs.Same.{same_text};
+ghost use Rattle.mon_topo.specs.Indexed.{with_name};
+
+use indexmap::IndexMap;
+use mon_value::OutOfMemory;
+use std::alloc::Global;
+use std::marker::Model;
+
+/// Names, each once, with a number. Contracts see both in the order of adding.
+#[derive(Drop)]
+pub(crate) struct NameMap {
+    alloc: Global,
+    numbers: IndexMap<Vec<u8>, u32>,
+}
+
+impl Model for NameMap {
+    ghost use Rattle.std.specs.Prelude.{List, ℕ};
+
+    ghost Value = { List (List ℕ × ℕ) };
+
+    ghost use Rattle.mon_schema.specs.Held.{named_entries};
+
+    ghost view = { λ map. named_entries map.numbers.entries };
+}
+
+impl NameMap {
+    ghost use Rattle.std.specs.Prelude.{[]};
+
+    /// No names.
+    pub(crate) fn new(alloc: Global) -> NameMap
+        ensures empty { result ≡ [] }
+    {
+        NameMap {
+            alloc,
+            numbers: IndexMap::new(alloc),
+        }
+    }
+
+    /// How many names there are.
+    pub(crate) fn len(&self) -> usize
+        ensures count { result ≡ length self.now }
+    {
+        self.numbers.len()
+    }
+
+    /// The number of a name.
+    pub(crate) fn get(&self, name: &[u8]) -> Option<u32>
+        ensures found { result ≡ lookup (same_text name.now) self.now }
+    {
+        self.numbers.get(name).copied()
+    }
+
+    /// Adds a name with its number, and says whether the name is new. One that is there keeps its number.
+    pub(crate) fn add(&mut self, name: &[u8], number: u32) -> Result<bool, OutOfMemory>
+        ensures new { IfOk result (λ new. new ≡ not (list_any (same_text name.now) (keys_of self.old))) }
+        ensures added { OnOk result (self.new ≡ with_name self.old name.now number) }
+    {
+        if self.numbers.contains_key(name) {
+            return Ok(false);
+        }
+        let key = Vec::from_slice(self.alloc, name)?;
+        self.numbers.insert(key, number)?;
+        Ok(true)
+    }
+}
+
+/// The names of zones: each zone's with its number, each location with the number of its zone, and each
+/// leaf's with its number among the leaves of all zones.
+#[derive(Drop)]
+pub(crate) struct Names {
+    pub(crate) zones: NameMap,
+    pub(crate) locations: NameMap,
+    pub(crate) leaves: NameMap,
+}

@@ -1,0 +1,238 @@
+// The topology of a store.
+ghost use Rattle.std.specs.Prelude.{◌≡◌, ◌<◌, ℕ, Some, None, length, map, slice_get, IfOk, OnOk};
+ghost use Rattle.mon_value.specs.Answers.{AnswersBy};
+ghost use Rattle.mon_topo.specs.Bounds.{range_of};
+ghost use Rattle.mon_topo.specs.Faults as spec_faults;
+ghost use Rattle.mon_topo.specs.Faults.{topology_fault, IsLawful};
+ghost use Rattle.mon_topo.specs.Indexed as kept;
+ghost use Rattle.mon_topo.specs.Zones as spec;
+ghost use Rattle.mon_topo.specs.Zones.{zone_at};
+
+use crate::bounds::{bad_bound, disorder, is_within};
+use crate::faults::{TopoFault, TopoKind, refused_at};
+use crate::lists::{leaf_names_of, range_names_of, replicas_of};
+use crate::names::{NameMap, Names};
+use crate::naming::bad_name;
+use crate::places::path_to;
+use crate::ranges::{bad_replicas, no_leaf};
+use crate::repeats::names_of;
+use crate::sizes::too_many;
+use crate::spans::{ZoneSpan, spans_of};
+use crate::zones::{ZoneSpec, ZoneSpecs};
+use mon_schema::Schemas;
+use mon_value::{
+    Leaf, LeafCounts, Leaves, OutOfMemory, Range, Refusal, Target, Text, Texts, TryCopy, Zone,
+};
+use std::alloc::{AllocError, Global};
+use std::marker::Model;
+
+/// Zones that are lawful together, with all that is asked of them. Contracts see the zones.
+#[derive(Drop)]
+pub struct Topology {
+    zones: ZoneSpecs,
+    spans: Vec<ZoneSpan>,
+    leaf_names: Texts,
+    replicas: Vec<Leaves>,
+    locations: NameMap,
+    leaves: NameMap,
+    ranges: NameMap,
+}
+
+impl Model for Topology {
+    ghost use Rattle.std.specs.Prelude.{List};
+    ghost use Rattle.mon_topo.specs.declared.zones.ZoneSpec.{ZoneSpec};
+
+    ghost Value = { List ZoneSpec };
+
+    ghost view = { λ topology. topology.zones };
+
+    ghost use Rattle.mon_topo.specs.Kept.{IsKept};
+
+    ghost invariant = { IsKept };
+}
+
+impl Topology {
+    /// The topology of zones whose bounds are of the schemas, or the first of their faults.
+    pub fn new(
+        alloc: Global,
+        zones: ZoneSpecs,
+        schemas: &Schemas,
+    ) -> Result<Topology, Refusal<TopoFault>>
+        ensures answer { AnswersBy result (topology_fault schemas.now zones) }
+        ensures zones { IfOk result (λ topology. topology ≡ zones) }
+    {
+        let names = lawful_names(alloc, zones.as_slice(), schemas)?;
+        Ok(topology_of(alloc, zones, names)?)
+    }
+
+    /// The zone that lists a location.
+    pub fn zone_of(&self, location: &[u8]) -> Option<Zone>
+        ensures zone { result ≡ spec.zone_of self.now location.now }
+    {
+        match self.locations.get(location) {
+            Some(number) => Some(Zone(number)),
+            None => None,
+        }
+    }
+
+    /// The range of a zone that a target lies in: the last whose bound is not above the target.
+    pub fn range_of(&self, zone: Zone, target: &Target) -> Range
+        requires { zone.0 < length self.now }
+        ensures range { range_of self.now zone.0 target.now ≡ Some result }
+    {
+        let place = zone.0 as usize;
+        let ranges = self.zones.get(place).ranges.as_slice();
+        let above = ranges.partition_point(|range| is_within(&range.from, target));
+        Range(self.spans[place].first_range + (above - 1) as u32)
+    }
+
+    /// The leaves that hold a range at first, in their order. They are its slots 0, 1 and 2.
+    pub fn first_replicas(&self, range: Range) -> &Leaves
+        requires { range.0 < length (spec.ranges_in self.now) }
+        ensures replicas { result.now ≡ spec.first_replicas self.now range.0 }
+    {
+        &self.replicas[range.0 as usize]
+    }
+
+    /// How many zones there are. They are lawful together.
+    pub fn zones(&self) -> u32
+        ensures count { result ≡ length self.now }
+        ensures lawful { IsLawful self.now }
+    {
+        self.zones.len() as u32
+    }
+
+    /// The first leaf of a zone, and how many leaves the zone has.
+    pub fn leaves_of(&self, zone: Zone) -> (Leaf, u32)
+        requires { zone.0 < length self.now }
+        ensures first { result.0.0 ≡ spec.first_leaf self.now zone.0 }
+        ensures count { result.1 ≡ length (zone_at self.now zone.0).leaves }
+    {
+        let span = self.spans[zone.0 as usize];
+        (Leaf(span.first_leaf), span.leaves)
+    }
+
+    /// The first range of a zone, and how many ranges the zone has.
+    pub fn ranges_of(&self, zone: Zone) -> (Range, u32)
+        requires { zone.0 < length self.now }
+        ensures first { result.0.0 ≡ spec.first_range self.now zone.0 }
+        ensures count { result.1 ≡ length (zone_at self.now zone.0).ranges }
+    {
+        let span = self.spans[zone.0 as usize];
+        (Range(span.first_range), span.ranges)
+    }
+
+    /// The name of a zone.
+    pub fn zone_name(&self, zone: Zone) -> &Text
+        requires { zone.0 < length self.now }
+        ensures name { result.now ≡ (zone_at self.now zone.0).name }
+    {
+        &self.zones.get(zone.0 as usize).name
+    }
+
+    /// The name of a leaf.
+    pub fn leaf_name(&self, leaf: Leaf) -> &Text
+        requires { leaf.0 < length (spec.leaves_in self.now) }
+        ensures name { slice_get (spec.leaves_in self.now) leaf.0 ≡ Some result.now }
+    {
+        self.leaf_names.get(leaf.0 as usize)
+    }
+
+    /// How many leaves each zone has.
+    pub fn leaf_counts(&self, alloc: Global) -> Result<LeafCounts, OutOfMemory>
+        ensures counts { IfOk result (λ counts. counts ≡ spec.leaf_counts self.now) }
+    {
+        let mut counts = LeafCounts::new(alloc);
+        for span in &self.spans {
+            counts.push(span.leaves)?;
+        }
+        Ok(counts)
+    }
+
+    /// The leaf of a name.
+    pub fn leaf_named(&self, name: &[u8]) -> Option<Leaf>
+        ensures leaf { result ≡ spec.leaf_named self.now name.now }
+    {
+        match self.leaves.get(name) {
+            Some(number) => Some(Leaf(number)),
+            None => None,
+        }
+    }
+
+    /// The range of a name: that of its zone, `/`, and its number in the zone, from 0.
+    pub fn range_named(&self, name: &[u8]) -> Option<Range>
+        ensures range { result ≡ spec.range_named self.now name.now }
+    {
+        match self.ranges.get(name) {
+            Some(number) => Some(Range(number)),
+            None => None,
+        }
+    }
+}
+
+impl TryCopy for Topology {
+    fn copy(&self, alloc: Global) -> Result<Topology, AllocError> {
+        match names_of(alloc, self.zones.as_slice()) {
+            Ok(names) => topology_of(alloc, self.zones.copy(alloc)?, names),
+            Err(Refusal::OutOfMemory) => Err(AllocError),
+            Err(Refusal::Fault(_)) => unreachable!(),
+        }
+    }
+}
+
+// The names of zones that are lawful, or the first of their faults.
+fn lawful_names(
+    alloc: Global,
+    zones: &[ZoneSpec],
+    schemas: &Schemas,
+) -> Result<Names, Refusal<TopoFault>>
+    ensures answer { AnswersBy result (topology_fault schemas.now zones.now) }
+    ensures names { IfOk result (λ names. names ≡ kept.names_of zones.now) }
+    ensures lawful { OnOk result (IsLawful zones.now) }
+{
+    refused_at(alloc, TopoKind::TooMany, too_many(zones))?;
+    refused_at(alloc, TopoKind::BadName, bad_name(zones))?;
+    let names = names_apart(alloc, zones)?;
+    refused_at(alloc, TopoKind::NoLeaf, no_leaf(zones))?;
+    refused_at(alloc, TopoKind::Replicas, bad_replicas(zones))?;
+    refused_at(alloc, TopoKind::BadBound, bad_bound(schemas, zones))?;
+    refused_at(alloc, TopoKind::RangeOrder, disorder(zones))?;
+    Ok(names)
+}
+
+// The names of zones, or the first that stood earlier.
+fn names_apart(alloc: Global, zones: &[ZoneSpec]) -> Result<Names, Refusal<TopoFault>>
+    requires few { spec_faults.too_many zones.now ≡ None }
+    ensures answer { AnswersBy result (spec_faults.fault_at TopoKind.Duplicate (spec_faults.duplicate zones.now)) }
+    ensures names { IfOk result (λ names. names ≡ kept.names_of zones.now) }
+{
+    match names_of(alloc, zones) {
+        Ok(names) => Ok(names),
+        Err(Refusal::Fault(place)) => Err(Refusal::Fault(TopoFault {
+            kind: TopoKind::Duplicate,
+            path: path_to(alloc, place)?,
+        })),
+        Err(Refusal::OutOfMemory) => Err(Refusal::OutOfMemory),
+    }
+}
+
+// The topology of lawful zones and their names.
+fn topology_of(alloc: Global, zones: ZoneSpecs, names: Names) -> Result<Topology, OutOfMemory>
+    requires lawful { IsLawful zones }
+    requires names { names ≡ kept.names_of zones }
+    ensures zones { IfOk result (λ topology. topology ≡ zones) }
+{
+    let spans = spans_of(alloc, zones.as_slice())?;
+    let leaf_names = leaf_names_of(alloc, zones.as_slice())?;
+    let replicas = replicas_of(alloc, zones.as_slice(), &names.leaves)?;
+    let ranges = range_names_of(alloc, zones.as_slice())?;
+    Ok(Topology {
+        zones,
+        spans,
+        leaf_names,
+        replicas,
+        locations: names.locations,
+        leaves: names.leaves,
+        ranges,
+    })
+}
