@@ -72,7 +72,8 @@ pub(crate) fn field_values_of(alloc: Global, words: &str) -> Result<FieldValues,
     Ok(fields)
 }
 
-fn field_value_of(alloc: Global, word: &str) -> Result<FieldValue, Trouble> {
+/// A field's value: such a value, but a distribution.
+pub(crate) fn field_value_of(alloc: Global, word: &str) -> Result<FieldValue, Trouble> {
     if let Some(number) = word.strip_prefix('#') {
         return Ok(FieldValue::Int(number_in(number)?));
     }

@@ -3,7 +3,7 @@ use crate::trouble::Trouble;
 use std::alloc::{AllocError, Global};
 
 /// The bytes that a text of a table writes: `\n` and `\r` are the ends of lines, `\xff` is a byte, and
-/// `\{3 ab}` is `ababab`.
+/// `\{3 ab}` is `ababab`, and so is `\<3 ab>`.
 pub(crate) fn bytes_of(alloc: Global, text: &str) -> Result<Vec<u8>, Trouble> {
     let mut bytes = Vec::new(alloc);
     for (place, piece) in text.split('\\').enumerate() {
@@ -48,7 +48,9 @@ fn add_escape(bytes: &mut Vec<u8>, piece: &str) -> Result<(), Trouble> {
     } else if let Some(rest) = piece.strip_prefix('x') {
         add_byte(bytes, rest)?
     } else if let Some(rest) = piece.strip_prefix('{') {
-        add_repeated(bytes, rest)?
+        add_repeated(bytes, rest, '}')?
+    } else if let Some(rest) = piece.strip_prefix('<') {
+        add_repeated(bytes, rest, '>')?
     } else {
         return Err(Trouble::Misspelled);
     };
@@ -68,12 +70,12 @@ fn add_byte<'a>(bytes: &mut Vec<u8>, text: &'a str) -> Result<&'a str, Trouble> 
     Ok(rest)
 }
 
-// Adds a piece as often as the number before it says, and gives what stands behind the brace.
-fn add_repeated<'a>(bytes: &mut Vec<u8>, text: &'a str) -> Result<&'a str, Trouble> {
+// Adds a piece as often as the number before it says, and gives what stands behind its end.
+fn add_repeated<'a>(bytes: &mut Vec<u8>, text: &'a str, end: char) -> Result<&'a str, Trouble> {
     let Some((count, text)) = text.split_once(' ') else {
         return Err(Trouble::Misspelled);
     };
-    let Some((piece, rest)) = text.split_once('}') else {
+    let Some((piece, rest)) = text.split_once(end) else {
         return Err(Trouble::Misspelled);
     };
     let Ok(count) = count.parse::<u32>() else {

@@ -8,6 +8,7 @@ use mon_value::{Bounds, Cells, Column, Columns, Refusal, Text, Texts, Value, Val
 use mql_ast::{OpKind, Pattern, Predicate, Query};
 use mql_parse::parse;
 use std::alloc::{AllocError, Global};
+use std::str::Split;
 
 /// A case is `[PATTERN] [TEXT]`; its answer is whether the whole text matches, by the call and by all cuts.
 #[derive(Drop)]
@@ -210,16 +211,8 @@ impl Call for Predicates {
         };
         let mut columns = Columns::new(alloc);
         let mut cells = Cells::new(alloc);
-        for word in row.split(' ') {
-            let Some((name, written)) = word.split_once('=') else {
-                return Err(Trouble::Misspelled);
-            };
-            let cell = value_of(alloc, written)?;
-            columns.push(column_of(alloc, name, &cell)?)?;
-            cells.push(cell)?;
-        }
-        let query = format!(in alloc; "fetch T::/m | filter {predicate}")?;
-        let query = query_of(alloc, bytes_of(alloc, query.as_str())?.as_slice())?;
+        add_cells(alloc, row.split(' '), &mut columns, &mut cells)?;
+        let query = filtering(alloc, predicate)?;
         let Some(predicate) = filter_of(&query) else {
             return Err(Trouble::Misspelled);
         };
@@ -231,6 +224,30 @@ impl Call for Predicates {
             Ok(String::from_str(alloc, "bound it differs")?.into_bytes())
         }
     }
+}
+
+/// Adds the cells of a row, each a word `NAME=VALUE`, with their columns.
+pub(crate) fn add_cells(
+    alloc: Global,
+    words: Split<'_, char>,
+    columns: &mut Columns,
+    cells: &mut Cells,
+) -> Result<(), Trouble> {
+    for word in words {
+        let Some((name, written)) = word.split_once('=') else {
+            return Err(Trouble::Misspelled);
+        };
+        let cell = value_of(alloc, written)?;
+        columns.push(column_of(alloc, name, &cell)?)?;
+        cells.push(cell)?;
+    }
+    Ok(())
+}
+
+/// A query whose only operation is a filter by a predicate.
+pub(crate) fn filtering(alloc: Global, predicate: &str) -> Result<Query, Trouble> {
+    let query = format!(in alloc; "fetch T::/m | filter {predicate}")?;
+    query_of(alloc, bytes_of(alloc, query.as_str())?.as_slice())
 }
 
 // A column of the type of the cell that stands in it.
@@ -260,8 +277,8 @@ pub(crate) fn query_of(alloc: Global, text: &[u8]) -> Result<Query, Trouble> {
     }
 }
 
-// The predicate of the query's only operation, where that is a filter.
-fn filter_of(query: &Query) -> Option<&Predicate> {
+/// The predicate of the query's only operation, where that is a filter.
+pub(crate) fn filter_of(query: &Query) -> Option<&Predicate> {
     match &query.pipe.ops.first()?.what {
         OpKind::Filter(predicate) => Some(predicate),
         _ => None,

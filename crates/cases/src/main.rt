@@ -12,8 +12,13 @@ mod expressions;
 mod files;
 mod groupable;
 mod groups;
+mod hints;
+mod levels;
+mod meanings;
+mod plans;
 mod points;
 mod queries;
+mod ranges;
 mod records;
 mod runs;
 mod schemas;
@@ -30,8 +35,13 @@ use crate::case_tables::{CaseTable, read_table};
 use crate::configurations::Configurations;
 use crate::expressions::{AllPatterns, Patterns, Predicates};
 use crate::groups::Groups;
+use crate::hints::{ExcerptLists, Hints, Masks};
+use crate::levels::ExplainedTexts;
+use crate::meanings::Meanings;
+use crate::plans::{FormulaTruths, Plans};
 use crate::points::PointTexts;
 use crate::queries::{QueryFronts, QueryTexts};
+use crate::ranges::{RangesAtBounds, RangesOfTargets};
 use crate::runs::Runs;
 use crate::schemas::SchemaLines;
 use crate::scripts::Scripts;
@@ -107,10 +117,16 @@ fn report_on(
         "mon_value::read_number" => check(rt, name, table, NumberTexts::new(alloc))?,
         "mon_value::write_text" => check(rt, name, table, ValueTexts::new(alloc))?,
         "mon_schema::Schemas" => check(rt, name, table, SchemaLines::new(alloc))?,
+        "mon_hints::hints_of" => check(rt, name, table, Hints::new(alloc))?,
+        "mon_hints::excerpts_of" => check(rt, name, table, ExcerptLists::new(alloc))?,
+        "mon_hints::mask" => check(rt, name, table, Masks::new(alloc))?,
         "mon_config::read_config" => check(rt, name, table, Configurations::new(alloc))?,
+        "mon_topo::range_of" => check(rt, name, table, RangesOfTargets::new(alloc))?,
+        "mon_topo::range_of at bounds" => check(rt, name, table, RangesAtBounds::new(alloc))?,
         "mon_points::read_rows" => check(rt, name, table, PointTexts::new(alloc))?,
         "mon_fold::align" => check(rt, name, table, Alignments::new(alloc))?,
         "mon_fold::group" => check(rt, name, table, Groups::new(alloc))?,
+        "mon_meaning::central" => check(rt, name, table, Meanings::new(alloc))?,
         "mon_table" => check(rt, name, table, Tables::new(alloc))?,
         "mon_script::read_script" => check(rt, name, table, Scripts::new(alloc))?,
         "mon_expr::matches" => check(rt, name, table, Patterns::new(alloc))?,
@@ -119,6 +135,9 @@ fn report_on(
         "mql_parse::parse" => check(rt, name, table, QueryTexts::new(alloc))?,
         "mql_parse::parse at fronts" => check(rt, name, table, QueryFronts::new(alloc))?,
         "mql_types::check" => check(rt, name, table, TypedTexts::new(alloc))?,
+        "mql_types::op_levels" => check(rt, name, table, ExplainedTexts::new(alloc))?,
+        "plan_split::formula_of" => check(rt, name, table, FormulaTruths::new(alloc))?,
+        "plan_split::split" => check(rt, name, table, Plans::new(alloc))?,
         "mon_run::run" => check(rt, name, table, Runs::new(alloc))?,
         _ => return Ok(None),
     };

@@ -1,35 +1,27 @@
 // Scripts, and the lines that they are read as.
 use crate::calls::Call;
-use crate::descriptions::schemas_of;
 use crate::escapes::bytes_of;
 use crate::trouble::Trouble;
-use mon_schema::Schemas;
 use mon_script::{LineForm, Script, read_script};
 use mon_value::{LONGEST_FILE, Refusal};
 use std::alloc::Global;
 
 /// A case is a script; its answer has each line that does something with its number, and ` | ` between,
-/// or `line N` where that line is refused. The schemas are those of the configuration that the cases
-/// stand under.
+/// or `line N` where that line is refused.
 #[derive(Drop)]
 pub(crate) struct Scripts {
     alloc: Global,
-    schemas: Schemas,
 }
 
 impl Scripts {
     pub(crate) fn new(alloc: Global) -> Scripts {
-        Scripts {
-            alloc,
-            schemas: Schemas::new(alloc),
-        }
+        Scripts { alloc }
     }
 }
 
 impl Call for Scripts {
-    fn take(&mut self, content: &str) -> Result<(), Trouble> {
-        self.schemas = schemas_of(self.alloc, content)?;
-        Ok(())
+    fn take(&mut self, _content: &str) -> Result<(), Trouble> {
+        Err(Trouble::Misspelled)
     }
 
     fn answer(&mut self, given: &str) -> Result<Vec<u8>, Trouble> {
@@ -37,7 +29,7 @@ impl Call for Scripts {
         if text.len() as u64 > LONGEST_FILE {
             return Err(Trouble::Misspelled);
         }
-        let answer = match read_script(self.alloc, text.as_slice(), &self.schemas) {
+        let answer = match read_script(self.alloc, text.as_slice()) {
             Ok(script) => lines_of(self.alloc, &script)?,
             Err(Refusal::Fault(fault)) => format!(in self.alloc; "line {}", fault.line)?,
             Err(Refusal::OutOfMemory) => return Err(Trouble::OutOfMemory),

@@ -43,7 +43,8 @@ impl Call for TypedTexts {
     }
 }
 
-fn fault_text(alloc: Global, fault: TypeFault) -> Result<String, AllocError> {
+/// A fault of typing: its place, its kind and its parts.
+pub(crate) fn fault_text(alloc: Global, fault: TypeFault) -> Result<String, AllocError> {
     let at = fault.at;
     match fault.kind {
         TypeKind::UnknownSchema => format!(in alloc; "{at} UnknownSchema"),
@@ -149,11 +150,16 @@ fn add_level(text: &mut String, word: &str, info: &NodeInfo) -> Result<(), Alloc
         " > default "
     })?;
     text.push_str(word)?;
-    text.push_str(match info.level {
+    text.push_str(level_word(info.level))
+}
+
+/// The word of a level, behind a blank.
+pub(crate) fn level_word(level: Level) -> &'static str {
+    match level {
         Level::Leaf => " leaf",
         Level::Zone => " zone",
         Level::Root => " root",
-    })
+    }
 }
 
 // Adds a column: its name, with a star where it is a key, its type, both bounds in bits, and its anchor.

@@ -2,5 +2,4 @@ mod DataInLemmas
 pub mod Fronts
 pub mod ListOfLemmas
 mod NumberInLemmas
-pub mod TextsRepeatLemmas
 mod UnknownKeyLemmas

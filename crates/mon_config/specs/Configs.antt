@@ -10,6 +10,9 @@ use Rattle.mon_value.specs.declared.schemas.MetricSchema.{MetricSchema}
 use Rattle.mon_schema.specs.Faults.{target_fault, metric_fault}
 use Rattle.mon_schema.specs.SchemaLists.{SchemaLists, no_schemas, with_target, with_metric}
 use Rattle.mon_schema.specs.declared.faults.SchemaFault.{SchemaFault}
+use Rattle.mon_topo.specs.Faults.{topology_fault}
+use Rattle.mon_topo.specs.declared.faults.TopoFault.{TopoFault}
+use Rattle.mon_topo.specs.declared.zones.ZoneSpec.{ZoneSpec}
 use Rattle.mon_config.specs.declared.config.Config.{Config}
 use Rattle.mon_config.specs.declared.faults.ConfigFault.{ConfigFault}
 use Rattle.mon_config.specs.declared.faults.ConfigFault.TheVariants as fault
@@ -17,7 +20,6 @@ use Rattle.mon_config.specs.declared.parts.Parts.{Parts}
 use Rattle.mon_config.specs.Objects.{parts_in}
 use Rattle.mon_config.specs.Shapes.{through_key, through_index}
 use Rattle.mon_config.specs.declared.limits.TheConstants.{LONGEST_CONFIGURATION}
-use Rattle.mon_config.specs.Zones.{locations_of}
 
 -- the data that a text spells
 abbrev pub data_in : List ℕ → Option Data
@@ -59,15 +61,24 @@ with_metrics i held [] = Ok held
 with_metrics i held (metric ∷ metrics) =
     metric_added i held metric (metric_fault held metric) >>= λ more. with_metrics (i + 1) more metrics
 
--- the schemas are held, first the targets, and then the zones are served
+-- the zones, unless they have a fault
+abbrev pub zones_or : List ZoneSpec → Option TopoFault → Result (List ZoneSpec) ConfigFault
+zones_or zones None = Ok zones
+zones_or zones (Some refused) = Err (fault.Topology refused.kind refused.path)
+
+-- the topology of zones
+abbrev pub topology_of : SchemaLists → List ZoneSpec → Result (List ZoneSpec) ConfigFault
+topology_of held zones = zones_or zones (topology_fault held zones)
+
+-- the schemas are held, first the targets, and then the zones are a topology
 unfoldable pub config_of : Parts → Result Config ConfigFault
 config_of parts = do
   targets ← with_targets 0 no_schemas parts.targets
   schemas ← with_metrics 0 targets parts.metrics
-  locations ← locations_of parts.zones
+  topology ← topology_of schemas parts.zones
   Ok (record {
     schemas = schemas;
-    locations = locations;
+    topology = topology;
     buckets = parts.buckets;
     limit = parts.limit;
     range_points = parts.range_points;

@@ -3,4 +3,3 @@ pub mod FaultTexts
 pub mod Numbers
 pub mod Objects
 pub mod Shapes
-pub mod Zones

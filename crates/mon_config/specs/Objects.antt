@@ -17,8 +17,8 @@ use Rattle.mon_value.specs.declared.schemas.Kind.TheVariants as kind
 use Rattle.mon_value.specs.declared.schemas.TargetSchema.{TargetSchema}
 use Rattle.mon_value.specs.declared.schemas.MetricSchema.{MetricSchema}
 use Rattle.mon_config.specs.declared.parts.Parts.{Parts}
-use Rattle.mon_config.specs.declared.zones.RangeSpec.{RangeSpec}
-use Rattle.mon_config.specs.declared.zones.ZoneSpec.{ZoneSpec}
+use Rattle.mon_topo.specs.declared.zones.RangeSpec.{RangeSpec}
+use Rattle.mon_topo.specs.declared.zones.ZoneSpec.{ZoneSpec}
 use Rattle.mon_config.specs.declared.keys.ObjectForm.{ObjectForm}
 use Rattle.mon_config.specs.declared.keys.ObjectForm.TheVariants as form
 pub use Rattle.mon_config.specs.Numbers.{is_bucket_count, is_limit}

@@ -12,9 +12,9 @@ use crate::held::{Read, with_metrics, with_targets};
 use crate::limits::LONGEST_CONFIGURATION;
 use crate::parts::{Parts, parts_in};
 use crate::paths::{Shaped, path_from_top};
-use crate::zones::locations_of;
 use mon_schema::Schemas;
-use mon_value::{OutOfMemory, Refusal, Text, Texts, TryCopy};
+use mon_topo::{Topology, ZoneSpecs};
+use mon_value::{OutOfMemory, Refusal, Text, TryCopy};
 use serde_json::Value;
 use std::alloc::{AllocError, Global};
 
@@ -23,8 +23,8 @@ use std::alloc::{AllocError, Global};
 pub struct Config {
     /// The schemas of targets and metrics.
     pub schemas: Schemas,
-    /// The locations of the zone.
-    pub locations: Texts,
+    /// The zones, their leaves and ranges.
+    pub topology: Topology,
     /// How many buckets there are: a power of two from 64 to 4,096.
     pub buckets: u32,
     /// How many steps a query takes at most.
@@ -37,7 +37,7 @@ impl TryCopy for Config {
     fn copy(&self, alloc: Global) -> Result<Config, AllocError> {
         Ok(Config {
             schemas: self.schemas.copy(alloc)?,
-            locations: self.locations.copy(alloc)?,
+            topology: self.topology.copy(alloc)?,
             buckets: self.buckets,
             limit: self.limit,
             range_points: self.range_points,
@@ -93,12 +93,25 @@ fn config_of(alloc: Global, parts: Parts) -> Read<Config>
 {
     let schemas = with_targets(alloc, parts.targets)?;
     let schemas = with_metrics(alloc, schemas, parts.metrics)?;
-    let locations = locations_of(alloc, parts.zones)?;
+    let topology = topology_of(alloc, parts.zones, &schemas)?;
     Ok(Config {
         schemas,
-        locations,
+        topology,
         buckets: parts.buckets,
         limit: parts.limit,
         range_points: parts.range_points,
     })
+}
+
+// The topology of zones; a fault has its path from the top already.
+fn topology_of(alloc: Global, zones: ZoneSpecs, schemas: &Schemas) -> Read<Topology>
+    ensures topology { Gives result (spec.topology_of schemas.now zones) }
+{
+    match Topology::new(alloc, zones, schemas) {
+        Ok(topology) => Ok(topology),
+        Err(Refusal::Fault(fault)) => {
+            Err(Refusal::Fault(ConfigFault::Topology(fault.kind, fault.path)))
+        }
+        Err(Refusal::OutOfMemory) => Err(Refusal::OutOfMemory),
+    }
 }

@@ -1,5 +1,6 @@
 // Why a text is no configuration.
 use mon_schema::SchemaFault;
+use mon_topo::TopoKind;
 use mon_value::{Text, TryCopy};
 use std::alloc::{AllocError, Global};
 use std::fmt;
@@ -15,8 +16,8 @@ pub enum ConfigFault {
     Shape(Text),
     /// The schema at the path is refused.
     Schema(SchemaFault, Text),
-    /// The zones are of another form than the one that is served so far.
-    NotBuilt,
+    /// The zones, leaves or ranges are refused at the path.
+    Topology(TopoKind, Text),
 }
 
 impl TryCopy for ConfigFault {
@@ -28,7 +29,9 @@ impl TryCopy for ConfigFault {
             ConfigFault::Schema(fault, path) => {
                 Ok(ConfigFault::Schema(*fault, path.copy(alloc)?))
             }
-            ConfigFault::NotBuilt => Ok(ConfigFault::NotBuilt),
+            ConfigFault::Topology(kind, path) => {
+                Ok(ConfigFault::Topology(*kind, path.copy(alloc)?))
+            }
         }
     }
 }
@@ -45,7 +48,7 @@ impl fmt::Display for ConfigFault {
             ConfigFault::NotJson => f.write_str("NotJson"),
             ConfigFault::Shape(path) => write!(f, "Shape {}", path.as_str()),
             ConfigFault::Schema(fault, path) => write!(f, "Schema {fault} {}", path.as_str()),
-            ConfigFault::NotBuilt => f.write_str("NotBuilt"),
+            ConfigFault::Topology(kind, path) => write!(f, "Topology {kind} {}", path.as_str()),
         }
     }
 }

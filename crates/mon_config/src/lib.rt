@@ -1,4 +1,4 @@
-//! The configuration: the schemas, the zone's locations and the limits that a JSON text spells.
+//! The configuration: the schemas, the topology and the limits that a JSON text spells.
 #![tactic(auto)]
 
 mod config;
@@ -9,7 +9,6 @@ mod limits;
 mod parts;
 mod paths;
 mod readers;
-mod repeats;
 mod schemas;
 mod values;
 mod zones;

@@ -10,8 +10,9 @@ use crate::paths::Shaped;
 use crate::readers::{ListReader, optional_key, required_key};
 use crate::schemas::{MetricReader, TargetReader};
 use crate::values::{BucketsReader, LimitReader};
-use crate::zones::{ZoneReader, ZoneSpecs};
+use crate::zones::ZoneReader;
 use mon_schema::{MetricSchemas, TargetSchemas};
+use mon_topo::ZoneSpecs;
 use serde_json::Value;
 use std::alloc::Global;
 

@@ -22,7 +22,7 @@ fn a_whole_configuration_is_read(rt: HostRuntime) -> Result<(), Fail> {
     assert_eq!(rt; config.buckets, 1024);
     assert_eq!(rt; config.limit, 1000000);
     assert_eq!(rt; config.range_points, 1000000);
-    assert_eq!(rt; config.locations.len(), 1);
+    assert_eq!(rt; config.topology.zones(), 1);
     assert!(rt; config.schemas.target(b"T".as_slice()).is_some());
     assert!(rt; config.schemas.metric(b"/d".as_slice()).is_some());
     assert!(rt; config.schemas.metric(b"/s".as_slice()).is_some());

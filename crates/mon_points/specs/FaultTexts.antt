@@ -12,4 +12,3 @@ row_fault_text (fault.BadField number) = codes "BadField " ++ decimal number
 row_fault_text fault.BadTime = codes "BadTime"
 row_fault_text fault.BadValue = codes "BadValue"
 row_fault_text fault.NotUtf8 = codes "NotUtf8"
-row_fault_text fault.NotBuilt = codes "NotBuilt"

@@ -22,9 +22,6 @@ pub enum RowFault {
     BadValue,
     /// A cell is not UTF-8.
     NotUtf8,
-    /// The row's location is none of the store's. The reader, which knows no locations, never gives
-    /// it.
-    NotBuilt,
 }
 
 impl TryCopy for RowFault {
@@ -48,7 +45,6 @@ impl fmt::Display for RowFault {
             RowFault::BadTime => f.write_str("BadTime"),
             RowFault::BadValue => f.write_str("BadValue"),
             RowFault::NotUtf8 => f.write_str("NotUtf8"),
-            RowFault::NotBuilt => f.write_str("NotBuilt"),
         }
     }
 }

@@ -10,10 +10,11 @@ use Rattle.mon_value.proofs.SameLemmas.{same_series-Decides}
 use Rattle.mon_value.specs.Same.{same_series}
 use Rattle.mon_value.specs.contracts.rows.SeriesKeyPartialEq.TheImpl as derived
 use Rattle.mon_value.specs.declared.rows.SeriesKey.{SeriesKey}
-use Rattle.mon_run.specs.within.Places.{Group, groups_held}
+use Rattle.mon_run.specs.within.Places.{Group}
+use Rattle.mon_meaning.specs.Central.{series_held}
 use Rattle.mon_run.proofs.HeldLemmas.{Entries, held_none, same_test}
 
-keys_held : (entries : Entries) → keys_of (groups_held entries) ≡ keys_of entries
+keys_held : (entries : Entries) → keys_of (series_held entries) ≡ keys_of entries
 keys_held [] = refl
 keys_held (entry ∷ entries) = ap (λ (keys : List SeriesKey). entry.0 ∷ keys) (keys_held entries)
 
@@ -41,21 +42,21 @@ absent_so_far (d ∷ done) group rest distinct =
 -- a copy more goes to the end
 pub copy_put : {H : Type 0} (made : IndexMap SeriesKey SeriesPoints H) (own key : SeriesKey) (copy series : SeriesPoints) (rest all new : Entries)
     → own ≡ key → copy.points ≡ series.points → new ≡ insert_entry derived.eq-value.it made.entries own copy
-    → groups_held made.entries ++ groups_held ((key, series) ∷ rest) ≡ groups_held all
-    → IsDistinct derived.eq-value.it (keys_of all) → groups_held new ++ groups_held rest ≡ groups_held all
+    → series_held made.entries ++ series_held ((key, series) ∷ rest) ≡ series_held all
+    → IsDistinct derived.eq-value.it (keys_of all) → series_held new ++ series_held rest ≡ series_held all
 copy_put made own key copy series rest all new owns points is whole distinct =
-    let done : List Group = groups_held made.entries in
+    let done : List Group = series_held made.entries in
     let same : derived.eq-value.it ≡ same_series = λ i k. same_test k i in
-    let by_series : IsDistinct same_series (keys_of (groups_held all)) =
-    subst (λ test. IsDistinct test (keys_of (groups_held all))) same (subst (IsDistinct derived.eq-value.it) (sym (keys_held all)) distinct) in
-    let unlike : IsDistinct same_series (keys_of (done ++ (key, series.points) ∷ groups_held rest)) =
+    let by_series : IsDistinct same_series (keys_of (series_held all)) =
+    subst (λ test. IsDistinct test (keys_of (series_held all))) same (subst (IsDistinct derived.eq-value.it) (sym (keys_held all)) distinct) in
+    let unlike : IsDistinct same_series (keys_of (done ++ (key, series.points) ∷ series_held rest)) =
     subst (λ (groups : List Group). IsDistinct same_series (keys_of groups)) (sym whole) by_series in
     let absent : lookup (same_series own) done ≡ None =
-    ap (λ (k : SeriesKey). lookup (same_series k) done) owns ∙ absent_so_far done (key, series.points) (groups_held rest) unlike in
+    ap (λ (k : SeriesKey). lookup (same_series k) done) owns ∙ absent_so_far done (key, series.points) (series_held rest) unlike in
     let none : get derived.eq-value.it made own ≡ None = ap (λ test. lookup test made.entries) (same_test own) ∙ held_none own made.entries absent in
-    let put : groups_held new ≡ done ++ (key, series.points) ∷ [] =
-    ap groups_held (is ∙ insert_entry-new derived.eq-value.it made own copy none)
+    let put : series_held new ≡ done ++ (key, series.points) ∷ [] =
+    ap series_held (is ∙ insert_entry-new derived.eq-value.it made own copy none)
     ∙ map-append (λ (entry : SeriesKey × SeriesPoints). (entry.0, entry.1.points)) made.entries ((own, copy) ∷ [])
     ∙ (λ i. done ++ (owns i, points i) ∷ []) in
-    ap (λ (groups : List Group). groups ++ groups_held rest) put
-    ∙ append_assoc done ((key, series.points) ∷ []) (groups_held rest) ∙ whole
+    ap (λ (groups : List Group). groups ++ series_held rest) put
+    ∙ append_assoc done ((key, series.points) ∷ []) (series_held rest) ∙ whole

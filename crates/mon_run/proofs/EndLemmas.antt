@@ -1,6 +1,5 @@
 -- How a run ends: as its plan says, or where it could not go on.
-use Rattle.std.proofs.Common.{◌≡◌, ◌∙◌, ◌≤◌, inl, inr, ℕ, true, false, List, [], ◌∷◌, ◌++◌, Result, Ok, Err, OnOk, IfErr, refl, sym, ap, subst, append_assoc, append-nil, arith}
-use Rattle.std.specs.Bool.{⊤}
+use Rattle.std.proofs.Common.{◌≡◌, ◌∙◌, ◌≤◌, inl, inr, ℕ, true, false, List, [], ◌∷◌, ◌++◌, Bool, Result, Ok, Err, IfOk, IfErr, refl, sym, ap, subst, append_assoc, append-nil, arith}
 use Rattle.mon_run.specs.Endings.{CutShort, Did, Follows, LastFailed, Progress, RunIs, Starved, is_status}
 use Rattle.mon_run.specs.Faults.{Rose}
 use Rattle.mon_run.specs.Sinks.{SinkState}
@@ -145,9 +144,9 @@ ends_starved p before mid after status starved closes = inl (inr (inr (
 )))
 
 -- however a run ended, it is what its plan says as far as it came
-pub run_ended : (p : Plan) (before mid after : Progress) (ended : Result ⊤ Stop) (status : ℕ) → OnOk ended (Done p before mid) → IfErr ended (λ stopped. Stops p stopped before mid) → IfErr ended (λ stopped. Causes stopped before mid) →
+pub run_ended : (p : Plan) (before mid after : Progress) (ended : Result Bool Stop) (status : ℕ) → IfOk ended (λ refused. Done p refused before mid) → IfErr ended (λ stopped. Stops p stopped before mid) → IfErr ended (λ stopped. Causes stopped before mid) →
     Counts before mid → Counts mid after → after.folder ≡ mid.folder → Closes ended status mid after → RunIs p status before after
-run_ended p before mid after (Ok unit) status done stops causes counts later same closes =
+run_ended p before mid after (Ok refused) status done stops causes counts later same closes =
     inl (inl (closes.0 ∙ done.status, did_by (append-nil p.steps) (did_then done.did closes.1)))
 run_ended p before mid after (Err stop.Usage) status done stops causes counts later same closes = ends_before p before mid after 1 _ status stops counts.writes closes
 run_ended p before mid after (Err (stop.Config fault)) status done stops causes counts later same closes = ends_before p before mid after 2 _ status stops counts.writes closes
@@ -165,8 +164,9 @@ says_four before after code text status (inl said) four = sym said.0 ∙ four
 says_four before after code text status (inr (inl cut)) four = let e = cut.0 in omega arith
 says_four before after code text status (inr (inr starved)) four = let e = starved.0 in omega arith
 
-pub unread_last : (before mid after : Progress) (ended : Result ⊤ Stop) (status : ℕ) → IfErr ended (λ stopped. Causes stopped before mid) → after.folder ≡ mid.folder → Closes ended status mid after → status ≡ 4 → LastFailed before.folder after.folder
-unread_last before mid after (Ok unit) status causes same closes four = let e = closes.0 in absurd (omega arith)
+pub unread_last : (before mid after : Progress) (ended : Result Bool Stop) (status : ℕ) → IfErr ended (λ stopped. Causes stopped before mid) → after.folder ≡ mid.folder → Closes ended status mid after → status ≡ 4 → LastFailed before.folder after.folder
+unread_last before mid after (Ok true) status causes same closes four = let e = closes.0 in absurd (omega arith)
+unread_last before mid after (Ok false) status causes same closes four = let e = closes.0 in absurd (omega arith)
 unread_last before mid after (Err (stop.CannotRead name)) status causes same closes four = last_later before.folder mid.folder after.folder same causes.1
 unread_last before mid after (Err stop.WriteFailed) status causes same closes four = let e = closes.0 in absurd (omega arith)
 unread_last before mid after (Err stop.OutOfMemory) status causes same closes four = let e = closes.0 in absurd (omega arith)
@@ -180,8 +180,9 @@ says_rose before after code text status (inl said) five other = absurd (other (s
 says_rose before after code text status (inr (inl cut)) five other = cut.2
 says_rose before after code text status (inr (inr starved)) five other = let e = starved.0 in absurd (omega arith)
 
-pub unwritten_rose : (before mid after : Progress) (ended : Result ⊤ Stop) (status : ℕ) → IfErr ended (λ stopped. Causes stopped before mid) → Counts before mid → Counts mid after → Closes ended status mid after → status ≡ 5 → Rose before.sink.faults after.sink.faults
-unwritten_rose before mid after (Ok unit) status causes counts later closes five = let e = closes.0 in absurd (omega arith)
+pub unwritten_rose : (before mid after : Progress) (ended : Result Bool Stop) (status : ℕ) → IfErr ended (λ stopped. Causes stopped before mid) → Counts before mid → Counts mid after → Closes ended status mid after → status ≡ 5 → Rose before.sink.faults after.sink.faults
+unwritten_rose before mid after (Ok true) status causes counts later closes five = let e = closes.0 in absurd (omega arith)
+unwritten_rose before mid after (Ok false) status causes counts later closes five = let e = closes.0 in absurd (omega arith)
 unwritten_rose before mid after (Err stop.WriteFailed) status causes counts later closes five = rose_later before.sink.faults mid.sink.faults after.sink.faults causes later.writes
 unwritten_rose before mid after (Err stop.OutOfMemory) status causes counts later closes five = let e = closes.0 in absurd (omega arith)
 unwritten_rose before mid after (Err (stop.CannotRead name)) status causes counts later closes five =
@@ -200,8 +201,9 @@ says_status before after code text status fine (inl said) = ap is_status said.0 
 says_status before after code text status fine (inr (inl cut)) = ap is_status cut.0
 says_status before after code text status fine (inr (inr starved)) = ap is_status starved.0
 
-pub ended_status : (before after : Progress) (ended : Result ⊤ Stop) (status : ℕ) → Closes ended status before after → is_status status ≡ true
-ended_status before after (Ok unit) status closes = ap is_status closes.0
+pub ended_status : (before after : Progress) (ended : Result Bool Stop) (status : ℕ) → Closes ended status before after → is_status status ≡ true
+ended_status before after (Ok true) status closes = ap is_status closes.0
+ended_status before after (Ok false) status closes = ap is_status closes.0
 ended_status before after (Err stop.WriteFailed) status closes = ap is_status closes.0
 ended_status before after (Err stop.OutOfMemory) status closes = ap is_status closes.0
 ended_status before after (Err stop.Usage) status closes = says_status before after 1 _ status refl closes

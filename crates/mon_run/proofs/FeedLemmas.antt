@@ -5,7 +5,6 @@ use Rattle.mon_value.specs.Sources.{last_end, points_of}
 use Rattle.mon_value.specs.declared.rows.Row.{Row}
 use Rattle.mon_config.specs.declared.config.Config.{Config}
 use Rattle.mon_points.specs.Fitting.{ReadFits}
-use Rattle.mon_points.specs.declared.faults.RowFault.TheVariants as row_fault
 use Rattle.mon_points.specs.declared.records.RowRead.{RowRead}
 use Rattle.mon_points.specs.declared.records.RowRead.TheVariants as read
 use Rattle.mon_run.specs.Feeds.{Verdict, fault_in, fed_by, is_in_zone, old_fault, refusal_of, refusals, taken, unless, verdict, verdicts}
@@ -82,7 +81,7 @@ unless_row row kept (Some fault) same = absurd cc
 
 -- a row that is accepted is the row that was read, and of the zone
 row_accepted : (config : Config) (rows : List Row) (row kept : Row) (zoned : Bool) → is_in_zone config row.key ≡ zoned →
-    cond zoned (unless row (old_fault (last_end (points_of row.key rows)) row.point)) (Err (refused.Read row_fault.NotBuilt)) ≡ Ok kept → (row ≡ kept) × (is_in_zone config kept.key ≡ true)
+    cond zoned (unless row (old_fault (last_end (points_of row.key rows)) row.point)) (Err refused.NoZone) ≡ Ok kept → (row ≡ kept) × (is_in_zone config kept.key ≡ true)
 row_accepted config rows row kept true is same =
     let e = unless_row row kept (old_fault (last_end (points_of row.key rows)) row.point) same in (e, subst (λ (r : Row). is_in_zone config r.key ≡ true) e is)
 row_accepted config rows row kept false is same = absurd cc

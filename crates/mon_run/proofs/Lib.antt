@@ -1,12 +1,11 @@
-mod AlignLemmas
 mod ContentLemmas
 mod CopyLemmas
 mod EndLemmas
 mod FeedLemmas
-mod FittingLemmas
 mod HeldLemmas
-mod LocationLemmas
 mod PlaceLemmas
+mod QueryLemmas
+mod QueryTextLemmas
 mod ReadLemmas
 mod RunLemmas
 mod SinkLemmas

@@ -1,5 +1,5 @@
 -- The parts of a run: a file, a line, the lines of a script, a script, a configuration.
-use Rattle.std.proofs.Common.{◌≡◌, ◌∙◌, ◌⊎◌, inl, inr, ℕ, ℤ, false, cond, List, [], ◌∷◌, ◌++◌, map, length, Result, Ok, Err, IfErr, refl, sym, ap, subst, append_assoc, append-nil}
+use Rattle.std.proofs.Common.{◌≡◌, ◌∙◌, ◌⊎◌, inl, inr, ℕ, ℤ, ◌||◌, Bool, false, cond, List, [], ◌∷◌, ◌++◌, map, length, Result, Ok, Err, IfOk, IfErr, refl, sym, ap, subst, append_assoc, append-nil}
 use Rattle.std.specs.Bool.{⊤}
 use Rattle.std.specs.List.{flat_map}
 use Rattle.mon_value.specs.Answers.{Withholds}
@@ -18,12 +18,14 @@ use Rattle.mon_run.specs.Feeds.{Fed, fed}
 use Rattle.mon_run.specs.Faults.{Rose}
 use Rattle.mon_run.specs.Folders.{Files, FolderState, content_of}
 use Rattle.mon_run.specs.Sinks.{SinkState, written_then}
-use Rattle.mon_run.specs.Plans.{Accept, Ask, End, Plan, Step, Write, config_plan, ending, feed_steps, is_too_long, line_plan, line_rows, lines_plan, plan, plan_behind, query_steps, read_plan, script_plan}
-use Rattle.mon_run.specs.Texts.{feed_text, query_text, too_long_text}
+use Rattle.mon_run.specs.Plans.{Accept, Ask, End, Plan, Step, Write, config_plan, end_status, ending, feed_steps, is_refused, is_too_long, line_plan, line_rows, lines_plan, plan, plan_behind, query_steps, read_plan, reply_steps, script_plan}
+use Rattle.mon_run.specs.Queries.{query_answer, reply_of}
+use Rattle.mon_run.specs.Texts.{feed_text, too_long_text}
 use Rattle.mon_run.specs.declared.outcome.LineEnd.{LineEnd}
 use Rattle.mon_run.specs.declared.outcome.LineEnd.TheVariants as line_end
 use Rattle.mon_run.specs.declared.feeds.Fed.{Fed as Answer}
 use Rattle.mon_run.specs.declared.outside.folder.Asked.{Asked}
+use Rattle.mon_run.specs.declared.queries.Reply.{Reply}
 use Rattle.mon_run.specs.declared.stop.Stop.{Stop}
 use Rattle.mon_run.specs.declared.stop.Stop.TheVariants as stop
 use Rattle.mon_run.specs.within.Stops.{Done, HasRead, Ran, Stops, WriteStops, WroteFront, config_stop, files_plan, named_plan, script_stop}
@@ -93,15 +95,13 @@ told_steps : (name text : List ℕ) (answer : Answer) (f : Fed) → FedAs answer
 told_steps name text answer f told is = λ i.
     accepts f.accepted ++ End (line_end.Fed (told.accepted i) (told.refused i)) ∷ Write ((is ∙ (λ j. feed_text name (told.accepted j) (told.refused j))) i) ∷ []
 
-pub feed_ran : {config : Config} {files : Files} {name : List ℕ} {answer : Answer} (text : List ℕ) {before mid ended after : Progress} → Took config files name answer before mid →
-    Did (End (line_end.Fed answer.accepted answer.refused) ∷ []) mid ended → Did (Write text ∷ []) ended after → text ≡ feed_text name answer.accepted answer.refused →
+pub feed_ran : {config : Config} {files : Files} {name : List ℕ} {answer : Answer} (text : List ℕ) {before mid after : Progress} → Took config files name answer before mid →
+    Did (End (line_end.Fed answer.accepted answer.refused) ∷ Write text ∷ []) mid after → text ≡ feed_text name answer.accepted answer.refused →
     Ran (line_plan config files before.rows (form.Feed name)) (line_rows config files before.rows (form.Feed name)) before after
-feed_ran {config} {files} {name} {answer} text {before} {mid} {ended} {after} took end write is =
+feed_ran {config} {files} {name} {answer} text {before} {mid} {after} took put is =
     let f : Fed = fed config before.rows (content_of files name) in
-    let front : List Step = Ask name ∷ accepts f.accepted in
-    let last : List Step = End (line_end.Fed answer.accepted answer.refused) ∷ [] in
     let did : Did (Ask name ∷ feed_steps name f) before after =
-    did_by (append_assoc front last (Write text ∷ []) ∙ ap (λ (steps : List Step). Ask name ∷ steps) (told_steps name text answer f took.told is)) (did_then (did_then took.did end) write) in
+    did_by (ap (λ (steps : List Step). Ask name ∷ steps) (told_steps name text answer f took.told is)) (did_then took.did put) in
     record {
       steps = Ask name ∷ feed_steps name f;
       same = λ rest. feed_plan config files before.rows name rest took.short;
@@ -118,19 +118,19 @@ feed_starved {config} {files} {name} rest {before} took none =
     starved_at front (End (line_end.Fed (length f.accepted) f.refused) ∷ Write (feed_text name (length f.accepted) f.refused) ∷ []) rest
     (feed_plan config files before.rows name rest took.short) (did_by (append-nil front) (did_then took.did none))
 
--- the text of a feed was cut
-pub feed_cut : {config : Config} {files : Files} {name : List ℕ} {answer : Answer} (text : List ℕ) (rest : Plan) {before mid ended after : Progress} → Took config files name answer before mid →
-    Did (End (line_end.Fed answer.accepted answer.refused) ∷ []) mid ended → WroteFront text ended after → text ≡ feed_text name answer.accepted answer.refused →
-    CutShort (line_plan config files before.rows (form.Feed name) rest).steps before after
-feed_cut {config} {files} {name} {answer} text rest {before} took end cut is =
+-- the end of a feed, or its text, stopped the run
+pub feed_stops : {config : Config} {files : Files} {name : List ℕ} {answer : Answer} (text : List ℕ) (rest : Plan) (stopped : Stop) {before mid : Progress} (after : Progress) → Took config files name answer before mid →
+    Stops (plan_behind (End (line_end.Fed answer.accepted answer.refused) ∷ Write text ∷ []) rest) stopped mid after → text ≡ feed_text name answer.accepted answer.refused →
+    Stops (line_plan config files before.rows (form.Feed name) rest) stopped before after
+feed_stops {config} {files} {name} {answer} text rest stopped {before} {mid} after took stops is =
     let f : Fed = fed config before.rows (content_of files name) in
     let front : List Step = Ask name ∷ accepts f.accepted in
-    let last : List Step = End (line_end.Fed answer.accepted answer.refused) ∷ [] in
-    cut_at (front ++ last) text rest
-    (feed_plan config files before.rows name rest took.short
+    let last : List Step = End (line_end.Fed answer.accepted answer.refused) ∷ Write text ∷ [] in
+    let whole : line_plan config files before.rows (form.Feed name) rest ≡ plan_behind front (plan_behind last rest) =
+    feed_plan config files before.rows name rest took.short
     ∙ ap (λ (steps : List Step). plan_behind (Ask name ∷ steps) rest) (sym (told_steps name text answer f took.told is))
-    ∙ ap (λ (steps : List Step). plan_behind steps rest) (sym (append_assoc front last (Write text ∷ []))))
-    (did_then took.did end) cut
+    ∙ sym (plan_twice front last rest) in
+    subst (λ (p : Plan). Stops p stopped before after) (sym whole) (stops_behind (plan_behind last rest) after stopped took.did stops)
 
 -- memory ran out among the records of a feed
 pub front_starved : (config : Config) (files : Files) (name : List ℕ) (rest : Plan) {before mid after : Progress} → is_too_long files name ≡ false → Did (Ask name ∷ []) before mid →
@@ -151,77 +151,85 @@ front_starved config files name rest {before} {mid} {after} short did folder sin
 
 -- ---- queries
 
-pub query_ran : (config : Config) (files : Files) (text table : List ℕ) (moment : ℤ) {before ended after : Progress} → Did (End (line_end.Asked moment) ∷ []) before ended → Did (Write table ∷ []) ended after → table ≡ query_text config.schemas before.rows moment text →
+pub query_ran : (config : Config) (files : Files) (text : List ℕ) (moment : ℤ) (reply : Reply) {before after : Progress} → reply ≡ reply_of moment (query_answer config before.rows moment text) → Did (reply_steps reply) before after →
     Ran (line_plan config files before.rows (form.Query moment text)) [] before after
-query_ran config files text table moment {before} end write is =
-    let did = did_by (ap (λ (t : List ℕ). End (line_end.Asked moment) ∷ Write t ∷ []) is) (did_then end write) in
-    record { steps = query_steps config before.rows moment text; same = λ rest. refl; did = did; accepted = did.rows }
+query_ran config files text moment reply is did =
+    let steps = did_by (ap reply_steps is) did in
+    record { steps = query_steps config _ moment text; same = λ rest. refl; did = steps; accepted = steps.rows }
 
-pub query_cut : (config : Config) (files : Files) (text table : List ℕ) (moment : ℤ) (rest : Plan) {before ended after : Progress} → Did (End (line_end.Asked moment) ∷ []) before ended → WroteFront table ended after → table ≡ query_text config.schemas before.rows moment text →
-    CutShort (line_plan config files before.rows (form.Query moment text) rest).steps before after
-query_cut config files text table moment rest {before} end cut is =
-    cut_at (End (line_end.Asked moment) ∷ []) table rest (ap (λ (t : List ℕ). plan_behind (End (line_end.Asked moment) ∷ Write t ∷ []) rest) (sym is)) end cut
+pub query_stops : (config : Config) (files : Files) (text : List ℕ) (moment : ℤ) (reply : Reply) (rest : Plan) (stopped : Stop) (before after : Progress) → reply ≡ reply_of moment (query_answer config before.rows moment text) →
+    Stops (plan_behind (reply_steps reply) rest) stopped before after → Stops (line_plan config files before.rows (form.Query moment text) rest) stopped before after
+query_stops config files text moment reply rest stopped before after is stops = subst (λ (r : Reply). Stops (plan_behind (reply_steps r) rest) stopped before after) is stops
 
 pub query_starved : (config : Config) (files : Files) (text : List ℕ) (moment : ℤ) (rest : Plan) {before after : Progress} → Did [] before after → Starved (line_plan config files before.rows (form.Query moment text) rest).steps before after
 query_starved config files text moment rest {before} none = starved_at [] (query_steps config before.rows moment text) rest refl none
 
+-- ---- the end of a line
+
+pub put_starved : (end : LineEnd) (text : List ℕ) (rest : Plan) {before after : Progress} → Did [] before after → Starved (plan_behind (End end ∷ Write text ∷ []) rest).steps before after
+put_starved end text rest none = starved_at [] (End end ∷ Write text ∷ []) rest refl none
+
+pub put_cut : (end : LineEnd) (text : List ℕ) (rest : Plan) {before ended after : Progress} → Did (End end ∷ []) before ended → WroteFront text ended after → CutShort (plan_behind (End end ∷ Write text ∷ []) rest).steps before after
+put_cut end text rest noted cut = cut_at (End end ∷ []) text rest refl noted cut
+
 -- ---- lines
 
--- lines that ran, and those that are left
-pub record Reached (config : Config) (files : Files) (lines left : List ScriptLine) (before now : Progress) : Type 0 where
+-- lines that ran, whether one of them was refused, and those that are left
+pub record Reached (config : Config) (files : Files) (lines left : List ScriptLine) (refused : Bool) (before now : Progress) : Type 0 where
   pub steps : List Step
-  pub split : lines_plan config files before.rows lines ≡ plan_behind steps (lines_plan config files now.rows left)
+  pub split : lines_plan config files false before.rows lines ≡ plan_behind steps (lines_plan config files refused now.rows left)
   pub did : Did steps before now
 
-pub reached_first : (config : Config) (files : Files) (lines : List ScriptLine) (p : Progress) → Reached config files lines lines p p
+pub reached_first : (config : Config) (files : Files) (lines : List ScriptLine) (p : Progress) → Reached config files lines lines false p p
 reached_first config files lines p = record { steps = []; split = refl; did = did_none p }
 
-pub reached_more : {config : Config} {files : Files} {lines left : List ScriptLine} {line : ScriptLine} {before now after : Progress} → Reached config files lines (line ∷ left) before now →
-    Ran (line_plan config files now.rows line.what) (line_rows config files now.rows line.what) now after → Reached config files lines left before after
-reached_more {config} {files} {lines} {left} {line} {before} {now} {after} reached ran = record {
+pub reached_more : {config : Config} {files : Files} {lines left : List ScriptLine} {line : ScriptLine} {refused : Bool} (refused' : Bool) {before now after : Progress} → refused' ≡ (is_refused config now.rows line.what || refused) → Reached config files lines (line ∷ left) refused before now →
+    Ran (line_plan config files now.rows line.what) (line_rows config files now.rows line.what) now after → Reached config files lines left refused' before after
+reached_more {config} {files} {lines} {left} {line} {refused} refused' {before} {now} {after} is reached ran = record {
   steps = reached.steps ++ ran.steps;
   split = reached.split
-      ∙ ap (plan_behind reached.steps) (ran.same (lines_plan config files (now.rows ++ line_rows config files now.rows line.what) left))
-      ∙ ap (λ (rows : List Row). plan_behind reached.steps (plan_behind ran.steps (lines_plan config files rows left))) (sym ran.accepted)
-      ∙ plan_twice reached.steps ran.steps (lines_plan config files after.rows left);
+      ∙ ap (plan_behind reached.steps) (ran.same (lines_plan config files (is_refused config now.rows line.what || refused) (now.rows ++ line_rows config files now.rows line.what) left))
+      ∙ (λ i. plan_behind reached.steps (plan_behind ran.steps (lines_plan config files (sym is i) (sym ran.accepted i) left)))
+      ∙ plan_twice reached.steps ran.steps (lines_plan config files refused' after.rows left);
   did = did_then reached.did ran.did;
 }
 
-pub reached_all : {config : Config} {files : Files} {lines left : List ScriptLine} {before now : Progress} → left ≡ [] → Reached config files lines left before now → Done (lines_plan config files before.rows lines) before now
-reached_all {config} {files} {lines} {left} {before} {now} none reached =
-    let all : lines_plan config files before.rows lines ≡ plan reached.steps 0 =
-    reached.split ∙ ap (λ (l : List ScriptLine). plan_behind reached.steps (lines_plan config files now.rows l)) none
-    ∙ ap (λ (steps : List Step). plan steps 0) (append-nil reached.steps) in
+pub reached_all : {config : Config} {files : Files} {lines left : List ScriptLine} {refused : Bool} {before now : Progress} → left ≡ [] → Reached config files lines left refused before now → Done (lines_plan config files false before.rows lines) refused before now
+reached_all {config} {files} {lines} {left} {refused} {before} {now} none reached =
+    let all : lines_plan config files false before.rows lines ≡ plan reached.steps (end_status refused) =
+    reached.split ∙ ap (λ (l : List ScriptLine). plan_behind reached.steps (lines_plan config files refused now.rows l)) none
+    ∙ ap (λ (steps : List Step). plan steps (end_status refused)) (append-nil reached.steps) in
     record { status = sym (ap (λ (p : Plan). p.status) all); did = did_by (sym (ap (λ (p : Plan). p.steps) all)) reached.did }
 
-pub reached_stops : {config : Config} {files : Files} {lines left : List ScriptLine} {line : ScriptLine} {before now : Progress} (after : Progress) (stopped : Stop) → Reached config files lines (line ∷ left) before now →
-    ((rest : Plan) → Stops (line_plan config files now.rows line.what rest) stopped now after) → Stops (lines_plan config files before.rows lines) stopped before after
-reached_stops {config} {files} {lines} {left} {line} {before} {now} after stopped reached stops =
+pub reached_stops : {config : Config} {files : Files} {lines left : List ScriptLine} {line : ScriptLine} {refused : Bool} {before now : Progress} (after : Progress) (stopped : Stop) → Reached config files lines (line ∷ left) refused before now →
+    ((rest : Plan) → Stops (line_plan config files now.rows line.what rest) stopped now after) → Stops (lines_plan config files false before.rows lines) stopped before after
+reached_stops {config} {files} {lines} {left} {line} {refused} {before} {now} after stopped reached stops =
+    let rest : Plan = lines_plan config files (is_refused config now.rows line.what || refused) (now.rows ++ line_rows config files now.rows line.what) left in
     subst (λ (p : Plan). Stops p stopped before after) (sym reached.split)
-    (stops_behind (line_plan config files now.rows line.what (lines_plan config files (now.rows ++ line_rows config files now.rows line.what) left)) after stopped reached.did (stops (lines_plan config files (now.rows ++ line_rows config files now.rows line.what) left)))
+    (stops_behind (line_plan config files now.rows line.what rest) after stopped reached.did (stops rest))
 
 -- ---- scripts
 
-named_is : (config : Config) (files : Files) (name content : List ℕ) → HasRead files name content → named_plan config name files ≡ plan_behind (Ask name ∷ []) (script_plan config files (script_in config.schemas content))
+named_is : (config : Config) (files : Files) (name content : List ℕ) → HasRead files name content → named_plan config name files ≡ plan_behind (Ask name ∷ []) (script_plan config files (script_in content))
 named_is config files name content has =
-    not_long files name (script_plan config files (script_in config.schemas (content_of files name))) has.short
-    ∙ ap (λ (text : List ℕ). plan_behind (Ask name ∷ []) (script_plan config files (script_in config.schemas text))) (sym has.whole)
+    not_long files name (script_plan config files (script_in (content_of files name))) has.short
+    ∙ ap (λ (text : List ℕ). plan_behind (Ask name ∷ []) (script_plan config files (script_in text))) (sym has.whole)
 
-pub script_done : (config : Config) {files : Files} {name content : List ℕ} {lines : List ScriptLine} {before mid after : Progress} → HasRead files name content → script_in config.schemas content ≡ Ok lines → Did (Ask name ∷ []) before mid →
-    Done (lines_plan config files [] lines) mid after → Done (named_plan config name files) before after
-script_done config {files} {name} {content} {lines} {before} {mid} {after} has is did done =
-    subst (λ (p : Plan). Done p before after)
+pub script_done : (config : Config) {files : Files} {name content : List ℕ} {lines : List ScriptLine} {refused : Bool} {before mid after : Progress} → HasRead files name content → script_in content ≡ Ok lines → Did (Ask name ∷ []) before mid →
+    Done (lines_plan config files false [] lines) refused mid after → Done (named_plan config name files) refused before after
+script_done config {files} {name} {content} {lines} {refused} {before} {mid} {after} has is did done =
+    subst (λ (p : Plan). Done p refused before after)
     (sym (named_is config files name content has ∙ ap (λ answer. plan_behind (Ask name ∷ []) (script_plan config files answer)) is))
     (done_behind did done)
 
-pub script_halts : (config : Config) {files : Files} {name content : List ℕ} {lines : List ScriptLine} {before mid : Progress} (after : Progress) (stopped : Stop) → HasRead files name content → script_in config.schemas content ≡ Ok lines → Did (Ask name ∷ []) before mid →
-    Stops (lines_plan config files [] lines) stopped mid after → Stops (named_plan config name files) stopped before after
+pub script_halts : (config : Config) {files : Files} {name content : List ℕ} {lines : List ScriptLine} {before mid : Progress} (after : Progress) (stopped : Stop) → HasRead files name content → script_in content ≡ Ok lines → Did (Ask name ∷ []) before mid →
+    Stops (lines_plan config files false [] lines) stopped mid after → Stops (named_plan config name files) stopped before after
 script_halts config {files} {name} {content} {lines} {before} {mid} after stopped has is did stops =
     subst (λ (p : Plan). Stops p stopped before after)
     (sym (named_is config files name content has ∙ ap (λ answer. plan_behind (Ask name ∷ []) (script_plan config files answer)) is))
-    (stops_behind (lines_plan config files [] lines) after stopped did stops)
+    (stops_behind (lines_plan config files false [] lines) after stopped did stops)
 
-pub script_refused : (config : Config) {files : Files} {name content : List ℕ} {before after : Progress} (fault : Refusal ScriptFault) → HasRead files name content → Withholds fault (script_in config.schemas content) → Did (Ask name ∷ []) before after →
+pub script_refused : (config : Config) {files : Files} {name content : List ℕ} {before after : Progress} (fault : Refusal ScriptFault) → HasRead files name content → Withholds fault (script_in content) → Did (Ask name ∷ []) before after →
     Stops (named_plan config name files) (script_stop fault) before after
 script_refused config {files} {name} {content} (refusal.Fault fault) has is did = record {
   done = Ask name ∷ [];
@@ -229,10 +237,10 @@ script_refused config {files} {name} {content} (refusal.Fault fault) has is did 
   did = did;
 }
 script_refused config {files} {name} {content} refusal.OutOfMemory has is did =
-    starved_at (Ask name ∷ []) [] (script_plan config files (script_in config.schemas content)) (named_is config files name content has) did
+    starved_at (Ask name ∷ []) [] (script_plan config files (script_in content)) (named_is config files name content has) did
 
 pub script_starved : (config : Config) {files : Files} {name content : List ℕ} {before after : Progress} → HasRead files name content → Did (Ask name ∷ []) before after → Starved (named_plan config name files).steps before after
-script_starved config {files} {name} {content} has did = starved_at (Ask name ∷ []) [] (script_plan config files (script_in config.schemas content)) (named_is config files name content has) did
+script_starved config {files} {name} {content} has did = starved_at (Ask name ∷ []) [] (script_plan config files (script_in content)) (named_is config files name content has) did
 
 -- ---- configurations
 
@@ -241,10 +249,10 @@ files_are files config script content has =
     not_long files config (config_plan files script (config_in (content_of files config))) has.short
     ∙ ap (λ (text : List ℕ). plan_behind (Ask config ∷ []) (config_plan files script (config_in text))) (sym has.whole)
 
-pub files_done : (script : List ℕ) {files : Files} {config content : List ℕ} {read : Config} {before mid after : Progress} → HasRead files config content → config_in content ≡ Ok read → Did (Ask config ∷ []) before mid →
-    Done (named_plan read script files) mid after → Done (files_plan config script files) before after
-files_done script {files} {config} {content} {read} {before} {mid} {after} has is did done =
-    subst (λ (p : Plan). Done p before after)
+pub files_done : (script : List ℕ) {files : Files} {config content : List ℕ} {read : Config} {refused : Bool} {before mid after : Progress} → HasRead files config content → config_in content ≡ Ok read → Did (Ask config ∷ []) before mid →
+    Done (named_plan read script files) refused mid after → Done (files_plan config script files) refused before after
+files_done script {files} {config} {content} {read} {refused} {before} {mid} {after} has is did done =
+    subst (λ (p : Plan). Done p refused before after)
     (sym (files_are files config script content has ∙ ap (λ answer. plan_behind (Ask config ∷ []) (config_plan files script answer)) is))
     (done_behind did done)
 
@@ -290,9 +298,13 @@ pub cut_part : (result : Result ⊤ Stop) (P : Stop → Type 0) {text : List ℕ
 cut_part (Ok unit) P stops then = tt
 cut_part (Err stopped) P stops then = subst P (sym stops.failed) (then stops.front stops.rose)
 
-pub err_weaker : (result : Result ⊤ Stop) (P Q : Stop → Type 0) → ((stopped : Stop) → P stopped → Q stopped) → IfErr result P → IfErr result Q
-err_weaker (Ok unit) P Q weaker holds = tt
+pub err_weaker : {T : Type 0} (result : Result T Stop) (P Q : Stop → Type 0) → ((stopped : Stop) → P stopped → Q stopped) → IfErr result P → IfErr result Q
+err_weaker (Ok value) P Q weaker holds = tt
 err_weaker (Err stopped) P Q weaker holds = weaker stopped holds
+
+pub ok_weaker : (result : Result Bool Stop) (P Q : Bool → Type 0) → ((refused : Bool) → P refused → Q refused) → IfOk result P → IfOk result Q
+ok_weaker (Ok refused) P Q weaker holds = weaker refused holds
+ok_weaker (Err stopped) P Q weaker holds = tt
 
 -- the records of a file were taken
 pub file_taken : (config : Config) (files : Files) (name content : List ℕ) (answer : Answer) {before mid after : Progress} → is_too_long files name ≡ false → Did (Ask name ∷ []) before mid → mid.rows ≡ before.rows → content ≡ content_of files name →

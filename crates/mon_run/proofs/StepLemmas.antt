@@ -1,5 +1,5 @@
 -- What was done, step behind step.
-use Rattle.std.proofs.Common.{◌≡◌, ◌∙◌, ℕ, true, false, cond, Option, List, [], ◌∷◌, ◌++◌, refl, sym, ap, subst, append_assoc, append-nil}
+use Rattle.std.proofs.Common.{◌≡◌, ◌∙◌, ℕ, Bool, true, false, cond, Option, List, [], ◌∷◌, ◌++◌, refl, sym, ap, subst, append_assoc, append-nil}
 use Rattle.std.specs.List.{flat_map}
 use Rattle.std.proofs.lemmas.Grind.{flat_map-append}
 use Rattle.mon_value.specs.declared.rows.Row.{Row}
@@ -83,7 +83,7 @@ too_long files name rest long = ap (λ b. plan_behind (Ask name ∷ []) (cond b 
 
 -- ---- parts behind steps
 
-pub done_behind : {xs : List Step} {p : Plan} {before mid after : Progress} → Did xs before mid → Done p mid after → Done (plan_behind xs p) before after
+pub done_behind : {xs : List Step} {p : Plan} {refused : Bool} {before mid after : Progress} → Did xs before mid → Done p refused mid after → Done (plan_behind xs p) refused before after
 done_behind did done = record { status = done.status; did = did_then did done.did }
 
 before_behind : {xs : List Step} {p : Plan} {before mid after : Progress} (status : ℕ) (text : List ℕ) → Did xs before mid → StopsBefore p status text mid after → StopsBefore (plan_behind xs p) status text before after

@@ -11,7 +11,6 @@ use Rattle.mon_value.specs.declared.rows.Point.{Point}
 use Rattle.mon_value.specs.declared.rows.Row.{Row}
 use Rattle.mon_value.specs.declared.rows.SeriesKey.{SeriesKey}
 use Rattle.mon_config.specs.declared.config.Config.{Config}
-use Rattle.mon_points.specs.declared.faults.RowFault.TheVariants as row_fault
 use Rattle.mon_run.specs.Feeds.{Verdict, fault_in, is_in_zone, old_fault, row_verdict, taken, unless}
 use Rattle.mon_run.specs.declared.accepted.Place.{Place}
 use Rattle.mon_run.specs.declared.outcome.RowRefused.{RowRefused}
@@ -74,7 +73,7 @@ grown_by {groups} {groups'} {places} {places'} row series point kept keeps there
 
 known_verdict : (config : Config) (rows : List Row) (row : Row) (points : List Point) → is_in_zone config row.key ≡ true → points_of row.key rows ≡ points → row_verdict config rows row ≡ unless row (old_fault (last_end points) row.point)
 known_verdict config rows row points zoned same =
-    ap (λ b. cond b (unless row (old_fault (last_end (points_of row.key rows)) row.point)) (Err (refused.Read row_fault.NotBuilt))) zoned
+    ap (λ b. cond b (unless row (old_fault (last_end (points_of row.key rows)) row.point)) (Err refused.NoZone)) zoned
     ∙ ap (λ (ps : List Point). unless row (old_fault (last_end ps) row.point)) same
 
 known_by : (config : Config) (row : Row) (groups groups' : List Group) (places places' : List Place) (at : ℕ) (points : List Point) (fault : Option RowRefused) → IsKept groups places → IsFirst row.key groups at → slice_get groups at ≡ Some (row.key, points) →
@@ -138,5 +137,5 @@ new_taken_by config row groups groups' places places' (Ok fault) kept zoned none
 
 -- ---- a row that no zone lists
 
-pub unlisted : (config : Config) (rows : List Row) (row : Row) → is_in_zone config row.key ≡ false → row_verdict config rows row ≡ Err (refused.Read row_fault.NotBuilt)
-unlisted config rows row off = ap (λ b. cond b (unless row (old_fault (last_end (points_of row.key rows)) row.point)) (Err (refused.Read row_fault.NotBuilt))) off
+pub unlisted : (config : Config) (rows : List Row) (row : Row) → is_in_zone config row.key ≡ false → row_verdict config rows row ≡ Err refused.NoZone
+unlisted config rows row off = ap (λ b. cond b (unless row (old_fault (last_end (points_of row.key rows)) row.point)) (Err refused.NoZone)) off

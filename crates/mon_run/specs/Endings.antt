@@ -115,4 +115,4 @@ pub record LastFailed (before after : FolderState) : Type 0 where
 abbrev pub is_status : ℕ → Bool
 is_status status =
     (status == 0) || ((status == 1) || ((status == 2)
-    || ((status == 3) || ((status == 4) || ((status == 5) || ((status == 6) || (status == 8)))))))
+    || ((status == 3) || ((status == 4) || ((status == 5) || ((status == 6) || ((status == 7) || (status == 8))))))))

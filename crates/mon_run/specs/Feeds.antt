@@ -1,19 +1,14 @@
 -- What a feed accepts and refuses.
-use Rattle.std.specs.Prelude.{ℕ, ℤ, int_le, ◌+◌, Bool, false, List, [], ◌∷◌, ◌++◌, Option, Some, None, option_and_then, Result, Ok, Err, if◌then◌else◌}
-use Rattle.std.specs.List.{flat_map, list_any}
-use Rattle.mon_value.specs.Same.{same_text}
+use Rattle.std.specs.Prelude.{ℕ, ℤ, int_le, ◌+◌, Bool, List, [], ◌∷◌, ◌++◌, Option, Some, None, is_some, option_and_then, Result, Ok, Err, if◌then◌else◌}
+use Rattle.std.specs.List.{flat_map}
 use Rattle.mon_value.specs.Sources.{last_end, points_of}
-use Rattle.mon_value.specs.declared.values.FieldValue.{FieldValue}
-use Rattle.mon_value.specs.declared.values.FieldValue.TheVariants as value
-use Rattle.mon_value.specs.declared.schemas.Field.{Field}
 use Rattle.mon_value.specs.declared.rows.Point.{Point}
 use Rattle.mon_value.specs.declared.rows.Row.{Row}
 use Rattle.mon_value.specs.declared.rows.SeriesKey.{SeriesKey}
-use Rattle.mon_schema.specs.Faults.{is_location}
-use Rattle.mon_schema.specs.SchemaLists.{target_named}
+use Rattle.mon_topo.specs.Locations.{location_of}
+use Rattle.mon_topo.specs.Zones.{zone_of}
 use Rattle.mon_config.specs.declared.config.Config.{Config}
 use Rattle.mon_points.specs.Records.{reads_of}
-use Rattle.mon_points.specs.declared.faults.RowFault.TheVariants as row_fault
 use Rattle.mon_points.specs.declared.records.RowRead.{RowRead}
 use Rattle.mon_points.specs.declared.records.RowRead.TheVariants as read
 use Rattle.mon_run.specs.declared.outcome.RowRefused.{RowRefused}
@@ -22,27 +17,10 @@ use Rattle.mon_run.specs.declared.outcome.RowRefusal.{RowRefusal}
 
 -- ---- zones
 
-abbrev pub text_in_field : FieldValue → Option (List ℕ)
-text_in_field (value.Text text) = Some text
-text_in_field (value.Int z) = None
-text_in_field (value.Bool b) = None
-
--- the location of a target: the value of its schema's location field
-abbrev pub location_in : List Field → List FieldValue → Option (List ℕ)
-location_in [] values = None
-location_in (field ∷ fields) [] = None
-location_in (field ∷ fields) (value ∷ values) =
-    if is_location field then text_in_field value else location_in fields values
-
-abbrev pub is_listed : List (List ℕ) → Option (List ℕ) → Bool
-is_listed locations None = false
-is_listed locations (Some location) = list_any (same_text location) locations
-
--- whether a series' location is one of the zone's
+-- whether a zone lists the location of a series
 abbrev pub is_in_zone : Config → SeriesKey → Bool
 is_in_zone config key =
-    is_listed config.locations (option_and_then (λ schema. location_in schema.fields key.target.fields)
-    (target_named key.target.schema config.schemas.targets))
+    is_some (option_and_then (zone_of config.topology) (location_of config.schemas key.target))
 
 -- ---- records
 
@@ -63,7 +41,7 @@ unless row (Some fault) = Err fault
 abbrev pub row_verdict : Config → List Row → Row → Verdict
 row_verdict config rows row =
     if is_in_zone config row.key then unless row (old_fault (last_end (points_of row.key rows)) row.point)
-    else Err (refused.Read row_fault.NotBuilt)
+    else Err refused.NoZone
 
 abbrev pub verdict : Config → List Row → RowRead → Verdict
 verdict config rows (read.Fault fault) = Err (refused.Read fault)

@@ -2,8 +2,10 @@ pub mod Endings
 pub mod Faults
 pub mod Feeds
 pub mod Folders
-pub mod Meaning
 pub mod Plans
+pub mod Queries
+pub mod QueryTexts
+pub mod Refusals
 pub mod Sinks
 pub mod Texts
 pub mod within

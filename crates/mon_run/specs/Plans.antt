@@ -1,5 +1,5 @@
 -- What a run does, step by step, where no read and no write fails and memory is there.
-use Rattle.std.specs.Prelude.{ℕ, ℤ, nat_lt, Bool, List, [], ◌∷◌, ◌++◌, map, length, codes, Option, Some, None, Result, Ok, Err, if◌then◌else◌}
+use Rattle.std.specs.Prelude.{ℕ, ℤ, nat_lt, ◌||◌, Bool, true, false, List, [], ◌∷◌, ◌++◌, map, length, codes, Option, Some, None, Result, Ok, Err, if◌then◌else◌}
 use Rattle.mon_value.specs.declared.limits.TheConstants.{LONGEST_FILE}
 use Rattle.mon_value.specs.Same.{same_text}
 use Rattle.mon_value.specs.declared.rows.Row.{Row}
@@ -13,9 +13,11 @@ use Rattle.mon_script.specs.declared.script.ScriptFault.{ScriptFault}
 use Rattle.mon_script.specs.declared.script.ScriptLine.{ScriptLine}
 use Rattle.mon_run.specs.Feeds.{Fed, fed}
 use Rattle.mon_run.specs.Folders.{Files, content_of}
-use Rattle.mon_run.specs.Texts.{config_text, feed_text, query_text, script_text, too_long_text, usage_text}
+use Rattle.mon_run.specs.Queries.{query_answer, refuses, reply_of}
+use Rattle.mon_run.specs.Texts.{config_text, feed_text, script_text, too_long_text, usage_text}
 use Rattle.mon_run.specs.declared.outcome.LineEnd.{LineEnd}
 use Rattle.mon_run.specs.declared.outcome.LineEnd.TheVariants as end
+use Rattle.mon_run.specs.declared.queries.Reply.{Reply}
 
 -- ---- steps
 
@@ -75,13 +77,27 @@ feed_steps name fed =
     map (λ row. Accept row) fed.accepted ++ End (end.Fed (length fed.accepted) fed.refused)
     ∷ Write (feed_text name (length fed.accepted) fed.refused) ∷ []
 
+-- a query has its end, and then its table is written, or why it is refused
+abbrev pub reply_steps : Reply → List Step
+reply_steps reply = End reply.end ∷ Write reply.text ∷ []
+
 abbrev pub query_steps : Config → List Row → ℤ → List ℕ → List Step
-query_steps config rows moment text = End (end.Asked moment) ∷ Write (query_text config.schemas rows moment text) ∷ []
+query_steps config rows moment text = reply_steps (reply_of moment (query_answer config rows moment text))
 
 -- the rows that a line accepts
 abbrev pub line_rows : Config → Files → List Row → LineForm → List Row
 line_rows config files rows (form.Feed name) = (fed config rows (content_of files name)).accepted
 line_rows config files rows (form.Query moment text) = []
+
+-- a line is refused where its query is
+abbrev pub is_refused : Config → List Row → LineForm → Bool
+is_refused config rows (form.Feed name) = false
+is_refused config rows (form.Query moment text) = refuses (reply_of moment (query_answer config rows moment text)).end
+
+-- the status of a run whose lines all ran: whether one of them was refused
+abbrev pub end_status : Bool → ℕ
+end_status true = 7
+end_status false = 0
 
 -- a line before the rest of a plan
 abbrev pub line_plan : Config → Files → List Row → LineForm → Plan → Plan
@@ -89,24 +105,25 @@ line_plan config files rows (form.Feed name) rest =
     read_plan files name (plan_behind (feed_steps name (fed config rows (content_of files name))) rest)
 line_plan config files rows (form.Query moment text) rest = plan_behind (query_steps config rows moment text) rest
 
--- the lines of a script, behind the rows that were accepted before them
-abbrev pub lines_plan : Config → Files → List Row → List ScriptLine → Plan
-lines_plan config files rows [] = plan [] 0
-lines_plan config files rows (line ∷ lines) =
+-- the lines of a script, behind those that ran before: whether one of them was refused, and the rows that they accepted
+abbrev pub lines_plan : Config → Files → Bool → List Row → List ScriptLine → Plan
+lines_plan config files refused rows [] = plan [] (end_status refused)
+lines_plan config files refused rows (line ∷ lines) =
     line_plan config files rows line.what
-    (lines_plan config files (rows ++ line_rows config files rows line.what) lines)
+    (lines_plan config files (is_refused config rows line.what || refused)
+    (rows ++ line_rows config files rows line.what) lines)
 
 -- ---- the whole run
 
 abbrev pub script_plan : Config → Files → Result (List ScriptLine) ScriptFault → Plan
 script_plan config files (Err fault) = ending 3 (script_text fault)
-script_plan config files (Ok script) = lines_plan config files [] script
+script_plan config files (Ok script) = lines_plan config files false [] script
 
 -- the script's file, under a configuration
 abbrev pub config_plan : Files → List ℕ → Result Config ConfigFault → Plan
 config_plan files script (Err fault) = ending 2 (config_text fault)
 config_plan files script (Ok config) =
-    read_plan files script (script_plan config files (script_in config.schemas (content_of files script)))
+    read_plan files script (script_plan config files (script_in (content_of files script)))
 
 abbrev pub command_plan : Files → Option Command → Plan
 command_plan files None = ending 1 usage_text

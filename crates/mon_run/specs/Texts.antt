@@ -1,17 +1,12 @@
--- Every text that a run prints.
-use Rattle.std.specs.Prelude.{ℕ, ℤ, List, [], ◌++◌, length, codes, Option, Some, None}
+-- Every text that a run prints, but for those of its queries.
+use Rattle.std.specs.Prelude.{ℕ, List, ◌++◌, length, codes}
 use Rattle.std.specs.Fmt.{decimal, signed_decimal}
 use Rattle.std.specs.List.{flat_map}
-use Rattle.mon_value.specs.declared.rows.Row.{Row}
 use Rattle.mon_config.specs.FaultTexts.{config_fault_text}
 use Rattle.mon_config.specs.declared.faults.ConfigFault.{ConfigFault}
 use Rattle.mon_points.specs.FaultTexts.{row_fault_text}
-use Rattle.mon_schema.specs.SchemaLists.{SchemaLists}
-use Rattle.mon_script.specs.Fetches.{plain_fetch}
 use Rattle.mon_script.specs.declared.script.ScriptFault.{ScriptFault}
 use Rattle.mon_table.specs.Tables.{newline}
-pub use Rattle.mon_table.specs.Tables.{table_text}
-use Rattle.mon_run.specs.Meaning.{Fetch, column_names, meaning}
 use Rattle.mon_run.specs.declared.outcome.RowRefused.{RowRefused}
 use Rattle.mon_run.specs.declared.outcome.RowRefused.TheVariants as refused
 use Rattle.mon_run.specs.declared.outcome.RowRefusal.{RowRefusal}
@@ -20,6 +15,7 @@ use Rattle.mon_run.specs.declared.outcome.RowRefusal.{RowRefusal}
 
 abbrev pub row_refused_text : RowRefused → List ℕ
 row_refused_text (refused.Read fault) = row_fault_text fault
+row_refused_text refused.NoZone = codes "NoZone"
 row_refused_text (refused.OldPoint last) = codes "OldPoint " ++ signed_decimal last
 
 abbrev pub refusal_line : RowRefusal → List ℕ
@@ -33,14 +29,6 @@ feed_summary name accepted refused =
 -- a feed prints how many records it accepted and refused, and a line for each that it refused
 abbrev pub feed_text : List ℕ → ℕ → List RowRefusal → List ℕ
 feed_text name accepted refused = feed_summary name accepted (length refused) ++ flat_map refusal_line refused
-
--- a query prints its table over the rows that were accepted before it
-abbrev pub fetch_text : List Row → ℤ → Option Fetch → List ℕ
-fetch_text rows moment None = []
-fetch_text rows moment (Some fetch) = table_text (column_names fetch) (meaning fetch rows moment)
-
-abbrev pub query_text : SchemaLists → List Row → ℤ → List ℕ → List ℕ
-query_text schemas rows moment text = fetch_text rows moment (plain_fetch schemas text)
 
 -- ---- ends
 

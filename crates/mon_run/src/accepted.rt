@@ -1,20 +1,22 @@
 // The rows that were accepted: the points of each series, and the order in which they came.
-ghost use Rattle.std.specs.Prelude.{◌≡◌, ◌++◌, ◌∷◌, ◌<◌, ◌≤◌, ◌≤ℤ◌, [], length, pos, None, Some, IfOk, OnErr, OnOk};
-ghost use Rattle.std.specs.List.{AllByRecursion};
+ghost use Rattle.std.specs.Prelude.{◌≡◌, ◌++◌, ◌∷◌, ◌<◌, ◌≤◌, ◌≤ℤ◌, ◌^◌, [], length, pos, None, Some, IfOk, OnErr, OnOk};
 ghost use Rattle.indexmap.specs.IndexMap.{index_map_len};
 ghost use Rattle.std.specs.Map.{lookup};
 ghost use Rattle.mon_value.specs.Same.{same_series};
 ghost use Rattle.mon_value.specs.Sources.{last_end};
 ghost use Rattle.mon_run.specs.Feeds.{old_fault};
-ghost use Rattle.mon_run.specs.within.Places.{KnownGrows, groups_held, place_at, unless_refused};
+ghost use Rattle.mon_run.specs.within.Places.{KnownGrows, place_at, unless_refused};
+ghost use Rattle.mon_meaning.specs.Central.{series_held};
 
-use crate::fetch::Fetch;
-use crate::outcome::RowRefused;
+use crate::outcome::{LineFault, RowRefused};
 use crate::zone::Zone;
 use indexmap::IndexMap;
-use mon_points::RowFault;
+use mon_meaning::central_by_series;
 use mon_series::Series;
-use mon_value::{OutOfMemory, Point, RoomListOf, Row, SeriesKey, Shared, TimedRows, TryCopy};
+use mon_value::{
+    OutOfMemory, Point, ROW_BITS, Refusal, RoomListOf, Row, SeriesKey, Shared, Table, TryCopy,
+};
+use mql_types::Typed;
 use std::alloc::{AllocError, Global};
 use std::marker::Model;
 
@@ -49,17 +51,22 @@ impl Model for Accepted {
 
     ghost Value = { List Row };
 
-    ghost use Rattle.mon_run.specs.within.Places.{IsKept, groups_held, rows_at};
+    ghost use Rattle.mon_run.specs.within.Places.{IsKept, rows_at};
+    ghost use Rattle.mon_meaning.specs.Central.{series_held};
 
-    ghost view = { λ accepted. rows_at (groups_held accepted.series.entries) accepted.order.items };
+    ghost view = { λ accepted. rows_at (series_held accepted.series.entries) accepted.order.items };
 
-    ghost invariant = { λ accepted. IsKept (groups_held accepted.series.entries) accepted.order.items };
+    ghost invariant = { λ accepted. IsKept (series_held accepted.series.entries) accepted.order.items };
 }
 
 impl Accepted {
     ghost use Rattle.mon_run.specs.Feeds.{fault_in, row_verdict, taken};
-    ghost use Rattle.mon_run.specs.Meaning.{meaning};
-    ghost use Rattle.mon_run.specs.within.Sound.{AllInZone, FitsMetric};
+    ghost use Rattle.mon_run.specs.within.Sound.{AllInZone};
+    ghost use Rattle.mon_run.specs.Queries.{table_within};
+    ghost use Rattle.mon_table.specs.Tables.{printed_table};
+    ghost use Rattle.mon_value.specs.Answers.{GivesView};
+    ghost use Rattle.mql_types.specs.Nodes.{typed_tree};
+    ghost use Rattle.mql_types.specs.Soundness.{IsTyped};
 
     /// No rows.
     pub(crate) fn new(alloc: Global) -> Accepted
@@ -93,26 +100,27 @@ impl Accepted {
             None if zone.lists(&row.key) => {
                 push_new(self.alloc, &mut self.series, &mut self.order, row)
             }
-            None => Ok(Some(RowRefused::Read(RowFault::NotBuilt))),
+            None => Ok(Some(RowRefused::NoZone)),
         }
     }
 
-    /// The meaning of a plain fetch at a moment over the rows: the rows of each series.
-    pub(crate) fn fetch(
+    /// The table of a typed query at a moment over the rows, unless its load is above the limit.
+    pub(crate) fn table(
         &self,
-        alloc: Global,
-        fetch: &Fetch,
+        typed: &Typed,
         moment: i64,
-    ) -> Result<TimedRows, OutOfMemory>
+        limit: u64,
+    ) -> Result<Table, Refusal<LineFault>>
         requires moment { pos 0 ≤ℤ moment }
-        requires fit { AllByRecursion (FitsMetric fetch.now.metric) self.now }
-        ensures meaning { IfOk result (λ rows. rows ≡ meaning fetch.now self.now moment) }
+        requires limit { limit ≤ 2 ^ ROW_BITS }
+        requires typed { IsTyped (typed_tree typed.now) self.now }
+        ensures printed { GivesView printed_table result (table_within limit (typed_tree typed.now) self.now moment) }
     {
-        let mut rows = TimedRows::new(alloc);
-        for (key, series) in self.series.iter() {
-            fetch.add_rows(alloc, moment, key, series, &mut rows)?;
+        match central_by_series(self.alloc, typed, &self.series, moment, limit) {
+            Ok(table) => Ok(table),
+            Err(Refusal::Fault(_over)) => Err(Refusal::Fault(LineFault::StepLimit(limit))),
+            Err(Refusal::OutOfMemory) => Err(Refusal::OutOfMemory),
         }
-        Ok(rows)
     }
 }
 
@@ -131,7 +139,7 @@ fn copied_series(
     alloc: Global,
     groups: &IndexMap<Shared<SeriesKey>, Series>,
 ) -> Result<IndexMap<Shared<SeriesKey>, Series>, AllocError>
-    ensures groups { IfOk result (λ copied. groups_held copied.entries ≡ groups_held groups.now.entries) }
+    ensures groups { IfOk result (λ copied. series_held copied.entries ≡ series_held groups.now.entries) }
 {
     let mut copied = IndexMap::with_capacity(alloc, groups.len())?;
     for (key, series) in groups.iter() {
@@ -151,8 +159,8 @@ fn push_known(
 ) -> Result<Option<RowRefused>, OutOfMemory>
     requires there { at < index_map_len groups.old }
     requires room { 1 ≤ order.old.spare }
-    ensures known { KnownGrows (groups_held groups.old.entries) order.old.items at point
-        (groups_held groups.new.entries) order.new.items result }
+    ensures known { KnownGrows (series_held groups.old.entries) order.old.items at point
+        (series_held groups.new.entries) order.new.items result }
 {
     let Some(series) = groups.get_index_mut(at) else {
         unreachable!();
@@ -193,12 +201,12 @@ fn push_new(
     row: Row,
 ) -> Result<Option<RowRefused>, OutOfMemory>
     requires room { 1 ≤ order.old.spare }
-    requires absent { lookup (same_series row.key) (groups_held groups.old.entries) ≡ None }
+    requires absent { lookup (same_series row.key) (series_held groups.old.entries) ≡ None }
     ensures unrefused { IfOk result (λ refused. refused ≡ None) }
-    ensures grown { OnOk result (groups_held groups.new.entries ≡ groups_held groups.old.entries
+    ensures grown { OnOk result (series_held groups.new.entries ≡ series_held groups.old.entries
         ++ (row.key, row.point ∷ []) ∷ []) }
     ensures placed { OnOk result (order.new.items ≡ order.old.items ++ place_at (length groups.old.entries) 0 ∷ []) }
-    ensures kept { OnErr result (groups_held groups.new.entries ≡ groups_held groups.old.entries) }
+    ensures kept { OnErr result (series_held groups.new.entries ≡ series_held groups.old.entries) }
     ensures order { OnErr result (order.new.items ≡ order.old.items) }
 {
     let Row { key, point } = row;

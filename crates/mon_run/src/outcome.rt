@@ -2,6 +2,8 @@
 use crate::accepted::Accepted;
 use mon_points::RowFault;
 use mon_value::{ListOf, TryCopy};
+use mql_parse::ParseFault;
+use mql_types::TypeFault;
 use std::alloc::{AllocError, Global};
 
 /// Why a record was refused.
@@ -9,6 +11,8 @@ use std::alloc::{AllocError, Global};
 pub enum RowRefused {
     /// It is no row.
     Read(RowFault),
+    /// No zone lists its location.
+    NoZone,
     /// The last point of its series ends at this second, at its own end or after it.
     OldPoint(i64),
 }
@@ -23,6 +27,17 @@ pub struct RowRefusal {
 /// The records of a feed that were refused, in order.
 pub type RowRefusals = ListOf<RowRefusal>;
 
+/// Why a line was refused.
+#[derive(Clone, Copy, Debug, PartialEq, Eq)]
+pub enum LineFault {
+    /// The text of the query has no tree.
+    Parse(ParseFault),
+    /// The query has no type over the schemas.
+    Typing(TypeFault),
+    /// The query's load is above this limit.
+    StepLimit(u64),
+}
+
 /// How a line of a script ended.
 #[derive(Debug, Drop)]
 pub enum LineEnd {
@@ -36,6 +51,8 @@ pub enum LineEnd {
     Asked {
         moment: i64,
     },
+    /// The line was refused.
+    Refused(LineFault),
 }
 
 /// The ends of the lines that ran, in order.
@@ -61,6 +78,12 @@ impl TryCopy for RowRefusal {
     }
 }
 
+impl TryCopy for LineFault {
+    fn copy(&self, _alloc: Global) -> Result<LineFault, AllocError> {
+        Ok(*self)
+    }
+}
+
 impl TryCopy for LineEnd {
     fn copy(&self, alloc: Global) -> Result<LineEnd, AllocError> {
         match self {
@@ -69,6 +92,7 @@ impl TryCopy for LineEnd {
                 refused: refused.copy(alloc)?,
             }),
             LineEnd::Asked { moment } => Ok(LineEnd::Asked { moment: *moment }),
+            LineEnd::Refused(fault) => Ok(LineEnd::Refused(*fault)),
         }
     }
 }

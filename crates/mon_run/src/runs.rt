@@ -1,31 +1,29 @@
 // A run: where it reads and writes, and what it has come to.
-ghost use Rattle.std.specs.Prelude.{◌≡◌, ◌≤◌, ◌∷◌, [], length, map, option_map, IfErr, IfOk, OnErr, OnOk, string_bytes};
+ghost use Rattle.std.specs.Prelude.{◌≡◌, ◌≤◌, ◌∷◌, ◌||◌, [], false, length, map, option_map, IfErr, IfOk, OnErr, OnOk, string_bytes};
 ghost use Rattle.std.specs.List.{AllByRecursion};
 ghost use Rattle.mon_run.specs.Folders.{Told};
 ghost use Rattle.mon_script.specs.Lawful.{IsLawful, IsLawfulLine};
 ghost use Rattle.mon_run.specs.Endings.{Did};
 ghost use Rattle.mon_run.specs.Plans as plan;
 ghost use Rattle.mon_run.specs.Plans.{Ask, End, Write};
-ghost use Rattle.mon_run.specs.Texts.{query_text as text_of_query};
-ghost use Rattle.mon_run.specs.within.Sound.{AreSound};
+ghost use Rattle.mon_run.specs.within.Sound.{AreSound, IsLimited};
 ghost use Rattle.mon_run.specs.within.Takings.{FileTaken, TakeStops};
-ghost use Rattle.mon_run.specs.within.Stops.{Between, Closes, Completes, Continues, Halts, HasRead, LineRuns, LineStops};
+ghost use Rattle.mon_run.specs.within.Stops.{Between, Closes, Completes, Continues, Halts, HasRead, LineRuns, LineStops, PutStops};
 ghost use Rattle.mon_run.specs.within.Stops.{ReadStops, StopsBetween, WriteStops, files_plan, named_plan};
 ghost use Rattle.mon_run.specs.within.Stops.{is_silent as silent, status_of as code};
 
 use crate::accepted::Accepted;
 use crate::feeds::{Fed, feed};
-use crate::fetch::Fetch;
 use crate::outcome::{LineEnd, LineEnds};
 use crate::outside::{Folder, FolderFault, Sink, write_all};
+use crate::queries::reply_to;
 use crate::stop::Stop;
-use crate::tables::rows_text;
 use crate::texts::{feed_text, own_text};
 use crate::zone::Zone;
 use mon_config::{Config, read_config};
 use mon_points::KeyCache;
-use mon_script::{LineForm, ScriptLine, plain_fetch, read_script};
-use mon_value::{LONGEST_FILE, OutOfMemory, Text};
+use mon_script::{LineForm, ScriptLine, read_script};
+use mon_value::{LONGEST_FILE, Text};
 use std::alloc::Global;
 
 /// What a run has come to: the rows that it accepted, and the ends of its lines. Beside them it keeps
@@ -61,12 +59,12 @@ pub(crate) struct Run<'f, 'o, 'l, F: Folder, O: Sink> {
 }
 
 impl<'f, 'o, 'l, F: Folder, O: Sink> Run<'f, 'o, 'l, F, O> {
-    /// Runs the command that the words say.
-    pub fn command(&mut self, words: &[String]) -> Result<(), Stop>
+    /// Runs the command that the words say, and says whether a line was refused.
+    pub fn command(&mut self, words: &[String]) -> Result<bool, Stop>
         requires fresh { self.old.log.now.accepted ≡ [] }
         ensures continues { Continues F.state O.state self.old self.new }
-        ensures completes { OnOk result (Between F.state O.state
-            (Completes (λ files. plan.run_plan files (map string_bytes words.now))) self.old self.new) }
+        ensures completes { IfOk result (λ refused. Between F.state O.state
+            (Completes (λ files. plan.run_plan files (map string_bytes words.now)) refused) self.old self.new) }
         ensures halts { IfErr result (StopsBetween F.state O.state
             (Halts (λ files. plan.run_plan files (map string_bytes words.now))) self.old self.new) }
     {
@@ -77,11 +75,11 @@ impl<'f, 'o, 'l, F: Folder, O: Sink> Run<'f, 'o, 'l, F, O> {
     }
 
     // Runs a script under a configuration.
-    fn files(&mut self, config: &str, script: &str) -> Result<(), Stop>
+    fn files(&mut self, config: &str, script: &str) -> Result<bool, Stop>
         requires fresh { self.old.log.now.accepted ≡ [] }
         ensures continues { Continues F.state O.state self.old self.new }
-        ensures completes { OnOk result (Between F.state O.state
-            (Completes (files_plan config.now script.now)) self.old self.new) }
+        ensures completes { IfOk result (λ refused. Between F.state O.state
+            (Completes (files_plan config.now script.now) refused) self.old self.new) }
         ensures halts { IfErr result (StopsBetween F.state O.state
             (Halts (files_plan config.now script.now)) self.old self.new) }
     {
@@ -91,47 +89,55 @@ impl<'f, 'o, 'l, F: Folder, O: Sink> Run<'f, 'o, 'l, F, O> {
     }
 
     // Runs a script's file under a configuration.
-    fn script(&mut self, config: &Config, name: &str) -> Result<(), Stop>
+    fn script(&mut self, config: &Config, name: &str) -> Result<bool, Stop>
+        requires limited { IsLimited config.now }
         requires fresh { self.old.log.now.accepted ≡ [] }
         ensures continues { Continues F.state O.state self.old self.new }
-        ensures completes { OnOk result (Between F.state O.state
-            (Completes (named_plan config.now name.now)) self.old self.new) }
+        ensures completes { IfOk result (λ refused. Between F.state O.state
+            (Completes (named_plan config.now name.now) refused) self.old self.new) }
         ensures halts { IfErr result (StopsBetween F.state O.state
             (Halts (named_plan config.now name.now)) self.old self.new) }
     {
         let text = self.read(name)?;
-        let script = read_script(self.alloc, text.as_slice(), &config.schemas)?;
-        let zone = Zone::new(self.alloc, config)?;
+        let script = read_script(self.alloc, text.as_slice())?;
+        let zone = Zone::new(config);
         self.lines(&zone, script.as_slice())
     }
 
-    // Runs the lines of a script.
-    fn lines(&mut self, zone: &Zone, lines: &[ScriptLine]) -> Result<(), Stop>
-        requires lawful { AllByRecursion (IsLawfulLine zone.now.schemas) lines.now }
+    // Runs the lines of a script, and says whether one was refused.
+    fn lines(&mut self, zone: &Zone, lines: &[ScriptLine]) -> Result<bool, Stop>
+        requires lawful { AllByRecursion IsLawfulLine lines.now }
         requires sound { AreSound zone.now self.old.log.now.accepted }
         ensures continues { Continues F.state O.state self.old self.new }
-        ensures completes { OnOk result (Between F.state O.state
-            (Completes (λ files. plan.lines_plan zone.now files self.old.log.now.accepted lines.now)) self.old self.new) }
+        ensures completes { IfOk result (λ refused. Between F.state O.state
+            (Completes (λ files. plan.lines_plan zone.now files false self.old.log.now.accepted lines.now) refused)
+            self.old self.new) }
         ensures halts { IfErr result (StopsBetween F.state O.state
-            (Halts (λ files. plan.lines_plan zone.now files self.old.log.now.accepted lines.now)) self.old self.new) }
+            (Halts (λ files. plan.lines_plan zone.now files false self.old.log.now.accepted lines.now)) self.old self.new) }
     {
+        let mut refused = false;
         for line in lines {
-            self.line(zone, &line.what)?;
+            refused = is_either(self.line(zone, &line.what)?, refused);
         }
-        Ok(())
+        Ok(refused)
     }
 
-    // Runs a line.
-    fn line(&mut self, zone: &Zone, form: &LineForm) -> Result<(), Stop>
-        requires lawful { IsLawful zone.now.schemas form.now }
+    // Runs a line, and says whether it was refused.
+    fn line(&mut self, zone: &Zone, form: &LineForm) -> Result<bool, Stop>
+        requires lawful { IsLawful form.now }
         requires sound { AreSound zone.now self.old.log.now.accepted }
         ensures continues { Continues F.state O.state self.old self.new }
+        ensures refused { IfOk result (λ refused. refused
+            ≡ plan.is_refused zone.now self.old.log.now.accepted form.now) }
         ensures ran { OnOk result (Between F.state O.state (LineRuns zone.now form.now) self.old self.new) }
         ensures stops { IfErr result (StopsBetween F.state O.state (LineStops zone.now form.now) self.old self.new) }
         ensures sound { OnOk result (AreSound zone.now self.new.log.now.accepted) }
     {
         match form {
-            LineForm::Feed(name) => self.feed(zone, name),
+            LineForm::Feed(name) => {
+                self.feed(zone, name)?;
+                Ok(false)
+            }
             LineForm::Query(moment, text) => self.query(zone, *moment, text),
         }
     }
@@ -148,11 +154,11 @@ impl<'f, 'o, 'l, F: Folder, O: Sink> Run<'f, 'o, 'l, F, O> {
     {
         let fed = self.take(zone, name)?;
         let text = feed_text(self.alloc, name.as_str(), fed.accepted, &fed.refused)?;
-        self.end(LineEnd::Fed {
+        let end = LineEnd::Fed {
             accepted: fed.accepted,
             refused: fed.refused,
-        })?;
-        self.write(text.as_bytes())
+        };
+        self.put(end, text.as_bytes())
     }
 
     // Takes the records of a file.
@@ -175,20 +181,35 @@ impl<'f, 'o, 'l, F: Folder, O: Sink> Run<'f, 'o, 'l, F, O> {
         )?)
     }
 
-    // Runs a query.
-    fn query(&mut self, zone: &Zone, moment: i64, text: &Text) -> Result<(), Stop>
-        requires lawful { IsLawful zone.now.schemas (LineForm.Query moment text.now) }
+    // Runs a query, and says whether it was refused.
+    fn query(&mut self, zone: &Zone, moment: i64, text: &Text) -> Result<bool, Stop>
+        requires lawful { IsLawful (LineForm.Query moment text.now) }
         requires sound { AreSound zone.now self.old.log.now.accepted }
         ensures continues { Continues F.state O.state self.old self.new }
+        ensures refused { IfOk result (λ refused. refused
+            ≡ plan.is_refused zone.now self.old.log.now.accepted (LineForm.Query moment text.now)) }
         ensures ran { OnOk result (Between F.state O.state
             (LineRuns zone.now (LineForm.Query moment text.now)) self.old self.new) }
         ensures stops { IfErr result (StopsBetween F.state O.state
             (LineStops zone.now (LineForm.Query moment text.now)) self.old self.new) }
         ensures sound { OnOk result (AreSound zone.now self.new.log.now.accepted) }
     {
-        let table = query_text(self.alloc, zone.config(), &self.log.accepted, moment, text)?;
-        self.end(LineEnd::Asked { moment })?;
-        self.write(table.as_bytes())
+        let config = zone.config();
+        let reply = reply_to(self.alloc, config, &self.log.accepted, moment, text)?;
+        let refused = reply.is_refused();
+        self.put(reply.end, reply.text.as_bytes())?;
+        Ok(refused)
+    }
+
+    // Notes how a line ended, and writes its text.
+    fn put(&mut self, end: LineEnd, text: &[u8]) -> Result<(), Stop>
+        ensures continues { Continues F.state O.state self.old self.new }
+        ensures rows { self.new.log.now.accepted ≡ self.old.log.now.accepted }
+        ensures put { OnOk result (Between F.state O.state (Did (End end ∷ Write text.now ∷ [])) self.old self.new) }
+        ensures stops { IfErr result (StopsBetween F.state O.state (PutStops end text.now) self.old self.new) }
+    {
+        self.end(end)?;
+        self.write(text)
     }
 
     // Notes how a line ended.
@@ -255,14 +276,14 @@ impl<'f, 'o, 'l, F: Folder, O: Sink> Run<'f, 'o, 'l, F, O> {
         }
     }
 
-    /// Ends the run: it says why it stopped, and gives its status.
-    pub fn close(&mut self, ended: Result<(), Stop>) -> u8
+    /// Ends the run: it says why it stopped, where it did, and gives its status.
+    pub fn close(&mut self, ended: Result<bool, Stop>) -> u8
         ensures continues { Continues F.state O.state self.old self.new }
         ensures folder { F.state self.new.folder.now ≡ F.state self.old.folder.now }
         ensures closes { Between F.state O.state (Closes ended result) self.old self.new }
     {
         match ended {
-            Ok(()) => 0,
+            Ok(refused) => end_status(refused),
             Err(stop) => self.say(&stop),
         }
     }
@@ -281,24 +302,18 @@ fn command_in(words: &[String]) -> Option<(&str, &str)>
     }
 }
 
-// The text of a query's table over the rows that were accepted.
-fn query_text(
-    alloc: Global,
-    config: &Config,
-    accepted: &Accepted,
-    moment: i64,
-    text: &Text,
-) -> Result<Text, OutOfMemory>
-    requires lawful { IsLawful config.now.schemas (LineForm.Query moment text.now) }
-    requires sound { AreSound config.now accepted.now }
-    ensures text { IfOk result (λ table. table ≡ text_of_query config.now.schemas accepted.now moment text.now) }
+// Whether one of the two was refused.
+fn is_either(first: bool, second: bool) -> bool
+    ensures either { result ≡ (first || second) }
 {
-    let Some((target, metric)) = plain_fetch(text.as_bytes(), &config.schemas) else {
-        unreachable!();
-    };
-    let fetch = Fetch { target, metric };
-    let rows = accepted.fetch(alloc, &fetch, moment)?;
-    rows_text(alloc, &fetch, rows)
+    first || second
+}
+
+// The status of a run whose lines all ran.
+fn end_status(refused: bool) -> u8
+    ensures status { result ≡ plan.end_status refused }
+{
+    if refused { 7 } else { 0 }
 }
 
 // Whether a run that stops says nothing: a write failed, or memory ran out.

@@ -44,6 +44,7 @@ fn push_refusal(alloc: Global, text: &mut String, refusal: &RowRefusal) -> Resul
     let number = refusal.number;
     let line = match refusal.fault {
         RowRefused::Read(fault) => format!(in alloc; "row {number}: {fault}\n")?,
+        RowRefused::NoZone => format!(in alloc; "row {number}: NoZone\n")?,
         RowRefused::OldPoint(last) => format!(in alloc; "row {number}: OldPoint {last}\n")?,
     };
     text.push_str(line.as_str())

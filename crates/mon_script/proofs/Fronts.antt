@@ -2,7 +2,6 @@
 use Rattle.std.proofs.Common.{◌≡◌, ℕ, ◌+◌, Bool, true, false, cond, Option, Some, None, List, [], ◌∷◌, ◌++◌, Result, Ok, Err, refl, sym, ap, append_assoc, ◌∙◌}
 use Rattle.std.specs.Option.{ok_or}
 use Rattle.mon_value.specs.Answers.{◌>>=◌}
-use Rattle.mon_schema.specs.SchemaLists.{SchemaLists}
 use Rattle.mon_script.specs.Lines.{is_remark}
 use Rattle.mon_script.specs.Scripts.{form_of, line_at, not_built, script_from}
 use Rattle.mon_script.specs.declared.script.LineForm.{LineForm}
@@ -30,6 +29,6 @@ more_by front n what false (Some w) skipped (Ok lines) plain is =
     ap given (append_assoc front (line_at n what ∷ []) lines) ∙ ap (λ (v : LineForm). given (front ++ line_at n v ∷ lines)) (sym same)
 
 -- a line more, in front of the lines that are left
-pub front_more : (front : List ScriptLine) (schemas : SchemaLists) (n : ℕ) (line : List ℕ) (lines : List (List ℕ)) (what : LineForm) → is_remark line ≡ false → form_of schemas line ≡ Some what →
-    with_front (front ++ line_at n what ∷ []) (script_from schemas (n + 1) lines) ≡ with_front front (script_from schemas n (line ∷ lines))
-front_more front schemas n line lines what plain is = more_by front n what (is_remark line) (form_of schemas line) (script_from schemas (n + 1) lines) (script_from schemas (n + 1) lines) plain is
+pub front_more : (front : List ScriptLine) (n : ℕ) (line : List ℕ) (lines : List (List ℕ)) (what : LineForm) → is_remark line ≡ false → form_of line ≡ Some what →
+    with_front (front ++ line_at n what ∷ []) (script_from (n + 1) lines) ≡ with_front front (script_from n (line ∷ lines))
+front_more front n line lines what plain is = more_by front n what (is_remark line) (form_of line) (script_from (n + 1) lines) (script_from (n + 1) lines) plain is

@@ -1,4 +1,3 @@
-pub mod Fetches
 pub mod Lawful
 pub mod Lines
 pub mod Scripts

@@ -1,5 +1,6 @@
 -- The lines of a text.
-use Rattle.std.specs.Prelude.{ℕ, ◌==◌, ◌&&◌, Bool, true, false, List, [], ◌∷◌, Option, Some, None, option_map, if◌then◌else◌}
+use Rattle.std.specs.Prelude.{ℕ, ◌==◌, ◌&&◌, Bool, true, false, List, [], ◌∷◌, length, take, drop, Option, Some, None, option_map, if◌then◌else◌}
+use Rattle.mon_value.specs.Same.{same_text}
 
 abbrev pub line_feed : ℕ
 line_feed = 10
@@ -12,6 +13,10 @@ abbrev pub cut_at : ℕ → List ℕ → Option (List ℕ × List ℕ)
 cut_at mark [] = None
 cut_at mark (byte ∷ rest) =
     if byte == mark then Some ([], rest) else option_map (λ cut. (byte ∷ cut.0, cut.1)) (cut_at mark rest)
+
+-- what stands behind a front
+abbrev pub behind_front : List ℕ → List ℕ → Option (List ℕ)
+behind_front front text = if same_text (take (length front) text) front then Some (drop (length front) text) else None
 
 abbrev pub ends_line : List ℕ → Bool
 ends_line [] = false

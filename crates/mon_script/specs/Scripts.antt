@@ -1,13 +1,11 @@
 -- What a script spells.
-use Rattle.std.specs.Prelude.{ℕ, ℤ, pos, int_le, ◌+◌, ◌-◌, ◌^◌, ◌==◌, ◌&&◌, Bool, not, is_some, List, [], ◌∷◌, length, codes, nat_lt, Option, Some, None, option_and_then, Result, Ok, if◌then◌else◌}
+use Rattle.std.specs.Prelude.{ℕ, ℤ, pos, int_le, ◌+◌, ◌-◌, ◌^◌, ◌==◌, ◌&&◌, Bool, not, List, [], ◌∷◌, length, codes, nat_lt, Option, Some, None, option_and_then, Result, Ok, if◌then◌else◌}
 use Rattle.std.specs.List.{list_any}
 use Rattle.std.specs.Str.{is_utf8}
 use Rattle.std.specs.Option.{ok_or}
 use Rattle.mon_value.specs.Answers.{◌>>=◌}
 use Rattle.mon_value.specs.Numbers.{number_of}
-use Rattle.mon_schema.specs.SchemaLists.{SchemaLists}
-use Rattle.mon_script.specs.Fetches.{behind_front, plain_fetch}
-use Rattle.mon_script.specs.Lines.{cut_at, is_remark, lines_of}
+use Rattle.mon_script.specs.Lines.{behind_front, cut_at, is_remark, lines_of}
 use Rattle.mon_script.specs.declared.script.LineForm.{LineForm}
 use Rattle.mon_script.specs.declared.script.LineForm.TheVariants as form
 use Rattle.mon_script.specs.declared.script.ScriptLine.{ScriptLine}
@@ -31,27 +29,22 @@ is_file_name name = nat_lt 0 (length name) && (not (list_any (λ byte. byte == s
 abbrev pub feed_form : List ℕ → Option LineForm
 feed_form name = if is_file_name name then Some (form.Feed name) else None
 
--- a query's text is UTF-8 and a plain fetch
-abbrev pub is_query : SchemaLists → List ℕ → Bool
-is_query schemas text = is_some (plain_fetch schemas text) && is_utf8 text
-
--- a query's text at a moment
-abbrev pub asked_at : SchemaLists → List ℕ → ℤ → Option LineForm
-asked_at schemas text moment = if is_query schemas text then Some (form.Query moment text) else None
+-- a query's text at a moment: any text of UTF-8, which may be empty and have spaces
+abbrev pub asked_at : List ℕ → ℤ → Option LineForm
+asked_at text moment = if is_utf8 text then Some (form.Query moment text) else None
 
 -- a moment, a space and a query's text
-abbrev pub query_form : SchemaLists → List ℕ → Option LineForm
-query_form schemas text =
-    option_and_then (λ words. option_and_then (asked_at schemas words.1) (moment_of words.0)) (cut_at space text)
+abbrev pub query_form : List ℕ → Option LineForm
+query_form text = option_and_then (λ words. option_and_then (asked_at words.1) (moment_of words.0)) (cut_at space text)
 
-abbrev pub form_by : SchemaLists → Option (List ℕ) → Option (List ℕ) → Option LineForm
-form_by schemas (Some name) query = feed_form name
-form_by schemas None (Some text) = query_form schemas text
-form_by schemas None None = None
+abbrev pub form_by : Option (List ℕ) → Option (List ℕ) → Option LineForm
+form_by (Some name) query = feed_form name
+form_by None (Some text) = query_form text
+form_by None None = None
 
 -- what a line says: a feed or a query
-abbrev pub form_of : SchemaLists → List ℕ → Option LineForm
-form_of schemas line = form_by schemas (behind_front (codes "feed ") line) (behind_front (codes "query ") line)
+abbrev pub form_of : List ℕ → Option LineForm
+form_of line = form_by (behind_front (codes "feed ") line) (behind_front (codes "query ") line)
 
 -- the line that is refused
 abbrev pub not_built : ℕ → ScriptFault
@@ -62,13 +55,13 @@ abbrev pub line_at : ℕ → LineForm → ScriptLine
 line_at n what = record { number = n; what = what }
 
 -- the forms of lines that are numbered on from n, or the first line without one
-abbrev pub script_from : SchemaLists → ℕ → List (List ℕ) → Result (List ScriptLine) ScriptFault
-script_from schemas n [] = Ok []
-script_from schemas n (line ∷ lines) =
-    if is_remark line then script_from schemas (n + 1) lines
-    else ok_or (form_of schemas line) (not_built n) >>= λ what. script_from schemas (n + 1) lines
+abbrev pub script_from : ℕ → List (List ℕ) → Result (List ScriptLine) ScriptFault
+script_from n [] = Ok []
+script_from n (line ∷ lines) =
+    if is_remark line then script_from (n + 1) lines
+    else ok_or (form_of line) (not_built n) >>= λ what. script_from (n + 1) lines
     >>= λ rest. Ok (line_at n what ∷ rest)
 
 -- the script that a text spells
-abbrev pub script_in : SchemaLists → List ℕ → Result (List ScriptLine) ScriptFault
-script_in schemas text = script_from schemas 1 (lines_of text)
+abbrev pub script_in : List ℕ → Result (List ScriptLine) ScriptFault
+script_in text = script_from 1 (lines_of text)

@@ -2,26 +2,20 @@
 ghost use Rattle.std.specs.Prelude.{◌≡◌, IfOk};
 ghost use Rattle.mon_script.specs.Scripts as spec;
 
-use crate::fetch::plain_fetch;
 use crate::lines::cut_at;
 use crate::script::LineForm;
-use mon_schema::Schemas;
 use mon_value::{OutOfMemory, Text, read_number};
 use std::alloc::Global;
 
 /// What a line says, where it is of a form that is read so far.
-pub(crate) fn form_of(
-    alloc: Global,
-    line: &[u8],
-    schemas: &Schemas,
-) -> Result<Option<LineForm>, OutOfMemory>
-    ensures form { IfOk result (λ form. form ≡ spec.form_of schemas.now line.now) }
+pub(crate) fn form_of(alloc: Global, line: &[u8]) -> Result<Option<LineForm>, OutOfMemory>
+    ensures form { IfOk result (λ form. form ≡ spec.form_of line.now) }
 {
     if let Some(name) = line.strip_prefix(b"feed ".as_slice()) {
         return feed_form(alloc, name);
     }
     match line.strip_prefix(b"query ".as_slice()) {
-        Some(text) => query_form(alloc, text, schemas),
+        Some(text) => query_form(alloc, text),
         None => Ok(None),
     }
 }
@@ -39,13 +33,9 @@ fn feed_form(alloc: Global, name: &[u8]) -> Result<Option<LineForm>, OutOfMemory
     }
 }
 
-// A query at a moment.
-fn query_form(
-    alloc: Global,
-    text: &[u8],
-    schemas: &Schemas,
-) -> Result<Option<LineForm>, OutOfMemory>
-    ensures form { IfOk result (λ form. form ≡ spec.query_form schemas.now text.now) }
+// A query at a moment. Its text is any text of UTF-8.
+fn query_form(alloc: Global, text: &[u8]) -> Result<Option<LineForm>, OutOfMemory>
+    ensures form { IfOk result (λ form. form ≡ spec.query_form text.now) }
 {
     let Some((word, query)) = cut_at(text, b' ') else {
         return Ok(None);
@@ -53,9 +43,6 @@ fn query_form(
     let Some(moment) = moment_of(word) else {
         return Ok(None);
     };
-    if plain_fetch(query, schemas).is_none() {
-        return Ok(None);
-    }
     match Text::from_utf8(alloc, query)? {
         Some(query) => Ok(Some(LineForm::Query(moment, query))),
         None => Ok(None),

@@ -1,12 +1,10 @@
 //! Scripts: the lines that a run carries out, read from a text.
 #![tactic(auto)]
 
-mod fetch;
 mod forms;
 mod lines;
 mod script;
 
-pub use fetch::plain_fetch;
 pub use script::{LineForm, Script, ScriptFault, ScriptKind, ScriptLine, read_script};
 
 #[cfg(test)]

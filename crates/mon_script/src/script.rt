@@ -7,7 +7,6 @@ ghost use Rattle.mon_value.specs.Answers.{Gives};
 
 use crate::forms::form_of;
 use crate::lines::{is_remark, next_line};
-use mon_schema::Schemas;
 use mon_value::{LONGEST_FILE, ListOf, Refusal, Text, TryCopy};
 use std::alloc::{AllocError, Global};
 
@@ -76,14 +75,10 @@ impl TryCopy for ScriptFault {
 
 /// The script that a text spells, or the first of its lines that is refused. The text has at most as
 /// many bytes as the longest file.
-pub fn read_script(
-    alloc: Global,
-    text: &[u8],
-    schemas: &Schemas,
-) -> Result<Script, Refusal<ScriptFault>>
+pub fn read_script(alloc: Global, text: &[u8]) -> Result<Script, Refusal<ScriptFault>>
     requires short { length text.now ≤ LONGEST_FILE }
-    ensures exact { Gives result (spec.script_in schemas.now text.now) }
-    ensures lawful { IfOk result (λ script. AllByRecursion (IsLawfulLine schemas.now) script) }
+    ensures exact { Gives result (spec.script_in text.now) }
+    ensures lawful { IfOk result (λ script. AllByRecursion IsLawfulLine script) }
 {
     let mut script = Script::new(alloc);
     let mut number = 0u32;
@@ -94,7 +89,7 @@ pub fn read_script(
         if is_remark(line) {
             continue;
         }
-        match form_of(alloc, line, schemas)? {
+        match form_of(alloc, line)? {
             Some(what) => script.push(ScriptLine { number, what })?,
             None => return Err(not_built(number)),
         }

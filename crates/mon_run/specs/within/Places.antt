@@ -1,8 +1,7 @@
 -- Rows as they are kept: the points of each series, and the places of the points in the order in which they came.
-use Rattle.std.specs.Prelude.{◌≡◌, ℕ, zero, suc, true, List, [], ◌∷◌, ◌++◌, map, length, is_some, slice_get, Option, Some, None, option_map, Result, IfOk, OnErr}
+use Rattle.std.specs.Prelude.{◌≡◌, ℕ, zero, suc, true, List, [], ◌∷◌, ◌++◌, length, is_some, slice_get, Option, Some, None, option_map, Result, IfOk, OnErr}
 use Rattle.std.specs.List.{AllByRecursion}
 use Rattle.std.specs.declared.alloc.AllocError.{AllocError}
-use Rattle.mon_series.specs.SeriesPoints.{SeriesPoints}
 use Rattle.mon_value.specs.Sources.{last_end, points_by_series}
 use Rattle.mon_value.specs.declared.rows.Point.{Point}
 use Rattle.mon_value.specs.declared.rows.Row.{Row}
@@ -14,10 +13,6 @@ use Rattle.mon_run.specs.declared.outcome.RowRefused.{RowRefused}
 -- a series and its points
 abbrev pub Group : Type 0
 Group = SeriesKey × List Point
-
--- the series that a map keeps, apart from the room in them
-abbrev pub groups_held : List (SeriesKey × SeriesPoints) → List Group
-groups_held entries = map (λ entry. (entry.0, entry.1.points)) entries
 
 abbrev pub row_of_parts : SeriesKey → Point → Row
 row_of_parts key point = record { key = key; point = point }

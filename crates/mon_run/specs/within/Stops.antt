@@ -12,8 +12,9 @@ use Rattle.mon_run.specs.Endings.{CutShort, Did, LastFailed, Progress, Starved, 
 use Rattle.mon_run.specs.Faults.{Rose}
 use Rattle.mon_run.specs.Folders.{Files, FolderState, Told, content_of}
 use Rattle.mon_run.specs.Sinks.{SinkState}
-use Rattle.mon_run.specs.Plans.{Ask, Miss, Plan, Step, Write, command_plan, config_plan, ending, is_too_long, line_plan, line_rows, plan_behind, read_plan, run_command}
+use Rattle.mon_run.specs.Plans.{Ask, End, Miss, Plan, Step, Write, command_plan, config_plan, end_status, ending, is_too_long, line_plan, line_rows, plan_behind, read_plan, run_command}
 use Rattle.mon_run.specs.Texts.{config_text, read_text, script_text, too_long_text, usage_text}
+use Rattle.mon_run.specs.declared.outcome.LineEnd.{LineEnd}
 use Rattle.mon_run.specs.declared.runs.Run.{Run}
 use Rattle.mon_run.specs.declared.stop.Stop.{Stop}
 use Rattle.mon_run.specs.declared.stop.Stop.TheVariants as stop
@@ -153,14 +154,14 @@ abbrev pub LineStops : Config → LineForm → Stop → Progress → Progress �
 LineStops config form stopped before after =
     PartStops (λ files. line_plan config files before.rows form) stopped before after
 
--- all of a plan was done
-pub record Done (plan : Plan) (before after : Progress) : Type 0 where
-  pub status : 0 ≡ plan.status
+-- all of a plan was done, and its status says whether a line was refused
+pub record Done (plan : Plan) (refused : Bool) (before after : Progress) : Type 0 where
+  pub status : end_status refused ≡ plan.status
   pub did : Did plan.steps before after
 
 -- what the files say was done
-abbrev pub Completes : (Files → Plan) → Progress → Progress → Type 0
-Completes plan before after = Told before.folder (λ files. Done (plan files) before after)
+abbrev pub Completes : (Files → Plan) → Bool → Progress → Progress → Type 0
+Completes plan refused before after = Told before.folder (λ files. Done (plan files) refused before after)
 
 -- what the files say stops, and there is a cause
 pub record Halts (plan : Files → Plan) (stopped : Stop) (before after : Progress) : Type 0 where
@@ -173,6 +174,11 @@ named_plan config name files = config_plan files name (Ok config)
 
 abbrev pub files_plan : List ℕ → List ℕ → Files → Plan
 files_plan config script files = command_plan files (Some (run_command config script))
+
+-- a line's end was noted and its text written, or the run stopped at it, before any rest
+abbrev pub PutStops : LineEnd → List ℕ → Stop → Progress → Progress → Type 0
+PutStops end text stopped before after =
+    PartStops (λ files. plan_behind (End end ∷ Write text ∷ [])) stopped before after
 
 -- a text was taken in part: a front, and not all
 pub record WroteFront (text : List ℕ) (before after : Progress) : Type 0 where
@@ -202,8 +208,8 @@ abbrev pub Says : Stop → ℕ → Progress → Progress → Type 0
 Says stopped status before after = SaysText (status_of stopped) (own_text stopped) status before after
 
 -- a run that stopped by a failed write or for want of memory says nothing
-abbrev pub Closes : Result ⊤ Stop → ℕ → Progress → Progress → Type 0
-Closes (Ok done) status before after = (status ≡ 0) × Did [] before after
+abbrev pub Closes : Result Bool Stop → ℕ → Progress → Progress → Type 0
+Closes (Ok refused) status before after = (status ≡ end_status refused) × Did [] before after
 Closes (Err stop.WriteFailed) status before after = (status ≡ 5) × Did [] before after
 Closes (Err stop.OutOfMemory) status before after = (status ≡ 6) × Did [] before after
 Closes (Err stop.Usage) status before after = Says stop.Usage status before after

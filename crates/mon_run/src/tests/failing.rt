@@ -44,7 +44,7 @@ const LINES: [(&str, usize); 8] = [
     ("feed c.csv: 0 accepted, 0 refused\n", 2),
     ("time,u,z,v\n0 rows\n", 2),
     (
-        "feed d.csv: 1 accepted, 2 refused\nrow 2: NotBuilt\nrow 3: BadTime\n",
+        "feed d.csv: 1 accepted, 2 refused\nrow 2: NoZone\nrow 3: BadTime\n",
         3,
     ),
     ("time,u,z,v\n20,a,e,1\n20,b,e,9\n2 rows\n", 3),

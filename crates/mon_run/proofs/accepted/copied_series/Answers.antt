@@ -1,5 +1,5 @@
 use Rattle.std.proofs.Common.{◌≡◌, ◌∙◌, ◌∷◌, ◌++◌, sym, ap}
-use Rattle.mon_run.specs.within.Places.{groups_held}
+use Rattle.mon_meaning.specs.Central.{series_held}
 use Rattle.mon_run.proofs.CopyLemmas.{copy_put}
 use Rattle.mon_run.proofs.accepted.copied_series.Goals as goal
 
@@ -10,8 +10,8 @@ loop-key-preserved c =
     let series = c.in-Some.series.now in
     let rest = c.next.new.self in
     let all = c.args.groups.now.entries in
-    let whole : groups_held copied.entries ++ groups_held ((key, series) ∷ rest) ≡ groups_held all =
-    ap (λ left. groups_held copied.entries ++ groups_held left) (sym c.in-Some.ensures.steps) ∙ c.loop-key.invariant in
+    let whole : series_held copied.entries ++ series_held ((key, series) ∷ rest) ≡ series_held all =
+    ap (λ left. series_held copied.entries ++ series_held left) (sym c.in-Some.ensures.steps) ∙ c.loop-key.invariant in
     copy_put copied c.in_ok-own.own key c.in_ok-points.points series rest all c.insert.new.self.entries
     c.in_ok-own.ensures.equal c.in_ok-points.ensures.points c.in_ok-insert.ensures.entries whole c.iter-key-items.ensures.unique
 
@@ -22,7 +22,7 @@ loop-key-preserved-in_ok-insert c =
     let series = c.in-Some.series.now in
     let rest = c.next.new.self in
     let all = c.args.groups.now.entries in
-    let whole : groups_held copied.entries ++ groups_held ((key, series) ∷ rest) ≡ groups_held all =
-    ap (λ left. groups_held copied.entries ++ groups_held left) (sym c.in-Some.ensures.steps) ∙ c.loop-key.invariant in
+    let whole : series_held copied.entries ++ series_held ((key, series) ∷ rest) ≡ series_held all =
+    ap (λ left. series_held copied.entries ++ series_held left) (sym c.in-Some.ensures.steps) ∙ c.loop-key.invariant in
     copy_put copied c.in_ok-own.own key c.in_ok-points.points series rest all c.insert.new.self.entries
     c.in_ok-own.ensures.equal c.in_ok-points.ensures.points c.in_ok-insert.ensures.entries whole c.iter-key-items.ensures.unique

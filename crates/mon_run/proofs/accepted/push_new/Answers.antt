@@ -4,7 +4,7 @@ use Rattle.indexmap.specs.IndexMap.{get}
 use Rattle.indexmap.proofs.CallerLemmas.{insert_entry-new}
 use Rattle.mon_value.specs.contracts.rows.SeriesKeyPartialEq.TheImpl as derived
 use Rattle.mon_value.specs.declared.rows.Point.{Point}
-use Rattle.mon_run.specs.within.Places.{groups_held}
+use Rattle.mon_meaning.specs.Central.{series_held}
 use Rattle.mon_run.proofs.HeldLemmas.{held_last, held_none, same_test}
 use Rattle.mon_run.proofs.accepted.push_new.Goals as goal
 
@@ -16,5 +16,5 @@ returns-clause-grown c =
     let none : get derived.eq-value.it groups key ≡ None = ap (λ test. lookup test groups.entries) (same_test key) ∙ held_none key groups.entries c.requires.absent in
     let points : c.push.new.self.points ≡ point ∷ [] =
     c.push.ensures.added ∙ ap (λ (ps : List Point). ps ++ point ∷ []) (c.reserve.ensures.kept ∙ c.new-series.ensures.empty) in
-    ap groups_held (c.in_ok-insert.ensures.entries ∙ insert_entry-new derived.eq-value.it groups key c.push.new.self none)
+    ap series_held (c.in_ok-insert.ensures.entries ∙ insert_entry-new derived.eq-value.it groups key c.push.new.self none)
     ∙ held_last groups.entries key c.push.new.self (point ∷ []) points

@@ -1,11 +1,10 @@
-use Rattle.std.proofs.Common.{rules, ◌≡◌, [], map, string_bytes, sym, subst}
-use Rattle.std.proofs.lemmas.Result.{on_ok_weaker}
+use Rattle.std.proofs.Common.{rules, ◌≡◌, Bool, [], map, string_bytes, sym, subst}
 use Rattle.mon_run.specs.Endings.{Progress, RunIs, progress}
 use Rattle.mon_run.specs.Plans.{Plan, run_plan}
 use Rattle.mon_run.specs.declared.stop.Stop.{Stop}
-use Rattle.mon_run.specs.within.Stops.{Causes, Halts, Stops, seen}
+use Rattle.mon_run.specs.within.Stops.{Causes, Completes, Done, Halts, Stops, seen}
 use Rattle.mon_run.proofs.EndLemmas.{run_ended}
-use Rattle.mon_run.proofs.RunLemmas.{err_weaker}
+use Rattle.mon_run.proofs.RunLemmas.{err_weaker, ok_weaker}
 use Rattle.mon_run.proofs.command.run.Goals as goal
 
 pub returns-clause-told : goal.returns-clause-told
@@ -17,7 +16,7 @@ returns-clause-told g c = λ files told.
     let after : Progress = seen g.F.Folder.state g.O.Sink.state c.close-status.new.self in
     let start : fresh ≡ before = λ i. progress (g.F.Folder.state c.args.folder.now) (g.O.Sink.state c.args.out.now) (c.new-log.ensures.ends i) (c.new-log.ensures.rows i) in
     let ended = c.command-ended.result in
-    let done = on_ok_weaker ended (λ completes. completes files told) c.command-ended.ensures.completes in
+    let done = ok_weaker ended (λ (refused : Bool). Completes (λ fs. run_plan fs (map string_bytes c.args.words.now)) refused fresh mid) (λ (refused : Bool). Done plan refused fresh mid) (λ refused completes. completes files told) c.command-ended.ensures.completes in
     let stops = err_weaker ended (λ (s : Stop). Halts (λ fs. run_plan fs (map string_bytes c.args.words.now)) s fresh mid) (λ (s : Stop). Stops plan s fresh mid) (λ stopped halts. halts.told files told) c.command-ended.ensures.halts in
     let causes = err_weaker ended (λ (s : Stop). Halts (λ fs. run_plan fs (map string_bytes c.args.words.now)) s fresh mid) (λ (s : Stop). Causes s fresh mid) (λ stopped halts. halts.causes) c.command-ended.ensures.halts in
     let ran : RunIs plan c.close-status.result fresh after =

@@ -7,7 +7,7 @@ use Rattle.mon_script.proofs.script.read_script.Given as goal
 
 abbrev pub invariant-loop-line : goal.invariant-loop-line
 invariant-loop-line l = record {
-  whole : with_front l.script (script_from l.schemas (l.number + 1) (lines_of l.rest)) ≡ script_in l.schemas l.text;
+  whole : with_front l.script (script_from (l.number + 1) (lines_of l.rest)) ≡ script_in l.text;
   count : l.number + length l.rest ≤ length l.text;
 }
 

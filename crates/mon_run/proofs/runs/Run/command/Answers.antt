@@ -1,4 +1,4 @@
-use Rattle.std.proofs.Common.{Option, [], OnOk, IfErr, sym, ap, subst}
+use Rattle.std.proofs.Common.{Bool, Option, [], IfErr, IfOk, sym, ap, subst}
 use Rattle.mon_run.specs.Endings.{Progress}
 use Rattle.mon_run.specs.Plans.{Command, command_plan}
 use Rattle.mon_run.specs.declared.stop.Stop.{Stop}
@@ -10,7 +10,7 @@ pub returns-in-Some-clause-completes : goal.returns-in-Some-clause-completes
 returns-in-Some-clause-completes g c =
     let before : Progress = seen g.F.Folder.state g.O.Sink.state c.args.self.now in
     let after : Progress = seen g.F.Folder.state g.O.Sink.state c.files.new.self in
-    subst (λ (command : Option Command). OnOk c.files.result (Completes (λ files. command_plan files command) before after)) c.in-Some.ensures.command c.files.ensures.completes
+    subst (λ (command : Option Command). IfOk c.files.result (λ (refused : Bool). Completes (λ files. command_plan files command) refused before after)) c.in-Some.ensures.command c.files.ensures.completes
 
 pub returns-in-Some-clause-halts : goal.returns-in-Some-clause-halts
 returns-in-Some-clause-halts g c =

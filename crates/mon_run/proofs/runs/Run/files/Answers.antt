@@ -1,11 +1,10 @@
-use Rattle.std.proofs.Common.{◌∙◌, sym, subst}
-use Rattle.std.proofs.lemmas.Result.{on_ok_weaker}
+use Rattle.std.proofs.Common.{Bool, ◌∙◌, sym, subst}
 use Rattle.mon_run.specs.Endings.{Progress}
 use Rattle.mon_run.specs.declared.stop.Stop.{Stop}
-use Rattle.mon_run.specs.within.Stops.{Halts, HasRead, config_stop, files_plan, named_plan, seen}
+use Rattle.mon_run.specs.within.Stops.{Completes, Halts, HasRead, config_stop, files_plan, named_plan, seen}
 use Rattle.std.proofs.lemmas.Result.{err_from_is_err_and}
 use Rattle.mon_run.proofs.EndLemmas.{causes_earlier, refused_config}
-use Rattle.mon_run.proofs.RunLemmas.{handed_on, err_weaker, files_done, files_halt, files_refused}
+use Rattle.mon_run.proofs.RunLemmas.{handed_on, err_weaker, ok_weaker, files_done, files_halt, files_refused}
 use Rattle.mon_run.proofs.runs.Run.files.Goals as goal
 
 pub returns-in_err-text-clause-halts : goal.returns-in_err-text-clause-halts
@@ -28,8 +27,11 @@ returns-in_err-config-clause-halts g c =
 
 pub returns-clause-completes : goal.returns-clause-completes
 returns-clause-completes g c =
-    on_ok_weaker c.script.result
-    (λ completes. λ files told.
+    let before : Progress = seen g.F.Folder.state g.O.Sink.state c.args.self.now in
+    let mid : Progress = seen g.F.Folder.state g.O.Sink.state c.read.new.self in
+    let after : Progress = seen g.F.Folder.state g.O.Sink.state c.script.new.self in
+    ok_weaker c.script.result (λ (refused : Bool). Completes (named_plan c.in_ok-config.config c.args.script.now) refused mid after) (λ (refused : Bool). Completes (files_plan c.args.config.now c.args.script.now) refused before after)
+    (λ refused completes. λ files told.
     files_done c.args.script.now (subst (λ text. HasRead files c.args.config.now text) (sym c.as_slice.ensures.value) (c.in_ok-text.ensures.content files told)) c.in_ok-config.ensures.exact c.in_ok-text.ensures.asked (completes files (c.in_ok-text.ensures.asked.files ∙ told)))
     c.script.ensures.completes
 

@@ -6,12 +6,6 @@ use Rattle.mon_run.specs.declared.stop.Stop.{Stop}
 use Rattle.mon_run.specs.within.Stops.{LineRuns, LineStops, seen}
 use Rattle.mon_run.proofs.runs.Run.line.Goals as goal
 
-pub returns-in-Feed-clause-stops : goal.returns-in-Feed-clause-stops
-returns-in-Feed-clause-stops g c =
-    let before : Progress = seen g.F.Folder.state g.O.Sink.state c.args.self.now in
-    let after : Progress = seen g.F.Folder.state g.O.Sink.state c.feed.new.self in
-    subst (λ (line : LineForm). IfErr c.feed.result (λ (s : Stop). LineStops c.args.zone.now line s before after)) (sym c.in-Feed.is) c.feed.ensures.stops
-
 pub returns-in-Query-clause-ran : goal.returns-in-Query-clause-ran
 returns-in-Query-clause-ran g c =
     let before : Progress = seen g.F.Folder.state g.O.Sink.state c.args.self.now in

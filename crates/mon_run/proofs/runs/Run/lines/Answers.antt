@@ -1,4 +1,4 @@
-use Rattle.std.proofs.Common.{rules, ◌≡◌, ◌∙◌, ◌+◌, List, ◌∷◌, [], drop, length-drop, subst, ap, sym, arith}
+use Rattle.std.proofs.Common.{rules, ◌≡◌, ◌∙◌, ◌+◌, ◌||◌, Bool, false, List, ◌∷◌, [], drop, length-drop, subst, ap, sym, arith}
 use Rattle.std.specs.List.{AllByRecursion}
 use Rattle.std.proofs.lemmas.List.{drop_more, nil_from_length}
 use Rattle.mon_script.specs.Lawful.{IsLawfulLine}
@@ -20,11 +20,11 @@ loop-line-preserved g c =
     let next : drop c.loop-line.line-index lines ≡ line ∷ rest = drop_more lines c.loop-line.line-index line (omega (arith, c.loop-line-test.true)) ∙ ap (λ (l : ScriptLine). l ∷ rest) (sym c.line-item.is) in
     record {
       continues = continues_then i.continues e.continues;
-      lawful = (subst (AllByRecursion (IsLawfulLine c.args.zone.now.schemas)) next i.lawful).1;
+      lawful = (subst (AllByRecursion IsLawfulLine) next i.lawful).1;
       sound = e.sound;
       reached = λ files told.
           let so_far = i.reached files told in
-          reached_more {line = line} (subst (λ (left : List ScriptLine). Reached c.args.zone.now files lines left (seen g.F.Folder.state g.O.Sink.state c.args.self.now) (seen g.F.Folder.state g.O.Sink.state c.loop-line.self)) next so_far) (e.ran files (so_far.did.files ∙ told));
+          reached_more {line = line} c.is_either-refused.result (c.is_either-refused.ensures.either ∙ ap (λ (b : Bool). b || c.loop-line.refused) e.refused) (subst (λ (left : List ScriptLine). Reached c.args.zone.now files lines left c.loop-line.refused (seen g.F.Folder.state g.O.Sink.state c.args.self.now) (seen g.F.Folder.state g.O.Sink.state c.loop-line.self)) next so_far) (e.ran files (so_far.did.files ∙ told));
     }
 
 pub returns-clause-completes : goal.returns-clause-completes
@@ -43,10 +43,10 @@ returns-in_err-line-clause-halts g c =
     let before : Progress = seen g.F.Folder.state g.O.Sink.state c.args.self.now in
     let now : Progress = seen g.F.Folder.state g.O.Sink.state c.loop-line.self in
     let after : Progress = seen g.F.Folder.state g.O.Sink.state c.line.new.self in
-    let fact : Halts (λ files. lines_plan c.args.zone.now files before.rows lines) c.in_err-line.field-0.0 before after = record {
+    let fact : Halts (λ files. lines_plan c.args.zone.now files false before.rows lines) c.in_err-line.field-0.0 before after = record {
       told = λ files told.
           let so_far = i.reached files told in
-          reached_stops after c.in_err-line.field-0.0 (subst (λ (left : List ScriptLine). Reached c.args.zone.now files lines left before now) next so_far) (c.in_err-line.ensures.stops.told files (so_far.did.files ∙ told));
+          reached_stops after c.in_err-line.field-0.0 (subst (λ (left : List ScriptLine). Reached c.args.zone.now files lines left c.loop-line.refused before now) next so_far) (c.in_err-line.ensures.stops.told files (so_far.did.files ∙ told));
       causes = causes_earlier before now after c.in_err-line.field-0.0 i.continues.counts c.in_err-line.ensures.stops.causes;
     } in
     search rules

@@ -1,0 +1,40 @@
+-- That a query goes by the tree that spells its text, so that how texts are read need not be known.
+use Rattle.std.specs.Prelude.{◌≡◌, ◌<◌, ◌≤◌, ℕ, ℤ, List, length, Result, Err}
+use Rattle.mon_value.specs.declared.rows.Row.{Row}
+use Rattle.mon_config.specs.declared.config.Config.{Config}
+use Rattle.mql_ast.specs.Grammar.{Spells, longest_text}
+use Rattle.mql_ast.specs.Trees.{PipeTree}
+use Rattle.mql_parse.specs.FaultKinds.{FaultKind}
+use Rattle.mql_parse.specs.FaultPlaces.{IsAtLongestFront, too_long}
+use Rattle.mql_parse.specs.declared.faults.ParseFault.{ParseFault}
+use Rattle.mon_run.specs.Queries.{query_answer, tree_answer}
+use Rattle.mon_run.specs.declared.outcome.LineFault.{LineFault}
+use Rattle.mon_run.specs.declared.outcome.LineFault.TheVariants as fault
+
+-- a text that a tree spells comes to what the tree does
+abbrev pub GoesByTree : List ℕ → Type 0
+GoesByTree text =
+    (config : Config) (rows : List Row) (moment : ℤ) (tree : PipeTree) → Spells tree text
+    → query_answer config rows moment text ≡ tree_answer config rows moment tree
+
+-- no tree spells a text
+abbrev pub HasNoTree : List ℕ → Type 0
+HasNoTree text = (tree : PipeTree) → Spells tree text → ⊥
+
+-- the fault of a text: it stands behind the longest front that begins a query, and its kind fits the byte there; a text
+-- that is too long has a fault of its own
+pub record IsTextFault (text : List ℕ) (why : ParseFault) : Type 0 where
+  pub place : length text ≤ longest_text → IsAtLongestFront text why
+  pub kind : length text ≤ longest_text → FaultKind text why
+  pub long : longest_text < length text → why ≡ too_long
+
+-- an answer is a refusal for the fault of a text
+pub record IsRefusedText (text : List ℕ) (answer : Result (List ℕ) LineFault) : Type 0 where
+  pub why : ParseFault
+  pub refused : answer ≡ Err (fault.Parse why)
+  pub fault : IsTextFault text why
+
+-- a text that no tree spells is refused, over whatever rows
+abbrev pub IsRefused : List ℕ → Type 0
+IsRefused text =
+    (config : Config) (rows : List Row) (moment : ℤ) → IsRefusedText text (query_answer config rows moment text)
