@@ -35,4 +35,5 @@ percentile_of counts bounds p = if sum counts == 0 then None else Some (upper_bo
 -- a greater percentile of one distribution lies at no lesser bound
 abbrev pub PercentilesRise : List ℕ → List ℤ → Type 0
 PercentilesRise counts bounds =
-    (p q : ℕ) (y z : ℤ) → p ≤ q → percentile_of counts bounds p ≡ Some y → percentile_of counts bounds q ≡ Some z → y ≤ℤ z
+    (p q : ℕ) (y z : ℤ) → p ≤ q
+    → percentile_of counts bounds p ≡ Some y → percentile_of counts bounds q ≡ Some z → y ≤ℤ z
