@@ -1,2 +1,4 @@
+pub mod SeriesMaps
 pub mod SeriesPoints
 pub mod Splits
+pub mod within

@@ -1,0 +1,2 @@
+-- What only proofs read: how rows are kept.
+pub mod Places

@@ -1,0 +1,138 @@
+// The places of points, and a point more in its series.
+ghost use Rattle.std.specs.Prelude.{◌≡◌, ◌++◌, ◌∷◌, ◌+◌, ◌<◌, ◌≤◌, ◌^◌, [], length, slice_get, None, IfErr, IfOk, OnErr, OnOk};
+ghost use Rattle.std.specs.Map.{lookup};
+ghost use Rattle.indexmap.specs.IndexMap.{spare};
+ghost use Rattle.mon_value.specs.Same.{same_series};
+ghost use Rattle.mon_series.specs.SeriesMaps.{series_held};
+ghost use Rattle.mon_series.specs.within.Places.{TakesRow, count_at, place_at, with_point_at};
+
+use crate::kept_rows::SeriesMap;
+use crate::series::Series;
+use mon_value::{OutOfMemory, RoomListOf, Row, SeriesKey, Shared, TryCopy};
+use std::alloc::{AllocError, AllocFailed, Global};
+
+/// The place of a point: the number of its series, and its own number in that series.
+#[derive(Debug, Drop)]
+pub(crate) struct Place {
+    pub(crate) series: u32,
+    pub(crate) point: u32,
+}
+
+impl TryCopy for Place {
+    fn copy(&self, _alloc: Global) -> Result<Place, AllocError> {
+        Ok(Place {
+            series: self.series,
+            point: self.point,
+        })
+    }
+}
+
+/// Adds the point of a row to the series of a number, which is the row's. Where memory runs out all stays.
+pub(crate) fn push_known(
+    groups: &mut SeriesMap,
+    order: &mut RoomListOf<Place>,
+    number: u32,
+    row: Row,
+) -> Result<(), AllocFailed<Row>>
+    requires takes { TakesRow (slice_get (series_held groups.old.entries) number) row }
+    ensures grown { OnOk result (series_held groups.new.entries
+        ≡ with_point_at (series_held groups.old.entries) number row.point) }
+    ensures placed { OnOk result (order.new.items ≡ order.old.items
+        ++ place_at number (count_at (series_held groups.old.entries) number) ∷ []) }
+    ensures kept { OnErr result (series_held groups.new.entries ≡ series_held groups.old.entries) }
+    ensures order { OnErr result (order.new.items ≡ order.old.items) }
+    ensures value_returned { IfErr result (λ failed. failed.value ≡ row) }
+{
+    let Some(series) = groups.get_index_mut(number as usize) else {
+        unreachable!();
+    };
+    let Ok(place) = room_for(series, order, number) else {
+        return Err(AllocFailed { value: row });
+    };
+    let Row { key: _, point } = row;
+    series.push(point);
+    order.push(place);
+    Ok(())
+}
+
+/// Adds the first row of a series. Where memory runs out all stays.
+pub(crate) fn push_first(
+    alloc: Global,
+    groups: &mut SeriesMap,
+    order: &mut RoomListOf<Place>,
+    row: Row,
+) -> Result<(), AllocFailed<Row>>
+    requires absent { lookup (same_series row.key) (series_held groups.old.entries) ≡ None }
+    ensures grown { OnOk result (series_held groups.new.entries ≡ series_held groups.old.entries
+        ++ (row.key, row.point ∷ []) ∷ []) }
+    ensures placed { OnOk result (order.new.items ≡ order.old.items ++ place_at (length groups.old.entries) 0 ∷ []) }
+    ensures few { OnOk result (length groups.old.entries + 1 < 2 ^ 32) }
+    ensures kept { OnErr result (series_held groups.new.entries ≡ series_held groups.old.entries) }
+    ensures order { OnErr result (order.new.items ≡ order.old.items) }
+    ensures value_returned { IfErr result (λ failed. failed.value ≡ row) }
+{
+    let mut series = Series::new(alloc);
+    let Ok(place) = room_for_first(groups, &mut series, order) else {
+        return Err(AllocFailed { value: row });
+    };
+    let Row { key, point } = row;
+    series.push(point);
+    insert_new(groups, key, series);
+    order.push(place);
+    Ok(())
+}
+
+// Makes room for one point more of a series, and gives its place.
+fn room_for(
+    series: &mut Series,
+    order: &mut RoomListOf<Place>,
+    number: u32,
+) -> Result<Place, OutOfMemory>
+    ensures place { IfOk result (λ place. place ≡ place_at number (length series.old.points)) }
+    ensures points { series.new.points ≡ series.old.points }
+    ensures order { order.new.items ≡ order.old.items }
+    ensures room { OnOk result (1 ≤ series.new.spare) }
+    ensures order_room { OnOk result (1 ≤ order.new.spare) }
+{
+    let Ok(point) = u32::try_from(series.points().len()) else {
+        return Err(AllocError);
+    };
+    series.reserve()?;
+    order.reserve_one()?;
+    Ok(Place {
+        series: number,
+        point,
+    })
+}
+
+// Makes room for one series more and its first point, and gives its place.
+fn room_for_first(
+    groups: &mut SeriesMap,
+    series: &mut Series,
+    order: &mut RoomListOf<Place>,
+) -> Result<Place, OutOfMemory>
+    ensures place { IfOk result (λ place. place ≡ place_at (length groups.old.entries) (length series.old.points)) }
+    ensures few { OnOk result (length groups.old.entries + 1 < 2 ^ 32) }
+    ensures groups { groups.new.entries ≡ groups.old.entries }
+    ensures points { series.new.points ≡ series.old.points }
+    ensures order { order.new.items ≡ order.old.items }
+    ensures groups_room { OnOk result (0 < spare groups.new) }
+    ensures room { OnOk result (1 ≤ series.new.spare) }
+    ensures order_room { OnOk result (1 ≤ order.new.spare) }
+{
+    let number = groups.len();
+    if number >= u32::MAX as usize {
+        return Err(AllocError);
+    }
+    groups.reserve(1)?;
+    room_for(series, order, number as u32)
+}
+
+// Adds a series under a key that isn't there, in the room that was made.
+fn insert_new(groups: &mut SeriesMap, key: Shared<SeriesKey>, series: Series)
+    requires room { 0 < spare groups.old }
+    requires absent { lookup (same_series key) (series_held groups.old.entries) ≡ None }
+    ensures grown { series_held groups.new.entries ≡ series_held groups.old.entries ++ (key, series.points) ∷ [] }
+{
+    let _old = groups.insert(key, series).unwrap();
+}
