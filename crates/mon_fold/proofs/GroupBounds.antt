@@ -115,11 +115,11 @@ can_merge_counts n (first ∷ some) (next ∷ more) there long others fits =
           (omega (arith, sum-counts_added a b, sum-counts_of (first ∷ some), sum-counts_of (next ∷ more), sum_by-append sum (first ∷ some) (next ∷ more))),
     )
 
-all_front : {A : Type 0} (P : A → Type 0) (xs ys : List A) → AllByRecursion P (xs ++ ys) → AllByRecursion P xs
+pub all_front : {A : Type 0} (P : A → Type 0) (xs ys : List A) → AllByRecursion P (xs ++ ys) → AllByRecursion P xs
 all_front P [] ys all = tt
 all_front P (x ∷ xs) ys all = (all.0, all_front P xs ys all.1)
 
-all_back : {A : Type 0} (P : A → Type 0) (xs ys : List A) → AllByRecursion P (xs ++ ys) → AllByRecursion P ys
+pub all_back : {A : Type 0} (P : A → Type 0) (xs ys : List A) → AllByRecursion P (xs ++ ys) → AllByRecursion P ys
 all_back P [] ys all = all
 all_back P (x ∷ xs) ys all = all_back P xs ys all.1
 
@@ -210,7 +210,7 @@ group_total by key place (row ∷ rows) =
     (λ same. (Decides-int_eq row.time key.time).1 (ap (λ (r : TimedRow). r.time) (sym ((same_row-Decides key (group_key by row)).0 same))))
     (group_total by key place rows)
 
-total-append : (place : ℕ) (time : ℤ) (xs ys : List TimedRow) → total_in place (rows_at time (xs ++ ys)) ≡ total_in place (rows_at time xs) + total_in place (rows_at time ys)
+pub total-append : (place : ℕ) (time : ℤ) (xs ys : List TimedRow) → total_in place (rows_at time (xs ++ ys)) ≡ total_in place (rows_at time xs) + total_in place (rows_at time ys)
 total-append place time xs ys =
     ap (total_in place) (filter-append (λ (row : TimedRow). int_eq row.time time) xs ys)
     ∙ ap (sum_by magnitude) (column_of-append place (rows_at time xs) (rows_at time ys))
@@ -240,7 +240,7 @@ pub group_fewer : (by : List ℕ) (key : TimedRow) (rows : List TimedRow) → le
 group_fewer by key [] = omega arith
 group_fewer by key (row ∷ rows) = fewer_step row (rows_in by key rows) (same_row key (group_key by row)) (length rows) (group_fewer by key rows)
 
-unless_count : (what : AggregateKind) (P Q : Type 0) → (P → Q) → UnlessCount what P → UnlessCount what Q
+pub unless_count : (what : AggregateKind) (P Q : Type 0) → (P → Q) → UnlessCount what P → UnlessCount what Q
 unless_count kind.Sum P Q h p = h p
 unless_count kind.Count P Q h p = tt
 unless_count kind.Min P Q h p = h p

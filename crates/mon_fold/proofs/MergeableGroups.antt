@@ -1,10 +1,10 @@
 -- Groups of rows that can be grouped together can be merged.
-use Rattle.std.proofs.Common.{◌≡◌, ◌≤◌, ℕ, Bool, true, false, ◌||◌, List, [], ◌∷◌, ◌++◌, map, length, IfSome, refl, sym, ap, subst, ◌∙◌, arith}
+use Rattle.std.proofs.Common.{◌≡◌, ◌≤◌, ℕ, ℤ, Bool, true, false, ◌||◌, List, [], ◌∷◌, ◌++◌, map, length, IfSome, refl, sym, ap, subst, ◌∙◌, arith}
 use Rattle.std.specs.List.{AllByRecursion, IsDistinct, list_any}
 use Rattle.std.specs.Map.{keys_of, lookup}
 use Rattle.std.proofs.lemmas.List.Elements.{filter-append}
 use Rattle.mon_value.specs.Columns.{FitColumns}
-use Rattle.mon_value.specs.GroupConditions.{CanGroup, rows_at}
+use Rattle.mon_value.specs.GroupConditions.{CanGroup, rows_at, SumsFit, UnlessCount}
 use Rattle.mon_value.specs.Groups.{group_key, group_keys, rows_in}
 use Rattle.mon_value.specs.Limits.{greatest_sum}
 use Rattle.mon_value.specs.Same.{same_row}
@@ -14,7 +14,7 @@ use Rattle.mon_value.specs.declared.tables.TimedRow.{TimedRow}
 use Rattle.mon_value.proofs.GroupLemmas.{has, look_up, rows_some}
 use Rattle.mon_value.proofs.KeyedLemmas as keyed
 use Rattle.mon_value.proofs.SameLemmas.{same_row-Decides}
-use Rattle.mon_fold.proofs.GroupBounds.{all_in_group, group_fewer, group_total, groups_are, if_there, parts_at, parts_can, sums_at, total_in}
+use Rattle.mon_fold.proofs.GroupBounds.{all_back, all_front, all_in_group, group_fewer, group_total, groups_are, if_there, parts_at, parts_can, sums_at, total-append, total_in, unless_count}
 use Rattle.mon_fold.proofs.KeptGroups.{can_merge_apart}
 use Rattle.mon_fold.specs.PartialGroups.{CanMergeGroups, CanMergeParts, CanTakeGroup, partial_groups, PartialGroup, parts_over}
 
@@ -77,3 +77,32 @@ module _ (columns : List Column) (by : List ℕ) (with : List Aggregate) (xs ys 
       let distinct = subst (λ (ks : List TimedRow). IsDistinct same_row ks) (sym (keys_are by with ys keys)) apart in
       subst (λ (gs : List PartialGroup). CanMergeGroups (partial_groups by with xs) gs) (sym (groups_are by with ys keys))
       (can_merge_apart (partial_groups by with xs) groups distinct (take_each keys))
+
+-- ---- some of the rows
+
+fewer_fit : (with : List Aggregate) (rows some : List TimedRow) → ((place : ℕ) (time : ℤ) → total_in place (rows_at time some) ≤ total_in place (rows_at time rows))
+    → AllByRecursion (λ (aggregate : Aggregate). UnlessCount aggregate.what (SumsFit rows aggregate.column)) with
+    → AllByRecursion (λ (aggregate : Aggregate). UnlessCount aggregate.what (SumsFit some aggregate.column)) with
+fewer_fit [] rows some least fits = tt
+fewer_fit (aggregate ∷ with) rows some least fits =
+    let place = aggregate.column in
+    let at_each : SumsFit rows place → SumsFit some place = λ fit time. let whole = fit time in omega (arith, least place time) in
+    (unless_count aggregate.what (SumsFit rows place) (SumsFit some place) at_each fits.0, fewer_fit with rows some least fits.1)
+
+pub first_can : (columns : List Column) (by : List ℕ) (with : List Aggregate) (xs ys : List TimedRow)
+    → CanGroup columns by with (xs ++ ys) → CanGroup columns by with xs
+first_can columns by with xs ys can = record {
+  shaped = all_front (λ (row : TimedRow). FitColumns columns row.cells) xs ys can.shaped;
+  listed = can.listed;
+  taken = can.taken;
+  sums = fewer_fit with (xs ++ ys) xs (λ place time. omega (arith, total-append place time xs ys)) can.sums;
+}
+
+pub second_can : (columns : List Column) (by : List ℕ) (with : List Aggregate) (xs ys : List TimedRow)
+    → CanGroup columns by with (xs ++ ys) → CanGroup columns by with ys
+second_can columns by with xs ys can = record {
+  shaped = all_back (λ (row : TimedRow). FitColumns columns row.cells) xs ys can.shaped;
+  listed = can.listed;
+  taken = can.taken;
+  sums = fewer_fit with (xs ++ ys) ys (λ place time. omega (arith, total-append place time xs ys)) can.sums;
+}

@@ -174,3 +174,11 @@ pub record GroupsSoFar : Type 0 where
   pub columns : List Column
   pub kinds : List AggregateKind
   pub groups : List PartialGroup
+
+-- the partial groups that stand for rows, which are to be grouped
+abbrev pub parts_of : List Column → List ℕ → List Aggregate → List TimedRow → GroupsSoFar
+parts_of columns by with rows = record {
+  columns = group_columns columns by with;
+  kinds = map (λ aggregate. aggregate.what) with;
+  groups = partial_groups by with rows;
+}

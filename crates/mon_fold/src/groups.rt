@@ -8,7 +8,7 @@ ghost use Rattle.mon_value.specs.declared.aggregates.Aggregate.{Aggregate};
 ghost use Rattle.mon_value.specs.declared.columns.Column.{Column};
 ghost use Rattle.mon_value.specs.declared.tables.TimedRow.{TimedRow};
 ghost use Rattle.mon_fold.specs.PartialGroups.{CanMergeGroups, column_made, columns_made, count_column, group_columns};
-ghost use Rattle.mon_fold.specs.PartialGroups.{merged_groups, partial_groups, part_finished, row_finished};
+ghost use Rattle.mon_fold.specs.PartialGroups.{merged_groups, partial_groups, part_finished, parts_of, row_finished};
 
 use crate::aggregate_parts::{AggregateParts, finish_part};
 use crate::grouping::groups_of;
@@ -231,13 +231,14 @@ pub fn merge_parts(alloc: Global, into: &mut Parts, other: &Parts) -> Result<(),
     Ok(())
 }
 
-/// Partial groups stand for their rows: those of two lists of rows together are those of both, and they
+/// Partial groups stand for their rows: those of two lists of rows, merged, are those of both together, and they
 /// finish to the rows grouped.
 pub fn groups_stand_for_rows()
-    ensures merge { (by : List ℕ) (with : List Aggregate) (xs ys : List TimedRow)
-        → merged_groups (partial_groups by with xs) (partial_groups by with ys) ≡ partial_groups by with (xs ++ ys) }
-    ensures finish { (by : List ℕ) (with : List Aggregate) (rows : List TimedRow)
-        → map row_finished (partial_groups by with rows) ≡ group_rows by with rows }
+    ensures merge { (columns : List Column) (by : List ℕ) (with : List Aggregate) (xs ys : List TimedRow)
+        → merged_groups (parts_of columns by with xs).groups (parts_of columns by with ys).groups
+        ≡ (parts_of columns by with (xs ++ ys)).groups }
+    ensures finish { (columns : List Column) (by : List ℕ) (with : List Aggregate) (rows : List TimedRow)
+        → map row_finished (parts_of columns by with rows).groups ≡ group_rows by with rows }
 {}
 
 /// Groups of rows that can be grouped together can be merged.
@@ -245,4 +246,12 @@ pub fn groups_can_merge()
     ensures { (columns : List Column) (by : List ℕ) (with : List Aggregate) (xs ys : List TimedRow)
         → CanGroup columns by with (xs ++ ys) → length (xs ++ ys) ≤ greatest_sum
         → CanMergeGroups (partial_groups by with xs) (partial_groups by with ys) }
+{}
+
+/// Rows that can be grouped together can be grouped in two lists.
+pub fn rows_group_apart()
+    ensures first { (columns : List Column) (by : List ℕ) (with : List Aggregate) (xs ys : List TimedRow)
+        → CanGroup columns by with (xs ++ ys) → CanGroup columns by with xs }
+    ensures second { (columns : List Column) (by : List ℕ) (with : List Aggregate) (xs ys : List TimedRow)
+        → CanGroup columns by with (xs ++ ys) → CanGroup columns by with ys }
 {}

@@ -4,6 +4,7 @@
 
 mod aggregate_parts;
 mod alignment;
+mod answers;
 mod extremes;
 mod folds;
 mod grouping;
@@ -20,10 +21,12 @@ mod tests;
 
 pub use aggregate_parts::{AggregatePart, AggregateParts};
 pub use alignment::align;
+pub use answers::{LeafAnswer, LeafAnswers, Piece, Pieces};
 pub use extremes::{GreatestPart, LeastPart, MaxFold, MinFold};
 pub use folds::Fold;
 pub use groups::{
     Parts, finish_parts, group, groups_can_merge, groups_stand_for_rows, merge_parts,
+    rows_group_apart,
 };
 pub use means::{MeanFold, MeanPart, means_are_floors};
 pub use merges::{MergeFold, MergePart};
