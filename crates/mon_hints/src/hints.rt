@@ -85,7 +85,8 @@ fn insert_fields(
 )
     requires some { 0 < buckets }
     requires most { buckets ≤ MOST_BUCKETS }
-    ensures added { is_set set.new.words ≡ with_buckets (is_set set.old.words) (buckets_of_pairs buckets schema.state (zip fields.now values.now)) }
+    ensures added { is_set set.new.words
+        ≡ with_buckets (is_set set.old.words) (buckets_of_pairs buckets schema.state (zip fields.now values.now)) }
 {
     for (field, value) in fields.iter().zip(values) {
         insert_value(set, schema.of_field(field.name.as_bytes()), value, buckets);
@@ -96,7 +97,8 @@ fn insert_fields(
 fn insert_value(set: &mut BucketSet, field: Fingerprint, value: &FieldValue, buckets: u32)
     requires some { 0 < buckets }
     requires most { buckets ≤ MOST_BUCKETS }
-    ensures added { is_set set.new.words ≡ with_buckets (is_set set.old.words) (buckets_behind buckets field.state (value_excerpts value.now)) }
+    ensures added { is_set set.new.words
+        ≡ with_buckets (is_set set.old.words) (buckets_behind buckets field.state (value_excerpts value.now)) }
 {
     match value {
         FieldValue::Int(number) => {
@@ -112,7 +114,8 @@ fn insert_value(set: &mut BucketSet, field: Fingerprint, value: &FieldValue, buc
 fn insert_text(set: &mut BucketSet, field: Fingerprint, text: &[u8], buckets: u32)
     requires some { 0 < buckets }
     requires most { buckets ≤ MOST_BUCKETS }
-    ensures added { is_set set.new.words ≡ with_buckets (is_set set.old.words) (buckets_behind buckets field.state (text_excerpts text.now)) }
+    ensures added { is_set set.new.words
+        ≡ with_buckets (is_set set.old.words) (buckets_behind buckets field.state (text_excerpts text.now)) }
 {
     let (mut first, mut second) = (FRONT_MARK, FRONT_MARK);
     for byte in text {

@@ -1,38 +1,38 @@
-mod AlignedRows
-mod AlignedValues
+pub mod AlignedRows
+pub mod AlignedValues
 mod ColumnNameLemmas
 pub mod DurationLemmas
 mod ExplanationLemmas
 mod FaultLemmas
 pub mod FetchColumnLemmas
-mod FetchedPoints
-mod FetchedTrees
-mod FoldedColumns
-mod FoldedValues
-mod GroupSums
-mod GroupedRows
+pub mod FetchedPoints
+pub mod FetchedTrees
+pub mod FoldedColumns
+pub mod FoldedValues
+pub mod GroupSums
+pub mod GroupedRows
 mod ItemLemmas
-mod JoinedRows
-mod KeptRows
-mod KnownSums
+pub mod JoinedRows
+pub mod KeptRows
+pub mod KnownSums
 mod ListedLemmas
-mod MadeCells
+pub mod MadeCells
 mod NamedPlaceLemmas
 mod OperandLemmas
 mod PredicateLemmas
 pub mod QueryLaws
-mod RowCounts
+pub mod RowCounts
 mod SpelledQueries
 mod StepLemmas
-mod SumBounds
+pub mod SumBounds
 mod SumTotals
 mod TakenLemmas
 mod TimesLemmas
-mod Totals
+pub mod Totals
 pub mod TypedGridLemmas
-mod TypedQueries
-mod TypedSums
-mod TypedTrees
+pub mod TypedQueries
+pub mod TypedSums
+pub mod TypedTrees
 mod TypingLemmas
-mod UnitedRows
-mod ValueRows
+pub mod UnitedRows
+pub mod ValueRows

@@ -18,6 +18,7 @@ use Rattle.mql_types.specs.declared.faults.TypeFault.{TypeFault}
 use Rattle.mql_types.specs.declared.faults.TypeKind.{TypeKind}
 use Rattle.mql_types.specs.declared.times.Times.{Times}
 use Rattle.mql_types.proofs.DurationLemmas.{Last}
+use Rattle.mql_types.proofs.FetchColumnLemmas.{typed_without_faults}
 
 -- ---- what is said of the times
 
@@ -89,30 +90,9 @@ few_times n (pos e) (negsuc w) f g few = absurd (omega (arith, ints))
 
 -- ---- a query that has a type has no fault
 
-some_stays : (fault : TypeFault) (faults : List TypeFault) → first_with (Some fault) faults ≡ None → ⊥
-some_stays fault [] h = cc
-some_stays fault (x ∷ xs) h = some_stays (earlier_fault (Some fault) x) xs h
-
-none_found : (faults : List TypeFault) → first_with None faults ≡ None → faults ≡ []
-none_found [] h = refl
-none_found (x ∷ xs) h = absurd (some_stays x xs h)
-
 parts_empty : (xs ys : List TypeFault) → xs ++ ys ≡ [] → (xs ≡ []) × (ys ≡ [])
 parts_empty [] ys h = (refl, h)
 parts_empty (x ∷ xs) ys h = absurd (cc)
-
-by_fault : (fault : Option TypeFault) (made typed : TypedTree) → unless fault made ≡ Ok typed
-    → (fault ≡ None) × (made ≡ typed)
-by_fault None made typed h = (refl, cc)
-by_fault (Some fault) made typed h = absurd (cc)
-
--- a query that has a type has no fault, and has the tree of its parts
-pub typed_without_fault : (held : SchemaLists) (query : PipeTree) (typed : TypedTree) → typing held query ≡ Ok typed
-    → (query_faults held query ≡ []) × (typed_query held query ≡ typed)
-unfolding typing
-typed_without_fault held query typed h =
-    let x = by_fault (first_fault (query_faults held query)) (typed_query held query) typed h in
-    (none_found (query_faults held query) x.0, x.1)
 
 no_test : (test : Bool) (at : ℕ) (kind : TypeKind) → fault_where test at kind ≡ [] → test ≡ false
 no_test true at kind h = absurd (cc)
@@ -131,7 +111,7 @@ few_said held query h =
 pub typed_grid : (held : SchemaLists) (query : PipeTree) (typed : TypedTree) (moment : ℤ) → HasDurations query
     → typing held query ≡ Ok typed → pos 0 ≤ℤ moment → IsLawful (grid_of typed moment)
 typed_grid held query typed moment durations h from =
-    let x = typed_without_fault held query typed h in
+    let x = typed_without_faults held query typed h in
     let said = query_times query in
     let are = times_said query durations in
     let every = every_duration said are in

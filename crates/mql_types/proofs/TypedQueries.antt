@@ -43,7 +43,7 @@ use Rattle.mql_types.proofs.FoldedColumns.{not_false}
 use Rattle.mql_types.proofs.JoinedRows.{IsNarrow, all-front, all-map}
 use Rattle.mql_types.proofs.MadeCells.{nothing_is, same_item}
 use Rattle.mql_types.proofs.SumBounds.{no_faults, none_where, not_wide}
-use Rattle.mql_types.proofs.TypedGridLemmas.{typed_without_fault}
+use Rattle.mql_types.proofs.FetchColumnLemmas.{typed_without_faults}
 use Rattle.mql_types.proofs.TypedTrees.{AreRows}
 
 -- ---- parts
@@ -339,7 +339,7 @@ pub query_ruled : (held : SchemaLists) → AllByRecursion IsHeld held.metrics �
     → IsPipeSpelled query → HasDurations query
     → (typed : TypedTree) → typing held query ≡ Ok typed → IsDuration typed.every → AreRows held typed.tree
 query_ruled held metrics query spelled durations typed is long =
-    let from = typed_without_fault held query typed is in
+    let from = typed_without_faults held query typed is in
     let every = every_said (query_times query) in
     let same : typed.every ≡ every = ap (λ (t : TypedTree). t.every) (sym from.1) in
     let step : IsDuration every = subst IsDuration same long in

@@ -7,6 +7,7 @@ pub mod Fetches
 pub mod Filters
 pub mod Groupings
 pub mod Items
+pub mod LevelLoads
 pub mod Levels
 pub mod Loads
 pub mod Meaning
@@ -14,6 +15,7 @@ pub mod NamedPlaces
 pub mod Nodes
 pub mod OperandLinks
 pub mod PartViews
+pub mod Pieces
 pub mod Plans
 pub mod PredicateParts
 pub mod Soundness

@@ -36,6 +36,3 @@ pub use levels::Level;
 pub use mon_value::{Anchor, Column, Columns};
 pub use nodes::{Node, NodeInfo, Typed};
 pub use plans::{Formulas, Plan};
-
-#[cfg(test)]
-mod tests;
