@@ -9,6 +9,3 @@ mod records;
 pub use faults::RowFault;
 pub use keys::KeyCache;
 pub use records::{RowRead, RowReads, read_rows, read_rows_with};
-
-#[cfg(test)]
-mod tests;

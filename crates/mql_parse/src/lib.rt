@@ -22,6 +22,3 @@ mod words;
 
 pub use faults::{ParseFault, ParseKind, What};
 pub use parsing::parse;
-
-#[cfg(test)]
-mod tests;
