@@ -1,18 +1,19 @@
 mod AnswerLemmas
 mod FetchLemmas
-mod FilterLemmas
+pub mod FilterLemmas
 mod FilterSteps
 mod ItemLemmas
 mod KeptLemmas
 mod KeyCells
-mod KeyOrders
+pub mod KeyOrders
 mod MapGroups
-mod OperationOrders
+mod OperationLemmas
+pub mod OperationOrders
+pub mod PartLemmas
 mod PathLemmas
 mod ReachLemmas
 mod ReadyLemmas
 mod SeriesOrders
-mod SourceMaps
 mod TopLemmas
 mod WalkLemmas
 mod WindowLemmas

@@ -6,7 +6,7 @@ use Rattle.mon_value.specs.declared.refusals.Refusal.TheVariants as refusal
 use Rattle.mon_value.specs.declared.tables.TimedRow.{TimedRow}
 use Rattle.mql_types.specs.Nodes.{NodeTree}
 use Rattle.mon_meaning.specs.declared.meter.OverLimit.{OverLimit}
-use Rattle.mon_meaning.specs.within.Counting.{TellsOver}
+use Rattle.mon_meaning.specs.Counts.{TellsOver}
 use Rattle.mon_meaning.specs.within.Paths.{Leads, first_input, node_count, own_load}
 use Rattle.mon_meaning.specs.within.Readiness.{IsReady}
 use Rattle.mon_meaning.specs.within.SeriesMeaning.{SeriesGroup, load_by_series, rows_by_series}

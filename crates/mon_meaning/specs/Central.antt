@@ -1,8 +1,14 @@
 -- What the central evaluation answers.
-use Rattle.std.specs.Prelude.{◌≡◌, ◌<◌, ◌≤◌, ℕ, ℤ, List, map, Result, Ok, Err}
+use Rattle.std.specs.Prelude.{◌≡◌, ◌<◌, ◌≤◌, ℕ, ℤ, true, List, Result, Ok, Err}
+use Rattle.std.specs.Borrow.{Bor}
+use Rattle.std.specs.List.{AllByRecursion, flat_map}
 use Rattle.std.specs.List.Sorted.{IsPermutation}
+use Rattle.indexmap.specs.IndexMap.{IndexMap}
+use Rattle.mon_series.specs.SeriesMaps.{series_held}
 use Rattle.mon_series.specs.SeriesPoints.{SeriesPoints}
+use Rattle.mon_value.specs.Grids.{IsLawful}
 use Rattle.mon_value.specs.Sources.{points_by_series}
+use Rattle.mon_value.specs.declared.grids.Grid.{Grid}
 use Rattle.mon_value.specs.declared.refusals.Refusal.{Refusal}
 use Rattle.mon_value.specs.declared.refusals.Refusal.TheVariants as refusal
 use Rattle.mon_value.specs.declared.rows.Point.{Point}
@@ -11,8 +17,11 @@ use Rattle.mon_value.specs.declared.rows.SeriesKey.{SeriesKey}
 use Rattle.mon_value.specs.declared.tables.Table.{Table}
 use Rattle.mql_types.specs.Loads.{load}
 use Rattle.mql_types.specs.Meaning.{meaning}
-use Rattle.mql_types.specs.Nodes.{TypedTree, columns_of}
-use Rattle.mql_types.specs.Soundness.{IsTyped}
+use Rattle.mql_types.specs.Nodes.{NodeTree, TypedTree, columns_of}
+use Rattle.mql_types.specs.Plans.{HasFetchColumns, fetches}
+use Rattle.mql_types.specs.Soundness.{IsEvaluable, IsTyped}
+use Rattle.mon_schema.specs.Fits.{fits}
+use Rattle.mon_schema.specs.SchemaLists.{SchemaLists}
 use Rattle.mon_meaning.specs.declared.meter.OverLimit.{OverLimit}
 
 -- the table of a query: the rows that it means, in some order, under its columns; its load is within the limit
@@ -37,12 +46,22 @@ IsAnswer typed source moment limit (Err refused) = IsRefusedBy typed source mome
 
 -- ---- rows that are kept by series
 
--- the series that a map holds, apart from the room in them
-abbrev pub series_held : List (SeriesKey × SeriesPoints) → List (SeriesKey × List Point)
-series_held entries = map (λ entry. (entry.0, entry.1.points)) entries
+-- the series that several maps hold, one map after another
+abbrev pub all_held : {S : Type 0} → List (Bor (IndexMap SeriesKey SeriesPoints S)) → List (SeriesKey × List Point)
+all_held maps = flat_map (λ map. series_held map.now.entries) maps
 
 -- a typed query that is asked over series: those of rows that fit what it was typed over
 pub record IsAsked (typed : TypedTree) (series : List (SeriesKey × List Point)) : Type 0 where
   pub source : List Row
   pub kept : series ≡ points_by_series source
   pub fits : IsTyped typed source
+
+-- a part of a typed query's tree that is asked over series: those of rows over which it can be evaluated
+pub record IsPartAsked (grid : Grid) (part : NodeTree) (series : List (SeriesKey × List Point)) : Type 0 where
+  pub source : List Row
+  pub kept : series ≡ points_by_series source
+  pub held : SchemaLists
+  pub fit : AllByRecursion (λ row. fits held row ≡ true) source
+  pub lawful : IsLawful grid
+  pub evaluable : IsEvaluable grid part source
+  pub fetched : AllByRecursion (HasFetchColumns held) (fetches part)

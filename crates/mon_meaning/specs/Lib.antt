@@ -1,2 +1,4 @@
 pub mod Central
+pub mod Counts
+pub mod Operations
 pub mod within

@@ -1,5 +1,4 @@
 -- What only proofs read: what a query means over series, and how a tree is walked.
-pub mod Counting
 pub mod FetchViews
 pub mod Items
 pub mod KeyFilters

@@ -6,8 +6,9 @@ ghost use Rattle.mon_value.specs.Alignments as alignment;
 ghost use Rattle.mon_value.specs.Grids as grids;
 ghost use Rattle.mon_value.specs.SeriesRows.{row_of};
 ghost use Rattle.mql_types.specs.Nodes.{node_tree};
-ghost use Rattle.mon_meaning.specs.Central.{series_held};
-ghost use Rattle.mon_meaning.specs.within.Counting.{TellsOver};
+ghost use Rattle.mon_series.specs.SeriesMaps.{series_held};
+ghost use Rattle.mon_meaning.specs.Central.{all_held};
+ghost use Rattle.mon_meaning.specs.Counts.{TellsOver};
 ghost use Rattle.mon_meaning.specs.within.FetchViews.{met_rows, points_kept};
 ghost use Rattle.mon_meaning.specs.within.MetSeries.{CanAlignMet, is_counted, met_count, series_met};
 ghost use Rattle.mon_meaning.specs.within.Readiness.{AreAlignable};
@@ -18,7 +19,7 @@ use crate::fetches::{Fetch, series_cells};
 use crate::kept_points::{kept_series, points_in_reach};
 use crate::meter::{Meter, OverLimit};
 use mon_fold::align;
-use mon_series::Series;
+use mon_series::{Series, SeriesMap};
 use mon_value::{
     Aligner, Cells, OutOfMemory, Refusal, SeriesKey, Shared, TimedRow, TimedRows, TimedValues,
     TryCopy,
@@ -33,14 +34,14 @@ pub(crate) fn aligned_rows(
     input: &Node,
     meter: &mut Meter,
 ) -> Result<TimedRows, Refusal<OverLimit>>
-    requires ready { AreAlignable setting.now.grid by (node_tree input.now) (series_held setting.now.series.now.entries) }
+    requires ready { AreAlignable setting.now.grid by (node_tree input.now) (all_held setting.now.series.now) }
     ensures rows { IfOk result (λ rows. rows
-        ≡ flat_map (series_rows setting.now.grid by (node_tree input.now)) (series_held setting.now.series.now.entries)) }
+        ≡ flat_map (series_rows setting.now.grid by (node_tree input.now)) (all_held setting.now.series.now)) }
     ensures limit { meter.new.limit ≡ meter.old.limit }
     ensures counted { OnOk result (meter.new.load ≡ meter.old.load
-        + align_load setting.now.grid by (node_tree input.now) (series_held setting.now.series.now.entries)) }
+        + align_load setting.now.grid by (node_tree input.now) (all_held setting.now.series.now)) }
     ensures over { IfErr result (TellsOver meter.old.limit (meter.old.load
-        + align_load setting.now.grid by (node_tree input.now) (series_held setting.now.series.now.entries))) }
+        + align_load setting.now.grid by (node_tree input.now) (all_held setting.now.series.now))) }
 {
     let fetch = match Fetch::new(setting.alloc, input)? {
         Some(fetch) => fetch,
@@ -67,15 +68,40 @@ fn met_series<'a>(
     requires lawful { grids.IsLawful setting.now.grid }
     requires looks_back { grids.IsDuration (alignment.seconds_of by) }
     ensures met { IfOk result (λ met. series_met met.items
-        ≡ filter (is_counted setting.now.grid by fetch.now) (series_held setting.now.series.now.entries)) }
+        ≡ filter (is_counted setting.now.grid by fetch.now) (all_held setting.now.series.now)) }
     ensures limit { meter.new.limit ≡ meter.old.limit }
     ensures counted { OnOk result (meter.new.load ≡ meter.old.load
-        + sum_by (met_count setting.now.grid by fetch.now) (series_held setting.now.series.now.entries)) }
+        + sum_by (met_count setting.now.grid by fetch.now) (all_held setting.now.series.now)) }
     ensures over { IfErr result (TellsOver meter.old.limit (meter.old.load
-        + sum_by (met_count setting.now.grid by fetch.now) (series_held setting.now.series.now.entries))) }
+        + sum_by (met_count setting.now.grid by fetch.now) (all_held setting.now.series.now))) }
 {
     let mut met = Vec::new(setting.alloc);
-    for (key, series) in setting.series.iter() {
+    for map in setting.series {
+        add_met(setting, by, fetch, map, &mut met, meter)?;
+    }
+    Ok(met)
+}
+
+// Adds those of one map.
+fn add_met<'a>(
+    setting: &Setting<'a>,
+    by: Aligner,
+    fetch: &Fetch<'_>,
+    map: &'a SeriesMap,
+    met: &mut Vec<Met<'a>>,
+    meter: &mut Meter,
+) -> Result<(), Refusal<OverLimit>>
+    requires lawful { grids.IsLawful setting.now.grid }
+    requires looks_back { grids.IsDuration (alignment.seconds_of by) }
+    ensures met { OnOk result (series_met met.new.items ≡ series_met met.old.items
+        ++ filter (is_counted setting.now.grid by fetch.now) (series_held map.now.entries)) }
+    ensures limit { meter.new.limit ≡ meter.old.limit }
+    ensures counted { OnOk result (meter.new.load ≡ meter.old.load
+        + sum_by (met_count setting.now.grid by fetch.now) (series_held map.now.entries)) }
+    ensures over { IfErr result (TellsOver meter.old.limit (meter.old.load
+        + sum_by (met_count setting.now.grid by fetch.now) (series_held map.now.entries))) }
+{
+    for (key, series) in map.iter() {
         if !fetch.is_met(setting.alloc, key)? {
             continue;
         }
@@ -85,7 +111,7 @@ fn met_series<'a>(
             met.push(Met { key, series })?;
         }
     }
-    Ok(met)
+    Ok(())
 }
 
 // The rows of series that meet a fetch, which are counted.

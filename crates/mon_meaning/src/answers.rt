@@ -6,12 +6,13 @@ ghost use Rattle.mon_value.specs.declared.rows.Row.{Row};
 ghost use Rattle.mql_types.specs.Meaning as meant;
 ghost use Rattle.mql_types.specs.Nodes.{typed_tree};
 ghost use Rattle.mql_types.specs.Soundness.{IsTyped};
-ghost use Rattle.mon_meaning.specs.Central.{IsAnswer, IsAsked, series_held};
+ghost use Rattle.mon_series.specs.SeriesMaps.{series_held};
+ghost use Rattle.mon_meaning.specs.Central.{IsAnswer, IsAsked};
 
-use crate::evaluation::{Setting, rows_of};
 use crate::meter::{Meter, OverLimit};
 use crate::operations::table_of;
-use crate::series_maps::{SeriesMap, series_of};
+use crate::parts::part_by_series;
+use mon_series::{KeptRows, SeriesMap};
 use mon_value::{Grid, Refusal, RowList, Table};
 use mql_types::Typed;
 use std::alloc::Global;
@@ -31,8 +32,8 @@ pub fn central(
     requires limit { limit ≤ 2 ^ ROW_BITS }
     ensures answer { IsAnswer (typed_tree typed.now) rows.now moment limit result }
 {
-    let series = series_of(alloc, rows.as_slice())?;
-    central_by_series(alloc, typed, &series, moment, limit)
+    let kept = KeptRows::of_rows(alloc, rows.as_slice())?;
+    central_by_series(alloc, typed, kept.all_series(), moment, limit)
 }
 
 /// The same over rows that are kept by series, none of which is copied as a whole.
@@ -49,13 +50,9 @@ pub fn central_by_series(
     ensures answer { (source : List Row) → series_held series.now.entries ≡ points_by_series source
         → IsAnswer (typed_tree typed.now) source moment limit result }
 {
-    let setting = Setting {
-        alloc,
-        series,
-        grid: grid_of(typed, moment),
-    };
+    let grid = grid_of(typed, moment);
     let mut meter = Meter::new(limit);
-    let rows = rows_of(&setting, &typed.tree, &mut meter)?;
+    let rows = part_by_series(alloc, &typed.tree, &[series], grid, &mut meter)?;
     Ok(table_of(alloc, &typed.tree.info().columns, rows)?)
 }
 

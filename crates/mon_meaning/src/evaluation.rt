@@ -1,19 +1,18 @@
 // The rows of a typed tree.
 ghost use Rattle.std.specs.Prelude.{◌≡◌, ◌+◌, ◌≤◌, IfErr, IfOk, OnOk};
 ghost use Rattle.mql_types.specs.Nodes.{node_tree};
-ghost use Rattle.mon_meaning.specs.Central.{series_held};
-ghost use Rattle.mon_meaning.specs.within.Counting.{TellsOver};
-ghost use Rattle.mon_meaning.specs.within.Paths.{first_input, IsSource, own_load};
+ghost use Rattle.mon_meaning.specs.Central.{all_held};
+ghost use Rattle.mon_meaning.specs.Counts.{TellsOver};
+ghost use Rattle.mon_meaning.specs.within.Paths as way;
+ghost use Rattle.mon_meaning.specs.within.Paths.{first_input, IsSource, other_load, own_load};
 ghost use Rattle.mon_meaning.specs.within.Readiness.{IsReady};
 ghost use Rattle.mon_meaning.specs.within.SeriesMeaning.{load_by_series, rows_by_series};
 
 use crate::alignments::aligned_rows;
 use crate::meter::{Meter, OverLimit};
-use crate::operations::{filtered_rows, grouped_rows, joined_rows, table_of, united_rows};
 use crate::paths::{Path, path_down};
-use crate::series_maps::SeriesMap;
-use crate::tops::top_rows;
-use crate::value_rows::value_rows;
+use crate::steps::operation_rows;
+use mon_series::SeriesMap;
 use mon_value::{Grid, Refusal, TimedRows};
 use mql_types::Node;
 use std::alloc::Global;
@@ -22,7 +21,7 @@ use std::alloc::Global;
 #[derive(Clone, Copy)]
 pub(crate) struct Setting<'a> {
     pub alloc: Global,
-    pub series: &'a SeriesMap,
+    pub series: &'a [&'a SeriesMap],
     pub grid: Grid,
 }
 
@@ -34,20 +33,20 @@ pub(crate) fn rows_of(
     tree: &Node,
     meter: &mut Meter,
 ) -> Result<TimedRows, Refusal<OverLimit>>
-    requires ready { IsReady setting.now.grid (node_tree tree.now) (series_held setting.now.series.now.entries) }
+    requires ready { IsReady setting.now.grid (node_tree tree.now) (all_held setting.now.series.now) }
     ensures rows { IfOk result (λ rows. rows
-        ≡ rows_by_series setting.now.grid (node_tree tree.now) (series_held setting.now.series.now.entries)) }
+        ≡ rows_by_series setting.now.grid (node_tree tree.now) (all_held setting.now.series.now)) }
     ensures limit { meter.new.limit ≡ meter.old.limit }
     ensures counted { OnOk result (meter.new.load ≡ meter.old.load
-        + load_by_series setting.now.grid (node_tree tree.now) (series_held setting.now.series.now.entries)) }
+        + load_by_series setting.now.grid (node_tree tree.now) (all_held setting.now.series.now)) }
     ensures over { IfErr result (TellsOver meter.old.limit (meter.old.load
-        + load_by_series setting.now.grid (node_tree tree.now) (series_held setting.now.series.now.entries))) }
+        + load_by_series setting.now.grid (node_tree tree.now) (all_held setting.now.series.now))) }
 {
     let Path { above, source } = path_down(setting.alloc, tree)?;
     let mut above = above;
     let mut rows = source_rows(setting, source, meter)?;
     while let Some(node) = above.pop() {
-        rows = operation_rows(setting, node, rows, meter)?;
+        rows = rows_above(setting, node, rows, meter)?;
     }
     Ok(rows)
 }
@@ -58,15 +57,15 @@ fn source_rows(
     source: &Node,
     meter: &mut Meter,
 ) -> Result<TimedRows, Refusal<OverLimit>>
-    requires ready { IsReady setting.now.grid (node_tree source.now) (series_held setting.now.series.now.entries) }
+    requires ready { IsReady setting.now.grid (node_tree source.now) (all_held setting.now.series.now) }
     requires source { IsSource (node_tree source.now) }
     ensures rows { IfOk result (λ rows. rows
-        ≡ rows_by_series setting.now.grid (node_tree source.now) (series_held setting.now.series.now.entries)) }
+        ≡ rows_by_series setting.now.grid (node_tree source.now) (all_held setting.now.series.now)) }
     ensures limit { meter.new.limit ≡ meter.old.limit }
     ensures counted { OnOk result (meter.new.load ≡ meter.old.load
-        + load_by_series setting.now.grid (node_tree source.now) (series_held setting.now.series.now.entries)) }
+        + load_by_series setting.now.grid (node_tree source.now) (all_held setting.now.series.now)) }
     ensures over { IfErr result (TellsOver meter.old.limit (meter.old.load
-        + load_by_series setting.now.grid (node_tree source.now) (series_held setting.now.series.now.entries))) }
+        + load_by_series setting.now.grid (node_tree source.now) (all_held setting.now.series.now))) }
 {
     match source {
         Node::Align { info: _, by, input } => aligned_rows(setting, *by, input, meter),
@@ -76,71 +75,56 @@ fn source_rows(
 
 // The rows of an operation on the rows that flow into it first.
 #[cycle(evaluation)]
-fn operation_rows(
+fn rows_above(
     setting: &Setting<'_>,
     node: &Node,
     rows: TimedRows,
     meter: &mut Meter,
 ) -> Result<TimedRows, Refusal<OverLimit>>
-    requires ready { IsReady setting.now.grid (node_tree node.now) (series_held setting.now.series.now.entries) }
-    requires rows { rows ≡ rows_by_series setting.now.grid (first_input (node_tree node.now)) (series_held setting.now.series.now.entries) }
-    requires counted { load_by_series setting.now.grid (first_input (node_tree node.now)) (series_held setting.now.series.now.entries)
+    requires ready { IsReady setting.now.grid (node_tree node.now) (all_held setting.now.series.now) }
+    requires rows { rows
+        ≡ rows_by_series setting.now.grid (first_input (node_tree node.now)) (all_held setting.now.series.now) }
+    requires counted { load_by_series setting.now.grid (first_input (node_tree node.now)) (all_held setting.now.series.now)
         ≤ meter.old.load }
     ensures rows { IfOk result (λ rows. rows
-        ≡ rows_by_series setting.now.grid (node_tree node.now) (series_held setting.now.series.now.entries)) }
+        ≡ rows_by_series setting.now.grid (node_tree node.now) (all_held setting.now.series.now)) }
     ensures limit { meter.new.limit ≡ meter.old.limit }
     ensures counted { OnOk result (meter.new.load ≡ meter.old.load
-        + own_load setting.now.grid (node_tree node.now) (series_held setting.now.series.now.entries)) }
+        + own_load setting.now.grid (node_tree node.now) (all_held setting.now.series.now)) }
     ensures over { IfErr result (TellsOver meter.old.limit (meter.old.load
-        + own_load setting.now.grid (node_tree node.now) (series_held setting.now.series.now.entries))) }
+        + own_load setting.now.grid (node_tree node.now) (all_held setting.now.series.now))) }
 {
-    let alloc = setting.alloc;
+    let others = other_rows(setting, node, meter)?;
+    operation_rows(setting.alloc, node, rows, others, meter)
+}
+
+// The rows of an operation's right side, and none where it has no such side.
+#[cycle(evaluation)]
+fn other_rows(
+    setting: &Setting<'_>,
+    node: &Node,
+    meter: &mut Meter,
+) -> Result<TimedRows, Refusal<OverLimit>>
+    requires ready { IsReady setting.now.grid (node_tree node.now) (all_held setting.now.series.now) }
+    ensures rows { IfOk result (λ rows. rows
+        ≡ way.other_rows setting.now.grid (node_tree node.now) (all_held setting.now.series.now)) }
+    ensures limit { meter.new.limit ≡ meter.old.limit }
+    ensures counted { OnOk result (meter.new.load ≡ meter.old.load
+        + other_load setting.now.grid (node_tree node.now) (all_held setting.now.series.now)) }
+    ensures over { IfErr result (TellsOver meter.old.limit (meter.old.load
+        + other_load setting.now.grid (node_tree node.now) (all_held setting.now.series.now))) }
+{
     match node {
-        Node::Filter { info, by, input: _ } => Ok(filtered_rows(alloc, &info.columns, by, rows)?),
-        Node::GroupBy {
-            info: _,
-            by,
-            with,
-            input,
-        } => Ok(grouped_rows(alloc, &input.info().columns, by, with, rows)?),
-        Node::Value {
-            info: _,
-            items,
-            input,
-        } => Ok(value_rows(alloc, &input.info().columns, items.as_slice(), rows)?),
-        Node::Top {
-            info: _,
-            most,
-            column,
-            input: _,
-        } => Ok(top_rows(alloc, *most, *column, rows)?),
         Node::Join {
             info: _,
-            left,
+            left: _,
             right,
-        } => {
-            let others = rows_of(setting, right, meter)?;
-            let left = table_of(alloc, &left.info().columns, rows)?;
-            let right = table_of(alloc, &right.info().columns, others)?;
-            joined_rows(alloc, &left, &right, meter)
-        }
+        } => rows_of(setting, right, meter),
         Node::Union {
             info: _,
             left: _,
             right,
-        } => {
-            let others = rows_of(setting, right, meter)?;
-            Ok(united_rows(rows, others)?)
-        }
-        Node::Fetch {
-            info: _,
-            schema: _,
-            metric: _,
-        } => Ok(rows),
-        Node::Align {
-            info: _,
-            by: _,
-            input: _,
-        } => Ok(rows),
+        } => rows_of(setting, right, meter),
+        _ => Ok(TimedRows::new(setting.alloc)),
     }
 }

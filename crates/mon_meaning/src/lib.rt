@@ -8,11 +8,13 @@ mod fetches;
 mod kept_points;
 mod meter;
 mod operations;
+mod parts;
 mod paths;
-mod series_maps;
+mod steps;
 mod tops;
 mod value_rows;
 
 pub use answers::{central, central_by_series};
-pub use meter::OverLimit;
-pub use series_maps::SeriesMap;
+pub use meter::{Meter, OverLimit};
+pub use parts::part_by_series;
+pub use steps::operation_rows;

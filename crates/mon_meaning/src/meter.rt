@@ -1,7 +1,7 @@
 // How much work was done so far.
 ghost use Rattle.std.specs.Prelude.{◌≡◌, ◌+◌, ◌<◌, ◌≤◌, ◌^◌, IfErr, OnOk};
 ghost use Rattle.mon_value.specs.declared.limits.TheConstants.{ROW_BITS};
-ghost use Rattle.mon_meaning.specs.within.Counting.{TellsOver};
+ghost use Rattle.mon_meaning.specs.Counts.{TellsOver};
 
 use mon_value::{Refusal, TryCopy};
 use std::alloc::{AllocError, Global};
@@ -21,7 +21,7 @@ impl TryCopy for OverLimit {
 
 /// The load so far, which is within its limit.
 #[derive(Debug, Drop)]
-pub(crate) struct Meter {
+pub struct Meter {
     limit: u64,
     load: u64,
     ghost within: { load ≤ limit },
@@ -30,7 +30,7 @@ pub(crate) struct Meter {
 
 impl Meter {
     /// Nothing so far.
-    pub(crate) fn new(limit: u64) -> Meter
+    pub fn new(limit: u64) -> Meter
         requires few { limit ≤ 2 ^ ROW_BITS }
         ensures limit { result.limit ≡ limit }
         ensures none { result.load ≡ 0 }
@@ -39,7 +39,7 @@ impl Meter {
     }
 
     /// Counts more points or rows, unless they are above the limit.
-    pub(crate) fn add(&mut self, more: usize) -> Result<(), Refusal<OverLimit>>
+    pub fn add(&mut self, more: usize) -> Result<(), Refusal<OverLimit>>
         ensures limit { self.new.limit ≡ self.old.limit }
         ensures counted { OnOk result (self.new.load ≡ self.old.load + more) }
         ensures over { IfErr result (TellsOver self.old.limit (self.old.load + more)) }
@@ -53,14 +53,14 @@ impl Meter {
     }
 
     /// How much more is within the limit.
-    pub(crate) fn room(&self) -> u64
+    pub fn room(&self) -> u64
         ensures room { self.now.load + result ≡ self.now.limit }
     {
         self.limit - self.load
     }
 
     /// The refusal of more than there is room for, where it isn't known how much more.
-    pub(crate) fn over(&self) -> OverLimit
+    pub fn over(&self) -> OverLimit
         ensures over { result.load ≡ self.now.limit + 1 }
     {
         OverLimit {

@@ -7,7 +7,7 @@ ghost use Rattle.mon_value.specs.Groups.{group_rows};
 ghost use Rattle.mon_value.specs.Joins.{join_of, pairs_of};
 ghost use Rattle.mql_ast.specs.Trees.{predicate_tree};
 ghost use Rattle.mql_ast.specs.Truths.{predicate_truth};
-ghost use Rattle.mon_meaning.specs.within.Counting.{TellsOver};
+ghost use Rattle.mon_meaning.specs.Counts.{TellsOver};
 
 use crate::meter::{Meter, OverLimit};
 use mon_expr::BoundPredicate;

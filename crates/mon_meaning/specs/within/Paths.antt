@@ -2,6 +2,7 @@
 use Rattle.std.specs.Prelude.{◌≡◌, ℕ, ◌+◌, List, [], ◌∷◌, length, map}
 use Rattle.std.specs.Borrow.{Bor}
 use Rattle.mon_value.specs.declared.grids.Grid.{Grid}
+use Rattle.mon_value.specs.declared.tables.TimedRow.{TimedRow}
 use Rattle.mql_types.specs.Nodes as node
 use Rattle.mql_types.specs.Nodes.{NodeTree, node_tree}
 use Rattle.mql_types.specs.declared.nodes.Node.{Node}
@@ -37,6 +38,28 @@ trees_of nodes = map (λ one. node_tree one.now) nodes
 abbrev pub Leads : List NodeTree → NodeTree → NodeTree → Type 0
 Leads [] top end = top ≡ end
 Leads (node ∷ above) top end = (top ≡ node) × Leads above (first_input node) end
+
+-- the rows of an operation's right side, and none where it has no such side
+abbrev pub other_rows : Grid → NodeTree → List SeriesGroup → List TimedRow
+other_rows grid (node.Fetch info schema metric) series = []
+other_rows grid (node.Filter info by input) series = []
+other_rows grid (node.Align info by input) series = []
+other_rows grid (node.GroupBy info by with input) series = []
+other_rows grid (node.Value info items input) series = []
+other_rows grid (node.Top info most column input) series = []
+other_rows grid (node.Join info left right) series = rows_by_series grid right series
+other_rows grid (node.Union info left right) series = rows_by_series grid right series
+
+-- their load
+abbrev pub other_load : Grid → NodeTree → List SeriesGroup → ℕ
+other_load grid (node.Fetch info schema metric) series = 0
+other_load grid (node.Filter info by input) series = 0
+other_load grid (node.Align info by input) series = 0
+other_load grid (node.GroupBy info by with input) series = 0
+other_load grid (node.Value info items input) series = 0
+other_load grid (node.Top info most column input) series = 0
+other_load grid (node.Join info left right) series = load_by_series grid right series
+other_load grid (node.Union info left right) series = load_by_series grid right series
 
 -- the load that an operation adds to that of what flows into it first
 abbrev pub own_load : Grid → NodeTree → List SeriesGroup → ℕ

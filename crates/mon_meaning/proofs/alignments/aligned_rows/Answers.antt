@@ -3,8 +3,8 @@ use Rattle.std.specs.List.{AllByRecursion, flat_map}
 use Rattle.std.proofs.lemmas.Result.{on_ok_weaker}
 use Rattle.mql_types.specs.Nodes.{node_tree}
 use Rattle.mql_types.specs.Soundness.{IsWithinRows}
-use Rattle.mon_meaning.specs.Central.{series_held}
-use Rattle.mon_meaning.specs.within.Counting.{TellsOver}
+use Rattle.mon_meaning.specs.Central.{all_held}
+use Rattle.mon_meaning.specs.Counts.{TellsOver}
 use Rattle.mon_meaning.specs.within.FetchViews.{FetchView, FetchesNothing, IsFetchFound, IsFetchOf, met_rows}
 use Rattle.mon_meaning.specs.within.MetSeries.{CanAlignMet, met_count, series_met}
 use Rattle.mon_meaning.specs.within.SeriesMeaning.{align_load, reach_count, series_rows}
@@ -17,13 +17,13 @@ returns-in-None-clause-rows c =
     let input = node_tree c.args.input.now in
     let nothing : FetchesNothing input = subst (λ (o : Option FetchView). IsFetchFound input o) c.in-None.is c.in_ok-fetch.ensures.found in
     c.new-in-None.ensures.empty
-    ∙ sym (nothing_rows c.args.setting.now.grid c.args.by input nothing (series_held c.args.setting.now.series.now.entries))
+    ∙ sym (nothing_rows c.args.setting.now.grid c.args.by input nothing (all_held c.args.setting.now.series.now))
 
 pub returns-in-None-clause-counted : goal.returns-in-None-clause-counted
 returns-in-None-clause-counted c =
     let input = node_tree c.args.input.now in
     let nothing : FetchesNothing input = subst (λ (o : Option FetchView). IsFetchFound input o) c.in-None.is c.in_ok-fetch.ensures.found in
-    let none = nothing_load c.args.setting.now.grid c.args.by input nothing (series_held c.args.setting.now.series.now.entries) in
+    let none = nothing_load c.args.setting.now.grid c.args.by input nothing (all_held c.args.setting.now.series.now) in
     omega (arith, none)
 
 pub returns-in_err-met-clause-over : goal.returns-in_err-met-clause-over
@@ -31,7 +31,7 @@ returns-in_err-met-clause-over c =
     let input = node_tree c.args.input.now in
     let grid = c.args.setting.now.grid in
     let by = c.args.by in
-    let series = series_held c.args.setting.now.series.now.entries in
+    let series = all_held c.args.setting.now.series.now in
     let fetch : FetchView = c.in-Some.fetch in
     let is : IsFetchOf input fetch = subst (λ (o : Option FetchView). IsFetchFound input o) c.in-Some.is c.in_ok-fetch.ensures.found in
     let same = counts_met grid by input fetch is c.requires.ready.lawful series in
@@ -45,7 +45,7 @@ rows_of_series-requires c =
     let input = node_tree c.args.input.now in
     let grid = c.args.setting.now.grid in
     let by = c.args.by in
-    let series = series_held c.args.setting.now.series.now.entries in
+    let series = all_held c.args.setting.now.series.now in
     let fetch : FetchView = c.in-Some.fetch in
     let ready = c.requires.ready in
     let is : IsFetchOf input fetch = subst (λ (o : Option FetchView). IsFetchFound input o) c.in-Some.is c.in_ok-fetch.ensures.found in
@@ -62,7 +62,7 @@ returns-clause-rows c =
     let input = node_tree c.args.input.now in
     let grid = c.args.setting.now.grid in
     let by = c.args.by in
-    let series = series_held c.args.setting.now.series.now.entries in
+    let series = all_held c.args.setting.now.series.now in
     let fetch : FetchView = c.in-Some.fetch in
     let is : IsFetchOf input fetch = subst (λ (o : Option FetchView). IsFetchFound input o) c.in-Some.is c.in_ok-fetch.ensures.found in
     let same : flat_map (met_rows grid by fetch) (series_met c.in_ok-met.met.items) ≡ flat_map (series_rows grid by input) series =
@@ -75,7 +75,7 @@ returns-clause-counted c =
     let input = node_tree c.args.input.now in
     let grid = c.args.setting.now.grid in
     let by = c.args.by in
-    let series = series_held c.args.setting.now.series.now.entries in
+    let series = all_held c.args.setting.now.series.now in
     let fetch : FetchView = c.in-Some.fetch in
     let is : IsFetchOf input fetch = subst (λ (o : Option FetchView). IsFetchFound input o) c.in-Some.is c.in_ok-fetch.ensures.found in
     let counts = counts_met grid by input fetch is c.requires.ready.lawful series in
@@ -90,7 +90,7 @@ returns-clause-over c =
     let input = node_tree c.args.input.now in
     let grid = c.args.setting.now.grid in
     let by = c.args.by in
-    let series = series_held c.args.setting.now.series.now.entries in
+    let series = all_held c.args.setting.now.series.now in
     let fetch : FetchView = c.in-Some.fetch in
     let is : IsFetchOf input fetch = subst (λ (o : Option FetchView). IsFetchFound input o) c.in-Some.is c.in_ok-fetch.ensures.found in
     let counts = counts_met grid by input fetch is c.requires.ready.lawful series in

@@ -8,7 +8,8 @@ use Rattle.mon_meaning.proofs.answers.central.Goals as goal
 pub central_by_series-requires-clause-asked : goal.central_by_series-requires-clause-asked
 central_by_series-requires-clause-asked c = record {
   source = c.args.rows.now;
-  kept = c.in_ok-series.ensures.held ∙ ap (λ (rows : List Row). points_by_series rows) c.as_slice.ensures.items;
+  kept = c.all_series.ensures.series
+      ∙ ap (λ (rows : List Row). points_by_series rows) (c.in_ok-kept.ensures.rows ∙ c.as_slice.ensures.items);
   fits = c.requires.typed;
 }
 
@@ -18,5 +19,6 @@ returns c =
     record {
       answer = subst (λ (m : ℤ). IsAnswer (typed_tree c.args.typed.now) c.args.rows.now m c.args.limit c.central_by_series.result) moment
           (c.central_by_series.ensures.answer c.args.rows.now
-          (c.in_ok-series.ensures.held ∙ ap (λ (rows : List Row). points_by_series rows) c.as_slice.ensures.items));
+          (c.all_series.ensures.series
+          ∙ ap (λ (rows : List Row). points_by_series rows) (c.in_ok-kept.ensures.rows ∙ c.as_slice.ensures.items)));
     }

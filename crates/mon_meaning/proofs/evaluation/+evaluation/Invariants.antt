@@ -1,20 +1,23 @@
 -- The rows so far are those of a node on the way, and so is the load.
 use Rattle.std.proofs.Common.{◌≡◌, ◌+◌, ◌*◌, length}
 use Rattle.mql_types.specs.Nodes.{node_tree}
-use Rattle.mon_meaning.specs.Central.{series_held}
+use Rattle.mon_meaning.specs.Central.{all_held}
 use Rattle.mon_meaning.specs.within.Paths.{node_count, trees_of}
 use Rattle.mon_meaning.proofs.WalkLemmas.{Walk}
 use Rattle.mon_meaning.proofs.evaluation.+evaluation.Given as goal
 
 abbrev pub decreases-rows_of : goal.decreases-rows_of
-decreases-rows_of l = 2 * node_count (node_tree l.tree.now) + 1
+decreases-rows_of l = 3 * node_count (node_tree l.tree.now) + 2
 
-abbrev pub decreases-operation_rows : goal.decreases-operation_rows
-decreases-operation_rows l = 2 * node_count (node_tree l.node.now)
+abbrev pub decreases-rows_above : goal.decreases-rows_above
+decreases-rows_above l = 3 * node_count (node_tree l.node.now) + 1
+
+abbrev pub decreases-other_rows : goal.decreases-other_rows
+decreases-other_rows l = 3 * node_count (node_tree l.node.now)
 
 abbrev pub invariant-rows_of-loop-node : goal.invariant-rows_of-loop-node
 invariant-rows_of-loop-node l = record {
-  walk : Walk l.setting.grid (series_held l.setting.series.now.entries) (node_tree l.tree) (trees_of l.above.items) l.rows
+  walk : Walk l.setting.grid (all_held l.setting.series.now) (node_tree l.tree) (trees_of l.above.items) l.rows
       l.fn.meter.load l.meter.load;
   limit : l.meter.limit ≡ l.fn.meter.limit;
 }

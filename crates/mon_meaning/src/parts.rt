@@ -1,0 +1,45 @@
+// A part of a query's tree, over series.
+ghost use Rattle.std.specs.Prelude.{◌≡◌, ◌+◌, List, IfErr, IfOk, OnOk};
+ghost use Rattle.std.specs.List.Sorted.{IsPermutation};
+ghost use Rattle.mon_value.specs.Sources.{points_by_series};
+ghost use Rattle.mon_value.specs.declared.rows.Row.{Row};
+ghost use Rattle.mql_types.specs.Loads.{load_of};
+ghost use Rattle.mql_types.specs.Meaning.{rows_meant};
+ghost use Rattle.mql_types.specs.Nodes.{node_tree};
+ghost use Rattle.mon_meaning.specs.Central.{IsPartAsked, all_held};
+ghost use Rattle.mon_meaning.specs.Counts.{TellsOver};
+
+use crate::evaluation::{Setting, rows_of};
+use crate::meter::{Meter, OverLimit};
+use mon_series::SeriesMap;
+use mon_value::{Grid, Refusal, TimedRows};
+use mql_types::Node;
+use std::alloc::Global;
+
+/// The rows that a part of a query's tree means over series, which lie in several maps, at the times of a grid. They are a
+/// bag: their order says nothing. The part's load goes on the meter, and it is refused exactly where there is no room for
+/// it.
+pub fn part_by_series(
+    alloc: Global,
+    part: &Node,
+    series: &[&SeriesMap],
+    grid: Grid,
+    meter: &mut Meter,
+) -> Result<TimedRows, Refusal<OverLimit>>
+    requires asked { IsPartAsked grid (node_tree part.now) (all_held series.now) }
+    ensures rows { (source : List Row) → all_held series.now ≡ points_by_series source
+        → IfOk result (λ rows. IsPermutation (rows_meant grid (node_tree part.now) source) rows) }
+    ensures limit { meter.new.limit ≡ meter.old.limit }
+    ensures counted { (source : List Row) → all_held series.now ≡ points_by_series source
+        → OnOk result (meter.new.load ≡ meter.old.load + load_of grid (node_tree part.now) source) }
+    ensures over { (source : List Row) → all_held series.now ≡ points_by_series source
+        → IfErr result (TellsOver meter.old.limit
+        (meter.old.load + load_of grid (node_tree part.now) source)) }
+{
+    let setting = Setting {
+        alloc,
+        series,
+        grid,
+    };
+    rows_of(&setting, part, meter)
+}
