@@ -71,7 +71,8 @@ fn is_zone_key(key: &str) -> bool
 
 // The least by bytes of the keys that the object may not have: the map has its keys in that order.
 fn unknown_in(form: ObjectForm, members: &Map<String, Value>) -> Option<&String>
-    ensures unknown { option_map (λ key. string_bytes key.now) result ≡ unknown_in (spec.keys_of form) (members_view members.now.entries) }
+    ensures unknown { option_map (λ key. string_bytes key.now) result
+        ≡ unknown_in (spec.keys_of form) (members_view members.now.entries) }
 {
     for key in members.keys() {
         if !form.knows(key.as_str()) {

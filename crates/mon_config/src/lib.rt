@@ -16,6 +16,3 @@ mod zones;
 pub use config::{Config, read_config};
 pub use faults::ConfigFault;
 pub use limits::{GREATEST_LIMIT, LONGEST_CONFIGURATION};
-
-#[cfg(test)]
-mod tests;

@@ -25,7 +25,7 @@ lookup-append test (e ∷ es) fs =
     ap (cond (test e.0) (Some e.1)) (lookup-append test es fs)
     ∙ sym (option_or-cond (test e.0) e.1 (lookup test es) (lookup test fs))
 
-position_from-append : {X : Type 0} (test : X → Bool) (n : ℕ) (xs ys : List X)
+pub position_from-append : {X : Type 0} (test : X → Bool) (n : ℕ) (xs ys : List X)
     → position_from test n (xs ++ ys) ≡ option_or (position_from test n xs) (position_from test (n + length xs) ys)
 position_from-append test n [] ys = ap (λ k. position_from test k ys) (omega arith)
 position_from-append test n (x ∷ xs) ys =

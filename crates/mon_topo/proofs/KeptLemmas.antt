@@ -10,7 +10,7 @@ use Rattle.mon_topo.proofs.SpanLemmas.{get_or-spans_from}
 use Rattle.mon_topo.specs.Bounds.{is_within, last_within, range_of, HasOneRange}
 use Rattle.mon_topo.specs.Faults.{IsLawful}
 use Rattle.mon_topo.specs.Indexed.{spans_from}
-use Rattle.mon_topo.specs.Zones.{first_leaf, first_range, no_zone, range_numbered, zone_at}
+use Rattle.mon_topo.specs.Zones.{first_leaf, first_range, no_zone, range_numbered, ranges_in, zone_at, IsRangeOf}
 use Rattle.mon_topo.specs.declared.spans.ZoneSpan.{ZoneSpan}
 use Rattle.mon_topo.specs.declared.zones.RangeSpec.{RangeSpec}
 use Rattle.mon_topo.specs.declared.zones.ZoneSpec.{ZoneSpec}
@@ -44,6 +44,8 @@ ranges_parted zones i target ranges lawful there is =
 pub record IsFound (zones : List ZoneSpec) (i : ℕ) (target : Target) (p : ℕ) : Type 0 where
   pub some : 0 < p
   pub within : first_range zones i + p ≤ 512
+  pub own : p ≤ length (zone_at zones i).ranges
+  pub all : first_range zones i + length (zone_at zones i).ranges ≤ length (ranges_in zones)
   pub last : last_within target (zone_at zones i).ranges ≡ Some (p - 1)
 
 pub range_searched : (zones : List ZoneSpec) (i : ℕ) (target : Target) (ranges : List RangeSpec) (p : ℕ) → IsLawful zones → i < length zones
@@ -59,13 +61,23 @@ range_searched zones i target ranges p lawful there is le point =
     let found = point_found target own p order (omega arith) at in
     let most = few zones lawful.few in
     let so_far = parts_so_far (λ (zone : ZoneSpec). zone.ranges) zones i no_zone there in
-    record { some = found.0; within = omega arith; last = found.1 }
+    record { some = found.0; within = omega arith; own = omega arith; all = so_far; last = found.1 }
 
 pub range_found : (zones : List ZoneSpec) (i : ℕ) (target : Target) (p first : ℕ) → IsFound zones i target p
     → first ≡ first_range zones i → range_of zones i target ≡ Some (range_numbered (first + (p - 1)))
 range_found zones i target p first found is =
     ap (option_map (λ (j : ℕ). range_numbered (first_range zones i + j))) found.last
     ∙ ap (λ (n : ℕ). Some (range_numbered (n + (p - 1)))) (sym is)
+
+-- which is one of the zone's
+pub range_zoned : (zones : List ZoneSpec) (i : ℕ) (target : Target) (p first : ℕ) → IsFound zones i target p
+    → first ≡ first_range zones i → IsRangeOf zones i (range_numbered (first + (p - 1)))
+range_zoned zones i target p first found is =
+    (omega (arith, found.some, is), omega (arith, found.some, found.own, is))
+
+pub range_known : (zones : List ZoneSpec) (i : ℕ) (target : Target) (p first : ℕ) → IsFound zones i target p
+    → first ≡ first_range zones i → first + (p - 1) < length (ranges_in zones)
+range_known zones i target p first found is = omega (arith, found.some, found.own, found.all, is)
 
 -- each target has one range
 pub one_range : (zones : List ZoneSpec) → IsLawful zones → (zone : ℕ) (target : Target) → zone < length zones

@@ -20,7 +20,7 @@ pub passed : (good : Bool) (place : Place) (rest : Option Place) → option_or (
 passed true place rest e = (refl, e)
 passed false place rest e = absurd (cc)
 
-neither : {X : Type 0} (a b : Option X) → option_or a b ≡ None → (a ≡ None) × (b ≡ None)
+pub neither : {X : Type 0} (a b : Option X) → option_or a b ≡ None → (a ≡ None) × (b ≡ None)
 neither None b e = (refl, e)
 neither (Some x) b e = absurd (cc)
 
@@ -34,3 +34,10 @@ first_at-none fault i (x ∷ xs) e zero d there =
 first_at-none fault i (x ∷ xs) e (suc k) d there =
     let rest = (neither (fault i x) (first_at fault (i + 1) xs) e).1 in
     ap (λ n. fault n (get_or xs k d)) (omega arith) ∙ first_at-none fault (i + 1) xs rest k d (omega arith)
+
+-- which are numbered from 0
+pub none_at : {X : Type 0} (fault : ℕ → X → Option Place) (xs : List X) → first_at fault 0 xs ≡ None
+    → (k : ℕ) (d : X) → k < length xs → fault k (get_or xs k d) ≡ None
+none_at fault xs e k d there =
+    let same : k ≡ 0 + k = omega arith in
+    ap (λ n. fault n (get_or xs k d)) same ∙ first_at-none fault 0 xs e k d there

@@ -7,4 +7,5 @@ pub mod Kept
 pub mod Locations
 pub mod Places
 pub mod RangeHistories
+pub mod Replicas
 pub mod Zones

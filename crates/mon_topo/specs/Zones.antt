@@ -1,6 +1,6 @@
 -- What zones say: which zone lists a location, how leaves and ranges are numbered over all zones, how they are
 -- named, and which leaves hold a range at first.
-use Rattle.std.specs.Prelude.{ℕ, ◌+◌, List, [], ◌∷◌, ◌++◌, codes, length, map, take, Option, option_map}
+use Rattle.std.specs.Prelude.{ℕ, ◌+◌, ◌≤◌, ◌<◌, List, [], ◌∷◌, ◌++◌, codes, length, map, take, Option, option_map}
 use Rattle.std.specs.Fmt.{decimal}
 use Rattle.std.specs.List.{filter_map, flat_map, list_any, position_from, slice_index_or}
 use Rattle.mon_value.specs.Same.{same_text}
@@ -54,6 +54,11 @@ first_leaf zones i = length (leaves_in (take i zones))
 -- the number of a zone's first range
 abbrev pub first_range : List ZoneSpec → ℕ → ℕ
 first_range zones i = length (ranges_in (take i zones))
+
+-- a range is one of a zone's
+abbrev pub IsRangeOf : List ZoneSpec → ℕ → Range → Type 0
+IsRangeOf zones zone range =
+    (first_range zones zone ≤ range.0) × (range.0 < first_range zones zone + length (zone_at zones zone).ranges)
 
 -- how many leaves each zone has
 abbrev pub leaf_counts : List ZoneSpec → List ℕ

@@ -2,6 +2,8 @@
 ghost use Rattle.std.specs.Prelude.{◌<◌, ℕ, length};
 ghost use Rattle.mon_value.specs.declared.rows.Target.{Target};
 ghost use Rattle.mon_topo.specs.Bounds.{HasOneRange};
+ghost use Rattle.mon_topo.specs.Replicas.{HasReplicas};
+ghost use Rattle.mon_topo.specs.Zones.{range_numbered, ranges_in};
 
 use crate::topology::Topology;
 
@@ -10,6 +12,14 @@ use crate::topology::Topology;
 pub fn targets_have_one_range(topology: &Topology)
     ensures one { (zone : ℕ) (target : Target) → zone < length topology.now
         → HasOneRange topology.now zone target }
+{
+    let _zones = topology.zones();
+}
+
+/// Each range is held at first by one to three leaves of its zone, each once.
+pub fn ranges_have_replicas(topology: &Topology)
+    ensures replicas { (range : ℕ) → range < length (ranges_in topology.now)
+        → HasReplicas topology.now (range_numbered range) }
 {
     let _zones = topology.zones();
 }

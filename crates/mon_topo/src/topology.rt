@@ -1,5 +1,5 @@
 // The topology of a store.
-ghost use Rattle.std.specs.Prelude.{◌≡◌, ◌<◌, ℕ, Some, None, length, map, slice_get, IfOk, OnOk};
+ghost use Rattle.std.specs.Prelude.{◌≡◌, ◌<◌, ℕ, Some, None, length, map, slice_get, IfOk, IfSome, OnOk};
 ghost use Rattle.mon_value.specs.Answers.{AnswersBy};
 ghost use Rattle.mon_topo.specs.Bounds.{range_of};
 ghost use Rattle.mon_topo.specs.Faults as spec_faults;
@@ -68,6 +68,7 @@ impl Topology {
     /// The zone that lists a location.
     pub fn zone_of(&self, location: &[u8]) -> Option<Zone>
         ensures zone { result ≡ spec.zone_of self.now location.now }
+        ensures within { IfSome result (λ zone. zone.0 < length self.now) }
     {
         match self.locations.get(location) {
             Some(number) => Some(Zone(number)),
@@ -79,6 +80,8 @@ impl Topology {
     pub fn range_of(&self, zone: Zone, target: &Target) -> Range
         requires { zone.0 < length self.now }
         ensures range { range_of self.now zone.0 target.now ≡ Some result }
+        ensures within { result.0 < length (spec.ranges_in self.now) }
+        ensures zoned { spec.IsRangeOf self.now zone.0 result }
     {
         let place = zone.0 as usize;
         let ranges = self.zones.get(place).ranges.as_slice();
@@ -152,6 +155,7 @@ impl Topology {
     /// The leaf of a name.
     pub fn leaf_named(&self, name: &[u8]) -> Option<Leaf>
         ensures leaf { result ≡ spec.leaf_named self.now name.now }
+        ensures within { IfSome result (λ leaf. leaf.0 < length (spec.leaves_in self.now)) }
     {
         match self.leaves.get(name) {
             Some(number) => Some(Leaf(number)),
@@ -162,6 +166,7 @@ impl Topology {
     /// The range of a name: that of its zone, `/`, and its number in the zone, from 0.
     pub fn range_named(&self, name: &[u8]) -> Option<Range>
         ensures range { result ≡ spec.range_named self.now name.now }
+        ensures within { IfSome result (λ range. range.0 < length (spec.ranges_in self.now)) }
     {
         match self.ranges.get(name) {
             Some(number) => Some(Range(number)),

@@ -1,10 +1,10 @@
-use Rattle.std.proofs.Common.{◌≡◌, ◌∙◌, ◌<◌, List, ap, arith, length, rules, sym}
+use Rattle.std.proofs.Common.{◌≡◌, ◌∙◌, ℕ, ◌+◌, ◌-◌, ◌<◌, List, ap, arith, length, rules, subst, sym}
 use Rattle.std.proofs.lemmas.List.Sorted.{IsPartitionPoint-from_clause}
 use Rattle.std.proofs.lemmas.Option.{get_or_from_slice_get}
-use Rattle.mon_topo.proofs.KeptLemmas.{range_found, range_searched, ranges_parted, span_kept}
+use Rattle.mon_topo.proofs.KeptLemmas.{range_found, range_known, range_searched, range_zoned, ranges_parted, span_kept}
 use Rattle.mon_topo.proofs.SpanLemmas.{length-spans_from}
 use Rattle.mon_topo.specs.Bounds.{is_within, range_of}
-use Rattle.mon_topo.specs.Zones.{no_zone, zone_at}
+use Rattle.mon_topo.specs.Zones.{no_zone, range_numbered, ranges_in, zone_at, IsRangeOf}
 use Rattle.mon_topo.specs.declared.zones.RangeSpec.{RangeSpec}
 use Rattle.mon_topo.specs.declared.zones.ZoneSpec.{ZoneSpec}
 use Rattle.mon_topo.proofs.topology.Topology.range_of.Goals as goal
@@ -66,4 +66,10 @@ returns c =
     let point = IsPartitionPoint-from_clause (λ (range : RangeSpec). is_within range.from target) ranges c.partition_point-above.result c.partition_point-above.ensures.partitioned parted (λ a r q k. search rules) in
     let found = range_searched zones i target ranges c.partition_point-above.result c.self.invariant.0 there is c.partition_point-above.ensures.bound point in
     let span = span_kept zones c.self.inside.spans.items i c.index.result.now c.self.invariant.1 there c.index.ensures in
-    record { range = ap (λ (all : List ZoneSpec). range_of all i target) (sym c.self.view_is) ∙ range_found zones i target c.partition_point-above.result c.index.result.now.first_range found span.first_range }
+    let above : ℕ = c.partition_point-above.result in
+    let first : ℕ = c.index.result.now.first_range in
+    record {
+      range = ap (λ (all : List ZoneSpec). range_of all i target) (sym c.self.view_is) ∙ range_found zones i target above first found span.first_range;
+      within = subst (λ (all : List ZoneSpec). first + (above - 1) < length (ranges_in all)) c.self.view_is (range_known zones i target above first found span.first_range);
+      zoned = subst (λ (all : List ZoneSpec). IsRangeOf all i (range_numbered (first + (above - 1)))) c.self.view_is (range_zoned zones i target above first found span.first_range);
+    }
