@@ -1,0 +1,137 @@
+-- Buckets of a series are below their number, and sets of them grow.
+use Rattle.std.proofs.Common.{◌≡◌, ◌∙◌, ℕ, ◌+◌, ◌<◌, ◌≤◌, ◌==◌, nat_lt, Bool, true, false, ◌&&◌, ◌||◌, Option, Some, None, IfSome, List, [], ◌∷◌, ◌++◌, map, take, length, get_or, refl, sym, ap, subst, append-nil, arith}
+use Rattle.std.specs.List.{AllByRecursion, flat_map, zip}
+use Rattle.std.proofs.lemmas.Bool.Decides.{nat_tests}
+use Rattle.std.proofs.lemmas.List.{take_more}
+use Rattle.std.proofs.lemmas.List.Concat.{flat_map-append}
+use Rattle.std.proofs.lemmas.List.Folds.{list_any-append}
+use Rattle.std.proofs.lemmas.Nat.{mod_below}
+use Rattle.mon_hints.proofs.TruthLemmas.{or_turned, or_false}
+use Rattle.mon_hints.specs.BucketSets.{HasNone, IsNext}
+use Rattle.mon_hints.specs.Excerpts.{value_excerpts}
+use Rattle.mon_hints.specs.Fingerprints.{bucket_of, fingerprint_of}
+use Rattle.mon_hints.specs.Hints.{field_buckets, series_buckets, value_buckets}
+use Rattle.mon_hints.specs.Listings.{is_among}
+use Rattle.mon_hints.specs.declared.fingerprints.TheConstants.{MOST_BUCKETS}
+use Rattle.mon_schema.specs.SchemaLists.{SchemaLists}
+use Rattle.mon_value.specs.declared.histories.Entry.{Entry}
+use Rattle.mon_value.specs.declared.rows.Row.{Row}
+use Rattle.mon_value.specs.declared.rows.SeriesKey.{SeriesKey}
+use Rattle.mon_value.specs.declared.schemas.Field.{Field}
+use Rattle.mon_value.specs.declared.schemas.MetricSchema.{MetricSchema}
+use Rattle.mon_value.specs.declared.schemas.TargetSchema.{TargetSchema}
+use Rattle.mon_value.specs.declared.values.FieldValue.{FieldValue}
+use Rattle.leaf_store.specs.LeafBuckets.{history_buckets, key_buckets, rows_brought, rows_buckets}
+use Rattle.leaf_store.specs.within.Raises.{Adds}
+
+-- ---- below their number
+
+abbrev AllBelow : ℕ → List ℕ → Type 0
+AllBelow bound numbers = AllByRecursion (λ n. n < bound) numbers
+
+both_below : (bound : ℕ) (xs ys : List ℕ) → AllBelow bound xs → AllBelow bound ys → AllBelow bound (xs ++ ys)
+both_below bound [] ys first second = second
+both_below bound (x ∷ xs) ys first second = (first.0, both_below bound xs ys first.1 second)
+
+excerpts_below : (buckets : ℕ) (schema field : List ℕ) (excerpts : List (List ℕ)) → 0 < buckets → AllBelow buckets (map (bucket_of buckets schema field) excerpts)
+excerpts_below buckets schema field [] some = tt
+excerpts_below buckets schema field (excerpt ∷ excerpts) some =
+    (mod_below (fingerprint_of schema field excerpt) buckets some, excerpts_below buckets schema field excerpts some)
+
+pairs_below : (buckets : ℕ) (schema : List ℕ) (pairs : List (Field × FieldValue)) → 0 < buckets →
+    AllBelow buckets (flat_map (λ (pair : Field × FieldValue). value_buckets buckets schema pair.0.name pair.1) pairs)
+pairs_below buckets schema [] some = tt
+pairs_below buckets schema (pair ∷ pairs) some =
+    both_below buckets (value_buckets buckets schema pair.0.name pair.1) _ (excerpts_below buckets schema pair.0.name (value_excerpts pair.1) some) (pairs_below buckets schema pairs some)
+
+series_below : (buckets : ℕ) (target : TargetSchema) (metric : MetricSchema) (key : SeriesKey) → 0 < buckets → AllBelow buckets (series_buckets buckets target metric key)
+series_below buckets target metric key some = (
+  mod_below (fingerprint_of key.target.schema [] key.metric) buckets some,
+  both_below buckets (field_buckets buckets key.target.schema target.fields key.target.fields) _
+      (pairs_below buckets key.target.schema (zip target.fields key.target.fields) some)
+      (pairs_below buckets key.target.schema (zip metric.fields key.fields) some),
+)
+
+below_at : (bound n first : ℕ) (rest : Bool) (b : Bool) → (n == first) ≡ b → first < bound → (rest ≡ true → n < bound) → (b || rest) ≡ true → n < bound
+below_at bound n first rest true same here more found = let is : n ≡ first = grind (arith, nat_tests) in omega (arith, is, here)
+below_at bound n first rest false same here more found = more found
+
+among_below : (bound n : ℕ) (numbers : List ℕ) → AllBelow bound numbers → is_among n numbers ≡ true → n < bound
+among_below bound n [] all found = absurd cc
+among_below bound n (first ∷ numbers) all found = below_at bound n first (is_among n numbers) (n == first) refl all.0 (among_below bound n numbers all.1) found
+
+pub bucket_below : (buckets bucket : ℕ) (target : TargetSchema) (metric : MetricSchema) (key : SeriesKey) → 0 < buckets →
+    is_among bucket (series_buckets buckets target metric key) ≡ true → bucket < buckets
+bucket_below buckets bucket target metric key some found = among_below buckets bucket (series_buckets buckets target metric key) (series_below buckets target metric key some) found
+
+pub next_below : (found : Option ℕ) (buckets from : ℕ) (target : TargetSchema) (metric : MetricSchema) (key : SeriesKey) → 0 < buckets → buckets ≤ MOST_BUCKETS
+    → IfSome found (λ next. IsNext (λ bucket. is_among bucket (series_buckets buckets target metric key)) from next) → IfSome found (λ bucket. bucket < MOST_BUCKETS)
+next_below None buckets from target metric key some most least = tt
+next_below (Some next) buckets from target metric key some most least =
+    let below = bucket_below buckets next target metric key some least.among in omega (arith, below, most)
+
+-- ---- sets that grow
+
+pub adds_none : (set : ℕ → Bool) → Adds set set []
+adds_none set bucket = sym (or_false (set bucket))
+
+pub adds_more : (first middle last : ℕ → Bool) (xs ys : List ℕ) → Adds first middle xs → Adds middle last ys → Adds first last (xs ++ ys)
+adds_more first middle last xs ys some more bucket =
+    more bucket ∙ ap (λ b. b || is_among bucket ys) (some bucket)
+    ∙ or_turned (first bucket) (is_among bucket xs) (is_among bucket ys)
+    ∙ ap (λ b. first bucket || b) (sym (list_any-append (λ other. bucket == other) xs ys))
+
+-- the buckets of a series below a number are in the set
+abbrev pub AddsBelow : (ℕ → Bool) → (ℕ → Bool) → List ℕ → ℕ → Type 0
+AddsBelow old new buckets from = (bucket : ℕ) → new bucket ≡ (old bucket || (nat_lt bucket from && is_among bucket buckets))
+
+pub adds_from_none : (set : ℕ → Bool) (buckets : List ℕ) → AddsBelow set set buckets 0
+adds_from_none set buckets bucket =
+    let none : nat_lt bucket 0 ≡ false = grind (arith, nat_tests) in
+    sym (ap (λ b. set bucket || (b && is_among bucket buckets)) none ∙ or_false (set bucket))
+
+one_more : (bucket next from : ℕ) (old among : Bool) (t1 t2 t3 : Bool) → nat_lt bucket from ≡ t1 → (bucket == next) ≡ t2 → nat_lt bucket (next + 1) ≡ t3 →
+    from ≤ next → (bucket ≡ next → among ≡ true) → (from ≤ bucket → bucket < next → among ≡ false) → (t2 || (old || (t1 && among))) ≡ (old || (t3 && among))
+one_more bucket next from old among true true t3 low same high reached here between = absurd (grind (arith, nat_tests))
+one_more bucket next from old among true false true low same high reached here between = refl
+one_more bucket next from old among true false false low same high reached here between = absurd (grind (arith, nat_tests))
+one_more bucket next from true among false true true low same high reached here between = refl
+one_more bucket next from false among false true true low same high reached here between = sym (here (grind (arith, nat_tests)))
+one_more bucket next from old among false true false low same high reached here between = absurd (grind (arith, nat_tests))
+one_more bucket next from old among false false true low same high reached here between =
+    let none : among ≡ false = between (grind (arith, nat_tests)) (grind (arith, nat_tests)) in ap (λ b. old || b) (sym none)
+one_more bucket next from old among false false false low same high reached here between = refl
+
+pub adds_next : (old set new : ℕ → Bool) (buckets : List ℕ) (from next : ℕ) → AddsBelow old set buckets from → IsNext (λ bucket. is_among bucket buckets) from next →
+    new ≡ (λ bucket. (bucket == next) || set bucket) → AddsBelow old new buckets (next + 1)
+adds_next old set new buckets from next adds is added bucket =
+    ap (λ (f : ℕ → Bool). f bucket) added ∙ ap (λ b. (bucket == next) || b) (adds bucket)
+    ∙ one_more bucket next from (old bucket) (is_among bucket buckets) (nat_lt bucket from) (bucket == next) (nat_lt bucket (next + 1)) refl refl refl is.reached
+    (λ same. ap (λ n. is_among n buckets) same ∙ is.among) (is.least bucket)
+
+all_below : (bucket from : ℕ) (old among : Bool) (t : Bool) → nat_lt bucket from ≡ t → (from ≤ bucket → among ≡ false) → (old || (t && among)) ≡ (old || among)
+all_below bucket from old among true below none = refl
+all_below bucket from old among false below none = ap (λ b. old || b) (sym (none (grind (arith, nat_tests))))
+
+pub adds_all : (old set : ℕ → Bool) (buckets : List ℕ) (from : ℕ) → AddsBelow old set buckets from → HasNone (λ bucket. is_among bucket buckets) from → Adds old set buckets
+adds_all old set buckets from adds none bucket = adds bucket ∙ all_below bucket from (old bucket) (is_among bucket buckets) (nat_lt bucket from) refl (none bucket)
+
+-- ---- buckets of rows
+
+pub rows_more : (buckets : ℕ) (held : SchemaLists) (rows : List Row) (row : Row) → rows_buckets buckets held (rows ++ row ∷ []) ≡ rows_buckets buckets held rows ++ key_buckets buckets held row.key
+rows_more buckets held rows row =
+    flat_map-append (λ (row : Row). key_buckets buckets held row.key) rows (row ∷ []) ∙ ap (λ more. rows_buckets buckets held rows ++ more) (append-nil (key_buckets buckets held row.key))
+
+pub history_more : (buckets : ℕ) (held : SchemaLists) (history : List Entry) (last : Entry) →
+    history_buckets buckets held (history ++ last ∷ []) ≡ history_buckets buckets held history ++ rows_buckets buckets held (rows_brought last)
+history_more buckets held history last =
+    ap (rows_buckets buckets held) (flat_map-append rows_brought history (last ∷ []) ∙ ap (λ more. flat_map rows_brought history ++ more) (append-nil (rows_brought last)))
+    ∙ flat_map-append (λ (row : Row). key_buckets buckets held row.key) (flat_map rows_brought history) (rows_brought last)
+
+pub rows_next : (old set new : ℕ → Bool) (buckets : ℕ) (held : SchemaLists) (rows : List Row) (i : ℕ) (row : Row) → i < length rows → row ≡ get_or rows i row
+    → Adds old set (rows_buckets buckets held (take i rows)) → Adds set new (key_buckets buckets held row.key) → Adds old new (rows_buckets buckets held (take (i + 1) rows))
+rows_next old set new buckets held rows i row below is so_far adds =
+    subst (λ (all : List Row). Adds old new (rows_buckets buckets held all))
+    (sym (take_more rows i row below ∙ ap (λ (r : Row). take i rows ++ r ∷ []) (sym is)))
+    (subst (Adds old new) (sym (rows_more buckets held (take i rows) row))
+    (adds_more old set new (rows_buckets buckets held (take i rows)) (key_buckets buckets held row.key) so_far adds))

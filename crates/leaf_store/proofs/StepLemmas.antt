@@ -1,0 +1,171 @@
+-- Entries that are brought to their replicas one by one, and the rows that entries bring.
+use Rattle.std.proofs.Common.{◌≡◌, ◌∙◌, ◌≤◌, ◌<◌, ◌+◌, ◌-◌, nat_lt, ℕ, zero, suc, Bool, true, false, cond, Option, Some, None, IfSome, List, [], ◌∷◌, ◌++◌, length, take, get_or, slice_get, refl, sym, ap, subst, append_assoc, append-nil, arith}
+use Rattle.std.specs.Prelude.{is_some}
+use Rattle.std.proofs.lemmas.Bool.Decides.{nat_tests}
+use Rattle.std.proofs.lemmas.List.{length-append, take-append-le, take_more}
+use Rattle.std.proofs.lemmas.Option.{get_or_from_slice_get, slice_get_within}
+use Rattle.std.proofs.lemmas.List.Concat.{flat_map-append}
+use Rattle.std.proofs.Math.Seq.{take-append-add, take-length}
+use Rattle.mon_series.proofs.SourceEnds.{source_later}
+use Rattle.mon_value.specs.LeafHistories.{IsWellFormed, entry_rows, is_opened, is_switch, replica_rows}
+use Rattle.mon_value.specs.declared.histories.Entry.{Entry}
+use Rattle.mon_value.specs.declared.histories.Entry.TheVariants as entry
+use Rattle.mon_value.specs.declared.positions.Range.{Range}
+use Rattle.mon_value.specs.declared.positions.Slot.{Slot}
+use Rattle.mon_value.specs.declared.rows.Row.{Row}
+use Rattle.leaf_store.specs.LeafStates.{opened_rows}
+use Rattle.leaf_store.specs.declared.kept.Kept.{Kept}
+use Rattle.leaf_store.specs.declared.replicas.Replica.{Replica}
+use Rattle.leaf_store.specs.within.Replicas.{AllThere, CanPut, CanSettle, Holds, HoldsHistory, IsNew, Replicas, Settles, entry_of, shown}
+use Rattle.leaf_store.specs.within.States.{AllSwitches}
+use Rattle.leaf_store.proofs.EntryLemmas.{shown_count, shown_kept, shown_push, shown_take, there_push}
+use Rattle.leaf_store.proofs.HistoryLemmas.{follows, front, rows_push}
+use Rattle.leaf_store.proofs.ReplicaLemmas.{switch_rows}
+
+-- ---- one entry
+
+pub can_settle : (replicas : Replicas) (ks : List Kept) (e : Entry) (rest : List Entry) → Holds replicas ks (e ∷ rest) → CanSettle replicas e
+can_settle replicas ks e rest holds = record {
+  history = shown replicas ks;
+  formed = front (shown replicas ks) (e ∷ rest) holds.formed;
+  holds = holds.holds;
+  follows = follows (shown replicas ks) e rest holds.formed;
+}
+
+pub settled : (old new : Replicas) (ks : List Kept) (own : Kept) (e : Entry) (rest : List Entry) → Holds old ks (e ∷ rest) → Settles old new e own
+    → Holds new (ks ++ own ∷ []) rest × (shown new (ks ++ own ∷ []) ++ rest ≡ shown old ks ++ e ∷ rest)
+settled old new ks own e rest holds settles =
+    let stays = shown_kept old new ks settles.keeps holds.there in
+    let now : shown new (ks ++ own ∷ []) ≡ shown old ks ++ e ∷ [] =
+    shown_push new ks own e settles.own_is ∙ ap (λ (es : List Entry). es ++ e ∷ []) stays.0 in
+    let all : shown new (ks ++ own ∷ []) ++ rest ≡ shown old ks ++ e ∷ rest =
+    ap (λ (es : List Entry). es ++ rest) now ∙ append_assoc (shown old ks) (e ∷ []) rest in (
+      record {
+        there = there_push new ks own e settles.own_is stays.1;
+        formed = subst IsWellFormed (sym all) holds.formed;
+        holds = subst (HoldsHistory new) (sym now)
+            (settles.holds (shown old ks) (front (shown old ks) (e ∷ rest) holds.formed) (follows (shown old ks) e rest holds.formed) holds.holds);
+      },
+      all,
+    )
+
+-- ---- what an entry asks of the replicas
+
+opened_held : (b : Bool) (rows : List Row) → b ≡ true → cond b (Some rows) None ≡ Some rows
+opened_held true rows e = refl
+opened_held false rows e = absurd cc
+
+unopened_held : (b : Bool) (rows : List Row) → b ≡ false → cond b (Some rows) None ≡ None
+unopened_held true rows e = absurd cc
+unopened_held false rows e = refl
+
+pub can_put : (replicas : Replicas) (pass : ℕ) (replica : Replica) (row : Row) → CanSettle replicas (entry.Put pass replica.range replica.slot row)
+    → CanPut replicas replica row
+can_put replicas pass replica row can =
+    let rows = replica_rows replica.range replica.slot can.history in (
+      rows,
+      can.holds replica.range replica.slot ∙ opened_held (is_opened replica.range replica.slot can.history) rows can.follows.1,
+      source_later rows row can.follows.2,
+    )
+
+pub is_new : (replicas : Replicas) (pass : ℕ) (replica : Replica) (rows : List Row) → CanSettle replicas (entry.Opened pass replica.range replica.slot rows)
+    → IsNew replicas replica
+is_new replicas pass replica rows can =
+    can.holds replica.range replica.slot
+    ∙ unopened_held (is_opened replica.range replica.slot can.history) (replica_rows replica.range replica.slot can.history) can.follows.1
+
+-- ---- entries without rows
+
+switch_opens : (range : Range) (slot : Slot) (e : Entry) → is_switch e ≡ true → (is_opened range slot (e ∷ []) ≡ false) × (entry_rows range slot e ≡ [])
+switch_opens range slot (entry.Opened pass other place rows) is = absurd cc
+switch_opens range slot (entry.Put pass other place row) is = absurd cc
+switch_opens range slot (entry.Down pass) is = (refl, refl)
+switch_opens range slot (entry.Up pass) is = (refl, refl)
+
+pub switches_rows : (range : Range) (slot : Slot) (history left : List Entry) → AllSwitches left → opened_rows range slot (history ++ left) ≡ opened_rows range slot history
+switches_rows range slot history [] all = ap (opened_rows range slot) (append-nil history)
+switches_rows range slot history (e ∷ left) all =
+    let none = switch_opens range slot e all.0 in
+    ap (opened_rows range slot) (sym (append_assoc history (e ∷ []) left))
+    ∙ switches_rows range slot (history ++ e ∷ []) left all.1
+    ∙ switch_rows range slot history e none.0 none.1
+
+-- ---- rows of the first so many entries
+
+pub rows_of_cut : (range : Range) (slot : Slot) (first left : List Entry) (cut : ℕ) (b : Bool) → nat_lt cut (length first) ≡ b
+    → replica_rows range slot (take (cond b cut (length first)) first) ++ replica_rows range slot (take (cut - cond b cut (length first)) left)
+    ≡ replica_rows range slot (take cut (first ++ left))
+rows_of_cut range slot first left cut true less =
+    let none : cut - cut ≡ 0 = omega arith in
+    ap (λ n. replica_rows range slot (take cut first) ++ replica_rows range slot (take n left)) none
+    ∙ append-nil (replica_rows range slot (take cut first))
+    ∙ ap (replica_rows range slot) (sym (take-append-le cut first left (grind (arith, nat_tests))))
+rows_of_cut range slot first left cut false less =
+    let long : length first ≤ cut = grind (arith, nat_tests) in
+    let sum : cut ≡ length first + (cut - length first) = omega (arith, long) in
+    ap (λ (es : List Entry). replica_rows range slot es ++ replica_rows range slot (take (cut - length first) left)) (take-length first)
+    ∙ sym (flat_map-append (entry_rows range slot) first (take (cut - length first) left))
+    ∙ ap (replica_rows range slot) (sym (take-append-add first left (cut - length first)))
+    ∙ ap (λ n. replica_rows range slot (take n (first ++ left))) (sym sum)
+
+-- ---- the rows of entries, one entry more
+
+pub brought_more : (range : Range) (slot : Slot) (before rows more : List Row) (es : List Entry) (e : Entry) → rows ≡ before ++ replica_rows range slot es
+    → more ≡ rows ++ entry_rows range slot e → more ≡ before ++ replica_rows range slot (es ++ e ∷ [])
+brought_more range slot before rows more es e so_far added =
+    added ∙ ap (λ (all : List Row). all ++ entry_rows range slot e) so_far
+    ∙ append_assoc before (replica_rows range slot es) (entry_rows range slot e)
+    ∙ ap (λ (all : List Row). before ++ all) (sym (rows_push range slot es e))
+
+kept_by : (range : Range) (slot : Slot) (before rows more : List Row) (replicas : Replicas) (ks : List Kept) (k : Kept) (o : Option Entry) → entry_of replicas k ≡ o
+    → is_some o ≡ true → IfSome o (λ e. more ≡ rows ++ entry_rows range slot e) → rows ≡ before ++ replica_rows range slot (shown replicas ks)
+    → more ≡ before ++ replica_rows range slot (shown replicas (ks ++ k ∷ []))
+kept_by range slot before rows more replicas ks k None is there added so_far = absurd cc
+kept_by range slot before rows more replicas ks k (Some e) is there added so_far =
+    brought_more range slot before rows more (shown replicas ks) e so_far added
+    ∙ ap (λ (es : List Entry). before ++ replica_rows range slot es) (sym (shown_push replicas ks k e is))
+
+pub kept_more : (range : Range) (slot : Slot) (before rows more : List Row) (replicas : Replicas) (ks : List Kept) (k : Kept) → is_some (entry_of replicas k) ≡ true
+    → IfSome (entry_of replicas k) (λ e. more ≡ rows ++ entry_rows range slot e) → rows ≡ before ++ replica_rows range slot (shown replicas ks)
+    → more ≡ before ++ replica_rows range slot (shown replicas (ks ++ k ∷ []))
+kept_more range slot before rows more replicas ks k there added so_far =
+    kept_by range slot before rows more replicas ks k (entry_of replicas k) refl there added so_far
+
+pub there_at : (replicas : Replicas) (ks : List Kept) (i : ℕ) (d : Kept) → AllThere replicas ks → i < length ks → is_some (entry_of replicas (get_or ks i d)) ≡ true
+there_at replicas [] i d there below = absurd (omega arith)
+there_at replicas (k ∷ ks) zero d there below = there.0
+there_at replicas (k ∷ ks) (suc i) d there below = there_at replicas ks i d there.1 (omega arith)
+
+pub kept_next : (range : Range) (slot : Slot) (before rows more : List Row) (replicas : Replicas) (ks : List Kept) (i : ℕ) (d : Kept) → AllThere replicas ks → i < length ks
+    → IfSome (entry_of replicas (get_or ks i d)) (λ e. more ≡ rows ++ entry_rows range slot e) → rows ≡ before ++ replica_rows range slot (shown replicas (take i ks))
+    → more ≡ before ++ replica_rows range slot (shown replicas (take (i + 1) ks))
+kept_next range slot before rows more replicas ks i d there below added so_far =
+    kept_more range slot before rows more replicas (take i ks) (get_or ks i d) (there_at replicas ks i d there below) added so_far
+    ∙ ap (λ (es : List Kept). before ++ replica_rows range slot (shown replicas es)) (sym (take_more ks i d below))
+
+-- a list's first so many and the next one
+pub take_next : (rows : List Row) (n : ℕ) (row : Row) → slice_get rows n ≡ Some row → take (n + 1) rows ≡ take n rows ++ row ∷ []
+take_next rows n row e =
+    take_more rows n row (slice_get_within rows n row e) ∙ ap (λ (r : Row). take n rows ++ r ∷ []) (get_or_from_slice_get rows n row row e)
+
+pub rows_cut : (range : Range) (slot : Slot) (replicas : Replicas) (ks : List Kept) (left : List Entry) (cut : ℕ) → AllThere replicas ks
+    → replica_rows range slot (shown replicas (take (cond (nat_lt cut (length ks)) cut (length ks)) ks))
+    ++ replica_rows range slot (take (cut - cond (nat_lt cut (length ks)) cut (length ks)) left)
+    ≡ replica_rows range slot (take cut (shown replicas ks ++ left))
+rows_cut range slot replicas ks left cut there =
+    let n = cond (nat_lt cut (length ks)) cut (length ks) in
+    ap (λ (es : List Entry). replica_rows range slot es ++ replica_rows range slot (take (cut - n) left)) (shown_take replicas ks n there).0
+    ∙ subst (λ (m : ℕ). replica_rows range slot (take (cond (nat_lt cut m) cut m) (shown replicas ks)) ++ replica_rows range slot (take (cut - cond (nat_lt cut m) cut m) left)
+    ≡ replica_rows range slot (take cut (shown replicas ks ++ left))) (shown_count replicas ks there)
+    (rows_of_cut range slot (shown replicas ks) left cut (nat_lt cut (length (shown replicas ks))) refl)
+
+-- what is left of a cut behind the entries that are kept is among those that are left
+cut_by : (first left cut : ℕ) (b : Bool) → nat_lt cut first ≡ b → cut ≤ first + left → cut - cond b cut first ≤ left
+cut_by first left cut true less within = omega arith
+cut_by first left cut false less within = omega (arith, within)
+
+pub cut_left : (replicas : Replicas) (ks : List Kept) (left : List Entry) (cut : ℕ) → AllThere replicas ks → cut ≤ length (shown replicas ks ++ left)
+    → cut - cond (nat_lt cut (length ks)) cut (length ks) ≤ length left
+cut_left replicas ks left cut there within =
+    let count = length-append (shown replicas ks) left in
+    cut_by (length ks) (length left) cut (nat_lt cut (length ks)) refl (omega (arith, within, count, shown_count replicas ks there))

@@ -1,0 +1,33 @@
+use Rattle.std.proofs.Common.{◌≡◌, ◌∙◌, ◌≤◌, ◌+◌, ◌++◌, List, length, drop, sym, ap, subst}
+use Rattle.std.specs.List.{count_by}
+use Rattle.mon_hints.specs.Listings.{is_among}
+use Rattle.mon_value.specs.LeafHistories.{is_down, is_switch}
+use Rattle.mon_value.specs.declared.histories.Entry.{Entry}
+use Rattle.leaf_store.specs.LeafBuckets.{history_buckets}
+use Rattle.leaf_store.specs.within.Replicas.{Holds, shown}
+use Rattle.leaf_store.specs.within.States.{history_of}
+use Rattle.leaf_store.proofs.StateLemmas.{later_switches}
+use Rattle.leaf_store.proofs.leaf_state.LeafState.settle.Goals as goal
+
+pub invariant_of-self : goal.invariant_of-self
+invariant_of-self c =
+    let leaf = c.self.inside in
+    let replicas = c.settle_entries.new.replicas.entries in
+    let ks = c.settle_entries.new.kept.items in
+    let moved = c.settle_entries.new.moved in
+    let fresh = leaf.fresh.items in
+    let items = c.as_slice.ensures.value in
+    let same : shown replicas ks ++ drop moved fresh ≡ history_of leaf =
+    ap (λ (es : List Entry). shown replicas ks ++ drop moved es) (sym items) ∙ c.settle_entries.ensures.same
+    ∙ ap (λ (es : List Entry). shown leaf.replicas.entries leaf.kept.items ++ drop leaf.moved es) items in
+    record {
+      within = subst (λ (es : List Entry). moved ≤ length es) items c.settle_entries.ensures.within;
+      holds = subst (λ (es : List Entry). Holds replicas ks (drop moved es)) items c.settle_entries.ensures.holds;
+      raised = λ bucket. c.self.invariant.raised bucket ∙ ap (λ (es : List Entry). is_among bucket (history_buckets leaf.buckets leaf.schemas es)) (sym same);
+      down = c.self.invariant.down ∙ ap is_down (sym same);
+      switches = ap (λ (es : List Entry). count_by is_switch es + leaf.switches_left) same ∙ c.self.invariant.switches;
+      waits = λ settled. later_switches fresh leaf.moved moved c.settle_entries.ensures.onward (c.self.invariant.waits settled);
+      room = c.self.invariant.room;
+      some = c.self.invariant.some;
+      most = c.self.invariant.most;
+    }

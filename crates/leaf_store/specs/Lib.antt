@@ -1,0 +1,4 @@
+pub mod LeafBuckets
+pub mod LeafStates
+pub mod MetricNumbers
+pub mod within

@@ -1,0 +1,48 @@
+-- How a leaf's state is kept: its history in two parts, and beside them what is told without going over them.
+use Rattle.std.specs.Prelude.{◌≡◌, ℕ, ◌+◌, ◌<◌, ◌≤◌, true, List, ◌++◌, length, drop, vec_capacity}
+use Rattle.std.specs.List.{AllByRecursion, count_by}
+use Rattle.mon_hints.specs.BucketSets.{is_set}
+use Rattle.mon_hints.specs.Listings.{is_among}
+use Rattle.mon_hints.specs.declared.fingerprints.TheConstants.{MOST_BUCKETS}
+use Rattle.mon_value.specs.LeafHistories.{is_down, is_switch}
+use Rattle.mon_value.specs.declared.histories.Entry.{Entry}
+use Rattle.mon_value.specs.declared.limits.TheConstants.{MOST_SWITCHES}
+use Rattle.leaf_store.specs.LeafBuckets.{history_buckets}
+use Rattle.leaf_store.specs.LeafStates.{LeafView}
+use Rattle.leaf_store.specs.declared.leaf_state.LeafState.TheInside.{Inside}
+use Rattle.leaf_store.specs.within.Replicas.{Holds, shown}
+
+-- the entries that are left, whose rows aren't with the replicas yet
+abbrev pub left_of : Inside → List Entry
+left_of leaf = drop leaf.moved leaf.fresh.items
+
+abbrev pub history_of : Inside → List Entry
+history_of leaf = shown leaf.replicas.entries leaf.kept.items ++ left_of leaf
+
+abbrev pub leaf_view : Inside → LeafView
+leaf_view leaf = record {
+  schemas = leaf.schemas;
+  buckets = leaf.buckets;
+  history = history_of leaf;
+  promised = leaf.promised;
+  settled = leaf.settled;
+}
+
+-- entries without rows
+abbrev pub AllSwitches : List Entry → Type 0
+AllSwitches entries = AllByRecursion (λ entry. is_switch entry ≡ true) entries
+
+-- the rows of what is kept are with the replicas; the set has the history's buckets; whether the leaf is down and how
+-- many switches it may still have are those of the history; a settled leaf has only switches left; and there is room for
+-- what is promised and for the switches to come
+pub record IsKept (leaf : Inside) : Type 0 where
+  pub within : leaf.moved ≤ length leaf.fresh.items
+  pub holds : Holds leaf.replicas.entries leaf.kept.items (left_of leaf)
+  pub raised : (bucket : ℕ) → is_set leaf.raised.words bucket
+      ≡ is_among bucket (history_buckets leaf.buckets leaf.schemas (history_of leaf))
+  pub down : leaf.down ≡ is_down (history_of leaf)
+  pub switches : count_by is_switch (history_of leaf) + leaf.switches_left ≡ MOST_SWITCHES
+  pub waits : leaf.settled ≡ true → AllSwitches (left_of leaf)
+  pub room : length leaf.fresh.items + (leaf.promised + leaf.switches_left) ≤ vec_capacity leaf.fresh
+  pub some : 0 < leaf.buckets
+  pub most : leaf.buckets ≤ MOST_BUCKETS

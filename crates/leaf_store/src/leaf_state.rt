@@ -1,0 +1,263 @@
+// The state of a leaf.
+ghost use Rattle.std.specs.Prelude.{◌≡◌, ◌++◌, ◌∷◌, ◌-◌, ◌<◌, ◌≤◌, ◌+◌, ◌^◌, ◌==◌, Bool, is_some, [], length, take, drop, false, true, not, nat_lt, IfOk, IfSome, IfNone, OnOk, OnErr, IsTrue, if◌then◌else◌};
+ghost use Rattle.std.specs.Option.{option_copied};
+ghost use Rattle.mon_hints.specs.BucketSets.{HasNone, IsNext};
+ghost use Rattle.mon_hints.specs.Listings.{is_among};
+ghost use Rattle.mon_value.specs.LeafHistories.{IsWellFormed, is_down, is_down_after, is_opened, is_switch, replica_rows};
+ghost use Rattle.leaf_store.specs.LeafBuckets.{history_buckets, is_unraised};
+ghost use Rattle.leaf_store.specs.LeafStates.{new_leaf, opened_rows, with_entry, with_promised, with_settled};
+
+use crate::kept::Kept;
+use crate::raised::Raised;
+use crate::replays::{push_all_brought, push_all_kept, settle_entries};
+use crate::replicas::{Replica, Replicas, rows_of};
+use crate::slot_rows::SlotRows;
+use mon_hints::MOST_BUCKETS;
+use mon_schema::Schemas;
+use mon_value::{
+    Entry, Leaf, MOST_SWITCHES, OutOfMemory, Range, Row, RowList, SeriesKey, Slot, TryCopy,
+};
+use std::alloc::Global;
+use std::marker::Model;
+
+/// The state of a leaf: what it is after its history. Entries come in room that was made for them; those with rows are
+/// moved into the series of their replicas by `settle`.
+#[derive(Drop)]
+pub struct LeafState {
+    alloc: Global,
+    schemas: Schemas,
+    buckets: u32,
+    replicas: Replicas,
+    kept: Vec<Kept>,
+    fresh: Vec<Entry>,
+    moved: usize,
+    settled: bool,
+    raised: Raised,
+    down: bool,
+    switches_left: usize,
+    promised: usize,
+}
+
+impl Model for LeafState {
+    ghost use Rattle.leaf_store.specs.LeafStates.{LeafView};
+
+    ghost Value = { LeafView };
+
+    ghost use Rattle.leaf_store.specs.within.States.{IsKept, leaf_view};
+
+    ghost view = { leaf_view };
+
+    ghost invariant = { IsKept };
+}
+
+impl LeafState {
+    /// The state of a leaf to which nothing happened so far, with room for all its switches. It keeps a copy of the
+    /// schemas, by which it counts the buckets of its series.
+    pub fn new(
+        alloc: Global,
+        _leaf: Leaf,
+        buckets: u32,
+        schemas: &Schemas,
+    ) -> Result<LeafState, OutOfMemory>
+        requires some { 0 < buckets }
+        requires most { buckets ≤ MOST_BUCKETS }
+        ensures empty { IfOk result (λ leaf. leaf ≡ new_leaf schemas.now buckets) }
+    {
+        Ok(LeafState {
+            alloc,
+            schemas: schemas.copy(alloc)?,
+            buckets,
+            replicas: Replicas::new(alloc),
+            kept: Vec::new(alloc),
+            fresh: Vec::with_capacity(alloc, MOST_SWITCHES as usize)?,
+            moved: 0,
+            settled: true,
+            raised: Raised::new(),
+            down: false,
+            switches_left: MOST_SWITCHES as usize,
+            promised: 0,
+        })
+    }
+
+    /// Promises the place of one entry for a row of a replica. Where memory runs out nothing changes.
+    pub fn reserve(&mut self, range: Range, slot: Slot, _row: &Row) -> Result<(), OutOfMemory>
+        requires opened { is_opened range slot self.old.history ≡ true }
+        ensures promised { OnOk result (self.new ≡ with_promised self.old (self.old.promised + 1)) }
+        ensures kept { OnErr result (self.new ≡ self.old) }
+    {
+        self.promise()
+    }
+
+    /// Promises the place of one entry by which a replica begins with some rows. Where memory runs out nothing changes.
+    pub fn reserve_opened(&mut self, _rows: &RowList) -> Result<(), OutOfMemory>
+        ensures promised { OnOk result (self.new ≡ with_promised self.old (self.old.promised + 1)) }
+        ensures kept { OnErr result (self.new ≡ self.old) }
+    {
+        self.promise()
+    }
+
+    // Promises the place of one entry more, beside those of the switches that may still come.
+    fn promise(&mut self) -> Result<(), OutOfMemory>
+        ensures promised { OnOk result (self.new ≡ with_promised self.old (self.old.promised + 1)) }
+        ensures kept { OnErr result (self.new ≡ self.old) }
+    {
+        self.fresh.reserve(self.promised + self.switches_left + 1)?;
+        self.promised += 1;
+        Ok(())
+    }
+
+    /// Takes a promise back.
+    pub fn cancel(&mut self)
+        requires promised { 1 ≤ self.old.promised }
+        ensures cancelled { self.new ≡ with_promised self.old (self.old.promised - 1) }
+    {
+        self.promised -= 1;
+    }
+
+    /// Whether the leaf is down.
+    pub fn down(&self) -> bool
+        ensures down { result ≡ is_down self.now.history }
+    {
+        self.down
+    }
+
+    /// How many entries the history has.
+    pub fn length(&self) -> u64
+        ensures length { result ≡ length self.now.history }
+    {
+        (self.kept.len() + (self.fresh.len() - self.moved)) as u64
+    }
+
+    /// Whether a series of the history has a bucket.
+    pub fn has(&self, bucket: u32) -> bool
+        ensures has { result ≡ is_among bucket (history_buckets self.now.buckets self.now.schemas self.now.history) }
+    {
+        self.raised.has(bucket)
+    }
+
+    /// The rows of a replica: none exactly where it was never opened here.
+    pub fn slot(&self, range: Range, slot: Slot) -> Option<&SlotRows>
+        requires settled { IsTrue self.now.settled }
+        ensures rows { option_copied result ≡ opened_rows range slot self.now.history }
+    {
+        rows_of(&self.replicas, Replica { range, slot })
+    }
+
+    /// Appends an entry. One with rows takes the place that was promised; a switch has its place since `new`. No memory is
+    /// taken.
+    pub fn apply(&mut self, entry: Entry)
+        requires follows { IsWellFormed (self.old.history ++ entry ∷ []) }
+        requires promised { is_switch entry ≡ false → 1 ≤ self.old.promised }
+        ensures applied { self.new ≡ with_entry self.old entry }
+    {
+        match switch_of(&entry) {
+            Some(down) => {
+                self.down = down;
+                self.switches_left -= 1;
+                self.fresh.push_reserved(entry);
+            }
+            None => {
+                self.raised.add_entry(&self.schemas, self.buckets, &entry);
+                self.promised -= 1;
+                self.settled = false;
+                self.fresh.push_reserved(entry);
+            }
+        }
+    }
+
+    /// Moves the rows of every entry that was applied into the series of their replicas. Where memory runs out the state is
+    /// as before.
+    pub fn settle(&mut self) -> Result<(), OutOfMemory>
+        ensures settled { OnOk result (self.new ≡ with_settled self.old) }
+        ensures kept { OnErr result (self.new ≡ self.old) }
+    {
+        settle_entries(
+            self.alloc,
+            &mut self.replicas,
+            &mut self.kept,
+            self.fresh.as_slice(),
+            &mut self.moved,
+        )?;
+        self.fresh.clear();
+        self.moved = 0;
+        self.settled = true;
+        Ok(())
+    }
+
+    /// The least bucket of a series, at or above a number, that no series of the history has. No memory is taken.
+    pub fn next_unraised(&self, key: &SeriesKey, from: u32) -> Option<u32>
+        ensures least { IfSome result (λ next.
+            IsNext (is_unraised self.now.buckets self.now.schemas self.now.history key.now) from next) }
+        ensures none { IfNone result
+            (HasNone (is_unraised self.now.buckets self.now.schemas self.now.history key.now) from) }
+    {
+        let Some(target) = self.schemas.target(key.target.schema.as_bytes()) else {
+            return None;
+        };
+        let Some(metric) = self.schemas.metric(key.metric.as_bytes()) else {
+            return None;
+        };
+        self.raised
+            .next_left(key, target, metric, self.buckets, from)
+    }
+
+    /// The rows of a replica in the first so many entries.
+    pub fn rows_at(&self, range: Range, slot: Slot, cut: u64) -> Result<RowList, OutOfMemory>
+        requires within { cut ≤ length self.now.history }
+        ensures rows { IfOk result (λ rows. rows ≡ replica_rows range slot (take cut self.now.history)) }
+    {
+        let replica = Replica { range, slot };
+        let kept = first_of(cut as usize, self.kept.len());
+        let left = behind(self.fresh.as_slice(), self.moved);
+        let mut rows = RowList::new(self.alloc);
+        push_all_kept(
+            self.alloc,
+            &mut rows,
+            &self.replicas,
+            replica,
+            &self.kept[..kept],
+        )?;
+        push_all_brought(
+            self.alloc,
+            &mut rows,
+            replica,
+            in_front(left, cut as usize - kept),
+        )?;
+        Ok(rows)
+    }
+}
+
+// The entries behind the first so many.
+fn behind(entries: &[Entry], count: usize) -> &[Entry]
+    requires within { count ≤ length entries.now }
+    ensures behind { result.now ≡ drop count entries.now }
+{
+    &entries[count..]
+}
+
+// The first so many entries.
+fn in_front(entries: &[Entry], count: usize) -> &[Entry]
+    requires within { count ≤ length entries.now }
+    ensures front { result.now ≡ take count entries.now }
+{
+    &entries[..count]
+}
+
+// The lesser of two numbers.
+fn first_of(number: usize, other: usize) -> usize
+    ensures { result ≡ (if nat_lt number other then number else other) }
+{
+    if number < other { number } else { other }
+}
+
+// Whether an entry says that the leaf went down, or that it came up.
+fn switch_of(entry: &Entry) -> Option<bool>
+    ensures switch { is_some result ≡ is_switch entry.now }
+    ensures down { IfSome result (λ down. (before : Bool) → is_down_after before (entry.now ∷ []) ≡ down) }
+{
+    match entry {
+        Entry::Down { .. } => Some(true),
+        Entry::Up { .. } => Some(false),
+        Entry::Opened { .. } | Entry::Put { .. } => None,
+    }
+}

@@ -1,0 +1,169 @@
+// How the entries of a history reach replicas, and what they brought to one.
+ghost use Rattle.std.specs.Prelude.{◌≡◌, ◌≤◌, ◌++◌, length, drop, take, is_some, IfSome, OnOk, true};
+ghost use Rattle.mon_value.specs.LeafHistories.{entry_rows, replica_rows};
+ghost use Rattle.leaf_store.specs.within.Replicas.{AllThere, Holds, SameHistory, entry_of, shown};
+
+use crate::kept::Kept;
+use crate::replicas::{Replica, Replicas, is_same, own_rows, settle_entry};
+use crate::slot_rows::SlotRows;
+use mon_value::{Entry, OutOfMemory, Row, RowList, TryCopy};
+use std::alloc::Global;
+
+/// Brings the rows of the entries from `moved` on to their replicas, and counts on. Where memory runs out, those that
+/// were brought stay there.
+pub(crate) fn settle_entries(
+    alloc: Global,
+    replicas: &mut Replicas,
+    kept: &mut Vec<Kept>,
+    fresh: &[Entry],
+    moved: &mut usize,
+) -> Result<(), OutOfMemory>
+    requires within { moved.old ≤ length fresh.now }
+    requires holds { Holds replicas.old.entries kept.old.items (drop moved.old fresh.now) }
+    ensures within { moved.new ≤ length fresh.now }
+    ensures onward { moved.old ≤ moved.new }
+    ensures holds { Holds replicas.new.entries kept.new.items (drop moved.new fresh.now) }
+    ensures same { SameHistory replicas.old.entries kept.old.items (drop moved.old fresh.now)
+        replicas.new.entries kept.new.items (drop moved.new fresh.now) }
+    ensures done { OnOk result (moved.new ≡ length fresh.now) }
+{
+    while *moved < fresh.len() {
+        kept.reserve(1)?;
+        let own = settle_entry(alloc, replicas, &fresh[*moved])?;
+        kept.push_reserved(own);
+        *moved += 1;
+    }
+    Ok(())
+}
+
+/// Adds copies of the rows that kept entries brought to a replica.
+pub(crate) fn push_all_kept(
+    alloc: Global,
+    rows: &mut RowList,
+    replicas: &Replicas,
+    replica: Replica,
+    kept: &[Kept],
+) -> Result<(), OutOfMemory>
+    requires there { AllThere replicas.now.entries kept.now }
+    ensures added { OnOk result (rows.new
+        ≡ rows.old ++ replica_rows replica.range replica.slot (shown replicas.now.entries kept.now)) }
+{
+    for entry in kept {
+        push_kept(alloc, rows, replicas, replica, *entry)?;
+    }
+    Ok(())
+}
+
+// Adds copies of the rows that a kept entry brought to a replica.
+fn push_kept(
+    alloc: Global,
+    rows: &mut RowList,
+    replicas: &Replicas,
+    replica: Replica,
+    kept: Kept,
+) -> Result<(), OutOfMemory>
+    requires there { is_some (entry_of replicas.now.entries kept) ≡ true }
+    ensures added { OnOk result (IfSome (entry_of replicas.now.entries kept)
+        (λ entry. rows.new ≡ rows.old ++ entry_rows replica.range replica.slot entry)) }
+{
+    match kept {
+        Kept::Opened {
+            replica: number,
+            count,
+            ..
+        } => match own_rows(replicas, number, replica) {
+            Some(slot) => push_front(alloc, rows, slot, count as usize),
+            None => Ok(()),
+        },
+        Kept::Put {
+            replica: number,
+            row,
+            ..
+        } => match own_rows(replicas, number, replica) {
+            Some(slot) => rows.push(slot.row(alloc, row as usize)?),
+            None => Ok(()),
+        },
+        Kept::Down { .. } | Kept::Up { .. } => Ok(()),
+    }
+}
+
+// Adds copies of the first so many rows of a replica.
+fn push_front(
+    alloc: Global,
+    rows: &mut RowList,
+    slot: &SlotRows,
+    count: usize,
+) -> Result<(), OutOfMemory>
+    requires within { count ≤ length slot.now }
+    ensures added { OnOk result (rows.new ≡ rows.old ++ take count slot.now) }
+{
+    let mut number = 0;
+    while number < count {
+        rows.push(slot.row(alloc, number)?)?;
+        number += 1;
+    }
+    Ok(())
+}
+
+/// Adds copies of the rows that entries bring to a replica.
+pub(crate) fn push_all_brought(
+    alloc: Global,
+    rows: &mut RowList,
+    replica: Replica,
+    entries: &[Entry],
+) -> Result<(), OutOfMemory>
+    ensures added { OnOk result (rows.new ≡ rows.old ++ replica_rows replica.range replica.slot entries.now) }
+{
+    for entry in entries {
+        push_brought(alloc, rows, replica, entry)?;
+    }
+    Ok(())
+}
+
+// Adds copies of the rows that an entry brings to a replica.
+fn push_brought(
+    alloc: Global,
+    rows: &mut RowList,
+    replica: Replica,
+    entry: &Entry,
+) -> Result<(), OutOfMemory>
+    ensures added { OnOk result (rows.new ≡ rows.old ++ entry_rows replica.range replica.slot entry.now) }
+{
+    match entry {
+        Entry::Opened {
+            range,
+            slot,
+            rows: taken,
+            ..
+        } if is_same(
+            replica,
+            Replica {
+                range: *range,
+                slot: *slot,
+            },
+        ) => { push_copies(alloc, rows, taken.as_slice()) }
+        Entry::Put {
+            range,
+            slot,
+            row,
+            ..
+        } if is_same(
+            replica,
+            Replica {
+                range: *range,
+                slot: *slot,
+            },
+        ) => { rows.push(row.copy(alloc)?) }
+        _ => Ok(()),
+    }
+}
+
+// Adds copies of rows.
+fn push_copies(alloc: Global, rows: &mut RowList, taken: &[Row]) -> Result<(), OutOfMemory>
+    ensures added { OnOk result (rows.new ≡ rows.old ++ taken.now) }
+{
+    for row in taken {
+        rows.push(row.copy(alloc)?)?;
+    }
+    Ok(())
+}

@@ -1,0 +1,159 @@
+// The replicas that a leaf keeps, and entries whose rows go to them.
+ghost use Rattle.std.specs.Prelude.{◌≡◌, ◌++◌, ◌∷◌, ◌<ℤ◌, [], length, slice_get, IfOk, IfSome, OnErr, OnOk};
+ghost use Rattle.std.specs.Option.{option_copied};
+ghost use Rattle.mon_value.specs.LeafHistories.{same_replica};
+ghost use Rattle.mon_value.specs.Sources.{IsSource, last_end, points_of};
+ghost use Rattle.leaf_store.specs.within.Replicas.{CanPut, CanSettle, IsNew, IsOpened, IsPut, Settles, rows_held, rows_if};
+
+use crate::kept::Kept;
+use crate::slot_rows::SlotRows;
+use indexmap::IndexMap;
+use mon_value::{Entry, OutOfMemory, Range, Row, Slot, TryCopy};
+use std::alloc::{AllocError, Global};
+
+/// A replica of a range: what its rows are found by.
+#[derive(Clone, Copy, PartialEq, Eq, Hash)]
+pub(crate) struct Replica {
+    pub(crate) range: Range,
+    pub(crate) slot: Slot,
+}
+
+/// Whether two replicas are the same one.
+pub(crate) fn is_same(replica: Replica, other: Replica) -> bool
+    ensures same { result ≡ same_replica replica.range replica.slot other.range other.slot }
+{
+    replica.range == other.range && replica.slot == other.slot
+}
+
+/// Replicas with their rows, in the order in which they were opened.
+pub(crate) type Replicas = IndexMap<Replica, SlotRows>;
+
+/// The rows of a replica.
+pub(crate) fn rows_of(replicas: &Replicas, replica: Replica) -> Option<&SlotRows>
+    ensures found { option_copied result ≡ rows_held replicas.now.entries replica.range replica.slot }
+{
+    replicas.get(&replica)
+}
+
+/// The rows of the replica of a number, where it is a certain one.
+pub(crate) fn own_rows(replicas: &Replicas, number: u32, replica: Replica) -> Option<&SlotRows>
+    ensures own { option_copied result
+        ≡ rows_if replica.range replica.slot (slice_get replicas.now.entries number) }
+{
+    match replicas.get_index(number as usize) {
+        Some((own, rows)) if is_same(replica, *own) => Some(rows),
+        _ => None,
+    }
+}
+
+/// Brings copies of an entry's rows to its replica, and gives the entry as it is kept then. Where memory runs out the
+/// replicas stay.
+pub(crate) fn settle_entry(
+    alloc: Global,
+    replicas: &mut Replicas,
+    entry: &Entry,
+) -> Result<Kept, OutOfMemory>
+    requires settles { CanSettle replicas.old.entries entry.now }
+    ensures settled { IfOk result (λ kept. Settles replicas.old.entries replicas.new.entries entry.now kept) }
+    ensures stayed { OnErr result (replicas.new.entries ≡ replicas.old.entries) }
+{
+    match entry {
+        Entry::Opened {
+            pass,
+            range,
+            slot,
+            rows,
+        } => {
+            let replica = Replica {
+                range: *range,
+                slot: *slot,
+            };
+            let (number, count) = open(alloc, replicas, replica, rows.as_slice())?;
+            Ok(Kept::Opened {
+                pass: *pass,
+                replica: number,
+                count,
+            })
+        }
+        Entry::Put {
+            pass,
+            range,
+            slot,
+            row,
+        } => {
+            let replica = Replica {
+                range: *range,
+                slot: *slot,
+            };
+            let (number, place) = put(alloc, replicas, replica, row)?;
+            Ok(Kept::Put {
+                pass: *pass,
+                replica: number,
+                row: place,
+            })
+        }
+        Entry::Down { pass } => Ok(Kept::Down { pass: *pass }),
+        Entry::Up { pass } => Ok(Kept::Up { pass: *pass }),
+    }
+}
+
+// Adds a replica with copies of the rows that it takes over, and gives its number and that of its rows.
+fn open(
+    alloc: Global,
+    replicas: &mut Replicas,
+    replica: Replica,
+    rows: &[Row],
+) -> Result<(u32, u32), OutOfMemory>
+    requires source { IsSource rows.now }
+    requires fresh { IsNew replicas.old.entries replica }
+    ensures opened { IfOk result (λ at. IsOpened replicas.old.entries replicas.new.entries replica rows.now at.0 at.1) }
+    ensures stayed { OnErr result (replicas.new.entries ≡ replicas.old.entries) }
+{
+    let Ok(number) = u32::try_from(replicas.len()) else {
+        return Err(AllocError);
+    };
+    let Ok(count) = u32::try_from(rows.len()) else {
+        return Err(AllocError);
+    };
+    let taken = SlotRows::of_rows(alloc, rows)?;
+    replicas.insert(replica, taken)?;
+    Ok((number, count))
+}
+
+// Adds a copy of a row to a replica's rows, and gives the replica's number and the row's.
+fn put(
+    alloc: Global,
+    replicas: &mut Replicas,
+    replica: Replica,
+    row: &Row,
+) -> Result<(u32, u32), OutOfMemory>
+    requires later { CanPut replicas.old.entries replica row.now }
+    ensures put { IfOk result (λ at. IsPut replicas.old.entries replicas.new.entries replica row.now at.0 at.1) }
+    ensures stayed { OnErr result (replicas.new.entries ≡ replicas.old.entries) }
+{
+    let Some(at) = replicas.get_index_of(&replica) else {
+        unreachable!();
+    };
+    let Ok(number) = u32::try_from(at) else {
+        return Err(AllocError);
+    };
+    let Some(slot) = replicas.get_index_mut(at) else {
+        unreachable!();
+    };
+    let place = put_in(alloc, slot, row)?;
+    Ok((number, place))
+}
+
+// Adds a copy of a row to the rows of a replica, and gives its number.
+fn put_in(alloc: Global, slot: &mut SlotRows, row: &Row) -> Result<u32, OutOfMemory>
+    requires later { IfSome (last_end (points_of row.now.key slot.old)) (λ last. last <ℤ row.now.point.end) }
+    ensures place { IfOk result (λ place. place ≡ length slot.old) }
+    ensures pushed { OnOk result (slot.new ≡ slot.old ++ row.now ∷ []) }
+    ensures kept { OnErr result (slot.new ≡ slot.old) }
+{
+    let Ok(place) = u32::try_from(slot.rows().len()) else {
+        return Err(AllocError);
+    };
+    slot.push(row.copy(alloc)?)?;
+    Ok(place)
+}
