@@ -1,0 +1,327 @@
+-- The events of a write inside a leaf: buckets are raised, and the row is put.
+use Rattle.std.proofs.Common.{◌≡◌, ◌≢◌, ℕ, ◌<◌, Bool, true, false, ◌||◌, ◌&&◌, cond, Some, None, List, [], ◌∷◌, ◌++◌, length, get_or, map, refl, sym, ap, ap₂, subst, ◌∙◌, append-nil, inl, inr}
+use Rattle.std.specs.Prelude.{nat_eq, Contains}
+use Rattle.std.specs.List.{AllByRecursion as All}
+use Rattle.std.proofs.lemmas.Bool.{and_from, and_right, cases_lt, eq-eqb, ne_eqb, or_cases, or_left, or_right}
+use Rattle.std.proofs.lemmas.List.{get_or_past, map-append}
+use Rattle.std.proofs.lemmas.List.Elements.{Contains-push}
+use Rattle.mon_hints.specs.Listings.{is_among}
+use Rattle.mon_value.specs.LeafHistories as leaf_spec
+use Rattle.mon_value.specs.LeafHistories.{entry_rows, is_opened, replica_rows}
+use Rattle.mon_value.specs.Sources.{IsSource}
+use Rattle.mon_value.specs.declared.histories.Entry.{Entry}
+use Rattle.mon_value.specs.declared.histories.Entry.TheVariants as entry
+use Rattle.mon_value.specs.declared.positions.Leaf.{Leaf}
+use Rattle.mon_value.specs.declared.positions.Range.{Range}
+use Rattle.mon_value.specs.declared.positions.Slot.{Slot}
+use Rattle.mon_value.specs.declared.rows.Row.{Row}
+use Rattle.mon_topo.specs.RangeHistories.{acked}
+use Rattle.write_core.specs.Covers.{Bits, Covers}
+use Rattle.write_core.specs.HistoryBuckets.{history_buckets}
+use Rattle.write_core.specs.Invariant.{IsEntering, IsGoing, IsInside, IsKept, IsMark, rows_after}
+use Rattle.write_core.specs.Marks.{marked, replica_of}
+use Rattle.write_core.specs.Program.{Inside, Stage, entering}
+use Rattle.write_core.specs.Rounds.{Round, looked}
+use Rattle.write_core.specs.Steps.{put_of}
+use Rattle.write_core.specs.Views.{AreKept, IsWithin, Setting, View, of_leaf, of_range, with_bit, with_entry, with_root_bit, with_zone_bit, zone_of_leaf}
+use Rattle.write_core.specs.World.{World, Writer, at_leaf, gone_on}
+use Rattle.write_core.specs.declared.marks.Fate.TheVariants as fate
+use Rattle.write_core.specs.declared.marks.Mark.{Mark}
+use Rattle.write_core.proofs.ChangeLemmas.{entry_by, entry_other, entry_same, entry_sound, entry_up, entry_within, kept_bit}
+use Rattle.write_core.proofs.FrontLemmas.{begins_same}
+use Rattle.write_core.proofs.HistoryLemmas.{put_elsewhere, replica_rows-push}
+use Rattle.write_core.proofs.KeepsLemmas.{changed_same, going_with, mark_moves, opened_moves}
+use Rattle.write_core.proofs.LeafEventLemmas.{base, base_range, base_sound, base_up, base_whole, base_within, decided, root_bit, root_going, zone_bit, zone_going}
+use Rattle.write_core.proofs.RangeLemmas.{AreApart, all_append, all_back, all_front, apart_around, numbered}
+use Rattle.write_core.proofs.StageLemmas.{at_entering, mark_here, remarked_replicas, untaken_ready}
+use Rattle.write_core.proofs.StepLemmas.{IsStep, ChangesLeaf, leaf_step}
+use Rattle.write_core.proofs.ViewLemmas.{within_through}
+
+-- ---- small facts
+
+-- a leaf with an opened replica is there
+opened_there : (leaves : List (List Entry)) (n : ℕ) (r : Range) (s : Slot) → is_opened r s (get_or leaves n []) ≡ true
+    → n < length leaves
+opened_there leaves n r s h =
+    elim (cases_lt n (length leaves)) [
+      | inl here ↦ here
+      | inr past ↦ absurd (nothing (sym (ap (is_opened r s) (get_or_past leaves n [] past)) ∙ h))
+    ]
+  where
+    nothing : false ≡ true → ⊥
+    nothing e = cc
+
+-- a row of another slot brings none
+put_other_slot : (r : Range) (s place : Slot) (pass : ℕ) (row : Row) → s.0 ≢ place.0
+    → entry_rows r s (entry.Put pass r place row) ≡ []
+put_other_slot r s place pass row apart = ap (λ b. cond b (row ∷ []) [])
+    (and_right (nat_eq r.0 r.0) (nat_eq s.0 place.0) (ne_eqb s.0 place.0 apart))
+
+put_own : (r : Range) (s : Slot) (pass : ℕ) (row : Row) → entry_rows r s (entry.Put pass r s row) ≡ row ∷ []
+put_own r s pass row = ap (λ b. cond b (row ∷ []) [])
+    (and_from (nat_eq r.0 r.0) (nat_eq s.0 s.0) (eq-eqb r.0 r.0 refl) (eq-eqb s.0 s.0 refl))
+
+all_unmap : {X Y : Type 0} (f : X → Y) (P : Y → Type 0) (xs : List X) → All P (map f xs) → All (λ x. P (f x)) xs
+all_unmap f P [] h = tt
+all_unmap f P (x ∷ xs) h = (h.0, all_unmap f P xs h.1)
+
+all_both : {X : Type 0} (P Q R : X → Type 0) → ((x : X) → P x → Q x → R x) → (xs : List X) → All P xs → All Q xs
+    → All R xs
+all_both P Q R f [] h k = tt
+all_both P Q R f (x ∷ xs) h k = (f x h.0 k.0, all_both P Q R f xs h.1 k.1)
+
+-- what was known or to be raised still is, where one bucket was raised
+raised_more : (before after : ℕ → ℕ → Bool) (place bucket n : ℕ) (left : List ℕ) → AreKept before after
+    → (before place n || is_among n (bucket ∷ left)) ≡ true
+    → (with_bit after place bucket place n || is_among n left) ≡ true
+raised_more before after place bucket n left kept h =
+    elim (or_cases (before place n) (is_among n (bucket ∷ left)) h) [
+      | inl known ↦ or_left (with_bit after place bucket place n) (is_among n left)
+          (kept_bit after place bucket place n (kept place n known))
+      | inr there ↦ elim (or_cases (nat_eq n bucket) (is_among n left) there) [
+        | inl same ↦ or_left (with_bit after place bucket place n) (is_among n left)
+            (or_left (nat_eq place place && nat_eq n bucket) (after place n)
+            (and_from (nat_eq place place) (nat_eq n bucket) (eq-eqb place place refl) same))
+        | inr later ↦ or_right (with_bit after place bucket place n) (is_among n left) later
+      ]
+    ]
+
+raised_still : (before after : ℕ → ℕ → Bool) (place n : ℕ) (left : List ℕ) → AreKept before after
+    → (before place n || is_among n left) ≡ true → (after place n || is_among n left) ≡ true
+raised_still before after place n left kept h =
+    elim (or_cases (before place n) (is_among n left) h) [
+      | inl known ↦ or_left (after place n) (is_among n left) (kept place n known)
+      | inr there ↦ or_right (after place n) (is_among n left) there
+    ]
+
+raised_all : (before after : ℕ → ℕ → Bool) (place n : ℕ) → AreKept before after
+    → (before place n || is_among n []) ≡ true → after place n ≡ true
+raised_all before after place n kept h =
+    elim (or_cases (before place n) false h) [ inl known ↦ kept place n known | inr there ↦ absurd (nothing there) ]
+  where
+    nothing : false ≡ true → ⊥
+    nothing e = cc
+
+module _ (setting : Setting) (world : World) (i : ℕ) (kept : IsKept setting world) (done left : List Mark) (mark : Mark)
+    (at : IsEntering world i setting (world.writers i) (record { done = done; left = mark ∷ left })) where
+  abbrev round : Round
+  round = record { done = done; left = mark ∷ left }
+
+  abbrev who : Writer
+  who = world.writers i
+
+  abbrev l : Leaf
+  l = mark.leaf
+
+  abbrev met : View
+  met = base setting world i kept l
+
+  up : IsWithin who.view met
+  up = base_up setting world i kept l
+
+  -- ---- a bucket is raised
+
+  pub raise_root : (bucket : ℕ) (at_root in_zone : List ℕ) → IsInside setting world i who l (bucket ∷ at_root) in_zone
+      → IsStep setting world (at_leaf world i l (with_root_bit (zone_of_leaf setting l) bucket) (Some i)
+      (Inside round at_root in_zone))
+  raise_root bucket at_root in_zone inside =
+      let zone = zone_of_leaf setting l in
+      let stage = Inside round at_root in_zone in
+      leaf_step setting world i l (with_root_bit zone bucket) (Some i) stage kept
+      (root_bit setting world i kept l zone bucket) (inr inside.holder) (
+        record {
+          going = root_going setting world i kept l (Some i) stage (done ++ mark ∷ left) at.going zone
+              bucket;
+          done = at.done;
+          left = at.left;
+          ready = at.ready;
+        },
+        record {
+          holder = changed_same world.leaf_holder l.0 (Some i);
+          whole = base_whole setting world i kept l;
+          up = inside.up;
+          root = λ n its. raised_more who.view.bits.root met.bits.root zone.0 bucket n at_root up.root
+              (inside.root n its);
+          zone = λ n its. raised_still who.view.bits.zone met.bits.zone l.0 n in_zone up.zone (inside.zone n its);
+        },
+      )
+
+  pub raise_zone : (bucket : ℕ) (in_zone : List ℕ) → IsInside setting world i who l [] (bucket ∷ in_zone)
+      → IsStep setting world (at_leaf world i l (with_zone_bit l bucket) (Some i) (Inside round [] in_zone))
+  raise_zone bucket in_zone inside =
+      let zone = zone_of_leaf setting l in
+      let stage = Inside round [] in_zone in
+      leaf_step setting world i l (with_zone_bit l bucket) (Some i) stage kept
+      (zone_bit setting world i kept l bucket) (inr inside.holder) (
+        record {
+          going = zone_going setting world i kept l (Some i) stage (done ++ mark ∷ left) at.going bucket;
+          done = at.done;
+          left = at.left;
+          ready = at.ready;
+        },
+        record {
+          holder = changed_same world.leaf_holder l.0 (Some i);
+          whole = base_whole setting world i kept l;
+          up = inside.up;
+          root = λ n its. raised_still who.view.bits.root met.bits.root zone.0 n [] up.root (inside.root n its);
+          zone = λ n its. raised_more who.view.bits.zone met.bits.zone l.0 bucket n in_zone up.zone
+              (inside.zone n its);
+        },
+      )
+
+  -- ---- the row is put
+
+  module _ (inside : IsInside setting world i who l [] []) where
+    abbrev r : Range
+    r = who.range
+
+    abbrev s : Slot
+    s = mark.slot
+
+    abbrev e : Entry
+    e = put_of who mark
+
+    here : IsMark world who mark
+    here = mark_here setting world i who done left mark at.going
+
+    rows_now : replica_rows r s (of_leaf world.truth l) ≡ acked (of_range world.truth r)
+    rows_now = here.has.all ∙ ap (λ b. cond b (rows_after world who) (acked (of_range world.truth r)))
+        (untaken_ready mark.fate at.ready)
+
+    in_truth : l.0 < length world.truth.seen.leaves
+    in_truth = opened_there world.truth.seen.leaves l.0 r s here.has.opened
+
+    in_met : l.0 < length met.seen.leaves
+    in_met = subst (λ (n : ℕ). l.0 < n)
+        (kept.truth.held.all_leaves ∙ sym (base_sound setting world i kept l).held.all_leaves) in_truth
+
+    may_truth : leaf_spec.MayFollow (of_leaf world.truth l) e
+    may_truth = (
+      inside.up,
+      here.has.opened,
+      subst (λ (rows : List Row). IsSource (rows ++ who.row ∷ []))
+          (sym rows_now) at.going.source,
+    )
+
+    may_met : leaf_spec.MayFollow (of_leaf met l) e
+    may_met = subst (λ (history : List Entry). leaf_spec.MayFollow history e)
+        (sym (base_whole setting world i kept l)) may_truth
+
+    covers_in : (bits : Bits) → AreKept who.view.bits.root bits.root → AreKept who.view.bits.zone bits.zone
+        → Covers bits (zone_of_leaf setting l) l (history_buckets setting.buckets_of (e ∷ []))
+    covers_in bits root zone bucket there =
+        let its : is_among bucket (setting.buckets_of who.row.key) ≡ true = ap (is_among bucket)
+        (sym (append-nil (setting.buckets_of who.row.key))) ∙ there in
+        record {
+          at_root = raised_all who.view.bits.root bits.root (zone_of_leaf setting l).0 bucket root
+              (inside.root bucket its);
+          in_zone = raised_all who.view.bits.zone bits.zone l.0 bucket zone (inside.zone bucket its);
+        }
+
+    rows_elsewhere : (o : Range) → (world.range_holder o.0 ≡ Some i → ⊥) → (place : Slot) (leaf : Leaf)
+        → replica_rows o place (of_leaf (with_entry l e world.truth) leaf) ≡ replica_rows o place
+        (of_leaf world.truth leaf)
+    rows_elsewhere o free place leaf =
+        let apart : o.0 ≢ r.0 = λ same. free (ap world.range_holder same ∙ at.going.holds.holder) in
+        entry_by world.truth l e in_truth
+        (λ x history. replica_rows o place history ≡ replica_rows o place (of_leaf world.truth x)) leaf
+        (replica_rows-push o place (of_leaf world.truth l) e
+        ∙ ap (λ rows. replica_rows o place (of_leaf world.truth l) ++ rows)
+        (put_elsewhere o place who.pass r s who.row (ne_eqb o.0 r.0 apart))
+        ∙ append-nil (replica_rows o place (of_leaf world.truth l)))
+        refl
+
+    changes : ChangesLeaf setting world i l (with_entry l e)
+    changes = record {
+      truth = entry_sound world.truth l e in_truth setting kept.truth may_truth (kept.writers i).lawful.at_home
+          (covers_in world.truth.bits (kept.writers i).part.within.root (kept.writers i).part.within.zone);
+      met = entry_sound met l e in_met setting (base_sound setting world i kept l) may_met
+          (kept.writers i).lawful.at_home (covers_in met.bits up.root up.zone);
+      within = entry_within l e met world.truth in_met in_truth (base_whole setting world i kept l)
+          (base_within setting world i kept l);
+      grows = entry_up world.truth l e in_truth;
+      count = refl;
+      whole = entry_same met l e in_met ∙ ap (λ history. history ++ e ∷ []) (base_whole setting world i kept l)
+          ∙ sym (entry_same world.truth l e in_truth);
+      others = entry_other world.truth l e;
+      ranges = λ o. refl;
+      rows = rows_elsewhere;
+    }
+
+    abbrev stage : Stage
+    stage = entering (looked round fate.Took)
+
+    abbrev next : World
+    next = at_leaf world i l (with_entry l e) None stage
+
+    abbrev then' : Writer
+    then' = gone_on who stage (with_entry l e met)
+
+    abbrev new : Mark
+    new = marked mark fate.Took
+
+    up_then : IsWithin who.view (with_entry l e met)
+    up_then = within_through who.view met (with_entry l e met) up (entry_up met l e in_met)
+
+    rows_then : replica_rows r s (of_leaf next.truth l) ≡ rows_after world who
+    rows_then =
+        ap (replica_rows r s) (entry_same world.truth l e in_truth)
+        ∙ replica_rows-push r s (of_leaf world.truth l) e
+        ∙ ap₂ (λ rows more. rows ++ more) rows_now (put_own r s who.pass who.row)
+
+    new_mark : IsMark next then' new
+    new_mark = record {
+      has = record { opened = opened_moves world next changes.grows r s l here.has.opened; all = rows_then };
+      seen = record {
+        rows = begins_same (replica_rows r s (of_leaf (with_entry l e met) l)) (rows_after world who)
+            (ap (replica_rows r s) changes.whole ∙ rows_then);
+        put = subst (λ (history : List Entry). Contains history e) (sym (entry_same met l e in_met))
+            (Contains-push (of_leaf met l) e);
+      };
+    }
+
+    -- the other replicas stay as they were
+    other_mark : (other : Mark) → other.slot.0 ≢ s.0 → IsMark world who other → IsMark next then' other
+    other_mark other apart was =
+        mark_moves world next changes.grows i setting who stage (with_entry l e met) up_then refl other
+        (entry_by world.truth l e in_truth
+        (λ x history. replica_rows r other.slot history ≡ replica_rows r other.slot (of_leaf world.truth x))
+        other.leaf
+        (replica_rows-push r other.slot (of_leaf world.truth l) e
+        ∙ ap (λ rows. replica_rows r other.slot (of_leaf world.truth l) ++ rows)
+        (put_other_slot r other.slot s who.pass who.row apart)
+        ∙ append-nil (replica_rows r other.slot (of_leaf world.truth l)))
+        refl)
+        was
+
+    apart : All (λ other. other.slot.0 ≢ s.0) (map replica_of done)
+        × All (λ other. other.slot.0 ≢ s.0) (map replica_of left)
+    apart =
+        apart_around (map replica_of done) (map replica_of left) (replica_of mark)
+        (subst AreApart (sym at.going.serve ∙ map-append replica_of done (mark ∷ left))
+        (numbered setting.held setting.zones setting.points r (of_range world.truth r)
+        (kept.truth.held.legal r (kept.writers i).lawful.there)).apart)
+
+    other_marks : (marks : List Mark) → All (λ other. other.slot.0 ≢ s.0) (map replica_of marks)
+        → All (IsMark world who) marks → All (IsMark next then') marks
+    other_marks marks away were = all_both (λ other. other.slot.0 ≢ s.0) (IsMark world who) (IsMark next then')
+        other_mark marks (all_unmap replica_of (λ other. other.slot.0 ≢ s.0) marks away) were
+
+    going : IsGoing next i setting then' ((done ++ new ∷ []) ++ left)
+    going =
+        going_with world next changes.grows i setting who stage (with_entry l e met) up_then refl
+        (done ++ mark ∷ left) ((done ++ new ∷ []) ++ left)
+        at.going.holds.holder (base_range setting world i kept l r at.going.holds.whole)
+        (remarked_replicas setting world i who done left mark fate.Took)
+        (all_append (IsMark next then') (done ++ new ∷ []) left
+        (all_append (IsMark next then') done (new ∷ [])
+        (other_marks done apart.0 (all_front (IsMark world who) done (mark ∷ left) at.going.each))
+        (new_mark, tt))
+        (other_marks left apart.1 (all_back (IsMark world who) done (mark ∷ left) at.going.each).1))
+        at.going
+
+    pub put_row : IsStep setting world next
+    put_row =
+        leaf_step setting world i l (with_entry l e) None stage kept changes (inr inside.holder)
+        (at_entering setting next i then' (looked round fate.Took) going
+        (all_append decided done (new ∷ []) at.done (refl, tt)) at.left.1)

@@ -1,0 +1,17 @@
+pub mod AckLemmas
+pub mod BucketLemmas
+pub mod ChangeLemmas
+pub mod CourseLemmas
+pub mod FrontLemmas
+pub mod HistoryLemmas
+pub mod InsideLemmas
+pub mod KeepsLemmas
+pub mod KeptLemmas
+pub mod LeafEventLemmas
+pub mod RangeEventLemmas
+pub mod RangeLemmas
+pub mod RoundLemmas
+pub mod StageLemmas
+pub mod StepLemmas
+pub mod SwitchLemmas
+pub mod ViewLemmas

@@ -1,0 +1,345 @@
+-- The events of a write at its range.
+use Rattle.std.proofs.Common.{◌≡◌, ℕ, zero, suc, ◌<◌, Bool, true, false, not, cond, Some, None, List, [], ◌∷◌, ◌++◌, length, map, refl, sym, ap, subst, ◌∙◌, arith, inl, inr}
+use Rattle.std.specs.Prelude.{Contains}
+use Rattle.std.proofs.lemmas.Bool.{both_ways, cases_Bool}
+use Rattle.std.proofs.lemmas.List.{length-set, take_at}
+use Rattle.std.proofs.lemmas.List.Elements.{Contains-push}
+use Rattle.mon_value.specs.LeafHistories.{replica_rows}
+use Rattle.mon_value.specs.Sources.{IsSource}
+use Rattle.mon_value.specs.declared.histories.Ack.{Ack}
+use Rattle.mon_value.specs.declared.histories.Miss.{Miss}
+use Rattle.mon_value.specs.declared.histories.RangeEntry.{RangeEntry}
+use Rattle.mon_value.specs.declared.histories.RangeEntry.TheVariants as range_entry
+use Rattle.mon_value.specs.declared.positions.Range.{Range}
+use Rattle.mon_value.specs.declared.positions.Slot.{Slot}
+use Rattle.mon_value.specs.declared.positions.SlotLeaf.{SlotLeaf}
+use Rattle.mon_value.specs.declared.rows.Row.{Row}
+use Rattle.mon_topo.specs.HeldHistories.{BeginsWith, IsBorneOut, IsMissed, IsTaken}
+use Rattle.mon_topo.specs.RangeHistories as range_spec
+use Rattle.mon_topo.specs.RangeHistories.{acked, is_missed, opened, serving}
+use Rattle.write_core.specs.Invariant.{HasMissed, HasRows, HasSeen, HasTaken, IsDecided, IsKept, IsMark, IsRefused, IsSettled, is_decided, is_waiting, rows_after}
+use Rattle.write_core.specs.Marks.{ack_of, is_taken, replica_of, some_took, waiting}
+use Rattle.write_core.specs.Program.{Acking, Ended, Marked, Not, Stage, reserving}
+use Rattle.write_core.specs.Rounds.{round_of}
+use Rattle.write_core.specs.Steps.{acknowledged, unchanged}
+use Rattle.write_core.specs.Views.{IsSound, IsWithin, Setting, View, joined, of_leaf, of_range, with_range_entry}
+use Rattle.write_core.specs.World.{World, Writer, at_range, gone_on}
+use Rattle.write_core.specs.declared.marks.Fate.{Fate}
+use Rattle.write_core.specs.declared.marks.Fate.TheVariants as fate
+use Rattle.write_core.specs.declared.marks.Mark.{Mark}
+use Rattle.write_core.specs.declared.marks.Refused.{Refused}
+use Rattle.write_core.proofs.AckLemmas.{all_map_from, contains_filter, contains_map, is_named_missed, missed_in, named, none_took, some_taken, taken_in, took_from}
+use Rattle.write_core.proofs.ChangeLemmas.{range_entry_other, range_entry_same, range_entry_sound, range_entry_up, range_entry_within}
+use Rattle.write_core.proofs.HistoryLemmas.{acked-push, not_missed, serving-push}
+use Rattle.write_core.proofs.KeepsLemmas.{changed_same, seen_moves}
+use Rattle.write_core.proofs.RangeLemmas.{all_at, numbered, one_replica}
+use Rattle.write_core.proofs.StageLemmas.{at_reserving}
+use Rattle.write_core.proofs.StepLemmas.{IsStep, ChangesRange, range_step}
+use Rattle.write_core.proofs.ViewLemmas.{joined_first, joined_sound, joined_whole_range, joined_within, within_itself}
+
+some_is_not_none : (i : ℕ) → Some i ≡ None → ⊥
+some_is_not_none i e = cc
+
+map_waiting : (replicas : List SlotLeaf) → map replica_of (map waiting replicas) ≡ replicas
+map_waiting [] = refl
+map_waiting (replica ∷ replicas) = ap (λ rest. replica ∷ rest) (map_waiting replicas)
+
+module _ (setting : Setting) (world : World) (i : ℕ) (kept : IsKept setting world) where
+  abbrev who : Writer
+  who = world.writers i
+
+  abbrev r : Range
+  r = who.range
+
+  abbrev g : List RangeEntry
+  g = of_range world.truth r
+
+  -- what the write and its range know together
+  abbrev met : View
+  met = joined who.view (world.ranges r.0)
+
+  met_sound : IsSound setting met
+  met_sound =
+      joined_sound who.view (world.ranges r.0) world.truth (kept.writers i).part.within (kept.ranges r).within setting
+      (kept.writers i).part.sound (kept.ranges r).sound
+
+  met_within : IsWithin met world.truth
+  met_within = joined_within who.view (world.ranges r.0) world.truth (kept.writers i).part.within (kept.ranges r).within
+
+  met_up : IsWithin who.view met
+  met_up = joined_first who.view (world.ranges r.0) world.truth (kept.writers i).part.within (kept.ranges r).within
+
+  met_whole : of_range met r ≡ g
+  met_whole = joined_whole_range who.view (world.ranges r.0) world.truth (kept.writers i).part.within
+      (kept.ranges r).within r (kept.whole_ranges r)
+
+  quiet_range : ChangesRange setting world i r unchanged
+  quiet_range = record {
+    truth = kept.truth;
+    met = met_sound;
+    within = met_within;
+    grows = within_itself world.truth;
+    count = refl;
+    whole = met_whole;
+    others = λ o apart. refl;
+    leaves = λ l. refl;
+  }
+
+  -- ---- the lock
+
+  module _ (free : world.range_holder r.0 ≡ None) where
+    pub lock_slots : (replicas : List SlotLeaf) → replicas ≡ serving g → IsSource (acked g ++ who.row ∷ [])
+        → length (acked g) < setting.points
+        → IsStep setting world (at_range world i r unchanged (Some i) (reserving (round_of (map waiting replicas))))
+    lock_slots replicas serve source room =
+        let stage = reserving (round_of (map waiting replicas)) in
+        let next = at_range world i r unchanged (Some i) stage in
+        let then' = gone_on who stage met in
+        range_step setting world i r unchanged (Some i) stage kept quiet_range (inl free)
+        (λ e. absurd (some_is_not_none i e))
+        (at_reserving setting next i then' (round_of (map waiting replicas))
+        (record {
+          holds = record { holder = changed_same world.range_holder r.0 (Some i); whole = met_whole };
+          source = source;
+          room = room;
+          serve = map_waiting replicas ∙ serve;
+          each = all_map_from waiting (IsMark next then') replicas
+              (λ replica there. record {
+                has = kept.settled r free replica
+                    (subst (λ (xs : List SlotLeaf). Contains xs replica) serve there);
+                seen = tt;
+              });
+        })
+        tt
+        (all_map_from waiting (λ mark. is_waiting mark.fate ≡ true) replicas (λ replica there. refl)))
+
+    pub lock_refused : (why : Refused) → IsStep setting world (at_range world i r unchanged (Some i) (Acking (Not why)))
+    lock_refused why =
+        range_step setting world i r unchanged (Some i) (Acking (Not why)) kept quiet_range (inl free)
+        (λ e. absurd (some_is_not_none i e))
+        (record {
+          holds = record { holder = changed_same world.range_holder r.0 (Some i); whole = met_whole };
+          settled = kept.settled r free;
+        })
+
+  -- ---- the acknowledgement
+
+  pub ack_refused : (why : Refused) → IsRefused world i who
+      → IsStep setting world (at_range world i r (acknowledged who (Not why)) None (Ended (Not why)))
+  ack_refused why h = range_step setting world i r unchanged None (Ended (Not why)) kept quiet_range
+      (inr h.holds.holder) (λ e. h.settled) tt
+
+  module _ (marks : List Mark) (at : IsDecided world i setting who marks) where
+    abbrev ack : Ack
+    ack = ack_of r marks
+
+    abbrev e : RangeEntry
+    e = range_entry.Acked who.pass who.row ack
+
+    abbrev stage : Stage
+    stage = Ended (Marked marks)
+
+    mark_of : (mark : Mark) → Contains marks mark → IsMark world who mark
+    mark_of mark there = all_at (IsMark world who) marks mark at.going.each there
+
+    -- a replica that serves is one of the marks'
+    serving_mark : (replica : SlotLeaf) → Contains (serving g) replica → (mark : Mark) × Contains marks mark
+        × (replica_of mark ≡ replica)
+    serving_mark replica there = contains_map replica_of marks replica
+        (subst (λ (xs : List SlotLeaf). Contains xs replica) (sym at.going.serve) there)
+
+    -- where no replica took the row, nothing is appended
+    settled_none : some_took marks ≡ false → IsSettled world.truth r
+    settled_none none replica there =
+        let found = serving_mark replica there in
+        let has = (mark_of found.0 found.1).has in
+        subst (λ (x : SlotLeaf). HasRows world.truth r x (acked g)) found.2
+        (record {
+          opened = has.opened;
+          all = has.all
+              ∙ ap (λ b. cond b (rows_after world who) (acked g)) (none_took marks found.0 none found.1);
+        })
+
+    ack_none : some_took marks ≡ false → IsStep setting world (at_range world i r unchanged None stage)
+    ack_none none =
+        range_step setting world i r unchanged None stage kept quiet_range (inr at.going.holds.holder)
+        (λ x. settled_none none)
+        (λ some. absurd (both_ways (some_took marks) none some))
+
+    -- ---- some replica took it
+
+    -- a replica that serves then took the row
+    still_serving : (replica : SlotLeaf) → Contains (serving (g ++ e ∷ [])) replica → (mark : Mark)
+        × Contains marks mark × (replica_of mark ≡ replica) × (mark.fate ≡ fate.Took)
+    still_serving replica there =
+        let served = contains_filter (not_missed ack) (serving g) replica
+        (subst (λ (xs : List SlotLeaf). Contains xs replica) (serving-push g who.pass who.row ack) there) in
+        let found = serving_mark replica served.0 in (
+          found.0,
+          found.1,
+          found.2,
+          took_from found.0.fate (all_at (λ mark. is_decided mark.fate ≡ true) marks found.0 at.decided found.1)
+              (λ cut missed. contradiction (is_missed ack.missed replica) served.1
+              (subst (λ (x : SlotLeaf). is_missed ack.missed x ≡ true) found.2
+              (is_named_missed marks found.0 cut found.1 missed))),
+        )
+      where
+        contradiction : (b : Bool) → not b ≡ true → b ≡ true → ⊥
+        contradiction true h k = cc
+        contradiction false h k = cc
+
+    module _ (some : some_took marks ≡ true) where
+      may_follow : range_spec.MayFollow setting.held setting.zones setting.points r g e
+      may_follow = (
+        record {
+          ranged = refl;
+          taken = some_taken marks some;
+          named = named marks (serving g)
+              at.going.serve at.decided;
+        },
+        (kept.writers i).lawful.at_home.1,
+        at.going.source,
+        at.going.room,
+      )
+
+      -- a view that has all that the write has seen, and all of the range
+      module _ (view : View) (sound : IsSound setting view) (up : IsWithin who.view view)
+          (whole : of_range view r ≡ g) where
+        abbrev seer : Writer
+        seer = gone_on who stage view
+
+        seen : (mark : Mark) → Contains marks mark → HasSeen world seer mark mark.fate
+        seen mark there = seen_moves world world (within_itself world.truth) i setting who stage view up refl mark
+            mark.fate (mark_of mark there).seen
+
+        taken : (mark : Mark) → Contains marks mark → mark.fate ≡ fate.Took → HasTaken world seer mark
+        taken mark there took = subst (λ (f : Fate). HasSeen world seer mark f) took (seen mark there)
+
+        missed : (mark : Mark) (cut : ℕ) → Contains marks mark → mark.fate ≡ fate.Missed cut → HasMissed seer mark cut
+        missed mark cut there e = subst (λ (f : Fate). HasSeen world seer mark f) e (seen mark there)
+
+        keeps_rows : (replica : SlotLeaf) → Contains (serving (g ++ e ∷ [])) replica
+            → BeginsWith (replica_rows r replica.slot (of_leaf view replica.leaf)) (acked (g ++ e ∷ []))
+        keeps_rows replica there =
+            let found = still_serving replica there in
+            subst (λ (x : SlotLeaf). BeginsWith (replica_rows r x.slot (of_leaf view x.leaf)) (acked (g ++ e ∷ [])))
+            found.2
+            (subst (λ (rows : List Row). BeginsWith (replica_rows r found.0.slot (of_leaf view found.0.leaf))
+            rows) (sym (acked-push g who.pass who.row ack))
+            (taken found.0 found.1 found.3).rows)
+
+        served : range_spec.IsLegal setting.held setting.zones setting.points r g
+        served = kept.truth.held.legal r (kept.writers i).lawful.there
+
+        -- a mark's replica is one of those that were opened
+        mark_opened : (mark : Mark) → Contains marks mark → Contains (opened g) (replica_of mark)
+        mark_opened mark there =
+            all_at (Contains (opened g)) (serving g) (replica_of mark)
+            (numbered setting.held setting.zones setting.points r g served).among
+            (subst (λ (xs : List SlotLeaf). Contains xs (replica_of mark)) at.going.serve
+            (contains_mapped mark there))
+          where
+            contains_at : (xs : List Mark) (mark : Mark) → Contains xs mark
+                → Contains (map replica_of xs) (replica_of mark)
+            contains_at [] mark there = absurd (omega (arith, there.1))
+            contains_at (x ∷ xs) mark (zero, h, same) = (zero, omega arith, ap replica_of same)
+            contains_at (x ∷ xs) mark (suc k, h, same) =
+                let rest = contains_at xs mark (k, omega arith, same) in
+                (suc rest.0, (let l : rest.0 < length (map replica_of xs) = rest.1 in omega arith), rest.2)
+
+            contains_mapped : (mark : Mark) → Contains marks mark → Contains (map replica_of marks) (replica_of mark)
+            contains_mapped mark there = contains_at marks mark there
+
+        borne_taken : (replica : SlotLeaf) → Contains (opened g) replica → Contains ack.took replica.slot
+            → IsTaken view.seen who.pass who.row ack replica
+        borne_taken replica there took =
+            let found = taken_in marks replica.slot took in
+            let same : replica_of found.0 ≡ replica = one_replica g
+            (numbered setting.held setting.zones setting.points r g served) (replica_of found.0) replica
+            (mark_opened found.0 found.1) there (ap (λ (s : Slot). s.0) found.3) in
+            subst (λ (x : SlotLeaf). IsTaken view.seen who.pass who.row ack x) same
+            (record { put = (taken found.0 found.1 found.2).put })
+
+        borne_missed : (miss : Miss) → Contains ack.missed miss → IsMissed view.seen (opened g) miss
+        borne_missed miss there =
+            let found = missed_in marks miss there in
+            let down = missed found.0 found.2 found.1 found.3 in
+            subst (λ (x : Miss). IsMissed view.seen (opened g) x) found.4
+            (record { placed = mark_opened found.0 found.1; seen_by_then = down.seen_by_then; down = down.down })
+
+        borne_out : IsBorneOut view.seen r (g ++ e ∷ []) (length g) e
+        borne_out =
+            subst (λ (front : List RangeEntry).
+            ((replica : SlotLeaf) → Contains (opened front) replica → Contains ack.took replica.slot
+            → IsTaken view.seen who.pass who.row ack replica)
+            × ((miss : Miss) → Contains ack.missed miss → IsMissed view.seen (opened front) miss))
+            (sym (take_at g (e ∷ []) (length g) refl))
+            (borne_taken, borne_missed)
+
+        here : r.0 < length view.seen.ranges
+        here = subst (λ (n : ℕ). r.0 < n) (kept.truth.held.all_ranges ∙ sym sound.held.all_ranges)
+            (kept.writers i).lawful.there
+
+        ack_sound : IsSound setting (with_range_entry r e view)
+        ack_sound =
+            range_entry_sound view r e here setting sound
+            (subst (λ (h : List RangeEntry). (replica : SlotLeaf) → Contains (serving (h ++ e ∷ [])) replica
+            → BeginsWith (replica_rows r replica.slot (of_leaf view replica.leaf)) (acked (h ++ e ∷ [])))
+            (sym whole) keeps_rows)
+            (subst (λ (h : List RangeEntry). IsBorneOut view.seen r (h ++ e ∷ []) (length h) e) (sym whole)
+            borne_out)
+            (subst (λ (h : List RangeEntry). range_spec.MayFollow setting.held setting.zones setting.points r h e)
+            (sym whole) may_follow)
+
+      there_truth : r.0 < length world.truth.seen.ranges
+      there_truth = (kept.writers i).lawful.there
+
+      there_met : r.0 < length met.seen.ranges
+      there_met = here met met_sound met_up met_whole
+
+      changes : ChangesRange setting world i r (with_range_entry r e)
+      changes = record {
+        truth = ack_sound world.truth kept.truth (kept.writers i).part.within refl;
+        met = ack_sound met met_sound met_up met_whole;
+        within = range_entry_within r e met world.truth there_met there_truth met_whole met_within;
+        grows = range_entry_up world.truth r e there_truth;
+        count = length-set world.truth.seen.ranges r.0 (g ++ e ∷ []);
+        whole = range_entry_same met r e there_met ∙ ap (λ history. history ++ e ∷ []) met_whole
+            ∙ sym (range_entry_same world.truth r e there_truth);
+        others = range_entry_other world.truth r e;
+        leaves = λ l. refl;
+      }
+
+      -- whoever serves then has the row too
+      settled_then : IsSettled (with_range_entry r e world.truth) r
+      settled_then replica there =
+          let found = still_serving replica
+          (subst (λ (h : List RangeEntry). Contains (serving h) replica)
+          (range_entry_same world.truth r e there_truth) there) in
+          let has = (mark_of found.0 found.1).has in
+          subst (λ (x : SlotLeaf). HasRows (with_range_entry r e world.truth) r x
+          (acked (of_range (with_range_entry r e world.truth) r))) found.2
+          (record {
+            opened = has.opened;
+            all = has.all ∙ ap (λ f. cond (is_taken f) (rows_after world who) (acked g)) found.3
+                ∙ sym (acked-push g who.pass who.row ack)
+                ∙ ap acked (sym (range_entry_same world.truth r e there_truth));
+          })
+
+      ack_some : IsStep setting world (at_range world i r (with_range_entry r e) None stage)
+      ack_some =
+          range_step setting world i r (with_range_entry r e) None stage kept changes (inr at.going.holds.holder)
+          (λ x. settled_then)
+          (λ x. subst (λ (history : List RangeEntry). Contains history e)
+          (sym (range_entry_same met r e there_met)) (Contains-push (of_range met r) e))
+
+    pub ack_marked : IsStep setting world (at_range world i r (acknowledged who (Marked marks)) None stage)
+    ack_marked =
+        elim (cases_Bool (some_took marks)) [
+          | inl some ↦ subst (λ (b : Bool). IsStep setting world
+              (at_range world i r (λ view. cond b (with_range_entry r e view) view) None stage)) (sym some)
+              (ack_some some)
+          | inr none ↦ subst (λ (b : Bool). IsStep setting world
+              (at_range world i r (λ view. cond b (with_range_entry r e view) view) None stage)) (sym none)
+              (ack_none none)
+        ]

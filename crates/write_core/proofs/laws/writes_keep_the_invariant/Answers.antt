@@ -1,0 +1,5 @@
+use Rattle.write_core.proofs.KeptLemmas.{ended_acknowledged, new_kept, part_stays, parts_join, run_kept}
+use Rattle.write_core.proofs.laws.writes_keep_the_invariant.Goals as goal
+
+pub returns : goal.returns
+returns c = record { begins = new_kept; stays = run_kept; parts = part_stays; meets = parts_join; ended = ended_acknowledged }

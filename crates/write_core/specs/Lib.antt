@@ -1,0 +1,11 @@
+pub mod Courses
+pub mod Covers
+pub mod HistoryBuckets
+pub mod Invariant
+pub mod Marks
+pub mod Phases
+pub mod Program
+pub mod Rounds
+pub mod Steps
+pub mod Views
+pub mod World

@@ -1,0 +1,54 @@
+// What a write does next, what it is told of that, and how it ends.
+use mon_hints::Buckets;
+use mon_value::{Ack, Founds, Leaf, Slot, SlotLeaves};
+
+/// The next event of a write.
+#[derive(Debug, PartialEq, Eq, Drop)]
+pub enum WriteAsk {
+    /// Take the range's lock.
+    Lock,
+    /// Make room for the row on a replica's leaf.
+    Reserve(Slot, Leaf),
+    /// Take the lock of a replica's leaf.
+    Enter(Slot, Leaf),
+    /// Set the zone's bit in the root's word of a bucket.
+    RaiseRoot(u32),
+    /// Set the leaf's bit in the word of a bucket of the zone of the leaf that was entered.
+    RaiseZone(u32),
+    /// Append the row to the leaf's history, and let go of the leaf's lock.
+    Put(Slot, Leaf),
+    /// Append the acknowledgement to the range's history where some replica took the row, and let go of the range's lock.
+    Ack,
+    /// Nothing is left to do.
+    Finished,
+}
+
+/// What a write is told of its last event.
+#[derive(Debug, PartialEq, Eq, Drop)]
+pub enum WriteTold {
+    /// The range can take the row: the replicas that serve, in slot order.
+    Slots(SlotLeaves),
+    /// The series has an acknowledged row that ends there, which is not before the row's end.
+    Old(i64),
+    /// The range holds so many rows, and no more go in.
+    Full(u64),
+    /// The leaf is up. Of one that was entered, the buckets of the row that it has not raised, rising.
+    Up(Buckets),
+    /// The leaf is down, with so many entries in its history.
+    Down(u64),
+    /// It is done.
+    Done,
+}
+
+/// How a write ends.
+#[derive(Debug, PartialEq, Eq, Drop)]
+pub enum WriteEnd {
+    /// Some replica took the row, and it is acknowledged.
+    Written(Ack),
+    /// As the range's lock told.
+    Old(i64),
+    /// As the range's lock told.
+    Full(u64),
+    /// Every replica was found down, these in slot order.
+    Unavailable(Founds),
+}
