@@ -1,0 +1,11 @@
+use Rattle.std.proofs.Common.{rules, ap, ◌∙◌}
+use Rattle.history_book.proofs.CallLemmas.{confirm_with, has_words}
+use Rattle.history_book.proofs.books.Book.confirm.Goals as goal
+
+pub load-requires : goal.load-requires
+load-requires g c =
+    let table = c.args.self.now in (
+      search rules,
+      has_words _ _ _ (ap (λ z. z.words) table.named ∙ table.shaped),
+      confirm_with _ _ _ _ table.sized.0 table.sized.1 _ _ _,
+    )

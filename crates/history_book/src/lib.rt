@@ -1,0 +1,24 @@
+//! How the histories of leaves and ranges grow while threads share them: each seat has seen a beginning of each.
+#![tactic(auto)]
+
+mod blanks;
+mod books;
+mod names;
+mod numbers;
+mod owners;
+mod rooms;
+mod seats;
+mod steps;
+mod views;
+
+pub use blanks::BookBlank;
+pub use books::Book;
+pub use names::{BookName, NewEntry};
+pub use numbers::{NUMBER_END, Numbers};
+pub use owners::{BookOwner, BookOwners};
+pub use rooms::RoomMove;
+pub use seats::BookSeat;
+pub use views::{BookEntry, Histories, History, Kept, LengthNote, Purse};
+
+#[cfg(test)]
+mod tests;
