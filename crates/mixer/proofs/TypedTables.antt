@@ -1,0 +1,282 @@
+-- The tables of a typed tree have the types of its columns, however much work the tree is.
+use Rattle.std.proofs.Common.{◌≡◌, ◌∙◌, ◌&&◌, ℕ, suc, ℤ, true, not, Option, Some, None, List, [], ◌∷◌, ◌++◌, map}
+use Rattle.std.proofs.Common.{length, take, refl, sym, ap, subst, arith}
+use Rattle.std.specs.Prelude.{option_map, unwrap_or}
+use Rattle.std.specs.Cmp.Lexicographic.{pointwise}
+use Rattle.std.specs.List.{AllByRecursion, filter, filter_map, flat_map}
+use Rattle.std.specs.Ordering.{int_eq}
+use Rattle.mon_value.specs.Alignments.{aligned_values}
+use Rattle.mon_value.specs.Columns.{FitColumns, HasType}
+use Rattle.mon_value.specs.Grids.{IsLawful}
+use Rattle.mon_value.specs.Groups.{group_key, group_keys, group_rows, rows_in}
+use Rattle.mon_value.specs.Joins.{has_name, is_pair, pair_of, pairs_of, right_cells, right_columns}
+use Rattle.mon_value.specs.Same.{same_row, same_series, same_text, same_truth}
+use Rattle.mon_value.specs.SeriesRows.{row_of}
+use Rattle.mon_value.specs.Sorting.{sorted_list}
+use Rattle.mon_value.specs.Sources.{key_of_row, points_by_series, points_of, rows_of, series_of}
+use Rattle.mon_value.specs.Tops.{rank_cmp}
+use Rattle.mon_value.specs.declared.aggregates.Aggregate as folds
+use Rattle.mon_value.specs.declared.aligners.Aligner.{Aligner}
+use Rattle.mon_value.specs.declared.columns.Column.{Column}
+use Rattle.mon_value.specs.declared.grids.Grid.{Grid}
+use Rattle.mon_value.specs.declared.grids.TimedValue.{TimedValue}
+use Rattle.mon_value.specs.declared.rows.Point.{Point}
+use Rattle.mon_value.specs.declared.rows.Row.{Row}
+use Rattle.mon_value.specs.declared.rows.SeriesKey.{SeriesKey}
+use Rattle.mon_value.specs.declared.schemas.MetricSchema.{MetricSchema}
+use Rattle.mon_value.specs.declared.schemas.TargetSchema.{TargetSchema}
+use Rattle.mon_value.specs.declared.tables.TimedRow.{TimedRow}
+use Rattle.mon_value.specs.declared.values.Value.{Value}
+use Rattle.mon_value.specs.declared.values.Value.TheVariants as value
+use Rattle.mon_value.specs.declared.values.ValueType.{ValueType}
+use Rattle.mon_value.specs.declared.values.ValueType.TheVariants as type
+use Rattle.mon_value.proofs.SameLemmas.{both, same_series-Decides}
+use Rattle.mon_schema.specs.SchemaLists.{SchemaLists}
+use Rattle.mql_ast.specs.NamedCells.{column_named}
+use Rattle.mql_ast.specs.Trees.{ItemTree}
+use Rattle.mql_ast.specs.Truths.{predicate_truth}
+use Rattle.mql_types.specs.Branches.{anchored_with, as_joined, join_columns, left_column, same_column, same_columns}
+use Rattle.mql_types.specs.Branches.{same_type, union_columns}
+use Rattle.mql_types.specs.Fetches.{value_column}
+use Rattle.mql_types.specs.Groupings.{aggregate_columns, key_columns_at}
+use Rattle.mql_types.specs.Items.{value_columns}
+use Rattle.mql_types.specs.Loads.{series_cells}
+use Rattle.mql_types.specs.Meaning.{aligned_rows, points_meant, rows_meant, value_row}
+use Rattle.mql_types.specs.Nodes as node
+use Rattle.mql_types.specs.Nodes.{NodeTree, columns_of}
+use Rattle.mql_types.specs.Typing.{aligned_column, aligned_width}
+use Rattle.mql_types.specs.Widths.{with_width}
+use Rattle.mql_types.specs.declared.nodes.NodeInfo.{NodeInfo}
+use Rattle.mql_types.proofs.AlignedRows.{aligned_are}
+use Rattle.mql_types.proofs.AlignedValues.{PointFits, aligned_fit}
+use Rattle.mql_types.proofs.FetchedPoints.{IsRowOf, IsSeriesOf, series_columns, series_typed, value_small, value_typed}
+use Rattle.mql_types.proofs.FetchedTrees.{AllFit, columns_fetched_are, points_of_schemas}
+use Rattle.mql_types.proofs.JoinedRows.{FitColumns-append, FitColumns-map, all-flat_map, all-made, all-map}
+use Rattle.mql_types.proofs.KeptRows.{all-append, all-filter, all-sorted, all-take}
+use Rattle.mql_types.proofs.MadeCells.{all-filter_map, kept_shaped, length_fit}
+use Rattle.mql_types.proofs.SumBounds.{AreLawful}
+use Rattle.mql_types.proofs.TypedTrees.{AlignOf, AreRows, GroupOf, ValueOf, lawful_columns}
+use Rattle.mixer.proofs.ApartKeys.{all_keys}
+use Rattle.mixer.proofs.LocalTrees.{MakesWhole}
+use Rattle.mixer.proofs.StemmingRows.{AreWhole}
+use Rattle.mixer.proofs.TypedCells.{AreTyped}
+use Rattle.mixer.proofs.TypedRows.{group_typed, value_made}
+
+-- ---- alignments
+
+-- a series of the schemas that are fetched, with its points
+record SeriesFits (target : TargetSchema) (found : MetricSchema) (series : SeriesKey × List Point) : Type 0 where
+  key : IsSeriesOf target found series.0
+  points : AllByRecursion (PointFits found.value) series.1
+
+series_fit : (target : TargetSchema) (found : MetricSchema) (rows : List Row)
+    → AllByRecursion (IsRowOf target found) rows → AllByRecursion (SeriesFits target found) (points_by_series rows)
+series_fit target found rows fit =
+    all-made (IsSeriesOf target found) (SeriesFits target found) (λ key. (key, points_of key rows)) (series_of rows)
+    (λ key own. record {
+      key = own;
+      points = all-made (IsRowOf target found) (PointFits found.value) (λ (row : Row). row.point) (rows_of key rows)
+          (λ row r. (
+            value_typed found.value row.point.value r.value,
+            value_small found.value row.point.value r.value,
+          ))
+          (all-filter (IsRowOf target found) (λ (row : Row). same_series key row.key) rows fit);
+    })
+    (all_keys same_series same_series-Decides key_of_row (IsSeriesOf target found) rows
+    (all-map (IsRowOf target found) (λ (row : Row). IsSeriesOf target found row.key) rows (λ row r. r.series) fit))
+
+align_typed : (held : SchemaLists) (grid : Grid) → IsLawful grid → (rows : List Row) → AllFit held rows
+    → (info : NodeInfo) (by : Aligner) (input : NodeTree) → AlignOf held info by input
+    → AreTyped info.columns (aligned_rows by grid (points_meant input rows))
+align_typed held grid lawful rows fit info by input own =
+    let points = points_meant input rows in
+    let last = with_width (aligned_width by) (value_column own.found) in
+    let to = series_columns own.target own.found ++ last ∷ [] in
+    let same : to ≡ info.columns =
+    aligned_are by own.target own.found
+    ∙ ap (λ cs. map (aligned_column by) cs) (sym (columns_fetched_are held own.target own.found input own.points))
+    ∙ sym own.is in
+    subst (λ cs. AreTyped cs (aligned_rows by grid points)) same
+    (all-flat_map (SeriesFits own.target own.found) (λ (row : TimedRow). FitColumns to row.cells)
+    (λ (s : SeriesKey × List Point). map (row_of s.0) (aligned_values by grid s.1)) (points_by_series points)
+    (λ s of. all-made (λ (timed : TimedValue). HasType own.found.value timed.value)
+    (λ (row : TimedRow). FitColumns to row.cells) (row_of s.0) (aligned_values by grid s.1)
+    (λ timed t. FitColumns-append (series_columns own.target own.found) (last ∷ []) (series_cells s.0)
+    (timed.value ∷ []) (series_typed own.target own.found s.0 of.key) (t, tt))
+    (all-map _ (λ (timed : TimedValue). HasType own.found.value timed.value) (aligned_values by grid s.1)
+    (λ timed p. p.0) (aligned_fit grid lawful by own.found.value own.takes s.1 of.points)))
+    (series_fit own.target own.found points
+    (points_of_schemas held own.target own.found input own.points rows fit)))
+
+-- ---- joins and unions
+
+left_type : (held : SchemaLists) (c : Column) (o : Option Column)
+    → c.of ≡ (as_joined (unwrap_or (option_map (anchored_with held c) o) c)).of
+left_type held c None = refl
+left_type held c (Some other) = refl
+
+pair_typed : (held : SchemaLists) (lefts rights : List Column) (left right : TimedRow)
+    → FitColumns lefts left.cells → FitColumns rights right.cells
+    → FitColumns (join_columns held lefts rights) (pair_of lefts rights left right).cells
+pair_typed held lefts rights left right fit other =
+    FitColumns-append (map (left_column held rights) lefts) (map as_joined (right_columns lefts rights)) left.cells
+    (right_cells lefts rights right)
+    (FitColumns-map (left_column held rights) (λ c. left_type held c (column_named c.name rights)) lefts left.cells fit)
+    (FitColumns-map as_joined (λ c. refl) (right_columns lefts rights) (right_cells lefts rights right)
+    (kept_shaped (λ column. not (has_name column.name lefts)) rights right.cells other))
+
+join_typed : (held : SchemaLists) (lefts rights : List Column) (rows others : List TimedRow) → AreTyped lefts rows
+    → AreTyped rights others
+    → AreTyped (join_columns held lefts rights) (flat_map (pairs_of lefts rights others) rows)
+join_typed held lefts rights rows others fit more =
+    let to = join_columns held lefts rights in
+    all-flat_map (λ (row : TimedRow). FitColumns lefts row.cells) (λ (row : TimedRow). FitColumns to row.cells)
+    (pairs_of lefts rights others) rows
+    (λ left l. all-made (λ (row : TimedRow). FitColumns rights row.cells)
+    (λ (row : TimedRow). FitColumns to row.cells) (pair_of lefts rights left)
+    (filter (is_pair lefts rights left) others)
+    (λ right r. pair_typed held lefts rights left right l r)
+    (all-filter (λ (row : TimedRow). FitColumns rights row.cells) (is_pair lefts rights left) others more)) fit
+
+bounds_long : (xs ys : List ℤ) → pointwise int_eq xs ys ≡ true → length xs ≡ length ys
+bounds_long [] [] same = refl
+bounds_long [] (y ∷ ys) same = absurd cc
+bounds_long (x ∷ xs) [] same = absurd cc
+bounds_long (x ∷ xs) (y ∷ ys) same =
+    ap (λ n. suc n) (bounds_long xs ys (both (int_eq x y) (pointwise int_eq xs ys) same).1)
+
+-- a value of the same type
+of_same : (a b : ValueType) (x : Value) → same_type a b ≡ true → HasType b x → HasType a x
+of_same type.Int type.Int x same has = has
+of_same type.Bool type.Bool x same has = has
+of_same type.Text type.Text x same has = has
+of_same (type.Dist bounds) (type.Dist others) (value.Dist counts) same has =
+    omega (arith, bounds_long bounds others same, has)
+of_same (type.Dist bounds) (type.Dist others) (value.Int z) same has = has
+of_same (type.Dist bounds) (type.Dist others) (value.Bool b) same has = has
+of_same (type.Dist bounds) (type.Dist others) (value.Text s) same has = has
+of_same type.Int type.Bool x same has = absurd cc
+of_same type.Int type.Text x same has = absurd cc
+of_same type.Int (type.Dist others) x same has = absurd cc
+of_same type.Bool type.Int x same has = absurd cc
+of_same type.Bool type.Text x same has = absurd cc
+of_same type.Bool (type.Dist others) x same has = absurd cc
+of_same type.Text type.Int x same has = absurd cc
+of_same type.Text type.Bool x same has = absurd cc
+of_same type.Text (type.Dist others) x same has = absurd cc
+of_same (type.Dist bounds) type.Int x same has = absurd cc
+of_same (type.Dist bounds) type.Bool x same has = absurd cc
+of_same (type.Dist bounds) type.Text x same has = absurd cc
+
+left_united : (held : SchemaLists) (lefts rights : List Column) (xs : List Value) → same_columns lefts rights ≡ true
+    → FitColumns lefts xs → FitColumns (union_columns held lefts rights) xs
+left_united held [] rights [] same fit = tt
+left_united held [] rights (x ∷ xs) same fit = absurd fit
+left_united held (l ∷ ls) [] xs same fit = absurd cc
+left_united held (l ∷ ls) (r ∷ rs) [] same fit = absurd fit
+left_united held (l ∷ ls) (r ∷ rs) (x ∷ xs) same fit =
+    (fit.0, left_united held ls rs xs (both (same_column l r) (same_columns ls rs) same).1 fit.1)
+
+right_united : (held : SchemaLists) (lefts rights : List Column) (xs : List Value) → same_columns lefts rights ≡ true
+    → FitColumns rights xs → FitColumns (union_columns held lefts rights) xs
+right_united held [] [] [] same fit = tt
+right_united held [] [] (x ∷ xs) same fit = absurd fit
+right_united held [] (r ∷ rs) xs same fit = absurd cc
+right_united held (l ∷ ls) [] xs same fit = absurd cc
+right_united held (l ∷ ls) (r ∷ rs) [] same fit = absurd fit
+right_united held (l ∷ ls) (r ∷ rs) (x ∷ xs) same fit =
+    let parts = both (same_column l r) (same_columns ls rs) same in
+    let types = both (same_text l.name r.name) (same_type l.of r.of && same_truth l.key r.key) parts.0 in (
+      of_same l.of r.of x (both (same_type l.of r.of) (same_truth l.key r.key) types.1).0 fit.0,
+      right_united held ls rs xs parts.1 fit.1,
+    )
+
+-- ---- trees
+
+firsts_typed : (columns : List Column) (most column : ℕ) (rows : List TimedRow) → AreTyped columns rows
+    → (keys : List TimedRow)
+    → AreTyped columns
+    (flat_map (λ (group : TimedRow × List TimedRow). take most (sorted_list (rank_cmp column) group.1))
+    (map (λ key. (key, rows_in [] key rows)) keys))
+firsts_typed columns most column rows fit [] = tt
+firsts_typed columns most column rows fit (key ∷ keys) =
+    let P : TimedRow → Type 0 = λ row. FitColumns columns row.cells in
+    all-append P (take most (sorted_list (rank_cmp column) (rows_in [] key rows))) _
+    (all-take P most (sorted_list (rank_cmp column) (rows_in [] key rows))
+    (all-sorted P (rank_cmp column) (rows_in [] key rows)
+    (all-filter P (λ row. same_row key (group_key [] row)) rows fit)))
+    (firsts_typed columns most column rows fit keys)
+
+group_by_typed : (info : NodeInfo) (by : List ℕ) (with : List folds.Aggregate) (columns : List Column)
+    → GroupOf info by with columns → AreLawful columns → (rows : List TimedRow) → AreTyped columns rows
+    → AreTyped info.columns (group_rows by with rows)
+group_by_typed info by with columns own lawful rows fit =
+    let plain = aggregate_columns columns own.aggregates in
+    let same : key_columns_at columns by ++ plain ≡ info.columns =
+    ap (λ places. key_columns_at columns places ++ plain) (sym own.places) ∙ own.is in
+    subst (λ cs. AreTyped cs (group_rows by with rows)) same
+    (subst (λ made. AreTyped (key_columns_at columns by ++ plain) (group_rows by made rows)) own.makes
+    (group_typed columns by own.aggregates lawful own.counts own.none rows fit))
+
+values_typed : (info : NodeInfo) (items : List ItemTree) (columns : List Column) → ValueOf info items columns
+    → (rows : List TimedRow) → AreTyped columns rows
+    → AreTyped info.columns (filter_map (value_row columns items) rows)
+values_typed info items columns own rows fit =
+    subst (λ cs. AreTyped cs (filter_map (value_row columns items) rows)) own.is
+    (all-filter_map (λ (row : TimedRow). FitColumns columns row.cells)
+    (λ (row : TimedRow). FitColumns (value_columns columns items) row.cells) (value_row columns items) rows
+    (λ row made f e. value_made columns items own.none row made f e) fit)
+
+module _ (held : SchemaLists) (grid : Grid) (lawful : IsLawful grid) (rows : List Row) (fit : AllFit held rows) where
+  pub tree_typed : (tree : NodeTree) → AreRows held tree → AreTyped (columns_of tree) (rows_meant grid tree rows)
+  tree_typed (node.Fetch info schema metric) own = tt
+  tree_typed (node.Filter info by input) own =
+      subst (λ cs. AreTyped cs (rows_meant grid (node.Filter info by input) rows)) own.0
+      (all-filter (λ (row : TimedRow). FitColumns (columns_of input) row.cells)
+      (λ (row : TimedRow). predicate_truth by info.columns row.cells) (rows_meant grid input rows)
+      (tree_typed input own.1))
+  tree_typed (node.Align info by input) own = align_typed held grid lawful rows fit info by input own
+  tree_typed (node.GroupBy info by with input) own =
+      group_by_typed info by with (columns_of input) own.0 (lawful_columns held input own.1) (rows_meant grid input rows)
+      (tree_typed input own.1)
+  tree_typed (node.Value info items input) own =
+      values_typed info items (columns_of input) own.0 (rows_meant grid input rows) (tree_typed input own.1)
+  tree_typed (node.Top info most column input) own =
+      subst (λ cs. AreTyped cs (rows_meant grid (node.Top info most column input) rows)) own.0
+      (firsts_typed (columns_of input) most column (rows_meant grid input rows) (tree_typed input own.1)
+      (group_keys [] (rows_meant grid input rows)))
+  tree_typed (node.Join info left right) own =
+      subst (λ cs. AreTyped cs (rows_meant grid (node.Join info left right) rows)) own.0.is
+      (join_typed held (columns_of left) (columns_of right) (rows_meant grid left rows) (rows_meant grid right rows)
+      (tree_typed left own.1.0) (tree_typed right own.1.1))
+  tree_typed (node.Union info left right) own =
+      let to = union_columns held (columns_of left) (columns_of right) in
+      subst (λ cs. AreTyped cs (rows_meant grid (node.Union info left right) rows)) own.0.is
+      (all-append (λ (row : TimedRow). FitColumns to row.cells) (rows_meant grid left rows)
+      (rows_meant grid right rows)
+      (all-map (λ (row : TimedRow). FitColumns (columns_of left) row.cells)
+      (λ (row : TimedRow). FitColumns to row.cells) (rows_meant grid left rows)
+      (λ row f. left_united held (columns_of left) (columns_of right) row.cells own.0.same f)
+      (tree_typed left own.1.0))
+      (all-map (λ (row : TimedRow). FitColumns (columns_of right) row.cells)
+      (λ (row : TimedRow). FitColumns to row.cells) (rows_meant grid right rows)
+      (λ row f. right_united held (columns_of left) (columns_of right) row.cells own.0.same f)
+      (tree_typed right own.1.1)))
+
+  whole : (columns : List Column) (some : List TimedRow) → AreTyped columns some → AreWhole columns some
+  whole columns some typed =
+      all-map (λ (row : TimedRow). FitColumns columns row.cells)
+      (λ (row : TimedRow). length row.cells ≡ length columns) some (λ row f. length_fit columns row.cells f) typed
+
+  -- its groups and values have a cell for each column
+  pub makes_whole : (tree : NodeTree) → AreRows held tree → MakesWhole grid rows tree
+  makes_whole (node.Fetch info schema metric) own = tt
+  makes_whole (node.Filter info by input) own = makes_whole input own.1
+  makes_whole (node.Align info by input) own = tt
+  makes_whole (node.GroupBy info by with input) own =
+      (whole info.columns _ (tree_typed (node.GroupBy info by with input) own), makes_whole input own.1)
+  makes_whole (node.Value info items input) own =
+      (whole info.columns _ (tree_typed (node.Value info items input) own), makes_whole input own.1)
+  makes_whole (node.Top info most column input) own = makes_whole input own.1
+  makes_whole (node.Join info left right) own = (makes_whole left own.1.0, makes_whole right own.1.1)
+  makes_whole (node.Union info left right) own = (makes_whole left own.1.0, makes_whole right own.1.1)
