@@ -1,0 +1,4 @@
+mod EvaluatedParts
+mod PartsToComeLemmas
+mod ReadyParts
+mod StandingPieces

@@ -1,0 +1,4 @@
+pub mod LeafAnswers
+pub mod PartsToCome
+pub mod Standing
+pub mod TopParts
