@@ -1,17 +1,15 @@
 -- Records, taken one by one.
-use Rattle.std.proofs.Common.{◌≡◌, ◌∙◌, ◌+◌, ℕ, Bool, true, false, cond, Option, Some, None, List, [], ◌∷◌, ◌++◌, Result, Ok, Err, OnErr, refl, sym, ap, subst, append_assoc, append-nil}
+use Rattle.std.proofs.Common.{◌≡◌, ◌∙◌, ◌+◌, ℕ, Option, Some, None, List, [], ◌∷◌, ◌++◌, Result, Ok, Err, OnErr, refl, sym, ap, subst, append_assoc, append-nil}
 use Rattle.std.specs.List.{AllByRecursion, flat_map}
-use Rattle.mon_value.specs.Sources.{last_end, points_of}
 use Rattle.mon_value.specs.declared.rows.Row.{Row}
 use Rattle.mon_config.specs.declared.config.Config.{Config}
 use Rattle.mon_points.specs.Fitting.{ReadFits}
 use Rattle.mon_points.specs.declared.records.RowRead.{RowRead}
 use Rattle.mon_points.specs.declared.records.RowRead.TheVariants as read
-use Rattle.mon_run.specs.Feeds.{Verdict, fault_in, fed_by, is_in_zone, old_fault, refusal_of, refusals, taken, unless, verdict, verdicts}
+use Rattle.mon_run.specs.Feeds.{Verdict, fault_in, fed_by, range_of_key, refusal_of, refusals, row_fault, taken, unless, verdict, verdicts}
 use Rattle.mon_run.specs.declared.outcome.RowRefusal.{RowRefusal}
 use Rattle.mon_run.specs.declared.outcome.RowRefused.{RowRefused}
-use Rattle.mon_run.specs.declared.outcome.RowRefused.TheVariants as refused
-use Rattle.mon_run.specs.within.Sound.{AreSound}
+use Rattle.mon_run.specs.within.Sound.{AllFit}
 use Rattle.mon_run.specs.within.Takings.{Front}
 
 -- ---- records so far and records that are left
@@ -79,28 +77,17 @@ unless_row : (row kept : Row) (fault : Option RowRefused) → unless row fault �
 unless_row row kept None same = cc
 unless_row row kept (Some fault) same = absurd cc
 
--- a row that is accepted is the row that was read, and of the zone
-row_accepted : (config : Config) (rows : List Row) (row kept : Row) (zoned : Bool) → is_in_zone config row.key ≡ zoned →
-    cond zoned (unless row (old_fault (last_end (points_of row.key rows)) row.point)) (Err refused.NoZone) ≡ Ok kept → (row ≡ kept) × (is_in_zone config kept.key ≡ true)
-row_accepted config rows row kept true is same =
-    let e = unless_row row kept (old_fault (last_end (points_of row.key rows)) row.point) same in (e, subst (λ (r : Row). is_in_zone config r.key ≡ true) e is)
-row_accepted config rows row kept false is same = absurd cc
-
-accepted_zoned : (config : Config) (rows : List Row) (record_read : RowRead) (kept : Row) → verdict config rows record_read ≡ Ok kept → is_in_zone config kept.key ≡ true
-accepted_zoned config rows (read.Fault fault) kept same = absurd cc
-accepted_zoned config rows (read.Row row) kept same = (row_accepted config rows row kept (is_in_zone config row.key) refl same).1
-
+-- a row that is accepted is the row that was read
 accepted_fits : (config : Config) (rows : List Row) (record_read : RowRead) (kept : Row) → ReadFits config.schemas record_read → verdict config rows record_read ≡ Ok kept → ReadFits config.schemas (read.Row kept)
 accepted_fits config rows (read.Fault fault) kept fit same = absurd cc
-accepted_fits config rows (read.Row row) kept fit same = subst (λ (r : Row). ReadFits config.schemas (read.Row r)) (row_accepted config rows row kept (is_in_zone config row.key) refl same).0 fit
+accepted_fits config rows (read.Row row) kept fit same =
+    subst (λ (r : Row). ReadFits config.schemas (read.Row r)) (unless_row row kept (row_fault config rows row (range_of_key config row.key)) same) fit
 
-pub sound_more : (config : Config) (rows : List Row) (record_read : RowRead) (rows' : List Row) → ReadFits config.schemas record_read → rows' ≡ rows ++ taken (verdict config rows record_read) → AreSound config rows → AreSound config rows'
-sound_more config rows record_read rows' fit took sound =
-    subst (AreSound config) (sym took)
-    (record {
-      fit = taken_more (λ row. ReadFits config.schemas (read.Row row)) rows (verdict config rows record_read) (λ row is. accepted_fits config rows record_read row fit is) sound.fit;
-      zoned = taken_more (λ row. is_in_zone config row.key ≡ true) rows (verdict config rows record_read) (λ row is. accepted_zoned config rows record_read row is) sound.zoned;
-    })
+pub fit_more : (config : Config) (rows : List Row) (record_read : RowRead) (rows' : List Row) → ReadFits config.schemas record_read → rows' ≡ rows ++ taken (verdict config rows record_read)
+    → AllFit config.schemas rows → AllFit config.schemas rows'
+fit_more config rows record_read rows' fit took all =
+    subst (AllFit config.schemas) (sym took)
+    (taken_more (λ row. ReadFits config.schemas (read.Row row)) rows (verdict config rows record_read) (λ row is. accepted_fits config rows record_read row fit is) all)
 
 -- ---- a record that is refused
 

@@ -1,13 +1,13 @@
 mod ContentLemmas
-mod CopyLemmas
+mod CountLemmas
 mod EndLemmas
 mod FeedLemmas
-mod HeldLemmas
-mod PlaceLemmas
+mod HoldingLemmas
 mod QueryLemmas
 mod QueryTextLemmas
 mod ReadLemmas
 mod RunLemmas
+mod SeriesOfLemmas
 mod SinkLemmas
 mod StepLemmas
 mod TakeLemmas

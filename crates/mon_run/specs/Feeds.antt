@@ -1,12 +1,13 @@
 -- What a feed accepts and refuses.
-use Rattle.std.specs.Prelude.{ℕ, ℤ, int_le, ◌+◌, Bool, List, [], ◌∷◌, ◌++◌, Option, Some, None, is_some, option_and_then, Result, Ok, Err, if◌then◌else◌}
-use Rattle.std.specs.List.{flat_map}
+use Rattle.std.specs.Prelude.{ℕ, ℤ, int_le, ◌+◌, Bool, false, nat_eq, nat_le, List, [], ◌∷◌, ◌++◌, Option, Some, None, Result, Ok, Err, if◌then◌else◌}
+use Rattle.std.specs.List.{count_by, flat_map}
+use Rattle.std.specs.Option.{option_or}
 use Rattle.mon_value.specs.Sources.{last_end, points_of}
+use Rattle.mon_value.specs.declared.positions.Range.{Range}
 use Rattle.mon_value.specs.declared.rows.Point.{Point}
 use Rattle.mon_value.specs.declared.rows.Row.{Row}
 use Rattle.mon_value.specs.declared.rows.SeriesKey.{SeriesKey}
-use Rattle.mon_topo.specs.Locations.{location_of}
-use Rattle.mon_topo.specs.Zones.{zone_of}
+use Rattle.mon_topo.specs.Locations.{range_for}
 use Rattle.mon_config.specs.declared.config.Config.{Config}
 use Rattle.mon_points.specs.Records.{reads_of}
 use Rattle.mon_points.specs.declared.records.RowRead.{RowRead}
@@ -15,12 +16,19 @@ use Rattle.mon_run.specs.declared.outcome.RowRefused.{RowRefused}
 use Rattle.mon_run.specs.declared.outcome.RowRefused.TheVariants as refused
 use Rattle.mon_run.specs.declared.outcome.RowRefusal.{RowRefusal}
 
--- ---- zones
+-- ---- ranges
 
--- whether a zone lists the location of a series
-abbrev pub is_in_zone : Config → SeriesKey → Bool
-is_in_zone config key =
-    is_some (option_and_then (zone_of config.topology) (location_of config.schemas key.target))
+-- the range that a series' target lies in; there is none where no zone lists its location
+abbrev pub range_of_key : Config → SeriesKey → Option Range
+range_of_key config key = range_for config.schemas config.topology key.target
+
+abbrev pub is_range : Range → Option Range → Bool
+is_range range None = false
+is_range range (Some other) = nat_eq other.0 range.0
+
+-- how many rows lie in a range
+abbrev pub rows_in : Config → Range → List Row → ℕ
+rows_in config range = count_by (λ row. is_range range (range_of_key config row.key))
 
 -- ---- records
 
@@ -37,11 +45,20 @@ abbrev pub unless : Row → Option RowRefused → Verdict
 unless row None = Ok row
 unless row (Some fault) = Err fault
 
+-- a range that holds as many rows as it may takes no more
+abbrev pub full_fault : ℕ → ℕ → Option RowRefused
+full_fault limit held = if nat_le limit held then Some (refused.RangeFull limit) else None
+
+-- why a row of a range, or of none, is refused behind the rows that were accepted before it: the first of these
+abbrev pub row_fault : Config → List Row → Row → Option Range → Option RowRefused
+row_fault config rows row None = Some refused.NoZone
+row_fault config rows row (Some range) =
+    option_or (old_fault (last_end (points_of row.key rows)) row.point)
+    (full_fault config.range_points (rows_in config range rows))
+
 -- what becomes of a row behind those that were accepted before it
 abbrev pub row_verdict : Config → List Row → Row → Verdict
-row_verdict config rows row =
-    if is_in_zone config row.key then unless row (old_fault (last_end (points_of row.key rows)) row.point)
-    else Err refused.NoZone
+row_verdict config rows row = unless row (row_fault config rows row (range_of_key config row.key))
 
 abbrev pub verdict : Config → List Row → RowRead → Verdict
 verdict config rows (read.Fault fault) = Err (refused.Read fault)

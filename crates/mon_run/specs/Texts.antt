@@ -17,6 +17,7 @@ abbrev pub row_refused_text : RowRefused → List ℕ
 row_refused_text (refused.Read fault) = row_fault_text fault
 row_refused_text refused.NoZone = codes "NoZone"
 row_refused_text (refused.OldPoint last) = codes "OldPoint " ++ signed_decimal last
+row_refused_text (refused.RangeFull limit) = codes "RangeFull " ++ decimal limit
 
 abbrev pub refusal_line : RowRefusal → List ℕ
 refusal_line refusal = codes "row " ++ decimal refusal.number ++ codes ": " ++ row_refused_text refusal.fault ++ newline

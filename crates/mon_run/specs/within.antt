@@ -1,5 +1,4 @@
--- What only proofs read: how rows are kept, and the relations between the steps of a run.
-pub mod Places
+-- What only proofs read: the relations between the steps of a run.
 pub mod Sound
 pub mod Stops
 pub mod Takings

@@ -4,6 +4,7 @@
 mod accepted;
 mod command;
 mod feeds;
+mod holdings;
 mod outcome;
 mod outside;
 mod queries;

@@ -15,6 +15,8 @@ pub enum RowRefused {
     NoZone,
     /// The last point of its series ends at this second, at its own end or after it.
     OldPoint(i64),
+    /// Its range holds as many rows as a range may, which is this number.
+    RangeFull(u64),
 }
 
 /// A record that was refused. Records are numbered from 1.

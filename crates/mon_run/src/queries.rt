@@ -8,7 +8,7 @@ ghost use Rattle.mql_types.specs.Nodes.{typed_tree};
 ghost use Rattle.mql_types.specs.Typing.{typing};
 ghost use Rattle.mon_run.specs.Queries as spec;
 ghost use Rattle.mon_run.specs.QueryTexts.{GoesByTree, HasNoTree, IsRefused};
-ghost use Rattle.mon_run.specs.within.Sound.{AreSound, IsLimited};
+ghost use Rattle.mon_run.specs.within.Sound.{AllFit, IsLimited};
 
 use crate::accepted::Accepted;
 use crate::outcome::{LineEnd, LineFault};
@@ -47,7 +47,7 @@ pub(crate) fn reply_to(
     text: &Text,
 ) -> Result<Reply, OutOfMemory>
     requires limited { IsLimited config.now }
-    requires sound { AreSound config.now accepted.now }
+    requires fit { AllFit config.now.schemas accepted.now }
     requires moment { pos 0 ≤ℤ moment }
     ensures reply { IfOk result (λ reply. reply ≡ spec.reply_of moment
         (spec.query_answer config.now accepted.now moment text.now)) }
@@ -74,7 +74,7 @@ fn answer(
     text: &[u8],
 ) -> Result<Text, Refusal<LineFault>>
     requires limited { IsLimited config.now }
-    requires sound { AreSound config.now accepted.now }
+    requires fit { AllFit config.now.schemas accepted.now }
     requires moment { pos 0 ≤ℤ moment }
     ensures answer { Gives result (spec.query_answer config.now accepted.now moment text.now) }
 {

@@ -6,7 +6,7 @@ ghost use Rattle.mon_script.specs.Lawful.{IsLawful, IsLawfulLine};
 ghost use Rattle.mon_run.specs.Endings.{Did};
 ghost use Rattle.mon_run.specs.Plans as plan;
 ghost use Rattle.mon_run.specs.Plans.{Ask, End, Write};
-ghost use Rattle.mon_run.specs.within.Sound.{AreSound, IsLimited};
+ghost use Rattle.mon_run.specs.within.Sound.{AreEmpty, AreSound, IsLimited};
 ghost use Rattle.mon_run.specs.within.Takings.{FileTaken, TakeStops};
 ghost use Rattle.mon_run.specs.within.Stops.{Between, Closes, Completes, Continues, Halts, HasRead, LineRuns, LineStops, PutStops};
 ghost use Rattle.mon_run.specs.within.Stops.{ReadStops, StopsBetween, WriteStops, files_plan, named_plan};
@@ -14,6 +14,7 @@ ghost use Rattle.mon_run.specs.within.Stops.{is_silent as silent, status_of as c
 
 use crate::accepted::Accepted;
 use crate::feeds::{Fed, feed};
+use crate::holdings::Holdings;
 use crate::outcome::{LineEnd, LineEnds};
 use crate::outside::{Folder, FolderFault, Sink, write_all};
 use crate::queries::reply_to;
@@ -27,10 +28,11 @@ use mon_value::{LONGEST_FILE, Text};
 use std::alloc::Global;
 
 /// What a run has come to: the rows that it accepted, and the ends of its lines. Beside them it keeps
-/// the keys of the series that it read.
+/// what the ranges hold, and the keys of the series that it read.
 #[derive(Drop)]
 pub(crate) struct Log {
     pub accepted: Accepted,
+    pub holdings: Holdings,
     pub ends: LineEnds,
     pub keys: KeyCache,
 }
@@ -40,9 +42,11 @@ impl Log {
     pub fn new(alloc: Global) -> Log
         ensures rows { result.accepted ≡ [] }
         ensures ends { result.ends ≡ [] }
+        ensures empty { AreEmpty result.holdings }
     {
         Log {
             accepted: Accepted::new(alloc),
+            holdings: Holdings::new(alloc),
             ends: LineEnds::new(alloc),
             keys: KeyCache::new(alloc),
         }
@@ -62,6 +66,7 @@ impl<'f, 'o, 'l, F: Folder, O: Sink> Run<'f, 'o, 'l, F, O> {
     /// Runs the command that the words say, and says whether a line was refused.
     pub fn command(&mut self, words: &[String]) -> Result<bool, Stop>
         requires fresh { self.old.log.now.accepted ≡ [] }
+        requires empty { AreEmpty self.old.log.now.holdings }
         ensures continues { Continues F.state O.state self.old self.new }
         ensures completes { IfOk result (λ refused. Between F.state O.state
             (Completes (λ files. plan.run_plan files (map string_bytes words.now)) refused) self.old self.new) }
@@ -77,6 +82,7 @@ impl<'f, 'o, 'l, F: Folder, O: Sink> Run<'f, 'o, 'l, F, O> {
     // Runs a script under a configuration.
     fn files(&mut self, config: &str, script: &str) -> Result<bool, Stop>
         requires fresh { self.old.log.now.accepted ≡ [] }
+        requires empty { AreEmpty self.old.log.now.holdings }
         ensures continues { Continues F.state O.state self.old self.new }
         ensures completes { IfOk result (λ refused. Between F.state O.state
             (Completes (files_plan config.now script.now) refused) self.old self.new) }
@@ -92,6 +98,7 @@ impl<'f, 'o, 'l, F: Folder, O: Sink> Run<'f, 'o, 'l, F, O> {
     fn script(&mut self, config: &Config, name: &str) -> Result<bool, Stop>
         requires limited { IsLimited config.now }
         requires fresh { self.old.log.now.accepted ≡ [] }
+        requires empty { AreEmpty self.old.log.now.holdings }
         ensures continues { Continues F.state O.state self.old self.new }
         ensures completes { IfOk result (λ refused. Between F.state O.state
             (Completes (named_plan config.now name.now) refused) self.old self.new) }
@@ -107,7 +114,7 @@ impl<'f, 'o, 'l, F: Folder, O: Sink> Run<'f, 'o, 'l, F, O> {
     // Runs the lines of a script, and says whether one was refused.
     fn lines(&mut self, zone: &Zone, lines: &[ScriptLine]) -> Result<bool, Stop>
         requires lawful { AllByRecursion IsLawfulLine lines.now }
-        requires sound { AreSound zone.now self.old.log.now.accepted }
+        requires sound { AreSound zone.now self.old.log.now.accepted self.old.log.now.holdings }
         ensures continues { Continues F.state O.state self.old self.new }
         ensures completes { IfOk result (λ refused. Between F.state O.state
             (Completes (λ files. plan.lines_plan zone.now files false self.old.log.now.accepted lines.now) refused)
@@ -125,13 +132,13 @@ impl<'f, 'o, 'l, F: Folder, O: Sink> Run<'f, 'o, 'l, F, O> {
     // Runs a line, and says whether it was refused.
     fn line(&mut self, zone: &Zone, form: &LineForm) -> Result<bool, Stop>
         requires lawful { IsLawful form.now }
-        requires sound { AreSound zone.now self.old.log.now.accepted }
+        requires sound { AreSound zone.now self.old.log.now.accepted self.old.log.now.holdings }
         ensures continues { Continues F.state O.state self.old self.new }
         ensures refused { IfOk result (λ refused. refused
             ≡ plan.is_refused zone.now self.old.log.now.accepted form.now) }
         ensures ran { OnOk result (Between F.state O.state (LineRuns zone.now form.now) self.old self.new) }
         ensures stops { IfErr result (StopsBetween F.state O.state (LineStops zone.now form.now) self.old self.new) }
-        ensures sound { OnOk result (AreSound zone.now self.new.log.now.accepted) }
+        ensures sound { OnOk result (AreSound zone.now self.new.log.now.accepted self.new.log.now.holdings) }
     {
         match form {
             LineForm::Feed(name) => {
@@ -144,13 +151,13 @@ impl<'f, 'o, 'l, F: Folder, O: Sink> Run<'f, 'o, 'l, F, O> {
 
     // Runs a feed.
     fn feed(&mut self, zone: &Zone, name: &Text) -> Result<(), Stop>
-        requires sound { AreSound zone.now self.old.log.now.accepted }
+        requires sound { AreSound zone.now self.old.log.now.accepted self.old.log.now.holdings }
         ensures continues { Continues F.state O.state self.old self.new }
         ensures ran { OnOk result (Between F.state O.state
             (LineRuns zone.now (LineForm.Feed name.now)) self.old self.new) }
         ensures stops { IfErr result (StopsBetween F.state O.state
             (LineStops zone.now (LineForm.Feed name.now)) self.old self.new) }
-        ensures sound { OnOk result (AreSound zone.now self.new.log.now.accepted) }
+        ensures sound { OnOk result (AreSound zone.now self.new.log.now.accepted self.new.log.now.holdings) }
     {
         let fed = self.take(zone, name)?;
         let text = feed_text(self.alloc, name.as_str(), fed.accepted, &fed.refused)?;
@@ -163,12 +170,12 @@ impl<'f, 'o, 'l, F: Folder, O: Sink> Run<'f, 'o, 'l, F, O> {
 
     // Takes the records of a file.
     fn take(&mut self, zone: &Zone, name: &Text) -> Result<Fed, Stop>
-        requires sound { AreSound zone.now self.old.log.now.accepted }
+        requires sound { AreSound zone.now self.old.log.now.accepted self.old.log.now.holdings }
         ensures continues { Continues F.state O.state self.old self.new }
         ensures took { IfOk result (λ fed. Between F.state O.state
             (FileTaken zone.now name.now fed) self.old self.new) }
         ensures stops { IfErr result (StopsBetween F.state O.state (TakeStops zone.now name.now) self.old self.new) }
-        ensures sound { OnOk result (AreSound zone.now self.new.log.now.accepted) }
+        ensures sound { OnOk result (AreSound zone.now self.new.log.now.accepted self.new.log.now.holdings) }
     {
         let content = self.read(name.as_str())?;
         let log = &mut *self.log;
@@ -176,6 +183,7 @@ impl<'f, 'o, 'l, F: Folder, O: Sink> Run<'f, 'o, 'l, F, O> {
             self.alloc,
             zone,
             &mut log.accepted,
+            &mut log.holdings,
             &mut log.keys,
             content.as_slice(),
         )?)
@@ -184,7 +192,7 @@ impl<'f, 'o, 'l, F: Folder, O: Sink> Run<'f, 'o, 'l, F, O> {
     // Runs a query, and says whether it was refused.
     fn query(&mut self, zone: &Zone, moment: i64, text: &Text) -> Result<bool, Stop>
         requires lawful { IsLawful (LineForm.Query moment text.now) }
-        requires sound { AreSound zone.now self.old.log.now.accepted }
+        requires sound { AreSound zone.now self.old.log.now.accepted self.old.log.now.holdings }
         ensures continues { Continues F.state O.state self.old self.new }
         ensures refused { IfOk result (λ refused. refused
             ≡ plan.is_refused zone.now self.old.log.now.accepted (LineForm.Query moment text.now)) }
@@ -192,7 +200,7 @@ impl<'f, 'o, 'l, F: Folder, O: Sink> Run<'f, 'o, 'l, F, O> {
             (LineRuns zone.now (LineForm.Query moment text.now)) self.old self.new) }
         ensures stops { IfErr result (StopsBetween F.state O.state
             (LineStops zone.now (LineForm.Query moment text.now)) self.old self.new) }
-        ensures sound { OnOk result (AreSound zone.now self.new.log.now.accepted) }
+        ensures sound { OnOk result (AreSound zone.now self.new.log.now.accepted self.new.log.now.holdings) }
     {
         let config = zone.config();
         let reply = reply_to(self.alloc, config, &self.log.accepted, moment, text)?;
@@ -205,6 +213,7 @@ impl<'f, 'o, 'l, F: Folder, O: Sink> Run<'f, 'o, 'l, F, O> {
     fn put(&mut self, end: LineEnd, text: &[u8]) -> Result<(), Stop>
         ensures continues { Continues F.state O.state self.old self.new }
         ensures rows { self.new.log.now.accepted ≡ self.old.log.now.accepted }
+        ensures holdings { self.new.log.now.holdings ≡ self.old.log.now.holdings }
         ensures put { OnOk result (Between F.state O.state (Did (End end ∷ Write text.now ∷ [])) self.old self.new) }
         ensures stops { IfErr result (StopsBetween F.state O.state (PutStops end text.now) self.old self.new) }
     {
@@ -216,6 +225,7 @@ impl<'f, 'o, 'l, F: Folder, O: Sink> Run<'f, 'o, 'l, F, O> {
     fn end(&mut self, end: LineEnd) -> Result<(), Stop>
         ensures continues { Continues F.state O.state self.old self.new }
         ensures rows { self.new.log.now.accepted ≡ self.old.log.now.accepted }
+        ensures holdings { self.new.log.now.holdings ≡ self.old.log.now.holdings }
         ensures ended { OnOk result (Between F.state O.state (Did (End end ∷ [])) self.old self.new) }
         ensures kept { OnErr result (Between F.state O.state (Did []) self.old self.new) }
         ensures stops { IfErr result (λ stop. stop ≡ Stop.OutOfMemory) }

@@ -46,6 +46,7 @@ fn push_refusal(alloc: Global, text: &mut String, refusal: &RowRefusal) -> Resul
         RowRefused::Read(fault) => format!(in alloc; "row {number}: {fault}\n")?,
         RowRefused::NoZone => format!(in alloc; "row {number}: NoZone\n")?,
         RowRefused::OldPoint(last) => format!(in alloc; "row {number}: OldPoint {last}\n")?,
+        RowRefused::RangeFull(limit) => format!(in alloc; "row {number}: RangeFull {limit}\n")?,
     };
     text.push_str(line.as_str())
 }

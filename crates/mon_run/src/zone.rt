@@ -4,7 +4,7 @@ ghost use Rattle.mon_run.specs.Feeds as spec;
 ghost use Rattle.mon_run.specs.within.Sound.{IsLimited};
 
 use mon_config::Config;
-use mon_topo::location_of;
+use mon_topo::{Range, location_of};
 use mon_value::SeriesKey;
 use std::marker::Model;
 
@@ -42,13 +42,12 @@ impl<'a> Zone<'a> {
         self.config
     }
 
-    /// Whether a zone lists a series' location.
-    pub(crate) fn lists(&self, key: &SeriesKey) -> bool
-        ensures listed { result ≡ spec.is_in_zone self.now key.now }
+    /// The range that a series' target lies in, where a zone lists its location.
+    pub(crate) fn range_of(&self, key: &SeriesKey) -> Option<Range>
+        ensures range { result ≡ spec.range_of_key self.now key.now }
     {
-        match location_of(&self.config.schemas, &key.target) {
-            Some(location) => self.config.topology.zone_of(location.as_bytes()).is_some(),
-            None => false,
-        }
+        let location = location_of(&self.config.schemas, &key.target)?;
+        let zone = self.config.topology.zone_of(location.as_bytes())?;
+        Some(self.config.topology.range_of(zone, &key.target))
     }
 }

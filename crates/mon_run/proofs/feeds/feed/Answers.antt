@@ -5,7 +5,7 @@ use Rattle.mon_config.specs.declared.config.Config.{Config}
 use Rattle.mon_points.specs.Fitting.{ReadFits}
 use Rattle.mon_points.specs.Records.{reads_of}
 use Rattle.mon_points.specs.declared.records.RowRead.{RowRead}
-use Rattle.mon_run.proofs.FeedLemmas.{feeding_first, feeding_more, sound_more}
+use Rattle.mon_run.proofs.FeedLemmas.{feeding_first, feeding_more, fit_more}
 use Rattle.mon_run.proofs.feeds.feed.Goals as goal
 
 pub loop-read-init : goal.loop-read-init
@@ -17,7 +17,8 @@ loop-read-init c =
     c.in_ok-reads.ensures.exact ∙ ap (λ (k : Config). reads_of k.schemas c.args.content.now) c.config.ensures.config in
     record {
       feeding = feeding_first config rows (reads_of config.schemas c.args.content.now) _ _ (items ∙ reads) c.new-refused.ensures.empty;
-      sound = c.requires.sound;
+      kept = c.requires.sound.fit;
+      counted = c.requires.sound.counted;
       fit = subst (AllByRecursion (ReadFits config.schemas)) (sym items) (subst (λ (k : Config). AllByRecursion (ReadFits k.schemas) c.in_ok-reads.reads) c.config.ensures.config c.in_ok-reads.ensures.fit);
       left = let l = ap length items in c.into_iter-read-iterator.ensures.into_iter_gives.1 ∙ sym l;
       count = let l = ap length items in let m = c.in_ok-reads.ensures.few in omega arith;
@@ -33,7 +34,8 @@ loop-read-preserved c =
     let fit = subst (AllByRecursion (ReadFits config.schemas)) next i.fit in
     record {
       feeding = feeding_more (into_iter_items c.loop-read.read-iterator) rest read c.take.new.accepted c.take.new.refused next c.in_ok-take.ensures.taken c.in_ok-take.ensures.refused i.feeding;
-      sound = sound_more config c.loop-read.accepted read c.take.new.accepted fit.0 c.in_ok-take.ensures.taken i.sound;
+      kept = fit_more config c.loop-read.accepted read c.take.new.accepted fit.0 c.in_ok-take.ensures.taken i.kept;
+      counted = c.in_ok-take.ensures.counted;
       fit = fit.1;
       left = let l = ap length next in let k = c.in-Some.ensures.steps.1 in omega arith;
       count = let l = ap length next in omega arith;

@@ -12,4 +12,4 @@ table-requires-clause-typed c =
     let schemas = c.args.config.now.schemas in
     let tree : PipeTree = query_tree c.in_ok-query.query in
     spelled_typed schemas tree c.args.text.now (typed_tree c.in_ok-typed.typed) c.args.accepted.now c.metrics_are_lawful.ensures.held c.in_ok-query.ensures.spelled
-    (taken_as fault.Typing (typing schemas tree) (typed_tree c.in_ok-typed.typed) c.in_ok-typed.ensures.typed) c.requires.sound.fit
+    (taken_as fault.Typing (typing schemas tree) (typed_tree c.in_ok-typed.typed) c.in_ok-typed.ensures.typed) c.requires.fit

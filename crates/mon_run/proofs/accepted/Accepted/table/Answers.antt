@@ -1,5 +1,5 @@
 use Rattle.std.proofs.Common.{rules, ◌≡◌, ◌∙◌, ℤ, Ok, ap, subst, to_z, of_z, w64}
-use Rattle.mon_meaning.specs.Central.{IsAnswer, series_held}
+use Rattle.mon_meaning.specs.Central.{IsAnswer}
 use Rattle.mon_value.specs.Sources.{points_by_series}
 use Rattle.mql_types.specs.Nodes.{TypedTree, typed_tree}
 use Rattle.mon_run.proofs.QueryLemmas.{meant_within}
@@ -9,6 +9,6 @@ pub returns-in-Ok : goal.returns-in-Ok
 returns-in-Ok c =
     let plain : to_z w64 (of_z w64 c.args.moment) ≡ c.args.moment = search rules in
     let typed : TypedTree = typed_tree c.args.typed.now in
-    let kept : series_held c.self.inside.series.entries ≡ points_by_series c.args.self.now = c.self.invariant.grouped ∙ ap points_by_series c.self.view_is in
+    let kept = c.all_series.ensures.series ∙ ap points_by_series c.self.view_is in
     let answer = subst (λ (z : ℤ). IsAnswer typed c.args.self.now z c.args.limit (Ok c.in-Ok.table)) plain (c.in-Ok.ensures.answer c.args.self.now kept) in
     record { printed = meant_within c.args.limit typed c.args.self.now c.args.moment c.in-Ok.table answer }

@@ -12,7 +12,7 @@ abbrev pub invariant-loop-line : goal.invariant-loop-line
 invariant-loop-line g l = record {
   continues : Continues g.F.Folder.state g.O.Sink.state l.fn.self l.self;
   lawful : AllByRecursion IsLawfulLine (drop l.line-index l.lines);
-  sound : AreSound l.zone l.self.log.now.accepted;
+  sound : AreSound l.zone l.self.log.now.accepted l.self.log.now.holdings;
   reached : Told (g.F.Folder.state l.fn.self.folder.now) (λ files. Reached l.zone files l.lines (drop l.line-index l.lines) l.refused
       (seen g.F.Folder.state g.O.Sink.state l.fn.self) (seen g.F.Folder.state g.O.Sink.state l.self));
 }

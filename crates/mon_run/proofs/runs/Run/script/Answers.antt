@@ -7,16 +7,24 @@ use Rattle.mon_script.specs.Scripts.{script_in}
 use Rattle.mon_run.specs.Endings.{Progress}
 use Rattle.mon_run.specs.Plans.{lines_plan}
 use Rattle.mon_run.specs.declared.stop.Stop.{Stop}
-use Rattle.mon_run.specs.declared.stop.Stop.TheVariants as stop
+use Rattle.mon_run.specs.within.Sound.{AreEmpty}
 use Rattle.mon_run.specs.within.Stops.{Completes, Done, Halts, HasRead, Stops, named_plan, script_stop, seen}
 use Rattle.std.proofs.lemmas.Result.{err_from_is_err_and}
+use Rattle.mon_run.proofs.CountLemmas.{sound_none}
 use Rattle.mon_run.proofs.EndLemmas.{causes_earlier, refused_script}
-use Rattle.mon_run.proofs.RunLemmas.{handed_on, err_weaker, ok_weaker, script_done, script_halts, script_refused, script_starved}
+use Rattle.mon_run.proofs.RunLemmas.{handed_on, err_weaker, ok_weaker, script_done, script_halts, script_refused}
 use Rattle.mon_run.proofs.runs.Run.script.Goals as goal
 
 pub lines-requires-clause-lawful : goal.lines-requires-clause-lawful
 lines-requires-clause-lawful g c =
     subst (AllByRecursion IsLawfulLine) (sym c.as_slice-2.ensures.items) c.in_ok-script.ensures.lawful
+
+pub lines-requires-clause-sound : goal.lines-requires-clause-sound
+lines-requires-clause-sound g c =
+    let log = c.in_ok-text.ensures.log in
+    let rows : c.read.new.self.log.now.accepted ≡ [] = ap (λ log. log.accepted) log ∙ c.requires.fresh in
+    let empty : AreEmpty c.read.new.self.log.now.holdings = subst (λ kept. AreEmpty kept) (sym (ap (λ log. log.holdings) log)) c.requires.empty in
+    sound_none c.new-zone.result c.read.new.self.log.now.accepted c.read.new.self.log.now.holdings rows empty
 
 pub returns-in_err-text-clause-halts : goal.returns-in_err-text-clause-halts
 returns-in_err-text-clause-halts g c =

@@ -1,7 +1,0 @@
-use Rattle.std.proofs.Common.{◌∙◌, length, sym, ap}
-use Rattle.mon_meaning.specs.Central.{series_held}
-use Rattle.mon_run.proofs.PlaceLemmas.{rows_count}
-use Rattle.mon_run.proofs.accepted.Accepted.len.Goals as goal
-
-pub returns : goal.returns
-returns c = record { count = c.len.ensures.count ∙ sym (rows_count (series_held c.self.inside.series.entries) c.self.inside.order.items c.self.invariant.there) ∙ ap length c.self.view_is }

@@ -1,7 +1,0 @@
--- the copies so far and the series that are left are all
-use Rattle.std.proofs.Common.{◌≡◌, ◌++◌}
-use Rattle.mon_meaning.specs.Central.{series_held}
-use Rattle.mon_run.proofs.accepted.copied_series.Given as goal
-
-abbrev pub invariant-loop-key : goal.invariant-loop-key
-invariant-loop-key l = series_held l.copied.entries ++ series_held l.key-iterator ≡ series_held l.groups.entries
