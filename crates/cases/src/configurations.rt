@@ -2,11 +2,12 @@
 use crate::calls::Call;
 use crate::escapes::bytes_of;
 use crate::trouble::Trouble;
-use mon_config::read_config;
-use mon_value::Refusal;
-use std::alloc::Global;
+use mon_config::{Config, read_config};
+use mon_value::{Refusal, TryCopy};
+use std::alloc::{AllocError, Global};
 
-/// A case is a configuration; its answer is `read`, or the fault.
+/// A case is a configuration; its answer is `read` with the numbers of buckets, steps, points and zones of a
+/// copy, or the fault.
 #[derive(Drop)]
 pub(crate) struct Configurations {
     alloc: Global,
@@ -26,10 +27,17 @@ impl Call for Configurations {
     fn answer(&mut self, given: &str) -> Result<Vec<u8>, Trouble> {
         let text = bytes_of(self.alloc, given)?;
         let answer = match read_config(self.alloc, text.as_slice()) {
-            Ok(_config) => String::from_str(self.alloc, "read")?,
+            Ok(config) => told(self.alloc, &config.copy(self.alloc)?)?,
             Err(Refusal::Fault(fault)) => format!(in self.alloc; "{fault}")?,
             Err(Refusal::OutOfMemory) => return Err(Trouble::OutOfMemory),
         };
         Ok(answer.into_bytes())
     }
+}
+
+// The numbers of a configuration.
+fn told(alloc: Global, config: &Config) -> Result<String, AllocError> {
+    let zones = config.topology.zones();
+    let (buckets, limit, points) = (config.buckets, config.limit, config.range_points);
+    format!(in alloc; "read {buckets} {limit} {points} {zones}")
 }

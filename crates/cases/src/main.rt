@@ -29,6 +29,7 @@ mod tables;
 mod trouble;
 mod typing;
 mod values;
+mod writes;
 
 use crate::calls::{Report, check};
 use crate::case_tables::{CaseTable, read_table};
@@ -49,6 +50,7 @@ use crate::series::Alignments;
 use crate::tables::Tables;
 use crate::typing::TypedTexts;
 use crate::values::{NumberTexts, Orders, TargetOrders, ValueTexts};
+use crate::writes::Writes;
 use std::alloc::AllocError;
 use std::process::ExitCode;
 use std::{env, io};
@@ -138,6 +140,7 @@ fn report_on(
         "mql_types::op_levels" => check(rt, name, table, ExplainedTexts::new(alloc))?,
         "plan_split::formula_of" => check(rt, name, table, FormulaTruths::new(alloc))?,
         "plan_split::split" => check(rt, name, table, Plans::new(alloc))?,
+        "write_core::WriteMachine" => check(rt, name, table, Writes::new(alloc))?,
         "mon_run::run" => check(rt, name, table, Runs::new(alloc))?,
         _ => return Ok(None),
     };
