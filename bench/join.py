@@ -8,14 +8,12 @@ those of a run whose join has just under a million rows, which are made and prin
 """
 
 import json
-import os
 import pathlib
 import subprocess
 import sys
 import tempfile
-import time
 
-from made import PROGRAM, ROOT
+from made import PROGRAM, ROOT, timed_run
 
 MANY = 3000
 FEW = 990
@@ -52,13 +50,9 @@ def write_input(folder, count):
 
 def run(folder, name):
     """Seconds, peak memory in MiB, status and the last line of a run."""
-    start = time.perf_counter()
-    with open(folder / "out.txt", "w", encoding="utf-8") as out:
-        child = subprocess.Popen([PROGRAM, "run", "config.json", name], cwd=folder, stdout=out)
-        _, status, usage = os.wait4(child.pid, 0)
-    taken = time.perf_counter() - start
+    taken, peak, status = timed_run(PROGRAM, folder, name)
     last = (folder / "out.txt").read_text().splitlines()[-1]
-    return taken, usage.ru_maxrss / 1024, os.waitstatus_to_exitcode(status), last
+    return taken, peak, status, last
 
 
 def main():

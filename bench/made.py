@@ -70,18 +70,23 @@ def write_input(folder):
         (folder / f"script{count}.txt").write_text("".join(lines) + "query 1000 fetch Task::/work\n")
 
 
-def run(program, folder, count):
-    """Seconds and peak memory, in MiB, of a run over so many files, and what it printed."""
+def timed_run(program, folder, script):
+    """Seconds, peak memory in MiB and status of a run of a script, which prints to the folder's out.txt."""
     start = time.perf_counter()
     with open(folder / "out.txt", "w", encoding="utf-8") as out:
-        child = subprocess.Popen([program, "run", "config.json", f"script{count}.txt"], cwd=folder, stdout=out)
+        child = subprocess.Popen([program, "run", "config.json", script], cwd=folder, stdout=out)
         _, status, usage = os.wait4(child.pid, 0)
-    taken = time.perf_counter() - start
+    return time.perf_counter() - start, usage.ru_maxrss / 1024, os.waitstatus_to_exitcode(status)
+
+
+def run(program, folder, count):
+    """Seconds and peak memory, in MiB, of a run over so many files, and what it printed."""
+    taken, peak, status = timed_run(program, folder, f"script{count}.txt")
     printed = (folder / "out.txt").read_text()
     last = printed.splitlines()[-1]
     if status != 0 or last != f"{count * TASKS} rows":
         sys.exit(f"unexpected: status {status}, {last}")
-    return taken, usage.ru_maxrss / 1024, printed
+    return taken, peak, printed
 
 
 def measure(name, program, folder):

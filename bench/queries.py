@@ -20,7 +20,7 @@ import sys
 import tempfile
 import time
 
-from made import FILES, PROGRAM, ROOT, ROWS, write_input
+from made import FILES, PROGRAM, ROOT, ROWS, timed_run, write_input
 
 ROUNDS = 5
 # How often a query is asked in a run, so that its time stands out from that of the feeds.
@@ -64,14 +64,10 @@ QUERIES = [
 
 def run(folder, name):
     """Seconds and peak memory, in MiB, of a run of a script."""
-    start = time.perf_counter()
-    with open(folder / "out.txt", "w", encoding="utf-8") as out:
-        child = subprocess.Popen([PROGRAM, "run", "config.json", name], cwd=folder, stdout=out)
-        _, status, usage = os.wait4(child.pid, 0)
-    taken = time.perf_counter() - start
+    taken, peak, status = timed_run(PROGRAM, folder, name)
     if status != 0:
         sys.exit(f"unexpected: status {status} of {name}")
-    return taken, usage.ru_maxrss / 1024
+    return taken, peak
 
 
 def measure(folder, name):
