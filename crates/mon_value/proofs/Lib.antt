@@ -4,6 +4,7 @@ pub mod CountsPartLemmas
 pub mod GridLemmas
 pub mod GroupLemmas
 pub mod KeyedLemmas
+pub mod LeafHistoryLemmas
 pub mod ListLendsLemmas
 pub mod NumberLemmas
 pub mod NumberPartLemmas

@@ -1,5 +1,5 @@
 -- What a leaf holds after a history of entries, oldest first, and which histories a leaf can have.
-use Rattle.std.specs.Prelude.{◌≡◌, ◌<◌, nat_eq, Bool, true, false, ◌&&◌, ◌||◌, List, [], ◌∷◌, ◌++◌, if◌then◌else◌}
+use Rattle.std.specs.Prelude.{◌≡◌, ◌<◌, ◌≤◌, ℕ, nat_eq, Bool, true, false, ◌&&◌, ◌||◌, List, [], ◌∷◌, ◌++◌, length, take, if◌then◌else◌}
 use Rattle.std.specs.List.{flat_map, count_by}
 use Rattle.mon_value.specs.Limits.{MOST_SWITCHES}
 use Rattle.mon_value.specs.Sources.{IsSource}
@@ -24,6 +24,17 @@ entry_rows range slot (entry.Up pass) = []
 abbrev pub replica_rows : Range → Slot → List Entry → List Row
 replica_rows range slot = flat_map (entry_rows range slot)
 
+-- the rows that an entry brings, to whichever replica
+abbrev pub brought_rows : Entry → List Row
+brought_rows (entry.Opened pass range slot rows) = rows
+brought_rows (entry.Put pass range slot row) = row ∷ []
+brought_rows (entry.Down pass) = []
+brought_rows (entry.Up pass) = []
+
+-- the rows of a leaf, entry by entry
+abbrev pub leaf_rows : List Entry → List Row
+leaf_rows = flat_map brought_rows
+
 -- whether a replica was opened
 abbrev pub is_opened : Range → Slot → List Entry → Bool
 is_opened range slot [] = false
@@ -44,6 +55,11 @@ is_down_after down (entry.Up pass ∷ history) = is_down_after false history
 -- whether a leaf is down after a history: it is up at first
 abbrev pub is_down : List Entry → Bool
 is_down = is_down_after false
+
+-- at a cut of its history a leaf was down
+pub record IsDownAt (history : List Entry) (cut : ℕ) : Type 0 where
+  pub seen_by_then : cut ≤ length history
+  pub down : is_down (take cut history) ≡ true
 
 -- whether an entry says that the leaf went down or came up
 abbrev pub is_switch : Entry → Bool

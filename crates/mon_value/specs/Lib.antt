@@ -12,6 +12,7 @@ pub mod LeafHistories
 pub mod Limits
 pub mod ListItems
 pub mod ListLends
+pub mod Notes
 pub mod Numbers
 pub mod Order
 pub mod Parts
