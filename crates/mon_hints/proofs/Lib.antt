@@ -1,3 +1,4 @@
+pub mod CoverLemmas
 pub mod FormulaLemmas
 pub mod HintLemmas
 pub mod ListingLemmas
