@@ -1,11 +1,14 @@
 -- What holds of a schema without a fault.
-use Rattle.std.proofs.Common.{◌≡◌, ◌||◌, Bool, true, false, not, cond, Option, Some, None, List, [], ◌∷◌, ◌++◌, refl}
+use Rattle.std.proofs.Common.{◌≡◌, ◌≤◌, ◌||◌, ℕ, nat_lt, count_by, Bool, true, false, not, cond, Option, Some, None, List, [], ◌∷◌, ◌++◌, refl, arith}
 use Rattle.std.specs.Prelude.{is_some}
+use Rattle.std.specs.List.{list_any}
+use Rattle.std.proofs.lemmas.Bool.Decides.{nat_tests}
 use Rattle.mon_value.specs.declared.schemas.TargetSchema.{TargetSchema}
 use Rattle.mon_value.specs.declared.schemas.MetricSchema.{MetricSchema}
 use Rattle.mon_schema.specs.SchemaLists.{SchemaLists, target_named, metric_named}
-use Rattle.mon_schema.specs.Faults.{target_fault, metric_fault, is_bounded, is_kind_met, is_target_over, is_target_named, is_target_taken, is_metric_over, is_metric_named, is_metric_taken}
+use Rattle.mon_schema.specs.Faults.{is_location, target_fault, metric_fault, is_bounded, is_kind_met, is_target_over, is_target_named, is_target_taken, is_metric_over, is_metric_named, is_metric_taken}
 use Rattle.mon_schema.specs.HeldMetrics.{AreHeld, HasNumbers, IsHeld}
+use Rattle.mon_schema.specs.HeldTargets.{AllTellLocations, TellsLocation}
 
 -- a chain of tests that ends without a fault has passed the third
 past_third : {F : Type 0} (a b c : Bool) (f g h rest : Option F) → (f ≡ None → ⊥) → (g ≡ None → ⊥) → (h ≡ None → ⊥)
@@ -58,3 +61,29 @@ metric_held held metric none numbers =
 pub held_more : (metrics : List MetricSchema) (metric : MetricSchema) → AreHeld metrics → IsHeld metric → AreHeld (metrics ++ metric ∷ [])
 held_more [] metric all one = (one, tt)
 held_more (first ∷ metrics) metric all one = (all.0, held_more metrics metric all.1 one)
+
+-- a chain of tests that ends without a fault has passed the last two
+past_both : {F : Type 0} (a b c d e : Bool) (f g h i j : F) → cond a (Some f) (cond b (Some g) (cond c (Some h) (cond d (Some i) (cond (not e) (Some j) None)))) ≡ None
+    → (d ≡ false) × (e ≡ true)
+past_both true b c d e f g h i j none = absurd cc
+past_both false true c d e f g h i j none = absurd cc
+past_both false false true d e f g h i j none = absurd cc
+past_both false false false true e f g h i j none = absurd cc
+past_both false false false false false f g h i j none = absurd cc
+past_both false false false false true f g h i j none = (refl, refl)
+
+not_more : (n : ℕ) → nat_lt 1 n ≡ false → n ≤ 1
+not_more n e = grind (arith, nat_tests)
+
+-- a target schema without a fault tells where its targets are
+pub target_tells : (held : SchemaLists) (schema : TargetSchema) → target_fault held schema ≡ None → TellsLocation schema
+target_tells held schema none =
+    let last = past_both (is_target_over held schema) (not (is_target_named schema)) (is_target_taken held schema)
+    (nat_lt 1 (count_by (λ field. field.location) schema.fields)) (list_any is_location schema.fields) _ _ _ _ _ none in
+    record { once = not_more (count_by (λ field. field.location) schema.fields) last.0; some = last.1 }
+
+-- a target schema more at the end of a map
+pub located_more : (targets : List TargetSchema) (schema : TargetSchema) → AllTellLocations targets → TellsLocation schema
+    → AllTellLocations (targets ++ schema ∷ [])
+located_more [] schema all one = (one, tt)
+located_more (first ∷ targets) schema all one = (all.0, located_more targets schema all.1 one)

@@ -4,17 +4,20 @@ use Rattle.std.specs.List.{AllByRecursion}
 use Rattle.std.specs.declared.alloc.Global.{Global}
 use Rattle.indexmap.specs.IndexMap.{values}
 use Rattle.mon_schema.specs.HeldMetrics.{AreHeld}
+use Rattle.mon_schema.specs.HeldTargets.{AllTellLocations}
 use Rattle.mon_schema.specs.SchemaLists.{SchemaLists}
 use Rattle.mon_schema.specs.declared.table.Schemas.TheInside.{Inside}
 
 abbrev pub schema_lists : Inside → SchemaLists
 schema_lists held = record { targets = values held.targets; metrics = values held.metrics }
 
--- each schema is kept under its name, and each metric is as schemas take it
+-- each schema is kept under its name, each target schema tells where its targets are, and each metric is as schemas
+-- take it
 pub record AreKept (inside : Inside) : Type 0 where
   pub targets : AllByRecursion (λ entry. entry.0.items ≡ entry.1.name) inside.targets.entries
   pub metrics : AllByRecursion (λ entry. entry.0.items ≡ entry.1.name) inside.metrics.entries
   pub held : AreHeld (values inside.metrics)
+  pub located : AllTellLocations (values inside.targets)
 
 -- the entries of a map as contracts see them: each name with its schema
 abbrev pub named_entries : {S : Type 0} → List (Vec ℕ Global × S) → List (List ℕ × S)

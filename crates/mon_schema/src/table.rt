@@ -43,6 +43,7 @@ impl Schemas {
     ghost use Rattle.mon_schema.specs.Faults.{target_fault, metric_fault};
     ghost use Rattle.mon_schema.specs.Fits.{fits};
     ghost use Rattle.mon_schema.specs.HeldMetrics.{AreHeld, HasNumbers};
+    ghost use Rattle.mon_schema.specs.HeldTargets.{AllTellLocations};
 
     /// No schemas, which take their memory from `alloc` as they are added.
     pub fn new(alloc: Global) -> Schemas
@@ -133,6 +134,13 @@ impl Schemas {
             return Some(SchemaFault::NoLocation);
         }
         None
+    }
+
+    /// Each target schema that is held marks one field, a text, as the location.
+    pub fn targets_tell_locations(&self)
+        ensures located { AllTellLocations self.now.targets }
+    {
+        let _ = &self.targets;
     }
 
     /// Each metric that is held has lawful bounds, and a kind that its type meets.
