@@ -122,7 +122,7 @@ aggregates_on_steady so_far a =
     (turn_behind_skip next (λ t. Again all t) (turn_from next (λ t. Again all t) (turn_again next all)))
     (turn_done next all)
 
-aggregate_turn_steady : (so_far : List Aggregate) → SteadyTurn next next (folds.aggregate_turn so_far)
+pub aggregate_turn_steady : (so_far : List Aggregate) → SteadyTurn next next (folds.aggregate_turn so_far)
 unfolding folds.aggregate_turn
 aggregate_turn_steady so_far = turn_on_read next next next (folds.aggregates_on so_far) folds.aggregate aggregate_steady
     (aggregates_on_steady so_far)

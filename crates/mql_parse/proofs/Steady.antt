@@ -176,7 +176,7 @@ pub steady_map : {A B : Type 0} (from to : Rest → ℕ) (f : A → B) (read : R
 steady_map from to f read k = steady_bind from to to read (λ x. Ok (f x.0, x.1)) k (λ a. steady_ok to (f a))
 
 -- a reader behind one of what is left
-pass_bind : {B : Type 0} (o : Result Rest ParseFault) (on : Rest → Outcome B) →
+pub pass_bind : {B : Type 0} (o : Result Rest ParseFault) (on : Rest → Outcome B) →
     (o >>= on) ≡ (unit_read o >>= λ x. on x.1)
 pass_bind (Ok r) on = refl
 pass_bind (Err f) on = refl

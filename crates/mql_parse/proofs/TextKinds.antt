@@ -11,19 +11,20 @@ use Rattle.mql_ast.specs.Rests.{Rest, head, skip}
 use Rattle.mql_ast.specs.Trees.{PipeTree, query_tree}
 use Rattle.mql_ast.specs.Grammar.{start, levels, longest_text}
 use Rattle.mql_parse.specs.declared.faults.ParseFault.{ParseFault}
-use Rattle.mql_parse.specs.declared.faults.ParseKind.TheVariants.{Expected}
+use Rattle.mql_parse.specs.declared.faults.ParseKind.TheVariants.{Expected, NumberTooLarge}
 use Rattle.mql_parse.specs.declared.faults.What.TheVariants as what
 use Rattle.mql_parse.specs.Outcomes.{Outcome, fault}
 use Rattle.mql_parse.specs.PipeReading.{pipe, behind_query, query_end_in, query_end, query_within, query, text_outcome}
 use Rattle.mql_parse.specs.FaultPlaces.{FaultOf}
 use Rattle.mql_parse.specs.FaultDepths.{BeginsWithin}
-use Rattle.mql_parse.specs.FaultNumbers.{NumberKind}
+use Rattle.mql_parse.specs.FaultNumbers.{CouldEndSmaller, NumberKind}
 use Rattle.mql_parse.specs.FaultTokens.{ExpectedKind}
 use Rattle.mql_parse.specs.FaultKinds.{open_quotes, OutsideKind, KindFits, FaultKind}
 use Rattle.mql_parse.proofs.KindFits.{Outside, FaultFits, Fits, fault_before, unexpected_next, fault_fits}
 use Rattle.mql_parse.proofs.PipeKinds.{pipe_fits}
 use Rattle.mql_parse.proofs.TextSteady.{begins_here, begins_at_levels, text_fault}
 use Rattle.mql_parse.proofs.Endings.{IfTooLarge, Comes, IfExpected}
+use Rattle.mql_parse.proofs.FollowTexts.{number_too_large}
 use Rattle.mql_parse.proofs.FrontEndings.{NumberBegins, shorter_begins, fault_number_begins, fault_comes}
 
 -- a fault in place of a tree
@@ -88,8 +89,9 @@ fault_kind text (Ok q) h fits = tt
 fault_kind text (Err (refusal.Fault f)) h fits = query_fault_kind text f (text_fault text f fits h)
 fault_kind text (Err refusal.OutOfMemory) h fits = tt
 
-query_fault_number : (text : List ℕ) (f : ParseFault) → query text ≡ Err f → NumberKind text f
-query_fault_number text f e large =
+could_end_smaller : (text : List ℕ) (f : ParseFault) → query text ≡ Err f → f.kind ≡ NumberTooLarge →
+    CouldEndSmaller text f.at
+could_end_smaller text f e large =
     let g : NumberBegins levels text f.at =
     subst (λ kind. IfTooLarge kind (NumberBegins levels text f.at)) large (fault_number_begins levels text f e) in
     record {
@@ -104,6 +106,10 @@ query_fault_number text f e large =
           (shorter_begins levels (g.before ++ 49 ∷ g.byte ∷ []) g.tail
           (subst (BeginsWithin levels) (sym (append_assoc g.before (49 ∷ g.byte ∷ []) g.tail)) g.is));
     }
+
+query_fault_number : (text : List ℕ) (f : ParseFault) → query text ≡ Err f → NumberKind text f
+query_fault_number text f e =
+    record { smaller = could_end_smaller text f e; too_large = number_too_large text f e }
 
 -- of a number that is too large
 pub fault_number : (text : List ℕ) (result : Result Query (Refusal ParseFault)) → GivesView query_tree result

@@ -47,7 +47,7 @@ begins_alike e s t c l = begins_here t (is_blank (head s)) (ap is_blank (shares_
     sym (begins_here s (is_blank (head s)) refl)
 
 -- the end of a query
-more_left : (tree : PipeTree) (r : Rest) (bs : List ℕ) → (bs ≡ [] → ⊥) → query_end_in tree r bs ≡ Err
+pub more_left : (tree : PipeTree) (r : Rest) (bs : List ℕ) → (bs ≡ [] → ⊥) → query_end_in tree r bs ≡ Err
     (unexpected (behind_query tree) (skip r))
 more_left tree r [] h = absurd (h refl)
 more_left tree r (b ∷ bs) h = refl

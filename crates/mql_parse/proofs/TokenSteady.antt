@@ -34,7 +34,7 @@ apart_steady w =
     (head_test is_word_byte) (steady_unexpected here w) (steady_ok here tt))
 
 -- words
-word_on : (n at : ℕ) (bs : List ℕ) → n ≤ at → n ≤ (behind_word at bs).at
+pub word_on : (n at : ℕ) (bs : List ℕ) → n ≤ at → n ≤ (behind_word at bs).at
 word_on n at [] h = h
 word_on n at (b ∷ bs) h = passed_on (is_word_byte b) at n (b ∷ bs) (behind_word (at + 1) bs) h
     (word_on n (at + 1) bs (omega (arith, h)))
@@ -153,7 +153,7 @@ byte_reaches : (n b : ℕ) (at : ℕ) (o : Outcome (List ℕ)) → Reaches here 
     Reaches here at (reading.with_byte b o)
 byte_reaches n b at o h = map_reaches here (λ more. b ∷ more) at o (reaches_before here at (at + 1) o (omega arith) h)
 
-metric_from_steady : (after : Bool) → Steady here here (λ s. reading.metric_from after s.at s.bytes)
+pub metric_from_steady : (after : Bool) → Steady here here (λ s. reading.metric_from after s.at s.bytes)
 metric_from_steady = steady_bytes here reading.metric_from metric_end
     (λ after at b bs ih. if_reaches here at (is_metric_byte b) _ _ (byte_reaches at b at _ (ih false))
     (if_reaches here at (b == 47 && not after) _ _ (byte_reaches at b at _ (ih true))
@@ -182,7 +182,7 @@ fault_reaches : {A : Type 0} (t : Bool) (at : ℕ) (o : Outcome A) (f : ParseFau
 fault_reaches true at o f e h = reaches_before here at (at + 1) o (omega arith) h
 fault_reaches false at o f e h = omega (arith, e)
 
-digits_steady : (most value : ℕ) → Steady here here (λ s. reading.digits most value s.at s.bytes)
+pub digits_steady : (most value : ℕ) → Steady here here (λ s. reading.digits most value s.at s.bytes)
 digits_steady most = steady_bytes here (reading.digits most) (λ value at. omega arith)
     (λ value at b bs ih. if_reaches here at (is_digit b) _ _
     (fault_reaches (nat_le (value * 10 + (b - 48)) most) at _
@@ -194,7 +194,7 @@ digits_steady most = steady_bytes here (reading.digits most) (λ value at. omega
     (λ l. (record { at = at; bytes = b ∷ cs }, (refl, c))))
 
 -- what speaks of the byte that stands here
-steady_head : {A : Type 0} (to : Rest → ℕ) (read : ℕ → Rest → Outcome A) → ((b : ℕ) → Steady here to (read b)) →
+pub steady_head : {A : Type 0} (to : Rest → ℕ) (read : ℕ → Rest → Outcome A) → ((b : ℕ) → Steady here to (read b)) →
     Steady here to (λ s. read (head s) s)
 steady_head to read k = record {
   reaches = λ s. (k (head s)).reaches s;
@@ -233,7 +233,7 @@ signed_steady = steady_if next here (λ s. head (skip s) == 45)
     (steady_map next here minus (reading.number (2 ^ 63)) (number_steady (2 ^ 63))))))
     (steady_map next here pos (reading.number (2 ^ 63 - 1)) (number_steady (2 ^ 63 - 1)))
 
-units_steady : (n : ℕ) → Steady here here (λ r. reading.units (n, r))
+pub units_steady : (n : ℕ) → Steady here here (λ r. reading.units (n, r))
 units_steady n =
     let counted = λ (b : ℕ) (r : Rest). if nat_le (n * unit_seconds b) longest then Ok
     (pos (n * unit_seconds b), behind r) else Err (fault NumberTooLarge r) in
@@ -286,7 +286,7 @@ text_step_agrees e (TextKeep next) b s s' rest rest' content go go' c d ih = ih 
 text_step_agrees e TextBad b s s' rest rest' content go go' c d ih = λ l. ap
     (λ n. Err (record { at = n; kind = BadToken })) c.place
 
-text_from_steady : (state : Open × List ℕ) → Steady here here (λ s. reading.text_from state.0 state.1 s.at s.bytes)
+pub text_from_steady : (state : Open × List ℕ) → Steady here here (λ s. reading.text_from state.0 state.1 s.at s.bytes)
 text_from_steady = steady_bytes here (λ state at bs. reading.text_from state.0 state.1 at bs) (λ state at. omega arith)
     (λ state at b bs ih. text_step_reaches (text_step state.0 b) at b (record { at = at; bytes = b ∷ bs })
     (record { at = at + 1; bytes = bs }) state.1 _ (omega arith) (omega arith)
@@ -346,7 +346,7 @@ pattern_step_agrees e PatternUnfit b s s' rest rest' pieces content go go' c d i
 pattern_step_agrees e PatternBad b s s' rest rest' pieces content go go' c d ih = λ l. ap
     (λ n. Err (record { at = n; kind = BadToken })) c.place
 
-pattern_from_steady : (state : Open × Sign × List (List ℕ) × List ℕ) →
+pub pattern_from_steady : (state : Open × Sign × List (List ℕ) × List ℕ) →
     Steady here here (λ s. reading.pattern_from state.0 state.1 state.2 state.3 s.at s.bytes)
 pattern_from_steady = steady_bytes here (λ state at bs. reading.pattern_from state.0 state.1 state.2 state.3 at bs)
     (λ state at. omega arith)

@@ -25,6 +25,7 @@ pub record CouldEndSmaller (text : List ℕ) (at : ℕ) : Type 0 where
   pub place : at ≡ length before + length number
   pub smaller : Begins (before ++ 49 ∷ byte ∷ [])
 
--- a fault is `NumberTooLarge` only where its byte could stand behind a smaller number
-abbrev pub NumberKind : List ℕ → ParseFault → Type 0
-NumberKind text f = f.kind ≡ NumberTooLarge → CouldEndSmaller text f.at
+-- a fault is `NumberTooLarge` exactly where its byte could stand behind a smaller number
+pub record NumberKind (text : List ℕ) (f : ParseFault) : Type 0 where
+  pub smaller : f.kind ≡ NumberTooLarge → CouldEndSmaller text f.at
+  pub too_large : CouldEndSmaller text f.at → f.kind ≡ NumberTooLarge

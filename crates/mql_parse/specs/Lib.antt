@@ -14,6 +14,7 @@ pub mod FaultKinds
 pub mod FaultDepths
 pub mod FaultNumbers
 pub mod FaultTokens
+pub mod FaultFirsts
 pub mod Views
 pub mod TurnViews
 pub mod PredicateViews

@@ -5,6 +5,7 @@ ghost use Rattle.std.specs.Result.{IfErr, IfOk};
 ghost use Rattle.mql_ast.specs.Grammar.{Spells, longest_text};
 ghost use Rattle.mql_ast.specs.Trees.{PipeTree, pipe_tree, query_tree};
 ghost use Rattle.mql_parse.specs.FaultDepths.{DepthKind};
+ghost use Rattle.mql_parse.specs.FaultFirsts.{FirstKind};
 ghost use Rattle.mql_parse.specs.FaultKinds.{FaultKind};
 ghost use Rattle.mql_parse.specs.FaultNumbers.{NumberKind};
 ghost use Rattle.mql_parse.specs.FaultPlaces.{FaultOf, IsAtLongestFront, too_long};
@@ -36,6 +37,7 @@ pub fn parse(alloc: Global, text: &[u8]) -> Result<Query, Refusal<ParseFault>>
     ensures kind { length text.now ≤ longest_text → IfErr result (FaultOf (FaultKind text.now)) }
     ensures number { length text.now ≤ longest_text → IfErr result (FaultOf (NumberKind text.now)) }
     ensures expected { length text.now ≤ longest_text → IfErr result (FaultOf (ExpectedKind text.now)) }
+    ensures first { length text.now ≤ longest_text → IfErr result (FaultOf (FirstKind text.now)) }
     ensures depth { length text.now ≤ longest_text → IfErr result (FaultOf (DepthKind text.now)) }
     ensures too_long { longest_text < length text.now → GivesView query_tree result (Err too_long) }
     ensures unique { (one other : PipeTree) → Spells one text.now → Spells other text.now → one ≡ other }

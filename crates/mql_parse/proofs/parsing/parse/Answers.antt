@@ -4,6 +4,7 @@ use Rattle.mql_parse.proofs.TextComplete.{given_tree, one_tree}
 use Rattle.mql_parse.proofs.TextSteady.{fault_place, long_fault}
 use Rattle.mql_parse.proofs.TextKinds.{fault_kind, fault_number, fault_expected}
 use Rattle.mql_parse.proofs.TextDepth.{fault_depth}
+use Rattle.mql_parse.proofs.FirstTexts.{fault_first}
 use Rattle.mql_parse.proofs.parsing.parse.Goals as goal
 
 pub returns : goal.returns
@@ -18,6 +19,7 @@ returns c =
       kind = fault_kind text c.read.result e;
       number = fault_number text c.read.result e;
       expected = fault_expected text c.read.result e;
+      first = fault_first text c.read.result e;
       depth = fault_depth text c.read.result e;
       too_long = long_fault text c.read.result e;
       unique = one_tree text;

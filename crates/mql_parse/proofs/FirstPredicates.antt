@@ -1,0 +1,205 @@
+-- What predicates expect comes first.
+use Rattle.std.proofs.Common.{◌≡◌, inl, ℕ, Bool, true, false, ◌==◌, ◌||◌, List, [], ◌∷◌, codes, refl, sym, subst, arith, if◌then◌else◌, Ok, Err}
+use Rattle.mon_value.specs.Answers.{◌>>=◌}
+use Rattle.mon_value.specs.declared.values.FieldValue.TheVariants as field
+use Rattle.mql_ast.specs.declared.names.Name.{Name}
+use Rattle.mql_ast.specs.declared.predicates.Comparison.{Comparison}
+use Rattle.mql_ast.specs.declared.predicates.Comparison.TheVariants as comparison
+use Rattle.mql_ast.specs.Trees.{PredicateTree, Compare, Like}
+use Rattle.mql_ast.specs.Bytes.{is_letter, is_digit}
+use Rattle.mql_ast.specs.Rests.{Rest, head, behind, skip}
+use Rattle.mql_ast.specs.Tokens.{word_here}
+use Rattle.mql_parse.specs.declared.faults.What.TheVariants as what
+use Rattle.mql_parse.specs.Outcomes.{Outcome, unexpected, exact, sign, map_outcome}
+use Rattle.mql_parse.specs.TokenReading as reading
+use Rattle.mql_parse.specs.PredicateReading as predicates
+use Rattle.mql_parse.specs.PredicateReading.{Compared, WithValue, WithPattern, Deeper, Opposite, Group}
+use Rattle.mql_parse.specs.FaultTokens.{IsBare}
+use Rattle.mql_parse.specs.Steadiness.{here, next, unit_read}
+use Rattle.mql_parse.proofs.Steady.{steady_from, steady_ok, steady_map, pass_bind}
+use Rattle.mql_parse.proofs.TokenSteady.{text_steady}
+use Rattle.mql_parse.proofs.Firsts.{Spot, Begun, Meets, Before, FirstOutcome, First, NoMore, passed_far, if_first, kind_names, first_on, meets_then, meets_ok, meets_map, meets_of, meets_quoted, meets_to, meets_behind_pass, first_if, first_unexpected, before_of, before_if, before_skip, before_behind, before_behind_skip, before_unexpected, before_map, before_next, before_behind_pass, sign_names, before_sign}
+use Rattle.mql_parse.proofs.FirstBytes.{token_begins, byte_begins, at_byte, exclamation_begins}
+use Rattle.mql_parse.proofs.FirstTokens.{all_solid, meets_unexpected, meets_if_here, far_behind, meets_exact, keyword_far, meets_word, first_word}
+use Rattle.mql_parse.proofs.FirstNumbers.{before_signed, signed_far, map_first}
+use Rattle.mql_parse.proofs.FirstQuotes.{meets_text, meets_pattern}
+
+-- comparisons
+equals_token : IsBare what.Comparison (61 ∷ 61 ∷ [])
+unfolding skip
+equals_token = inl ((2, comparison.Equal), refl)
+
+less_token : IsBare what.Comparison (60 ∷ [])
+unfolding skip
+less_token = inl ((1, comparison.Less), refl)
+
+greater_token : IsBare what.Comparison (62 ∷ [])
+unfolding skip
+greater_token = inl ((1, comparison.Greater), refl)
+
+compares_at : (x : Spot) (b : ℕ) → IsBare what.Comparison (b ∷ []) → (x.byte == b) ≡ true →
+    Begun x what.Comparison
+compares_at x b k = at_byte x what.Comparison b (byte_begins what.Comparison what.Comparison b (omega arith) k)
+
+byte_meets : {A : Type 0} (x : Spot) (a : A) (test : ℕ → Bool) (other : Rest → Outcome A) → test 32 ≡ false →
+    test 0 ≡ false → Meets x here here NoMore other →
+    Meets x here here NoMore (λ s. if test (head s) then Ok (a, behind s) else other s)
+byte_meets x a test other z n k =
+    meets_if_here x here NoMore test (λ s. Ok (a, behind s)) other z
+    (far_behind x here NoMore test n (λ s. Ok (a, s)) (steady_ok here a))
+    (before_behind x here NoMore (λ s. Ok (a, s)) (meets_ok x here NoMore a)) k
+
+behind_equals_meets : (x : Spot) → Meets x here here NoMore predicates.behind_equals
+behind_equals_meets x =
+    byte_meets x (WithValue comparison.Equal) (λ b. b == 61) _ refl refl
+    (byte_meets x WithPattern (λ b. b == 126) (λ s. Err (unexpected what.Comparison s)) refl refl
+    (meets_unexpected x here NoMore what.Comparison))
+
+maybe_equal_meets : (x : Spot) (without with : Comparison) →
+    Meets x here here NoMore (predicates.maybe_equal without with)
+maybe_equal_meets x without with =
+    byte_meets x (WithValue with) (λ b. b == 61) (λ s. Ok (WithValue without, s)) refl refl
+    (meets_ok x here NoMore (WithValue without))
+
+abbrev not_equal : Rest → Outcome Compared
+not_equal s = exact what.Comparison (codes "=") s >>= λ r. Ok (WithValue comparison.NotEqual, r)
+
+not_equal_meets : (x : Spot) → Meets x here here NoMore not_equal
+not_equal_meets x = meets_behind_pass x here here here NoMore (exact what.Comparison (codes "="))
+    (λ r. Ok (WithValue comparison.NotEqual, r)) (meets_exact x what.Comparison (codes "=") refl)
+    (meets_ok x here NoMore (WithValue comparison.NotEqual))
+
+comparison_first : (x : Spot) → First x next here what.Comparison predicates.comparison_kind
+unfolding predicates.comparison_kind
+comparison_first x =
+    first_if x here what.Comparison (λ b. b == 61) (λ s. predicates.behind_equals (behind (skip s))) _
+    (λ s e h. passed_far x here what.Comparison (λ b. b == 61) refl predicates.behind_equals
+    (behind_equals_meets x).steady s e h)
+    (at_byte x what.Comparison 61
+    (token_begins what.Comparison what.Comparison 61 (61 ∷ []) (omega arith) refl equals_token))
+    (first_if x here what.Comparison (λ b. b == 33) (λ s. not_equal (behind (skip s))) _
+    (λ s e h. passed_far x here what.Comparison (λ b. b == 33) refl not_equal (not_equal_meets x).steady s e h)
+    (exclamation_begins x what.Comparison (omega arith))
+    (first_if x here what.Comparison (λ b. b == 60)
+    (λ s. predicates.maybe_equal comparison.Less comparison.AtMost (behind (skip s))) _
+    (λ s e h. passed_far x here what.Comparison (λ b. b == 60) refl
+    (predicates.maybe_equal comparison.Less comparison.AtMost)
+    (maybe_equal_meets x comparison.Less comparison.AtMost).steady s e h)
+    (compares_at x 60 less_token)
+    (first_if x here what.Comparison (λ b. b == 62)
+    (λ s. predicates.maybe_equal comparison.Greater comparison.AtLeast (behind (skip s)))
+    (λ s. Err (unexpected what.Comparison (skip s)))
+    (λ s e h. passed_far x here what.Comparison (λ b. b == 62) refl
+    (predicates.maybe_equal comparison.Greater comparison.AtLeast)
+    (maybe_equal_meets x comparison.Greater comparison.AtLeast).steady s e h)
+    (compares_at x 62 greater_token) (first_unexpected x here what.Comparison))))
+
+comparison_before : (x : Spot) → Before x next here NoMore predicates.comparison_kind
+unfolding predicates.comparison_kind
+comparison_before x =
+    before_if x here NoMore (λ b. b == 61) (λ s. predicates.behind_equals (behind (skip s))) _
+    (before_behind_skip x here NoMore predicates.behind_equals (behind_equals_meets x))
+    (before_if x here NoMore (λ b. b == 33) (λ s. not_equal (behind (skip s))) _
+    (before_behind_skip x here NoMore not_equal (not_equal_meets x))
+    (before_if x here NoMore (λ b. b == 60)
+    (λ s. predicates.maybe_equal comparison.Less comparison.AtMost (behind (skip s))) _
+    (before_behind_skip x here NoMore (predicates.maybe_equal comparison.Less comparison.AtMost)
+    (maybe_equal_meets x comparison.Less comparison.AtMost))
+    (before_if x here NoMore (λ b. b == 62)
+    (λ s. predicates.maybe_equal comparison.Greater comparison.AtLeast (behind (skip s)))
+    (λ s. Err (unexpected what.Comparison (skip s)))
+    (before_behind_skip x here NoMore (predicates.maybe_equal comparison.Greater comparison.AtLeast)
+    (maybe_equal_meets x comparison.Greater comparison.AtLeast))
+    (before_skip x here NoMore (λ t. Err (unexpected what.Comparison t))
+    (before_unexpected x here NoMore what.Comparison)))))
+
+comparison_meets : (x : Spot) → Meets x next here NoMore predicates.comparison_kind
+comparison_meets x = meets_of x next here NoMore what.Comparison predicates.comparison_kind (comparison_first x)
+    (comparison_before x)
+
+-- literals
+truth_before : (x : Spot) (c : ℕ) (cs : List ℕ) (truth : Bool) → all_solid (c ∷ cs) ≡ true →
+    Before x next here NoMore (λ s. exact what.Truth (c ∷ cs) (skip s) >>= λ r. Ok (field.Bool truth, r))
+truth_before x c cs truth h =
+    let read = λ (t : Rest). exact what.Truth (c ∷ cs) t >>= λ r. Ok (field.Bool truth, r) in
+    before_skip x here NoMore read
+    (before_of x here here NoMore read
+    (meets_behind_pass x here here here NoMore (exact what.Truth (c ∷ cs)) (λ r. Ok (field.Bool truth, r))
+    (meets_exact x what.Truth (c ∷ cs) h) (meets_ok x here NoMore (field.Bool truth))))
+
+value_names : (x : Spot) (s : Rest) → next s ≡ x.at → FirstOutcome x here what.Text (predicates.value s)
+unfolding predicates.value
+value_names x s e =
+    if_first x here what.Text (head (skip s) == 34) _ _
+    (λ h. passed_far x here what.Text (λ b. b == 34) refl (λ r. map_outcome (λ y. field.Text y) (reading.text r))
+    (steady_map here here (λ y. field.Text y) reading.text text_steady) s e h)
+    (if_first x here what.Text (head (skip s) == 116) _ _
+    (λ h. keyword_far x here what.Text what.Truth 116 (codes "rue") (λ r. Ok (field.Bool true, r)) refl
+    (steady_ok here (field.Bool true)) s e h)
+    (if_first x here what.Text (head (skip s) == 102) _ _
+    (λ h. keyword_far x here what.Text what.Truth 102 (codes "alse") (λ r. Ok (field.Bool false, r)) refl
+    (steady_ok here (field.Bool false)) s e h)
+    (if_first x here what.Text (head (skip s) == 45 || is_digit (head (skip s))) _
+    (Err (unexpected what.Text (skip s)))
+    (λ h. map_first x here what.Text (λ z. field.Int z) (reading.signed s) (signed_far x what.Text s e h))
+    (λ d v k. kind_names what.Text (skip s).bytes v k))))
+
+value_before : (x : Spot) → Before x next here NoMore predicates.value
+unfolding predicates.value
+value_before x =
+    before_if x here NoMore (λ b. b == 34) (λ s. map_outcome (λ y. field.Text y) (reading.text (behind (skip s)))) _
+    (before_behind_skip x here NoMore (λ s. map_outcome (λ y. field.Text y) (reading.text s))
+    (meets_map x here here NoMore NoMore (λ y. field.Text y) reading.text (λ y h. h) (meets_text x)))
+    (before_if x here NoMore (λ b. b == 116) _ _ (truth_before x 116 (codes "rue") true refl)
+    (before_if x here NoMore (λ b. b == 102) _ _ (truth_before x 102 (codes "alse") false refl)
+    (before_if x here NoMore (λ b. b == 45 || is_digit b) (λ s. map_outcome (λ z. field.Int z) (reading.signed s))
+    (λ s. Err (unexpected what.Text (skip s)))
+    (before_map x next here (λ z. field.Int z) reading.signed (before_signed x))
+    (before_skip x here NoMore (λ t. Err (unexpected what.Text t)) (before_unexpected x here NoMore what.Text)))))
+
+abbrev like : Name → ℕ → Rest → Outcome PredicateTree
+like column n q = map_outcome (λ ps. Like column (record { at = n; pieces = ps })) (reading.pattern q)
+
+like_meets : (x : Spot) (column : Name) (n : ℕ) → Meets x here here NoMore (like column n)
+like_meets x column n = meets_map x here here NoMore NoMore (λ ps. Like column (record { at = n; pieces = ps }))
+    reading.pattern (λ y h. h) (meets_pattern x)
+
+compares_how_meets : (x : Spot) (column : Name) (how : Compared) →
+    Meets x next here NoMore (λ r. predicates.compares_how column (how, r))
+compares_how_meets x column (WithValue how) =
+    meets_quoted x next here NoMore (λ r. predicates.compares_how column (WithValue how, r))
+    (λ s e. map_first x here what.Text (λ v. Compare column how (record { at = (skip s).at; value = v }))
+    (predicates.value s) (value_names x s e))
+    (before_next x here NoMore
+    (λ n s. map_outcome (λ v. Compare column how (record { at = n; value = v })) (predicates.value s))
+    (λ n. before_map x next here (λ v. Compare column how (record { at = n; value = v })) predicates.value
+    (value_before x)))
+compares_how_meets x column WithPattern =
+    meets_quoted x next here NoMore (λ r. predicates.compares_how column (WithPattern, r))
+    (λ s e. subst (FirstOutcome x here what.Text)
+    (sym (pass_bind (sign 34 what.Text s) (like column (skip s).at)))
+    (first_on x here here what.Text (unit_read (sign 34 what.Text s)) (λ y. like column (skip s).at y.1)
+    (sign_names x 34 what.Text refl s e) (λ a. (like_meets x column (skip s).at).steady)))
+    (before_next x here NoMore (λ n s. sign 34 what.Text s >>= like column n)
+    (λ n. before_behind_pass x next here here NoMore (sign 34 what.Text) (like column n) (before_sign x 34 what.Text)
+    (like_meets x column n)))
+
+-- a condition
+abbrev compared : Name × Rest → Outcome PredicateTree
+compared y = predicates.comparison_kind y.1 >>= predicates.compares_how y.0
+
+compared_meets : (x : Spot) (column : Name) → Meets x next here NoMore (λ r. compared (column, r))
+compared_meets x column =
+    meets_then x next next here NoMore predicates.comparison_kind (predicates.compares_how column)
+    (meets_to x next NoMore predicates.comparison_kind (comparison_meets x)) (compares_how_meets x column)
+
+pub condition_meets : (x : Spot) → Meets x here here NoMore predicates.condition
+unfolding predicates.condition
+condition_meets x = meets_then x here next here NoMore (λ t. Ok (word_here t)) compared
+    (meets_to x here NoMore (λ t. Ok (word_here t)) (meets_word x)) (compared_meets x)
+
+pub condition_far : (x : Spot) (s : Rest) → next s ≡ x.at → is_letter (head (skip s)) ≡ true →
+    FirstOutcome x here what.Name (predicates.condition (skip s))
+unfolding predicates.condition
+condition_far x s e h = first_word x here compared what.Name
+    (λ a. steady_from here (λ r. compared (a, r)) (compared_meets x a).steady) s e h
