@@ -22,7 +22,7 @@ pub record IsPushed {E : Type 0} (row : Row) (groups groups' : List Group) (plac
   pub same : OnErr result (rows_at groups' places' ≡ rows_at groups places)
 
 -- all is kept as it was
-unchanged : {groups groups' : List Group} {places places' : List Place} → IsKept groups places → groups' ≡ groups → places' ≡ places
+pub unchanged : {groups groups' : List Group} {places places' : List Place} → IsKept groups places → groups' ≡ groups → places' ≡ places
     → IsKept groups' places' × (rows_at groups' places' ≡ rows_at groups places)
 unchanged {groups} {groups'} {places} {places'} kept same stayed = (
   subst (λ (ps : List Place). IsKept groups' ps) (sym stayed) (subst (λ (gs : List Group). IsKept gs places) (sym same) kept),

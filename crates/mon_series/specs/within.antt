@@ -1,2 +1,4 @@
--- What only proofs read: how rows are kept.
+-- What only proofs read: how rows are kept, and their series by metric.
+pub mod KeptRows
+pub mod Metrics
 pub mod Places

@@ -2,12 +2,14 @@
 ghost use Rattle.std.specs.Prelude.{◌≡◌, ◌++◌, ◌∷◌, ◌<◌, ◌<ℤ◌, [], length, slice_get, option_map, Some, IfErr, IfNone, IfOk, IfSome, OnErr, OnOk};
 ghost use Rattle.std.specs.Option.{option_copied};
 ghost use Rattle.mon_value.specs.Sources.{IsSource, last_end, points_by_series, points_of, series_of};
+ghost use Rattle.mon_series.specs.MetricNumbers.{metric_numbers};
 ghost use Rattle.mon_series.specs.SeriesMaps.{series_held};
 
+use crate::metrics::{ByMetric, add_number, index_of, make_room, numbers_of};
 use crate::placing::{Place, push_first, push_known};
 use crate::series::Series;
 use indexmap::IndexMap;
-use mon_value::{OutOfMemory, Point, RoomListOf, Row, SeriesKey, Shared, TryCopy};
+use mon_value::{OutOfMemory, Point, RoomListOf, Row, SeriesKey, Shared, Text, TryCopy};
 use std::alloc::{AllocError, AllocFailed, Global};
 use std::marker::Model;
 
@@ -22,12 +24,14 @@ pub struct KeptSeries {
 }
 
 /// Rows in the order in which they came. Contracts see them as one list. Each point is kept once, with its series; beside
-/// them stand the places of the points, in order. There are fewer than 2^32 series, and at most as many points of each.
+/// them stand the places of the points, in order, and the numbers of the series under their metrics. There are fewer than
+/// 2^32 series, and at most as many points of each.
 #[derive(Drop)]
 pub struct KeptRows {
     alloc: Global,
     series: SeriesMap,
     order: RoomListOf<Place>,
+    by_metric: ByMetric,
 }
 
 impl Model for KeptRows {
@@ -37,11 +41,12 @@ impl Model for KeptRows {
     ghost Value = { List Row };
 
     ghost use Rattle.mon_series.specs.SeriesMaps.{series_held};
-    ghost use Rattle.mon_series.specs.within.Places.{IsKept, rows_at};
+    ghost use Rattle.mon_series.specs.within.KeptRows.{AreKept};
+    ghost use Rattle.mon_series.specs.within.Places.{rows_at};
 
     ghost view = { λ rows. rows_at (series_held rows.series.entries) rows.order.items };
 
-    ghost invariant = { λ rows. IsKept (series_held rows.series.entries) rows.order.items };
+    ghost invariant = { λ rows. AreKept (series_held rows.series.entries) rows.order.items rows.by_metric.entries };
 }
 
 impl KeptRows {
@@ -53,6 +58,7 @@ impl KeptRows {
             alloc,
             series: SeriesMap::new(alloc),
             order: RoomListOf::new(alloc),
+            by_metric: ByMetric::new(alloc),
         }
     }
 
@@ -122,6 +128,24 @@ impl KeptRows {
         series
     }
 
+    /// The key and the points of the series of a number.
+    pub fn entry(&self, number: u32) -> (&Shared<SeriesKey>, &Series)
+        requires within { number < length (series_of self.now) }
+        ensures entry { slice_get (points_by_series self.now) number ≡ Some (result.0.now, result.1.now.points) }
+    {
+        let Some((key, series)) = self.series.get_index(number as usize) else {
+            unreachable!();
+        };
+        (key, series)
+    }
+
+    /// The numbers, rising, of the series of a metric.
+    pub fn of_metric(&self, metric: &Text) -> &[u32]
+        ensures numbers { result.now ≡ metric_numbers metric.now self.now }
+    {
+        numbers_of(&self.by_metric, metric)
+    }
+
     /// All series.
     pub fn all_series(&self) -> &SeriesMap
         ensures series { series_held result.now.entries ≡ points_by_series self.now }
@@ -179,7 +203,13 @@ impl KeptRows {
         ensures kept { OnErr result (self.new ≡ self.old) }
         ensures value_returned { IfErr result (λ failed. failed.value ≡ row) }
     {
-        push_first(self.alloc, &mut self.series, &mut self.order, row)
+        let number = self.series();
+        let Ok(at) = make_room(self.alloc, &mut self.by_metric, &row.key.metric) else {
+            return Err(AllocFailed { value: row });
+        };
+        push_first(self.alloc, &mut self.series, &mut self.order, row)?;
+        add_number(&mut self.by_metric, at, number);
+        Ok(())
     }
 }
 
@@ -189,6 +219,7 @@ impl TryCopy for KeptRows {
             alloc,
             series: copied_series(alloc, &self.series)?,
             order: self.order.copy(alloc)?,
+            by_metric: index_of(alloc, &self.series)?,
         })
     }
 }

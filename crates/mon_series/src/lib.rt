@@ -1,8 +1,9 @@
 //! A series: the points of one monitored thing in the order of their ends, and the window of them
-//! that a moment sees. Rows of many series are kept by series.
+//! that a moment sees. Rows of many series are kept by series, and the series by their metric.
 #![tactic(auto)]
 
 mod kept_rows;
+mod metrics;
 mod placing;
 mod series;
 

@@ -1,7 +1,6 @@
 use Rattle.std.proofs.Common.{◌∙◌, List, [], ◌∷◌, ◌++◌, ap, sym, subst, IfSome, ◌<ℤ◌}
 use Rattle.mon_value.specs.Sources.{last_end}
 use Rattle.mon_value.specs.declared.rows.Point.{Point}
-use Rattle.mon_series.specs.SeriesMaps.{series_held}
 use Rattle.mon_series.specs.within.Places.{place_at}
 use Rattle.mon_series.proofs.HeldLemmas.{held_count, held_get, held_grown, held_same}
 use Rattle.mon_series.proofs.KeptLemmas.{takes_parts}

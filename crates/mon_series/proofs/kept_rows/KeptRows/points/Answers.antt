@@ -8,4 +8,4 @@ returns c =
     let key = c.in-Some.field-0-0.now in
     let series = c.in-Some.series.now in
     let there = held_entry c.self.inside.series.entries c.args.number key series (sym c.in-Some.ensures.entry) in
-    record { points = points_numbered c.self.invariant c.self.view_is c.args.number key series.points there }
+    record { points = points_numbered c.self.invariant.placed c.self.view_is c.args.number key series.points there }
