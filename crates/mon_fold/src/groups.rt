@@ -39,6 +39,15 @@ impl Model for Parts {
     ghost view = { λ parts. record { columns = parts.columns; kinds = parts.kinds; groups = parts.groups.entries } };
 }
 
+impl Parts {
+    /// How many groups there are.
+    pub fn len(&self) -> usize
+        ensures count { result ≡ length self.now.groups }
+    {
+        self.groups.len()
+    }
+}
+
 impl TryCopy for Parts {
     fn copy(&self, alloc: Global) -> Result<Parts, OutOfMemory> {
         Ok(Parts {
