@@ -1,4 +1,6 @@
 mod AnswerLemmas
+pub mod ApartKeys
+pub mod ApartSeries
 mod FetchLemmas
 pub mod FilterLemmas
 mod FilterSteps
@@ -7,13 +9,16 @@ mod KeptLemmas
 mod KeyCells
 pub mod KeyOrders
 mod MapGroups
+mod MetricSeries
 mod OperationLemmas
 pub mod OperationOrders
 pub mod PartLemmas
-mod PathLemmas
+mod PartsToComeLemmas
+pub mod PathLemmas
 mod ReachLemmas
 mod ReadyLemmas
 mod SeriesOrders
+pub mod StandingPieces
 mod TopLemmas
 mod WalkLemmas
 mod WindowLemmas

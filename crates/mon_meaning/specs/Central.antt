@@ -3,9 +3,6 @@ use Rattle.std.specs.Prelude.{◌≡◌, ◌<◌, ◌≤◌, ℕ, ℤ, true, Lis
 use Rattle.std.specs.Borrow.{Bor}
 use Rattle.std.specs.List.{AllByRecursion, flat_map}
 use Rattle.std.specs.List.Sorted.{IsPermutation}
-use Rattle.indexmap.specs.IndexMap.{IndexMap}
-use Rattle.mon_series.specs.SeriesMaps.{series_held}
-use Rattle.mon_series.specs.SeriesPoints.{SeriesPoints}
 use Rattle.mon_value.specs.Grids.{IsLawful}
 use Rattle.mon_value.specs.Sources.{points_by_series}
 use Rattle.mon_value.specs.declared.grids.Grid.{Grid}
@@ -46,9 +43,9 @@ IsAnswer typed source moment limit (Err refused) = IsRefusedBy typed source mome
 
 -- ---- rows that are kept by series
 
--- the series that several maps hold, one map after another
-abbrev pub all_held : {S : Type 0} → List (Bor (IndexMap SeriesKey SeriesPoints S)) → List (SeriesKey × List Point)
-all_held maps = flat_map (λ map. series_held map.now.entries) maps
+-- the series of several sources, one source after another
+abbrev pub all_held : List (Bor (List Row)) → List (SeriesKey × List Point)
+all_held sources = flat_map (λ rows. points_by_series rows.now) sources
 
 -- a typed query that is asked over series: those of rows that fit what it was typed over
 pub record IsAsked (typed : TypedTree) (series : List (SeriesKey × List Point)) : Type 0 where

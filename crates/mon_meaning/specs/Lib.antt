@@ -1,4 +1,8 @@
 pub mod Central
 pub mod Counts
+pub mod LeafAnswers
+pub mod GoingUp
 pub mod Operations
+pub mod Standing
+pub mod TopParts
 pub mod within

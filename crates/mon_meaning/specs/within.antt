@@ -3,6 +3,7 @@ pub mod FetchViews
 pub mod Items
 pub mod KeyFilters
 pub mod MetSeries
+pub mod PartsToCome
 pub mod Paths
 pub mod Readiness
 pub mod Reach

@@ -5,8 +5,8 @@ ghost use Rattle.mon_value.specs.Alignments.{aligned_values, CanAlign};
 ghost use Rattle.mon_value.specs.Alignments as alignment;
 ghost use Rattle.mon_value.specs.Grids as grids;
 ghost use Rattle.mon_value.specs.SeriesRows.{row_of};
+ghost use Rattle.mon_value.specs.Sources.{points_by_series};
 ghost use Rattle.mql_types.specs.Nodes.{node_tree};
-ghost use Rattle.mon_series.specs.SeriesMaps.{series_held};
 ghost use Rattle.mon_meaning.specs.Central.{all_held};
 ghost use Rattle.mon_meaning.specs.Counts.{TellsOver};
 ghost use Rattle.mon_meaning.specs.within.FetchViews.{met_rows, points_kept};
@@ -19,7 +19,7 @@ use crate::fetches::{Fetch, series_cells};
 use crate::kept_points::{kept_series, points_in_reach};
 use crate::meter::{Meter, OverLimit};
 use mon_fold::align;
-use mon_series::{Series, SeriesMap};
+use mon_series::{KeptRows, Series};
 use mon_value::{
     Aligner, Cells, OutOfMemory, Refusal, SeriesKey, Shared, TimedRow, TimedRows, TimedValues,
     TryCopy,
@@ -76,42 +76,60 @@ fn met_series<'a>(
         + sum_by (met_count setting.now.grid by fetch.now) (all_held setting.now.series.now))) }
 {
     let mut met = Vec::new(setting.alloc);
-    for map in setting.series {
-        add_met(setting, by, fetch, map, &mut met, meter)?;
+    for rows in setting.series {
+        add_met(setting, by, fetch, rows, &mut met, meter)?;
     }
     Ok(met)
 }
 
-// Adds those of one map.
+// Adds those of some rows. Only series of the fetch's metric are looked at.
 fn add_met<'a>(
     setting: &Setting<'a>,
     by: Aligner,
     fetch: &Fetch<'_>,
-    map: &'a SeriesMap,
+    rows: &'a KeptRows,
     met: &mut Vec<Met<'a>>,
     meter: &mut Meter,
 ) -> Result<(), Refusal<OverLimit>>
     requires lawful { grids.IsLawful setting.now.grid }
     requires looks_back { grids.IsDuration (alignment.seconds_of by) }
     ensures met { OnOk result (series_met met.new.items ≡ series_met met.old.items
-        ++ filter (is_counted setting.now.grid by fetch.now) (series_held map.now.entries)) }
+        ++ filter (is_counted setting.now.grid by fetch.now) (points_by_series rows.now)) }
     ensures limit { meter.new.limit ≡ meter.old.limit }
     ensures counted { OnOk result (meter.new.load ≡ meter.old.load
-        + sum_by (met_count setting.now.grid by fetch.now) (series_held map.now.entries)) }
+        + sum_by (met_count setting.now.grid by fetch.now) (points_by_series rows.now)) }
     ensures over { IfErr result (TellsOver meter.old.limit (meter.old.load
-        + sum_by (met_count setting.now.grid by fetch.now) (series_held map.now.entries))) }
+        + sum_by (met_count setting.now.grid by fetch.now) (points_by_series rows.now))) }
 {
-    for (key, series) in map.iter() {
-        if !fetch.is_met(setting.alloc, key)? {
-            continue;
-        }
-        let reached = points_in_reach(series, by, &setting.grid).len();
+    let numbers = rows.of_metric(fetch.metric());
+    for number in numbers {
+        let (key, series) = rows.entry(*number);
+        let one = Met { key, series };
+        let reached = reached_count(setting, by, fetch, &one)?;
         if reached > 0 {
             meter.add(reached)?;
-            met.push(Met { key, series })?;
+            met.push(one)?;
         }
     }
     Ok(())
+}
+
+// How many points in reach a series has, if it meets the fetch.
+fn reached_count(
+    setting: &Setting<'_>,
+    by: Aligner,
+    fetch: &Fetch<'_>,
+    one: &Met<'_>,
+) -> Result<usize, OutOfMemory>
+    requires lawful { grids.IsLawful setting.now.grid }
+    requires looks_back { grids.IsDuration (alignment.seconds_of by) }
+    ensures count { IfOk result (λ count. count
+        ≡ met_count setting.now.grid by fetch.now (one.now.key.now, one.now.series.now.points)) }
+{
+    if !fetch.is_met(setting.alloc, one.key)? {
+        return Ok(0);
+    }
+    Ok(points_in_reach(one.series, by, &setting.grid).len())
 }
 
 // The rows of series that meet a fetch, which are counted.

@@ -1,18 +1,16 @@
 // The central evaluation of a query.
-ghost use Rattle.std.specs.Prelude.{◌≡◌, ◌≤◌, ◌^◌, ◌≤ℤ◌, pos, List};
-ghost use Rattle.mon_value.specs.Sources.{IsSource, points_by_series};
+ghost use Rattle.std.specs.Prelude.{◌≡◌, ◌≤◌, ◌^◌, ◌≤ℤ◌, pos};
+ghost use Rattle.mon_value.specs.Sources.{IsSource};
 ghost use Rattle.mon_value.specs.declared.limits.TheConstants.{ROW_BITS};
-ghost use Rattle.mon_value.specs.declared.rows.Row.{Row};
 ghost use Rattle.mql_types.specs.Meaning as meant;
 ghost use Rattle.mql_types.specs.Nodes.{typed_tree};
 ghost use Rattle.mql_types.specs.Soundness.{IsTyped};
-ghost use Rattle.mon_series.specs.SeriesMaps.{series_held};
-ghost use Rattle.mon_meaning.specs.Central.{IsAnswer, IsAsked};
+ghost use Rattle.mon_meaning.specs.Central.{IsAnswer};
 
 use crate::meter::{Meter, OverLimit};
 use crate::operations::table_of;
 use crate::parts::part_by_series;
-use mon_series::{KeptRows, SeriesMap};
+use mon_series::KeptRows;
 use mon_value::{Grid, Refusal, RowList, Table};
 use mql_types::Typed;
 use std::alloc::Global;
@@ -33,26 +31,25 @@ pub fn central(
     ensures answer { IsAnswer (typed_tree typed.now) rows.now moment limit result }
 {
     let kept = KeptRows::of_rows(alloc, rows.as_slice())?;
-    central_by_series(alloc, typed, kept.all_series(), moment, limit)
+    central_by_series(alloc, typed, &kept, moment, limit)
 }
 
 /// The same over rows that are kept by series, none of which is copied as a whole.
 pub fn central_by_series(
     alloc: Global,
     typed: &Typed,
-    series: &SeriesMap,
+    kept: &KeptRows,
     moment: i64,
     limit: u64,
 ) -> Result<Table, Refusal<OverLimit>>
-    requires asked { IsAsked (typed_tree typed.now) (series_held series.now.entries) }
+    requires typed { IsTyped (typed_tree typed.now) kept.now }
     requires moment { pos 0 ≤ℤ moment }
     requires limit { limit ≤ 2 ^ ROW_BITS }
-    ensures answer { (source : List Row) → series_held series.now.entries ≡ points_by_series source
-        → IsAnswer (typed_tree typed.now) source moment limit result }
+    ensures answer { IsAnswer (typed_tree typed.now) kept.now moment limit result }
 {
     let grid = grid_of(typed, moment);
     let mut meter = Meter::new(limit);
-    let rows = part_by_series(alloc, &typed.tree, &[series], grid, &mut meter)?;
+    let rows = part_by_series(alloc, &typed.tree, &[kept], grid, &mut meter)?;
     Ok(table_of(alloc, &typed.tree.info().columns, rows)?)
 }
 

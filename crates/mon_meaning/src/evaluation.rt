@@ -12,7 +12,7 @@ use crate::alignments::aligned_rows;
 use crate::meter::{Meter, OverLimit};
 use crate::paths::{Path, path_down};
 use crate::steps::operation_rows;
-use mon_series::SeriesMap;
+use mon_series::KeptRows;
 use mon_value::{Grid, Refusal, TimedRows};
 use mql_types::Node;
 use std::alloc::Global;
@@ -21,7 +21,7 @@ use std::alloc::Global;
 #[derive(Clone, Copy)]
 pub(crate) struct Setting<'a> {
     pub alloc: Global,
-    pub series: &'a [&'a SeriesMap],
+    pub series: &'a [&'a KeptRows],
     pub grid: Grid,
 }
 

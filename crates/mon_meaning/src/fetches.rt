@@ -70,6 +70,13 @@ impl<'a> Fetch<'a> {
         }
     }
 
+    /// The metric that is fetched.
+    pub(crate) fn metric(&self) -> &Text
+        ensures metric { result.now ≡ self.now.metric }
+    {
+        self.metric
+    }
+
     /// Whether a series is fetched, and each filter of its fields holds of it.
     pub(crate) fn is_met(&self, alloc: Global, key: &SeriesKey) -> Result<bool, OutOfMemory>
         ensures met { IfOk result (λ met. met ≡ is_met self.now key.now) }

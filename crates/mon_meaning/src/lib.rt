@@ -9,12 +9,18 @@ mod kept_points;
 mod meter;
 mod operations;
 mod parts;
+mod parts_up;
 mod paths;
+mod pieces;
 mod steps;
 mod tops;
 mod value_rows;
 
 pub use answers::{central, central_by_series};
 pub use meter::{Meter, OverLimit};
+pub use operations::table_of;
 pub use parts::part_by_series;
+pub use parts_up::{GoesUp, TopPart, is_up_to, top_parts};
+pub use pieces::piece_of;
 pub use steps::operation_rows;
+pub use tops::top_rows;

@@ -18,11 +18,7 @@ use mql_ast::Predicate;
 use std::alloc::Global;
 
 /// A table of these rows, with columns of its own.
-pub(crate) fn table_of(
-    alloc: Global,
-    columns: &Columns,
-    rows: TimedRows,
-) -> Result<Table, OutOfMemory>
+pub fn table_of(alloc: Global, columns: &Columns, rows: TimedRows) -> Result<Table, OutOfMemory>
     ensures table { IfOk result (λ table. table ≡ record { columns = columns.now; rows = rows }) }
 {
     Ok(Table {

@@ -16,7 +16,7 @@ use std::cmp::Ordering;
 
 /// At each time, in the order of the times' first rows, the `most` rows that come first by the column at a place, from
 /// the greatest, and then by their own order. The rows move.
-pub(crate) fn top_rows(
+pub fn top_rows(
     alloc: Global,
     most: u32,
     column: u32,

@@ -1,14 +1,13 @@
--- the series so far that are counted, with those that are left; so with their points
-use Rattle.std.proofs.Common.{◌≡◌, ◌+◌, ◌++◌, filter, sum_by}
-use Rattle.mon_series.specs.SeriesMaps.{series_held}
-use Rattle.mon_meaning.specs.within.MetSeries.{is_counted, met_count, series_met}
+-- the series so far that are counted, with those of the numbers that are left; so with their points
+use Rattle.std.proofs.Common.{◌≡◌, drop}
+use Rattle.mon_value.specs.Sources.{points_by_series}
+use Rattle.mon_meaning.specs.within.MetSeries.{series_met}
+use Rattle.mon_meaning.proofs.MetricSeries.{MetSoFar}
 use Rattle.mon_meaning.proofs.alignments.add_met.Given as goal
 
-abbrev pub invariant-loop-key : goal.invariant-loop-key
-invariant-loop-key l = record {
-  met : series_met l.met.items ++ filter (is_counted l.setting.grid l.by l.fetch) (series_held l.key-iterator)
-      ≡ series_met l.fn.met.items ++ filter (is_counted l.setting.grid l.by l.fetch) (series_held l.map.entries);
-  counted : l.meter.load + sum_by (met_count l.setting.grid l.by l.fetch) (series_held l.key-iterator)
-      ≡ l.fn.meter.load + sum_by (met_count l.setting.grid l.by l.fetch) (series_held l.map.entries);
+abbrev pub invariant-loop-number : goal.invariant-loop-number
+invariant-loop-number l = record {
+  so_far : MetSoFar l.setting.grid l.by l.fetch (points_by_series l.rows) (drop l.number-index l.numbers) (series_met l.fn.met.items)
+      (series_met l.met.items) l.fn.meter.load l.meter.load;
   limit : l.meter.limit ≡ l.fn.meter.limit;
 }

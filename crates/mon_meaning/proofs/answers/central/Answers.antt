@@ -1,24 +1,20 @@
-use Rattle.std.proofs.Common.{◌≡◌, ◌∙◌, ℤ, List, ap, subst, to_z, of_z, w64, rules}
-use Rattle.mon_value.specs.Sources.{points_by_series}
+use Rattle.std.proofs.Common.{◌≡◌, ◌∙◌, ℤ, List, sym, subst, to_z, of_z, w64, rules}
 use Rattle.mon_value.specs.declared.rows.Row.{Row}
 use Rattle.mql_types.specs.Nodes.{typed_tree}
+use Rattle.mql_types.specs.Soundness.{IsTyped}
 use Rattle.mon_meaning.specs.Central.{IsAnswer}
 use Rattle.mon_meaning.proofs.answers.central.Goals as goal
 
-pub central_by_series-requires-clause-asked : goal.central_by_series-requires-clause-asked
-central_by_series-requires-clause-asked c = record {
-  source = c.args.rows.now;
-  kept = c.all_series.ensures.series
-      ∙ ap (λ (rows : List Row). points_by_series rows) (c.in_ok-kept.ensures.rows ∙ c.as_slice.ensures.items);
-  fits = c.requires.typed;
-}
+pub central_by_series-requires-clause-typed : goal.central_by_series-requires-clause-typed
+central_by_series-requires-clause-typed c =
+    subst (IsTyped (typed_tree c.args.typed.now)) (sym (c.in_ok-kept.ensures.rows ∙ c.as_slice.ensures.items)) c.requires.typed
 
 pub returns : goal.returns
 returns c =
+    let typed = typed_tree c.args.typed.now in
     let moment : to_z w64 (of_z w64 c.args.moment) ≡ c.args.moment = search rules in
     record {
-      answer = subst (λ (m : ℤ). IsAnswer (typed_tree c.args.typed.now) c.args.rows.now m c.args.limit c.central_by_series.result) moment
-          (c.central_by_series.ensures.answer c.args.rows.now
-          (c.all_series.ensures.series
-          ∙ ap (λ (rows : List Row). points_by_series rows) (c.in_ok-kept.ensures.rows ∙ c.as_slice.ensures.items)));
+      answer = subst (λ (m : ℤ). IsAnswer typed c.args.rows.now m c.args.limit c.central_by_series.result) moment
+          (subst (λ (rows : List Row). IsAnswer typed rows (to_z w64 (of_z w64 c.args.moment)) c.args.limit c.central_by_series.result)
+          (c.in_ok-kept.ensures.rows ∙ c.as_slice.ensures.items) c.central_by_series.ensures.answer);
     }

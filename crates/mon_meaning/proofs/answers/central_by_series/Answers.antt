@@ -1,4 +1,4 @@
-use Rattle.std.proofs.Common.{◌≡◌, ◌∙◌, ◌++◌, ◌+◌, [], ℕ, List, to_z, of_z, w64, sym, ap, subst, rules}
+use Rattle.std.proofs.Common.{◌≡◌, ◌∙◌, ◌++◌, ◌+◌, [], ℕ, List, to_z, of_z, w64, refl, sym, ap, subst, rules}
 use Rattle.std.specs.Prelude.{IsPermutation}
 use Rattle.std.proofs.lemmas.List.{append-nil}
 use Rattle.mon_value.specs.Sources.{points_by_series}
@@ -8,7 +8,6 @@ use Rattle.mql_types.specs.Loads.{load_of}
 use Rattle.mql_types.specs.Meaning.{grid_of, rows_meant}
 use Rattle.mql_types.specs.Nodes.{columns_of, node_tree, typed_tree}
 use Rattle.mql_types.specs.declared.nodes.NodeInfo.{NodeInfo}
-use Rattle.mon_series.specs.SeriesMaps.{series_held}
 use Rattle.mon_meaning.specs.Central.{IsPartAsked, IsRefusedBy}
 use Rattle.mon_meaning.specs.Counts.{TellsOver}
 use Rattle.mon_meaning.proofs.AnswerLemmas.{asked_whole, is_meant, is_refused}
@@ -18,25 +17,26 @@ pub part_by_series-requires : goal.part_by_series-requires
 part_by_series-requires c =
     let typed = typed_tree c.args.typed.now in
     let tree = node_tree c.args.typed.now.tree in
-    let series = series_held c.args.series.now.entries in
+    let series = points_by_series c.args.kept.now in
     let moment : to_z w64 (of_z w64 c.args.moment) ≡ c.args.moment = search rules in
     let grid : c.grid_of-grid.result ≡ grid_of typed c.args.moment = c.grid_of-grid.ensures.grid ∙ ap (grid_of typed) moment in
     record {
       asked = subst (λ (g : Grid). IsPartAsked g tree (series ++ [])) (sym grid)
           (subst (IsPartAsked (grid_of typed c.args.moment) tree) (sym (append-nil series))
-          (asked_whole typed series c.args.moment c.requires.asked c.requires.moment));
+          (asked_whole typed series c.args.moment (record { source = c.args.kept.now; kept = refl; fits = c.requires.typed }) c.requires.moment));
     }
 
 pub returns-in_err-rows : goal.returns-in_err-rows
 returns-in_err-rows c =
     let typed = typed_tree c.args.typed.now in
     let tree = node_tree c.args.typed.now.tree in
-    let series = series_held c.args.series.now.entries in
+    let series = points_by_series c.args.kept.now in
     let moment : to_z w64 (of_z w64 c.args.moment) ≡ c.args.moment = search rules in
     let grid : c.grid_of-grid.result ≡ grid_of typed c.args.moment = c.grid_of-grid.ensures.grid ∙ ap (grid_of typed) moment in
     record {
-      answer = λ source kept.
-          let held : series ++ [] ≡ points_by_series source = append-nil series ∙ kept in
+      answer =
+          let source = c.args.kept.now in
+          let held : series ++ [] ≡ points_by_series source = append-nil series in
           let over : TellsOver c.new-meter.result.limit (0 + load_of (grid_of typed c.args.moment) tree source) c.in_err-rows.field-0.0 =
           subst (λ (n : ℕ). TellsOver c.new-meter.result.limit (n + load_of (grid_of typed c.args.moment) tree source)
           c.in_err-rows.field-0.0) c.new-meter.ensures.none
@@ -52,7 +52,7 @@ pub returns : goal.returns
 returns c =
     let typed = typed_tree c.args.typed.now in
     let tree = node_tree c.args.typed.now.tree in
-    let series = series_held c.args.series.now.entries in
+    let series = points_by_series c.args.kept.now in
     let moment : to_z w64 (of_z w64 c.args.moment) ≡ c.args.moment = search rules in
     let grid : c.grid_of-grid.result ≡ grid_of typed c.args.moment = c.grid_of-grid.ensures.grid ∙ ap (grid_of typed) moment in
     let columns : c.deref.result.now ≡ columns_of tree =
@@ -60,8 +60,9 @@ returns c =
     let is : c.in_ok-table_of.field-0 ≡ record { columns = columns_of tree; rows = c.in_ok-rows.rows } =
     c.in_ok-table_of.ensures.table ∙ ap (λ (cs : List Column). record { columns = cs; rows = c.in_ok-rows.rows }) columns in
     record {
-      answer = λ source kept.
-          let held : series ++ [] ≡ points_by_series source = append-nil series ∙ kept in
+      answer =
+          let source = c.args.kept.now in
+          let held : series ++ [] ≡ points_by_series source = append-nil series in
           let same : IsPermutation (rows_meant (grid_of typed c.args.moment) tree source) c.in_ok-rows.rows =
           subst (λ (g : Grid). IsPermutation (rows_meant g tree source) c.in_ok-rows.rows) grid (c.in_ok-rows.ensures.rows source held) in
           let counted : c.part_by_series.new.meter.load ≡ 0 + load_of (grid_of typed c.args.moment) tree source =
