@@ -4,12 +4,15 @@ mod KeptLemmas
 mod LawfulLemmas
 mod LeadingLemmas
 mod NumberedLemmas
-mod PartLemmas
 mod PlaceLemmas
-mod PositionLemmas
 mod RangeNameLemmas
 mod RepeatLemmas
 mod ReplicaLemmas
 mod SizeLemmas
 mod SpanLemmas
+pub mod FrontLemmas
+pub mod HeldLemmas
 pub mod NameMapLemmas
+pub mod PartLemmas
+pub mod PositionLemmas
+pub mod RangeHistoryLemmas

@@ -1,7 +1,7 @@
 -- What the histories of leaves and of ranges that someone has seen say of one another.
-use Rattle.std.specs.Prelude.{◌≡◌, ◌≤◌, ◌<◌, ℕ, true, List, [], length, take, slice_get, Some, Contains}
+use Rattle.std.specs.Prelude.{◌≡◌, ◌<◌, ℕ, true, List, [], length, take, slice_get, Some, Contains}
 use Rattle.std.specs.List.{slice_index_or}
-use Rattle.mon_value.specs.LeafHistories.{IsWellFormed, is_down, replica_rows}
+use Rattle.mon_value.specs.LeafHistories.{IsDownAt, IsWellFormed, replica_rows}
 use Rattle.mon_value.specs.declared.histories.Ack.{Ack}
 use Rattle.mon_value.specs.declared.histories.Entry.{Entry}
 use Rattle.mon_value.specs.declared.histories.Entry.TheVariants as entry
@@ -48,8 +48,7 @@ pub record IsTaken (seen : Histories) (pass : ℕ) (row : Row) (ack : Ack) (repl
 -- a replica was missed where its leaf was down
 pub record IsMissed (seen : Histories) (replicas : List SlotLeaf) (miss : Miss) : Type 0 where
   pub placed : Contains replicas (record { slot = miss.slot; leaf = miss.leaf })
-  pub seen_by_then : miss.cut ≤ length (leaf_history seen miss.leaf)
-  pub down : is_down (take miss.cut (leaf_history seen miss.leaf)) ≡ true
+  pub down : IsDownAt (leaf_history seen miss.leaf) miss.cut
 
 -- what an entry at the place k of a range's history says of the leaves
 abbrev pub IsBorneOut : Histories → Range → List RangeEntry → ℕ → RangeEntry → Type 0

@@ -8,4 +8,6 @@ pub mod Locations
 pub mod Places
 pub mod RangeHistories
 pub mod Replicas
+pub mod SeenHistories
+pub mod Settings
 pub mod Zones

@@ -105,6 +105,20 @@ impl Topology {
         self.zones.len() as u32
     }
 
+    /// How many leaves all zones have.
+    pub fn leaves(&self) -> u32
+        ensures count { result ≡ length (spec.leaves_in self.now) }
+    {
+        self.leaf_names.len() as u32
+    }
+
+    /// How many ranges all zones have.
+    pub fn ranges(&self) -> u32
+        ensures count { result ≡ length (spec.ranges_in self.now) }
+    {
+        self.replicas.len() as u32
+    }
+
     /// The first leaf of a zone, and how many leaves the zone has.
     pub fn leaves_of(&self, zone: Zone) -> (Leaf, u32)
         requires { zone.0 < length self.now }
