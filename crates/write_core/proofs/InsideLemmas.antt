@@ -1,8 +1,8 @@
 -- The events of a write inside a leaf: buckets are raised, and the row is put.
-use Rattle.std.proofs.Common.{◌≡◌, ◌≢◌, ℕ, ◌<◌, Bool, true, false, ◌||◌, ◌&&◌, cond, Some, None, List, [], ◌∷◌, ◌++◌, length, get_or, map, refl, sym, ap, ap₂, subst, ◌∙◌, append-nil, inl, inr}
+use Rattle.std.proofs.Common.{◌≡◌, ◌≢◌, ℕ, ◌<◌, true, false, cond, Some, None, List, [], ◌∷◌, ◌++◌, length, get_or, map, refl, sym, ap, ap₂, subst, ◌∙◌, append-nil, inl, inr}
 use Rattle.std.specs.Prelude.{nat_eq, Contains}
 use Rattle.std.specs.List.{AllByRecursion as All}
-use Rattle.std.proofs.lemmas.Bool.{and_from, and_right, cases_lt, eq-eqb, ne_eqb, or_cases, or_left, or_right}
+use Rattle.std.proofs.lemmas.Bool.{and_from, and_right, cases_lt, eq-eqb, ne_eqb}
 use Rattle.std.proofs.lemmas.List.{get_or_past, map-append}
 use Rattle.std.proofs.lemmas.List.Elements.{Contains-push}
 use Rattle.mon_hints.specs.Listings.{is_among}
@@ -16,25 +16,29 @@ use Rattle.mon_value.specs.declared.positions.Range.{Range}
 use Rattle.mon_value.specs.declared.positions.Slot.{Slot}
 use Rattle.mon_value.specs.declared.rows.Row.{Row}
 use Rattle.mon_topo.specs.RangeHistories.{acked}
-use Rattle.write_core.specs.Covers.{Bits, Covers}
-use Rattle.write_core.specs.HistoryBuckets.{history_buckets}
-use Rattle.write_core.specs.Invariant.{IsEntering, IsGoing, IsInside, IsKept, IsMark, rows_after}
+use Rattle.mon_hints.specs.Covers.{AreKept, Bits, Covers}
+use Rattle.mon_hints.specs.HistoryBuckets.{history_buckets}
+use Rattle.write_core.specs.Deeds.{HasDone}
+use Rattle.write_core.specs.Invariant.{IsEntering, IsGoing, IsInside, IsKept, IsMark, IsWriter, rows_after}
 use Rattle.write_core.specs.Marks.{marked, replica_of}
 use Rattle.write_core.specs.Program.{Inside, Stage, entering}
 use Rattle.write_core.specs.Rounds.{Round, looked}
-use Rattle.write_core.specs.Steps.{put_of}
-use Rattle.write_core.specs.Views.{AreKept, IsWithin, Setting, View, of_leaf, of_range, with_bit, with_entry, with_root_bit, with_zone_bit, zone_of_leaf}
-use Rattle.write_core.specs.World.{World, Writer, at_leaf, gone_on}
+use Rattle.mon_topo.specs.Settings.{Setting, zone_of_leaf}
+use Rattle.write_core.specs.Views.{IsWithin, View, joined, of_leaf, of_range, with_entry, with_root_bit, with_zone_bit}
+use Rattle.write_core.specs.World.{World, Writer, Writes, at_leaf, gone_on, pass_of, put_of, writes_on}
 use Rattle.write_core.specs.declared.marks.Fate.TheVariants as fate
 use Rattle.write_core.specs.declared.marks.Mark.{Mark}
-use Rattle.write_core.proofs.ChangeLemmas.{entry_by, entry_other, entry_same, entry_sound, entry_up, entry_within, kept_bit}
-use Rattle.write_core.proofs.FrontLemmas.{begins_same}
-use Rattle.write_core.proofs.HistoryLemmas.{put_elsewhere, replica_rows-push}
-use Rattle.write_core.proofs.KeepsLemmas.{changed_same, going_with, mark_moves, opened_moves}
-use Rattle.write_core.proofs.LeafEventLemmas.{base, base_range, base_sound, base_up, base_whole, base_within, decided, root_bit, root_going, zone_bit, zone_going}
-use Rattle.write_core.proofs.RangeLemmas.{AreApart, all_append, all_back, all_front, apart_around, numbered}
+use Rattle.write_core.proofs.ChangeLemmas.{entry_sound, entry_up, entry_within}
+use Rattle.mon_topo.proofs.HeldLemmas.{leaf_entry_by, leaf_entry_other, leaf_entry_same}
+use Rattle.mon_topo.proofs.FrontLemmas.{begins_same}
+use Rattle.mon_value.proofs.LeafHistoryLemmas.{put_elsewhere, replica_rows-push}
+use Rattle.write_core.proofs.DeedLemmas.{anothers_put, done_put, puts_stay}
+use Rattle.write_core.proofs.KeepsLemmas.{changed_same, going_with, mark_moves, opened_moves, opened_with}
+use Rattle.write_core.proofs.LeafEventLemmas.{decided, root_going, zone_going}
+use Rattle.write_core.proofs.MeetLemmas.{base_range, base_sound, base_up, base_whole, base_within, inside_root, inside_zone, raised_all, root_bit, zone_bit}
+use Rattle.mon_topo.proofs.RangeHistoryLemmas.{AreApart, all_append, all_back, all_front, apart_around, numbered}
 use Rattle.write_core.proofs.StageLemmas.{at_entering, mark_here, remarked_replicas, untaken_ready}
-use Rattle.write_core.proofs.StepLemmas.{IsStep, ChangesLeaf, leaf_step}
+use Rattle.write_core.proofs.StepLemmas.{IsStep, ChangesLeaf, write_at_leaf, writer_of}
 use Rattle.write_core.proofs.ViewLemmas.{within_through}
 
 -- ---- small facts
@@ -70,108 +74,71 @@ all_both : {X : Type 0} (P Q R : X → Type 0) → ((x : X) → P x → Q x → 
 all_both P Q R f [] h k = tt
 all_both P Q R f (x ∷ xs) h k = (f x h.0 k.0, all_both P Q R f xs h.1 k.1)
 
--- what was known or to be raised still is, where one bucket was raised
-raised_more : (before after : ℕ → ℕ → Bool) (place bucket n : ℕ) (left : List ℕ) → AreKept before after
-    → (before place n || is_among n (bucket ∷ left)) ≡ true
-    → (with_bit after place bucket place n || is_among n left) ≡ true
-raised_more before after place bucket n left kept h =
-    elim (or_cases (before place n) (is_among n (bucket ∷ left)) h) [
-      | inl known ↦ or_left (with_bit after place bucket place n) (is_among n left)
-          (kept_bit after place bucket place n (kept place n known))
-      | inr there ↦ elim (or_cases (nat_eq n bucket) (is_among n left) there) [
-        | inl same ↦ or_left (with_bit after place bucket place n) (is_among n left)
-            (or_left (nat_eq place place && nat_eq n bucket) (after place n)
-            (and_from (nat_eq place place) (nat_eq n bucket) (eq-eqb place place refl) same))
-        | inr later ↦ or_right (with_bit after place bucket place n) (is_among n left) later
-      ]
-    ]
-
-raised_still : (before after : ℕ → ℕ → Bool) (place n : ℕ) (left : List ℕ) → AreKept before after
-    → (before place n || is_among n left) ≡ true → (after place n || is_among n left) ≡ true
-raised_still before after place n left kept h =
-    elim (or_cases (before place n) (is_among n left) h) [
-      | inl known ↦ or_left (after place n) (is_among n left) (kept place n known)
-      | inr there ↦ or_right (after place n) (is_among n left) there
-    ]
-
-raised_all : (before after : ℕ → ℕ → Bool) (place n : ℕ) → AreKept before after
-    → (before place n || is_among n []) ≡ true → after place n ≡ true
-raised_all before after place n kept h =
-    elim (or_cases (before place n) false h) [ inl known ↦ kept place n known | inr there ↦ absurd (nothing there) ]
-  where
-    nothing : false ≡ true → ⊥
-    nothing e = cc
-
-module _ (setting : Setting) (world : World) (i : ℕ) (kept : IsKept setting world) (done left : List Mark) (mark : Mark)
-    (at : IsEntering world i setting (world.writers i) (record { done = done; left = mark ∷ left })) where
+module _ (setting : Setting) (world : World) (i : ℕ) (who : Writer) (is : world.actors i ≡ Writes who)
+    (kept : IsKept setting world) (done left : List Mark) (mark : Mark)
+    (at : IsEntering world i setting who (record { done = done; left = mark ∷ left })) where
   abbrev round : Round
   round = record { done = done; left = mark ∷ left }
 
-  abbrev who : Writer
-  who = world.writers i
+  own : IsWriter setting world i who
+  own = writer_of setting world i who kept is
 
   abbrev l : Leaf
   l = mark.leaf
 
   abbrev met : View
-  met = base setting world i kept l
+  met = joined who.view (world.leaves l.0)
 
   up : IsWithin who.view met
-  up = base_up setting world i kept l
+  up = base_up setting world i kept who.view own.part l
 
   -- ---- a bucket is raised
 
-  pub raise_root : (bucket : ℕ) (at_root in_zone : List ℕ) → IsInside setting world i who l (bucket ∷ at_root) in_zone
-      → IsStep setting world (at_leaf world i l (with_root_bit (zone_of_leaf setting l) bucket) (Some i)
-      (Inside round at_root in_zone))
-  raise_root bucket at_root in_zone inside =
+  pub raise_root : (bucket : ℕ) (at_root in_zone : List ℕ) → IsInside setting world i who.view l (setting.buckets_of who.row.key) (bucket ∷ at_root) in_zone
+      → HasDone world.truth who (Inside round (bucket ∷ at_root) in_zone)
+      → IsStep setting world (at_leaf world i who.view l (with_root_bit (zone_of_leaf setting l) bucket) (Some i)
+      (writes_on who (Inside round at_root in_zone)))
+  raise_root bucket at_root in_zone inside deeds =
       let zone = zone_of_leaf setting l in
       let stage = Inside round at_root in_zone in
-      leaf_step setting world i l (with_root_bit zone bucket) (Some i) stage kept
-      (root_bit setting world i kept l zone bucket) (inr inside.holder) (
+      write_at_leaf setting world i who is kept l (with_root_bit zone bucket) (Some i) stage
+      (root_bit setting world i kept who.view own.part l zone bucket) (inr inside.holder) (
         record {
-          going = root_going setting world i kept l (Some i) stage (done ++ mark ∷ left) at.going zone
+          going = root_going setting world i who is kept l (Some i) stage (done ++ mark ∷ left) at.going zone
               bucket;
           done = at.done;
           left = at.left;
           ready = at.ready;
         },
-        record {
-          holder = changed_same world.leaf_holder l.0 (Some i);
-          whole = base_whole setting world i kept l;
-          up = inside.up;
-          root = λ n its. raised_more who.view.bits.root met.bits.root zone.0 bucket n at_root up.root
-              (inside.root n its);
-          zone = λ n its. raised_still who.view.bits.zone met.bits.zone l.0 n in_zone up.zone (inside.zone n its);
-        },
-      )
+        inside_root setting world i kept who.view own.part l
+            (at_leaf world i who.view l (with_root_bit zone bucket) (Some i) (writes_on who stage))
+            (setting.buckets_of who.row.key) bucket at_root in_zone (changed_same world.leaf_holder l.0 (Some i)) refl
+            inside,
+      ) (record { puts = deeds.puts; acks = deeds.acks })
 
-  pub raise_zone : (bucket : ℕ) (in_zone : List ℕ) → IsInside setting world i who l [] (bucket ∷ in_zone)
-      → IsStep setting world (at_leaf world i l (with_zone_bit l bucket) (Some i) (Inside round [] in_zone))
-  raise_zone bucket in_zone inside =
+  pub raise_zone : (bucket : ℕ) (in_zone : List ℕ) → IsInside setting world i who.view l (setting.buckets_of who.row.key) [] (bucket ∷ in_zone)
+      → HasDone world.truth who (Inside round [] (bucket ∷ in_zone))
+      → IsStep setting world (at_leaf world i who.view l (with_zone_bit l bucket) (Some i)
+      (writes_on who (Inside round [] in_zone)))
+  raise_zone bucket in_zone inside deeds =
       let zone = zone_of_leaf setting l in
       let stage = Inside round [] in_zone in
-      leaf_step setting world i l (with_zone_bit l bucket) (Some i) stage kept
-      (zone_bit setting world i kept l bucket) (inr inside.holder) (
+      write_at_leaf setting world i who is kept l (with_zone_bit l bucket) (Some i) stage
+      (zone_bit setting world i kept who.view own.part l bucket) (inr inside.holder) (
         record {
-          going = zone_going setting world i kept l (Some i) stage (done ++ mark ∷ left) at.going bucket;
+          going = zone_going setting world i who is kept l (Some i) stage (done ++ mark ∷ left) at.going bucket;
           done = at.done;
           left = at.left;
           ready = at.ready;
         },
-        record {
-          holder = changed_same world.leaf_holder l.0 (Some i);
-          whole = base_whole setting world i kept l;
-          up = inside.up;
-          root = λ n its. raised_still who.view.bits.root met.bits.root zone.0 n [] up.root (inside.root n its);
-          zone = λ n its. raised_more who.view.bits.zone met.bits.zone l.0 bucket n in_zone up.zone
-              (inside.zone n its);
-        },
-      )
+        inside_zone setting world i kept who.view own.part l
+            (at_leaf world i who.view l (with_zone_bit l bucket) (Some i) (writes_on who stage))
+            (setting.buckets_of who.row.key) bucket in_zone (changed_same world.leaf_holder l.0 (Some i)) refl inside,
+      ) (record { puts = deeds.puts; acks = deeds.acks })
 
   -- ---- the row is put
 
-  module _ (inside : IsInside setting world i who l [] []) where
+  module _ (inside : IsInside setting world i who.view l (setting.buckets_of who.row.key) [] []) (deeds : HasDone world.truth who (Inside round [] [])) where
     abbrev r : Range
     r = who.range
 
@@ -193,7 +160,7 @@ module _ (setting : Setting) (world : World) (i : ℕ) (kept : IsKept setting wo
 
     in_met : l.0 < length met.seen.leaves
     in_met = subst (λ (n : ℕ). l.0 < n)
-        (kept.truth.held.all_leaves ∙ sym (base_sound setting world i kept l).held.all_leaves) in_truth
+        (kept.truth.held.all_leaves ∙ sym (base_sound setting world i kept who.view own.part l).held.all_leaves) in_truth
 
     may_truth : leaf_spec.MayFollow (of_leaf world.truth l) e
     may_truth = (
@@ -205,7 +172,7 @@ module _ (setting : Setting) (world : World) (i : ℕ) (kept : IsKept setting wo
 
     may_met : leaf_spec.MayFollow (of_leaf met l) e
     may_met = subst (λ (history : List Entry). leaf_spec.MayFollow history e)
-        (sym (base_whole setting world i kept l)) may_truth
+        (sym (base_whole setting world i kept who.view own.part l)) may_truth
 
     covers_in : (bits : Bits) → AreKept who.view.bits.root bits.root → AreKept who.view.bits.zone bits.zone
         → Covers bits (zone_of_leaf setting l) l (history_buckets setting.buckets_of (e ∷ []))
@@ -223,7 +190,7 @@ module _ (setting : Setting) (world : World) (i : ℕ) (kept : IsKept setting wo
         (of_leaf world.truth leaf)
     rows_elsewhere o free place leaf =
         let apart : o.0 ≢ r.0 = λ same. free (ap world.range_holder same ∙ at.going.holds.holder) in
-        entry_by world.truth l e in_truth
+        leaf_entry_by world.truth.seen l e in_truth
         (λ x history. replica_rows o place history ≡ replica_rows o place (of_leaf world.truth x)) leaf
         (replica_rows-push o place (of_leaf world.truth l) e
         ∙ ap (λ rows. replica_rows o place (of_leaf world.truth l) ++ rows)
@@ -231,28 +198,38 @@ module _ (setting : Setting) (world : World) (i : ℕ) (kept : IsKept setting wo
         ∙ append-nil (replica_rows o place (of_leaf world.truth l)))
         refl
 
-    changes : ChangesLeaf setting world i l (with_entry l e)
+    opens_nothing : (o : Range) (place : Slot) (leaf : Leaf)
+        → is_opened o place (of_leaf (with_entry l e world.truth) leaf) ≡ is_opened o place (of_leaf world.truth leaf)
+    opens_nothing o place leaf =
+        leaf_entry_by world.truth.seen l e in_truth
+        (λ x history. is_opened o place history ≡ is_opened o place (of_leaf world.truth x)) leaf
+        (opened_with o place (of_leaf world.truth l) e refl) refl
+
+    changes : ChangesLeaf setting world i who.view l (with_entry l e)
     changes = record {
-      truth = entry_sound world.truth l e in_truth setting kept.truth may_truth (kept.writers i).lawful.at_home
-          (covers_in world.truth.bits (kept.writers i).part.within.root (kept.writers i).part.within.zone);
-      met = entry_sound met l e in_met setting (base_sound setting world i kept l) may_met
-          (kept.writers i).lawful.at_home (covers_in met.bits up.root up.zone);
-      within = entry_within l e met world.truth in_met in_truth (base_whole setting world i kept l)
-          (base_within setting world i kept l);
+      truth = entry_sound world.truth l e in_truth setting kept.truth may_truth own.lawful.at_home
+          (covers_in world.truth.bits own.part.within.bits.root own.part.within.bits.zone);
+      met = entry_sound met l e in_met setting (base_sound setting world i kept who.view own.part l) may_met
+          own.lawful.at_home (covers_in met.bits up.bits.root up.bits.zone);
+      within = entry_within l e met world.truth in_met in_truth (base_whole setting world i kept who.view own.part l)
+          (base_within setting world i kept who.view own.part l);
       grows = entry_up world.truth l e in_truth;
       count = refl;
-      whole = entry_same met l e in_met ∙ ap (λ history. history ++ e ∷ []) (base_whole setting world i kept l)
-          ∙ sym (entry_same world.truth l e in_truth);
-      others = entry_other world.truth l e;
+      whole = leaf_entry_same met.seen l e in_met ∙ ap (λ history. history ++ e ∷ []) (base_whole setting world i kept who.view own.part l)
+          ∙ sym (leaf_entry_same world.truth.seen l e in_truth);
+      others = leaf_entry_other world.truth.seen l e;
       ranges = λ o. refl;
       rows = rows_elsewhere;
+      opened = λ o free. opens_nothing o;
+      puts = λ pass apart. puts_stay pass world.truth l e in_truth
+          (anothers_put pass who mark (λ same. apart (same ∙ ap pass_of (sym is))));
     }
 
     abbrev stage : Stage
     stage = entering (looked round fate.Took)
 
     abbrev next : World
-    next = at_leaf world i l (with_entry l e) None stage
+    next = at_leaf world i who.view l (with_entry l e) None (writes_on who stage)
 
     abbrev then' : Writer
     then' = gone_on who stage (with_entry l e met)
@@ -265,7 +242,7 @@ module _ (setting : Setting) (world : World) (i : ℕ) (kept : IsKept setting wo
 
     rows_then : replica_rows r s (of_leaf next.truth l) ≡ rows_after world who
     rows_then =
-        ap (replica_rows r s) (entry_same world.truth l e in_truth)
+        ap (replica_rows r s) (leaf_entry_same world.truth.seen l e in_truth)
         ∙ replica_rows-push r s (of_leaf world.truth l) e
         ∙ ap₂ (λ rows more. rows ++ more) rows_now (put_own r s who.pass who.row)
 
@@ -275,7 +252,7 @@ module _ (setting : Setting) (world : World) (i : ℕ) (kept : IsKept setting wo
       seen = record {
         rows = begins_same (replica_rows r s (of_leaf (with_entry l e met) l)) (rows_after world who)
             (ap (replica_rows r s) changes.whole ∙ rows_then);
-        put = subst (λ (history : List Entry). Contains history e) (sym (entry_same met l e in_met))
+        put = subst (λ (history : List Entry). Contains history e) (sym (leaf_entry_same met.seen l e in_met))
             (Contains-push (of_leaf met l) e);
       };
     }
@@ -284,7 +261,7 @@ module _ (setting : Setting) (world : World) (i : ℕ) (kept : IsKept setting wo
     other_mark : (other : Mark) → other.slot.0 ≢ s.0 → IsMark world who other → IsMark next then' other
     other_mark other apart was =
         mark_moves world next changes.grows i setting who stage (with_entry l e met) up_then refl other
-        (entry_by world.truth l e in_truth
+        (leaf_entry_by world.truth.seen l e in_truth
         (λ x history. replica_rows r other.slot history ≡ replica_rows r other.slot (of_leaf world.truth x))
         other.leaf
         (replica_rows-push r other.slot (of_leaf world.truth l) e
@@ -300,7 +277,7 @@ module _ (setting : Setting) (world : World) (i : ℕ) (kept : IsKept setting wo
         apart_around (map replica_of done) (map replica_of left) (replica_of mark)
         (subst AreApart (sym at.going.serve ∙ map-append replica_of done (mark ∷ left))
         (numbered setting.held setting.zones setting.points r (of_range world.truth r)
-        (kept.truth.held.legal r (kept.writers i).lawful.there)).apart)
+        (kept.truth.held.legal r own.lawful.there)).apart)
 
     other_marks : (marks : List Mark) → All (λ other. other.slot.0 ≢ s.0) (map replica_of marks)
         → All (IsMark world who) marks → All (IsMark next then') marks
@@ -311,17 +288,18 @@ module _ (setting : Setting) (world : World) (i : ℕ) (kept : IsKept setting wo
     going =
         going_with world next changes.grows i setting who stage (with_entry l e met) up_then refl
         (done ++ mark ∷ left) ((done ++ new ∷ []) ++ left)
-        at.going.holds.holder (base_range setting world i kept l r at.going.holds.whole)
+        at.going.holds.holder (base_range setting world i kept who.view own.part l r at.going.holds.whole)
         (remarked_replicas setting world i who done left mark fate.Took)
         (all_append (IsMark next then') (done ++ new ∷ []) left
         (all_append (IsMark next then') done (new ∷ [])
         (other_marks done apart.0 (all_front (IsMark world who) done (mark ∷ left) at.going.each))
         (new_mark, tt))
         (other_marks left apart.1 (all_back (IsMark world who) done (mark ∷ left) at.going.each).1))
-        at.going
+        (λ slot leaf later. opens_nothing r slot leaf ∙ at.going.fresh slot leaf later) at.going
 
     pub put_row : IsStep setting world next
     put_row =
-        leaf_step setting world i l (with_entry l e) None stage kept changes (inr inside.holder)
+        write_at_leaf setting world i who is kept l (with_entry l e) None stage changes (inr inside.holder)
         (at_entering setting next i then' (looked round fate.Took) going
         (all_append decided done (new ∷ []) at.done (refl, tt)) at.left.1)
+        (done_put world.truth who done left mark at.ready at.left.1 in_truth [] [] deeds)

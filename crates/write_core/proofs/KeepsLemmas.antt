@@ -1,30 +1,37 @@
--- What an event of one write leaves to the others, and to ranges that no write holds.
-use Rattle.std.proofs.Common.{◌≡◌, ◌≢◌, ℕ, ◌<◌, ◌≤◌, true, Some, Option, List, [], ◌∷◌, ◌++◌, length, map, refl, sym, ap, subst, ◌∙◌, arith, inl, inr}
+-- What an event of one actor leaves to the others, and to ranges that nobody holds.
+use Rattle.std.proofs.Common.{Bool, ◌||◌, ◌≡◌, ◌≢◌, ℕ, suc, false, ◌<◌, true, Some, Option, List, [], ◌∷◌, ◌++◌, length, map, refl, sym, ap, subst, ◌∙◌, inl, inr}
 use Rattle.std.specs.Prelude.{nat_eq, Contains, if◌then◌else◌}
 use Rattle.std.specs.List.{AllByRecursion as All}
 use Rattle.std.proofs.lemmas.Bool.{cases_eq, cond-false, cond-true, eq-eqb, ne_eqb}
 use Rattle.mon_value.specs.LeafHistories.{entry_rows, is_down, is_opened, replica_rows}
 use Rattle.mon_value.specs.Sources.{IsSource}
+use Rattle.mon_value.specs.declared.histories.Entry.{Entry}
 use Rattle.mon_value.specs.declared.histories.RangeEntry.{RangeEntry}
 use Rattle.mon_value.specs.declared.positions.Leaf.{Leaf}
 use Rattle.mon_value.specs.declared.positions.Range.{Range}
 use Rattle.mon_value.specs.declared.positions.Slot.{Slot}
+use Rattle.mon_value.specs.declared.positions.SlotLeaf.{SlotLeaf}
 use Rattle.mon_value.specs.declared.rows.Row.{Row}
 use Rattle.mon_topo.specs.HeldHistories.{BeginsWith}
-use Rattle.mon_topo.specs.RangeHistories.{acked, serving}
-use Rattle.write_core.specs.Invariant.{HasMissed, HasSeen, HasTaken, IsAcking, IsAt, IsEntering, IsGoing, IsInFirst, IsMark, IsSettled, IsWriter, rows_after}
+use Rattle.mon_topo.specs.RangeHistories.{acked, opened, serving}
+use Rattle.mon_hints.specs.HistoryBuckets.{rows_buckets}
+use Rattle.write_core.specs.CopySteps.{MayOpen, copy_of, new_replica, next_slot}
+use Rattle.write_core.specs.Recovering.{Beginning, Carrying, CopyStage, Copying, Nearing, Over, Telling, Within}
+use Rattle.write_core.specs.Deeds.{acks_by, puts_by}
+use Rattle.write_core.specs.Invariant.{AreApart, HasCopied, HasLocked, HasMissed, HasOpened, HasRows, HasSeen, HasTaken, IsActor, IsAcking, IsAt, IsCopyAt, IsCopying, IsEntering, IsFresh, IsGoing, IsInFirst, IsInside, IsMark, IsRecovery, IsSettled, IsWriter, rows_after}
 use Rattle.write_core.specs.Marks.{is_taken, replica_of}
 use Rattle.write_core.specs.Program.{Acking, Ended, Entering, Inside, Locking, Marked, Not, Reserving, Stage, Verdict}
 use Rattle.write_core.specs.Rounds.{Round, marks_of}
-use Rattle.write_core.specs.Steps.{put_of}
-use Rattle.write_core.specs.Views.{IsWithin, Setting, View, of_leaf, of_range}
-use Rattle.write_core.specs.World.{IsPart, World, Writer, changed, gone_on}
+use Rattle.mon_topo.specs.Settings.{Setting}
+use Rattle.write_core.specs.Views.{IsWithin, View, of_leaf, of_range}
+use Rattle.write_core.specs.World.{Actor, IsPart, Recovers, Recovery, World, Writer, Writes, changed, gone_on, pass_of, put_of}
 use Rattle.write_core.specs.declared.marks.Fate.{Fate}
 use Rattle.write_core.specs.declared.marks.Fate.TheVariants as fate
 use Rattle.write_core.specs.declared.marks.Mark.{Mark}
-use Rattle.write_core.proofs.FrontLemmas.{behind, begins-flat_map, begins_length, begins_through, begins_to, contains_on, take_on}
-use Rattle.write_core.proofs.HistoryLemmas.{is_opened-append}
-use Rattle.write_core.proofs.RangeLemmas.{all_on}
+use Rattle.mon_topo.proofs.FrontLemmas.{behind, begins-flat_map, begins_through, begins_to, contains_on}
+use Rattle.mon_topo.proofs.HeldLemmas.{down_on}
+use Rattle.mon_value.proofs.LeafHistoryLemmas.{is_opened-append, opened_more}
+use Rattle.mon_topo.proofs.RangeHistoryLemmas.{all_on}
 use Rattle.write_core.proofs.ViewLemmas.{within_itself, within_through}
 
 -- ---- tables
@@ -45,26 +52,50 @@ changed_by {X} table n value P p q m =
       | inr apart ↦ subst (λ (x : X). P m x) (sym (changed_other table n m value apart)) (q m apart)
     ]
 
+-- actors stay apart, where one goes on with its pass
+module _ (actors : ℕ → Actor) (i : ℕ) (new : Actor) (same : pass_of new ≡ pass_of (actors i)) where
+  same_pass : (j : ℕ) → pass_of (changed actors i new j) ≡ pass_of (actors j)
+  same_pass = changed_by actors i new (λ j actor. pass_of actor ≡ pass_of (actors j)) same (λ j apart. refl)
+
+  pub apart_stay : AreApart actors → AreApart (changed actors i new)
+  apart_stay apart j k e = apart j k (sym (same_pass j) ∙ e ∙ same_pass k)
+
+-- ---- entries
+
+-- an entry that opens no replica
+pub opened_with : (r : Range) (s : Slot) (history : List Entry) (e : Entry) → is_opened r s (e ∷ []) ≡ false
+    → is_opened r s (history ++ e ∷ []) ≡ is_opened r s history
+opened_with r s history e none =
+    opened_more r s history (e ∷ []) ∙ ap (λ b. is_opened r s history || b) none ∙ or_none (is_opened r s history)
+  where
+    or_none : (b : Bool) → (b || false) ≡ b
+    or_none true = refl
+    or_none false = refl
+
 -- ---- what is left as it was
 
--- a range that stays with its holder: its history, and the rows of its replicas
+-- a range that stays with its holder: its history, and the replicas on leaves with their rows
 pub record KeepsRange (before after : World) (who : Option ℕ) (r : Range) : Type 0 where
   pub holder : after.range_holder r.0 ≡ who
   pub history : of_range after.truth r ≡ of_range before.truth r
   pub rows : (s : Slot) (l : Leaf)
       → replica_rows r s (of_leaf after.truth l) ≡ replica_rows r s (of_leaf before.truth l)
+  pub opened : (s : Slot) (l : Leaf)
+      → is_opened r s (of_leaf after.truth l) ≡ is_opened r s (of_leaf before.truth l)
 
 -- a leaf that stays with its holder
 pub record KeepsLeaf (before after : World) (who : Option ℕ) (l : Leaf) : Type 0 where
   pub holder : after.leaf_holder l.0 ≡ who
   pub history : of_leaf after.truth l ≡ of_leaf before.truth l
 
--- what a write relies on while others go on
-pub record Keeps (before after : World) (i : ℕ) : Type 0 where
+-- what an actor relies on while others go on: its range, its leaf, and that nobody else puts or acknowledges by its pass
+pub record Keeps (before after : World) (i pass : ℕ) : Type 0 where
   pub grows : IsWithin before.truth after.truth
   pub count : length after.truth.seen.ranges ≡ length before.truth.seen.ranges
   pub ranges : (r : Range) → before.range_holder r.0 ≡ Some i → KeepsRange before after (Some i) r
   pub leaves : (l : Leaf) → before.leaf_holder l.0 ≡ Some i → KeepsLeaf before after (Some i) l
+  pub puts : (l : Leaf) → puts_by pass (of_leaf after.truth l) ≡ puts_by pass (of_leaf before.truth l)
+  pub acks : (r : Range) → acks_by pass (of_range after.truth r) ≡ acks_by pass (of_range before.truth r)
 
 pub part_moves : (setting : Setting) (before after : World) (view : View) → IsWithin before.truth after.truth
     → IsPart setting before view → IsPart setting after view
@@ -75,17 +106,30 @@ module _ (before after : World) (grows : IsWithin before.truth after.truth) wher
   pub opened_moves : (r : Range) (s : Slot) (l : Leaf) → is_opened r s (of_leaf before.truth l) ≡ true
       → is_opened r s (of_leaf after.truth l) ≡ true
   opened_moves r s l h =
-      ap (is_opened r s) (begins_to (of_leaf after.truth l) (of_leaf before.truth l) (grows.leaves l))
+      ap (is_opened r s) (begins_to (of_leaf after.truth l) (of_leaf before.truth l) (grows.seen.leaves l))
       ∙ is_opened-append r s (of_leaf before.truth l) (behind (of_leaf after.truth l) (of_leaf before.truth l)) h
+
+  pub replica_moves : (who : Option ℕ) (r : Range) → KeepsRange before after who r → (replica : SlotLeaf)
+      (rows more : List Row) → rows ≡ more → HasRows before.truth r replica rows → HasRows after.truth r replica more
+  replica_moves who r keeps replica rows more same h = record {
+    opened = opened_moves r replica.slot replica.leaf h.opened;
+    all = keeps.rows replica.slot replica.leaf ∙ h.all ∙ same;
+  }
+
+  pub fresh_moves : (who : Option ℕ) (r : Range) → KeepsRange before after who r → (from : ℕ)
+      → IsFresh before.truth r from → IsFresh after.truth r from
+  fresh_moves who r keeps from h slot leaf later = keeps.opened slot leaf ∙ h slot leaf later
 
   pub settled_moves : (who : Option ℕ) (r : Range) → KeepsRange before after who r → IsSettled before.truth r
       → IsSettled after.truth r
-  settled_moves who r keeps h replica there =
-      let old = h replica (subst (λ (g : List RangeEntry). Contains (serving g) replica) keeps.history there) in
-      record {
-        opened = opened_moves r replica.slot replica.leaf old.opened;
-        all = keeps.rows replica.slot replica.leaf ∙ old.all ∙ ap acked (sym keeps.history);
-      }
+  settled_moves who r keeps h = record {
+    rows = λ replica there.
+        let old = h.rows replica (subst (λ (g : List RangeEntry). Contains (serving g) replica) keeps.history there) in
+        replica_moves who r keeps replica (acked (of_range before.truth r)) (acked (of_range after.truth r))
+        (ap acked (sym keeps.history)) old;
+    fresh = subst (λ (g : List RangeEntry). IsFresh after.truth r (length (opened g))) (sym keeps.history)
+        (fresh_moves who r keeps (length (opened (of_range before.truth r))) h.fresh);
+  }
 
   -- a write goes on to another stage, and has perhaps seen more
   module _ (i : ℕ) (setting : Setting) (writer : Writer) (stage : Stage) (view : View) (up : IsWithin writer.view view)
@@ -98,14 +142,7 @@ module _ (before after : World) (grows : IsWithin before.truth after.truth) wher
 
     missed_moves : (mark : Mark) (cut : ℕ) → HasMissed writer mark cut → HasMissed then' mark cut
     missed_moves mark cut h =
-        let now = of_leaf view mark.leaf in
-        let was = of_leaf writer.view mark.leaf in
-        let l : length was ≤ length now = begins_length now was (up.leaves mark.leaf) in
-        let by_then : cut ≤ length was = h.seen_by_then in
-        record {
-          seen_by_then = omega arith;
-          down = ap is_down (take_on now was cut (up.leaves mark.leaf) by_then) ∙ h.down;
-        }
+        down_on (of_leaf view mark.leaf) (of_leaf writer.view mark.leaf) cut (up.seen.leaves mark.leaf) h
 
     taken_moves : (mark : Mark) → HasTaken before writer mark → HasTaken after then' mark
     taken_moves mark h = record {
@@ -115,9 +152,9 @@ module _ (before after : World) (grows : IsWithin before.truth after.truth) wher
           (replica_rows writer.range mark.slot (of_leaf writer.view mark.leaf))
           (replica_rows writer.range mark.slot (of_leaf view mark.leaf))
           h.rows (begins-flat_map (entry_rows writer.range mark.slot) (of_leaf view mark.leaf)
-          (of_leaf writer.view mark.leaf) (up.leaves mark.leaf)));
+          (of_leaf writer.view mark.leaf) (up.seen.leaves mark.leaf)));
       put = contains_on (of_leaf view mark.leaf) (of_leaf writer.view mark.leaf) (put_of writer mark)
-          (up.leaves mark.leaf) h.put;
+          (up.seen.leaves mark.leaf) h.put;
     }
 
     pub seen_moves : (mark : Mark) (fate : Fate) → HasSeen before writer mark fate → HasSeen after then' mark fate
@@ -141,12 +178,15 @@ module _ (before after : World) (grows : IsWithin before.truth after.truth) wher
     pub going_with : (marks others : List Mark) → after.range_holder writer.range.0 ≡ Some i
         → of_range view writer.range ≡ of_range after.truth writer.range
         → map replica_of others ≡ map replica_of marks → All (IsMark after then') others
+        → IsFresh after.truth writer.range (length (opened (of_range before.truth writer.range)))
         → IsGoing before i setting writer marks → IsGoing after i setting then' others
-    going_with marks others holder whole same each h = record {
+    going_with marks others holder whole same each fresh h = record {
       holds = record { holder = holder; whole = whole };
       source = subst (λ (g : List RangeEntry). IsSource (acked g ++ writer.row ∷ [])) (sym history) h.source;
       room = subst (λ (g : List RangeEntry). length (acked g) < setting.points) (sym history) h.room;
       serve = same ∙ h.serve ∙ ap serving (sym history);
+      fresh = subst (λ (g : List RangeEntry). IsFresh after.truth writer.range (length (opened g))) (sym history)
+          fresh;
       each = each;
     }
 
@@ -156,11 +196,25 @@ module _ (before after : World) (grows : IsWithin before.truth after.truth) wher
     going_moves marks whole keeps h =
         going_with marks marks keeps.holder whole refl
         (all_on (IsMark before writer) (IsMark after then')
-        (λ mark. mark_moves mark (keeps.rows mark.slot mark.leaf)) marks h.each) h
+        (λ mark. mark_moves mark (keeps.rows mark.slot mark.leaf)) marks h.each)
+        (fresh_moves (Some i) writer.range keeps (length (opened (of_range before.truth writer.range))) h.fresh) h
 
--- ---- the other writes
+-- ---- the other actors
 
-module _ (setting : Setting) (before after : World) (i : ℕ) (keeps : Keeps before after i) (writer : Writer) where
+still_inside : (setting : Setting) (before after : World) (i : ℕ) (view : View) (leaf : Leaf)
+    (needed at_root in_zone : List ℕ) → KeepsLeaf before after (Some i) leaf
+    → IsInside setting before i view leaf needed at_root in_zone
+    → IsInside setting after i view leaf needed at_root in_zone
+still_inside setting before after i view leaf needed at_root in_zone keeps h = record {
+  holder = keeps.holder;
+  whole = h.whole ∙ sym keeps.history;
+  up = ap is_down keeps.history ∙ h.up;
+  root = h.root;
+  zone = h.zone;
+}
+
+module _ (setting : Setting) (before after : World) (i : ℕ) (writer : Writer)
+    (keeps : Keeps before after i writer.pass) where
   still_going : (marks : List Mark) → IsGoing before i setting writer marks → IsGoing after i setting writer marks
   still_going marks h =
       let range_keeps = keeps.ranges writer.range h.holds.holder in
@@ -175,14 +229,8 @@ module _ (setting : Setting) (before after : World) (i : ℕ) (keeps : Keeps bef
       → IsInFirst setting before i writer left at_root in_zone → IsInFirst setting after i writer left at_root in_zone
   still_in_first [] at_root in_zone h = tt
   still_in_first (mark ∷ left) at_root in_zone h =
-      let leaf_keeps = keeps.leaves mark.leaf h.holder in
-      record {
-        holder = leaf_keeps.holder;
-        whole = h.whole ∙ sym leaf_keeps.history;
-        up = ap is_down leaf_keeps.history ∙ h.up;
-        root = h.root;
-        zone = h.zone;
-      }
+      still_inside setting before after i writer.view mark.leaf (setting.buckets_of writer.row.key) at_root in_zone
+      (keeps.leaves mark.leaf h.holder) h
 
   still_acking : (verdict : Verdict) → IsAcking before i setting writer verdict
       → IsAcking after i setting writer verdict
@@ -212,4 +260,93 @@ module _ (setting : Setting) (before after : World) (i : ℕ) (keeps : Keeps bef
           h.lawful.there;
     };
     at = still_at writer.stage h.at;
+    deeds = record { puts = λ l. keeps.puts l ∙ h.deeds.puts l; acks = λ r. keeps.acks r ∙ h.deeds.acks r };
   }
+
+module _ (setting : Setting) (before after : World) (i : ℕ) (recovery : Recovery)
+    (keeps : Keeps before after i recovery.pass) where
+  abbrev g : List RangeEntry
+  g = of_range before.truth recovery.range
+
+  -- what holds with the history of its range
+  with_history : (P : List RangeEntry → Type 0) → KeepsRange before after (Some i) recovery.range → P g
+      → P (of_range after.truth recovery.range)
+  with_history P its h = subst P (sym its.history) h
+
+  still_locked : HasLocked before i recovery → HasLocked after i recovery
+  still_locked h =
+      let its = keeps.ranges recovery.range h.holder in
+      record {
+        holder = its.holder;
+        whole = h.whole ∙ sym its.history;
+        settled = settled_moves before after keeps.grows (Some i) recovery.range its h.settled;
+      }
+
+  still_copying : IsCopying setting before i recovery → IsCopying setting after i recovery
+  still_copying h = record {
+    locked = still_locked h.locked;
+    may = with_history (λ history. MayOpen setting history recovery)
+        (keeps.ranges recovery.range h.locked.holder) h.may;
+  }
+
+  still_copied : (rows : List Row) → HasCopied setting before i recovery rows → HasCopied setting after i recovery rows
+  still_copied rows h = record {
+    copying = still_copying h.copying;
+    all = h.all ∙ ap acked (sym (keeps.ranges recovery.range h.copying.locked.holder).history);
+    at_home = h.at_home;
+  }
+
+  still_opened : HasOpened setting before i recovery → HasOpened setting after i recovery
+  still_opened h =
+      let its = keeps.ranges recovery.range h.holder in
+      record {
+        holder = its.holder;
+        whole = h.whole ∙ sym its.history;
+        rows = with_history (λ history. (replica : SlotLeaf) → Contains (serving history) replica
+            → HasRows after.truth recovery.range replica (acked history)) its
+            (λ replica there. replica_moves before after keeps.grows (Some i) recovery.range its replica (acked g)
+            (acked g) refl (h.rows replica there));
+        fresh = with_history (λ history. IsFresh after.truth recovery.range (suc (length (opened history)))) its
+            (fresh_moves before after keeps.grows (Some i) recovery.range its (suc (length (opened g))) h.fresh);
+        may = with_history (λ history. MayOpen setting history recovery) its h.may;
+        has = with_history (λ history. HasRows after.truth recovery.range (new_replica recovery history) (acked history))
+            its (replica_moves before after keeps.grows (Some i) recovery.range its (new_replica recovery g) (acked g)
+            (acked g) refl h.has);
+        seen = with_history (λ history. BeginsWith (replica_rows recovery.range (next_slot history)
+            (of_leaf recovery.view recovery.leaf)) (acked history)) its h.seen;
+        entered = with_history (λ history. Contains (of_leaf recovery.view recovery.leaf)
+            (copy_of recovery history (acked history))) its h.entered;
+      }
+
+  still_copy_at : (stage : CopyStage) → IsCopyAt setting before i recovery stage
+      → IsCopyAt setting after i recovery stage
+  still_copy_at Beginning h = tt
+  still_copy_at (Copying sources) h = (
+    still_copying h.0,
+    with_history (λ history. All (Contains (serving history)) sources)
+        (keeps.ranges recovery.range h.0.locked.holder) h.1,
+  )
+  still_copy_at (Carrying rows) h = still_copied rows h
+  still_copy_at (Nearing rows) h = still_copied rows h
+  still_copy_at (Within rows at_root in_zone) h = (
+    still_copied rows h.0,
+    still_inside setting before after i recovery.view recovery.leaf
+        (rows_buckets setting.buckets_of rows) at_root in_zone (keeps.leaves recovery.leaf h.1.holder) h.1,
+  )
+  still_copy_at (Telling true) h = still_opened h
+  still_copy_at (Telling false) h = still_locked h
+  still_copy_at (Over is_open) h = h
+
+  -- a recovery whose range and leaf are left to it stays as it was
+  pub recovery_stays : IsRecovery setting before i recovery → IsRecovery setting after i recovery
+  recovery_stays h = record {
+    part = part_moves setting before after recovery.view keeps.grows h.part;
+    aimed = h.aimed;
+    at = still_copy_at recovery.stage h.at;
+  }
+
+pub actor_stays : (setting : Setting) (before after : World) (i : ℕ) (actor : Actor)
+    → Keeps before after i (pass_of actor) → IsActor setting before i actor → IsActor setting after i actor
+actor_stays setting before after i (Writes writer) keeps h = writer_stays setting before after i writer keeps h
+actor_stays setting before after i (Recovers recovery) keeps h =
+    recovery_stays setting before after i recovery keeps h

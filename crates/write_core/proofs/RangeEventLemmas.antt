@@ -17,25 +17,30 @@ use Rattle.mon_value.specs.declared.rows.Row.{Row}
 use Rattle.mon_topo.specs.HeldHistories.{BeginsWith, IsBorneOut, IsMissed, IsTaken}
 use Rattle.mon_topo.specs.RangeHistories as range_spec
 use Rattle.mon_topo.specs.RangeHistories.{acked, is_missed, opened, serving}
-use Rattle.write_core.specs.Invariant.{HasMissed, HasRows, HasSeen, HasTaken, IsDecided, IsKept, IsMark, IsRefused, IsSettled, is_decided, is_waiting, rows_after}
+use Rattle.write_core.specs.Deeds.{HasDone}
+use Rattle.write_core.specs.Invariant.{HasMissed, HasRows, HasSeen, HasTaken, IsDecided, IsFresh, IsKept, IsMark, IsRefused, IsSettled, IsWriter, is_decided, is_waiting, rows_after}
 use Rattle.write_core.specs.Marks.{ack_of, is_taken, replica_of, some_took, waiting}
-use Rattle.write_core.specs.Program.{Acking, Ended, Marked, Not, Stage, reserving}
+use Rattle.write_core.specs.Program.{Acking, Ended, Locking, Marked, Not, Stage, reserving}
 use Rattle.write_core.specs.Rounds.{round_of}
 use Rattle.write_core.specs.Steps.{acknowledged, unchanged}
-use Rattle.write_core.specs.Views.{IsSound, IsWithin, Setting, View, joined, of_leaf, of_range, with_range_entry}
-use Rattle.write_core.specs.World.{World, Writer, at_range, gone_on}
+use Rattle.mon_topo.specs.Settings.{Setting}
+use Rattle.write_core.specs.Views.{IsSound, IsWithin, View, joined, of_leaf, of_range, with_range_entry}
+use Rattle.write_core.specs.World.{World, Writer, Writes, at_range, gone_on, pass_of, writes_on}
 use Rattle.write_core.specs.declared.marks.Fate.{Fate}
 use Rattle.write_core.specs.declared.marks.Fate.TheVariants as fate
 use Rattle.write_core.specs.declared.marks.Mark.{Mark}
 use Rattle.write_core.specs.declared.marks.Refused.{Refused}
 use Rattle.write_core.proofs.AckLemmas.{all_map_from, contains_filter, contains_map, is_named_missed, missed_in, named, none_took, some_taken, taken_in, took_from}
-use Rattle.write_core.proofs.ChangeLemmas.{range_entry_other, range_entry_same, range_entry_sound, range_entry_up, range_entry_within}
-use Rattle.write_core.proofs.HistoryLemmas.{acked-push, not_missed, serving-push}
+use Rattle.write_core.proofs.ChangeLemmas.{range_entry_sound, range_entry_up, range_entry_within}
+use Rattle.write_core.proofs.DeedLemmas.{acks_stay, anothers_ack, done_acked, done_locked, done_none}
+use Rattle.write_core.proofs.MeetLemmas as meet
 use Rattle.write_core.proofs.KeepsLemmas.{changed_same, seen_moves}
-use Rattle.write_core.proofs.RangeLemmas.{all_at, numbered, one_replica}
+use Rattle.mon_topo.proofs.HeldLemmas.{range_entry_other, range_entry_same}
+use Rattle.mon_topo.proofs.RangeHistoryLemmas.{acked-push, all_at, not_missed, numbered, one_replica, serving-push}
+use Rattle.write_core.proofs.OpeningLemmas.{opened-acked}
 use Rattle.write_core.proofs.StageLemmas.{at_reserving}
-use Rattle.write_core.proofs.StepLemmas.{IsStep, ChangesRange, range_step}
-use Rattle.write_core.proofs.ViewLemmas.{joined_first, joined_sound, joined_whole_range, joined_within, within_itself}
+use Rattle.write_core.proofs.StepLemmas.{IsStep, ChangesRange, write_at_range, writer_of}
+use Rattle.write_core.proofs.ViewLemmas.{within_itself}
 
 some_is_not_none : (i : ℕ) → Some i ≡ None → ⊥
 some_is_not_none i e = cc
@@ -44,9 +49,10 @@ map_waiting : (replicas : List SlotLeaf) → map replica_of (map waiting replica
 map_waiting [] = refl
 map_waiting (replica ∷ replicas) = ap (λ rest. replica ∷ rest) (map_waiting replicas)
 
-module _ (setting : Setting) (world : World) (i : ℕ) (kept : IsKept setting world) where
-  abbrev who : Writer
-  who = world.writers i
+module _ (setting : Setting) (world : World) (i : ℕ) (who : Writer) (is : world.actors i ≡ Writes who)
+    (kept : IsKept setting world) where
+  own : IsWriter setting world i who
+  own = writer_of setting world i who kept is
 
   abbrev r : Range
   r = who.range
@@ -59,43 +65,32 @@ module _ (setting : Setting) (world : World) (i : ℕ) (kept : IsKept setting wo
   met = joined who.view (world.ranges r.0)
 
   met_sound : IsSound setting met
-  met_sound =
-      joined_sound who.view (world.ranges r.0) world.truth (kept.writers i).part.within (kept.ranges r).within setting
-      (kept.writers i).part.sound (kept.ranges r).sound
+  met_sound = meet.met_sound setting world i kept who.view own.part r
 
   met_within : IsWithin met world.truth
-  met_within = joined_within who.view (world.ranges r.0) world.truth (kept.writers i).part.within (kept.ranges r).within
+  met_within = meet.met_within setting world i kept who.view own.part r
 
   met_up : IsWithin who.view met
-  met_up = joined_first who.view (world.ranges r.0) world.truth (kept.writers i).part.within (kept.ranges r).within
+  met_up = meet.met_up setting world i kept who.view own.part r
 
   met_whole : of_range met r ≡ g
-  met_whole = joined_whole_range who.view (world.ranges r.0) world.truth (kept.writers i).part.within
-      (kept.ranges r).within r (kept.whole_ranges r)
+  met_whole = meet.met_whole setting world i kept who.view own.part r
 
-  quiet_range : ChangesRange setting world i r unchanged
-  quiet_range = record {
-    truth = kept.truth;
-    met = met_sound;
-    within = met_within;
-    grows = within_itself world.truth;
-    count = refl;
-    whole = met_whole;
-    others = λ o apart. refl;
-    leaves = λ l. refl;
-  }
+  quiet_range : ChangesRange setting world i who.view r unchanged
+  quiet_range = meet.quiet_range setting world i kept who.view own.part r
 
   -- ---- the lock
 
-  module _ (free : world.range_holder r.0 ≡ None) where
+  module _ (free : world.range_holder r.0 ≡ None) (deeds : HasDone world.truth who Locking) where
     pub lock_slots : (replicas : List SlotLeaf) → replicas ≡ serving g → IsSource (acked g ++ who.row ∷ [])
         → length (acked g) < setting.points
-        → IsStep setting world (at_range world i r unchanged (Some i) (reserving (round_of (map waiting replicas))))
+        → IsStep setting world (at_range world i who.view r unchanged (Some i)
+        (writes_on who (reserving (round_of (map waiting replicas)))))
     lock_slots replicas serve source room =
         let stage = reserving (round_of (map waiting replicas)) in
-        let next = at_range world i r unchanged (Some i) stage in
+        let next = at_range world i who.view r unchanged (Some i) (writes_on who stage) in
         let then' = gone_on who stage met in
-        range_step setting world i r unchanged (Some i) stage kept quiet_range (inl free)
+        write_at_range setting world i who is kept r unchanged (Some i) stage quiet_range (inl free)
         (λ e. absurd (some_is_not_none i e))
         (at_reserving setting next i then' (round_of (map waiting replicas))
         (record {
@@ -103,33 +98,39 @@ module _ (setting : Setting) (world : World) (i : ℕ) (kept : IsKept setting wo
           source = source;
           room = room;
           serve = map_waiting replicas ∙ serve;
+          fresh = (kept.settled r free).fresh;
           each = all_map_from waiting (IsMark next then') replicas
               (λ replica there. record {
-                has = kept.settled r free replica
+                has = (kept.settled r free).rows replica
                     (subst (λ (xs : List SlotLeaf). Contains xs replica) serve there);
                 seen = tt;
               });
         })
         tt
         (all_map_from waiting (λ mark. is_waiting mark.fate ≡ true) replicas (λ replica there. refl)))
+        (done_locked world.truth who replicas (round_of (map waiting replicas)) refl deeds)
 
-    pub lock_refused : (why : Refused) → IsStep setting world (at_range world i r unchanged (Some i) (Acking (Not why)))
+    pub lock_refused : (why : Refused) → IsStep setting world (at_range world i who.view r unchanged (Some i)
+        (writes_on who (Acking (Not why))))
     lock_refused why =
-        range_step setting world i r unchanged (Some i) (Acking (Not why)) kept quiet_range (inl free)
+        write_at_range setting world i who is kept r unchanged (Some i) (Acking (Not why)) quiet_range (inl free)
         (λ e. absurd (some_is_not_none i e))
         (record {
           holds = record { holder = changed_same world.range_holder r.0 (Some i); whole = met_whole };
           settled = kept.settled r free;
         })
+        (record { puts = deeds.puts; acks = deeds.acks })
 
   -- ---- the acknowledgement
 
-  pub ack_refused : (why : Refused) → IsRefused world i who
-      → IsStep setting world (at_range world i r (acknowledged who (Not why)) None (Ended (Not why)))
-  ack_refused why h = range_step setting world i r unchanged None (Ended (Not why)) kept quiet_range
-      (inr h.holds.holder) (λ e. h.settled) tt
+  pub ack_refused : (why : Refused) → IsRefused world i who → HasDone world.truth who (Acking (Not why))
+      → IsStep setting world (at_range world i who.view r (acknowledged who (Not why)) None
+      (writes_on who (Ended (Not why))))
+  ack_refused why h deeds = write_at_range setting world i who is kept r unchanged None (Ended (Not why)) quiet_range
+      (inr h.holds.holder) (λ e. h.settled) tt (record { puts = deeds.puts; acks = deeds.acks })
 
-  module _ (marks : List Mark) (at : IsDecided world i setting who marks) where
+  module _ (marks : List Mark) (at : IsDecided world i setting who marks)
+      (deeds : HasDone world.truth who (Acking (Marked marks))) where
     abbrev ack : Ack
     ack = ack_of r marks
 
@@ -150,21 +151,25 @@ module _ (setting : Setting) (world : World) (i : ℕ) (kept : IsKept setting wo
 
     -- where no replica took the row, nothing is appended
     settled_none : some_took marks ≡ false → IsSettled world.truth r
-    settled_none none replica there =
-        let found = serving_mark replica there in
-        let has = (mark_of found.0 found.1).has in
-        subst (λ (x : SlotLeaf). HasRows world.truth r x (acked g)) found.2
-        (record {
-          opened = has.opened;
-          all = has.all
-              ∙ ap (λ b. cond b (rows_after world who) (acked g)) (none_took marks found.0 none found.1);
-        })
+    settled_none none = record {
+      rows = λ replica there.
+          let found = serving_mark replica there in
+          let has = (mark_of found.0 found.1).has in
+          subst (λ (x : SlotLeaf). HasRows world.truth r x (acked g)) found.2
+          (record {
+            opened = has.opened;
+            all = has.all
+                ∙ ap (λ b. cond b (rows_after world who) (acked g)) (none_took marks found.0 none found.1);
+          });
+      fresh = at.going.fresh;
+    }
 
-    ack_none : some_took marks ≡ false → IsStep setting world (at_range world i r unchanged None stage)
+    ack_none : some_took marks ≡ false → IsStep setting world (at_range world i who.view r unchanged None (writes_on who stage))
     ack_none none =
-        range_step setting world i r unchanged None stage kept quiet_range (inr at.going.holds.holder)
+        write_at_range setting world i who is kept r unchanged None stage quiet_range (inr at.going.holds.holder)
         (λ x. settled_none none)
         (λ some. absurd (both_ways (some_took marks) none some))
+        (done_none world.truth who marks none deeds)
 
     -- ---- some replica took it
 
@@ -197,7 +202,7 @@ module _ (setting : Setting) (world : World) (i : ℕ) (kept : IsKept setting wo
           named = named marks (serving g)
               at.going.serve at.decided;
         },
-        (kept.writers i).lawful.at_home.1,
+        own.lawful.at_home.1,
         at.going.source,
         at.going.room,
       )
@@ -229,7 +234,7 @@ module _ (setting : Setting) (world : World) (i : ℕ) (kept : IsKept setting wo
             (taken found.0 found.1 found.3).rows)
 
         served : range_spec.IsLegal setting.held setting.zones setting.points r g
-        served = kept.truth.held.legal r (kept.writers i).lawful.there
+        served = kept.truth.held.legal r own.lawful.there
 
         -- a mark's replica is one of those that were opened
         mark_opened : (mark : Mark) → Contains marks mark → Contains (opened g) (replica_of mark)
@@ -263,9 +268,8 @@ module _ (setting : Setting) (world : World) (i : ℕ) (kept : IsKept setting wo
         borne_missed : (miss : Miss) → Contains ack.missed miss → IsMissed view.seen (opened g) miss
         borne_missed miss there =
             let found = missed_in marks miss there in
-            let down = missed found.0 found.2 found.1 found.3 in
             subst (λ (x : Miss). IsMissed view.seen (opened g) x) found.4
-            (record { placed = mark_opened found.0 found.1; seen_by_then = down.seen_by_then; down = down.down })
+            (record { placed = mark_opened found.0 found.1; down = missed found.0 found.2 found.1 found.3 })
 
         borne_out : IsBorneOut view.seen r (g ++ e ∷ []) (length g) e
         borne_out =
@@ -278,7 +282,7 @@ module _ (setting : Setting) (world : World) (i : ℕ) (kept : IsKept setting wo
 
         here : r.0 < length view.seen.ranges
         here = subst (λ (n : ℕ). r.0 < n) (kept.truth.held.all_ranges ∙ sym sound.held.all_ranges)
-            (kept.writers i).lawful.there
+            own.lawful.there
 
         ack_sound : IsSound setting (with_range_entry r e view)
         ack_sound =
@@ -292,54 +296,62 @@ module _ (setting : Setting) (world : World) (i : ℕ) (kept : IsKept setting wo
             (sym whole) may_follow)
 
       there_truth : r.0 < length world.truth.seen.ranges
-      there_truth = (kept.writers i).lawful.there
+      there_truth = own.lawful.there
 
       there_met : r.0 < length met.seen.ranges
       there_met = here met met_sound met_up met_whole
 
-      changes : ChangesRange setting world i r (with_range_entry r e)
+      changes : ChangesRange setting world i who.view r (with_range_entry r e)
       changes = record {
-        truth = ack_sound world.truth kept.truth (kept.writers i).part.within refl;
+        truth = ack_sound world.truth kept.truth own.part.within refl;
         met = ack_sound met met_sound met_up met_whole;
         within = range_entry_within r e met world.truth there_met there_truth met_whole met_within;
         grows = range_entry_up world.truth r e there_truth;
         count = length-set world.truth.seen.ranges r.0 (g ++ e ∷ []);
-        whole = range_entry_same met r e there_met ∙ ap (λ history. history ++ e ∷ []) met_whole
-            ∙ sym (range_entry_same world.truth r e there_truth);
-        others = range_entry_other world.truth r e;
+        whole = range_entry_same met.seen r e there_met ∙ ap (λ history. history ++ e ∷ []) met_whole
+            ∙ sym (range_entry_same world.truth.seen r e there_truth);
+        others = range_entry_other world.truth.seen r e;
         leaves = λ l. refl;
+        acks = λ pass apart. acks_stay pass world.truth r e there_truth
+            (anothers_ack pass who marks (λ same. apart (same ∙ ap pass_of (sym is))));
       }
 
       -- whoever serves then has the row too
       settled_then : IsSettled (with_range_entry r e world.truth) r
-      settled_then replica there =
-          let found = still_serving replica
-          (subst (λ (h : List RangeEntry). Contains (serving h) replica)
-          (range_entry_same world.truth r e there_truth) there) in
-          let has = (mark_of found.0 found.1).has in
-          subst (λ (x : SlotLeaf). HasRows (with_range_entry r e world.truth) r x
-          (acked (of_range (with_range_entry r e world.truth) r))) found.2
-          (record {
-            opened = has.opened;
-            all = has.all ∙ ap (λ f. cond (is_taken f) (rows_after world who) (acked g)) found.3
-                ∙ sym (acked-push g who.pass who.row ack)
-                ∙ ap acked (sym (range_entry_same world.truth r e there_truth));
-          })
+      settled_then = record {
+        rows = λ replica there.
+            let found = still_serving replica
+            (subst (λ (h : List RangeEntry). Contains (serving h) replica)
+            (range_entry_same world.truth.seen r e there_truth) there) in
+            let has = (mark_of found.0 found.1).has in
+            subst (λ (x : SlotLeaf). HasRows (with_range_entry r e world.truth) r x
+            (acked (of_range (with_range_entry r e world.truth) r))) found.2
+            (record {
+              opened = has.opened;
+              all = has.all ∙ ap (λ f. cond (is_taken f) (rows_after world who) (acked g)) found.3
+                  ∙ sym (acked-push g who.pass who.row ack)
+                  ∙ ap acked (sym (range_entry_same world.truth.seen r e there_truth));
+            });
+        fresh = subst (λ (n : ℕ). IsFresh (with_range_entry r e world.truth) r n)
+            (sym (ap length (opened-acked g who.pass who.row ack))
+            ∙ ap (λ h. length (opened h)) (sym (range_entry_same world.truth.seen r e there_truth))) at.going.fresh;
+      }
 
-      ack_some : IsStep setting world (at_range world i r (with_range_entry r e) None stage)
+      ack_some : IsStep setting world (at_range world i who.view r (with_range_entry r e) None (writes_on who stage))
       ack_some =
-          range_step setting world i r (with_range_entry r e) None stage kept changes (inr at.going.holds.holder)
+          write_at_range setting world i who is kept r (with_range_entry r e) None stage changes (inr at.going.holds.holder)
           (λ x. settled_then)
           (λ x. subst (λ (history : List RangeEntry). Contains history e)
-          (sym (range_entry_same met r e there_met)) (Contains-push (of_range met r) e))
+          (sym (range_entry_same met.seen r e there_met)) (Contains-push (of_range met r) e))
+          (done_acked world.truth who marks some there_truth deeds)
 
-    pub ack_marked : IsStep setting world (at_range world i r (acknowledged who (Marked marks)) None stage)
+    pub ack_marked : IsStep setting world (at_range world i who.view r (acknowledged who (Marked marks)) None (writes_on who stage))
     ack_marked =
         elim (cases_Bool (some_took marks)) [
           | inl some ↦ subst (λ (b : Bool). IsStep setting world
-              (at_range world i r (λ view. cond b (with_range_entry r e view) view) None stage)) (sym some)
+              (at_range world i who.view r (λ view. cond b (with_range_entry r e view) view) None (writes_on who stage))) (sym some)
               (ack_some some)
           | inr none ↦ subst (λ (b : Bool). IsStep setting world
-              (at_range world i r (λ view. cond b (with_range_entry r e view) view) None stage)) (sym none)
+              (at_range world i who.view r (λ view. cond b (with_range_entry r e view) view) None (writes_on who stage))) (sym none)
               (ack_none none)
         ]

@@ -7,12 +7,13 @@ use Rattle.write_core.specs.Invariant.{AreAll, HasSeen, IsAt, IsAtReady, IsGoing
 use Rattle.write_core.specs.Marks.{is_ready, is_taken, marked, replica_of}
 use Rattle.write_core.specs.Program.{Acking, Entering, Marked, Reserving, entering, reserving}
 use Rattle.write_core.specs.Rounds.{Round, again, is_none_left, is_through, marks_of, skip, skipped}
-use Rattle.write_core.specs.Views.{Setting, of_range}
+use Rattle.mon_topo.specs.Settings.{Setting}
+use Rattle.write_core.specs.Views.{of_range}
 use Rattle.write_core.specs.World.{World, Writer}
 use Rattle.write_core.specs.declared.marks.Fate.{Fate}
 use Rattle.write_core.specs.declared.marks.Fate.TheVariants as fate
 use Rattle.write_core.specs.declared.marks.Mark.{Mark}
-use Rattle.write_core.proofs.RangeLemmas.{all_append, all_back, all_front}
+use Rattle.mon_topo.proofs.RangeHistoryLemmas.{all_append, all_back, all_front}
 
 -- ---- fates
 
@@ -36,18 +37,18 @@ untaken_ready (fate.Missed cut) h = refl
 
 -- ---- rounds
 
-none_left : (left : List Mark) → is_none_left left ≡ true → left ≡ []
+pub none_left : (left : List Mark) → is_none_left left ≡ true → left ≡ []
 none_left [] h = refl
 none_left (mark ∷ left) h = absurd cc
 
 -- a round that has skipped what is not ready
-record HasSkipped (marks : List Mark) (round : Round) : Type 0 where
-  done : AreAll is_decided round.done
-  left : AreAll is_asked round.left
-  ready : IsAtReady round.left
-  all : marks_of round ≡ marks
+pub record HasSkipped (marks : List Mark) (round : Round) : Type 0 where
+  pub done : AreAll is_decided round.done
+  pub left : AreAll is_asked round.left
+  pub ready : IsAtReady round.left
+  pub all : marks_of round ≡ marks
 
-skips : (done left : List Mark) → AreAll is_decided done → AreAll is_asked left
+pub skips : (done left : List Mark) → AreAll is_decided done → AreAll is_asked left
     → HasSkipped (done ++ left) (skip done left)
 skips done [] h k = record { done = h; left = tt; ready = tt; all = refl }
 skips done (mark ∷ left) h k =
@@ -123,6 +124,7 @@ module _ (setting : Setting) (world : World) (i : ℕ) (writer : Writer) where
     source = h.source;
     room = h.room;
     serve = remarked_replicas done left mark f ∙ h.serve;
+    fresh = h.fresh;
     each = all_append (IsMark world writer) (done ++ marked mark f ∷ []) left
         (all_append (IsMark world writer) done (marked mark f ∷ [])
         (all_front (IsMark world writer) done (mark ∷ left) h.each) (new, tt))

@@ -1,7 +1,7 @@
 -- Leaves that go down and come up, and a write that learns what someone has seen.
-use Rattle.std.proofs.Common.{◌≡◌, ◌≢◌, ℕ, ◌<◌, true, Some, None, Option, List, [], ◌∷◌, ◌++◌, length, refl, sym, ap, subst, ◌∙◌, append-nil}
+use Rattle.std.proofs.Common.{◌≡◌, ◌≢◌, ℕ, ◌<◌, true, false, Some, None, Option, List, [], ◌∷◌, ◌++◌, length, refl, sym, ap, subst, ◌∙◌, append-nil}
 use Rattle.mon_value.specs.LeafHistories as leaf_spec
-use Rattle.mon_value.specs.LeafHistories.{entry_rows, is_switch, replica_rows}
+use Rattle.mon_value.specs.LeafHistories.{entry_rows, is_opened, is_switch, replica_rows}
 use Rattle.mon_value.specs.declared.histories.Entry.{Entry}
 use Rattle.mon_value.specs.declared.histories.Entry.TheVariants as entry
 use Rattle.mon_value.specs.declared.positions.Leaf.{Leaf}
@@ -9,21 +9,31 @@ use Rattle.mon_value.specs.declared.positions.Range.{Range}
 use Rattle.mon_value.specs.declared.positions.Slot.{Slot}
 use Rattle.mon_value.specs.declared.positions.Zone.{Zone}
 use Rattle.mon_topo.specs.HeldHistories.{AreAtHome}
+use Rattle.mon_topo.proofs.HeldLemmas.{leaf_entry_by, leaf_entry_other, leaf_entry_same}
 use Rattle.mon_topo.specs.Zones.{leaf_numbered, range_numbered}
-use Rattle.write_core.specs.Covers.{Bits, Covers}
-use Rattle.write_core.specs.HistoryBuckets.{history_buckets}
-use Rattle.write_core.specs.Invariant.{IsAt, IsKept, IsWriter}
-use Rattle.write_core.specs.Program.{Locking, Stage}
-use Rattle.write_core.specs.Steps.{CanSwitch, learned, resolved, switched, visited}
-use Rattle.write_core.specs.Views.{IsSound, IsWithin, Setting, View, joined, of_leaf, of_range, with_entry, zone_of_leaf}
-use Rattle.write_core.specs.World.{IsPart, World, Writer, gone_on}
-use Rattle.write_core.proofs.ChangeLemmas.{entry_by, entry_other, entry_same, entry_sound, entry_up, entry_within}
-use Rattle.write_core.proofs.KeepsLemmas.{Keeps, changed_by, part_moves, settled_moves, writer_stays}
-use Rattle.write_core.proofs.HistoryLemmas.{replica_rows-push}
+use Rattle.mon_hints.specs.Covers.{Bits, Covers}
+use Rattle.mon_hints.specs.HistoryBuckets.{history_buckets}
+use Rattle.write_core.specs.Invariant.{IsActor, IsAt, IsCopyAt, IsKept}
+use Rattle.write_core.specs.Recovering.{CopyStage}
+use Rattle.write_core.specs.Program.{Stage}
+use Rattle.write_core.specs.Events.{CanSwitch, HasNotBegun, learned, resolved, switched, visited}
+use Rattle.mon_topo.specs.Settings.{Setting, zone_of_leaf}
+use Rattle.write_core.specs.Views.{IsSound, IsWithin, View, joined, of_leaf, of_range, with_entry}
+use Rattle.write_core.specs.World.{Actor, IsPart, Recovers, World, Writes, copied_on, gone_on, pass_of, wiser}
+use Rattle.write_core.proofs.ChangeLemmas.{entry_sound, entry_up, entry_within}
+use Rattle.write_core.proofs.DeedLemmas.{puts_stay, switch_is_no_put}
+use Rattle.write_core.proofs.KeepsLemmas.{Keeps, actor_stays, apart_stay, changed_by, opened_with, part_moves, settled_moves}
+use Rattle.mon_value.proofs.LeafHistoryLemmas.{replica_rows-push}
 use Rattle.write_core.proofs.StepLemmas.{IsStep}
 use Rattle.write_core.proofs.ViewLemmas.{joined_sound, joined_whole_leaf, joined_whole_range, joined_within, within_itself}
 
 -- ---- a switch brings nothing
+
+opens_none : (r : Range) (s : Slot) (e : Entry) → is_switch e ≡ true → is_opened r s (e ∷ []) ≡ false
+opens_none r s (entry.Opened pass other place rows) h = absurd cc
+opens_none r s (entry.Put pass other place row) h = absurd cc
+opens_none r s (entry.Down pass) h = refl
+opens_none r s (entry.Up pass) h = refl
 
 no_rows : (r : Range) (s : Slot) (e : Entry) → is_switch e ≡ true → entry_rows r s e ≡ []
 no_rows r s (entry.Opened pass other place rows) h = absurd cc
@@ -91,22 +101,32 @@ module _ (setting : Setting) (world : World) (kept : IsKept setting world) where
     rows_stay : (r : Range) (s : Slot) (o : Leaf)
         → replica_rows r s (of_leaf next.truth o) ≡ replica_rows r s (of_leaf world.truth o)
     rows_stay r s o =
-        entry_by world.truth l e can.there
+        leaf_entry_by world.truth.seen l e can.there
         (λ x history. replica_rows r s history ≡ replica_rows r s (of_leaf world.truth x)) o
         (replica_rows-push r s (of_leaf world.truth l) e
         ∙ ap (λ rows. replica_rows r s (of_leaf world.truth l) ++ rows) (no_rows r s e can.switch)
         ∙ append-nil (replica_rows r s (of_leaf world.truth l)))
         refl
 
+    opened_stay : (r : Range) (s : Slot) (o : Leaf)
+        → is_opened r s (of_leaf next.truth o) ≡ is_opened r s (of_leaf world.truth o)
+    opened_stay r s o =
+        leaf_entry_by world.truth.seen l e can.there
+        (λ x history. is_opened r s history ≡ is_opened r s (of_leaf world.truth x)) o
+        (opened_with r s (of_leaf world.truth l) e (opens_none r s e can.switch)) refl
+
     away : (j : ℕ) (o : Leaf) → world.leaf_holder o.0 ≡ Some j → o.0 ≢ l.0
     away j o held same = nobody j (world.leaf_holder l.0) can.free (ap world.leaf_holder (sym same) ∙ held)
 
-    keeps : (j : ℕ) → Keeps world next j
+    keeps : (j : ℕ) → Keeps world next j (pass_of (world.actors j))
     keeps j = record {
       grows = grows;
       count = refl;
-      ranges = λ r held. record { holder = held; history = refl; rows = rows_stay r };
-      leaves = λ o held. record { holder = held; history = entry_other world.truth l e o (away j o held) };
+      ranges = λ r held. record { holder = held; history = refl; rows = rows_stay r; opened = opened_stay r };
+      leaves = λ o held. record { holder = held; history = leaf_entry_other world.truth.seen l e o (away j o held) };
+      puts = puts_stay (pass_of (world.actors j)) world.truth l e can.there
+          (switch_is_no_put (pass_of (world.actors j)) e can.switch);
+      acks = λ r. refl;
     }
 
     -- a leaf that no write holds may be switched
@@ -121,43 +141,66 @@ module _ (setting : Setting) (world : World) (kept : IsKept setting world) where
         whole_leaves = λ o.
             changed_by world.leaves l.0 met
             (λ n x. of_leaf x (leaf_numbered n) ≡ of_leaf next.truth (leaf_numbered n))
-            (entry_same base l e in_base ∙ ap (λ history. history ++ e ∷ []) base_whole
-            ∙ sym (entry_same world.truth l e can.there))
+            (leaf_entry_same base.seen l e in_base ∙ ap (λ history. history ++ e ∷ []) base_whole
+            ∙ sym (leaf_entry_same world.truth.seen l e can.there))
             (λ n apart. kept.whole_leaves (leaf_numbered n)
-            ∙ sym (entry_other world.truth l e (leaf_numbered n) apart)) o.0;
+            ∙ sym (leaf_entry_other world.truth.seen l e (leaf_numbered n) apart)) o.0;
         whole_ranges = kept.whole_ranges;
         settled = λ r free.
-            settled_moves world next grows None r (record { holder = free; history = refl; rows = rows_stay r })
+            settled_moves world next grows None r (record { holder = free; history = refl; rows = rows_stay r; opened = opened_stay r })
             (kept.settled r free);
-        writers = λ j. writer_stays setting world next j (keeps j) (world.writers j) (kept.writers j);
+        actors = λ j. actor_stays setting world next j (world.actors j) (keeps j) (kept.actors j);
+        passes = kept.passes;
       };
       grows = grows;
     }
 
-  module _ (i : ℕ) (view : View) (locking : (world.writers i).stage ≡ Locking) (part : IsPart setting world view) where
-    abbrev who : Writer
-    who = world.writers i
+  module _ (i : ℕ) (view : View) (part : IsPart setting world view) where
+    abbrev after : World
+    after = learned world i view
 
-    abbrev wiser : World
-    wiser = learned world i view
-
-    abbrev more : View
-    more = joined who.view view
-
-    moved : (x : View) → IsPart setting world x → IsPart setting wiser x
+    moved : (x : View) → IsPart setting world x → IsPart setting after x
     moved x h = record { sound = h.sound; within = h.within }
 
-    keeps_wiser : (j : ℕ) → Keeps world wiser j
+    keeps_wiser : (j : ℕ) → Keeps world after j (pass_of (world.actors j))
     keeps_wiser j = record {
       grows = within_itself world.truth;
       count = refl;
-      ranges = λ r held. record { holder = held; history = refl; rows = λ s o. refl };
+      ranges = λ r held. record { holder = held; history = refl; rows = λ s o. refl; opened = λ s o. refl };
       leaves = λ o held. record { holder = held; history = refl };
+      puts = λ l. refl;
+      acks = λ r. refl;
     }
 
-    -- a write that has not begun may learn what someone has seen
-    pub learn_kept : IsStep setting world wiser
-    learn_kept = record {
+    both : (x : View) → IsPart setting world x → IsPart setting after (joined x view)
+    both x h = record {
+      sound = joined_sound x view world.truth h.within part.within setting h.sound part.sound;
+      within = joined_within x view world.truth h.within part.within;
+    }
+
+    wiser_pass : (actor : Actor) → pass_of (wiser actor view) ≡ pass_of actor
+    wiser_pass (Writes writer) = refl
+    wiser_pass (Recovers recovery) = refl
+
+    wiser_kept : (actor : Actor) → HasNotBegun actor → IsActor setting world i actor
+        → IsActor setting after i (wiser actor view)
+    wiser_kept (Writes writer) locking h = record {
+      part = both writer.view h.part;
+      lawful = record { at_home = h.lawful.at_home; there = h.lawful.there };
+      at = subst (λ (stage : Stage). IsAt setting after i (gone_on writer writer.stage (joined writer.view view)) stage)
+          (sym locking) tt;
+      deeds = record { puts = h.deeds.puts; acks = h.deeds.acks };
+    }
+    wiser_kept (Recovers recovery) beginning h = record {
+      part = both recovery.view h.part;
+      aimed = record { range_there = h.aimed.range_there; leaf_there = h.aimed.leaf_there };
+      at = subst (λ (stage : CopyStage). IsCopyAt setting after i
+          (copied_on recovery recovery.stage (joined recovery.view view)) stage) (sym beginning) tt;
+    }
+
+    -- an actor that has not begun may learn what someone has seen
+    pub learn_kept : HasNotBegun (world.actors i) → IsStep setting world after
+    learn_kept before = record {
       kept = record {
         truth = kept.truth;
         leaves = λ l. moved (world.leaves l.0) (kept.leaves l);
@@ -165,17 +208,10 @@ module _ (setting : Setting) (world : World) (kept : IsKept setting world) where
         whole_leaves = kept.whole_leaves;
         whole_ranges = kept.whole_ranges;
         settled = kept.settled;
-        writers = changed_by world.writers i (gone_on who who.stage more) (λ j writer. IsWriter setting wiser j writer)
-            (record {
-              part = record {
-                sound = joined_sound who.view view world.truth (kept.writers i).part.within part.within setting
-                    (kept.writers i).part.sound part.sound;
-                within = joined_within who.view view world.truth (kept.writers i).part.within part.within;
-              };
-              lawful = record { at_home = (kept.writers i).lawful.at_home; there = (kept.writers i).lawful.there };
-              at = subst (λ (stage : Stage). IsAt setting wiser i (gone_on who who.stage more) stage) (sym locking) tt;
-            })
-            (λ j apart. writer_stays setting world wiser j (keeps_wiser j) (world.writers j) (kept.writers j));
+        actors = changed_by world.actors i (wiser (world.actors i) view) (λ j actor. IsActor setting after j actor)
+            (wiser_kept (world.actors i) before (kept.actors i))
+            (λ j apart. actor_stays setting world after j (world.actors j) (keeps_wiser j) (kept.actors j));
+        passes = apart_stay world.actors i (wiser (world.actors i) view) (wiser_pass (world.actors i)) kept.passes;
       };
       grows = within_itself world.truth;
     }
@@ -189,12 +225,14 @@ module _ (setting : Setting) (world : World) (kept : IsKept setting world) where
     still : (x : View) → IsPart setting world x → IsPart setting seen x
     still x h = record { sound = h.sound; within = h.within }
 
-    keeps_seen : (j : ℕ) → Keeps world seen j
+    keeps_seen : (j : ℕ) → Keeps world seen j (pass_of (world.actors j))
     keeps_seen j = record {
       grows = within_itself world.truth;
       count = refl;
-      ranges = λ r held. record { holder = held; history = refl; rows = λ s o. refl };
+      ranges = λ r held. record { holder = held; history = refl; rows = λ s o. refl; opened = λ s o. refl };
       leaves = λ o held. record { holder = held; history = refl };
+      puts = λ l. refl;
+      acks = λ r. refl;
     }
 
     -- someone looks at a leaf
@@ -216,7 +254,8 @@ module _ (setting : Setting) (world : World) (kept : IsKept setting world) where
             (λ n apart. kept.whole_leaves (leaf_numbered n)) o.0;
         whole_ranges = kept.whole_ranges;
         settled = kept.settled;
-        writers = λ j. writer_stays setting world seen j (keeps_seen j) (world.writers j) (kept.writers j);
+        actors = λ j. actor_stays setting world seen j (world.actors j) (keeps_seen j) (kept.actors j);
+        passes = kept.passes;
       };
       grows = within_itself world.truth;
     }
@@ -228,12 +267,14 @@ module _ (setting : Setting) (world : World) (kept : IsKept setting world) where
     still_told : (x : View) → IsPart setting world x → IsPart setting told x
     still_told x h = record { sound = h.sound; within = h.within }
 
-    keeps_told : (j : ℕ) → Keeps world told j
+    keeps_told : (j : ℕ) → Keeps world told j (pass_of (world.actors j))
     keeps_told j = record {
       grows = within_itself world.truth;
       count = refl;
-      ranges = λ o held. record { holder = held; history = refl; rows = λ s l. refl };
+      ranges = λ o held. record { holder = held; history = refl; rows = λ s l. refl; opened = λ s l. refl };
       leaves = λ o held. record { holder = held; history = refl };
+      puts = λ l. refl;
+      acks = λ r. refl;
     }
 
     -- someone looks at a range
@@ -255,7 +296,8 @@ module _ (setting : Setting) (world : World) (kept : IsKept setting world) where
             (joined_whole_range view (world.ranges r.0) world.truth part.within (kept.ranges r).within r (kept.whole_ranges r))
             (λ n apart. kept.whole_ranges (range_numbered n)) o.0;
         settled = kept.settled;
-        writers = λ j. writer_stays setting world told j (keeps_told j) (world.writers j) (kept.writers j);
+        actors = λ j. actor_stays setting world told j (world.actors j) (keeps_told j) (kept.actors j);
+        passes = kept.passes;
       };
       grows = within_itself world.truth;
     }

@@ -9,7 +9,8 @@ use Rattle.write_core.specs.declared.asks.WriteTold.TheVariants as told
 use Rattle.write_core.specs.declared.marks.Fate.{Fate}
 use Rattle.write_core.specs.declared.marks.Fate.TheVariants as fate
 use Rattle.write_core.specs.declared.marks.Mark.{Mark}
-use Rattle.write_core.specs.Program.{Ended, Locking, Marked, Stage, after, ask_of}
+use Rattle.write_core.specs.Invariant.{AreAll, is_decided}
+use Rattle.write_core.specs.Program.{Ended, Locking, Marked, Not, Stage, Verdict, after, ask_of}
 
 -- how a replica fares: its leaf is down when it is asked for room, or when it is to be entered, each time with so many
 -- entries in its history; or it takes the row, and raises these buckets before
@@ -88,3 +89,12 @@ asked stage (answer ∷ answers) = ask_of stage ∷ asked (after stage answer) a
 pub record RunsItsCourse (legs : List Leg) : Type 0 where
   pub events : asked Locking (answers_of legs) ≡ events_of legs
   pub end : after_all Locking (answers_of legs) ≡ Ended (Marked (map mark_of legs))
+
+-- once it ended, each of its replicas took the row or missed it
+abbrev pub IsDecidedSo : Verdict → Type 0
+IsDecidedSo (Not why) = Unit {0}
+IsDecidedSo (Marked marks) = AreAll is_decided marks
+
+abbrev pub EndsDecided : Stage → Type 0
+EndsDecided (Ended verdict) = IsDecidedSo verdict
+EndsDecided stage = Unit {0}

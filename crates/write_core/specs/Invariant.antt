@@ -1,22 +1,28 @@
--- What every interleaving of writes keeps.
-use Rattle.std.specs.Prelude.{ℕ, ◌≡◌, ◌<◌, ◌≤◌, ◌||◌, Bool, true, false, List, [], ◌∷◌, ◌++◌, length, map, take, slice_get, Some, None, Contains, if◌then◌else◌}
+-- What every interleaving of writes and recoveries keeps.
+use Rattle.std.specs.Prelude.{ℕ, suc, ◌≡◌, ◌<◌, ◌≤◌, ◌||◌, Bool, true, false, List, [], ◌∷◌, ◌++◌, length, map, slice_get, Some, None, Contains, if◌then◌else◌}
 use Rattle.std.specs.List.{AllByRecursion}
 use Rattle.mon_hints.specs.Listings.{is_among}
-use Rattle.mon_value.specs.LeafHistories.{is_down, is_opened, replica_rows}
+use Rattle.mon_value.specs.LeafHistories.{IsDownAt, is_down, is_opened, replica_rows}
 use Rattle.mon_value.specs.Sources.{IsSource}
 use Rattle.mon_value.specs.declared.histories.RangeEntry.TheVariants as range_entry
 use Rattle.mon_value.specs.declared.positions.Leaf.{Leaf}
 use Rattle.mon_value.specs.declared.positions.Range.{Range}
+use Rattle.mon_value.specs.declared.positions.Slot.{Slot}
 use Rattle.mon_value.specs.declared.positions.SlotLeaf.{SlotLeaf}
 use Rattle.mon_value.specs.declared.rows.Row.{Row}
 use Rattle.mon_topo.specs.HeldHistories.{BeginsWith, IsAtHome, IsBorneOut}
-use Rattle.mon_topo.specs.RangeHistories.{IsLegal, acked, serving}
+use Rattle.mon_topo.specs.RangeHistories.{IsLegal, acked, opened, serving}
+use Rattle.mon_topo.specs.Zones.{leaves_in, ranges_in}
+use Rattle.mon_hints.specs.HistoryBuckets.{rows_buckets}
+use Rattle.write_core.specs.CopySteps.{MayOpen, copy_of, new_replica, next_slot}
+use Rattle.write_core.specs.Recovering.{Beginning, Carrying, CopyStage, Copying, Nearing, Over, Telling, Within}
 use Rattle.write_core.specs.Marks.{ack_of, is_ready, is_taken, replica_of, some_took}
 use Rattle.write_core.specs.Program.{Acking, Ended, Entering, Inside, Locking, Marked, Not, Reserving, Stage, Verdict}
 use Rattle.write_core.specs.Rounds.{Round, marks_of}
-use Rattle.write_core.specs.Steps.{put_of}
-use Rattle.write_core.specs.Views.{IsSound, Setting, View, of_leaf, of_range, zone_of_leaf}
-use Rattle.write_core.specs.World.{IsPart, World, Writer}
+use Rattle.write_core.specs.Deeds.{HasDone, IsUnused}
+use Rattle.mon_topo.specs.Settings.{Setting, zone_of_leaf}
+use Rattle.write_core.specs.Views.{IsSound, View, of_leaf, of_range}
+use Rattle.write_core.specs.World.{Actor, IsPart, Recovers, Recovery, World, Writer, Writes, pass_of, put_of}
 use Rattle.write_core.specs.declared.marks.Fate.{Fate}
 use Rattle.write_core.specs.declared.marks.Fate.TheVariants as fate
 use Rattle.write_core.specs.declared.marks.Mark.{Mark}
@@ -59,11 +65,16 @@ pub record HasRows (view : View) (range : Range) (replica : SlotLeaf) (rows : Li
   pub opened : is_opened range replica.slot (of_leaf view replica.leaf) ≡ true
   pub all : replica_rows range replica.slot (of_leaf view replica.leaf) ≡ rows
 
--- the replicas that serve have just the acknowledged rows
-abbrev pub IsSettled : View → Range → Type 0
-IsSettled view range =
-    (replica : SlotLeaf) → Contains (serving (of_range view range)) replica
-    → HasRows view range replica (acked (of_range view range))
+-- no leaf has a replica of the range from this slot on
+abbrev pub IsFresh : View → Range → ℕ → Type 0
+IsFresh view range from =
+    (slot : Slot) (leaf : Leaf) → from ≤ slot.0 → is_opened range slot (of_leaf view leaf) ≡ false
+
+-- the replicas that serve have just the acknowledged rows, and no replica was opened that the range does not know
+pub record IsSettled (view : View) (range : Range) : Type 0 where
+  pub rows : (replica : SlotLeaf) → Contains (serving (of_range view range)) replica
+      → HasRows view range replica (acked (of_range view range))
+  pub fresh : IsFresh view range (length (opened (of_range view range)))
 
 -- ---- a write
 
@@ -87,9 +98,8 @@ pub record HasTaken (world : World) (writer : Writer) (mark : Mark) : Type 0 whe
   pub put : Contains (of_leaf writer.view mark.leaf) (put_of writer mark)
 
 -- the leaf of a replica was down
-pub record HasMissed (writer : Writer) (mark : Mark) (cut : ℕ) : Type 0 where
-  pub seen_by_then : cut ≤ length (of_leaf writer.view mark.leaf)
-  pub down : is_down (take cut (of_leaf writer.view mark.leaf)) ≡ true
+abbrev pub HasMissed : Writer → Mark → ℕ → Type 0
+HasMissed writer mark cut = IsDownAt (of_leaf writer.view mark.leaf) cut
 
 -- it has seen what became of a replica
 abbrev pub HasSeen : World → Writer → Mark → Fate → Type 0
@@ -113,24 +123,25 @@ pub record IsGoing (world : World) (i : ℕ) (setting : Setting) (writer : Write
   pub source : IsSource (rows_after world writer)
   pub room : length (acked (of_range world.truth writer.range)) < setting.points
   pub serve : map replica_of marks ≡ serving (of_range world.truth writer.range)
+  pub fresh : IsFresh world.truth writer.range (length (opened (of_range world.truth writer.range)))
   pub each : AllByRecursion (IsMark world writer) marks
 
--- inside a leaf: it holds the leaf, which is up, has seen all of its history, and each bucket of its row is raised or is
--- still to be raised
-pub record IsInside (setting : Setting) (world : World) (i : ℕ) (writer : Writer) (leaf : Leaf)
-    (at_root in_zone : List ℕ) : Type 0 where
+-- inside a leaf: someone who knows so much holds the leaf, which is up, has seen all of its history, and each bucket that is
+-- needed is raised or is still to be raised
+pub record IsInside (setting : Setting) (world : World) (i : ℕ) (view : View) (leaf : Leaf)
+    (needed at_root in_zone : List ℕ) : Type 0 where
   pub holder : world.leaf_holder leaf.0 ≡ Some i
-  pub whole : of_leaf writer.view leaf ≡ of_leaf world.truth leaf
+  pub whole : of_leaf view leaf ≡ of_leaf world.truth leaf
   pub up : is_down (of_leaf world.truth leaf) ≡ false
-  pub root : (bucket : ℕ) → is_among bucket (setting.buckets_of writer.row.key) ≡ true
-      → (writer.view.bits.root (zone_of_leaf setting leaf).0 bucket || is_among bucket at_root) ≡ true
-  pub zone : (bucket : ℕ) → is_among bucket (setting.buckets_of writer.row.key) ≡ true
-      → (writer.view.bits.zone leaf.0 bucket || is_among bucket in_zone) ≡ true
+  pub root : (bucket : ℕ) → is_among bucket needed ≡ true
+      → (view.bits.root (zone_of_leaf setting leaf).0 bucket || is_among bucket at_root) ≡ true
+  pub zone : (bucket : ℕ) → is_among bucket needed ≡ true
+      → (view.bits.zone leaf.0 bucket || is_among bucket in_zone) ≡ true
 
 abbrev pub IsInFirst : Setting → World → ℕ → Writer → List Mark → List ℕ → List ℕ → Type 0
 IsInFirst setting world i writer [] at_root in_zone = Unit {0}
-IsInFirst setting world i writer (mark ∷ left) at_root in_zone = IsInside setting world i writer mark.leaf at_root
-    in_zone
+IsInFirst setting world i writer (mark ∷ left) at_root in_zone =
+    IsInside setting world i writer.view mark.leaf (setting.buckets_of writer.row.key) at_root in_zone
 
 -- a round over leaves to enter
 pub record IsEntering (world : World) (i : ℕ) (setting : Setting) (writer : Writer) (round : Round) : Type 0 where
@@ -176,15 +187,97 @@ IsAt setting world i writer (Inside round at_root in_zone) =
 IsAt setting world i writer (Acking verdict) = IsAcking world i setting writer verdict
 IsAt setting world i writer (Ended verdict) = IsAcked writer verdict
 
--- ---- the whole
-
 pub record IsWriter (setting : Setting) (world : World) (i : ℕ) (writer : Writer) : Type 0 where
   pub part : IsPart setting world writer.view
   pub lawful : IsLawful setting world writer
   pub at : IsAt setting world i writer writer.stage
+  pub deeds : HasDone world.truth writer writer.stage
 
--- the histories are well formed, legal and held, and all is led to; so is what each leaf, each range and each write has
--- seen; a leaf and a range have seen all of their own history; and a range that no write holds has its replicas settled
+-- ---- a recovery
+
+-- its range and its leaf are there
+pub record IsAimed (setting : Setting) (recovery : Recovery) : Type 0 where
+  pub range_there : recovery.range.0 < length (ranges_in setting.zones)
+  pub leaf_there : recovery.leaf.0 < length (leaves_in setting.zones)
+
+-- it holds its range, whose replicas are settled, and has seen all of its history
+pub record HasLocked (world : World) (i : ℕ) (recovery : Recovery) : Type 0 where
+  pub holder : world.range_holder recovery.range.0 ≡ Some i
+  pub whole : of_range recovery.view recovery.range ≡ of_range world.truth recovery.range
+  pub settled : IsSettled world.truth recovery.range
+
+-- and one more replica may be opened
+pub record IsCopying (setting : Setting) (world : World) (i : ℕ) (recovery : Recovery) : Type 0 where
+  pub locked : HasLocked world i recovery
+  pub may : MayOpen setting (of_range world.truth recovery.range) recovery
+
+-- it has the acknowledged rows, which are at home in its range
+pub record HasCopied (setting : Setting) (world : World) (i : ℕ) (recovery : Recovery) (rows : List Row) : Type 0 where
+  pub copying : IsCopying setting world i recovery
+  pub all : rows ≡ acked (of_range world.truth recovery.range)
+  pub at_home : (row : Row) → Contains rows row → IsAtHome setting.held setting.zones recovery.range row
+
+-- its leaf has the new replica with the acknowledged rows, of which the range does not know yet
+pub record HasOpened (setting : Setting) (world : World) (i : ℕ) (recovery : Recovery) : Type 0 where
+  pub holder : world.range_holder recovery.range.0 ≡ Some i
+  pub whole : of_range recovery.view recovery.range ≡ of_range world.truth recovery.range
+  pub rows : (replica : SlotLeaf) → Contains (serving (of_range world.truth recovery.range)) replica
+      → HasRows world.truth recovery.range replica (acked (of_range world.truth recovery.range))
+  pub fresh : IsFresh world.truth recovery.range (suc (length (opened (of_range world.truth recovery.range))))
+  pub may : MayOpen setting (of_range world.truth recovery.range) recovery
+  pub has : HasRows world.truth recovery.range (new_replica recovery (of_range world.truth recovery.range))
+      (acked (of_range world.truth recovery.range))
+  pub seen : BeginsWith (replica_rows recovery.range (next_slot (of_range world.truth recovery.range))
+      (of_leaf recovery.view recovery.leaf)) (acked (of_range world.truth recovery.range))
+  pub entered : Contains (of_leaf recovery.view recovery.leaf)
+      (copy_of recovery (of_range world.truth recovery.range) (acked (of_range world.truth recovery.range)))
+
+-- a recovery that opened a replica has seen that in its range's history
+pub record HasRecovered (recovery : Recovery) : Type 0 where
+  pub slot : Slot
+  pub told : Contains (of_range recovery.view recovery.range)
+      (range_entry.Opened recovery.pass slot recovery.leaf)
+
+abbrev pub IsTelling : Setting → World → ℕ → Recovery → Bool → Type 0
+IsTelling setting world i recovery true = HasOpened setting world i recovery
+IsTelling setting world i recovery false = HasLocked world i recovery
+
+abbrev pub IsOver : Recovery → Bool → Type 0
+IsOver recovery true = HasRecovered recovery
+IsOver recovery false = Unit {0}
+
+-- what holds of a recovery that is so far
+abbrev pub IsCopyAt : Setting → World → ℕ → Recovery → CopyStage → Type 0
+IsCopyAt setting world i recovery Beginning = Unit {0}
+IsCopyAt setting world i recovery (Copying sources) =
+    IsCopying setting world i recovery
+    × AllByRecursion (Contains (serving (of_range world.truth recovery.range))) sources
+IsCopyAt setting world i recovery (Carrying rows) = HasCopied setting world i recovery rows
+IsCopyAt setting world i recovery (Nearing rows) = HasCopied setting world i recovery rows
+IsCopyAt setting world i recovery (Within rows at_root in_zone) =
+    HasCopied setting world i recovery rows
+    × IsInside setting world i recovery.view recovery.leaf (rows_buckets setting.buckets_of rows) at_root in_zone
+IsCopyAt setting world i recovery (Telling is_open) = IsTelling setting world i recovery is_open
+IsCopyAt setting world i recovery (Over is_open) = IsOver recovery is_open
+
+pub record IsRecovery (setting : Setting) (world : World) (i : ℕ) (recovery : Recovery) : Type 0 where
+  pub part : IsPart setting world recovery.view
+  pub aimed : IsAimed setting recovery
+  pub at : IsCopyAt setting world i recovery recovery.stage
+
+-- ---- the whole
+
+abbrev pub IsActor : Setting → World → ℕ → Actor → Type 0
+IsActor setting world i (Writes writer) = IsWriter setting world i writer
+IsActor setting world i (Recovers recovery) = IsRecovery setting world i recovery
+
+-- each actor has a pass of its own
+abbrev pub AreApart : (ℕ → Actor) → Type 0
+AreApart actors = (i j : ℕ) → pass_of (actors i) ≡ pass_of (actors j) → i ≡ j
+
+-- the histories are well formed, legal and held, and all is led to; so is what each leaf, each range and each actor has
+-- seen; a leaf and a range have seen all of their own history; a range that nobody holds has its replicas settled; and each
+-- actor has a pass of its own
 pub record IsKept (setting : Setting) (world : World) : Type 0 where
   pub truth : IsSound setting world.truth
   pub leaves : (leaf : Leaf) → IsPart setting world (world.leaves leaf.0)
@@ -192,19 +285,36 @@ pub record IsKept (setting : Setting) (world : World) : Type 0 where
   pub whole_leaves : (leaf : Leaf) → of_leaf (world.leaves leaf.0) leaf ≡ of_leaf world.truth leaf
   pub whole_ranges : (range : Range) → of_range (world.ranges range.0) range ≡ of_range world.truth range
   pub settled : (range : Range) → world.range_holder range.0 ≡ None → IsSettled world.truth range
-  pub writers : (i : ℕ) → IsWriter setting world i (world.writers i)
+  pub actors : (i : ℕ) → IsActor setting world i (world.actors i)
+  pub passes : AreApart world.actors
 
 -- ---- the beginning and the end
 
--- no write has begun, and everyone has seen all that there is
+-- a write that has not begun has seen all that there is; nobody has put anything by its pass
+pub record IsNewWriter (setting : Setting) (world : World) (writer : Writer) : Type 0 where
+  pub lawful : IsLawful setting world writer
+  pub stage : writer.stage ≡ Locking
+  pub view : writer.view ≡ world.truth
+  pub unused : IsUnused world.truth writer.pass
+
+-- so has a recovery
+pub record IsNewRecovery (setting : Setting) (world : World) (recovery : Recovery) : Type 0 where
+  pub aimed : IsAimed setting recovery
+  pub stage : recovery.stage ≡ Beginning
+  pub view : recovery.view ≡ world.truth
+
+abbrev pub IsNewActor : Setting → World → Actor → Type 0
+IsNewActor setting world (Writes writer) = IsNewWriter setting world writer
+IsNewActor setting world (Recovers recovery) = IsNewRecovery setting world recovery
+
+-- nobody has begun, and everyone has seen all that there is; each actor has a pass of its own
 pub record IsNew (setting : Setting) (world : World) : Type 0 where
   pub sound : IsSound setting world.truth
   pub settled : (range : Range) → IsSettled world.truth range
   pub leaves : (leaf : Leaf) → world.leaves leaf.0 ≡ world.truth
   pub ranges : (range : Range) → world.ranges range.0 ≡ world.truth
-  pub lawful : (i : ℕ) → IsLawful setting world (world.writers i)
-  pub stage : (i : ℕ) → (world.writers i).stage ≡ Locking
-  pub view : (i : ℕ) → (world.writers i).view ≡ world.truth
+  pub actors : (i : ℕ) → IsNewActor setting world (world.actors i)
+  pub passes : AreApart world.actors
 
 -- a write has seen its acknowledgement in its range's history, which is legal; and the leaves' histories bear it out: the
 -- leaf of each replica that took the row has it, and that of each one that missed it was down
@@ -215,3 +325,15 @@ pub record IsAcknowledged (setting : Setting) (writer : Writer) (marks : List Ma
       ≡ Some (range_entry.Acked writer.pass writer.row (ack_of writer.range marks))
   pub borne_out : IsBorneOut writer.view.seen writer.range (of_range writer.view writer.range) place
       (range_entry.Acked writer.pass writer.row (ack_of writer.range marks))
+
+-- a recovery has seen the opening of its replica in its range's history, which is legal; and its leaf's history bears it out:
+-- the leaf took over the rows that were acknowledged before
+pub record IsRecovered (setting : Setting) (recovery : Recovery) : Type 0 where
+  pub legal : IsLegal setting.held setting.zones setting.points recovery.range
+      (of_range recovery.view recovery.range)
+  pub slot : Slot
+  pub place : ℕ
+  pub there : slice_get (of_range recovery.view recovery.range) place
+      ≡ Some (range_entry.Opened recovery.pass slot recovery.leaf)
+  pub borne_out : IsBorneOut recovery.view.seen recovery.range (of_range recovery.view recovery.range) place
+      (range_entry.Opened recovery.pass slot recovery.leaf)

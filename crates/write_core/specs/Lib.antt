@@ -1,10 +1,12 @@
+pub mod CopySteps
 pub mod Courses
-pub mod Covers
-pub mod HistoryBuckets
+pub mod Deeds
+pub mod Events
 pub mod Invariant
 pub mod Marks
 pub mod Phases
 pub mod Program
+pub mod Recovering
 pub mod Rounds
 pub mod Steps
 pub mod Views

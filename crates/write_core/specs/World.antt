@@ -1,10 +1,17 @@
--- Everything that writes share, and each write's own: how far it is, and what it has seen and knows.
+-- Everything that writes and recoveries share, and what is each one's own: how far it is, and what it has seen and knows.
 use Rattle.std.specs.Prelude.{ℕ, nat_eq, Option, if◌then◌else◌}
+use Rattle.mon_value.specs.declared.histories.Entry.{Entry}
+use Rattle.mon_value.specs.declared.histories.Entry.TheVariants as entry
 use Rattle.mon_value.specs.declared.positions.Leaf.{Leaf}
 use Rattle.mon_value.specs.declared.positions.Range.{Range}
 use Rattle.mon_value.specs.declared.rows.Row.{Row}
+use Rattle.mon_topo.specs.Settings.{Setting}
 use Rattle.write_core.specs.Program.{Stage}
-use Rattle.write_core.specs.Views.{IsSound, IsWithin, Setting, View, joined}
+use Rattle.write_core.specs.Recovering.{CopyStage}
+use Rattle.write_core.specs.Views.{IsSound, IsWithin, View, joined}
+use Rattle.write_core.specs.declared.marks.Mark.{Mark}
+
+-- ---- actors
 
 -- a write of a row to a range, by a pass
 pub record Writer : Type 0 where
@@ -14,15 +21,67 @@ pub record Writer : Type 0 where
   pub stage : Stage
   pub view : View
 
--- the whole histories and the words themselves; what each leaf and each range has seen and knows; which write holds
--- which leaf and which range; and the writes
+-- a recovery of a range onto a leaf, by a pass
+pub record Recovery : Type 0 where
+  pub pass : ℕ
+  pub range : Range
+  pub leaf : Leaf
+  pub stage : CopyStage
+  pub view : View
+
+pub data Actor : Type 0 where
+  Writes : Writer → Actor
+  Recovers : Recovery → Actor
+
+abbrev pub pass_of : Actor → ℕ
+pass_of (Writes writer) = writer.pass
+pass_of (Recovers recovery) = recovery.pass
+
+abbrev pub view_of : Actor → View
+view_of (Writes writer) = writer.view
+view_of (Recovers recovery) = recovery.view
+
+-- a write, further on
+abbrev pub gone_on : Writer → Stage → View → Writer
+gone_on writer stage view =
+    record { pass = writer.pass; row = writer.row; range = writer.range; stage = stage; view = view }
+
+-- a recovery, further on
+abbrev pub copied_on : Recovery → CopyStage → View → Recovery
+copied_on recovery stage view = record {
+  pass = recovery.pass;
+  range = recovery.range;
+  leaf = recovery.leaf;
+  stage = stage;
+  view = view;
+}
+
+abbrev pub writes_on : Writer → Stage → View → Actor
+writes_on writer stage view = Writes (gone_on writer stage view)
+
+abbrev pub recovers_on : Recovery → CopyStage → View → Actor
+recovers_on recovery stage view = Recovers (copied_on recovery stage view)
+
+-- the same, with more seen
+abbrev pub wiser : Actor → View → Actor
+wiser (Writes writer) view = writes_on writer writer.stage (joined writer.view view)
+wiser (Recovers recovery) view = recovers_on recovery recovery.stage (joined recovery.view view)
+
+-- the entry that a write puts to a replica
+abbrev pub put_of : Writer → Mark → Entry
+put_of writer mark = entry.Put writer.pass writer.range mark.slot writer.row
+
+-- ---- the world
+
+-- the whole histories and the words themselves; what each leaf and each range has seen and knows; who holds which leaf and
+-- which range; and the writes and recoveries
 pub record World : Type 0 where
   pub truth : View
   pub leaves : ℕ → View
   pub ranges : ℕ → View
   pub leaf_holder : ℕ → Option ℕ
   pub range_holder : ℕ → Option ℕ
-  pub writers : ℕ → Writer
+  pub actors : ℕ → Actor
 
 -- what someone has seen and knows: a part of the truth, which is sound in itself
 pub record IsPart (setting : Setting) (world : World) (view : View) : Type 0 where
@@ -33,36 +92,34 @@ pub record IsPart (setting : Setting) (world : World) (view : View) : Type 0 whe
 abbrev pub changed : {X : Type 0} → (ℕ → X) → ℕ → X → (ℕ → X)
 changed table n value other = if nat_eq other n then value else table other
 
--- a write, further on
-abbrev pub gone_on : Writer → Stage → View → Writer
-gone_on writer stage view =
-    record { pass = writer.pass; row = writer.row; range = writer.range; stage = stage; view = view }
+-- ---- meetings
 
--- what a write and a leaf know together, and then the change that the write makes there
-abbrev pub met_at_leaf : World → ℕ → Leaf → (View → View) → View
-met_at_leaf world i leaf change = change (joined (world.writers i).view (world.leaves leaf.0))
+-- what someone and a leaf know together, and then the change that the one makes there
+abbrev pub met_at_leaf : World → View → Leaf → (View → View) → View
+met_at_leaf world view leaf change = change (joined view (world.leaves leaf.0))
 
--- an event of a write at a leaf: the truth changes, and the write and the leaf both know what either knew, and the change
-abbrev pub at_leaf : World → ℕ → Leaf → (View → View) → Option ℕ → Stage → World
-at_leaf world i leaf change holder stage = record {
+-- an event of an actor at a leaf: the truth changes; the actor and the leaf both know what either knew, and the change;
+-- and the actor goes on
+abbrev pub at_leaf : World → ℕ → View → Leaf → (View → View) → Option ℕ → (View → Actor) → World
+at_leaf world i view leaf change holder next = record {
   truth = change world.truth;
-  leaves = changed world.leaves leaf.0 (met_at_leaf world i leaf change);
+  leaves = changed world.leaves leaf.0 (met_at_leaf world view leaf change);
   ranges = world.ranges;
   leaf_holder = changed world.leaf_holder leaf.0 holder;
   range_holder = world.range_holder;
-  writers = changed world.writers i (gone_on (world.writers i) stage (met_at_leaf world i leaf change));
+  actors = changed world.actors i (next (met_at_leaf world view leaf change));
 }
 
-abbrev pub met_at_range : World → ℕ → Range → (View → View) → View
-met_at_range world i range change = change (joined (world.writers i).view (world.ranges range.0))
+abbrev pub met_at_range : World → View → Range → (View → View) → View
+met_at_range world view range change = change (joined view (world.ranges range.0))
 
 -- the same at a range
-abbrev pub at_range : World → ℕ → Range → (View → View) → Option ℕ → Stage → World
-at_range world i range change holder stage = record {
+abbrev pub at_range : World → ℕ → View → Range → (View → View) → Option ℕ → (View → Actor) → World
+at_range world i view range change holder next = record {
   truth = change world.truth;
   leaves = world.leaves;
-  ranges = changed world.ranges range.0 (met_at_range world i range change);
+  ranges = changed world.ranges range.0 (met_at_range world view range change);
   leaf_holder = world.leaf_holder;
   range_holder = changed world.range_holder range.0 holder;
-  writers = changed world.writers i (gone_on (world.writers i) stage (met_at_range world i range change));
+  actors = changed world.actors i (next (met_at_range world view range change));
 }

@@ -1,27 +1,35 @@
 // What holds of every write, and of any writes side by side.
 ghost use Rattle.std.specs.Prelude.{◌≡◌, ℕ, true, List};
-ghost use Rattle.write_core.specs.Courses.{Leg, RunsItsCourse};
-ghost use Rattle.write_core.specs.Invariant.{IsAcknowledged, IsKept, IsNew};
+ghost use Rattle.write_core.specs.Deeds.{HasDone};
+ghost use Rattle.write_core.specs.Courses.{EndsDecided, Leg, RunsItsCourse, after_all};
+ghost use Rattle.write_core.specs.Invariant.{IsAcknowledged, IsKept, IsNew, IsRecovered};
 ghost use Rattle.write_core.specs.Marks.{some_took};
-ghost use Rattle.write_core.specs.Program.{Ended, Marked};
-ghost use Rattle.write_core.specs.Steps.{CanRun, Event, run};
-ghost use Rattle.write_core.specs.Views.{Setting, View, joined};
-ghost use Rattle.write_core.specs.World.{IsPart, World};
+ghost use Rattle.write_core.specs.Program.{Ended, Locking, Marked};
+ghost use Rattle.write_core.specs.Events.{CanRun, Event, run};
+ghost use Rattle.mon_topo.specs.Settings.{Setting};
+ghost use Rattle.write_core.specs.Recovering.{Over};
+ghost use Rattle.write_core.specs.Views.{View, joined};
+ghost use Rattle.write_core.specs.World.{IsPart, Recovers, Recovery, World, Writer, Writes};
+ghost use Rattle.write_core.specs.declared.asks.WriteTold.{WriteTold};
 ghost use Rattle.write_core.specs.declared.marks.Mark.{Mark};
 
 /// However its replicas fare, a write that its range takes does its events in one order: it takes the range's
 /// lock, asks each replica's leaf for room, in slot order, and then enters each leaf that had room, in slot
 /// order; there it raises its buckets at the root, then in the zone, and then puts the row; last it tells the
 /// range. What it is told decides what comes behind and nothing before, so this says of every run of answers
-/// which event comes next.
+/// which event comes next. And whatever it is told, also where an answer is of another kind: once it ended, each of
+/// its replicas took the row or missed it.
 pub fn writes_run_their_course()
     ensures course { (legs : List Leg) → RunsItsCourse legs }
+    ensures decided { (answers : List WriteTold) → EndsDecided (after_all Locking answers) }
 {}
 
-/// Whichever writes go on, in whatever order, and whatever they are told, while leaves go down and come up, the
-/// invariant stays; it holds before any write has begun; what someone has seen stays a sound part of the truth, also
-/// together with what another one has; and a write that has ended, and that some replica took, stands acknowledged
-/// in a legal history.
+/// Whichever writes and recoveries go on, in whatever order, and whatever they are told, while leaves go down and come
+/// up, the invariant stays; it holds before any of them has begun; what someone has seen stays a sound part of the truth, also
+/// together with what another one has; a write that has ended, and that some replica took, stands acknowledged in a
+/// legal history; and the histories have one put of a write for each replica that took its row, on that replica's
+/// leaf and on no other, and one acknowledgement once it ended, if some replica took the row. A recovery that opened
+/// its replica has that in a legal history, and the replica's leaf took over the rows that were acknowledged before.
 pub fn writes_keep_the_invariant()
     ensures begins { (setting : Setting) (world : World) → IsNew setting world → IsKept setting world }
     ensures stays { (setting : Setting) (world : World) (events : List Event) → CanRun setting world events
@@ -30,7 +38,11 @@ pub fn writes_keep_the_invariant()
         → IsKept setting world → IsPart setting world view → IsPart setting (run setting world events) view }
     ensures meets { (setting : Setting) (world : World) (a b : View) → IsPart setting world a → IsPart setting world b
         → IsPart setting world (joined a b) }
-    ensures ended { (setting : Setting) (world : World) (i : ℕ) (marks : List Mark) → IsKept setting world
-        → (world.writers i).stage ≡ Ended (Marked marks) → some_took marks ≡ true
-        → IsAcknowledged setting (world.writers i) marks }
+    ensures ended { (setting : Setting) (world : World) (i : ℕ) (writer : Writer) → IsKept setting world
+        → world.actors i ≡ Writes writer → (marks : List Mark) → writer.stage ≡ Ended (Marked marks)
+        → some_took marks ≡ true → IsAcknowledged setting writer marks }
+    ensures deeds { (setting : Setting) (world : World) (i : ℕ) (writer : Writer) → IsKept setting world
+        → world.actors i ≡ Writes writer → HasDone world.truth writer writer.stage }
+    ensures recovered { (setting : Setting) (world : World) (i : ℕ) (recovery : Recovery) → IsKept setting world
+        → world.actors i ≡ Recovers recovery → recovery.stage ≡ Over true → IsRecovered setting recovery }
 {}

@@ -1,5 +1,13 @@
-use Rattle.write_core.proofs.KeptLemmas.{ended_acknowledged, new_kept, part_stays, parts_join, run_kept}
+use Rattle.write_core.proofs.KeptLemmas.{ended_acknowledged, has_done, new_kept, over_recovered, part_stays, parts_join, run_kept}
 use Rattle.write_core.proofs.laws.writes_keep_the_invariant.Goals as goal
 
 pub returns : goal.returns
-returns c = record { begins = new_kept; stays = run_kept; parts = part_stays; meets = parts_join; ended = ended_acknowledged }
+returns c = record {
+  begins = new_kept;
+  stays = run_kept;
+  parts = part_stays;
+  meets = parts_join;
+  ended = ended_acknowledged;
+  deeds = has_done;
+  recovered = over_recovered;
+}

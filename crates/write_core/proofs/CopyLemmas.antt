@@ -1,0 +1,594 @@
+-- The events of a recovery.
+use Rattle.std.proofs.Common.{◌≡◌, ◌≢◌, ℕ, suc, ◌+◌, ◌<◌, ◌≤◌, Bool, true, false, ◌||◌, cond, Some, None, Option, List, [], ◌∷◌, ◌++◌, length, refl, sym, ap, ap₂, subst, ◌∙◌, append-nil, length-append, arith, inl, inr}
+use Rattle.std.specs.Prelude.{nat_eq, Contains}
+use Rattle.std.specs.List.{AllByRecursion as All}
+use Rattle.std.proofs.lemmas.Bool.{and_from, and_left, and_right, eq-eqb, ne_eqb, or_right}
+use Rattle.std.proofs.lemmas.List.{length-set, take_at}
+use Rattle.std.proofs.lemmas.List.Elements.{Contains-push, Contains-push_cases}
+use Rattle.mon_hints.specs.Listings.{is_among}
+use Rattle.mon_value.specs.LeafHistories as leaf_spec
+use Rattle.mon_value.specs.LeafHistories.{entry_rows, is_down, is_opened, replica_rows}
+use Rattle.mon_value.specs.Sources.{IsSource}
+use Rattle.mon_value.specs.declared.histories.Entry.{Entry}
+use Rattle.mon_value.specs.declared.histories.RangeEntry.{RangeEntry}
+use Rattle.mon_value.specs.declared.positions.Leaf.{Leaf}
+use Rattle.mon_value.specs.declared.positions.Range.{Range}
+use Rattle.mon_value.specs.declared.positions.Slot.{Slot}
+use Rattle.mon_value.specs.declared.positions.SlotLeaf.{SlotLeaf}
+use Rattle.mon_value.specs.declared.rows.Row.{Row}
+use Rattle.mon_value.proofs.LeafHistoryLemmas.{no_rows, opened_more, replica_rows-push}
+use Rattle.mon_topo.specs.HeldHistories.{BeginsWith, IsBorneOut, IsOpened}
+use Rattle.mon_topo.specs.RangeHistories as range_spec
+use Rattle.mon_topo.specs.RangeHistories.{acked, opened, serving}
+use Rattle.mon_topo.specs.Settings.{Setting, zone_of_leaf}
+use Rattle.mon_topo.proofs.FrontLemmas.{begins-flat_map, begins_same, begins_through, contains_on}
+use Rattle.mon_topo.proofs.HeldLemmas.{leaf_entry_by, leaf_entry_other, leaf_entry_same, range_entry_other, range_entry_same}
+use Rattle.mon_topo.proofs.RangeHistoryLemmas.{all_at, all_from, numbered, slot_below}
+use Rattle.mon_hints.specs.Covers.{AreKept, Bits, Covers}
+use Rattle.mon_hints.specs.HistoryBuckets.{history_buckets, rows_buckets}
+use Rattle.write_core.specs.CopySteps.{CanAsk, CanCopyAt, IsToldAtTarget, IsToldByTarget, IsToldOfRange, MayOpen, asked, begun, carried, copied_in, copy_at, copy_of, neared, new_replica, next_slot, opening_of, told_range}
+use Rattle.write_core.specs.Invariant.{HasCopied, HasLocked, HasOpened, HasRows, IsCopyAt, IsCopying, IsFresh, IsInside, IsKept, IsRecovery, IsSettled, IsTelling}
+use Rattle.write_core.specs.Recovering.{Admits, Beginning, Carrying, CopyStage, CopyTold, Copying, Denied, Gives, HasRoom, Nearing, Over, Sources, Telling, WasDone, WasDown, Within, copying}
+use Rattle.write_core.specs.Steps.{unchanged}
+use Rattle.write_core.specs.Views.{IsSound, IsWithin, View, joined, of_leaf, of_range, with_entry, with_range_entry, with_root_bit, with_zone_bit}
+use Rattle.write_core.specs.World.{Recovers, Recovery, World, at_leaf, at_range, copied_on, recovers_on}
+use Rattle.write_core.proofs.ChangeLemmas.{entry_sound, entry_up, entry_within, range_entry_sound, range_entry_up, range_entry_within, root_bit_up, zone_bit_up}
+use Rattle.write_core.proofs.DeedLemmas.{acks_stay, puts_stay}
+use Rattle.write_core.proofs.KeepsLemmas.{KeepsRange, changed_same, opened_moves, opened_with, settled_moves}
+use Rattle.write_core.proofs.MeetLemmas as meet
+use Rattle.write_core.proofs.MeetLemmas.{base_range, base_sound, base_up, base_whole, base_within, inside_from, inside_root, inside_zone, quiet, raised_all, root_bit, zone_bit}
+use Rattle.write_core.proofs.OpeningLemmas.{acked-opened, acked_source, opened-opened, serving-opened, replica_at_home}
+use Rattle.write_core.proofs.StepLemmas.{IsStep, ChangesLeaf, ChangesRange, recover_at_leaf, recover_at_range, recovery_of}
+use Rattle.write_core.proofs.ViewLemmas.{within_itself}
+
+some_is_not_none : (i : ℕ) → Some i ≡ None → ⊥
+some_is_not_none i e = cc
+
+-- it asks the next replica, or gives up
+at_copying : (setting : Setting) (world : World) (i : ℕ) (who : Recovery) (sources : List SlotLeaf)
+    → IsCopying setting world i who → All (Contains (serving (of_range world.truth who.range))) sources
+    → IsCopyAt setting world i who (copying sources)
+at_copying setting world i who [] h k = h.locked
+at_copying setting world i who (source ∷ left) h k = (h, k)
+
+module _ (setting : Setting) (world : World) (i : ℕ) (who : Recovery) (is : world.actors i ≡ Recovers who)
+    (kept : IsKept setting world) where
+  own : IsRecovery setting world i who
+  own = recovery_of setting world i who kept is
+
+  abbrev r : Range
+  r = who.range
+
+  abbrev g : List RangeEntry
+  g = of_range world.truth r
+
+  abbrev l : Leaf
+  l = who.leaf
+
+  -- ---- it goes on, with its range left to it
+
+  module _ (after : World) (grows : IsWithin world.truth after.truth) (its : KeepsRange world after (Some i) r)
+      (stage : CopyStage) (view : View) (whole : of_range view r ≡ of_range after.truth r) where
+    locked_moves : HasLocked world i who → HasLocked after i (copied_on who stage view)
+    locked_moves h = record {
+      holder = its.holder;
+      whole = whole;
+      settled = settled_moves world after grows (Some i) r its h.settled;
+    }
+
+    copying_moves : IsCopying setting world i who → IsCopying setting after i (copied_on who stage view)
+    copying_moves h = record {
+      locked = locked_moves h.locked;
+      may = subst (λ (history : List RangeEntry). MayOpen setting history who) (sym its.history) h.may;
+    }
+
+    copied_moves : (rows : List Row) → HasCopied setting world i who rows
+        → HasCopied setting after i (copied_on who stage view) rows
+    copied_moves rows h = record {
+      copying = copying_moves h.copying;
+      all = h.all ∙ ap acked (sym its.history);
+      at_home = h.at_home;
+    }
+
+  -- ---- the lock
+
+  module _ (free : world.range_holder r.0 ≡ None) where
+    -- it holds its range then
+    begun_locked : (stage : CopyStage)
+        → HasLocked (at_range world i who.view r unchanged (Some i) (recovers_on who stage)) i
+        (copied_on who stage (joined who.view (world.ranges r.0)))
+    begun_locked stage = record {
+      holder = changed_same world.range_holder r.0 (Some i);
+      whole = meet.met_whole setting world i kept who.view own.part r;
+      settled = kept.settled r free;
+    }
+
+    begin_at : (stage : CopyStage)
+        → IsCopyAt setting (at_range world i who.view r unchanged (Some i) (recovers_on who stage)) i
+        (copied_on who stage (joined who.view (world.ranges r.0))) stage
+        → IsStep setting world (at_range world i who.view r unchanged (Some i) (recovers_on who stage))
+    begin_at stage at =
+        recover_at_range setting world i who is kept r unchanged (Some i) stage
+        (meet.quiet_range setting world i kept who.view own.part r) (inl free)
+        (λ e. absurd (some_is_not_none i e)) at
+
+    all_themselves : (xs : List SlotLeaf) → All (Contains xs) xs
+    all_themselves xs = all_from (Contains xs) xs (λ x there. there)
+
+    begin_sources : (replicas : List SlotLeaf) → replicas ≡ serving g → MayOpen setting g who
+        → IsStep setting world (begun world i who (Sources replicas))
+    begin_sources replicas all may =
+        let stage = copying replicas in
+        let next = at_range world i who.view r unchanged (Some i) (recovers_on who stage) in
+        begin_at stage
+        (at_copying setting next i (copied_on who stage (joined who.view (world.ranges r.0))) replicas
+        (record { locked = begun_locked stage; may = may })
+        (subst (λ (xs : List SlotLeaf). All (Contains xs) replicas) all (all_themselves replicas)))
+
+    begin_denied : IsStep setting world
+        (at_range world i who.view r unchanged (Some i) (recovers_on who (Telling false)))
+    begin_denied = begin_at (Telling false) (begun_locked (Telling false))
+
+  -- ---- at leaves
+
+  -- an event at a leaf that leaves all histories as they are
+  module _ (o : Leaf) (holder : Option ℕ) (stage : CopyStage) (locked : HasLocked world i who) where
+    abbrev quietly : World
+    quietly = at_leaf world i who.view o unchanged holder (recovers_on who stage)
+
+    abbrev wiser_then : Recovery
+    wiser_then = copied_on who stage (joined who.view (world.leaves o.0))
+
+    quiet_range : KeepsRange world quietly (Some i) r
+    quiet_range = record { holder = locked.holder; history = refl; rows = λ s x. refl; opened = λ s x. refl }
+
+    quiet_whole : of_range (joined who.view (world.leaves o.0)) r ≡ g
+    quiet_whole = base_range setting world i kept who.view own.part o r locked.whole
+
+    quiet_locked : HasLocked quietly i wiser_then
+    quiet_locked = locked_moves quietly (within_itself world.truth) quiet_range stage
+        (joined who.view (world.leaves o.0)) quiet_whole locked
+
+    quiet_copying : IsCopying setting world i who → IsCopying setting quietly i wiser_then
+    quiet_copying = copying_moves quietly (within_itself world.truth) quiet_range stage
+        (joined who.view (world.leaves o.0)) quiet_whole
+
+    quiet_copied : (rows : List Row) → HasCopied setting world i who rows → HasCopied setting quietly i wiser_then rows
+    quiet_copied = copied_moves quietly (within_itself world.truth) quiet_range stage
+        (joined who.view (world.leaves o.0)) quiet_whole
+
+  quiet_step : (o : Leaf) (holder : Option ℕ) (stage : CopyStage) → world.leaf_holder o.0 ≡ None
+      → IsCopyAt setting (at_leaf world i who.view o unchanged holder (recovers_on who stage)) i
+      (copied_on who stage (joined who.view (world.leaves o.0))) stage
+      → IsStep setting world (at_leaf world i who.view o unchanged holder (recovers_on who stage))
+  quiet_step o holder stage free at =
+      recover_at_leaf setting world i who is kept o unchanged holder stage
+      (quiet setting world i kept who.view own.part o) (inl free) at
+
+  give_up : (o : Leaf) → world.leaf_holder o.0 ≡ None → HasLocked world i who
+      → IsStep setting world (at_leaf world i who.view o unchanged None (recovers_on who (Telling false)))
+  give_up o free locked = quiet_step o None (Telling false) free (quiet_locked o None (Telling false) locked)
+
+  -- the rows of a replica that serves are the acknowledged ones, and at home
+  has_copied : (source : SlotLeaf) (rows : List Row) → IsCopying setting world i who → Contains (serving g) source
+      → rows ≡ replica_rows r source.slot (of_leaf world.truth source.leaf) → HasCopied setting world i who rows
+  has_copied source rows h there same = record {
+    copying = h;
+    all = same ∙ (h.locked.settled.rows source there).all;
+    at_home = λ row among. replica_at_home setting.held setting.zones r source.slot (of_leaf world.truth source.leaf)
+        (kept.truth.held.at_home source.leaf) row (subst (λ (xs : List Row). Contains xs row) same among);
+  }
+
+  ask_kept : (sources : List SlotLeaf) (told : CopyTold) → IsCopyAt setting world i who (Copying sources)
+      → CanAsk world who sources told → IsStep setting world (asked world i who sources told)
+  ask_kept [] told at can = absurd can
+  ask_kept (source ∷ left) (Gives rows) at can =
+      quiet_step source.leaf None (Carrying rows) can.0
+      (quiet_copied source.leaf None (Carrying rows) at.0.locked rows (has_copied source rows at.0 at.1.0 can.1.1))
+  ask_kept (source ∷ left) WasDown at can =
+      quiet_step source.leaf None (copying left) can.0
+      (at_copying setting (quietly source.leaf None (copying left) at.0.locked) i
+      (wiser_then source.leaf None (copying left) at.0.locked) left
+      (quiet_copying source.leaf None (copying left) at.0.locked at.0) at.1.1)
+  ask_kept (source ∷ left) (Sources replicas) at can = absurd can.1
+  ask_kept (source ∷ left) Denied at can = absurd can.1
+  ask_kept (source ∷ left) HasRoom at can = absurd can.1
+  ask_kept (source ∷ left) (Admits buckets) at can = absurd can.1
+  ask_kept (source ∷ left) WasDone at can = absurd can.1
+
+  carry_kept : (rows : List Row) (told : CopyTold) → HasCopied setting world i who rows
+      → world.leaf_holder l.0 ≡ None → IsToldByTarget (of_leaf world.truth l) told
+      → IsStep setting world (carried world i who rows told)
+  carry_kept rows HasRoom at free can =
+      quiet_step l None (Nearing rows) free (quiet_copied l None (Nearing rows) at.copying.locked rows at)
+  carry_kept rows WasDown at free can = give_up l free at.copying.locked
+  carry_kept rows (Sources replicas) at free can = absurd can
+  carry_kept rows Denied at free can = absurd can
+  carry_kept rows (Gives more) at free can = absurd can
+  carry_kept rows (Admits buckets) at free can = absurd can
+  carry_kept rows WasDone at free can = absurd can
+
+  near_kept : (rows : List Row) (told : CopyTold) → HasCopied setting world i who rows
+      → world.leaf_holder l.0 ≡ None → IsToldAtTarget setting (of_leaf world.truth l) rows told
+      → IsStep setting world (neared world i who rows told)
+  near_kept rows (Admits buckets) at free can =
+      let stage = Within rows buckets buckets in
+      quiet_step l (Some i) stage free (
+        quiet_copied l (Some i) stage at.copying.locked rows at,
+        inside_from setting world i kept who.view own.part l (quietly l (Some i) stage at.copying.locked)
+            (rows_buckets setting.buckets_of rows) buckets (changed_same world.leaf_holder l.0 (Some i)) refl can.0
+            can.1,
+      )
+  near_kept rows WasDown at free can = give_up l free at.copying.locked
+  near_kept rows (Sources replicas) at free can = absurd can
+  near_kept rows Denied at free can = absurd can
+  near_kept rows (Gives more) at free can = absurd can
+  near_kept rows HasRoom at free can = absurd can
+  near_kept rows WasDone at free can = absurd can
+
+  -- ---- inside its leaf
+
+  module _ (rows : List Row) (at : HasCopied setting world i who rows) where
+    abbrev needed : List ℕ
+    needed = rows_buckets setting.buckets_of rows
+
+    copy_root : (bucket : ℕ) (at_root in_zone : List ℕ)
+        → IsInside setting world i who.view l needed (bucket ∷ at_root) in_zone
+        → IsStep setting world (copied_in setting world i who rows (bucket ∷ at_root) in_zone)
+    copy_root bucket at_root in_zone inside =
+        let zone = zone_of_leaf setting l in
+        let stage = Within rows at_root in_zone in
+        let next = at_leaf world i who.view l (with_root_bit zone bucket) (Some i) (recovers_on who stage) in
+        recover_at_leaf setting world i who is kept l (with_root_bit zone bucket) (Some i) stage
+        (root_bit setting world i kept who.view own.part l zone bucket) (inr inside.holder) (
+          copied_moves next (root_bit_up bucket zone world.truth)
+              (record { holder = at.copying.locked.holder; history = refl; rows = λ s x. refl; opened = λ s x. refl })
+              stage (with_root_bit zone bucket (joined who.view (world.leaves l.0)))
+              (base_range setting world i kept who.view own.part l r at.copying.locked.whole) rows at,
+          inside_root setting world i kept who.view own.part l next needed bucket at_root in_zone
+              (changed_same world.leaf_holder l.0 (Some i)) refl inside,
+        )
+
+    copy_zone : (bucket : ℕ) (in_zone : List ℕ) → IsInside setting world i who.view l needed [] (bucket ∷ in_zone)
+        → IsStep setting world (copied_in setting world i who rows [] (bucket ∷ in_zone))
+    copy_zone bucket in_zone inside =
+        let stage = Within rows [] in_zone in
+        let next = at_leaf world i who.view l (with_zone_bit l bucket) (Some i) (recovers_on who stage) in
+        recover_at_leaf setting world i who is kept l (with_zone_bit l bucket) (Some i) stage
+        (zone_bit setting world i kept who.view own.part l bucket) (inr inside.holder) (
+          copied_moves next (zone_bit_up bucket l world.truth)
+              (record { holder = at.copying.locked.holder; history = refl; rows = λ s x. refl; opened = λ s x. refl })
+              stage (with_zone_bit l bucket (joined who.view (world.leaves l.0)))
+              (base_range setting world i kept who.view own.part l r at.copying.locked.whole) rows at,
+          inside_zone setting world i kept who.view own.part l next needed bucket in_zone
+              (changed_same world.leaf_holder l.0 (Some i)) refl inside,
+        )
+
+    -- ---- the replica is opened
+
+    module _ (inside : IsInside setting world i who.view l needed [] []) where
+      abbrev met : View
+      met = joined who.view (world.leaves l.0)
+
+      abbrev s : Slot
+      s = next_slot g
+
+      abbrev e : Entry
+      e = copy_of who g rows
+
+      abbrev locked : HasLocked world i who
+      locked = at.copying.locked
+
+      up : IsWithin who.view met
+      up = base_up setting world i kept who.view own.part l
+
+      in_truth : l.0 < length world.truth.seen.leaves
+      in_truth = subst (λ (n : ℕ). l.0 < n) (sym kept.truth.held.all_leaves) own.aimed.leaf_there
+
+      in_met : l.0 < length met.seen.leaves
+      in_met = subst (λ (n : ℕ). l.0 < n) (sym (base_sound setting world i kept who.view own.part l).held.all_leaves)
+          own.aimed.leaf_there
+
+      legal : range_spec.IsLegal setting.held setting.zones setting.points r g
+      legal = kept.truth.held.legal r
+          (subst (λ (n : ℕ). r.0 < n) (sym kept.truth.held.all_ranges) own.aimed.range_there)
+
+      never : (o : Leaf) → is_opened r s (of_leaf world.truth o) ≡ false
+      never o = locked.settled.fresh s o (omega arith)
+
+      may_truth : leaf_spec.MayFollow (of_leaf world.truth l) e
+      may_truth = (
+        inside.up,
+        never l,
+        subst IsSource (sym at.all) (acked_source setting.held setting.zones setting.points r g legal),
+      )
+
+      may_met : leaf_spec.MayFollow (of_leaf met l) e
+      may_met = subst (λ (history : List Entry). leaf_spec.MayFollow history e)
+          (sym (base_whole setting world i kept who.view own.part l)) may_truth
+
+      covers_in : (bits : Bits) → AreKept who.view.bits.root bits.root → AreKept who.view.bits.zone bits.zone
+          → Covers bits (zone_of_leaf setting l) l (history_buckets setting.buckets_of (e ∷ []))
+      covers_in bits root zone bucket there =
+          let its : is_among bucket needed ≡ true = ap (λ xs. is_among bucket (rows_buckets setting.buckets_of xs))
+          (sym (append-nil rows)) ∙ there in
+          record {
+            at_root = raised_all who.view.bits.root bits.root (zone_of_leaf setting l).0 bucket root
+                (inside.root bucket its);
+            in_zone = raised_all who.view.bits.zone bits.zone l.0 bucket zone (inside.zone bucket its);
+          }
+
+      -- another replica gets no rows, and is not opened
+      module _ (o : Range) (place : Slot) (other : leaf_spec.same_replica o place r s ≡ false) where
+        rows_elsewhere : (leaf : Leaf) → replica_rows o place (of_leaf (with_entry l e world.truth) leaf)
+            ≡ replica_rows o place (of_leaf world.truth leaf)
+        rows_elsewhere leaf =
+            leaf_entry_by world.truth.seen l e in_truth
+            (λ x history. replica_rows o place history ≡ replica_rows o place (of_leaf world.truth x)) leaf
+            (replica_rows-push o place (of_leaf world.truth l) e
+            ∙ ap (λ b. replica_rows o place (of_leaf world.truth l) ++ cond b rows []) other
+            ∙ append-nil (replica_rows o place (of_leaf world.truth l)))
+            refl
+
+        opened_elsewhere : (leaf : Leaf) → is_opened o place (of_leaf (with_entry l e world.truth) leaf)
+            ≡ is_opened o place (of_leaf world.truth leaf)
+        opened_elsewhere leaf =
+            leaf_entry_by world.truth.seen l e in_truth
+            (λ x history. is_opened o place history ≡ is_opened o place (of_leaf world.truth x)) leaf
+            (opened_with o place (of_leaf world.truth l) e (ap (λ b. b || false) other))
+            refl
+
+      other_range : (o : Range) (place : Slot) → (world.range_holder o.0 ≡ Some i → ⊥)
+          → leaf_spec.same_replica o place r s ≡ false
+      other_range o place free = and_left (nat_eq o.0 r.0) (nat_eq place.0 s.0)
+          (ne_eqb o.0 r.0 (λ same. free (ap world.range_holder same ∙ locked.holder)))
+
+      other_slot : (place : Slot) → place.0 ≢ s.0 → leaf_spec.same_replica r place r s ≡ false
+      other_slot place apart = and_right (nat_eq r.0 r.0) (nat_eq place.0 s.0) (ne_eqb place.0 s.0 apart)
+
+      this_slot : leaf_spec.same_replica r s r s ≡ true
+      this_slot = and_from (nat_eq r.0 r.0) (nat_eq s.0 s.0) (eq-eqb r.0 r.0 refl) (eq-eqb s.0 s.0 refl)
+
+      changes : ChangesLeaf setting world i who.view l (with_entry l e)
+      changes = record {
+        truth = entry_sound world.truth l e in_truth setting kept.truth may_truth at.at_home
+            (covers_in world.truth.bits own.part.within.bits.root own.part.within.bits.zone);
+        met = entry_sound met l e in_met setting (base_sound setting world i kept who.view own.part l) may_met
+            at.at_home (covers_in met.bits up.bits.root up.bits.zone);
+        within = entry_within l e met world.truth in_met in_truth (base_whole setting world i kept who.view own.part l)
+            (base_within setting world i kept who.view own.part l);
+        grows = entry_up world.truth l e in_truth;
+        count = refl;
+        whole = leaf_entry_same met.seen l e in_met
+            ∙ ap (λ history. history ++ e ∷ []) (base_whole setting world i kept who.view own.part l)
+            ∙ sym (leaf_entry_same world.truth.seen l e in_truth);
+        others = leaf_entry_other world.truth.seen l e;
+        ranges = λ o. refl;
+        rows = λ o free place. rows_elsewhere o place (other_range o place free);
+        opened = λ o free place. opened_elsewhere o place (other_range o place free);
+        puts = λ pass apart. puts_stay pass world.truth l e in_truth refl;
+      }
+
+      abbrev next : World
+      next = at_leaf world i who.view l (with_entry l e) None (recovers_on who (Telling true))
+
+      -- the replicas that serve are as they were
+      still_serve : (replica : SlotLeaf) → Contains (serving g) replica → HasRows next.truth r replica (acked g)
+      still_serve replica there =
+          let has = locked.settled.rows replica there in
+          let known = numbered setting.held setting.zones setting.points r g legal in
+          let below : replica.slot.0 < length (opened g) = slot_below g known replica
+          (all_at (Contains (opened g)) (serving g) replica known.among there) in
+          record {
+            opened = opened_moves world next changes.grows r replica.slot replica.leaf has.opened;
+            all = rows_elsewhere r replica.slot (other_slot replica.slot (λ same. omega arith)) replica.leaf ∙ has.all;
+          }
+
+      rows_then : replica_rows r s (of_leaf next.truth l) ≡ acked g
+      rows_then =
+          ap (replica_rows r s) (leaf_entry_same world.truth.seen l e in_truth)
+          ∙ replica_rows-push r s (of_leaf world.truth l) e
+          ∙ ap₂ (λ old new. old ++ cond new rows [])
+          (no_rows r s (of_leaf world.truth l) (kept.truth.held.formed l in_truth) (never l)) this_slot
+          ∙ at.all
+
+      open_then : is_opened r s (of_leaf next.truth l) ≡ true
+      open_then =
+          ap (is_opened r s) (leaf_entry_same world.truth.seen l e in_truth)
+          ∙ opened_more r s (of_leaf world.truth l) (e ∷ [])
+          ∙ ap (λ b. is_opened r s (of_leaf world.truth l) || (b || false)) this_slot
+          ∙ or_right (is_opened r s (of_leaf world.truth l)) true refl
+
+      fresh_then : IsFresh next.truth r (suc (length (opened g)))
+      fresh_then slot leaf beyond =
+          opened_elsewhere r slot (other_slot slot (λ same. omega arith)) leaf
+          ∙ locked.settled.fresh slot leaf (omega arith)
+
+      pub open_replica : IsStep setting world next
+      open_replica =
+          recover_at_leaf setting world i who is kept l (with_entry l e) None (Telling true) changes
+          (inr inside.holder)
+          (record {
+            holder = locked.holder;
+            whole = base_range setting world i kept who.view own.part l r locked.whole;
+            rows = still_serve;
+            fresh = fresh_then;
+            may = at.copying.may;
+            has = record { opened = open_then; all = rows_then };
+            seen = begins_same (replica_rows r s (of_leaf (with_entry l e met) l)) (acked g)
+                (ap (replica_rows r s) changes.whole ∙ rows_then);
+            entered = subst (λ (xs : List Row). Contains (of_leaf (with_entry l e met) l) (copy_of who g xs)) at.all
+                (subst (λ (history : List Entry). Contains history e) (sym (leaf_entry_same met.seen l e in_met))
+                (Contains-push (of_leaf met l) e));
+          })
+
+    inside_kept : (at_root in_zone : List ℕ) → IsInside setting world i who.view l needed at_root in_zone
+        → IsStep setting world (copied_in setting world i who rows at_root in_zone)
+    inside_kept (bucket ∷ at_root) in_zone inside = copy_root bucket at_root in_zone inside
+    inside_kept [] (bucket ∷ in_zone) inside = copy_zone bucket in_zone inside
+    inside_kept [] [] inside = open_replica inside
+
+  -- ---- it tells its range
+
+  tell_nothing : HasLocked world i who
+      → IsStep setting world (at_range world i who.view r unchanged None (recovers_on who (Over false)))
+  tell_nothing h =
+      recover_at_range setting world i who is kept r unchanged None (Over false)
+      (meet.quiet_range setting world i kept who.view own.part r) (inr h.holder) (λ x. h.settled) tt
+
+  module _ (h : HasOpened setting world i who) where
+    abbrev last : RangeEntry
+    last = opening_of who g
+
+    abbrev new : SlotLeaf
+    new = new_replica who g
+
+    serve_then : serving (g ++ last ∷ []) ≡ serving g ++ new ∷ []
+    serve_then = serving-opened g who.pass new
+
+    acked_then : acked (g ++ last ∷ []) ≡ acked g
+    acked_then = acked-opened g who.pass new
+
+    module _ (view : View) (sound : IsSound setting view) (upper : IsWithin who.view view)
+        (whole : of_range view r ≡ g) where
+      here : r.0 < length view.seen.ranges
+      here = subst (λ (n : ℕ). r.0 < n) (sym sound.held.all_ranges) own.aimed.range_there
+
+      old_rows : (replica : SlotLeaf) → Contains (serving g) replica
+          → BeginsWith (replica_rows r replica.slot (of_leaf view replica.leaf)) (acked g)
+      old_rows = subst (λ (history : List RangeEntry). (replica : SlotLeaf) → Contains (serving history) replica
+          → BeginsWith (replica_rows r replica.slot (of_leaf view replica.leaf)) (acked history)) whole
+          (sound.held.borne_out r here).kept
+
+      new_rows : BeginsWith (replica_rows r (next_slot g) (of_leaf view l)) (acked g)
+      new_rows =
+          begins_through (acked g) (replica_rows r (next_slot g) (of_leaf who.view l))
+          (replica_rows r (next_slot g) (of_leaf view l)) h.seen
+          (begins-flat_map (entry_rows r (next_slot g)) (of_leaf view l) (of_leaf who.view l) (upper.seen.leaves l))
+
+      keeps_rows : (replica : SlotLeaf) → Contains (serving (g ++ last ∷ [])) replica
+          → BeginsWith (replica_rows r replica.slot (of_leaf view replica.leaf)) (acked (g ++ last ∷ []))
+      keeps_rows replica there =
+          subst (λ (xs : List Row). BeginsWith (replica_rows r replica.slot (of_leaf view replica.leaf)) xs)
+          (sym acked_then)
+          (elim (Contains-push_cases (serving g) new replica
+          (subst (λ (xs : List SlotLeaf). Contains xs replica) serve_then there)) [
+            | inl old ↦ old_rows replica old
+            | inr same ↦ subst (λ (x : SlotLeaf). BeginsWith (replica_rows r x.slot (of_leaf view x.leaf)) (acked g))
+                same new_rows
+          ])
+
+      borne_out : IsBorneOut view.seen r (g ++ last ∷ []) (length g) last
+      borne_out =
+          subst (λ (front : List RangeEntry). IsOpened r new (acked front) (of_leaf view l))
+          (sym (take_at g (last ∷ []) (length g) refl))
+          (record {
+            pass = who.pass;
+            entered = contains_on (of_leaf view l) (of_leaf who.view l) (copy_of who g (acked g))
+                (upper.seen.leaves l) h.entered;
+          })
+
+      last_sound : IsSound setting (with_range_entry r last view)
+      last_sound =
+          range_entry_sound view r last here setting sound
+          (subst (λ (x : List RangeEntry). (replica : SlotLeaf) → Contains (serving (x ++ last ∷ [])) replica
+          → BeginsWith (replica_rows r replica.slot (of_leaf view replica.leaf)) (acked (x ++ last ∷ [])))
+          (sym whole) keeps_rows)
+          (subst (λ (x : List RangeEntry). IsBorneOut view.seen r (x ++ last ∷ []) (length x) last) (sym whole)
+          borne_out)
+          (subst (λ (x : List RangeEntry). range_spec.MayFollow setting.held setting.zones setting.points r x last)
+          (sym whole) h.may)
+
+    abbrev met_range : View
+    met_range = joined who.view (world.ranges r.0)
+
+    met_whole : of_range met_range r ≡ g
+    met_whole = meet.met_whole setting world i kept who.view own.part r
+
+    met_sound : IsSound setting met_range
+    met_sound = meet.met_sound setting world i kept who.view own.part r
+
+    there_truth : r.0 < length world.truth.seen.ranges
+    there_truth = here world.truth kept.truth own.part.within refl
+
+    there_met : r.0 < length met_range.seen.ranges
+    there_met = here met_range met_sound (meet.met_up setting world i kept who.view own.part r) met_whole
+
+    range_changes : ChangesRange setting world i who.view r (with_range_entry r last)
+    range_changes = record {
+      truth = last_sound world.truth kept.truth own.part.within refl;
+      met = last_sound met_range met_sound (meet.met_up setting world i kept who.view own.part r) met_whole;
+      within = range_entry_within r last met_range world.truth there_met there_truth met_whole
+          (meet.met_within setting world i kept who.view own.part r);
+      grows = range_entry_up world.truth r last there_truth;
+      count = length-set world.truth.seen.ranges r.0 (g ++ last ∷ []);
+      whole = range_entry_same met_range.seen r last there_met ∙ ap (λ history. history ++ last ∷ []) met_whole
+          ∙ sym (range_entry_same world.truth.seen r last there_truth);
+      others = range_entry_other world.truth.seen r last;
+      leaves = λ o. refl;
+      acks = λ pass apart. acks_stay pass world.truth r last there_truth refl;
+    }
+
+    abbrev told_truth : View
+    told_truth = with_range_entry r last world.truth
+
+    told_history : of_range told_truth r ≡ g ++ last ∷ []
+    told_history = range_entry_same world.truth.seen r last there_truth
+
+    -- the new replica serves too, and is known
+    settled_then : IsSettled told_truth r
+    settled_then = record {
+      rows = subst (λ (history : List RangeEntry). (replica : SlotLeaf) → Contains (serving history) replica
+          → HasRows told_truth r replica (acked history)) (sym told_history)
+          (λ replica there. subst (λ (xs : List Row). HasRows told_truth r replica xs) (sym acked_then)
+          (elim (Contains-push_cases (serving g) new replica
+          (subst (λ (xs : List SlotLeaf). Contains xs replica) serve_then there)) [
+            | inl old ↦ record { opened = (h.rows replica old).opened; all = (h.rows replica old).all }
+            | inr same ↦ subst (λ (x : SlotLeaf). HasRows told_truth r x (acked g)) same
+                (record { opened = h.has.opened; all = h.has.all })
+          ]));
+      fresh = subst (λ (history : List RangeEntry). IsFresh told_truth r (length (opened history))) (sym told_history)
+          (λ slot leaf beyond. h.fresh slot leaf
+          (let count : length (opened (g ++ last ∷ [])) ≡ length (opened g) + 1 =
+          ap length (opened-opened g who.pass new) ∙ length-append (opened g) (new ∷ []) in
+          let from : length (opened (g ++ last ∷ [])) ≤ slot.0 = beyond in
+          omega arith));
+    }
+
+    tell_opened : IsStep setting world
+        (at_range world i who.view r (with_range_entry r last) None (recovers_on who (Over true)))
+    tell_opened =
+        recover_at_range setting world i who is kept r (with_range_entry r last) None (Over true) range_changes
+        (inr h.holder) (λ x. settled_then)
+        (record {
+          slot = next_slot g;
+          told = subst (λ (history : List RangeEntry). Contains history last)
+              (sym (range_entry_same met_range.seen r last there_met)) (Contains-push (of_range met_range r) last);
+        })
+
+  tell_kept : (is_open : Bool) → IsTelling setting world i who is_open
+      → IsStep setting world (at_range world i who.view r (told_range who g is_open) None
+      (recovers_on who (Over is_open)))
+  tell_kept true h = tell_opened h
+  tell_kept false h = tell_nothing h
+
+  begin_kept : (told : CopyTold) → world.range_holder r.0 ≡ None → IsToldOfRange setting g who told
+      → IsStep setting world (begun world i who told)
+  begin_kept (Sources replicas) free can = begin_sources free replicas can.0 can.1
+  begin_kept Denied free can = begin_denied free
+  begin_kept (Gives rows) free can = absurd can
+  begin_kept HasRoom free can = absurd can
+  begin_kept (Admits buckets) free can = absurd can
+  begin_kept WasDown free can = absurd can
+  begin_kept WasDone free can = absurd can
+
+  -- whatever a recovery is told, the invariant stays
+  pub recovery_kept : (stage : CopyStage) (told : CopyTold) → IsCopyAt setting world i who stage
+      → CanCopyAt setting world who stage told → IsStep setting world (copy_at setting world i who stage told)
+  recovery_kept Beginning told at can = begin_kept told can.0 can.1
+  recovery_kept (Copying sources) told at can = ask_kept sources told at can
+  recovery_kept (Carrying rows) told at can = carry_kept rows told at can.0 can.1
+  recovery_kept (Nearing rows) told at can = near_kept rows told at can.0 can.1
+  recovery_kept (Within rows at_root in_zone) told at can = inside_kept rows at.0 at_root in_zone at.1
+  recovery_kept (Telling is_open) told at can = tell_kept is_open at
+  recovery_kept (Over is_open) told at can = absurd can

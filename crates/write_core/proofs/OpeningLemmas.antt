@@ -1,0 +1,117 @@
+-- Histories of a range with one more replica that was opened; and the rows that a recovery copies.
+use Rattle.std.proofs.Common.{◌≡◌, ℕ, zero, suc, ◌<◌, Bool, true, false, not, cond, List, [], ◌∷◌, ◌++◌, length, refl, sym, subst, ◌∙◌, append_assoc, append-nil, arith, inl, inr}
+use Rattle.std.specs.Prelude.{filter, Contains}
+use Rattle.std.proofs.lemmas.List.Concat.{flat_map-append}
+use Rattle.std.proofs.lemmas.List.Elements.{Contains-append_cases}
+use Rattle.mon_value.specs.LeafHistories.{entry_rows, replica_rows, same_replica}
+use Rattle.mon_value.specs.Sources.{IsSource}
+use Rattle.mon_value.specs.declared.histories.Ack.{Ack}
+use Rattle.mon_value.specs.declared.histories.Entry.{Entry}
+use Rattle.mon_value.specs.declared.histories.Entry.TheVariants as entry
+use Rattle.mon_value.specs.declared.histories.RangeEntry.{RangeEntry}
+use Rattle.mon_value.specs.declared.histories.RangeEntry.TheVariants as range_entry
+use Rattle.mon_value.specs.declared.positions.Range.{Range}
+use Rattle.mon_value.specs.declared.positions.Slot.{Slot}
+use Rattle.mon_value.specs.declared.positions.SlotLeaf.{SlotLeaf}
+use Rattle.mon_value.specs.declared.rows.Row.{Row}
+use Rattle.mon_value.proofs.LeafHistoryLemmas.{parts_same}
+use Rattle.mon_schema.specs.SchemaLists.{SchemaLists}
+use Rattle.mon_topo.specs.HeldHistories.{AreAtHome, IsAtHome}
+use Rattle.mon_topo.specs.RangeHistories as spec
+use Rattle.mon_topo.specs.RangeHistories.{acked, opened, serving, serving_after}
+use Rattle.mon_topo.specs.declared.zones.ZoneSpec.{ZoneSpec}
+use Rattle.mon_topo.proofs.RangeHistoryLemmas.{acked-push}
+
+-- ---- one more replica
+
+opened-push : (history : List RangeEntry) (e : RangeEntry)
+    → opened (history ++ e ∷ []) ≡ opened history ++ (spec.opened_slot e ++ [])
+opened-push history e = flat_map-append spec.opened_slot history (e ∷ [])
+
+-- an acknowledgement opens no replica
+pub opened-acked : (history : List RangeEntry) (pass : ℕ) (row : Row) (ack : Ack)
+    → opened (history ++ range_entry.Acked pass row ack ∷ []) ≡ opened history
+opened-acked history pass row ack = opened-push history (range_entry.Acked pass row ack) ∙ append-nil (opened history)
+
+module _ (history : List RangeEntry) (pass : ℕ) (replica : SlotLeaf) where
+  abbrev opening : RangeEntry
+  opening = range_entry.Opened pass replica.slot replica.leaf
+
+  -- one more replica is the last that was opened
+  pub opened-opened : opened (history ++ opening ∷ []) ≡ opened history ++ replica ∷ []
+  opened-opened = opened-push history opening
+
+  -- and acknowledges nothing
+  pub acked-opened : acked (history ++ opening ∷ []) ≡ acked history
+  acked-opened = flat_map-append spec.acked_row history (opening ∷ []) ∙ append-nil (acked history)
+
+serving_after-opened : (replicas : List SlotLeaf) (history : List RangeEntry) (pass : ℕ) (replica : SlotLeaf)
+    → serving_after replicas (history ++ range_entry.Opened pass replica.slot replica.leaf ∷ [])
+    ≡ serving_after replicas history ++ replica ∷ []
+serving_after-opened replicas [] pass replica = refl
+serving_after-opened replicas (range_entry.Opened p slot leaf ∷ history) pass replica = serving_after-opened
+    (replicas ++ record { slot = slot; leaf = leaf } ∷ []) history pass replica
+serving_after-opened replicas (range_entry.Acked p row ack ∷ history) pass replica = serving_after-opened
+    (filter (λ x. not (spec.is_missed ack.missed x)) replicas) history pass replica
+
+-- and serves
+pub serving-opened : (history : List RangeEntry) (pass : ℕ) (replica : SlotLeaf)
+    → serving (history ++ range_entry.Opened pass replica.slot replica.leaf ∷ []) ≡ serving history ++ replica ∷ []
+serving-opened history pass replica = serving_after-opened [] history pass replica
+
+-- ---- the acknowledged rows are a source
+
+module _ (held : SchemaLists) (zones : List ZoneSpec) (points : ℕ) (r : Range) where
+  source_on : (before history : List RangeEntry) → IsSource (acked before)
+      → spec.GoesOn held zones points r before history → IsSource (acked (before ++ history))
+  source_on before [] h goes = subst (λ (xs : List RangeEntry). IsSource (acked xs)) (sym (append-nil before)) h
+  source_on before (range_entry.Opened pass slot leaf ∷ history) h goes =
+      let e = range_entry.Opened pass slot leaf in
+      subst (λ (xs : List RangeEntry). IsSource (acked xs)) (append_assoc before (e ∷ []) history)
+      (source_on (before ++ e ∷ []) history
+      (subst IsSource (sym (acked-opened before pass (record { slot = slot; leaf = leaf }))) h) goes.1)
+  source_on before (range_entry.Acked pass row ack ∷ history) h goes =
+      let e = range_entry.Acked pass row ack in
+      subst (λ (xs : List RangeEntry). IsSource (acked xs)) (append_assoc before (e ∷ []) history)
+      (source_on (before ++ e ∷ []) history (subst IsSource (sym (acked-push before pass row ack)) goes.0.2) goes.1)
+
+  pub acked_source : (history : List RangeEntry) → spec.IsLegal held zones points r history → IsSource (acked history)
+  acked_source history legal = source_on [] history tt legal
+
+-- ---- rows at home
+
+module _ (held : SchemaLists) (zones : List ZoneSpec) (r : Range) (s : Slot) where
+  brought_home : (other : Range) (place : Slot) (rows : List Row) (b : Bool) → same_replica r s other place ≡ b
+      → ((row : Row) → Contains rows row → IsAtHome held zones other row) → (row : Row)
+      → Contains (cond b rows []) row → IsAtHome held zones r row
+  brought_home other place rows true same h row there =
+      subst (λ (x : Range). IsAtHome held zones x row) (sym (parts_same r other s place same).0) (h row there)
+  brought_home other place rows false same h row there = absurd (omega (arith, there.1))
+
+  one_home : (other : Range) (row : Row) → IsAtHome held zones other row → (x : Row) → Contains (row ∷ []) x
+      → IsAtHome held zones other x
+  one_home other row h x (zero, l, e) = subst (λ (y : Row). IsAtHome held zones other y) e h
+  one_home other row h x (suc k, l, e) = absurd (omega arith)
+
+  entry_home : (e : Entry) → AreAtHome held zones e → (row : Row) → Contains (entry_rows r s e) row
+      → IsAtHome held zones r row
+  entry_home (entry.Opened pass other place rows) h row there =
+      brought_home other place rows (same_replica r s other place) refl h row there
+  entry_home (entry.Put pass other place own) h row there =
+      brought_home other place (own ∷ []) (same_replica r s other place) refl (one_home other own h) row there
+  entry_home (entry.Down pass) h row there = absurd (omega (arith, there.1))
+  entry_home (entry.Up pass) h row there = absurd (omega (arith, there.1))
+
+  later : (e : Entry) (history : List Entry) (x : Entry) → Contains history x → Contains (e ∷ history) x
+  later e history x there =
+      (suc there.0, (let l : there.0 < length history = there.1 in omega arith), there.2)
+
+  -- the rows of a replica are at home in its range, where each entry's rows are
+  pub replica_at_home : (history : List Entry) → ((e : Entry) → Contains history e → AreAtHome held zones e) → (row : Row)
+      → Contains (replica_rows r s history) row → IsAtHome held zones r row
+  replica_at_home [] h row there = absurd (omega (arith, there.1))
+  replica_at_home (e ∷ history) h row there =
+      elim (Contains-append_cases (entry_rows r s e) (replica_rows r s history) row there) [
+        | inl here ↦ entry_home e (h e (zero, omega arith, refl)) row here
+        | inr behind ↦ replica_at_home history (λ x there. h x (later e history x there)) row behind
+      ]

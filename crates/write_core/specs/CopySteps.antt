@@ -1,0 +1,153 @@
+-- The events of recoveries: when each can come and with what answer, and what it makes of the world.
+use Rattle.std.specs.Prelude.{ℕ, ◌≡◌, Bool, true, false, List, [], ◌∷◌, length, Some, None}
+use Rattle.mon_value.specs.LeafHistories.{is_down, replica_rows}
+use Rattle.mon_value.specs.declared.histories.Entry.{Entry}
+use Rattle.mon_value.specs.declared.histories.Entry.TheVariants as entry
+use Rattle.mon_value.specs.declared.histories.RangeEntry.{RangeEntry}
+use Rattle.mon_value.specs.declared.histories.RangeEntry.TheVariants as range_entry
+use Rattle.mon_value.specs.declared.positions.Range.{Range}
+use Rattle.mon_value.specs.declared.positions.Slot.{Slot}
+use Rattle.mon_value.specs.declared.positions.SlotLeaf.{SlotLeaf}
+use Rattle.mon_value.specs.declared.rows.Row.{Row}
+use Rattle.mon_topo.specs.RangeHistories.{MayFollow, opened, serving}
+use Rattle.mon_topo.specs.Settings.{Setting, zone_of_leaf}
+use Rattle.mon_hints.specs.HistoryBuckets.{rows_buckets}
+use Rattle.write_core.specs.Recovering.{Admits, Beginning, Carrying, CopyStage, CopyTold, Copying, Denied, Gives, HasRoom, Nearing, Over, Sources, Telling, WasDone, WasDown, Within, copying}
+use Rattle.write_core.specs.Steps.{AreUnraised, unchanged}
+use Rattle.write_core.specs.Views.{View, of_leaf, of_range, with_entry, with_range_entry, with_root_bit, with_zone_bit}
+use Rattle.write_core.specs.World.{Actor, Recovers, Recovery, World, Writes, at_leaf, at_range, recovers_on}
+
+-- ---- what is opened
+
+-- the slot of the next replica of a range
+abbrev pub next_slot : List RangeEntry → Slot
+next_slot history = record { 0 = length (opened history) }
+
+-- the replica that a recovery opens
+abbrev pub new_replica : Recovery → List RangeEntry → SlotLeaf
+new_replica recovery history = record { slot = next_slot history; leaf = recovery.leaf }
+
+-- what its range's history then says
+abbrev pub opening_of : Recovery → List RangeEntry → RangeEntry
+opening_of recovery history = range_entry.Opened recovery.pass (next_slot history) recovery.leaf
+
+-- what its leaf's history then says
+abbrev pub copy_of : Recovery → List RangeEntry → List Row → Entry
+copy_of recovery history rows = entry.Opened recovery.pass recovery.range (next_slot history) rows
+
+-- ---- answers
+
+-- one more replica of the range may be opened on the leaf
+abbrev pub MayOpen : Setting → List RangeEntry → Recovery → Type 0
+MayOpen setting history recovery =
+    MayFollow setting.held setting.zones setting.points recovery.range history (opening_of recovery history)
+
+abbrev pub IsToldOfRange : Setting → List RangeEntry → Recovery → CopyTold → Type 0
+IsToldOfRange setting history recovery (Sources replicas) =
+    (replicas ≡ serving history) × MayOpen setting history recovery
+IsToldOfRange setting history recovery Denied = MayOpen setting history recovery → ⊥
+IsToldOfRange setting history recovery told = ⊥
+
+abbrev pub IsToldBySource : Range → Slot → List Entry → CopyTold → Type 0
+IsToldBySource range slot history (Gives rows) = (is_down history ≡ false) × (rows ≡ replica_rows range slot history)
+IsToldBySource range slot history WasDown = is_down history ≡ true
+IsToldBySource range slot history told = ⊥
+
+abbrev pub IsToldByTarget : List Entry → CopyTold → Type 0
+IsToldByTarget history HasRoom = is_down history ≡ false
+IsToldByTarget history WasDown = is_down history ≡ true
+IsToldByTarget history told = ⊥
+
+abbrev pub IsToldAtTarget : Setting → List Entry → List Row → CopyTold → Type 0
+IsToldAtTarget setting history rows (Admits buckets) =
+    (is_down history ≡ false) × AreUnraised setting history (rows_buckets setting.buckets_of rows) buckets
+IsToldAtTarget setting history rows WasDown = is_down history ≡ true
+IsToldAtTarget setting history rows told = ⊥
+
+-- ---- when an event of a recovery can come, with this answer
+
+abbrev pub CanAsk : World → Recovery → List SlotLeaf → CopyTold → Type 0
+CanAsk world recovery [] told = ⊥
+CanAsk world recovery (source ∷ left) told =
+    (world.leaf_holder source.leaf.0 ≡ None)
+    × IsToldBySource recovery.range source.slot (of_leaf world.truth source.leaf) told
+
+abbrev pub CanCopyAt : Setting → World → Recovery → CopyStage → CopyTold → Type 0
+CanCopyAt setting world recovery Beginning told =
+    (world.range_holder recovery.range.0 ≡ None)
+    × IsToldOfRange setting (of_range world.truth recovery.range) recovery told
+CanCopyAt setting world recovery (Copying sources) told = CanAsk world recovery sources told
+CanCopyAt setting world recovery (Carrying rows) told =
+    (world.leaf_holder recovery.leaf.0 ≡ None) × IsToldByTarget (of_leaf world.truth recovery.leaf) told
+CanCopyAt setting world recovery (Nearing rows) told =
+    (world.leaf_holder recovery.leaf.0 ≡ None) × IsToldAtTarget setting (of_leaf world.truth recovery.leaf) rows told
+CanCopyAt setting world recovery (Within rows at_root in_zone) told = told ≡ WasDone
+CanCopyAt setting world recovery (Telling is_open) told = told ≡ WasDone
+CanCopyAt setting world recovery (Over is_open) told = ⊥
+
+abbrev pub CanRecover : Setting → World → Actor → CopyTold → Type 0
+CanRecover setting world (Writes writer) told = ⊥
+CanRecover setting world (Recovers recovery) told = CanCopyAt setting world recovery recovery.stage told
+
+-- the next event of a recovery can come, with this answer
+abbrev pub CanCopy : Setting → World → ℕ → CopyTold → Type 0
+CanCopy setting world i told = CanRecover setting world (world.actors i) told
+
+-- ---- what it makes of the world
+
+abbrev pub begun : World → ℕ → Recovery → CopyTold → World
+begun world i who (Sources replicas) =
+    at_range world i who.view who.range unchanged (Some i) (recovers_on who (copying replicas))
+begun world i who told = at_range world i who.view who.range unchanged (Some i) (recovers_on who (Telling false))
+
+abbrev pub asked : World → ℕ → Recovery → List SlotLeaf → CopyTold → World
+asked world i who [] told = world
+asked world i who (source ∷ left) (Gives rows) =
+    at_leaf world i who.view source.leaf unchanged None (recovers_on who (Carrying rows))
+asked world i who (source ∷ left) told =
+    at_leaf world i who.view source.leaf unchanged None (recovers_on who (copying left))
+
+abbrev pub carried : World → ℕ → Recovery → List Row → CopyTold → World
+carried world i who rows HasRoom =
+    at_leaf world i who.view who.leaf unchanged None (recovers_on who (Nearing rows))
+carried world i who rows told = at_leaf world i who.view who.leaf unchanged None (recovers_on who (Telling false))
+
+abbrev pub neared : World → ℕ → Recovery → List Row → CopyTold → World
+neared world i who rows (Admits buckets) =
+    at_leaf world i who.view who.leaf unchanged (Some i) (recovers_on who (Within rows buckets buckets))
+neared world i who rows told = at_leaf world i who.view who.leaf unchanged None (recovers_on who (Telling false))
+
+abbrev pub copied_in : Setting → World → ℕ → Recovery → List Row → List ℕ → List ℕ → World
+copied_in setting world i who rows (bucket ∷ at_root) in_zone =
+    at_leaf world i who.view who.leaf (with_root_bit (zone_of_leaf setting who.leaf) bucket) (Some i)
+    (recovers_on who (Within rows at_root in_zone))
+copied_in setting world i who rows [] (bucket ∷ in_zone) =
+    at_leaf world i who.view who.leaf (with_zone_bit who.leaf bucket) (Some i)
+    (recovers_on who (Within rows [] in_zone))
+copied_in setting world i who rows [] [] =
+    at_leaf world i who.view who.leaf
+    (with_entry who.leaf (copy_of who (of_range world.truth who.range) rows)) None (recovers_on who (Telling true))
+
+-- what a recovery appends to its range's history
+abbrev pub told_range : Recovery → List RangeEntry → Bool → View → View
+told_range recovery history true = with_range_entry recovery.range (opening_of recovery history)
+told_range recovery history false = unchanged
+
+abbrev pub copy_at : Setting → World → ℕ → Recovery → CopyStage → CopyTold → World
+copy_at setting world i who Beginning told = begun world i who told
+copy_at setting world i who (Copying sources) told = asked world i who sources told
+copy_at setting world i who (Carrying rows) told = carried world i who rows told
+copy_at setting world i who (Nearing rows) told = neared world i who rows told
+copy_at setting world i who (Within rows at_root in_zone) told = copied_in setting world i who rows at_root in_zone
+copy_at setting world i who (Telling is_open) told =
+    at_range world i who.view who.range (told_range who (of_range world.truth who.range) is_open) None
+    (recovers_on who (Over is_open))
+copy_at setting world i who (Over is_open) told = world
+
+abbrev pub recovered : Setting → World → ℕ → Actor → CopyTold → World
+recovered setting world i (Writes writer) told = world
+recovered setting world i (Recovers recovery) told = copy_at setting world i recovery recovery.stage told
+
+-- the next event of a recovery, with this answer
+abbrev pub copy_step : Setting → World → ℕ → CopyTold → World
+copy_step setting world i told = recovered setting world i (world.actors i) told

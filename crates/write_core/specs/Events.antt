@@ -1,0 +1,107 @@
+-- What can happen: events of writes and of recoveries, and what else there is, one after another.
+use Rattle.std.specs.Prelude.{ℕ, ◌≡◌, ◌<◌, true, List, [], ◌∷◌, length, None}
+use Rattle.mon_value.specs.LeafHistories.{MayFollow, is_switch}
+use Rattle.mon_value.specs.declared.histories.Entry.{Entry}
+use Rattle.mon_value.specs.declared.positions.Leaf.{Leaf}
+use Rattle.mon_value.specs.declared.positions.Range.{Range}
+use Rattle.mon_topo.specs.Settings.{Setting}
+use Rattle.write_core.specs.CopySteps.{CanCopy, copy_step}
+use Rattle.write_core.specs.Program.{Locking}
+use Rattle.write_core.specs.Recovering.{Beginning, CopyTold}
+use Rattle.write_core.specs.Steps.{CanCome, step}
+use Rattle.write_core.specs.Views.{View, joined, of_leaf, with_entry}
+use Rattle.write_core.specs.World.{Actor, IsPart, Recovers, World, Writes, changed, wiser}
+use Rattle.write_core.specs.declared.asks.WriteTold.{WriteTold}
+
+-- a leaf goes down or comes up, while nobody holds it, by someone who has seen so much
+pub record CanSwitch (setting : Setting) (world : World) (leaf : Leaf) (entry : Entry) (view : View) : Type 0 where
+  pub switch : is_switch entry ≡ true
+  pub there : leaf.0 < length world.truth.seen.leaves
+  pub free : world.leaf_holder leaf.0 ≡ None
+  pub may : MayFollow (of_leaf world.truth leaf) entry
+  pub part : IsPart setting world view
+
+abbrev pub switched : World → Leaf → Entry → View → World
+switched world leaf entry view = record {
+  truth = with_entry leaf entry world.truth;
+  leaves = changed world.leaves leaf.0 (with_entry leaf entry (joined view (world.leaves leaf.0)));
+  ranges = world.ranges;
+  leaf_holder = world.leaf_holder;
+  range_holder = world.range_holder;
+  actors = world.actors;
+}
+
+-- an actor that has not begun
+abbrev pub HasNotBegun : Actor → Type 0
+HasNotBegun (Writes writer) = writer.stage ≡ Locking
+HasNotBegun (Recovers recovery) = recovery.stage ≡ Beginning
+
+-- an actor learns what someone has seen
+abbrev pub learned : World → ℕ → View → World
+learned world i view = record {
+  truth = world.truth;
+  leaves = world.leaves;
+  ranges = world.ranges;
+  leaf_holder = world.leaf_holder;
+  range_holder = world.range_holder;
+  actors = changed world.actors i (wiser (world.actors i) view);
+}
+
+-- someone who has seen so much looks at a leaf: both have then seen what either had
+abbrev pub visited : World → Leaf → View → World
+visited world leaf view = record {
+  truth = world.truth;
+  leaves = changed world.leaves leaf.0 (joined view (world.leaves leaf.0));
+  ranges = world.ranges;
+  leaf_holder = world.leaf_holder;
+  range_holder = world.range_holder;
+  actors = world.actors;
+}
+
+-- or at a range
+abbrev pub resolved : World → Range → View → World
+resolved world range view = record {
+  truth = world.truth;
+  leaves = world.leaves;
+  ranges = changed world.ranges range.0 (joined view (world.ranges range.0));
+  leaf_holder = world.leaf_holder;
+  range_holder = world.range_holder;
+  actors = world.actors;
+}
+
+-- ---- events, one after another
+
+-- a write, or a recovery, does its next event and is told so; a leaf is switched; an actor that has not begun learns
+-- something; someone looks at a leaf or at a range that nobody holds
+pub data Event : Type 0 where
+  Goes : ℕ → WriteTold → Event
+  Copies : ℕ → CopyTold → Event
+  Switches : Leaf → Entry → View → Event
+  Learns : ℕ → View → Event
+  Visits : Leaf → View → Event
+  Resolves : Range → View → Event
+
+abbrev pub CanHappen : Setting → World → Event → Type 0
+CanHappen setting world (Goes i answer) = CanCome setting world i answer
+CanHappen setting world (Copies i told) = CanCopy setting world i told
+CanHappen setting world (Switches leaf entry view) = CanSwitch setting world leaf entry view
+CanHappen setting world (Learns i view) = HasNotBegun (world.actors i) × IsPart setting world view
+CanHappen setting world (Visits leaf view) = (world.leaf_holder leaf.0 ≡ None) × IsPart setting world view
+CanHappen setting world (Resolves range view) = (world.range_holder range.0 ≡ None) × IsPart setting world view
+
+abbrev pub happened : Setting → World → Event → World
+happened setting world (Goes i answer) = step setting world i answer
+happened setting world (Copies i told) = copy_step setting world i told
+happened setting world (Switches leaf entry view) = switched world leaf entry view
+happened setting world (Learns i view) = learned world i view
+happened setting world (Visits leaf view) = visited world leaf view
+happened setting world (Resolves range view) = resolved world range view
+
+abbrev pub CanRun : Setting → World → List Event → Type 0
+CanRun setting world [] = Unit {0}
+CanRun setting world (event ∷ events) =
+    CanHappen setting world event × CanRun setting (happened setting world event) events
+
+abbrev pub run : Setting → World → List Event → World
+run setting world [] = world
+run setting world (event ∷ events) = run setting (happened setting world event) events
