@@ -21,7 +21,9 @@ use Rattle.mon_value.specs.declared.schemas.Field.{Field}
 use Rattle.mon_value.specs.declared.schemas.MetricSchema.{MetricSchema}
 use Rattle.mon_value.specs.declared.schemas.TargetSchema.{TargetSchema}
 use Rattle.mon_value.specs.declared.values.FieldValue.{FieldValue}
-use Rattle.leaf_store.specs.LeafBuckets.{history_buckets, key_buckets, rows_brought, rows_buckets}
+use Rattle.mon_hints.specs.HistoryBuckets.{history_buckets, rows_buckets}
+use Rattle.mon_value.specs.LeafHistories.{brought_rows, leaf_rows}
+use Rattle.leaf_store.specs.LeafBuckets.{key_buckets}
 use Rattle.leaf_store.specs.within.Raises.{Adds}
 
 -- ---- below their number
@@ -118,20 +120,20 @@ adds_all old set buckets from adds none bucket = adds bucket ∙ all_below bucke
 
 -- ---- buckets of rows
 
-pub rows_more : (buckets : ℕ) (held : SchemaLists) (rows : List Row) (row : Row) → rows_buckets buckets held (rows ++ row ∷ []) ≡ rows_buckets buckets held rows ++ key_buckets buckets held row.key
+pub rows_more : (buckets : ℕ) (held : SchemaLists) (rows : List Row) (row : Row) → rows_buckets (key_buckets buckets held) (rows ++ row ∷ []) ≡ rows_buckets (key_buckets buckets held) rows ++ key_buckets buckets held row.key
 rows_more buckets held rows row =
-    flat_map-append (λ (row : Row). key_buckets buckets held row.key) rows (row ∷ []) ∙ ap (λ more. rows_buckets buckets held rows ++ more) (append-nil (key_buckets buckets held row.key))
+    flat_map-append (λ (row : Row). key_buckets buckets held row.key) rows (row ∷ []) ∙ ap (λ more. rows_buckets (key_buckets buckets held) rows ++ more) (append-nil (key_buckets buckets held row.key))
 
 pub history_more : (buckets : ℕ) (held : SchemaLists) (history : List Entry) (last : Entry) →
-    history_buckets buckets held (history ++ last ∷ []) ≡ history_buckets buckets held history ++ rows_buckets buckets held (rows_brought last)
+    history_buckets (key_buckets buckets held) (history ++ last ∷ []) ≡ history_buckets (key_buckets buckets held) history ++ rows_buckets (key_buckets buckets held) (brought_rows last)
 history_more buckets held history last =
-    ap (rows_buckets buckets held) (flat_map-append rows_brought history (last ∷ []) ∙ ap (λ more. flat_map rows_brought history ++ more) (append-nil (rows_brought last)))
-    ∙ flat_map-append (λ (row : Row). key_buckets buckets held row.key) (flat_map rows_brought history) (rows_brought last)
+    ap (rows_buckets (key_buckets buckets held)) (flat_map-append brought_rows history (last ∷ []) ∙ ap (λ more. leaf_rows history ++ more) (append-nil (brought_rows last)))
+    ∙ flat_map-append (λ (row : Row). key_buckets buckets held row.key) (leaf_rows history) (brought_rows last)
 
 pub rows_next : (old set new : ℕ → Bool) (buckets : ℕ) (held : SchemaLists) (rows : List Row) (i : ℕ) (row : Row) → i < length rows → row ≡ get_or rows i row
-    → Adds old set (rows_buckets buckets held (take i rows)) → Adds set new (key_buckets buckets held row.key) → Adds old new (rows_buckets buckets held (take (i + 1) rows))
+    → Adds old set (rows_buckets (key_buckets buckets held) (take i rows)) → Adds set new (key_buckets buckets held row.key) → Adds old new (rows_buckets (key_buckets buckets held) (take (i + 1) rows))
 rows_next old set new buckets held rows i row below is so_far adds =
-    subst (λ (all : List Row). Adds old new (rows_buckets buckets held all))
+    subst (λ (all : List Row). Adds old new (rows_buckets (key_buckets buckets held) all))
     (sym (take_more rows i row below ∙ ap (λ (r : Row). take i rows ++ r ∷ []) (sym is)))
     (subst (Adds old new) (sym (rows_more buckets held (take i rows) row))
-    (adds_more old set new (rows_buckets buckets held (take i rows)) (key_buckets buckets held row.key) so_far adds))
+    (adds_more old set new (rows_buckets (key_buckets buckets held) (take i rows)) (key_buckets buckets held row.key) so_far adds))

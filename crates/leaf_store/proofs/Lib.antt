@@ -1,8 +1,7 @@
 mod BucketLemmas
 mod EntryLemmas
-mod FirstLemmas
-mod HistoryLemmas
-mod MetricLemmas
+mod FollowLemmas
+mod KnownLemmas
 mod ReplicaLemmas
 mod StateLemmas
 mod StepLemmas

@@ -13,8 +13,8 @@ use Rattle.leaf_store.specs.LeafStates.{opened_rows}
 use Rattle.leaf_store.specs.contracts.replicas.ReplicaPartialEq.TheImpl as derived
 use Rattle.leaf_store.specs.declared.replicas.Replica.{Replica}
 use Rattle.leaf_store.specs.within.Replicas.{HoldsHistory, IsPut, Replicas, rows_held}
-use Rattle.leaf_store.proofs.FirstLemmas.{IsFirst, first_found, first_position, get_there}
-use Rattle.leaf_store.proofs.HistoryLemmas.{no_rows, opened_more, opened_same, parts_same, rows_push, same_tests}
+use Rattle.mon_series.proofs.FirstLemmas.{IsFirst, first_found, first_position, get_there}
+use Rattle.mon_value.proofs.LeafHistoryLemmas.{no_rows, opened_more, opened_same, parts_same, replica_rows-push, same_tests}
 
 -- ---- the test of a replica
 
@@ -128,7 +128,7 @@ opened_as_before : (range : Range) (slot : Slot) (history : List Entry) (last : 
 opened_as_before range slot history last none =
     let opened : is_opened range slot (history ++ last ∷ []) ≡ is_opened range slot history =
     opened_more range slot history (last ∷ []) ∙ ap (λ b. is_opened range slot history || b) none ∙ or_false (is_opened range slot history) in
-    let rows = rows_push range slot history last in
+    let rows = replica_rows-push range slot history last in
     λ i. cond (opened i) (Some (rows i)) None
 
 pub holds_put : (old new : Replicas) (history : List Entry) (pass : ℕ) (range : Range) (slot : Slot) (row : Row)
@@ -163,7 +163,7 @@ holds_opened old new history pass range slot rows formed fresh held takes = λ o
     let same = same_replica other place range slot in
     let last = entry.Opened pass range slot rows in
     let opened = opened_more other place history (last ∷ []) in
-    let all = rows_push other place history last in
+    let all = replica_rows-push other place history last in
     takes other place
     ∙ ap (cond same (Some rows)) (held other place)
     ∙ opened_by same (is_opened other place history) (replica_rows other place history) rows

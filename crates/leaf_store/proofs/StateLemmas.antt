@@ -11,14 +11,16 @@ use Rattle.mon_value.specs.LeafHistories.{IsWellFormed, MayFollow, is_down, is_d
 use Rattle.mon_value.specs.declared.histories.Entry.{Entry}
 use Rattle.mon_value.specs.declared.histories.Entry.TheVariants as entry
 use Rattle.mon_value.specs.declared.limits.TheConstants.{MOST_SWITCHES}
-use Rattle.leaf_store.specs.LeafBuckets.{history_buckets, rows_brought, rows_buckets}
+use Rattle.mon_hints.specs.HistoryBuckets.{history_buckets, rows_buckets}
+use Rattle.mon_value.specs.LeafHistories.{brought_rows}
+use Rattle.leaf_store.specs.LeafBuckets.{key_buckets}
 use Rattle.leaf_store.specs.declared.kept.Kept.{Kept}
 use Rattle.leaf_store.specs.within.Raises.{Adds}
 use Rattle.leaf_store.specs.within.Replicas.{AllThere, Holds, Replicas, shown}
 use Rattle.leaf_store.specs.within.States.{AllSwitches}
 use Rattle.leaf_store.proofs.BucketLemmas.{history_more}
 use Rattle.leaf_store.proofs.EntryLemmas.{shown_count}
-use Rattle.leaf_store.proofs.HistoryLemmas.{down_push, follows}
+use Rattle.mon_value.proofs.LeafHistoryLemmas.{down_push, follows}
 
 -- the history with an entry more
 pub history_push : (first fresh : List Entry) (moved : ℕ) (last : Entry) → moved ≤ length fresh
@@ -73,20 +75,20 @@ waits_push (e ∷ left) last is all = (all.0, waits_push left last is all.1)
 
 -- the set of a history's buckets
 abbrev pub HasBuckets : (ℕ → Bool) → ℕ → SchemaLists → List Entry → Type 0
-HasBuckets set buckets held history = (bucket : ℕ) → set bucket ≡ is_among bucket (history_buckets buckets held history)
+HasBuckets set buckets held history = (bucket : ℕ) → set bucket ≡ is_among bucket (history_buckets (key_buckets buckets held) history)
 
-no_rows : (buckets : ℕ) (held : SchemaLists) (last : Entry) → is_switch last ≡ true → rows_buckets buckets held (rows_brought last) ≡ []
+no_rows : (buckets : ℕ) (held : SchemaLists) (last : Entry) → is_switch last ≡ true → rows_buckets (key_buckets buckets held) (brought_rows last) ≡ []
 no_rows buckets held (entry.Opened pass range slot rows) is = absurd cc
 no_rows buckets held (entry.Put pass range slot row) is = absurd cc
 no_rows buckets held (entry.Down pass) is = refl
 no_rows buckets held (entry.Up pass) is = refl
 
 pub raised_push : (old new : ℕ → Bool) (buckets : ℕ) (held : SchemaLists) (history : List Entry) (last : Entry) → HasBuckets old buckets held history
-    → Adds old new (rows_buckets buckets held (rows_brought last)) → HasBuckets new buckets held (history ++ last ∷ [])
+    → Adds old new (rows_buckets (key_buckets buckets held) (brought_rows last)) → HasBuckets new buckets held (history ++ last ∷ [])
 raised_push old new buckets held history last has adds bucket =
-    let own = rows_buckets buckets held (rows_brought last) in
+    let own = rows_buckets (key_buckets buckets held) (brought_rows last) in
     adds bucket ∙ ap (λ b. b || is_among bucket own) (has bucket)
-    ∙ sym (ap (is_among bucket) (history_more buckets held history last) ∙ list_any-append (λ other. bucket == other) (history_buckets buckets held history) own)
+    ∙ sym (ap (is_among bucket) (history_more buckets held history last) ∙ list_any-append (λ other. bucket == other) (history_buckets (key_buckets buckets held) history) own)
 
 pub raised_switch : (set : ℕ → Bool) (buckets : ℕ) (held : SchemaLists) (history : List Entry) (last : Entry) → is_switch last ≡ true
     → HasBuckets set buckets held history → HasBuckets set buckets held (history ++ last ∷ [])

@@ -1,11 +1,10 @@
 -- Entries that are brought to their replicas one by one, and the rows that entries bring.
-use Rattle.std.proofs.Common.{◌≡◌, ◌∙◌, ◌≤◌, ◌<◌, ◌+◌, ◌-◌, nat_lt, ℕ, zero, suc, Bool, true, false, cond, Option, Some, None, IfSome, List, [], ◌∷◌, ◌++◌, length, take, get_or, slice_get, refl, sym, ap, subst, append_assoc, append-nil, arith}
+use Rattle.std.proofs.Common.{◌≡◌, ◌∙◌, ◌≤◌, ◌<◌, ◌+◌, ◌-◌, ℕ, zero, suc, Bool, true, false, cond, Option, Some, None, IfSome, List, [], ◌∷◌, ◌++◌, length, take, get_or, slice_get, refl, sym, ap, subst, append_assoc, append-nil, arith}
 use Rattle.std.specs.Prelude.{is_some}
-use Rattle.std.proofs.lemmas.Bool.Decides.{nat_tests}
 use Rattle.std.proofs.lemmas.List.{length-append, take-append-le, take_more}
 use Rattle.std.proofs.lemmas.Option.{get_or_from_slice_get, slice_get_within}
 use Rattle.std.proofs.lemmas.List.Concat.{flat_map-append}
-use Rattle.std.proofs.Math.Seq.{take-append-add, take-length}
+use Rattle.std.proofs.Math.Seq.{take-append-add}
 use Rattle.mon_series.proofs.SourceEnds.{source_later}
 use Rattle.mon_value.specs.LeafHistories.{IsWellFormed, entry_rows, is_opened, is_switch, replica_rows}
 use Rattle.mon_value.specs.declared.histories.Entry.{Entry}
@@ -16,10 +15,10 @@ use Rattle.mon_value.specs.declared.rows.Row.{Row}
 use Rattle.leaf_store.specs.LeafStates.{opened_rows}
 use Rattle.leaf_store.specs.declared.kept.Kept.{Kept}
 use Rattle.leaf_store.specs.declared.replicas.Replica.{Replica}
-use Rattle.leaf_store.specs.within.Replicas.{AllThere, CanPut, CanSettle, Holds, HoldsHistory, IsNew, Replicas, Settles, entry_of, shown}
+use Rattle.leaf_store.specs.within.Replicas.{AllThere, CanPut, CanSettle, Holds, HoldsHistory, IsNew, Replicas, Settles, all_rows, entry_of, rows_held, shown}
 use Rattle.leaf_store.specs.within.States.{AllSwitches}
 use Rattle.leaf_store.proofs.EntryLemmas.{shown_count, shown_kept, shown_push, shown_take, there_push}
-use Rattle.leaf_store.proofs.HistoryLemmas.{follows, front, rows_push}
+use Rattle.mon_value.proofs.LeafHistoryLemmas.{follows, front, no_rows, replica_rows-push}
 use Rattle.leaf_store.proofs.ReplicaLemmas.{switch_rows}
 
 -- ---- one entry
@@ -90,24 +89,6 @@ switches_rows range slot history (e ∷ left) all =
     ∙ switches_rows range slot (history ++ e ∷ []) left all.1
     ∙ switch_rows range slot history e none.0 none.1
 
--- ---- rows of the first so many entries
-
-pub rows_of_cut : (range : Range) (slot : Slot) (first left : List Entry) (cut : ℕ) (b : Bool) → nat_lt cut (length first) ≡ b
-    → replica_rows range slot (take (cond b cut (length first)) first) ++ replica_rows range slot (take (cut - cond b cut (length first)) left)
-    ≡ replica_rows range slot (take cut (first ++ left))
-rows_of_cut range slot first left cut true less =
-    let none : cut - cut ≡ 0 = omega arith in
-    ap (λ n. replica_rows range slot (take cut first) ++ replica_rows range slot (take n left)) none
-    ∙ append-nil (replica_rows range slot (take cut first))
-    ∙ ap (replica_rows range slot) (sym (take-append-le cut first left (grind (arith, nat_tests))))
-rows_of_cut range slot first left cut false less =
-    let long : length first ≤ cut = grind (arith, nat_tests) in
-    let sum : cut ≡ length first + (cut - length first) = omega (arith, long) in
-    ap (λ (es : List Entry). replica_rows range slot es ++ replica_rows range slot (take (cut - length first) left)) (take-length first)
-    ∙ sym (flat_map-append (entry_rows range slot) first (take (cut - length first) left))
-    ∙ ap (replica_rows range slot) (sym (take-append-add first left (cut - length first)))
-    ∙ ap (λ n. replica_rows range slot (take n (first ++ left))) (sym sum)
-
 -- ---- the rows of entries, one entry more
 
 pub brought_more : (range : Range) (slot : Slot) (before rows more : List Row) (es : List Entry) (e : Entry) → rows ≡ before ++ replica_rows range slot es
@@ -115,7 +96,7 @@ pub brought_more : (range : Range) (slot : Slot) (before rows more : List Row) (
 brought_more range slot before rows more es e so_far added =
     added ∙ ap (λ (all : List Row). all ++ entry_rows range slot e) so_far
     ∙ append_assoc before (replica_rows range slot es) (entry_rows range slot e)
-    ∙ ap (λ (all : List Row). before ++ all) (sym (rows_push range slot es e))
+    ∙ ap (λ (all : List Row). before ++ all) (sym (replica_rows-push range slot es e))
 
 kept_by : (range : Range) (slot : Slot) (before rows more : List Row) (replicas : Replicas) (ks : List Kept) (k : Kept) (o : Option Entry) → entry_of replicas k ≡ o
     → is_some o ≡ true → IfSome o (λ e. more ≡ rows ++ entry_rows range slot e) → rows ≡ before ++ replica_rows range slot (shown replicas ks)
@@ -148,24 +129,35 @@ pub take_next : (rows : List Row) (n : ℕ) (row : Row) → slice_get rows n ≡
 take_next rows n row e =
     take_more rows n row (slice_get_within rows n row e) ∙ ap (λ (r : Row). take n rows ++ r ∷ []) (get_or_from_slice_get rows n row row e)
 
-pub rows_cut : (range : Range) (slot : Slot) (replicas : Replicas) (ks : List Kept) (left : List Entry) (cut : ℕ) → AllThere replicas ks
-    → replica_rows range slot (shown replicas (take (cond (nat_lt cut (length ks)) cut (length ks)) ks))
-    ++ replica_rows range slot (take (cut - cond (nat_lt cut (length ks)) cut (length ks)) left)
+-- ---- rows of the first so many entries
+
+pub rows_early : (range : Range) (slot : Slot) (replicas : Replicas) (ks : List Kept) (left : List Entry) (cut : ℕ) → AllThere replicas ks → cut < length ks
+    → replica_rows range slot (shown replicas (take cut ks)) ≡ replica_rows range slot (take cut (shown replicas ks ++ left))
+rows_early range slot replicas ks left cut there less =
+    let within : cut ≤ length (shown replicas ks) = omega (arith, less, shown_count replicas ks there) in
+    ap (replica_rows range slot) ((shown_take replicas ks cut there).0 ∙ sym (take-append-le cut (shown replicas ks) left within))
+
+held_all : (b : Bool) (own : List Row) (rows : Option (List Row)) → rows ≡ cond b (Some own) None → (b ≡ false → own ≡ []) → all_rows rows ≡ own
+held_all true own rows is none = ap all_rows is
+held_all false own rows is none = ap all_rows is ∙ sym (none refl)
+
+pub rows_late : (range : Range) (slot : Slot) (replicas : Replicas) (ks : List Kept) (left : List Entry) (cut : ℕ) → Holds replicas ks left → length ks ≤ cut
+    → all_rows (rows_held replicas range slot) ++ replica_rows range slot (take (cut - length ks) left)
     ≡ replica_rows range slot (take cut (shown replicas ks ++ left))
-rows_cut range slot replicas ks left cut there =
-    let n = cond (nat_lt cut (length ks)) cut (length ks) in
-    ap (λ (es : List Entry). replica_rows range slot es ++ replica_rows range slot (take (cut - n) left)) (shown_take replicas ks n there).0
-    ∙ subst (λ (m : ℕ). replica_rows range slot (take (cond (nat_lt cut m) cut m) (shown replicas ks)) ++ replica_rows range slot (take (cut - cond (nat_lt cut m) cut m) left)
-    ≡ replica_rows range slot (take cut (shown replicas ks ++ left))) (shown_count replicas ks there)
-    (rows_of_cut range slot (shown replicas ks) left cut (nat_lt cut (length (shown replicas ks))) refl)
+rows_late range slot replicas ks left cut holds more =
+    let first = shown replicas ks in
+    let count = shown_count replicas ks holds.there in
+    let all = held_all (is_opened range slot first) (replica_rows range slot first) (rows_held replicas range slot) (holds.holds range slot)
+    (λ never. no_rows range slot first (front first left holds.formed) never) in
+    let sum : cut ≡ length first + (cut - length ks) = omega (arith, more, count) in
+    ap (λ (rows : List Row). rows ++ replica_rows range slot (take (cut - length ks) left)) all
+    ∙ sym (flat_map-append (entry_rows range slot) first (take (cut - length ks) left))
+    ∙ ap (replica_rows range slot) (sym (take-append-add first left (cut - length ks)))
+    ∙ ap (λ n. replica_rows range slot (take n (first ++ left))) (sym sum)
 
 -- what is left of a cut behind the entries that are kept is among those that are left
-cut_by : (first left cut : ℕ) (b : Bool) → nat_lt cut first ≡ b → cut ≤ first + left → cut - cond b cut first ≤ left
-cut_by first left cut true less within = omega arith
-cut_by first left cut false less within = omega (arith, within)
-
 pub cut_left : (replicas : Replicas) (ks : List Kept) (left : List Entry) (cut : ℕ) → AllThere replicas ks → cut ≤ length (shown replicas ks ++ left)
-    → cut - cond (nat_lt cut (length ks)) cut (length ks) ≤ length left
-cut_left replicas ks left cut there within =
+    → length ks ≤ cut → cut - length ks ≤ length left
+cut_left replicas ks left cut there within more =
     let count = length-append (shown replicas ks) left in
-    cut_by (length ks) (length left) cut (nat_lt cut (length ks)) refl (omega (arith, within, count, shown_count replicas ks there))
+    omega (arith, within, more, count, shown_count replicas ks there)

@@ -1,4 +1,3 @@
 pub mod LeafBuckets
 pub mod LeafStates
-pub mod MetricNumbers
 pub mod within

@@ -1,5 +1,5 @@
--- What only proofs read: how replicas, their series by metric and a leaf's state are kept.
-pub mod Metrics
+-- What only proofs read: how replicas and a leaf's state are kept.
+pub mod Follows
 pub mod Raises
 pub mod Replicas
 pub mod States

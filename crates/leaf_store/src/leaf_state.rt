@@ -1,16 +1,20 @@
 // The state of a leaf.
-ghost use Rattle.std.specs.Prelude.{◌≡◌, ◌++◌, ◌∷◌, ◌-◌, ◌<◌, ◌≤◌, ◌+◌, ◌^◌, ◌==◌, Bool, is_some, [], length, take, drop, false, true, not, nat_lt, IfOk, IfSome, IfNone, OnOk, OnErr, IsTrue, if◌then◌else◌};
+ghost use Rattle.std.specs.Prelude.{◌≡◌, ◌++◌, ◌∷◌, ◌-◌, ◌<◌, ◌≤◌, ◌+◌, ◌^◌, ◌==◌, Bool, is_some, [], length, take, drop, false, true, not, nat_lt, IfOk, IfSome, IfNone, OnOk, OnErr, IsTrue, vec_capacity, if◌then◌else◌};
+ghost use Rattle.std.specs.List.{count_by};
 ghost use Rattle.std.specs.Option.{option_copied};
 ghost use Rattle.mon_hints.specs.BucketSets.{HasNone, IsNext};
 ghost use Rattle.mon_hints.specs.Listings.{is_among};
-ghost use Rattle.mon_value.specs.LeafHistories.{IsWellFormed, is_down, is_down_after, is_opened, is_switch, replica_rows};
-ghost use Rattle.leaf_store.specs.LeafBuckets.{history_buckets, is_unraised};
+ghost use Rattle.mon_value.specs.LeafHistories.{IsWellFormed, MayFollow, brought_rows, is_down, is_down_after, is_opened, is_switch, replica_rows};
+ghost use Rattle.mon_value.specs.Sources.{IsSource};
+ghost use Rattle.mon_hints.specs.HistoryBuckets.{history_buckets};
+ghost use Rattle.leaf_store.specs.LeafBuckets.{key_buckets, is_unraised};
 ghost use Rattle.leaf_store.specs.LeafStates.{new_leaf, opened_rows, with_entry, with_promised, with_settled};
+ghost use Rattle.leaf_store.specs.within.Follows.{CanTake};
 
 use crate::kept::Kept;
-use crate::raised::Raised;
-use crate::replays::{push_all_brought, push_all_kept, settle_entries};
-use crate::replicas::{Replica, Replicas, rows_of};
+use crate::raised::{Raised, raise};
+use crate::replays::{push_all_brought, push_all_kept, push_held, settle_entries};
+use crate::replicas::{Replica, Replicas, is_new, rows_of, takes};
 use crate::slot_rows::SlotRows;
 use mon_hints::MOST_BUCKETS;
 use mon_schema::Schemas;
@@ -121,16 +125,17 @@ impl LeafState {
         self.down
     }
 
-    /// How many entries the history has.
+    /// How many entries the history has. It is one that a leaf can have.
     pub fn length(&self) -> u64
         ensures length { result ≡ length self.now.history }
+        ensures formed { IsWellFormed self.now.history }
     {
         (self.kept.len() + (self.fresh.len() - self.moved)) as u64
     }
 
     /// Whether a series of the history has a bucket.
     pub fn has(&self, bucket: u32) -> bool
-        ensures has { result ≡ is_among bucket (history_buckets self.now.buckets self.now.schemas self.now.history) }
+        ensures has { result ≡ is_among bucket (history_buckets (key_buckets self.now.buckets self.now.schemas) self.now.history) }
     {
         self.raised.has(bucket)
     }
@@ -141,6 +146,78 @@ impl LeafState {
         ensures rows { option_copied result ≡ opened_rows range slot self.now.history }
     {
         rows_of(&self.replicas, Replica { range, slot })
+    }
+
+    /// Whether an entry may come next, whose rows are in the order of their series' points.
+    pub fn may_follow(&self, entry: &Entry) -> bool
+        requires settled { IsTrue self.now.settled }
+        requires source { IsSource (brought_rows entry.now) }
+        ensures may { IsTrue result → MayFollow self.now.history entry.now }
+        ensures follows { IsTrue result → IsWellFormed (self.now.history ++ entry.now ∷ []) }
+        ensures refused { result ≡ false → MayFollow self.now.history entry.now → ⊥ }
+    {
+        match entry {
+            Entry::Opened { range, slot, .. } => self.may_open(Replica {
+                range: *range,
+                slot: *slot,
+            }),
+            Entry::Put {
+                range,
+                slot,
+                row,
+                ..
+            } => self.may_put(
+                Replica {
+                    range: *range,
+                    slot: *slot,
+                },
+                row,
+            ),
+            Entry::Down { .. } => self.may_switch(false),
+            Entry::Up { .. } => self.may_switch(true),
+        }
+    }
+
+    // Whether the leaf is up and a replica was not opened there.
+    fn may_open(&self, replica: Replica) -> bool
+        requires settled { IsTrue self.now.settled }
+        ensures formed { IsWellFormed self.now.history }
+        ensures may { IsTrue result → (is_down self.now.history ≡ false)
+            × (is_opened replica.range replica.slot self.now.history ≡ false) }
+        ensures refused { result ≡ false → is_down self.now.history ≡ false
+            → is_opened replica.range replica.slot self.now.history ≡ false → ⊥ }
+    {
+        if self.down {
+            return false;
+        }
+        is_new(&self.replicas, replica)
+    }
+
+    // Whether the leaf is up and a row may be put to a replica.
+    fn may_put(&self, replica: Replica, row: &Row) -> bool
+        requires settled { IsTrue self.now.settled }
+        ensures formed { IsWellFormed self.now.history }
+        ensures may { IsTrue result → CanTake self.now.history replica row.now }
+        ensures refused { result ≡ false → CanTake self.now.history replica row.now → ⊥ }
+    {
+        if self.down {
+            return false;
+        }
+        takes(&self.replicas, replica, row)
+    }
+
+    // Whether the leaf is down, or up, and may be switched.
+    fn may_switch(&self, down: bool) -> bool
+        ensures formed { IsWellFormed self.now.history }
+        ensures may { IsTrue result → (is_down self.now.history ≡ down)
+            × (count_by is_switch self.now.history < MOST_SWITCHES) }
+        ensures refused { result ≡ false → is_down self.now.history ≡ down
+            → count_by is_switch self.now.history < MOST_SWITCHES → ⊥ }
+    {
+        if self.down != down {
+            return false;
+        }
+        0 < self.switches_left
     }
 
     /// Appends an entry. One with rows takes the place that was promised; a switch has its place since `new`. No memory is
@@ -157,7 +234,13 @@ impl LeafState {
                 self.fresh.push_reserved(entry);
             }
             None => {
-                self.raised.add_entry(&self.schemas, self.buckets, &entry);
+                raise(
+                    &mut self.raised,
+                    &self.replicas,
+                    &self.schemas,
+                    self.buckets,
+                    &entry,
+                );
                 self.promised -= 1;
                 self.settled = false;
                 self.fresh.push_reserved(entry);
@@ -178,7 +261,7 @@ impl LeafState {
             self.fresh.as_slice(),
             &mut self.moved,
         )?;
-        self.fresh.clear();
+        clear(&mut self.fresh, self.promised + self.switches_left);
         self.moved = 0;
         self.settled = true;
         Ok(())
@@ -207,23 +290,40 @@ impl LeafState {
         ensures rows { IfOk result (λ rows. rows ≡ replica_rows range slot (take cut self.now.history)) }
     {
         let replica = Replica { range, slot };
-        let kept = first_of(cut as usize, self.kept.len());
-        let left = behind(self.fresh.as_slice(), self.moved);
+        let cut = cut as usize;
         let mut rows = RowList::new(self.alloc);
-        push_all_kept(
-            self.alloc,
-            &mut rows,
-            &self.replicas,
-            replica,
-            &self.kept[..kept],
-        )?;
+        if cut < self.kept.len() {
+            push_all_kept(
+                self.alloc,
+                &mut rows,
+                &self.replicas,
+                replica,
+                &self.kept[..cut],
+            )?;
+            return Ok(rows);
+        }
+        push_held(self.alloc, &mut rows, &self.replicas, replica)?;
+        let left = behind(self.fresh.as_slice(), self.moved);
         push_all_brought(
             self.alloc,
             &mut rows,
             replica,
-            in_front(left, cut as usize - kept),
+            in_front(left, cut - self.kept.len()),
         )?;
         Ok(rows)
+    }
+}
+
+// Takes out all entries, and gives memory back but for the room of so many, where there is room for more than twice as
+// many.
+fn clear(entries: &mut Vec<Entry>, room: usize)
+    requires room { room ≤ vec_capacity entries.old }
+    ensures empty { entries.new.items ≡ [] }
+    ensures room { room ≤ vec_capacity entries.new }
+{
+    entries.clear();
+    if room < entries.capacity() / 2 {
+        entries.shrink_to(room);
     }
 }
 
@@ -241,13 +341,6 @@ fn in_front(entries: &[Entry], count: usize) -> &[Entry]
     ensures front { result.now ≡ take count entries.now }
 {
     &entries[..count]
-}
-
-// The lesser of two numbers.
-fn first_of(number: usize, other: usize) -> usize
-    ensures { result ≡ (if nat_lt number other then number else other) }
-{
-    if number < other { number } else { other }
 }
 
 // Whether an entry says that the leaf went down, or that it came up.

@@ -3,7 +3,6 @@
 
 mod kept;
 mod leaf_state;
-mod metrics;
 mod raised;
 mod replays;
 mod replicas;

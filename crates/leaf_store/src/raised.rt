@@ -1,11 +1,14 @@
 // The buckets that a leaf's series have.
-ghost use Rattle.std.specs.Prelude.{◌≡◌, ◌<◌, ◌≤◌, IfSome, IfNone};
+ghost use Rattle.std.specs.Prelude.{◌≡◌, ◌<◌, ◌≤◌, IfSome, IfNone, IsTrue};
 ghost use Rattle.mon_hints.specs.BucketSets.{HasNone, IsNext, is_set, no_bucket, with_bucket};
 ghost use Rattle.mon_hints.specs.Hints.{series_buckets};
 ghost use Rattle.mon_hints.specs.Listings.{is_among};
-ghost use Rattle.leaf_store.specs.LeafBuckets.{key_buckets, rows_brought, rows_buckets};
-ghost use Rattle.leaf_store.specs.within.Raises.{Adds, is_left};
+ghost use Rattle.mon_hints.specs.HistoryBuckets.{rows_buckets};
+ghost use Rattle.mon_value.specs.LeafHistories.{brought_rows};
+ghost use Rattle.leaf_store.specs.LeafBuckets.{key_buckets};
+ghost use Rattle.leaf_store.specs.within.Raises.{Adds, HoldsBuckets, IsKnown, is_left};
 
+use crate::replicas::{Replica, Replicas, has_series};
 use mon_hints::{MOST_BUCKETS, next_bucket};
 use mon_schema::Schemas;
 use mon_value::{Entry, MetricSchema, Row, SeriesKey, TargetSchema};
@@ -47,7 +50,7 @@ impl Raised {
     pub(crate) fn add_entry(&mut self, schemas: &Schemas, buckets: u32, entry: &Entry)
         requires some { 0 < buckets }
         requires most { buckets ≤ MOST_BUCKETS }
-        ensures added { Adds (is_set self.old.words) (is_set self.new.words) (rows_buckets buckets schemas.now (rows_brought entry.now)) }
+        ensures added { Adds (is_set self.old.words) (is_set self.new.words) (rows_buckets (key_buckets buckets schemas.now) (brought_rows entry.now)) }
     {
         match entry {
             Entry::Opened { rows, .. } => self.add_rows(schemas, buckets, rows.as_slice()),
@@ -60,7 +63,7 @@ impl Raised {
     fn add_rows(&mut self, schemas: &Schemas, buckets: u32, rows: &[Row])
         requires some { 0 < buckets }
         requires most { buckets ≤ MOST_BUCKETS }
-        ensures added { Adds (is_set self.old.words) (is_set self.new.words) (rows_buckets buckets schemas.now rows.now) }
+        ensures added { Adds (is_set self.old.words) (is_set self.new.words) (rows_buckets (key_buckets buckets schemas.now) rows.now) }
     {
         for row in rows {
             self.add_key(schemas, buckets, &row.key);
@@ -125,6 +128,47 @@ impl Raised {
             place = bucket + 1;
         }
         None
+    }
+}
+
+/// Adds the buckets of the series that an entry brings, unless its replica has that series.
+pub(crate) fn raise(
+    raised: &mut Raised,
+    replicas: &Replicas,
+    schemas: &Schemas,
+    buckets: u32,
+    entry: &Entry,
+)
+    requires some { 0 < buckets }
+    requires most { buckets ≤ MOST_BUCKETS }
+    requires held { HoldsBuckets replicas.now.entries (key_buckets buckets schemas.now) (is_set raised.old.words) }
+    ensures added { Adds (is_set raised.old.words) (is_set raised.new.words) (rows_buckets (key_buckets buckets schemas.now) (brought_rows entry.now)) }
+{
+    if is_known(replicas, entry) {
+        return;
+    }
+    raised.add_entry(schemas, buckets, entry);
+}
+
+// Whether an entry's row is of a series that its replica has.
+fn is_known(replicas: &Replicas, entry: &Entry) -> bool
+    ensures known { IsTrue result → IsKnown replicas.now.entries entry.now }
+{
+    match entry {
+        Entry::Put {
+            range,
+            slot,
+            row,
+            ..
+        } => has_series(
+            replicas,
+            Replica {
+                range: *range,
+                slot: *slot,
+            },
+            &row.key,
+        ),
+        _ => false,
     }
 }
 

@@ -1,10 +1,10 @@
 // How the entries of a history reach replicas, and what they brought to one.
 ghost use Rattle.std.specs.Prelude.{◌≡◌, ◌≤◌, ◌++◌, length, drop, take, is_some, IfSome, OnOk, true};
 ghost use Rattle.mon_value.specs.LeafHistories.{entry_rows, replica_rows};
-ghost use Rattle.leaf_store.specs.within.Replicas.{AllThere, Holds, SameHistory, entry_of, shown};
+ghost use Rattle.leaf_store.specs.within.Replicas.{AllThere, Holds, SameHistory, all_rows, entry_of, rows_held, shown};
 
 use crate::kept::Kept;
-use crate::replicas::{Replica, Replicas, is_same, own_rows, settle_entry};
+use crate::replicas::{Replica, Replicas, is_same, own_rows, rows_of, settle_entry};
 use crate::slot_rows::SlotRows;
 use mon_value::{Entry, OutOfMemory, Row, RowList, TryCopy};
 use std::alloc::Global;
@@ -84,6 +84,22 @@ fn push_kept(
             None => Ok(()),
         },
         Kept::Down { .. } | Kept::Up { .. } => Ok(()),
+    }
+}
+
+/// Adds copies of all rows that a replica has.
+pub(crate) fn push_held(
+    alloc: Global,
+    rows: &mut RowList,
+    replicas: &Replicas,
+    replica: Replica,
+) -> Result<(), OutOfMemory>
+    ensures added { OnOk result (rows.new ≡ rows.old
+        ++ all_rows (rows_held replicas.now.entries replica.range replica.slot)) }
+{
+    match rows_of(replicas, replica) {
+        Some(slot) => push_front(alloc, rows, slot, slot.rows().len()),
+        None => Ok(()),
     }
 }
 

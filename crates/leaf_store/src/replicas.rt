@@ -1,14 +1,14 @@
 // The replicas that a leaf keeps, and entries whose rows go to them.
-ghost use Rattle.std.specs.Prelude.{◌≡◌, ◌++◌, ◌∷◌, ◌<ℤ◌, [], length, slice_get, IfOk, IfSome, OnErr, OnOk};
+ghost use Rattle.std.specs.Prelude.{◌≡◌, ◌++◌, ◌∷◌, [], true, false, is_some, length, slice_get, IfOk, IsTrue, OnErr, OnOk};
 ghost use Rattle.std.specs.Option.{option_copied};
 ghost use Rattle.mon_value.specs.LeafHistories.{same_replica};
 ghost use Rattle.mon_value.specs.Sources.{IsSource, last_end, points_of};
-ghost use Rattle.leaf_store.specs.within.Replicas.{CanPut, CanSettle, IsNew, IsOpened, IsPut, Settles, rows_held, rows_if};
+ghost use Rattle.leaf_store.specs.within.Replicas.{CanPut, CanSettle, HasSeries, IsLater, IsNew, IsOpened, IsPut, Settles, rows_held, rows_if};
 
 use crate::kept::Kept;
 use crate::slot_rows::SlotRows;
 use indexmap::IndexMap;
-use mon_value::{Entry, OutOfMemory, Range, Row, Slot, TryCopy};
+use mon_value::{Entry, OutOfMemory, Range, Row, SeriesKey, Shared, Slot, TryCopy};
 use std::alloc::{AllocError, Global};
 
 /// A replica of a range: what its rows are found by.
@@ -33,6 +33,53 @@ pub(crate) fn rows_of(replicas: &Replicas, replica: Replica) -> Option<&SlotRows
     ensures found { option_copied result ≡ rows_held replicas.now.entries replica.range replica.slot }
 {
     replicas.get(&replica)
+}
+
+/// Whether a replica was never opened.
+pub(crate) fn is_new(replicas: &Replicas, replica: Replica) -> bool
+    ensures new { IsTrue result → IsNew replicas.now.entries replica }
+    ensures held { result ≡ false → IsNew replicas.now.entries replica → ⊥ }
+{
+    rows_of(replicas, replica).is_none()
+}
+
+/// Whether a row may be put to a replica.
+pub(crate) fn takes(replicas: &Replicas, replica: Replica, row: &Row) -> bool
+    ensures takes { IsTrue result → CanPut replicas.now.entries replica row.now }
+    ensures refused { result ≡ false → CanPut replicas.now.entries replica row.now → ⊥ }
+{
+    match rows_of(replicas, replica) {
+        Some(slot) => ends_later(slot, row),
+        None => false,
+    }
+}
+
+// Whether a row ends later than those of its series.
+fn ends_later(slot: &SlotRows, row: &Row) -> bool
+    ensures later { IsTrue result → IsLater row.now slot.now }
+    ensures refused { result ≡ false → IsLater row.now slot.now → ⊥ }
+{
+    match slot.rows().find(&row.key) {
+        Some(found) => found.last < row.point.end,
+        None => true,
+    }
+}
+
+/// Whether a replica has a row of a series.
+pub(crate) fn has_series(replicas: &Replicas, replica: Replica, key: &Shared<SeriesKey>) -> bool
+    ensures has { IsTrue result → HasSeries replicas.now.entries replica key.now }
+{
+    match rows_of(replicas, replica) {
+        Some(slot) => is_in(slot, key),
+        None => false,
+    }
+}
+
+// Whether a series has a row.
+fn is_in(slot: &SlotRows, key: &Shared<SeriesKey>) -> bool
+    ensures has { IsTrue result → is_some (last_end (points_of key.now slot.now)) ≡ true }
+{
+    slot.rows().find(key).is_some()
 }
 
 /// The rows of the replica of a number, where it is a certain one.
@@ -146,7 +193,7 @@ fn put(
 
 // Adds a copy of a row to the rows of a replica, and gives its number.
 fn put_in(alloc: Global, slot: &mut SlotRows, row: &Row) -> Result<u32, OutOfMemory>
-    requires later { IfSome (last_end (points_of row.now.key slot.old)) (λ last. last <ℤ row.now.point.end) }
+    requires later { IsLater row.now slot.old }
     ensures place { IfOk result (λ place. place ≡ length slot.old) }
     ensures pushed { OnOk result (slot.new ≡ slot.old ++ row.now ∷ []) }
     ensures kept { OnErr result (slot.new ≡ slot.old) }

@@ -1,11 +1,9 @@
 // The rows of a replica.
 ghost use Rattle.std.specs.Prelude.{◌≡◌, ◌++◌, ◌∷◌, ◌<◌, ◌<ℤ◌, [], length, slice_get, Some, IfOk, IfSome, OnErr, OnOk};
 ghost use Rattle.mon_value.specs.Sources.{IsSource, last_end, points_of, series_of};
-ghost use Rattle.leaf_store.specs.MetricNumbers.{metric_numbers};
 
-use crate::metrics::{ByMetric, add_number, make_room, numbers_of};
 use mon_series::{KeptRows, Series};
-use mon_value::{OutOfMemory, Row, SeriesKey, Text, TryCopy};
+use mon_value::{OutOfMemory, Row, SeriesKey};
 use std::alloc::Global;
 use std::marker::Model;
 
@@ -13,9 +11,7 @@ use std::marker::Model;
 /// the order of their first rows.
 #[derive(Drop)]
 pub struct SlotRows {
-    alloc: Global,
     rows: KeptRows,
-    by_metric: ByMetric,
 }
 
 impl Model for SlotRows {
@@ -24,11 +20,7 @@ impl Model for SlotRows {
 
     ghost Value = { List Row };
 
-    ghost use Rattle.leaf_store.specs.within.Metrics.{HasNumbers};
-
     ghost view = { λ slot. slot.rows };
-
-    ghost invariant = { λ slot. HasNumbers slot.by_metric.entries slot.rows };
 }
 
 impl SlotRows {
@@ -37,15 +29,9 @@ impl SlotRows {
         requires source { IsSource rows.now }
         ensures rows { IfOk result (λ slot. slot ≡ rows.now) }
     {
-        let mut slot = SlotRows {
-            alloc,
-            rows: KeptRows::new(alloc),
-            by_metric: ByMetric::new(alloc),
-        };
-        for row in rows {
-            slot.push(row.copy(alloc)?)?;
-        }
-        Ok(slot)
+        Ok(SlotRows {
+            rows: KeptRows::of_rows(alloc, rows)?,
+        })
     }
 
     /// Adds a row at the end, whose point ends later than those of its series. Where memory runs out the rows stay.
@@ -54,25 +40,7 @@ impl SlotRows {
         ensures pushed { OnOk result (self.new ≡ self.old ++ row ∷ []) }
         ensures kept { OnErr result (self.new ≡ self.old) }
     {
-        match self.rows.find(&row.key) {
-            Some(found) => {
-                self.rows.push_to(found.number, row)?;
-                Ok(())
-            }
-            None => self.push_first(row),
-        }
-    }
-
-    // Adds the first row of a series, and its number to those of its metric.
-    fn push_first(&mut self, row: Row) -> Result<(), OutOfMemory>
-        requires first { points_of row.key self.old ≡ [] }
-        ensures pushed { OnOk result (self.new ≡ self.old ++ row ∷ []) }
-        ensures kept { OnErr result (self.new ≡ self.old) }
-    {
-        let number = self.rows.series();
-        let at = make_room(self.alloc, &mut self.by_metric, &row.key.metric)?;
-        self.rows.push_first(row)?;
-        add_number(&mut self.by_metric, at, number);
+        self.rows.push(row)?;
         Ok(())
     }
 
@@ -112,12 +80,5 @@ impl SlotRows {
         ensures points { IfSome (slice_get (series_of self.now) i) (λ key. result.now.points ≡ points_of key self.now) }
     {
         self.rows.points(i)
-    }
-
-    /// The numbers, rising, of the series of a metric.
-    pub fn of_metric(&self, metric: &Text) -> &[u32]
-        ensures numbers { result.now ≡ metric_numbers metric.now self.now }
-    {
-        numbers_of(&self.by_metric, metric)
     }
 }

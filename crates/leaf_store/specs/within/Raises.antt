@@ -1,6 +1,14 @@
 -- Sets of buckets, and the buckets that are not in one.
-use Rattle.std.specs.Prelude.{◌≡◌, ℕ, Bool, not, ◌&&◌, ◌||◌, List}
+use Rattle.std.specs.Prelude.{◌≡◌, ℕ, Bool, true, not, ◌&&◌, ◌||◌, List, Some}
+use Rattle.mon_hints.specs.HistoryBuckets.{rows_buckets}
 use Rattle.mon_hints.specs.Listings.{is_among}
+use Rattle.mon_value.specs.declared.histories.Entry.{Entry}
+use Rattle.mon_value.specs.declared.histories.Entry.TheVariants as entry
+use Rattle.mon_value.specs.declared.positions.Range.{Range}
+use Rattle.mon_value.specs.declared.positions.Slot.{Slot}
+use Rattle.mon_value.specs.declared.rows.Row.{Row}
+use Rattle.mon_value.specs.declared.rows.SeriesKey.{SeriesKey}
+use Rattle.leaf_store.specs.within.Replicas.{HasSeries, Replicas, rows_held}
 
 -- some buckets came to a set
 abbrev pub Adds : (ℕ → Bool) → (ℕ → Bool) → List ℕ → Type 0
@@ -9,3 +17,15 @@ Adds old new buckets = (bucket : ℕ) → new bucket ≡ (old bucket || is_among
 -- whether a bucket of a list is not in a set
 abbrev pub is_left : (ℕ → Bool) → List ℕ → ℕ → Bool
 is_left set buckets bucket = is_among bucket buckets && not (set bucket)
+
+-- the buckets of the replicas' rows are in a set
+abbrev pub HoldsBuckets : Replicas → (SeriesKey → List ℕ) → (ℕ → Bool) → Type 0
+HoldsBuckets replicas buckets_of set = (range : Range) → (slot : Slot) → (rows : List Row) → rows_held replicas range slot ≡ Some rows
+    → (bucket : ℕ) → is_among bucket (rows_buckets buckets_of rows) ≡ true → set bucket ≡ true
+
+-- an entry's row is of a series that its replica has
+abbrev pub IsKnown : Replicas → Entry → Type 0
+IsKnown replicas (entry.Opened pass range slot rows) = ⊥
+IsKnown replicas (entry.Put pass range slot row) = HasSeries replicas (record { range = range; slot = slot }) row.key
+IsKnown replicas (entry.Down pass) = ⊥
+IsKnown replicas (entry.Up pass) = ⊥

@@ -10,6 +10,7 @@ use Rattle.mon_value.specs.declared.histories.Entry.TheVariants as entry
 use Rattle.mon_value.specs.declared.positions.Range.{Range}
 use Rattle.mon_value.specs.declared.positions.Slot.{Slot}
 use Rattle.mon_value.specs.declared.rows.Row.{Row}
+use Rattle.mon_value.specs.declared.rows.SeriesKey.{SeriesKey}
 use Rattle.leaf_store.specs.LeafStates.{opened_rows}
 use Rattle.leaf_store.specs.declared.kept.Kept.{Kept}
 use Rattle.leaf_store.specs.declared.kept.Kept.TheVariants as kept
@@ -22,6 +23,11 @@ Replicas = List (Replica × List Row)
 -- the rows that are kept for a replica
 abbrev pub rows_held : Replicas → Range → Slot → Option (List Row)
 rows_held replicas range slot = lookup (λ replica. same_replica range slot replica.range replica.slot) replicas
+
+-- the rows of a replica, none where it isn't kept
+abbrev pub all_rows : Option (List Row) → List Row
+all_rows None = []
+all_rows (Some rows) = rows
 
 -- the rows of a replica that is a certain one
 abbrev pub rows_if : Range → Slot → Option (Replica × List Row) → Option (List Row)
@@ -68,10 +74,18 @@ AllThere replicas ks = AllByRecursion (λ k. is_some (entry_of replicas k) ≡ t
 
 -- ---- a row or a replica more
 
--- a replica has its number, and takes a row that ends later than those of its series
+-- a row ends later than those of its series
+abbrev pub IsLater : Row → List Row → Type 0
+IsLater row rows = IfSome (last_end (points_of row.key rows)) (λ last. last <ℤ row.point.end)
+
+-- a replica is kept, and takes a row that ends later than those of its series
 abbrev pub CanPut : Replicas → Replica → Row → Type 0
-CanPut replicas replica row = (rows : List Row) × (rows_held replicas replica.range replica.slot ≡ Some rows)
-    × IfSome (last_end (points_of row.key rows)) (λ last. last <ℤ row.point.end)
+CanPut replicas replica row = (rows : List Row) × (rows_held replicas replica.range replica.slot ≡ Some rows) × IsLater row rows
+
+-- a replica has a row of a series
+abbrev pub HasSeries : Replicas → Replica → SeriesKey → Type 0
+HasSeries replicas replica key = (rows : List Row) × (rows_held replicas replica.range replica.slot ≡ Some rows)
+    × (is_some (last_end (points_of key rows)) ≡ true)
 
 -- the replica of a number has a row more, which has its number too
 pub record IsPut (old new : Replicas) (replica : Replica) (row : Row) (number place : ℕ) : Type 0 where

@@ -7,7 +7,8 @@ use Rattle.mon_hints.specs.declared.fingerprints.TheConstants.{MOST_BUCKETS}
 use Rattle.mon_value.specs.LeafHistories.{is_down, is_switch}
 use Rattle.mon_value.specs.declared.histories.Entry.{Entry}
 use Rattle.mon_value.specs.declared.limits.TheConstants.{MOST_SWITCHES}
-use Rattle.leaf_store.specs.LeafBuckets.{history_buckets}
+use Rattle.mon_hints.specs.HistoryBuckets.{history_buckets}
+use Rattle.leaf_store.specs.LeafBuckets.{key_buckets}
 use Rattle.leaf_store.specs.LeafStates.{LeafView}
 use Rattle.leaf_store.specs.declared.leaf_state.LeafState.TheInside.{Inside}
 use Rattle.leaf_store.specs.within.Replicas.{Holds, shown}
@@ -39,7 +40,7 @@ pub record IsKept (leaf : Inside) : Type 0 where
   pub within : leaf.moved ≤ length leaf.fresh.items
   pub holds : Holds leaf.replicas.entries leaf.kept.items (left_of leaf)
   pub raised : (bucket : ℕ) → is_set leaf.raised.words bucket
-      ≡ is_among bucket (history_buckets leaf.buckets leaf.schemas (history_of leaf))
+      ≡ is_among bucket (history_buckets (key_buckets leaf.buckets leaf.schemas) (history_of leaf))
   pub down : leaf.down ≡ is_down (history_of leaf)
   pub switches : count_by is_switch (history_of leaf) + leaf.switches_left ≡ MOST_SWITCHES
   pub waits : leaf.settled ≡ true → AllSwitches (left_of leaf)

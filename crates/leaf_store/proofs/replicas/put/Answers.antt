@@ -1,6 +1,6 @@
 use Rattle.std.proofs.Common.{rules, ◌≡◌, ◌∙◌, sym, ap}
 use Rattle.indexmap.specs.Layout.{set_value_at}
-use Rattle.leaf_store.proofs.FirstLemmas.{on_err, set_same}
+use Rattle.mon_series.proofs.FirstLemmas.{on_err, set_same}
 use Rattle.leaf_store.proofs.ReplicaLemmas.{is_put}
 use Rattle.leaf_store.proofs.replicas.put.Goals as goal
 

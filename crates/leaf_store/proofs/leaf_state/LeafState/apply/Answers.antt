@@ -6,10 +6,12 @@ use Rattle.mon_hints.specs.BucketSets.{is_set}
 use Rattle.mon_hints.specs.Listings.{is_among}
 use Rattle.mon_value.specs.LeafHistories.{IsWellFormed, is_down, is_switch}
 use Rattle.mon_value.specs.declared.histories.Entry.{Entry}
-use Rattle.leaf_store.specs.LeafBuckets.{history_buckets}
+use Rattle.mon_hints.specs.HistoryBuckets.{history_buckets}
+use Rattle.leaf_store.specs.LeafBuckets.{key_buckets}
 use Rattle.leaf_store.specs.LeafStates.{LeafView}
 use Rattle.leaf_store.specs.within.Replicas.{Holds, shown}
 use Rattle.leaf_store.specs.within.States.{AllSwitches, history_of, left_of}
+use Rattle.leaf_store.proofs.KnownLemmas.{holds_buckets}
 use Rattle.leaf_store.proofs.StateLemmas.{count_plain, count_switch, down_plain, down_switch, history_push, holds_push, raised_push, raised_switch, switch_room, waits_push}
 use Rattle.leaf_store.proofs.leaf_state.LeafState.apply.Goals as goal
 
@@ -49,7 +51,7 @@ invariant_of-self c =
       holds = subst (λ (es : List Entry). Holds leaf.replicas.entries leaf.kept.items (drop moved es)) (sym items)
           (holds_push leaf.replicas.entries leaf.kept.items fresh moved e c.self.invariant.within c.self.invariant.holds formed);
       raised = λ bucket. raised_switch (is_set leaf.raised.words) leaf.buckets leaf.schemas history e is c.self.invariant.raised bucket
-          ∙ ap (λ (es : List Entry). is_among bucket (history_buckets leaf.buckets leaf.schemas es)) (sym all);
+          ∙ ap (λ (es : List Entry). is_among bucket (history_buckets (key_buckets leaf.buckets leaf.schemas) es)) (sym all);
       down = down_switch history e c.in-Some.down c.in-Some.ensures.down ∙ ap is_down (sym all);
       switches = let count = ap (count_by is_switch) all ∙ count_switch history e is in omega (arith, count, some, c.self.invariant.switches);
       waits = λ settled. subst AllSwitches (sym (ap (drop moved) items ∙ drop-append-le moved fresh (e ∷ []) c.self.invariant.within))
@@ -78,8 +80,8 @@ invariant_of-self-in-None c =
       within = omega (arith, more, c.self.invariant.within);
       holds = subst (λ (es : List Entry). Holds leaf.replicas.entries leaf.kept.items (drop moved es)) (sym items)
           (holds_push leaf.replicas.entries leaf.kept.items fresh moved e c.self.invariant.within c.self.invariant.holds formed);
-      raised = λ bucket. raised_push (is_set leaf.raised.words) (is_set c.add_entry.new.self.words) leaf.buckets leaf.schemas history e c.self.invariant.raised c.add_entry.ensures.added bucket
-          ∙ ap (λ (es : List Entry). is_among bucket (history_buckets leaf.buckets leaf.schemas es)) (sym all);
+      raised = λ bucket. raised_push (is_set leaf.raised.words) (is_set c.raise.new.raised.words) leaf.buckets leaf.schemas history e c.self.invariant.raised c.raise.ensures.added bucket
+          ∙ ap (λ (es : List Entry). is_among bucket (history_buckets (key_buckets leaf.buckets leaf.schemas) es)) (sym all);
       down = down_plain history e leaf.down is c.self.invariant.down ∙ ap is_down (sym all);
       switches = let count = ap (count_by is_switch) all ∙ count_plain history e is in omega (arith, count, c.self.invariant.switches);
       waits = λ settled. absurd cc;
@@ -87,3 +89,9 @@ invariant_of-self-in-None c =
       some = c.self.invariant.some;
       most = c.self.invariant.most;
     }
+
+pub raise-requires-clause-held : goal.raise-requires-clause-held
+raise-requires-clause-held c =
+    let leaf = c.self.inside in
+    holds_buckets (key_buckets leaf.buckets leaf.schemas) leaf.replicas.entries (is_set leaf.raised.words)
+    (shown leaf.replicas.entries leaf.kept.items) (left_of leaf) c.self.invariant.holds.holds c.self.invariant.raised

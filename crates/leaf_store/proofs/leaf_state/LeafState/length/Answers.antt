@@ -1,4 +1,5 @@
-use Rattle.std.proofs.Common.{rules, ◌≡◌, ◌∙◌, ◌+◌, ◌-◌, length, ap}
+use Rattle.std.proofs.Common.{rules, ◌≡◌, ◌∙◌, ◌+◌, ◌-◌, length, ap, subst}
+use Rattle.mon_value.specs.LeafHistories.{IsWellFormed}
 use Rattle.leaf_store.specs.LeafStates.{LeafView}
 use Rattle.leaf_store.proofs.StateLemmas.{history_count}
 use Rattle.leaf_store.proofs.leaf_state.LeafState.length.Goals as goal
@@ -12,4 +13,5 @@ returns c =
       length = (λ i. kept i + (fresh i - leaf.moved))
           ∙ history_count leaf.replicas.entries leaf.kept.items leaf.fresh.items leaf.moved c.self.invariant.holds.there c.self.invariant.within
           ∙ ap (λ (v : LeafView). length v.history) c.self.view_is;
+      formed = subst (λ (v : LeafView). IsWellFormed v.history) c.self.view_is c.self.invariant.holds.formed;
     }

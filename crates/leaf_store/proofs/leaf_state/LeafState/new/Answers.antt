@@ -3,7 +3,8 @@ use Rattle.std.specs.List.{count_by}
 use Rattle.mon_hints.specs.Listings.{is_among}
 use Rattle.mon_value.specs.LeafHistories.{is_down, is_switch}
 use Rattle.mon_value.specs.declared.histories.Entry.{Entry}
-use Rattle.leaf_store.specs.LeafBuckets.{history_buckets}
+use Rattle.mon_hints.specs.HistoryBuckets.{history_buckets}
+use Rattle.leaf_store.specs.LeafBuckets.{key_buckets}
 use Rattle.leaf_store.specs.within.States.{AllSwitches}
 use Rattle.leaf_store.proofs.StateLemmas.{no_history, nothing_holds}
 use Rattle.leaf_store.proofs.leaf_state.LeafState.new.Goals as goal
@@ -21,7 +22,7 @@ invariant_of-result c =
       within = omega arith;
       holds = nothing_holds replicas ks fresh none kept left;
       raised = λ bucket. ap (λ (f : ℕ → Bool). f bucket) c.new-3.ensures.none
-          ∙ sym (ap (λ (es : List Entry). is_among bucket (history_buckets c.args.buckets c.in_ok-copy.field-0 es)) history);
+          ∙ sym (ap (λ (es : List Entry). is_among bucket (history_buckets (key_buckets c.args.buckets c.in_ok-copy.field-0) es)) history);
       down = sym (ap is_down history);
       switches = ap (λ (es : List Entry). count_by is_switch es + 65536) history;
       waits = λ settled. subst (λ (es : List Entry). AllSwitches (drop 0 es)) (sym left) tt;

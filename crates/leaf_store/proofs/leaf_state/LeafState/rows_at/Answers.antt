@@ -1,10 +1,10 @@
-use Rattle.std.proofs.Common.{rules, ◌≡◌, ◌∙◌, ◌≤◌, ◌-◌, ◌++◌, ℕ, List, cond, nat_lt, length, take, drop, sym, ap, subst}
+use Rattle.std.proofs.Common.{rules, ◌≡◌, ◌∙◌, ◌<◌, ◌≤◌, ◌-◌, ◌++◌, ℕ, List, length, take, drop, sym, ap, subst}
 use Rattle.mon_value.specs.LeafHistories.{replica_rows}
 use Rattle.mon_value.specs.declared.histories.Entry.{Entry}
 use Rattle.leaf_store.specs.LeafStates.{LeafView}
-use Rattle.leaf_store.specs.within.Replicas.{shown}
+use Rattle.leaf_store.specs.within.Replicas.{all_rows, rows_held, shown}
 use Rattle.leaf_store.specs.within.States.{history_of, left_of}
-use Rattle.leaf_store.proofs.StepLemmas.{cut_left, rows_cut}
+use Rattle.leaf_store.proofs.StepLemmas.{cut_left, rows_early, rows_late}
 use Rattle.leaf_store.proofs.leaf_state.LeafState.rows_at.Goals as goal
 
 pub in_front-requires : goal.in_front-requires
@@ -12,15 +12,30 @@ in_front-requires c =
     let leaf = c.self.inside in
     let cut = c.args.cut in
     let ks = leaf.kept.items in
-    let len : c.len.result ≡ length ks = search rules in
-    let n : c.first_of-kept.result ≡ cond (nat_lt cut (length ks)) cut (length ks) =
-    c.first_of-kept.ensures ∙ ap (λ (m : ℕ). cond (nat_lt cut m) cut m) len in
+    let more : length ks ≤ cut = search rules in
+    let len : c.len-2.result ≡ length ks = search rules in
     let left : c.behind-left.result.now ≡ left_of leaf = c.behind-left.ensures.behind ∙ ap (drop leaf.moved) c.as_slice.ensures.value in
     let within : cut ≤ length (history_of leaf) = subst (λ (v : LeafView). cut ≤ length v.history) (sym c.self.view_is) c.requires.within in
-    let fits = cut_left leaf.replicas.entries ks (left_of leaf) cut c.self.invariant.holds.there within in
+    let fits = cut_left leaf.replicas.entries ks (left_of leaf) cut c.self.invariant.holds.there within more in
     record {
-      within = subst (λ (m : ℕ). cut - m ≤ length c.behind-left.result.now) (sym n)
-          (subst (λ (es : List Entry). cut - cond (nat_lt cut (length ks)) cut (length ks) ≤ length es) (sym left) fits);
+      within = subst (λ (m : ℕ). cut - m ≤ length c.behind-left.result.now) (sym len)
+          (subst (λ (es : List Entry). cut - length ks ≤ length es) (sym left) fits);
+    }
+
+pub returns-then-cut-len : goal.returns-then-cut-len
+returns-then-cut-len c =
+    let leaf = c.self.inside in
+    let range = c.args.range in
+    let slot = c.args.slot in
+    let cut = c.args.cut in
+    let ks = leaf.kept.items in
+    let replicas = leaf.replicas.entries in
+    let less : cut < length ks = search rules in
+    record {
+      rows = c.in_ok-push_all_kept.ensures.added
+          ∙ (λ i. c.new-rows.ensures.empty i ++ replica_rows range slot (shown replicas (take cut (c.deref.ensures.value i))))
+          ∙ rows_early range slot replicas ks (left_of leaf) cut c.self.invariant.holds.there less
+          ∙ ap (λ (v : LeafView). replica_rows range slot (take cut v.history)) c.self.view_is;
     }
 
 pub returns : goal.returns
@@ -31,17 +46,14 @@ returns c =
     let cut = c.args.cut in
     let ks = leaf.kept.items in
     let replicas = leaf.replicas.entries in
-    let len : c.len.result ≡ length ks = search rules in
-    let n : c.first_of-kept.result ≡ cond (nat_lt cut (length ks)) cut (length ks) =
-    c.first_of-kept.ensures ∙ ap (λ (m : ℕ). cond (nat_lt cut m) cut m) len in
+    let more : length ks ≤ cut = search rules in
+    let len : c.len-2.result ≡ length ks = search rules in
     let left : c.behind-left.result.now ≡ left_of leaf = c.behind-left.ensures.behind ∙ ap (drop leaf.moved) c.as_slice.ensures.value in
-    let kept = c.in_ok-push_all_kept.ensures.added
-    ∙ (λ i. c.new-rows.ensures.empty i ++ replica_rows range slot (shown replicas (take (n i) (c.deref.ensures.value i)))) in
-    let brought : c.in_front.result.now ≡ take (cut - cond (nat_lt cut (length ks)) cut (length ks)) (left_of leaf) =
-    c.in_front.ensures.front ∙ (λ i. take (cut - n i) (left i)) in
+    let held = c.in_ok-push_held.ensures.added ∙ (λ i. c.new-rows.ensures.empty i ++ all_rows (rows_held replicas range slot)) in
+    let brought : c.in_front.result.now ≡ take (cut - length ks) (left_of leaf) = c.in_front.ensures.front ∙ (λ i. take (cut - len i) (left i)) in
     record {
       rows = c.in_ok-push_all_brought.ensures.added
-          ∙ (λ i. kept i ++ replica_rows range slot (brought i))
-          ∙ rows_cut range slot replicas ks (left_of leaf) cut c.self.invariant.holds.there
+          ∙ (λ i. held i ++ replica_rows range slot (brought i))
+          ∙ rows_late range slot replicas ks (left_of leaf) cut c.self.invariant.holds more
           ∙ ap (λ (v : LeafView). replica_rows range slot (take cut v.history)) c.self.view_is;
     }

@@ -3,7 +3,8 @@ use Rattle.std.specs.List.{count_by}
 use Rattle.mon_hints.specs.Listings.{is_among}
 use Rattle.mon_value.specs.LeafHistories.{is_down, is_switch}
 use Rattle.mon_value.specs.declared.histories.Entry.{Entry}
-use Rattle.leaf_store.specs.LeafBuckets.{history_buckets}
+use Rattle.mon_hints.specs.HistoryBuckets.{history_buckets}
+use Rattle.leaf_store.specs.LeafBuckets.{key_buckets}
 use Rattle.leaf_store.specs.within.Replicas.{Holds, shown}
 use Rattle.leaf_store.specs.within.States.{history_of}
 use Rattle.leaf_store.proofs.StateLemmas.{later_switches}
@@ -23,7 +24,7 @@ invariant_of-self c =
     record {
       within = subst (λ (es : List Entry). moved ≤ length es) items c.settle_entries.ensures.within;
       holds = subst (λ (es : List Entry). Holds replicas ks (drop moved es)) items c.settle_entries.ensures.holds;
-      raised = λ bucket. c.self.invariant.raised bucket ∙ ap (λ (es : List Entry). is_among bucket (history_buckets leaf.buckets leaf.schemas es)) (sym same);
+      raised = λ bucket. c.self.invariant.raised bucket ∙ ap (λ (es : List Entry). is_among bucket (history_buckets (key_buckets leaf.buckets leaf.schemas) es)) (sym same);
       down = c.self.invariant.down ∙ ap is_down (sym same);
       switches = ap (λ (es : List Entry). count_by is_switch es + leaf.switches_left) same ∙ c.self.invariant.switches;
       waits = λ settled. later_switches fresh leaf.moved moved c.settle_entries.ensures.onward (c.self.invariant.waits settled);
