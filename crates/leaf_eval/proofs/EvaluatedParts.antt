@@ -15,9 +15,10 @@ use Rattle.mon_meaning.specs.declared.meter.OverLimit.{OverLimit}
 use Rattle.mon_value.specs.declared.refusals.Refusal.{Refusal}
 use Rattle.mon_value.specs.declared.refusals.Refusal.TheVariants as refusal
 use Rattle.mon_fold.specs.declared.answers.Piece.{Piece}
-use Rattle.leaf_eval.specs.Standing.{AllStandFor, StandsFor}
-use Rattle.leaf_eval.specs.LeafAnswers.{IsLeafPart, IsRefusedByLeaf, items_sent, parts_load, parts_sent}
-use Rattle.leaf_eval.proofs.StandingPieces.{sent_is, sent_within, stands-permutation}
+use Rattle.mon_meaning.specs.Standing.{AllStandFor, StandsFor}
+use Rattle.mon_meaning.specs.GoingUp.{items_sent, parts_sent}
+use Rattle.mon_meaning.specs.LeafAnswers.{IsLeafPart, IsRefusedByLeaf, parts_load}
+use Rattle.mon_meaning.proofs.StandingPieces.{sent_is, sent_within, stands-permutation}
 
 module _ (grid : Grid) (source : List Row) where
   stands-push : (parts : List TopPart) (pieces : List Piece) (part : TopPart) (piece : Piece) → AllStandFor grid source parts pieces

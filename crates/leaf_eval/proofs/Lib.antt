@@ -1,4 +1,3 @@
+mod ApartReplicas
 mod EvaluatedParts
-mod PartsToComeLemmas
 mod ReadyParts
-mod StandingPieces

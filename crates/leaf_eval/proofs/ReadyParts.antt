@@ -22,7 +22,7 @@ use Rattle.mql_types.specs.Plans.{HasFetchColumns, fetches}
 use Rattle.mql_types.specs.Soundness.{IsEvaluable, IsWithinRows}
 use Rattle.mql_types.specs.declared.levels.Level.{Level}
 use Rattle.mon_meaning.specs.Central.{IsAsked, IsPartAsked}
-use Rattle.leaf_eval.specs.LeafAnswers.{CanGoUp}
+use Rattle.mon_meaning.specs.GoingUp.{CanGoUp}
 
 -- a part that can be evaluated over series, and whose piece can be made of its rows
 pub record IsPartReady (grid : Grid) (series : List (SeriesKey × List Point)) (part : TopPart) : Type 0 where

@@ -1,4 +1,1 @@
-pub mod LeafAnswers
-pub mod PartsToCome
-pub mod Standing
-pub mod TopParts
+pub mod Replicas

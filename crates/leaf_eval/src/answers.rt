@@ -6,24 +6,23 @@ ghost use Rattle.mon_value.specs.declared.rows.Row.{Row};
 ghost use Rattle.mql_types.specs.Meaning as meant;
 ghost use Rattle.mql_types.specs.Nodes.{typed_tree};
 ghost use Rattle.mon_meaning.specs.Central.{IsAsked, all_held};
-ghost use Rattle.leaf_eval.specs.LeafAnswers.{IsLeafAnswer};
+ghost use Rattle.mon_meaning.specs.LeafAnswers.{IsLeafAnswer};
 
-use crate::parts_up::top_parts;
-use crate::pieces::{piece_of, sent_of};
+use crate::sent::sent_of;
 use mon_fold::{LeafAnswer, Pieces};
-use mon_meaning::{Meter, OverLimit, part_by_series};
-use mon_series::SeriesMap;
+use mon_meaning::{Meter, OverLimit, part_by_series, piece_of, top_parts};
+use mon_series::KeptRows;
 use mon_value::{Grid, Refusal};
 use mql_types::{Level, Plan, Typed};
 use std::alloc::Global;
 
-/// A leaf's part of a plan that is asked at a moment, over the rows of the leaf, which are kept by series in several maps:
+/// A leaf's part of a plan that is asked at a moment, over the rows of the leaf, which are kept by series in several places:
 /// a piece for each part that leaves do, their load, and how many rows and groups are sent. It is refused exactly where
 /// the load is above the limit, before memory for what is too much is taken.
 pub fn answer_by_series(
     alloc: Global,
     plan: &Plan,
-    series: &[&SeriesMap],
+    series: &[&KeptRows],
     moment: i64,
     limit: u64,
 ) -> Result<LeafAnswer, Refusal<OverLimit>>
@@ -39,8 +38,8 @@ pub fn answer_by_series(
     let mut sent = 0;
     for part in top_parts(alloc, &plan.typed.tree, Level::Leaf)? {
         let rows = part_by_series(alloc, part.part, series, grid, &mut meter)?;
-        let piece = piece_of(alloc, &part, rows, &mut meter)?;
-        sent += sent_of(alloc, &piece)? as u64;
+        let piece = piece_of(alloc, &part, rows)?;
+        sent += sent_of(&piece) as u64;
         pieces.push(piece)?;
     }
     Ok(LeafAnswer {

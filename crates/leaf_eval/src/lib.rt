@@ -2,7 +2,8 @@
 #![tactic(auto)]
 
 mod answers;
-mod parts_up;
-mod pieces;
+mod leaf;
+mod sent;
 
 pub use answers::answer_by_series;
+pub use leaf::eval_leaf;

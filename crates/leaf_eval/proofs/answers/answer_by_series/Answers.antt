@@ -9,11 +9,11 @@ use Rattle.mql_types.specs.Nodes.{columns_of, typed_tree}
 use Rattle.mql_types.specs.Pieces.{TopPart, top_parts}
 use Rattle.mql_types.specs.Soundness.{IsWithinRows}
 use Rattle.mon_meaning.specs.Central.{all_held}
-use Rattle.leaf_eval.specs.LeafAnswers.{IsRefusedByLeaf}
-use Rattle.leaf_eval.specs.TopParts.{part_seen, parts_seen}
+use Rattle.mon_meaning.specs.LeafAnswers.{IsRefusedByLeaf}
+use Rattle.mon_meaning.specs.TopParts.{part_seen, parts_seen}
 use Rattle.leaf_eval.proofs.EvaluatedParts.{SoFar, leaf_done, none_long, none_so_far, one_more, over_leaf, sent_next}
 use Rattle.leaf_eval.proofs.ReadyParts.{IsPartReady, asked_ready}
-use Rattle.leaf_eval.proofs.StandingPieces.{up-permutation}
+use Rattle.mon_meaning.proofs.StandingPieces.{up-permutation}
 use Rattle.leaf_eval.proofs.answers.answer_by_series.Goals as goal
 
 pub loop-part-init : goal.loop-part-init
@@ -91,8 +91,8 @@ overflow_add-sent c =
     let within = sent_next grid source all left part c.loop-part.pieces c.in_ok-piece.piece c.in_ok-rows.rows c.loop-part.meter.load
     c.loop-part.sent so_far (c.in_ok-rows.ensures.rows source kept) c.in_ok-piece.ensures.stands in
     let counted = c.in_ok-rows.ensures.counted source kept in
-    let bound : c.loop-part.sent + c.in_ok-sent.field-0 ≤ 2 ^ 24 =
-    omega (arith, within, counted, c.in_ok-sent.ensures.sent, c.part_by_series.new.meter.within, c.part_by_series.new.meter.few) in
+    let bound : c.loop-part.sent + c.sent_of.result ≤ 2 ^ 24 =
+    omega (arith, within, counted, c.sent_of.ensures.sent, c.part_by_series.new.meter.within, c.part_by_series.new.meter.few) in
     omega (arith, bound)
 
 pub loop-part-preserved : goal.loop-part-preserved
@@ -109,12 +109,12 @@ loop-part-preserved c =
           let so_far = subst (λ (ps : List TopPart). SoFar grid source all ps c.loop-part.pieces c.loop-part.meter.load c.loop-part.sent) next
           (c.loop-part.invariant.so_far source kept) in
           one_more grid source all left part c.loop-part.pieces c.push.new.self c.in_ok-piece.piece c.in_ok-rows.rows c.loop-part.meter.load
-          c.piece_of.new.meter.load c.loop-part.sent (c.loop-part.sent + c.in_ok-sent.field-0) so_far
+          c.part_by_series.new.meter.load c.loop-part.sent (c.loop-part.sent + c.sent_of.result) so_far
           (c.in_ok-rows.ensures.rows source kept) c.in_ok-piece.ensures.stands c.in_ok-push.ensures.added
-          (c.in_ok-piece.ensures.counted ∙ c.in_ok-rows.ensures.counted source kept)
-          (ap (λ (n : ℕ). c.loop-part.sent + n) c.in_ok-sent.ensures.sent);
+          (c.in_ok-rows.ensures.counted source kept)
+          (ap (λ (n : ℕ). c.loop-part.sent + n) c.sent_of.ensures.sent);
       ready = (subst (AllByRecursion (IsPartReady grid series)) next c.loop-part.invariant.ready).1;
-      limit = c.in_ok-piece.ensures.limit ∙ c.in_ok-rows.ensures.limit ∙ c.loop-part.invariant.limit;
+      limit = c.in_ok-rows.ensures.limit ∙ c.loop-part.invariant.limit;
       counted = search rules;
     }
 

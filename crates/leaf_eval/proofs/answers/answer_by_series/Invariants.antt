@@ -9,7 +9,7 @@ use Rattle.mql_types.specs.Levels.{is_leaf}
 use Rattle.mql_types.specs.Nodes.{node_tree}
 use Rattle.mql_types.specs.Pieces.{top_parts}
 use Rattle.mon_meaning.specs.Central.{all_held}
-use Rattle.leaf_eval.specs.TopParts.{parts_seen}
+use Rattle.mon_meaning.specs.TopParts.{parts_seen}
 use Rattle.leaf_eval.proofs.EvaluatedParts.{SoFar}
 use Rattle.leaf_eval.proofs.ReadyParts.{IsPartReady}
 use Rattle.leaf_eval.proofs.answers.answer_by_series.Given as goal

@@ -1,0 +1,11 @@
+-- the rows so far with those of the replicas that are left are all, and these were opened
+use Rattle.std.proofs.Common.{◌≡◌, ◌++◌, drop, map}
+use Rattle.leaf_eval.specs.Replicas.{AreOpened, replica_rows_of}
+use Rattle.leaf_eval.proofs.leaf.kept_rows.Given as goal
+
+abbrev pub invariant-loop-own : goal.invariant-loop-own
+invariant-loop-own l = record {
+  rows : map (λ rows. rows.now) l.kept.items ++ map (replica_rows_of l.leaf.history) (drop l.own-index l.slots)
+      ≡ map (replica_rows_of l.leaf.history) l.slots;
+  opened : AreOpened l.leaf.history (drop l.own-index l.slots);
+}
