@@ -16,7 +16,7 @@ use Rattle.mql_types.specs.declared.levels.Level.{Level}
 use Rattle.mql_types.specs.declared.levels.Level.TheVariants as level
 use Rattle.mql_types.proofs.TypedTrees.{AreRows}
 use Rattle.mixer.specs.Mixing.{joins_mixed, part_count, rows_mixed}
-use Rattle.mixer.proofs.LeafLoads.{points_level}
+use Rattle.mixer.proofs.PointLevels.{points_level}
 use Rattle.mixer.proofs.LevelledTrees.{AreLevelled}
 use Rattle.mixer.proofs.LocalTrees.{IsLocal}
 use Rattle.mixer.proofs.MixedTrees.{any_use, drop_parts, rows_mixed-meant, tables_of, take_parts}

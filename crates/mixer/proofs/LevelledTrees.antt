@@ -22,7 +22,7 @@ use Rattle.mql_types.specs.Typing.{further_node, ops_part, pipe_part, source_par
 use Rattle.mql_types.specs.declared.levels.Level.{Level}
 use Rattle.mql_types.specs.declared.levels.Level.TheVariants as level
 use Rattle.mql_types.proofs.FetchColumnLemmas.{typed_without_faults}
-use Rattle.mixer.specs.Divisions.{TellsLocation}
+use Rattle.mon_schema.specs.HeldTargets.{TellsLocation}
 use Rattle.mixer.proofs.LeafHomes.{TargetSays, target_told}
 use Rattle.mixer.proofs.LocalTrees.{IsLocal}
 use Rattle.mixer.proofs.ZoneHomes.{LocationSays, location_told, target_located}
@@ -138,11 +138,11 @@ leaf_higher level.Zone level.Zone e = absurd cc
 leaf_higher level.Zone level.Root e = absurd cc
 leaf_higher level.Root b e = absurd cc
 
-moved : (p : Level → Bool) (a b : Level) → a ≡ b → p a ≡ true → p b ≡ true
+pub moved : (p : Level → Bool) (a b : Level) → a ≡ b → p a ≡ true → p b ≡ true
 moved p a b e h = subst (λ l. p l ≡ true) e h
 
 -- what is done at the root is done nowhere else
-no_top : (p : Level → Bool) (l : Level) → l ≡ level.Root → p level.Root ≡ false → p l ≡ true → ⊥
+pub no_top : (p : Level → Bool) (l : Level) → l ≡ level.Root → p level.Root ≡ false → p l ≡ true → ⊥
 no_top p l e out h =
     let in_root = moved p l level.Root e h in
     cc
@@ -201,7 +201,7 @@ zone_meets held tell level.Leaf columns e = (
 zone_meets held tell level.Zone columns e = (refl, zone_by (list_any (is_located held) columns) e)
 zone_meets held tell level.Root columns e = absurd cc
 
-zone_higher : (a b : Level) → in_zone (higher_level a b) ≡ true → (in_zone a ≡ true) × (in_zone b ≡ true)
+pub zone_higher : (a b : Level) → in_zone (higher_level a b) ≡ true → (in_zone a ≡ true) × (in_zone b ≡ true)
 zone_higher level.Leaf b e = (refl, e)
 zone_higher level.Zone level.Leaf e = (refl, refl)
 zone_higher level.Zone level.Zone e = (refl, refl)

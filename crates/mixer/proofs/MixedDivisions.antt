@@ -19,7 +19,8 @@ use Rattle.mql_types.proofs.FetchedTrees.{AllFit}
 use Rattle.mql_types.proofs.JoinedRows.{all-front}
 use Rattle.mql_types.proofs.TypedGridLemmas.{typed_grid}
 use Rattle.mql_types.proofs.TypedQueries.{query_ruled}
-use Rattle.mixer.specs.Divisions.{AreApart, IsDivided, ShareNoLocation, ShareNoTarget, TellsLocation, all_rows, together}
+use Rattle.mixer.specs.Divisions.{AreApart, IsDivided, ShareNoLocation, ShareNoTarget, all_rows, together}
+use Rattle.mon_schema.specs.HeldTargets.{TellsLocation}
 use Rattle.mixer.specs.Mixing.{SamePieces, joined_pieces, joins_mixed, mixed_load, mixed_table, parts_mixed, piece_rows}
 use Rattle.mixer.specs.Mixing.{pieces_together, root_joins, rows_mixed, zone_answer, zone_joins, zone_mixed, zone_pieces}
 use Rattle.mixer.proofs.ApartPieces.{SamePieces-refl, SamePieces-trans, joined_pieces-same, pieces_none}
@@ -28,10 +29,10 @@ use Rattle.mixer.proofs.LeafHomes.{TargetSays}
 use Rattle.mixer.proofs.ZoneHomes.{LocationSays}
 use Rattle.mql_types.specs.declared.levels.Level.{Level}
 use Rattle.mql_types.specs.declared.levels.Level.TheVariants as level
-use Rattle.mixer.proofs.LeafLoads.{leaf_load_parts}
 use Rattle.mixer.proofs.LevelSums.{level_loads, no_load}
 use Rattle.mixer.proofs.LevelledTrees.{leaf_local, query_levelled, zone_local}
 use Rattle.mixer.proofs.MixedTrees.{parts_mixed-meant, rows_mixed-meant, tables_of}
+use Rattle.mixer.proofs.PartLoads.{leaf_load_parts}
 use Rattle.mixer.proofs.PushedDown as pushed
 use Rattle.mixer.proofs.PushedDown.{IsPlanned, leaf_in_zone, zone_in_zone}
 use Rattle.mixer.proofs.SameTables.{SameTables, parts_mixed-same, rows_mixed-same, same_rows}

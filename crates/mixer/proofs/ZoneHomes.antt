@@ -27,7 +27,7 @@ use Rattle.mon_topo.specs.Locations.{location_in, location_of, text_in_field}
 use Rattle.mql_types.specs.Levels.{have_fields, is_anchored, is_located, is_location_anchor, marks_location}
 use Rattle.mql_types.specs.Levels.{names_target, same_anchor, tell_target}
 use Rattle.mql_types.proofs.MadeCells.{nothing_is, same_item}
-use Rattle.mixer.specs.Divisions.{TellsLocation}
+use Rattle.mon_schema.specs.HeldTargets.{TellsLocation}
 use Rattle.mixer.proofs.AnchorLemmas.{found_in, name_is, same_anchor-is}
 use Rattle.mixer.proofs.HeldCells.{SaysIf, Tell}
 

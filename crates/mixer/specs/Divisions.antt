@@ -1,21 +1,15 @@
 -- Divisions of rows into zones and leaves: the leaves of a zone share no target, and no location stands in two zones.
-use Rattle.std.specs.Prelude.{◌≡◌, ◌≤◌, ℕ, Bool, true, false, List, [], ◌∷◌, ◌++◌, map, count_by}
+use Rattle.std.specs.Prelude.{◌≡◌, ℕ, Bool, false, List, [], ◌∷◌, ◌++◌, map}
 use Rattle.std.specs.List.{AllByRecursion, list_any}
 use Rattle.std.specs.Option.{option_map_or}
 use Rattle.mon_value.specs.Same.{same_target, same_text}
 use Rattle.mon_value.specs.declared.rows.Row.{Row}
 use Rattle.mon_value.specs.declared.rows.Target.{Target}
-use Rattle.mon_value.specs.declared.schemas.TargetSchema.{TargetSchema}
-use Rattle.mon_schema.specs.Faults.{is_location}
+use Rattle.mon_schema.specs.HeldTargets.{TellsLocation}
 use Rattle.mon_schema.specs.SchemaLists.{SchemaLists}
 use Rattle.mon_topo.specs.Locations.{location_of}
 use Rattle.mql_types.specs.Nodes.{TypedTree}
 use Rattle.mql_types.specs.Soundness.{IsTyped}
-
--- a schema that says of each target where it is: one field is marked as the location, and it is a text
-pub record TellsLocation (schema : TargetSchema) : Type 0 where
-  pub once : count_by (λ field. field.location) schema.fields ≤ 1
-  pub some : list_any is_location schema.fields ≡ true
 
 -- whether a target has a row
 abbrev pub has_target : List Row → Target → Bool

@@ -1,2 +1,4 @@
 pub mod Divisions
 pub mod Mixing
+pub mod ZoneAnswers
+pub mod within

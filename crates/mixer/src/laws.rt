@@ -1,6 +1,7 @@
 // What holds of typed queries over rows that are divided into zones and leaves.
-ghost use Rattle.std.specs.Prelude.{◌≡◌, ◌≤ℤ◌, ◌++◌, ℕ, ℤ, pos, List, IsPermutation, map, sum_by};
+ghost use Rattle.std.specs.Prelude.{◌≡◌, ◌≤ℤ◌, ◌∷◌, ◌++◌, ℕ, ℤ, pos, List, IsPermutation, map, sum_by};
 ghost use Rattle.mon_value.specs.Tops.{top_rows};
+ghost use Rattle.mon_value.specs.declared.refusals.Refusal.{Refusal};
 ghost use Rattle.mon_value.specs.declared.rows.Row.{Row};
 ghost use Rattle.mon_value.specs.declared.tables.TimedRow.{TimedRow};
 ghost use Rattle.mql_types.specs.LevelLoads.{leaf_load, root_load, zone_load};
@@ -10,8 +11,13 @@ ghost use Rattle.mql_types.specs.Meaning.{grid_of, meaning};
 ghost use Rattle.mql_types.specs.Nodes.{TypedTree};
 ghost use Rattle.mql_types.specs.Pieces.{leaf_part, top_parts, zone_part};
 ghost use Rattle.mql_types.specs.Soundness.{IsTyped};
+ghost use Rattle.mon_fold.specs.declared.answers.LeafAnswer.{LeafAnswer};
+ghost use Rattle.mon_meaning.specs.Central.{IsRefusedBy};
+ghost use Rattle.mon_meaning.specs.LeafAnswers.{IsRefusedByLeaf};
+ghost use Rattle.mon_meaning.specs.declared.meter.OverLimit.{OverLimit};
 ghost use Rattle.mixer.specs.Divisions.{AreApart, IsDivided, ShareNoTarget, all_rows, together};
 ghost use Rattle.mixer.specs.Mixing.{SamePieces, mixed_load, mixed_table, root_joins, zone_answer, zone_joins};
+ghost use Rattle.mixer.specs.ZoneAnswers.{AllLeafParts, AreLeafParts, IsRefusedByZone};
 
 /// Where no two leaves of a zone share a target and no two zones share a location, the table that the root makes has
 /// the rows that the query means over all rows, in some order; and what leaves, zones and the root do for it adds up to
@@ -60,4 +66,26 @@ pub fn leaf_loads_are_of_parts()
         → pos 0 ≤ℤ moment → IsTyped typed rows
         → leaf_load typed rows moment
         ≡ sum_by (λ part. load_of (grid_of typed moment) part.1 rows) (top_parts is_leaf typed.tree) }
+{}
+
+/// The answers of a zone's leaves can be mixed, where the rows are divided.
+pub fn zones_are_asked()
+    ensures leaves { (typed : TypedTree) (before : List (List (List Row))) (leaves : List (List Row))
+        (after : List (List (List Row))) (moment : ℤ) (limit : ℕ) (parts : List LeafAnswer)
+        → pos 0 ≤ℤ moment → IsDivided typed (before ++ leaves ∷ after)
+        → AllLeafParts typed leaves moment limit parts → AreLeafParts typed leaves moment limit parts }
+{}
+
+/// Where a leaf's part of a query, or a zone's, is above the limit, so is the query.
+pub fn refused_parts_refuse_queries()
+    ensures leaf { (typed : TypedTree) (before : List (List (List Row))) (first : List (List Row)) (rows : List Row)
+        (rest : List (List Row)) (after : List (List (List Row))) (moment : ℤ) (limit : ℕ) (refused : Refusal OverLimit)
+        → pos 0 ≤ℤ moment → IsDivided typed (before ++ (first ++ rows ∷ rest) ∷ after)
+        → IsRefusedByLeaf typed rows moment limit refused
+        → IsRefusedBy typed (all_rows (before ++ (first ++ rows ∷ rest) ∷ after)) moment limit refused }
+    ensures zone { (typed : TypedTree) (before : List (List (List Row))) (leaves : List (List Row))
+        (after : List (List (List Row))) (moment : ℤ) (limit : ℕ) (refused : Refusal OverLimit)
+        → pos 0 ≤ℤ moment → IsDivided typed (before ++ leaves ∷ after)
+        → IsRefusedByZone typed leaves moment limit refused
+        → IsRefusedBy typed (all_rows (before ++ leaves ∷ after)) moment limit refused }
 {}
