@@ -17,7 +17,7 @@ pub use names::{BookName, NewEntry};
 pub use numbers::{NUMBER_END, Numbers};
 pub use owners::{BookOwner, BookOwners};
 pub use rooms::RoomMove;
-pub use seats::BookSeat;
+pub use seats::{BookSeat, EndedSeat};
 pub use views::{BookEntry, Histories, History, Kept, LengthNote, Purse};
 
 #[cfg(test)]

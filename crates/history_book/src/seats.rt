@@ -35,4 +35,26 @@ impl<N: BookName> BookSeat<N> {
     {
         self.hand.own
     }
+
+    /// What it has, in a type without the book's name, which takes no more steps. No memory is taken.
+    pub fn unname(self) -> EndedSeat
+        ensures same { result ≡ self }
+    {
+        EndedSeat { seat: self.seat }
+    }
+}
+
+/// A seat that takes no more steps, in a type without the book's name. Contracts see what it has.
+#[derive(Drop)]
+pub struct EndedSeat {
+    seat: atomic_table::Seat<(), SeatView>,
+}
+
+impl Model for EndedSeat {
+    ghost use Rattle.history_book.specs.Seats.{Seat};
+    ghost use Rattle.history_book.specs.Steps.{seat_of};
+
+    ghost Value = { Seat };
+
+    ghost view = { λ s. seat_of s.seat.me.0 };
 }
