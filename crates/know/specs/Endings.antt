@@ -1,0 +1,8 @@
+-- What is left of a caller's knowledge.
+use Rattle.std.specs.Prelude.{ℕ, Option}
+use Rattle.history_book.specs.declared.views.Histories.{Histories}
+
+-- the number, if there was one, and the histories that were seen
+pub record Ending : Type 0 where
+  pub number : Option ℕ
+  pub seen : Histories

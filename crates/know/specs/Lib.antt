@@ -1,0 +1,5 @@
+pub mod Endings
+pub mod Knowledge
+pub mod Reaches
+pub mod Sound
+pub mod Tables

@@ -1,0 +1,61 @@
+-- What holds of all that a caller knows: the histories that it has seen are held together, and the bits that it knows
+-- lead to all that stands in them.
+use Rattle.std.specs.Prelude.{ℕ, ◌-◌, ◌&&◌, nat_eq, Bool, true, false}
+use Rattle.std.specs.Int.{bit_at}
+use Rattle.std.specs.List.{list_any}
+use Rattle.mon_value.specs.declared.positions.Leaf.{Leaf}
+use Rattle.mon_hints.specs.Covers.{Bits, Covers}
+use Rattle.mon_hints.specs.HistoryBuckets.{history_buckets}
+use Rattle.mon_topo.specs.HeldHistories as topo
+use Rattle.mon_topo.specs.HeldHistories.{AreHeld}
+use Rattle.mon_topo.specs.Settings.{Setting, zone_of_leaf}
+use Rattle.mon_topo.specs.Zones.{first_leaf, leaf_numbered}
+use Rattle.history_book.specs.declared.views.Histories.{Histories}
+use Rattle.history_book.specs.Histories.{leaf_history}
+use Rattle.raise_table.specs.declared.places.Place.{Place}
+use Rattle.raise_table.specs.declared.places.Place.TheVariants as at
+use Rattle.raise_table.specs.declared.views.Hints.{Hints}
+use Rattle.raise_table.specs.declared.views.Note.{Note}
+
+-- the histories that a seat of the book has seen, as histories of leaves and ranges
+abbrev pub histories : Histories → topo.Histories
+histories seen = record { leaves = seen.leaves; ranges = seen.ranges }
+
+-- ---- known bits
+
+abbrev pub same_place : Place → Place → Bool
+same_place at.Root at.Root = true
+same_place at.Root (at.Zone other) = false
+same_place (at.Zone zone) at.Root = false
+same_place (at.Zone zone) (at.Zone other) = nat_eq zone.0 other.0
+
+-- whether a note has a bit of the word of a place and a bucket
+abbrev pub has_bit : Place → ℕ → ℕ → Note → Bool
+has_bit place bucket bit note =
+    same_place note.place place && (nat_eq note.bucket bucket && nat_eq (bit_at note.bits bit) 1)
+
+-- whether a bit is known to be in the word of a place and a bucket
+abbrev pub is_known : Hints → Place → ℕ → ℕ → Bool
+is_known hints place bucket bit = list_any (has_bit place bucket bit) hints.known
+
+-- a leaf's bit in the words of its zone: its place among the zone's leaves
+abbrev pub bit_of_leaf : Setting → Leaf → ℕ
+bit_of_leaf setting leaf = leaf.0 - first_leaf setting.zones (zone_of_leaf setting leaf).0
+
+abbrev pub is_leaf_known : Setting → Hints → Leaf → ℕ → Bool
+is_leaf_known setting hints leaf bucket =
+    is_known hints (at.Zone (zone_of_leaf setting leaf)) bucket (bit_of_leaf setting leaf)
+
+-- the known bits of zones in the root's words, and of leaves in their zones' words
+abbrev pub known_bits : Setting → Hints → Bits
+known_bits setting hints = record {
+  root = λ zone bucket. is_known hints at.Root bucket zone;
+  zone = λ leaf bucket. is_leaf_known setting hints (leaf_numbered leaf) bucket;
+}
+
+-- ---- the whole
+
+pub record IsSound (setting : Setting) (hints : Hints) (seen : Histories) : Type 0 where
+  pub held : AreHeld setting.held setting.zones setting.points (histories seen)
+  pub covered : (leaf : Leaf) → Covers (known_bits setting hints) (zone_of_leaf setting leaf) leaf
+      (history_buckets setting.buckets_of (leaf_history seen leaf))

@@ -1,0 +1,20 @@
+// What calls with a caller's knowledge answer.
+use mon_value::RowList;
+
+/// How a leaf was found: up, or down at this length of its history.
+#[derive(Clone, Copy, Debug, PartialEq, Eq)]
+pub enum Found {
+    Up,
+    Down(u64),
+}
+
+/// The rows of a replica, or the length of its leaf's history at which the leaf was found down.
+#[derive(Debug, PartialEq, Eq, Drop)]
+pub enum Copied {
+    Rows(RowList),
+    Down(u64),
+}
+
+/// The stock of numbers is empty.
+#[derive(Clone, Copy, Debug, PartialEq, Eq)]
+pub struct NumbersSpent;

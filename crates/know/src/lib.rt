@@ -1,0 +1,19 @@
+//! What a caller of the store knows: the histories that it has seen, and bits of the hint words that lead to them all.
+#![tactic(auto)]
+
+mod answers;
+mod ends;
+mod knows;
+mod names;
+mod reaches;
+mod tables;
+
+pub use answers::{Copied, Found, NumbersSpent};
+pub use ends::Ended;
+pub use knows::Know;
+pub use names::Names;
+pub use reaches::{RangeReach, Reach};
+pub use tables::Tables;
+
+#[cfg(test)]
+mod tests;
