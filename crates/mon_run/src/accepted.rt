@@ -144,7 +144,7 @@ impl Accepted {
         requires typed { IsTyped (typed_tree typed.now) self.now }
         ensures printed { GivesView printed_table result (table_within limit (typed_tree typed.now) self.now moment) }
     {
-        match central_by_series(self.alloc, typed, self.rows.all_series(), moment, limit) {
+        match central_by_series(self.alloc, typed, &self.rows, moment, limit) {
             Ok(table) => Ok(table),
             Err(Refusal::Fault(_over)) => Err(Refusal::Fault(LineFault::StepLimit(limit))),
             Err(Refusal::OutOfMemory) => Err(Refusal::OutOfMemory),
