@@ -13,6 +13,8 @@ mod files;
 mod groupable;
 mod groups;
 mod hints;
+mod leaf_growth;
+mod leaf_states;
 mod levels;
 mod meanings;
 mod plans;
@@ -37,6 +39,8 @@ use crate::configurations::Configurations;
 use crate::expressions::{AllPatterns, Patterns, Predicates};
 use crate::groups::Groups;
 use crate::hints::{ExcerptLists, Hints, Masks};
+use crate::leaf_growth::LeafGrowth;
+use crate::leaf_states::LeafStates;
 use crate::levels::ExplainedTexts;
 use crate::meanings::Meanings;
 use crate::plans::{FormulaTruths, Plans};
@@ -141,6 +145,8 @@ fn report_on(
         "plan_split::formula_of" => check(rt, name, table, FormulaTruths::new(alloc))?,
         "plan_split::split" => check(rt, name, table, Plans::new(alloc))?,
         "write_core::WriteMachine" => check(rt, name, table, Writes::new(alloc))?,
+        "leaf_store::LeafState" => check(rt, name, table, LeafStates::new(alloc))?,
+        "leaf_store::LeafState of many puts" => check(rt, name, table, LeafGrowth::new(alloc))?,
         "mon_run::run" => check(rt, name, table, Runs::new(alloc))?,
         _ => return Ok(None),
     };

@@ -124,8 +124,8 @@ fn typed_over(alloc: Global, query: &Query, schemas: &Schemas) -> Result<Typed, 
     }
 }
 
-// The rows of a text of points.
-fn rows_of(alloc: Global, schemas: &Schemas, points: &[u8]) -> Result<RowList, Trouble>
+/// The rows of a text of points.
+pub(crate) fn rows_of(alloc: Global, schemas: &Schemas, points: &[u8]) -> Result<RowList, Trouble>
     ensures fit { IfOk result (λ rows. AllByRecursion (λ row. fits schemas.now row ≡ true) rows) }
 {
     let reads = read_rows(alloc, points, schemas)?;
@@ -139,8 +139,8 @@ fn rows_of(alloc: Global, schemas: &Schemas, points: &[u8]) -> Result<RowList, T
     Ok(rows)
 }
 
-// Whether the ends of each series rise.
-fn is_source(rows: &[Row]) -> bool
+/// Whether the ends of each series rise.
+pub(crate) fn is_source(rows: &[Row]) -> bool
     ensures source { IsTrue result → IsSource rows.now }
 {
     match rows.split_first() {

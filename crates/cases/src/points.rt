@@ -53,8 +53,8 @@ fn add_read(alloc: Global, text: &mut String, read: &RowRead) -> Result<(), Allo
     }
 }
 
-// Adds the cells of a row, with commas between.
-fn add_row(alloc: Global, text: &mut String, row: &Row) -> Result<(), AllocError> {
+/// Adds the cells of a row, with commas between.
+pub(crate) fn add_row(alloc: Global, text: &mut String, row: &Row) -> Result<(), AllocError> {
     let schema = row.key.target.schema.as_str();
     let metric = row.key.metric.as_str();
     let start = row.point.start;
@@ -66,8 +66,12 @@ fn add_row(alloc: Global, text: &mut String, row: &Row) -> Result<(), AllocError
     add_fields(alloc, text, row.key.fields.as_slice())
 }
 
-// Adds the fields, with a comma before each.
-fn add_fields(alloc: Global, text: &mut String, fields: &[FieldValue]) -> Result<(), AllocError> {
+/// Adds the fields, with a comma before each.
+pub(crate) fn add_fields(
+    alloc: Global,
+    text: &mut String,
+    fields: &[FieldValue],
+) -> Result<(), AllocError> {
     for field in fields {
         add_field(alloc, text, field)?;
     }
