@@ -1,0 +1,5 @@
+mod AreaLemmas
+mod MixLemmas
+mod OpeningLemmas
+mod RoundLemmas
+mod StageLemmas

@@ -1,0 +1,106 @@
+-- Zones that are begun one after another, and visits.
+use Rattle.std.proofs.Common.{◌≡◌, ℕ, zero, suc, ◌+◌, ◌<◌, ◌≤◌, Bool, true, false, List, [], ◌∷◌, cond, drop, get_or, length, refl, sym, ap, ◌∙◌, arith, None, slice_get, subst, Result, Ok, Err, IfOk}
+use Rattle.std.proofs.lemmas.List.{drop_more, drop_all}
+use Rattle.mon_value.specs.declared.positions.Leaf.{Leaf}
+use Rattle.query_core.specs.declared.areas.Area.{Area}
+use Rattle.query_core.specs.declared.courses.Course.{Course}
+use Rattle.query_core.specs.declared.asks.Seen.{Seen}
+use Rattle.query_core.specs.declared.loadings.Loading.{Loading}
+use Rattle.query_core.specs.declared.stages.Stage.{Stage}
+use Rattle.query_core.specs.declared.stages.Step.{Step}
+use Rattle.query_core.specs.declared.stages.Stage.TheVariants as at
+use Rattle.query_core.specs.declared.stages.Turn.TheVariants as turn
+use Rattle.query_core.specs.Courses.{begun, is_entered, left}
+use Rattle.query_core.specs.Loadings.{no_word, with_word}
+use Rattle.query_core.specs.Mixtures.{LeadsTo, MayBeTold, MayMix, Settles}
+use Rattle.query_core.specs.declared.asks.Told.{Told}
+use Rattle.query_core.specs.Program.{after, loaded_again, next_zone, told_word}
+use Rattle.query_core.specs.Areas.{has_leaf}
+use Rattle.query_core.specs.Machine.{slots_in}
+use Rattle.query_core.specs.Rounds.{Round, round_of, slots_on}
+use Rattle.query_core.specs.Settings.{Setting}
+use Rattle.query_core.specs.Visits.{but_first, first_left}
+
+next_by : (course : Course) (area : Area) (areas : List Area) (enter : Bool) → is_entered course ≡ enter
+    → next_zone (area ∷ areas) course
+    ≡ cond enter (turn.Goes (at.Entering (begun course) (round_of area) no_word))
+    (next_zone areas (left (begun course) area course.seen))
+next_by course area areas enter e =
+    ap (λ b. cond b (turn.Goes (at.Entering (begun course) (round_of area) no_word))
+    (next_zone areas (left (begun course) area course.seen))) e
+
+-- a zone that the root words leave out is passed
+pub zone_passed : (areas : List Area) (course : Course) (area d : Area) → course.begun < length areas
+    → get_or areas course.begun d ≡ area → is_entered course ≡ false
+    → next_zone (drop course.begun areas) course
+    ≡ next_zone (drop (course.begun + 1) areas) (left (begun course) area course.seen)
+zone_passed areas course area d there is out =
+    ap (λ some. next_zone some course) (drop_more areas course.begun d there)
+    ∙ ap (λ one. next_zone (one ∷ drop (course.begun + 1) areas) course) is
+    ∙ next_by course area (drop (course.begun + 1) areas) false out
+
+-- one that they let in is entered
+pub zone_entered : (areas : List Area) (course : Course) (area d : Area) → course.begun < length areas
+    → get_or areas course.begun d ≡ area → is_entered course ≡ true
+    → next_zone (drop course.begun areas) course ≡ turn.Goes (at.Entering (begun course) (round_of area) no_word)
+zone_entered areas course area d there is enter =
+    ap (λ some. next_zone some course) (drop_more areas course.begun d there)
+    ∙ ap (λ one. next_zone (one ∷ drop (course.begun + 1) areas) course) is
+    ∙ next_by course area (drop (course.begun + 1) areas) true enter
+
+pub zones_done : (areas : List Area) (course : Course) → length areas ≤ course.begun
+    → next_zone (drop course.begun areas) course ≡ turn.Through course
+zones_done areas course done = ap (λ some. next_zone some course) (drop_all course.begun areas done)
+
+-- ---- the next leaf of several
+
+pub leaf_next : (leaves : List Leaf) (i : ℕ) → first_left (drop i leaves) ≡ slice_get leaves i
+leaf_next [] zero = refl
+leaf_next [] (suc i) = refl
+leaf_next (leaf ∷ leaves) zero = refl
+leaf_next (leaf ∷ leaves) (suc i) = leaf_next leaves i
+
+pub leaves_left : (leaves : List Leaf) (i : ℕ) → but_first (drop i leaves) ≡ drop (i + 1) leaves
+leaves_left [] zero = refl
+leaves_left [] (suc i) = sym (drop_all (suc i + 1) [] (omega arith))
+leaves_left (leaf ∷ leaves) zero = refl
+leaves_left (leaf ∷ leaves) (suc i) =
+    let same : suc (i + 1) ≡ suc i + 1 = omega arith in
+    leaves_left leaves i ∙ ap (λ n. drop n (leaf ∷ leaves)) same
+
+pub none_left : (leaves : List Leaf) (i : ℕ) → length leaves ≤ i → but_first (drop i leaves) ≡ drop i leaves
+none_left leaves i done =
+    let none : drop i leaves ≡ [] = drop_all i leaves done in
+    ap but_first none ∙ sym none
+
+pub no_leaf_left : (leaves : List Leaf) (i : ℕ) → length leaves ≤ i → first_left (drop i leaves) ≡ None
+no_leaf_left leaves i done = ap first_left (drop_all i leaves done)
+
+-- ---- a word that is loaded again
+
+pub word_again : {E : Type 0} (setting : Setting) (stage : Stage) (course : Course) (round : Round) (loading loaded : Loading)
+    (word : ℕ) (seen : Seen) (result : Result Step E) → stage ≡ at.Reloading course round loading
+    → loaded ≡ with_word loading word seen
+    → IfOk result (λ step. step ≡ loaded_again setting course round loaded)
+    → IfOk result (λ step. step ≡ told_word setting stage word seen)
+word_again setting stage course round loading loaded word seen result is same given =
+    subst (λ (s : Stage). IfOk result (λ step. step ≡ told_word setting s word seen)) (sym is)
+    (subst (λ (l : Loading). IfOk result (λ step. step ≡ loaded_again setting course round l)) same given)
+
+-- ---- where an answer leads
+
+pub may_settle : (setting : Setting) (stage : Stage) (answer : Told) (step : Step) → step ≡ after setting stage answer
+    → MayBeTold setting stage answer → MayMix setting step
+may_settle setting stage answer step is may = subst (λ (s : Step). MayMix setting s) (sym is) may.may_mix
+
+pub settles_so : {E : Type 0} (setting : Setting) (stage : Stage) (answer : Told) (step : Step) (result : Result Stage E)
+    → step ≡ after setting stage answer → IfOk result (Settles setting step) → IfOk result (LeadsTo setting stage answer)
+settles_so setting stage answer step (Ok new) is settles =
+    record { settles = subst (λ (s : Step). Settles setting s new) is settles }
+settles_so setting stage answer step (Err why) is settles = record {}
+
+-- ---- slots of a leaf of the zone
+
+pub slots_here : (round : Round) (leaf : Leaf) → has_leaf round.area leaf ≡ true
+    → slots_in round leaf ≡ slots_on leaf round.resolved
+slots_here round leaf has = ap (λ b. cond b (slots_on leaf round.resolved) []) has

@@ -1,0 +1,11 @@
+pub mod Areas
+pub mod Courses
+pub mod Loadings
+pub mod Looks
+pub mod Machine
+pub mod Mixtures
+pub mod Openings
+pub mod Program
+pub mod Rounds
+pub mod Settings
+pub mod Visits

@@ -1,0 +1,21 @@
+//! The core of a query: what a query does one event after another, whatever it is told.
+#![tactic(auto)]
+
+mod answers;
+mod areas;
+mod asks;
+mod courses;
+mod loadings;
+mod looks;
+mod machine;
+mod mixing;
+mod openings;
+mod rounds;
+mod segments;
+mod settings;
+mod stages;
+mod visits;
+
+pub use answers::{Answer, Cuts, Flags, Resolved, Resolveds, RoundFault, Trace};
+pub use asks::{Ask, Seen, Told};
+pub use machine::QueryMachine;

@@ -1,0 +1,175 @@
+// The machine of a query.
+ghost use Rattle.std.specs.Prelude.{◌≡◌, ◌≤◌, ◌^◌, IfOk, OnOk};
+ghost use Rattle.mon_value.specs.declared.limits.TheConstants.{ROW_BITS};
+ghost use Rattle.query_core.specs.Areas.{areas_of};
+ghost use Rattle.query_core.specs.Machine as spec;
+ghost use Rattle.query_core.specs.Mixtures.{LeadsTo, MayBeTold};
+ghost use Rattle.query_core.specs.Program.{ask_of};
+ghost use Rattle.query_core.specs.declared.asks.Ask.TheVariants.{Finished};
+
+use crate::answers::{Answer, RoundFault};
+use crate::asks::{Ask, Told};
+use crate::loadings::Loading;
+use crate::mixing::told_so;
+use crate::settings::Setting;
+use crate::stages::Stage;
+use mon_topo::Topology;
+use mon_value::{Leaf, Leaves, OutOfMemory, RangeSlots};
+use mql_types::Plan;
+use std::alloc::Global;
+use std::marker::Model;
+use std::mem;
+
+/// A query that is asked of zones. It says what is done next, and is told how that went.
+#[derive(Drop)]
+pub struct QueryMachine {
+    setting: Setting,
+    avoided: Leaves,
+    nowhere: RangeSlots,
+    stage: Stage,
+}
+
+impl Model for QueryMachine {
+    ghost use Rattle.std.specs.Prelude.{◌≡◌, []};
+    ghost use Rattle.query_core.specs.Machine.{Query};
+    ghost use Rattle.std.specs.Coded.{codes};
+    ghost use Rattle.mon_hints.specs.contracts.formulas.Formula as formula;
+    ghost use Rattle.mql_types.specs.contracts.nodes.Node as node;
+
+    ghost coded = { Prim.hlevel (codes, node.the_row.coded, formula.the_row.coded) };
+
+    ghost Value = { Query };
+
+    ghost view = { λ machine. record {
+      setting = machine.setting;
+      avoided = machine.avoided;
+      stage = machine.stage;
+    } };
+
+    ghost invariant = { λ machine. machine.nowhere ≡ [] };
+}
+
+impl QueryMachine {
+    /// A query that has not begun, with a limit of its load.
+    pub fn new(
+        alloc: Global,
+        plan: Plan,
+        topology: &Topology,
+        limit: u64,
+    ) -> Result<QueryMachine, OutOfMemory>
+        requires limit { limit ≤ 2 ^ ROW_BITS }
+        ensures new { IfOk result (λ machine. machine
+            ≡ spec.new_query (record { plan = plan; areas = areas_of topology.now; limit = limit })) }
+    {
+        Ok(QueryMachine {
+            setting: Setting::new(alloc, plan, topology, limit)?,
+            avoided: Leaves::new(alloc),
+            nowhere: RangeSlots::new(alloc),
+            stage: Stage::Rooting(Loading::none(alloc)),
+        })
+    }
+
+    /// Its next event.
+    pub fn next(&self) -> Ask
+        ensures ask { result ≡ ask_of self.now.setting self.now.stage }
+    {
+        let plan = self.setting.plan();
+        match &self.stage {
+            Stage::Rooting(loading) => Ask::LoadRoot(loading.next_bucket(plan)),
+            Stage::Entering(_, round, loading) | Stage::Reloading(_, round, loading) => {
+                Ask::LoadZone(round.area().zone, loading.next_bucket(plan))
+            }
+            Stage::Resolving(_, _, range) => Ask::Resolve(*range),
+            Stage::Visiting(_, _, _, leaf) => Ask::Visit(*leaf),
+            Stage::Ended(_) => Ask::Finished,
+        }
+    }
+
+    /// Its plan.
+    pub fn plan(&self) -> &Plan
+        ensures plan { result.now ≡ self.now.setting.plan }
+    {
+        self.setting.plan()
+    }
+
+    /// The leaves that were found down.
+    pub fn avoided(&self) -> &Leaves
+        ensures avoided { result.now ≡ self.now.avoided }
+    {
+        &self.avoided
+    }
+
+    /// The slots of this round that resolved to a leaf.
+    pub fn slots(&self, leaf: Leaf) -> &RangeSlots
+        ensures slots { result.now ≡ spec.slots_of self.now.stage leaf }
+    {
+        match self.stage.round() {
+            Some(round) => match round.slots(leaf) {
+                Some(slots) => slots,
+                None => &self.nowhere,
+            },
+            None => &self.nowhere,
+        }
+    }
+
+    /// Goes on by what its last event came to. Where it is refused, it is to be dropped.
+    pub fn told(&mut self, told: Told) -> Result<(), OutOfMemory>
+        requires { MayBeTold self.old.setting self.old.stage told }
+        ensures setting { self.new.setting ≡ self.old.setting }
+        ensures stage { OnOk result (LeadsTo self.old.setting self.old.stage told self.new.stage) }
+        ensures avoided { OnOk result
+            (self.new.avoided ≡ spec.avoided_after self.old.avoided self.old.stage told) }
+    {
+        tell(&self.setting, &mut self.avoided, &mut self.stage, told)
+    }
+
+    /// How it ended.
+    pub fn finish(self) -> Result<Answer, RoundFault>
+        requires { ask_of self.setting self.stage ≡ Finished }
+        ensures end { spec.EndsSo self.stage result }
+    {
+        let QueryMachine { stage, .. } = self;
+        match stage {
+            Stage::Ended(end) => end,
+            _ => unreachable!(),
+        }
+    }
+}
+
+// Goes on by an answer; where it is refused, the query stands as one that has not begun.
+fn tell(
+    setting: &Setting,
+    avoided: &mut Leaves,
+    stage: &mut Stage,
+    told: Told,
+) -> Result<(), OutOfMemory>
+    requires { MayBeTold setting.now stage.old told }
+    ensures stage { OnOk result (LeadsTo setting.now stage.old told stage.new) }
+    ensures avoided { OnOk result (avoided.new ≡ spec.avoided_after avoided.old stage.old told) }
+{
+    avoid(avoided, stage, &told)?;
+    advance(setting, stage, told)
+}
+
+// Goes on to the stage to which an answer leads.
+fn advance(setting: &Setting, stage: &mut Stage, told: Told) -> Result<(), OutOfMemory>
+    requires { MayBeTold setting.now stage.old told }
+    ensures stage { OnOk result (LeadsTo setting.now stage.old told stage.new) }
+{
+    let not_begun = Stage::Rooting(Loading::none(setting.alloc()));
+    let so_far = mem::replace(stage, not_begun);
+    *stage = told_so(setting, so_far, told)?;
+    Ok(())
+}
+
+// A leaf that was found down at its visit is avoided from then on.
+fn avoid(avoided: &mut Leaves, stage: &Stage, told: &Told) -> Result<(), OutOfMemory>
+    ensures avoided { OnOk result (avoided.new ≡ spec.avoided_after avoided.old stage.now told.now) }
+{
+    if let Told::Down(_) = told {
+        if let Stage::Visiting(_, _, _, leaf) = stage {
+            avoided.push(*leaf)?;
+        }
+    }
+    Ok(())
+}

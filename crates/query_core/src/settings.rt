@@ -1,0 +1,89 @@
+// What stays the same through a query.
+ghost use Rattle.std.specs.Prelude.{◌≡◌, ◌≤◌, ◌^◌, length, IfOk};
+ghost use Rattle.std.specs.List.{AllByRecursion};
+ghost use Rattle.mon_value.specs.declared.limits.TheConstants.{ROW_BITS};
+ghost use Rattle.query_core.specs.Areas.{areas_of, IsSmall};
+
+use crate::areas::{Area, areas_of};
+use mon_topo::Topology;
+use mon_value::OutOfMemory;
+use mql_types::Plan;
+use std::alloc::Global;
+use std::marker::Model;
+
+/// The plan of a query, the zones that it is asked of, and the limit of its load.
+#[derive(Drop)]
+pub(crate) struct Setting {
+    alloc: Global,
+    plan: Plan,
+    areas: Vec<Area>,
+    limit: u64,
+}
+
+impl Model for Setting {
+    ghost use Rattle.std.specs.Prelude.{◌≤◌, ◌^◌, length};
+    ghost use Rattle.mon_value.specs.declared.limits.TheConstants.{ROW_BITS};
+    ghost use Rattle.std.specs.List.{AllByRecursion};
+    ghost use Rattle.query_core.specs.Areas.{IsSmall};
+    ghost use Rattle.query_core.specs.Settings as spec;
+    ghost use Rattle.std.specs.Coded.{codes};
+    ghost use Rattle.mon_hints.specs.contracts.formulas.Formula as formula;
+    ghost use Rattle.mql_types.specs.contracts.nodes.Node as node;
+
+    ghost coded = { Prim.hlevel (codes, node.the_row.coded, formula.the_row.coded) };
+
+    ghost Value = { spec.Setting };
+
+    ghost view = { λ setting. record { plan = setting.plan; areas = setting.areas.items; limit = setting.limit } };
+
+    ghost invariant = { λ setting. record {
+      few : length setting.areas.items ≤ 64;
+      small : AllByRecursion IsSmall setting.areas.items;
+      most : setting.limit ≤ 2 ^ ROW_BITS;
+    } };
+}
+
+impl Setting {
+    pub(crate) fn new(
+        alloc: Global,
+        plan: Plan,
+        topology: &Topology,
+        limit: u64,
+    ) -> Result<Setting, OutOfMemory>
+        requires limit { limit ≤ 2 ^ ROW_BITS }
+        ensures new { IfOk result (λ setting.
+            setting ≡ record { plan = plan; areas = areas_of topology.now; limit = limit }) }
+    {
+        Ok(Setting {
+            alloc,
+            plan,
+            areas: areas_of(alloc, topology)?,
+            limit,
+        })
+    }
+
+    pub(crate) fn alloc(&self) -> Global {
+        self.alloc
+    }
+
+    pub(crate) fn plan(&self) -> &Plan
+        ensures plan { result.now ≡ self.now.plan }
+    {
+        &self.plan
+    }
+
+    pub(crate) fn limit(&self) -> u64
+        ensures limit { result ≡ self.now.limit }
+        ensures most { result ≤ 2 ^ ROW_BITS }
+    {
+        self.limit
+    }
+
+    pub(crate) fn areas(&self) -> &[Area]
+        ensures areas { result.now ≡ self.now.areas }
+        ensures few { length result.now ≤ 64 }
+        ensures small { AllByRecursion IsSmall result.now }
+    {
+        &self.areas
+    }
+}
