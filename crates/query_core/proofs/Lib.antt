@@ -1,4 +1,5 @@
 mod AreaLemmas
+mod FindingLemmas
 mod MixLemmas
 mod OpeningLemmas
 mod RoundLemmas

@@ -1,5 +1,6 @@
 pub mod Areas
 pub mod Courses
+pub mod Findings
 pub mod Loadings
 pub mod Looks
 pub mod Machine
@@ -7,5 +8,7 @@ pub mod Mixtures
 pub mod Openings
 pub mod Program
 pub mod Rounds
+pub mod Sessions
 pub mod Settings
+pub mod Traces
 pub mod Visits

@@ -5,6 +5,7 @@ mod answers;
 mod areas;
 mod asks;
 mod courses;
+mod laws;
 mod loadings;
 mod looks;
 mod machine;
@@ -18,4 +19,5 @@ mod visits;
 
 pub use answers::{Answer, Cuts, Flags, Resolved, Resolveds, RoundFault, Trace};
 pub use asks::{Ask, Seen, Told};
+pub use laws::sessions_name_what_they_found;
 pub use machine::QueryMachine;

@@ -1,0 +1,150 @@
+-- The session of a query: what it is told, and what its caller has seen and knows by then.
+use Rattle.std.specs.Prelude.{◌≡◌, ◌<◌, ◌-◌, ℕ, ℤ, Bool, true, false, List, [], ◌∷◌, length, map, take, slice_get, Option, Some, None}
+use Rattle.std.specs.List.{AllByRecursion, range_with_len}
+use Rattle.mon_hints.specs.Covers.{AreBitsWithin, Bits, Covers}
+use Rattle.mon_hints.specs.HistoryBuckets.{history_buckets}
+use Rattle.mon_hints.specs.Words.{has_bit}
+use Rattle.mon_meaning.specs.LeafAnswers.{IsLeafPart, IsOverLeaf}
+use Rattle.mon_topo.specs.HeldHistories.{AreHeld, Histories, leaf_history, range_history}
+use Rattle.mon_topo.specs.SeenHistories.{AreWithin}
+use Rattle.mon_topo.specs.Settings.{zone_of_leaf}
+use Rattle.mon_topo.specs.Settings.{Setting as Store}
+use Rattle.mon_topo.specs.Zones.{first_leaf, leaf_zones, range_numbered}
+use Rattle.mon_topo.specs.declared.zones.ZoneSpec.{ZoneSpec}
+use Rattle.mon_value.specs.LeafHistories.{is_down}
+use Rattle.mon_value.specs.declared.positions.Leaf.{Leaf}
+use Rattle.mon_value.specs.declared.positions.Range.{Range}
+use Rattle.mon_value.specs.declared.positions.RangeSlot.{RangeSlot}
+use Rattle.mon_value.specs.declared.positions.SlotLeaf.{SlotLeaf}
+use Rattle.mon_value.specs.declared.positions.Zone.{Zone}
+use Rattle.mon_value.specs.declared.rows.Row.{Row}
+use Rattle.query_core.specs.declared.answers.Resolved.{Resolved}
+use Rattle.query_core.specs.declared.asks.Ask.{Ask}
+use Rattle.query_core.specs.declared.asks.Ask.TheVariants as ask
+use Rattle.query_core.specs.declared.asks.Seen.{Seen}
+use Rattle.query_core.specs.declared.asks.Told.{Told}
+use Rattle.query_core.specs.declared.asks.Told.TheVariants as told
+use Rattle.query_core.specs.declared.stages.Stage.{Stage}
+use Rattle.query_core.specs.Machine.{Query, avoided_after, slots_at}
+use Rattle.query_core.specs.Mixtures.{Settles, typed_of}
+use Rattle.query_core.specs.Openings.{is_met}
+use Rattle.query_core.specs.Program.{after, ask_of}
+use Rattle.query_core.specs.Settings.{Setting}
+use Rattle.query_core.specs.Traces.{IsBetween, first_serving, replica_of, slot_rows}
+
+-- what someone has seen, and the bits that they know
+pub record View : Type 0 where
+  pub seen : Histories
+  pub bits : Bits
+
+-- what was seen is held, and the known bits lead to all of it
+pub record IsSound (store : Store) (view : View) : Type 0 where
+  pub held : AreHeld store.held store.zones store.points view.seen
+  pub covered : (leaf : Leaf) → leaf.0 < length view.seen.leaves
+      → Covers view.bits (zone_of_leaf store leaf) leaf (history_buckets store.buckets_of (leaf_history view.seen leaf))
+
+-- more is seen and known, and nothing less
+pub record IsGrown (before after : View) : Type 0 where
+  pub seen : AreWithin before.seen after.seen
+  pub bits : AreBitsWithin before.bits after.bits
+
+-- ---- answers that are true
+
+-- a length of each leaf's history, and of each range the first slot that serves in its history
+pub record IsSeenSo (seen : Histories) (told : Seen) : Type 0 where
+  pub cuts : told.cuts ≡ map length seen.leaves
+  pub ranges : map (λ (one : Resolved). one.range) told.firsts
+      ≡ map range_numbered (range_with_len 0 (length seen.ranges))
+  pub firsts : AllByRecursion
+      (λ (one : Resolved). first_serving [] (range_history seen one.range) ≡ Some (replica_of one)) told.firsts
+
+-- a word of the root's has every bit that was known
+pub record IsRootWord (before : View) (bucket word : ℕ) (told : Seen) : Type 0 where
+  pub known : (zone : ℕ) → before.bits.root zone bucket ≡ true → has_bit word zone ≡ true
+  pub seen_so : IsSeenSo before.seen told
+
+-- a word of a zone's has every bit that was known; a leaf's bit is that of its place in the zone
+pub record IsZoneWord (zones : List ZoneSpec) (before : View) (zone : Zone) (bucket word : ℕ) (told : Seen)
+    : Type 0 where
+  pub known : (leaf : Leaf) → slice_get (leaf_zones zones) leaf.0 ≡ Some zone
+      → before.bits.zone leaf.0 bucket ≡ true → has_bit word (leaf.0 - first_leaf zones zone.0) ≡ true
+  pub seen_so : IsSeenSo before.seen told
+
+-- a range resolves so at a length that is found now
+pub record IsResolvedSo (before after : View) (avoided : List Leaf) (range : Range) (found_slot : Option SlotLeaf)
+    : Type 0 where
+  pub found : ℕ
+  pub between : IsBetween (length (range_history before.seen range)) (length (range_history after.seen range)) found
+  pub first : first_serving avoided (take found (range_history after.seen range)) ≡ found_slot
+
+-- a leaf is found so at a length that is found now
+pub record IsFoundSo (before after : View) (leaf : Leaf) (cut : ℕ) (down : Bool) : Type 0 where
+  pub between : IsBetween (length (leaf_history before.seen leaf)) (length (leaf_history after.seen leaf)) cut
+  pub is : is_down (take cut (leaf_history after.seen leaf)) ≡ down
+
+module _ (store : Store) (setting : Setting) (moment : ℤ) where
+  -- whether a formula holds of a leaf's buckets at a cut
+  abbrev pub is_met_at : View → Leaf → ℕ → Bool
+  is_met_at after leaf cut =
+      is_met setting.plan (history_buckets store.buckets_of (take cut (leaf_history after.seen leaf)))
+
+  -- the rows of the slots that resolved to the leaf, at a cut
+  abbrev pub rows_at : View → Leaf → ℕ → List RangeSlot → List Row
+  rows_at after leaf cut slots = slot_rows (take cut (leaf_history after.seen leaf)) slots
+
+  -- an answer to an ask is true, where these leaves were avoided, and these slots resolved to the leaf that was visited
+  abbrev pub IsTrueAnswer : View → View → List Leaf → List RangeSlot → Ask → Told → Type 0
+  IsTrueAnswer before after avoided slots (ask.LoadRoot bucket) (told.Word word seen) =
+      IsRootWord before bucket word seen
+  IsTrueAnswer before after avoided slots (ask.LoadZone zone bucket) (told.Word word seen) =
+      IsZoneWord store.zones before zone bucket word seen
+  IsTrueAnswer before after avoided slots (ask.Resolve range) (told.Slot slot leaf) =
+      IsResolvedSo before after avoided range (Some (record { slot = slot; leaf = leaf }))
+  IsTrueAnswer before after avoided slots (ask.Resolve range) told.NoSlot = IsResolvedSo before after avoided range None
+  IsTrueAnswer before after avoided slots (ask.Visit leaf) (told.Down cut) = IsFoundSo before after leaf cut true
+  IsTrueAnswer before after avoided slots (ask.Visit leaf) (told.Unread cut) =
+      IsFoundSo before after leaf cut false × (is_met_at after leaf cut ≡ false)
+  IsTrueAnswer before after avoided slots (ask.Visit leaf) (told.Read cut answer) =
+      IsFoundSo before after leaf cut false × (is_met_at after leaf cut ≡ true)
+      × IsLeafPart (typed_of setting) (rows_at after leaf cut slots) moment setting.limit answer
+  IsTrueAnswer before after avoided slots (ask.Visit leaf) (told.Over load cut) =
+      IsFoundSo before after leaf cut false × (is_met_at after leaf cut ≡ true)
+      × IsOverLeaf (typed_of setting) (rows_at after leaf cut slots) moment setting.limit (record { load = load })
+  IsTrueAnswer before after avoided slots asked answer = ⊥
+
+  -- ---- sessions
+
+  -- what the query is told, what its caller has seen and knows then, and the stage to which this leads
+  pub record Event : Type 0 where
+    pub answer : Told
+    pub view : View
+    pub stage : Stage
+
+  abbrev pub told_then : Query → Event → Query
+  told_then query event = record {
+    setting = query.setting;
+    avoided = avoided_after query.avoided query.stage event.answer;
+    stage = event.stage;
+  }
+
+  -- one answer: true, of what is seen by more and more, and stays sound; and the query goes on by it
+  pub record IsLicensedEvent (before : View) (query : Query) (event : Event) : Type 0 where
+    pub grown : IsGrown before event.view
+    pub sound : IsSound store event.view
+    pub true_then : IsTrueAnswer before event.view query.avoided (slots_at query) (ask_of setting query.stage) event.answer
+    pub goes_on : Settles setting (after setting query.stage event.answer) event.stage
+
+  -- a licensed session, from a query and what its caller has seen and knows
+  abbrev pub IsLicensed : View → Query → List Event → Type 0
+  IsLicensed before query [] = Unit {0}
+  IsLicensed before query (event ∷ events) =
+      IsLicensedEvent before query event × IsLicensed event.view (told_then query event) events
+
+  -- how far the query is after a session, and what its caller has seen and knows
+  abbrev pub query_after : Query → List Event → Query
+  query_after query [] = query
+  query_after query (event ∷ events) = query_after (told_then query event) events
+
+  abbrev pub view_after : View → List Event → View
+  view_after before [] = before
+  view_after before (event ∷ events) = view_after event.view events
