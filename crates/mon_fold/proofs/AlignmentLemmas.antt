@@ -1,10 +1,11 @@
 -- What the points of a window come to.
-use Rattle.std.proofs.Common.{◌≡◌, ℕ, zero, suc, ◌+◌, ◌-◌, ◌<◌, ◌≤◌, ℤ, ◌+ℤ◌, ◌-ℤ◌, List, [], ◌∷◌, ◌++◌, length, get_or, take, sum, sum_by, unsigned_abs, slice_get, All, Bool, filter, Some, option_map, refl, sym, ap, subst, ◌∙◌, append-nil, append_assoc, arith}
+use Rattle.std.proofs.Common.{◌≡◌, ℕ, zero, suc, ◌+◌, ◌-◌, ◌<◌, ◌≤◌, ℤ, ◌+ℤ◌, ◌-ℤ◌, List, [], ◌∷◌, ◌++◌, length, get_or, take, sum, sum_by, unsigned_abs, slice_get, All, Bool, filter, Option, None, Some, option_map, refl, sym, ap, subst, ◌∙◌, append-nil, append_assoc, arith}
 use Rattle.std.specs.List.{AllByRecursion, flat_map}
 use Rattle.std.proofs.lemmas.List.{take_more, map-append}
 use Rattle.std.proofs.lemmas.List.Elements.{filter_map-append}
 use Rattle.std.proofs.lemmas.List.Sums.{sum_by-cons, sum_by-take-le, get_or-le-sum_by}
 use Rattle.std.proofs.lemmas.Bool.{cond_both}
+use Rattle.std.proofs.lemmas.Option.{same_Some}
 use Rattle.mon_value.specs.Aggregates.{where_any, sum_of, counts_added, counts_of}
 use Rattle.mon_value.specs.Alignments.{CanAdd, CanAddAll, newest_point, values_of}
 use Rattle.mon_value.specs.Values.{magnitude}
@@ -28,6 +29,18 @@ pub slice_get-newest : (points : List Point) → slice_get points (length points
 slice_get-newest [] = refl
 slice_get-newest (point ∷ []) = let e : length (point ∷ []) - 1 ≡ 0 = omega arith in ap (slice_get (point ∷ [])) e
 slice_get-newest (point ∷ next ∷ points) = ap (slice_get (point ∷ next ∷ points)) (shorter point next points) ∙ slice_get-newest (next ∷ points)
+
+-- ---- distributions of points
+
+-- a value whose distribution is told, and one of which there is none
+pub told_counts : (v : Value) (told : Option (List ℕ)) (counts : List ℕ) → told ≡ counts_in v → told ≡ Some counts → v ≡ value.Dist counts
+told_counts (value.Int z) told counts is some = let none : None ≡ Some counts = sym is ∙ some in absurd cc
+told_counts (value.Bool p) told counts is some = let none : None ≡ Some counts = sym is ∙ some in absurd cc
+told_counts (value.Text s) told counts is some = let none : None ≡ Some counts = sym is ∙ some in absurd cc
+told_counts (value.Dist more) told counts is some = ap value.Dist (same_Some more counts (sym is ∙ some))
+
+pub told_none : (v : Value) (told : Option (List ℕ)) → told ≡ counts_in v → told ≡ None → (more : List ℕ) → v ≡ value.Dist more → ⊥
+told_none v told is none more kind = let some : None ≡ Some more = sym none ∙ is ∙ ap counts_in kind in absurd cc
 
 -- ---- numbers
 

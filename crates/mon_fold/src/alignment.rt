@@ -5,8 +5,8 @@ ghost use Rattle.mon_value.specs.Grids.{IsLawful, time_count};
 ghost use Rattle.mon_value.specs.declared.aligners.Aligner.TheVariants.{Delta, NextOlder};
 
 use crate::sliding::{Window, window_at};
-use mon_series::Series;
-use mon_value::{Aligner, Grid, OutOfMemory, Point, TimedValue, TimedValues, TryCopy, Value};
+use mon_series::{KeptPoint, Series};
+use mon_value::{Aligner, Grid, OutOfMemory, TimedValue, TimedValues, Value};
 use std::alloc::Global;
 
 /// The values of a series at the times of a grid, the newest time first. A time has none where no
@@ -88,11 +88,11 @@ fn add_value(values: &mut TimedValues, time: i64, value: Option<Value>) -> Resul
 }
 
 // The value of the newest point.
-fn newest_value(alloc: Global, window: &[Point]) -> Result<Option<Value>, OutOfMemory>
+fn newest_value(alloc: Global, window: &[KeptPoint]) -> Result<Option<Value>, OutOfMemory>
     ensures { IfOk result (λ value. value ≡ option_map (λ point. point.value) (newest_point window.now)) }
 {
     match window.last() {
-        Some(point) => Ok(Some(point.value.copy(alloc)?)),
+        Some(point) => Ok(Some(point.value(alloc)?)),
         None => Ok(None),
     }
 }

@@ -9,8 +9,8 @@ ghost use Rattle.mon_value.specs.Groups.{numbers_in, distributions_in, total_of}
 ghost use Rattle.mon_value.specs.declared.aligners.Aligner.TheVariants.{Delta};
 ghost use Rattle.mon_fold.specs.SlidingWindows.{points_between, IsTotalled};
 
-use mon_series::Series;
-use mon_value::{Counts, LONGEST_DURATION, OutOfMemory, Point, TryCopy, Value};
+use mon_series::{KeptPoint, Series};
+use mon_value::{Counts, LONGEST_DURATION, OutOfMemory, TryCopy, Value};
 use std::alloc::Global;
 
 /// Points that follow one another, by the place of the first and that behind the last, and what they
@@ -24,7 +24,7 @@ pub(crate) struct Window {
 
 impl Window {
     /// The window without points behind all of them.
-    pub(crate) fn behind(all: &[Point]) -> Window
+    pub(crate) fn behind(all: &[KeptPoint]) -> Window
         ensures { IsTotalled result all.now }
     {
         Window {
@@ -69,7 +69,7 @@ pub(crate) fn window_at(
 // What the points between two places add up to, from another window.
 fn total_between(
     alloc: Global,
-    all: &[Point],
+    all: &[KeptPoint],
     last: Window,
     start: usize,
     end: usize,
@@ -90,7 +90,7 @@ fn total_between(
 
 // What the points between two places add up to, from a later window that has some of them: the new
 // points are added, and those that are not among them are taken off.
-fn slid_total(all: &[Point], last: Window, start: usize, end: usize) -> Option<Value>
+fn slid_total(all: &[KeptPoint], last: Window, start: usize, end: usize) -> Option<Value>
     requires alike { CanAddAll (values_of all.now) }
     requires totalled { IsTotalled last all.now }
     requires earlier { start ≤ last.start }
@@ -109,7 +109,7 @@ fn slid_total(all: &[Point], last: Window, start: usize, end: usize) -> Option<V
 }
 
 // The values of the points added up.
-fn added_value(alloc: Global, window: &[Point]) -> Result<Option<Value>, OutOfMemory>
+fn added_value(alloc: Global, window: &[KeptPoint]) -> Result<Option<Value>, OutOfMemory>
     requires alike { CanAddAll (values_of window.now) }
     requires within { sum_by magnitude (values_of window.now) ≤ most_aligned }
     ensures { IfOk result (λ value. value ≡ total_of (values_of window.now)) }
@@ -117,44 +117,45 @@ fn added_value(alloc: Global, window: &[Point]) -> Result<Option<Value>, OutOfMe
     let Some((first, rest)) = window.split_first() else {
         return Ok(None);
     };
-    match &first.value {
-        Value::Int(_) => Ok(Some(Value::Int(sum_of_numbers(window)))),
-        Value::Dist(counts) => Ok(Some(Value::Dist(merge_into(counts.copy(alloc)?, rest)))),
-        Value::Bool(_) => Ok(None),
-        Value::Text(_) => Ok(None),
+    if let Some(counts) = first.counts() {
+        return Ok(Some(Value::Dist(merge_into(counts.copy(alloc)?, rest))));
+    }
+    match first.number() {
+        Some(_) => Ok(Some(Value::Int(sum_of_numbers(window)))),
+        None => Ok(None),
     }
 }
 
 // The sum of the points that are numbers.
-fn sum_of_numbers(window: &[Point]) -> i128
+fn sum_of_numbers(window: &[KeptPoint]) -> i128
     requires within { sum_by magnitude (values_of window.now) ≤ most_aligned }
     ensures { result ≡ sum_of (numbers_in (values_of window.now)) }
 {
     let mut sum = 0;
     for point in window {
-        sum += number_or_zero(&point.value);
+        sum += number_or_zero(point);
     }
     sum
 }
 
-// The number that a value is, and 0 where it is none.
-fn number_or_zero(value: &Value) -> i128
-    ensures { result ≡ sum_of (numbers_in (value.now ∷ [])) }
+// The number that a point's value is, and 0 where it is none.
+fn number_or_zero(point: &KeptPoint) -> i128
+    ensures { result ≡ sum_of (numbers_in (point.now.value ∷ [])) }
 {
-    match value {
-        Value::Int(number) => *number,
-        _ => 0,
+    match point.number() {
+        Some(number) => number,
+        None => 0,
     }
 }
 
 // The counts with those of the points added.
-fn merge_into(mut counts: Counts, points: &[Point]) -> Counts
+fn merge_into(mut counts: Counts, points: &[KeptPoint]) -> Counts
     requires alike { AllByRecursion (CanAdd (Value.Dist counts)) (values_of points.now) }
     requires within { sum counts + sum_by magnitude (values_of points.now) ≤ most_aligned }
     ensures { result ≡ counts_added counts (counts_of (distributions_in (values_of points.now))) }
 {
     for point in points {
-        if let Value::Dist(more) = &point.value {
+        if let Some(more) = point.counts() {
             counts.merge(more);
         }
     }
@@ -162,7 +163,7 @@ fn merge_into(mut counts: Counts, points: &[Point]) -> Counts
 }
 
 // The counts without those of the points, which added again would give the counts.
-fn take_off(mut counts: Counts, points: &[Point]) -> Counts
+fn take_off(mut counts: Counts, points: &[KeptPoint]) -> Counts
     requires alike { AllByRecursion (CanAdd (Value.Dist counts)) (values_of points.now) }
     requires held { (k : ℕ) → get_or (counts_of (distributions_in (values_of points.now))) k 0 ≤ get_or counts k 0 }
     ensures buckets { length result ≡ length counts }
@@ -170,7 +171,7 @@ fn take_off(mut counts: Counts, points: &[Point]) -> Counts
         get_or result k 0 + get_or (counts_of (distributions_in (values_of points.now))) k 0 ≡ get_or counts k 0 }
 {
     for point in points {
-        if let Value::Dist(less) = &point.value {
+        if let Some(less) = point.counts() {
             subtract(counts.as_mut_slice(), less.as_slice());
         }
     }

@@ -124,13 +124,13 @@ impl<'a> Fetch<'a> {
         &self,
         alloc: Global,
         cells: Cells,
-        value: &Value,
+        value: Value,
     ) -> Result<(bool, Cells), OutOfMemory>
-        ensures kept { IfOk result (λ kept. kept.0 ≡ all_hold self.now.of_points (cells ++ value.now ∷ [])) }
+        ensures kept { IfOk result (λ kept. kept.0 ≡ all_hold self.now.of_points (cells ++ value ∷ [])) }
         ensures cells { IfOk result (λ kept. kept.1 ≡ cells) }
     {
         let mut row = cells;
-        row.push(value.copy(alloc)?)?;
+        row.push(value)?;
         let kept = self.holds_of_point(&row);
         let mut cells = row.into_vec();
         let _value = cells.pop();

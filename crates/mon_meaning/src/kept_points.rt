@@ -7,12 +7,12 @@ ghost use Rattle.mon_meaning.specs.within.FetchViews.{points_kept};
 ghost use Rattle.mon_meaning.specs.within.Reach.{reached as points_reached};
 
 use crate::fetches::{Fetch, series_cells};
-use mon_series::Series;
-use mon_value::{Aligner, Grid, OutOfMemory, Point, SeriesKey, TryCopy};
+use mon_series::{KeptPoint, Series};
+use mon_value::{Aligner, Grid, OutOfMemory, SeriesKey, TryCopy};
 use std::alloc::Global;
 
 /// The points in reach: those that end where an alignment may see them at some time of the grid. Their ends find them.
-pub(crate) fn points_in_reach<'a>(series: &'a Series, by: Aligner, grid: &Grid) -> &'a [Point]
+pub(crate) fn points_in_reach<'a>(series: &'a Series, by: Aligner, grid: &Grid) -> &'a [KeptPoint]
     requires lawful { grids.IsLawful grid.now }
     requires looks_back { grids.IsDuration (alignment.seconds_of by) }
     ensures reached { result.now ≡ points_reached grid.now by series.now.points }
@@ -25,7 +25,7 @@ pub(crate) fn points_in_reach<'a>(series: &'a Series, by: Aligner, grid: &Grid) 
 }
 
 // The points in reach of a series, between two places.
-fn reached_points<'a>(series: &'a Series, by: Aligner, grid: &Grid) -> &'a [Point]
+fn reached_points<'a>(series: &'a Series, by: Aligner, grid: &Grid) -> &'a [KeptPoint]
     requires rises { EndsRise series.now.points }
     requires lawful { grids.IsLawful grid.now }
     requires looks_back { grids.IsDuration (alignment.seconds_of by) }
@@ -65,7 +65,7 @@ pub(crate) fn kept_series(
     alloc: Global,
     fetch: &Fetch<'_>,
     key: &SeriesKey,
-    reached: &[Point],
+    reached: &[KeptPoint],
 ) -> Result<Series, OutOfMemory>
     requires rises { EndsRise reached.now }
     ensures kept { IfOk result (λ kept. kept.points ≡ points_kept fetch.now (key.now, reached.now)) }
@@ -73,7 +73,8 @@ pub(crate) fn kept_series(
     let mut kept = Series::new(alloc);
     let mut cells = series_cells(alloc, key)?;
     for point in reached {
-        let (keeps, again) = fetch.keeps(alloc, cells, &point.value)?;
+        let value = point.value(alloc)?;
+        let (keeps, again) = fetch.keeps(alloc, cells, value)?;
         cells = again;
         if keeps {
             kept.reserve()?;

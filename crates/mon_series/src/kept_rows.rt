@@ -5,11 +5,12 @@ ghost use Rattle.mon_value.specs.Sources.{IsSource, last_end, points_by_series, 
 ghost use Rattle.mon_series.specs.MetricNumbers.{metric_numbers};
 ghost use Rattle.mon_series.specs.SeriesMaps.{series_held};
 
+use crate::kept_point::KeptPoint;
 use crate::metrics::{ByMetric, add_number, index_of, make_room, numbers_of};
 use crate::placing::{Place, push_first, push_known};
 use crate::series::Series;
 use indexmap::IndexMap;
-use mon_value::{OutOfMemory, Point, RoomListOf, Row, SeriesKey, Shared, Text, TryCopy};
+use mon_value::{OutOfMemory, RoomListOf, Row, SeriesKey, Shared, Text, TryCopy};
 use std::alloc::{AllocError, AllocFailed, Global};
 use std::marker::Model;
 
@@ -95,7 +96,7 @@ impl KeptRows {
         };
         Ok(Row {
             key: key.copy(alloc)?,
-            point: point.copy(alloc)?,
+            point: point.point(alloc)?,
         })
     }
 
@@ -146,13 +147,6 @@ impl KeptRows {
         numbers_of(&self.by_metric, metric)
     }
 
-    /// All series.
-    pub fn all_series(&self) -> &SeriesMap
-        ensures series { series_held result.now.entries ≡ points_by_series self.now }
-    {
-        &self.series
-    }
-
     /// The series of a key, if it has a row.
     pub fn find(&self, key: &Shared<SeriesKey>) -> Option<KeptSeries>
         ensures number { IfSome result (λ found. slice_get (series_of self.now) found.number ≡ Some key.now) }
@@ -193,7 +187,7 @@ impl KeptRows {
         ensures kept { OnErr result (self.new ≡ self.old) }
         ensures value_returned { IfErr result (λ failed. failed.value ≡ row) }
     {
-        push_known(&mut self.series, &mut self.order, number, row)
+        push_known(self.alloc, &mut self.series, &mut self.order, number, row)
     }
 
     /// Adds the first row of a series. Else it does as `push`.
@@ -225,7 +219,7 @@ impl TryCopy for KeptRows {
 }
 
 // The point of a number.
-fn point_at(points: &[Point], number: usize) -> Option<&Point>
+fn point_at(points: &[KeptPoint], number: usize) -> Option<&KeptPoint>
     ensures point { option_copied result ≡ slice_get points.now number }
 {
     points.get(number)

@@ -2,10 +2,12 @@
 //! that a moment sees. Rows of many series are kept by series, and the series by their metric.
 #![tactic(auto)]
 
+mod kept_point;
 mod kept_rows;
 mod metrics;
 mod placing;
 mod series;
 
+pub use kept_point::KeptPoint;
 pub use kept_rows::{KeptRows, KeptSeries, SeriesMap};
 pub use series::Series;

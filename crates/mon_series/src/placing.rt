@@ -6,6 +6,7 @@ ghost use Rattle.mon_value.specs.Same.{same_series};
 ghost use Rattle.mon_series.specs.SeriesMaps.{series_held};
 ghost use Rattle.mon_series.specs.within.Places.{TakesRow, count_at, place_at, with_point_at};
 
+use crate::kept_point::KeptPoint;
 use crate::kept_rows::SeriesMap;
 use crate::series::Series;
 use mon_value::{OutOfMemory, RoomListOf, Row, SeriesKey, Shared, TryCopy};
@@ -29,6 +30,7 @@ impl TryCopy for Place {
 
 /// Adds the point of a row to the series of a number, which is the row's. Where memory runs out all stays.
 pub(crate) fn push_known(
+    alloc: Global,
     groups: &mut SeriesMap,
     order: &mut RoomListOf<Place>,
     number: u32,
@@ -49,7 +51,7 @@ pub(crate) fn push_known(
     let Ok(place) = room_for(series, order, number) else {
         return Err(AllocFailed { value: row });
     };
-    let Row { key: _, point } = row;
+    let (_key, point) = parts_of(alloc, row)?;
     series.push(point);
     order.push(place);
     Ok(())
@@ -75,11 +77,28 @@ pub(crate) fn push_first(
     let Ok(place) = room_for_first(groups, &mut series, order) else {
         return Err(AllocFailed { value: row });
     };
-    let Row { key, point } = row;
+    let (key, point) = parts_of(alloc, row)?;
     series.push(point);
     insert_new(groups, key, series);
     order.push(place);
     Ok(())
+}
+
+// The key of a row, and its point as it is kept. Where memory runs out the row is given back.
+fn parts_of(alloc: Global, row: Row) -> Result<(Shared<SeriesKey>, KeptPoint), AllocFailed<Row>>
+    ensures parts { IfOk result (λ parts. (parts.0 ≡ row.key) × (parts.1 ≡ row.point)) }
+    ensures value_returned { IfErr result (λ failed. failed.value ≡ row) }
+{
+    let Row { key, point } = row;
+    match KeptPoint::new(alloc, point) {
+        Ok(point) => Ok((key, point)),
+        Err(failed) => Err(AllocFailed {
+            value: Row {
+                key,
+                point: failed.value,
+            },
+        }),
+    }
 }
 
 // Makes room for one point more of a series, and gives its place.

@@ -27,6 +27,7 @@ loop-point-preserved c =
     let i = c.loop-point.point-index in
     let decided : c.in_ok-keeps.keeps ≡ keeps fetch key p.value =
     c.in_ok-keeps.ensures.kept
+    ∙ ap (λ (v : Value). all_hold fetch.of_points (c.loop-point.cells ++ v ∷ [])) c.in_ok-value.ensures.value
     ∙ ap (λ (cells : List Value). all_hold fetch.of_points (cells ++ p.value ∷ [])) c.loop-point.invariant.cells in
     let cells = c.in_ok-keeps.ensures.cells ∙ c.loop-point.invariant.cells in
     elim c.if-keeps.branch [

@@ -1,4 +1,4 @@
-use Rattle.std.proofs.Common.{◌∙◌, List, [], ◌∷◌, ◌++◌, ap, sym, subst, IfSome, ◌<ℤ◌}
+use Rattle.std.proofs.Common.{rules, ◌∙◌, List, [], ◌∷◌, ◌++◌, ap, sym, subst, IfSome, ◌<ℤ◌}
 use Rattle.mon_value.specs.Sources.{last_end}
 use Rattle.mon_value.specs.declared.rows.Point.{Point}
 use Rattle.mon_series.specs.within.Places.{place_at}
@@ -10,17 +10,23 @@ pub returns-in_default-room_for-clause-kept : goal.returns-in_default-room_for-c
 returns-in_default-room_for-clause-kept c =
     held_same c.args.groups.now.entries c.args.number c.in-Some.series.now c.room_for.new.series c.in-Some.ensures.value c.room_for.ensures.points
 
+pub returns-in_err-_key-clause-kept : goal.returns-in_err-_key-clause-kept
+returns-in_err-_key-clause-kept c =
+    let kept = held_same c.args.groups.now.entries c.args.number c.in-Some.series.now c.room_for.new.series c.in-Some.ensures.value c.room_for.ensures.points in
+    search rules
+
 pub push-requires-clause-rises : goal.push-requires-clause-rises
 push-requires-clause-rises c =
     let series = c.in-Some.series.now in
     let there = held_get c.args.groups.now.entries c.args.number series c.in-Some.ensures.value in
-    subst (λ (ps : List Point). IfSome (last_end ps) (λ last. last <ℤ c.args.row.point.end)) (sym c.room_for.ensures.points)
-    (takes_parts _ c.args.row there.0 series.points there.1 c.requires.takes)
+    subst (λ (point : Point). IfSome (last_end c.room_for.new.series.points) (λ last. last <ℤ point.end)) (sym c.in_ok-_key.ensures.parts.1)
+    (subst (λ (ps : List Point). IfSome (last_end ps) (λ last. last <ℤ c.args.row.point.end)) (sym c.room_for.ensures.points)
+    (takes_parts _ c.args.row there.0 series.points there.1 c.requires.takes))
 
 pub returns-clause-grown : goal.returns-clause-grown
 returns-clause-grown c =
     held_grown c.args.groups.now.entries c.args.number c.in-Some.series.now c.push.new.self c.args.row.point c.in-Some.ensures.value
-    (c.push.ensures.added ∙ ap (λ (ps : List Point). ps ++ c.args.row.point ∷ []) c.room_for.ensures.points)
+    (c.push.ensures.added ∙ (λ i. c.room_for.ensures.points i ++ c.in_ok-_key.ensures.parts.1 i ∷ []))
 
 pub returns-clause-placed : goal.returns-clause-placed
 returns-clause-placed c =

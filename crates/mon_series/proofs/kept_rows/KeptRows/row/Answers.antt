@@ -35,4 +35,4 @@ returns c =
     let row = row_numbered c.self.invariant.placed c.self.view_is c.args.number place key series.points point c.get-place.ensures.item
     (held_entry c.self.inside.series.entries place.series key series (sym c.in-Some.ensures.entry))
     (ap (λ ps. slice_get ps place.point) (sym c.points.ensures.points) ∙ sym c.in-Some-point_at.ensures.point) in
-    record { row = row ∙ (λ i. Some (row_of_parts (sym c.in_ok-copy.ensures.equal i) (sym c.in_ok-copy-2.ensures.equal i))) }
+    record { row = row ∙ (λ i. Some (row_of_parts (sym c.in_ok-copy.ensures.equal i) (sym c.in_ok-point.ensures.point i))) }
