@@ -1,6 +1,7 @@
 mod BucketLemmas
 mod EntryLemmas
-mod FollowLemmas
+pub mod FollowLemmas
+mod KeptEntryLemmas
 mod KnownLemmas
 mod ReplicaLemmas
 mod StateLemmas

@@ -1,19 +1,21 @@
 // The state of a leaf.
-ghost use Rattle.std.specs.Prelude.{◌≡◌, ◌++◌, ◌∷◌, ◌-◌, ◌<◌, ◌≤◌, ◌+◌, ◌^◌, ◌==◌, Bool, is_some, [], length, take, drop, false, true, not, nat_lt, IfOk, IfSome, IfNone, OnOk, OnErr, IsTrue, vec_capacity, if◌then◌else◌};
+ghost use Rattle.std.specs.Prelude.{◌≡◌, ◌++◌, ◌∷◌, ◌-◌, ◌<◌, ◌≤◌, ◌+◌, ◌^◌, ◌==◌, Bool, is_some, [], length, take, drop, false};
+ghost use Rattle.std.specs.Prelude.{true, not, nat_lt, IfOk, IfSome, IfNone, OnOk, OnErr, IsTrue, vec_capacity, if◌then◌else◌};
 ghost use Rattle.std.specs.List.{count_by};
 ghost use Rattle.std.specs.Option.{option_copied};
 ghost use Rattle.mon_hints.specs.BucketSets.{HasNone, IsNext};
 ghost use Rattle.mon_hints.specs.Listings.{is_among};
-ghost use Rattle.mon_value.specs.LeafHistories.{IsWellFormed, MayFollow, brought_rows, is_down, is_down_after, is_opened, is_switch, replica_rows};
+ghost use Rattle.mon_value.specs.LeafHistories.{IsWellFormed, MayFollow, brought_rows, is_down, is_down_after};
+ghost use Rattle.mon_value.specs.LeafHistories.{is_opened, is_switch, replica_rows};
 ghost use Rattle.mon_value.specs.Sources.{IsSource};
 ghost use Rattle.mon_hints.specs.HistoryBuckets.{history_buckets};
 ghost use Rattle.leaf_store.specs.LeafBuckets.{key_buckets, is_unraised};
 ghost use Rattle.leaf_store.specs.LeafStates.{new_leaf, opened_rows, with_entry, with_promised, with_settled};
 ghost use Rattle.leaf_store.specs.within.Follows.{CanTake};
 
-use crate::kept::Kept;
+use crate::kept::KeptEntries;
 use crate::raised::{Raised, raise};
-use crate::replays::{push_all_brought, push_all_kept, push_held, settle_entries};
+use crate::replays::{push_all_brought, push_held, rows_kept, settle_entries};
 use crate::replicas::{Replica, Replicas, is_new, rows_of, takes};
 use crate::slot_rows::SlotRows;
 use mon_hints::MOST_BUCKETS;
@@ -32,7 +34,7 @@ pub struct LeafState {
     schemas: Schemas,
     buckets: u32,
     replicas: Replicas,
-    kept: Vec<Kept>,
+    kept: KeptEntries,
     fresh: Vec<Entry>,
     moved: usize,
     settled: bool,
@@ -72,7 +74,7 @@ impl LeafState {
             schemas: schemas.copy(alloc)?,
             buckets,
             replicas: Replicas::new(alloc),
-            kept: Vec::new(alloc),
+            kept: KeptEntries::new(alloc),
             fresh: Vec::with_capacity(alloc, MOST_SWITCHES as usize)?,
             moved: 0,
             settled: true,
@@ -291,17 +293,10 @@ impl LeafState {
     {
         let replica = Replica { range, slot };
         let cut = cut as usize;
-        let mut rows = RowList::new(self.alloc);
         if cut < self.kept.len() {
-            push_all_kept(
-                self.alloc,
-                &mut rows,
-                &self.replicas,
-                replica,
-                &self.kept[..cut],
-            )?;
-            return Ok(rows);
+            return rows_kept(self.alloc, &self.replicas, replica, &self.kept, cut);
         }
+        let mut rows = RowList::new(self.alloc);
         push_held(self.alloc, &mut rows, &self.replicas, replica)?;
         let left = behind(self.fresh.as_slice(), self.moved);
         push_all_brought(

@@ -6,7 +6,7 @@ ghost use Rattle.mon_hints.specs.Listings.{is_among};
 ghost use Rattle.mon_hints.specs.HistoryBuckets.{rows_buckets};
 ghost use Rattle.mon_value.specs.LeafHistories.{brought_rows};
 ghost use Rattle.leaf_store.specs.LeafBuckets.{key_buckets};
-ghost use Rattle.leaf_store.specs.within.Raises.{Adds, HoldsBuckets, IsKnown, is_left};
+ghost use Rattle.leaf_store.specs.within.Raises.{Adds, AddsEntry, HoldsBuckets, IsKnown, is_left};
 
 use crate::replicas::{Replica, Replicas, has_series};
 use mon_hints::{MOST_BUCKETS, next_bucket};
@@ -50,7 +50,7 @@ impl Raised {
     pub(crate) fn add_entry(&mut self, schemas: &Schemas, buckets: u32, entry: &Entry)
         requires some { 0 < buckets }
         requires most { buckets ≤ MOST_BUCKETS }
-        ensures added { Adds (is_set self.old.words) (is_set self.new.words) (rows_buckets (key_buckets buckets schemas.now) (brought_rows entry.now)) }
+        ensures added { AddsEntry buckets schemas.now entry.now (is_set self.old.words) (is_set self.new.words) }
     {
         match entry {
             Entry::Opened { rows, .. } => self.add_rows(schemas, buckets, rows.as_slice()),
@@ -142,7 +142,7 @@ pub(crate) fn raise(
     requires some { 0 < buckets }
     requires most { buckets ≤ MOST_BUCKETS }
     requires held { HoldsBuckets replicas.now.entries (key_buckets buckets schemas.now) (is_set raised.old.words) }
-    ensures added { Adds (is_set raised.old.words) (is_set raised.new.words) (rows_buckets (key_buckets buckets schemas.now) (brought_rows entry.now)) }
+    ensures added { AddsEntry buckets schemas.now entry.now (is_set raised.old.words) (is_set raised.new.words) }
 {
     if is_known(replicas, entry) {
         return;

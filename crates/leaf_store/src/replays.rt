@@ -1,9 +1,9 @@
 // How the entries of a history reach replicas, and what they brought to one.
-ghost use Rattle.std.specs.Prelude.{◌≡◌, ◌≤◌, ◌++◌, length, drop, take, is_some, IfSome, OnOk, true};
+ghost use Rattle.std.specs.Prelude.{◌≡◌, ◌≤◌, ◌++◌, length, drop, take, is_some, IfOk, IfSome, OnOk, true};
 ghost use Rattle.mon_value.specs.LeafHistories.{entry_rows, replica_rows};
 ghost use Rattle.leaf_store.specs.within.Replicas.{AllThere, Holds, SameHistory, all_rows, entry_of, rows_held, shown};
 
-use crate::kept::Kept;
+use crate::kept::{Kept, KeptEntries};
 use crate::replicas::{Replica, Replicas, is_same, own_rows, rows_of, settle_entry};
 use crate::slot_rows::SlotRows;
 use mon_value::{Entry, OutOfMemory, Row, RowList, TryCopy};
@@ -14,7 +14,7 @@ use std::alloc::Global;
 pub(crate) fn settle_entries(
     alloc: Global,
     replicas: &mut Replicas,
-    kept: &mut Vec<Kept>,
+    kept: &mut KeptEntries,
     fresh: &[Entry],
     moved: &mut usize,
 ) -> Result<(), OutOfMemory>
@@ -28,30 +28,34 @@ pub(crate) fn settle_entries(
     ensures done { OnOk result (moved.new ≡ length fresh.now) }
 {
     while *moved < fresh.len() {
-        kept.reserve(1)?;
+        kept.reserve_one()?;
         let own = settle_entry(alloc, replicas, &fresh[*moved])?;
-        kept.push_reserved(own);
+        kept.push(own);
         *moved += 1;
     }
     Ok(())
 }
 
-/// Adds copies of the rows that kept entries brought to a replica.
-pub(crate) fn push_all_kept(
+/// Copies of the rows that the first so many kept entries brought to a replica.
+pub(crate) fn rows_kept(
     alloc: Global,
-    rows: &mut RowList,
     replicas: &Replicas,
     replica: Replica,
-    kept: &[Kept],
-) -> Result<(), OutOfMemory>
-    requires there { AllThere replicas.now.entries kept.now }
-    ensures added { OnOk result (rows.new
-        ≡ rows.old ++ replica_rows replica.range replica.slot (shown replicas.now.entries kept.now)) }
+    kept: &KeptEntries,
+    cut: usize,
+) -> Result<RowList, OutOfMemory>
+    requires there { AllThere replicas.now.entries kept.now.items }
+    requires within { cut ≤ length kept.now.items }
+    ensures rows { IfOk result (λ rows.
+        rows ≡ replica_rows replica.range replica.slot (shown replicas.now.entries (take cut kept.now.items))) }
 {
-    for entry in kept {
-        push_kept(alloc, rows, replicas, replica, *entry)?;
+    let mut rows = RowList::new(alloc);
+    let mut number = 0;
+    while number < cut {
+        push_kept(alloc, &mut rows, replicas, replica, kept.get(number))?;
+        number += 1;
     }
-    Ok(())
+    Ok(rows)
 }
 
 // Adds copies of the rows that a kept entry brought to a replica.

@@ -3,7 +3,8 @@ ghost use Rattle.std.specs.Prelude.{◌≡◌, ◌++◌, ◌∷◌, [], true, fa
 ghost use Rattle.std.specs.Option.{option_copied};
 ghost use Rattle.mon_value.specs.LeafHistories.{same_replica};
 ghost use Rattle.mon_value.specs.Sources.{IsSource, last_end, points_of};
-ghost use Rattle.leaf_store.specs.within.Replicas.{CanPut, CanSettle, HasSeries, IsLater, IsNew, IsOpened, IsPut, Settles, rows_held, rows_if};
+ghost use Rattle.leaf_store.specs.within.Replicas.{CanPut, CanSettle, HasSeries, IsLater, IsNew, IsOpened, IsPut};
+ghost use Rattle.leaf_store.specs.within.Replicas.{Settles, rows_held, rows_if};
 
 use crate::kept::Kept;
 use crate::slot_rows::SlotRows;

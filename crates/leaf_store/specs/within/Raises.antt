@@ -2,17 +2,24 @@
 use Rattle.std.specs.Prelude.{◌≡◌, ℕ, Bool, true, not, ◌&&◌, ◌||◌, List, Some}
 use Rattle.mon_hints.specs.HistoryBuckets.{rows_buckets}
 use Rattle.mon_hints.specs.Listings.{is_among}
+use Rattle.mon_schema.specs.SchemaLists.{SchemaLists}
+use Rattle.mon_value.specs.LeafHistories.{brought_rows}
 use Rattle.mon_value.specs.declared.histories.Entry.{Entry}
 use Rattle.mon_value.specs.declared.histories.Entry.TheVariants as entry
 use Rattle.mon_value.specs.declared.positions.Range.{Range}
 use Rattle.mon_value.specs.declared.positions.Slot.{Slot}
 use Rattle.mon_value.specs.declared.rows.Row.{Row}
 use Rattle.mon_value.specs.declared.rows.SeriesKey.{SeriesKey}
+use Rattle.leaf_store.specs.LeafBuckets.{key_buckets}
 use Rattle.leaf_store.specs.within.Replicas.{HasSeries, Replicas, rows_held}
 
 -- some buckets came to a set
 abbrev pub Adds : (ℕ → Bool) → (ℕ → Bool) → List ℕ → Type 0
 Adds old new buckets = (bucket : ℕ) → new bucket ≡ (old bucket || is_among bucket buckets)
+
+-- the buckets of the rows that an entry brings came to a set
+abbrev pub AddsEntry : ℕ → SchemaLists → Entry → (ℕ → Bool) → (ℕ → Bool) → Type 0
+AddsEntry buckets schemas e old new = Adds old new (rows_buckets (key_buckets buckets schemas) (brought_rows e))
 
 -- whether a bucket of a list is not in a set
 abbrev pub is_left : (ℕ → Bool) → List ℕ → ℕ → Bool

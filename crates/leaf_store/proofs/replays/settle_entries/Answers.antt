@@ -31,7 +31,7 @@ loop-moved-preserved c =
     let ks = c.loop-moved.kept.items in
     let own = c.in_ok-own.own in
     let step = settled old new ks own e rest (subst (Holds old ks) next c.loop-moved.invariant.holds) c.in_ok-own.ensures.settled in
-    let items = c.push_reserved.ensures.items ∙ ap (λ (all : List Kept). all ++ own ∷ []) c.reserve.ensures.items in
+    let items = c.push.ensures.added ∙ ap (λ (all : List Kept). all ++ own ∷ []) c.in_ok-reserve_one.ensures.kept in
     record {
       within = omega (arith, c.loop-moved-test.true);
       onward = omega (arith, c.loop-moved.invariant.onward);

@@ -15,7 +15,7 @@ invariant_of-result c =
     let ks = c.new-2.result.items in
     let fresh = c.in_ok-with_capacity.field-0.items in
     let none : replicas ≡ [] = search rules in
-    let kept = c.new-2.ensures.items in
+    let kept = c.new-2.ensures.empty in
     let left = c.in_ok-with_capacity.ensures.items in
     let history = no_history replicas ks fresh none kept left in
     record {

@@ -1,6 +1,7 @@
-use Rattle.std.proofs.Common.{rules, ◌≡◌, ◌∙◌, ◌<◌, ◌≤◌, ◌-◌, ◌++◌, ℕ, List, length, take, drop, sym, ap, subst}
+use Rattle.std.proofs.Common.{rules, ◌≡◌, ◌∙◌, ◌<◌, ◌≤◌, ◌-◌, ◌++◌, ℕ, IfOk, List, length, take, drop, sym, ap, subst}
 use Rattle.mon_value.specs.LeafHistories.{replica_rows}
 use Rattle.mon_value.specs.declared.histories.Entry.{Entry}
+use Rattle.mon_value.specs.declared.rows.Row.{Row}
 use Rattle.leaf_store.specs.LeafStates.{LeafView}
 use Rattle.leaf_store.specs.within.Replicas.{all_rows, rows_held, shown}
 use Rattle.leaf_store.specs.within.States.{history_of, left_of}
@@ -32,10 +33,10 @@ returns-then-cut-len c =
     let replicas = leaf.replicas.entries in
     let less : cut < length ks = search rules in
     record {
-      rows = c.in_ok-push_all_kept.ensures.added
-          ∙ (λ i. c.new-rows.ensures.empty i ++ replica_rows range slot (shown replicas (take cut (c.deref.ensures.value i))))
-          ∙ rows_early range slot replicas ks (left_of leaf) cut c.self.invariant.holds.there less
-          ∙ ap (λ (v : LeafView). replica_rows range slot (take cut v.history)) c.self.view_is;
+      rows = subst (λ (all : List Row). IfOk c.rows_kept.result (λ rows. rows ≡ all))
+          (rows_early range slot replicas ks (left_of leaf) cut c.self.invariant.holds.there less
+          ∙ ap (λ (v : LeafView). replica_rows range slot (take cut v.history)) c.self.view_is)
+          c.rows_kept.ensures.rows;
     }
 
 pub returns : goal.returns
