@@ -22,7 +22,7 @@ mod OperandLemmas
 mod PredicateLemmas
 pub mod QueryLaws
 pub mod RowCounts
-mod SpelledQueries
+pub mod SpelledQueries
 mod StepLemmas
 pub mod SumBounds
 mod SumTotals
