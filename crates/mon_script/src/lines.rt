@@ -3,7 +3,7 @@ ghost use Rattle.std.specs.Prelude.{◌≡◌, ◌∷◌, [], ◌<◌, length, o
 ghost use Rattle.mon_script.specs.Lines as spec;
 
 /// The first line of a text without its end, and what stands behind it. An empty text has no line.
-pub(crate) fn next_line(text: &[u8]) -> Option<(&[u8], &[u8])>
+pub fn next_line(text: &[u8]) -> Option<(&[u8], &[u8])>
     ensures first { MatchOption result (text.now ≡ [])
         (λ cut. spec.lines_of text.now ≡ cut.0.now ∷ spec.lines_of cut.1.now) }
     ensures shorter { IfSome result (λ cut. length cut.1.now < length text.now) }
@@ -36,7 +36,7 @@ fn without_return(line: &[u8]) -> &[u8]
 }
 
 /// What stands before the first of a byte, and what stands behind it.
-pub(crate) fn cut_at(text: &[u8], mark: u8) -> Option<(&[u8], &[u8])>
+pub fn cut_at(text: &[u8], mark: u8) -> Option<(&[u8], &[u8])>
     ensures cut { option_map (λ cut. (cut.0.now, cut.1.now)) result ≡ spec.cut_at mark text.now }
 {
     for (i, byte) in text.iter().enumerate() {
@@ -48,7 +48,7 @@ pub(crate) fn cut_at(text: &[u8], mark: u8) -> Option<(&[u8], &[u8])>
 }
 
 /// An empty line does nothing, and so does one that begins with `#`.
-pub(crate) fn is_remark(line: &[u8]) -> bool
+pub fn is_remark(line: &[u8]) -> bool
     ensures remark { result ≡ spec.is_remark line.now }
 {
     match line.split_first() {
