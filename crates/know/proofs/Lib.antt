@@ -1,3 +1,4 @@
 pub mod FirstLemmas
 pub mod ReachLemmas
 pub mod SoundLemmas
+mod TestLemmas

@@ -1,13 +1,20 @@
-ghost use Rattle.std.specs.Prelude.{◌≡◌, ◌<◌, length, IfOk};
-ghost use Rattle.history_book.specs.Seats.{first_seat};
-ghost use Rattle.mon_topo.specs.Zones.{leaves_in, ranges_in};
+ghost use Rattle.std.specs.Prelude.{◌≡◌, ◌<◌, ◌^◌, false, [], ◌∷◌, ◌++◌, length, map, Some, None, IfOk, IfSome, IsTrue};
+ghost use Rattle.history_book.specs.declared.rooms.RoomMove.TheVariants as the_move;
+ghost use Rattle.history_book.specs.declared.views.History.TheVariants as of;
+ghost use Rattle.history_book.specs.Histories.{IsFor, empty_histories, entries, histories_in, is_about, leaf_numbered, pass_of, range_numbered};
+ghost use Rattle.history_book.specs.Seats.{after_append, after_parting, first_seat, hand_of, new_owner, parted, times_range, with_guest};
+ghost use Rattle.mon_value.specs.declared.histories.Entry.TheVariants as entry;
+ghost use Rattle.mon_value.specs.declared.histories.RangeEntry.TheVariants as range_entry;
+ghost use Rattle.mon_value.specs.declared.positions.Range as a_range;
+ghost use Rattle.mon_topo.specs.Zones.{first_replicas, leaves_in, ranges_in};
 ghost use Rattle.raise_table.specs.declared.places.Place.TheVariants.{Root};
 ghost use Rattle.raise_table.specs.Seats.{KnowsAll};
+ghost use Rattle.know.specs.Knowledge.{from_seats};
 ghost use Rattle.know.specs.Tables.{AreTablesOf};
 
 use super::*;
-use history_book::{Book, BookBlank, BookSeat};
-use mon_value::{Leaf, LeafCounts, OutOfMemory};
+use history_book::{Book, BookBlank, BookOwner, BookOwners, BookSeat, NewEntry, RoomMove};
+use mon_value::{Leaf, LeafCounts, ListOf, OutOfMemory, Range, Refusal, Slot, SlotLeaf};
 use raise_table::{HintSeat, OwnerSeat, OwnerSeats, Place, RaiseBlank, RaiseTable};
 use std::alloc::Global;
 use std::marker::Brand;
@@ -15,27 +22,247 @@ use std::process::Abort;
 use std::test::Fail;
 use std::thread::{Threads, join};
 
-// A caller, and the owner of the leaf that it works at.
+// A seat comes to an owner as its guest, an entry is appended under its number, and it goes.
+fn appended<N: Names, E: NewEntry>(
+    book: &Book<N>,
+    owner: &mut BookOwner<N>,
+    seat: BookSeat<N>,
+) -> BookSeat<N>
+    requires free { owner.old.guest ≡ None }
+    requires room { length (entries owner.old.seen owner.old.history) < 2 ^ 62 }
+    requires fits { IsFor owner.old.history E.entry }
+    requires number { (hand_of seat.purse).own ≡ Some (pass_of E.entry) }
+    requires held { (range : a_range.Range) → IsTrue (is_about range E.entry)
+        → 0 < times_range range (owner.old.held ++ seat.purse.holds) }
+    ensures seat { result ≡ parted the_move.Keep false (after_append E.entry (with_guest seat owner.old)) }
+{
+    book.meet_owner(owner, seat);
+    book.append::<E>(owner);
+    book.split_owner(owner, RoomMove::Keep, false)
+}
+
+// The first replica of the first range opens on the first leaf: in the leaf's history.
+fn opened_on_leaf<N: Names>(
+    book: &Book<N>,
+    leaf: &mut BookOwner<N>,
+    seat: BookSeat<N>,
+) -> BookSeat<N>
+    requires new { leaf.old ≡ new_owner 2 1 (of.Leaf (leaf_numbered 0)) }
+    requires seen { seat.seen ≡ empty_histories 2 1 }
+    requires number { (hand_of seat.purse).own ≡ Some 0 }
+    requires held { 0 < times_range (range_numbered 0) seat.purse.holds }
+    ensures seen { result.seen ≡ record {
+      leaves = (entry.Opened 0 (range_numbered 0) (record { 0 = 0 }) [] ∷ []) ∷ [] ∷ [];
+      ranges = [] ∷ [];
+    } }
+    ensures number { (hand_of result.purse).own ≡ Some 0 }
+{
+    appended::<N, Brand>(book, leaf, seat)
+}
+
+// Both open in the range's history too, once the seat has seen that of the leaf.
+fn opened_in_range<N: Names>(
+    book: &Book<N>,
+    range: &mut BookOwner<N>,
+    seat: BookSeat<N>,
+) -> BookSeat<N>
+    requires free { range.old.guest ≡ None }
+    requires history { range.old.history ≡ of.Range (range_numbered 0) }
+    requires new { range.old.seen ≡ empty_histories 2 1 }
+    requires seen { seat.seen ≡ record {
+      leaves = (entry.Opened 0 (range_numbered 0) (record { 0 = 0 }) [] ∷ []) ∷ [] ∷ [];
+      ranges = [] ∷ [];
+    } }
+    requires number { (hand_of seat.purse).own ≡ Some 0 }
+    ensures seen { result.seen ≡ record {
+      leaves = (entry.Opened 0 (range_numbered 0) (record { 0 = 0 }) [] ∷ []) ∷ [] ∷ [];
+      ranges = (range_entry.Opened 0 (record { 0 = 0 }) (leaf_numbered 0) ∷ []) ∷ [];
+    } }
+    ensures number { (hand_of result.purse).own ≡ Some 0 }
+{
+    appended::<N, Brand>(book, range, seat)
+}
+
+// The second leaf goes down.
+fn went_down<N: Names>(book: &Book<N>, leaf: &mut BookOwner<N>, seat: BookSeat<N>) -> BookSeat<N>
+    requires new { leaf.old ≡ new_owner 2 1 (of.Leaf (leaf_numbered 1)) }
+    requires seen { seat.seen ≡ empty_histories 2 1 }
+    requires number { (hand_of seat.purse).own ≡ Some 1 }
+    ensures seen { result.seen ≡ record { leaves = [] ∷ (entry.Down 1 ∷ []) ∷ []; ranges = [] ∷ [] } }
+{
+    appended::<N, Brand>(book, leaf, seat)
+}
+
+// The seat gets the range to hold.
+fn holding<N: Names>(book: &Book<N>, range: &mut BookOwner<N>, seat: BookSeat<N>) -> BookSeat<N>
+    requires new { range.old ≡ new_owner 2 1 (of.Range (range_numbered 0)) }
+    requires seen { seat.seen ≡ empty_histories 2 1 }
+    requires number { (hand_of seat.purse).own ≡ Some 0 }
+    ensures free { range.new.guest ≡ None }
+    ensures history { range.new.history ≡ of.Range (range_numbered 0) }
+    ensures new { range.new.seen ≡ empty_histories 2 1 }
+    ensures seen { result.seen ≡ empty_histories 2 1 }
+    ensures number { (hand_of result.purse).own ≡ Some 0 }
+    ensures held { 0 < times_range (range_numbered 0) result.purse.holds }
+{
+    book.meet_owner(range, seat);
+    book.split_owner(range, RoomMove::Keep, true)
+}
+
+// Who has seen that the replica opened.
+fn first_caller<N: Names>(
+    alloc: Global,
+    hints: HintSeat<N>,
+    seat: BookSeat<N>,
+) -> Result<Know<N>, OutOfMemory>
+    requires sized { (length (leaves_in N.setting.zones) ≡ 2) × (length (ranges_in N.setting.zones) ≡ 1) }
+    requires replicas { first_replicas N.setting.zones 0 ≡ leaf_numbered 0 ∷ [] }
+    requires seen { seat.seen ≡ record {
+      leaves = (entry.Opened 0 (range_numbered 0) (record { 0 = 0 }) [] ∷ []) ∷ [] ∷ [];
+      ranges = (range_entry.Opened 0 (record { 0 = 0 }) (leaf_numbered 0) ∷ []) ∷ [];
+    } }
+    ensures known { IfOk result (λ know. know ≡ from_seats hints seat) }
+{
+    let replica = SlotLeaf {
+        slot: Slot(0),
+        leaf: Leaf(0),
+    };
+    let range = RangeReach {
+        length: 1,
+        first: Some(replica),
+    };
+    let reach = Reach {
+        leaves: ListOf::from_vec(vec![in alloc; 1, 0]?),
+        ranges: ListOf::from_vec(vec![in alloc; range]?),
+    };
+    Ok(Know::new(hints, seat, reach))
+}
+
+// Who has seen that the second leaf went down.
+fn second_caller<N: Names>(
+    alloc: Global,
+    hints: HintSeat<N>,
+    seat: BookSeat<N>,
+) -> Result<Know<N>, OutOfMemory>
+    requires sized { (length (leaves_in N.setting.zones) ≡ 2) × (length (ranges_in N.setting.zones) ≡ 1) }
+    requires seen { seat.seen ≡ record { leaves = [] ∷ (entry.Down 1 ∷ []) ∷ []; ranges = [] ∷ [] } }
+    ensures known { IfOk result (λ know. know ≡ from_seats hints seat) }
+{
+    let mut reach = Reach::none(alloc, 0, 1)?;
+    reach.leaves = ListOf::from_vec(vec![in alloc; 0, 1]?);
+    Ok(Know::new(hints, seat, reach))
+}
+
+// The owners of a new book of two leaves and one range.
+fn three_owners<N: Names>(
+    owners: BookOwners<N>,
+) -> Option<(BookOwner<N>, BookOwner<N>, BookOwner<N>)>
+    requires new { owners ≡ map (new_owner 2 1) (histories_in 2 1) }
+    ensures first { IfSome result (λ three. three.0 ≡ new_owner 2 1 (of.Leaf (leaf_numbered 0))) }
+    ensures second { IfSome result (λ three. three.1 ≡ new_owner 2 1 (of.Leaf (leaf_numbered 1))) }
+    ensures range { IfSome result (λ three. three.2 ≡ new_owner 2 1 (of.Range (range_numbered 0))) }
+{
+    let mut owners = owners.into_vec();
+    let range = owners.pop()?;
+    let second = owners.pop()?;
+    let first = owners.pop()?;
+    Some((first, second, range))
+}
+
+// What a thread opens a replica with, and raises a bucket.
 #[derive(Drop)]
-struct Worker<N: Names> {
-    know: Know<N>,
+struct Opener<N: Names> {
+    hints: HintSeat<N>,
+    seat: BookSeat<N>,
+    leaf: BookOwner<N>,
+    range: BookOwner<N>,
     owner: OwnerSeat<N>,
+    ghost leaf_new: { leaf ≡ new_owner 2 1 (of.Leaf (leaf_numbered 0)) },
+    ghost range_new: { range ≡ new_owner 2 1 (of.Range (range_numbered 0)) },
+    ghost seen: { seat.seen ≡ empty_histories 2 1 },
+    ghost number: { (hand_of seat.purse).own ≡ Some 0 },
+}
+
+// What another takes a leaf down with.
+#[derive(Drop)]
+struct Closer<N: Names> {
+    hints: HintSeat<N>,
+    seat: BookSeat<N>,
+    leaf: BookOwner<N>,
+    owner: OwnerSeat<N>,
+    ghost leaf_new: { leaf ≡ new_owner 2 1 (of.Leaf (leaf_numbered 1)) },
+    ghost seen: { seat.seen ≡ empty_histories 2 1 },
+    ghost number: { (hand_of seat.purse).own ≡ Some 1 },
+}
+
+// The replica opens, and its caller works.
+fn opens<N: Names>(
+    alloc: Global,
+    tables: &Tables<N>,
+    opener: Opener<N>,
+) -> Result<(Know<N>, u64), OutOfMemory>
+    requires sized { (length (leaves_in N.setting.zones) ≡ 2) × (length (ranges_in N.setting.zones) ≡ 1) }
+    requires replicas { first_replicas N.setting.zones 0 ≡ leaf_numbered 0 ∷ [] }
+    requires buckets { 192 < N.raise.buckets }
+    ensures known { IfOk result (λ done. KnowsAll done.0.hints Root 192 done.1) }
+    ensures seen { IfOk result (λ done. done.0.seen ≡ record {
+      leaves = (entry.Opened 0 (range_numbered 0) (record { 0 = 0 }) [] ∷ []) ∷ [] ∷ [];
+      ranges = (range_entry.Opened 0 (record { 0 = 0 }) (leaf_numbered 0) ∷ []) ∷ [];
+    }) }
+{
+    let Opener {
+        hints,
+        seat,
+        mut leaf,
+        mut range,
+        owner,
+        ..
+    } = opener;
+    let seat = holding(&tables.book, &mut range, seat);
+    let seat = opened_on_leaf(&tables.book, &mut leaf, seat);
+    let seat = opened_in_range(&tables.book, &mut range, seat);
+    let know = first_caller(alloc, hints, seat)?;
+    at_work(alloc, tables, know, owner, 192)
+}
+
+// The leaf goes down, and the caller works.
+fn goes_down<N: Names>(
+    alloc: Global,
+    tables: &Tables<N>,
+    closer: Closer<N>,
+) -> Result<(Know<N>, u64), OutOfMemory>
+    requires sized { (length (leaves_in N.setting.zones) ≡ 2) × (length (ranges_in N.setting.zones) ≡ 1) }
+    requires buckets { 41 < N.raise.buckets }
+    ensures known { IfOk result (λ done. KnowsAll done.0.hints Root 41 done.1) }
+    ensures seen { IfOk result (λ done. done.0.seen
+        ≡ record { leaves = [] ∷ (entry.Down 1 ∷ []) ∷ []; ranges = [] ∷ [] }) }
+{
+    let Closer {
+        hints,
+        seat,
+        mut leaf,
+        owner,
+        ..
+    } = closer;
+    let seat = went_down(&tables.book, &mut leaf, seat);
+    let know = second_caller(alloc, hints, seat)?;
+    at_work(alloc, tables, know, owner, 41)
 }
 
 // Raises a bucket at the root, and splits one off that loads it and is met again.
 fn at_work<N: Names>(
     alloc: Global,
     tables: &Tables<N>,
-    worker: Worker<N>,
+    know: Know<N>,
+    owner: OwnerSeat<N>,
     bucket: u32,
 ) -> Result<(Know<N>, u64), OutOfMemory>
     requires bucket { bucket < N.raise.buckets }
     ensures known { IfOk result (λ done. KnowsAll done.0.hints Root bucket done.1) }
+    ensures seen { IfOk result (λ done. done.0.seen ≡ know.seen) }
 {
-    let Worker {
-        mut know,
-        mut owner,
-    } = worker;
+    let mut know = know;
+    let mut owner = owner;
     tables.raise.raise(&mut owner, Place::Root, bucket);
     let mut other = know.split(alloc, tables)?;
     let word = other.load(tables, Place::Root, bucket);
@@ -43,65 +270,48 @@ fn at_work<N: Names>(
     Ok((know, word))
 }
 
-// What two know who worked at once and met: both words that they loaded.
+// What two know who worked at once and met: both words that they loaded, and all that either had seen.
 fn met_after_work<N: Names + Send + Sync, R: Threads + Sync>(
     rt: &R,
     alloc: Global,
     tables: &Tables<N>,
-    first: Worker<N>,
-    second: Worker<N>,
+    opener: Opener<N>,
+    closer: Closer<N>,
 ) -> Result<(Know<N>, u64, u64), OutOfMemory>
+    requires sized { (length (leaves_in N.setting.zones) ≡ 2) × (length (ranges_in N.setting.zones) ≡ 1) }
+    requires replicas { first_replicas N.setting.zones 0 ≡ leaf_numbered 0 ∷ [] }
     requires buckets { N.raise.buckets ≡ 1024 }
     ensures first { IfOk result (λ met. KnowsAll met.0.hints Root 192 met.1) }
     ensures second { IfOk result (λ met. KnowsAll met.0.hints Root 41 met.2) }
+    ensures seen { IfOk result (λ met. met.0.seen ≡ record {
+      leaves = (entry.Opened 0 (range_numbered 0) (record { 0 = 0 }) [] ∷ []) ∷ (entry.Down 1 ∷ []) ∷ [];
+      ranges = (range_entry.Opened 0 (record { 0 = 0 }) (leaf_numbered 0) ∷ []) ∷ [];
+    }) }
 {
     let (one, two) = join(
         rt,
         || -> Result<(Know<N>, u64), OutOfMemory>
-            requires { 192 < N.raise.buckets }
-            ensures { IfOk result (λ done. KnowsAll done.0.hints Root 192 done.1) }
-        { at_work(alloc, tables, first, 192) },
+            requires sized { (length (leaves_in N.setting.zones) ≡ 2) × (length (ranges_in N.setting.zones) ≡ 1) }
+            requires replicas { first_replicas N.setting.zones 0 ≡ leaf_numbered 0 ∷ [] }
+            requires buckets { 192 < N.raise.buckets }
+            ensures known { IfOk result (λ done. KnowsAll done.0.hints Root 192 done.1) }
+            ensures seen { IfOk result (λ done. done.0.seen ≡ record {
+              leaves = (entry.Opened 0 (range_numbered 0) (record { 0 = 0 }) [] ∷ []) ∷ [] ∷ [];
+              ranges = (range_entry.Opened 0 (record { 0 = 0 }) (leaf_numbered 0) ∷ []) ∷ [];
+            }) }
+        { opens(alloc, tables, opener) },
         || -> Result<(Know<N>, u64), OutOfMemory>
-            requires { 41 < N.raise.buckets }
-            ensures { IfOk result (λ done. KnowsAll done.0.hints Root 41 done.1) }
-        { at_work(alloc, tables, second, 41) },
+            requires sized { (length (leaves_in N.setting.zones) ≡ 2) × (length (ranges_in N.setting.zones) ≡ 1) }
+            requires buckets { 41 < N.raise.buckets }
+            ensures known { IfOk result (λ done. KnowsAll done.0.hints Root 41 done.1) }
+            ensures seen { IfOk result (λ done. done.0.seen
+                ≡ record { leaves = [] ∷ (entry.Down 1 ∷ []) ∷ []; ranges = [] ∷ [] }) }
+        { goes_down(alloc, tables, closer) },
     );
     let (mut know, first_word) = one?;
     let (other, second_word) = two?;
     know.meet(tables, other);
     Ok((know, first_word, second_word))
-}
-
-// Who has seen nothing of two leaves and one range.
-fn new_caller<N: Names>(
-    alloc: Global,
-    hints: HintSeat<N>,
-    seat: BookSeat<N>,
-) -> Result<Know<N>, OutOfMemory>
-    requires sized { (2 ≡ length (leaves_in N.setting.zones)) × (1 ≡ length (ranges_in N.setting.zones)) }
-    requires seat { seat ≡ first_seat 2 1 }
-{
-    Ok(Know::new(hints, seat, Reach::none(alloc, 2, 1)?))
-}
-
-// Two that are split off a caller, one of them with a number, each with an owner.
-fn two_workers<N: Names>(
-    alloc: Global,
-    tables: &Tables<N>,
-    know: &mut Know<N>,
-    owners: OwnerSeats<N>,
-) -> Option<(Worker<N>, Worker<N>)> {
-    let mut owners = owners.into_vec();
-    let owner = owners.pop()?;
-    let plain = know.split(alloc, tables).ok()?;
-    let second = Worker { know: plain, owner };
-    let owner = owners.pop()?;
-    let numbered = know.split_numbered(alloc, tables).ok()?;
-    let first = Worker {
-        know: numbered,
-        owner,
-    };
-    Some((first, second))
 }
 
 #[test]
@@ -121,17 +331,143 @@ fn in_two_threads<N: Names + Send + Sync, R: Abort + Threads + Sync>(
     requires named { (raise ≡ N.raise) × (book ≡ N.book) }
     requires shape { (N.raise.buckets ≡ 1024) × (N.book.leaves ≡ 2) × (N.book.ranges ≡ 1) }
     requires tables { AreTablesOf N.setting N.raise N.book }
+    requires replicas { first_replicas N.setting.zones 0 ≡ leaf_numbered 0 ∷ [] }
 {
     let (raise, hints, owners) = RaiseTable::<N>::open(alloc, raise)?;
-    let (book, seat, _owners) = Book::<N>::open(alloc, book)?;
+    let (book, seat, book_owners) = Book::<N>::open(alloc, book)?;
     let tables = Tables { raise, book };
-    let mut know = new_caller(alloc, hints, seat)?;
-    let (first, second) = two_workers(alloc, &tables, &mut know, owners).ok_or("two leaves")?;
-    let (met, first_word, second_word) = met_after_work(rt, alloc, &tables, first, second)?;
-    know.meet(&tables, met);
-    know.hand(2);
+    let owners = four_owners(owners, book_owners).ok_or("owners")?;
+    let (opener, closer) = two_workers(&tables, hints, seat, owners).ok_or("a number")?;
+    let (know, first_word, second_word) = met_after_work(rt, alloc, &tables, opener, closer)?;
     assert!(rt; first_word == 1 && second_word == 1);
+    assert!(rt; know.seen(Leaf(0)) == 1 && know.seen(Leaf(1)) == 1);
+    assert!(rt; know.first(Range(0)) == (Slot(0), Leaf(0)));
+    Ok(())
+}
+
+// The owners of two leaves and one range, in both tables.
+#[derive(Drop)]
+struct Owners<N: Names> {
+    raise: (OwnerSeat<N>, OwnerSeat<N>),
+    leaves: (BookOwner<N>, BookOwner<N>),
+    range: BookOwner<N>,
+    ghost first: { leaves.0 ≡ new_owner 2 1 (of.Leaf (leaf_numbered 0)) },
+    ghost second: { leaves.1 ≡ new_owner 2 1 (of.Leaf (leaf_numbered 1)) },
+    ghost range_new: { range ≡ new_owner 2 1 (of.Range (range_numbered 0)) },
+}
+
+fn four_owners<N: Names>(owners: OwnerSeats<N>, book_owners: BookOwners<N>) -> Option<Owners<N>>
+    requires new { book_owners ≡ map (new_owner 2 1) (histories_in 2 1) }
+{
+    let mut owners = owners.into_vec();
+    let second = owners.pop()?;
+    let first = owners.pop()?;
+    let (leaf, other, range) = three_owners(book_owners)?;
+    Some(Owners {
+        raise: (first, second),
+        leaves: (leaf, other),
+        range,
+    })
+}
+
+// Who opens the replica, with the first number, and who takes the leaf down, with the second.
+fn two_workers<N: Names>(
+    tables: &Tables<N>,
+    hints: HintSeat<N>,
+    seat: BookSeat<N>,
+    owners: Owners<N>,
+) -> Option<(Opener<N>, Closer<N>)>
+    requires seat { seat ≡ first_seat 2 1 }
+{
+    let mut hints = hints;
+    let mut seat = seat;
+    let numbered = tables.book.split_numbered(&mut seat)?;
+    let other = tables.raise.split(&mut hints);
+    let Owners {
+        raise: (first, second),
+        leaves: (leaf, down),
+        range,
+        ..
+    } = owners;
+    let opener = Opener {
+        hints,
+        seat,
+        leaf,
+        range,
+        owner: first,
+    };
+    let closer = Closer {
+        hints: other,
+        seat: numbered,
+        leaf: down,
+        owner: second,
+    };
+    Some((opener, closer))
+}
+
+#[test]
+fn who_is_new_has_seen_nothing(rt: HostRuntime) -> Result<(), Fail> {
+    let zones = LeafCounts::from_vec(vec![in rt.alloc(); 2; 1]?);
+    let raise = RaiseBlank::new(rt.alloc(), &zones, 1_024)?;
+    let book = BookBlank::new(rt.alloc(), 2, 1)?;
+    in_a_new_store::<Brand, _>(&rt, rt.alloc(), raise, book)
+}
+
+fn in_a_new_store<N: Names, R: Abort>(
+    rt: &R,
+    alloc: Global,
+    raise: RaiseBlank,
+    book: BookBlank,
+) -> Result<(), Fail>
+    requires named { (raise ≡ N.raise) × (book ≡ N.book) }
+    requires shape { (N.book.leaves ≡ 2) × (N.book.ranges ≡ 1) }
+    requires tables { AreTablesOf N.setting N.raise N.book }
+{
+    let (raise, hints, _owners) = RaiseTable::<N>::open(alloc, raise)?;
+    let (book, seat, _book_owners) = Book::<N>::open(alloc, book)?;
+    let tables = Tables { raise, book };
+    let know = new_caller(alloc, hints, seat)?;
     assert!(rt; know.seen(Leaf(1)) == 0);
+    hands_out_numbers(rt, alloc, &tables, know)
+}
+
+// Who has seen nothing of two leaves and one range.
+fn new_caller<N: Names>(
+    alloc: Global,
+    hints: HintSeat<N>,
+    seat: BookSeat<N>,
+) -> Result<Know<N>, OutOfMemory>
+    requires sized { (2 ≡ length (leaves_in N.setting.zones)) × (1 ≡ length (ranges_in N.setting.zones)) }
+    requires seat { seat ≡ first_seat 2 1 }
+{
+    Ok(Know::new(hints, seat, Reach::none(alloc, 2, 1)?))
+}
+
+// A number is handed out where the stock has one. What is left has the number that there was.
+fn hands_out_numbers<N: Names, R: Abort>(
+    rt: &R,
+    alloc: Global,
+    tables: &Tables<N>,
+    know: Know<N>,
+) -> Result<(), Fail> {
+    let mut know = know;
+    assert!(rt; handed_number(alloc, tables, &mut know)? == Some(1));
+    let mut plain = know.split(alloc, tables)?;
+    assert!(rt; handed_number(alloc, tables, &mut plain)?.is_none());
+    know.hand(5);
     assert!(rt; know.unname().number() == Some(0));
     Ok(())
+}
+
+// The number that is handed out, unless the stock is spent.
+fn handed_number<N: Names>(
+    alloc: Global,
+    tables: &Tables<N>,
+    know: &mut Know<N>,
+) -> Result<Option<u64>, OutOfMemory> {
+    match know.split_numbered(alloc, tables) {
+        Ok(new) => Ok(new.number()),
+        Err(Refusal::Fault(_spent)) => Ok(None),
+        Err(Refusal::OutOfMemory) => Err(std::alloc::AllocError),
+    }
 }
