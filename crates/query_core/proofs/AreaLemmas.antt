@@ -10,6 +10,7 @@ use Rattle.mon_topo.specs.Zones.{leaves_in, no_zone, ranges_in}
 use Rattle.mon_topo.specs.declared.places.Place.{Place}
 use Rattle.mon_topo.specs.declared.places.Place.TheVariants as place
 use Rattle.mon_topo.specs.declared.zones.ZoneSpec.{ZoneSpec}
+use Rattle.query_core.proofs.ZoneFacts.{so_far}
 use Rattle.query_core.specs.Areas.{IsSmall, area_of, areas_of}
 
 record AreFew (zones : List ZoneSpec) : Type 0 where
@@ -36,14 +37,6 @@ few zones e =
       leaves_few = grind (arith, nat_tests);
       ranges_few = grind (arith, nat_tests);
     }
-
--- the parts of an element, and those of all before it, are no more than those of all
-so_far : {X Y : Type 0} (parts : X → List Y) (xs : List X) (i : ℕ) (d : X) → i < length xs
-    → length (flat_map parts (take i xs)) + length (parts (get_or xs i d)) ≤ length (flat_map parts xs)
-so_far parts [] i d there = absurd (omega arith)
-so_far parts (x ∷ xs) zero d there = omega (arith, length-append (parts x) (flat_map parts xs))
-so_far parts (x ∷ xs) (suc i) d there =
-    omega (arith, so_far parts xs i d (omega arith), length-append (parts x) (flat_map parts xs), length-append (parts x) (flat_map parts (take i xs)))
 
 small_at : (zones : List ZoneSpec) → IsLawful zones → (i : ℕ) → i < length zones → IsSmall (area_of zones i)
 small_at zones lawful i there =

@@ -66,13 +66,13 @@ found_on at_entry before after grown found is =
       down = down_on (leaf_history after found.leaf) (leaf_history before found.leaf) found.cut begins is.down;
     }
 
-founds_on : (at_entry before after : Histories) → AreWithin before after → (founds : List FoundDown)
+pub founds_on : (at_entry before after : Histories) → AreWithin before after → (founds : List FoundDown)
     → AreFoundThen at_entry before founds → AreFoundThen at_entry after founds
 founds_on at_entry before after grown [] all = record {}
 founds_on at_entry before after grown (found ∷ founds) all =
     (found_on at_entry before after grown found all.0, founds_on at_entry before after grown founds all.1)
 
-one_more : {X : Type 0} (P : X → Type 0) (xs : List X) (x : X) → AllByRecursion P xs → P x
+pub one_more : {X : Type 0} (P : X → Type 0) (xs : List X) (x : X) → AllByRecursion P xs → P x
     → AllByRecursion P (xs ++ x ∷ [])
 one_more P [] x all one = (one, record {})
 one_more P (y ∷ xs) x all one = (all.0, one_more P xs x all.1 one)
@@ -111,7 +111,7 @@ none_left avoided (replica ∷ replicas) none =
 
 module _ (at_entry now : Histories) where
   -- the leaves that were found down are avoided
-  record KeepsFounds (avoided : List Leaf) (founds : List FoundDown) : Type 0 where
+  pub record KeepsFounds (avoided : List Leaf) (founds : List FoundDown) : Type 0 where
     pub were_found : AreFoundThen at_entry now founds
     pub avoids : avoided ≡ found_leaves founds
 
@@ -314,7 +314,7 @@ module _ (store : Store) (setting : Setting) (moment : ℤ) (at_entry : Historie
               (none_left avoided (serving (take is.found history)) is.first);
         }
 
-    one_found : (avoided : List Leaf) (course : Course) (leaf : Leaf) (cut : ℕ)
+    pub one_found : (avoided : List Leaf) (course : Course) (leaf : Leaf) (cut : ℕ)
         → KeepsFounds at_entry after.seen avoided course.founds → session.IsFoundSo before after leaf cut true
         → KeepsFounds at_entry after.seen (avoided ++ leaf ∷ []) (with_found course leaf cut).founds
     one_found avoided course leaf cut keeps is =

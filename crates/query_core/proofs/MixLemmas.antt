@@ -277,3 +277,5 @@ module _ (setting : Setting) (plan : Plan) (limit : ℕ) (same_plan : plan ≡ s
       → turn ≡ next_zone (drop course.begun setting.areas) (kept course answer) → MayMixRoot setting turn
   may_go_on course parts result answer turn is has mixes same =
       subst (λ (t : Turn). MayMixRoot setting t) (sym same) (goes_on course parts result answer is has mixes)
+
+pub ruleset zone_mixed = (asked_leaves, may_go_on, zone_goes_on, zone_stops)

@@ -117,7 +117,7 @@ slot_elsewhere area resolved one other =
     (λ place. slots_on (leaf_at area place) (resolved ++ one ∷ [])) 0 area.leaves
     (λ i from to. slots_kept (leaf_at area i) resolved one (other i (omega arith)))
 
-has_at : (area : Area) (leaf : Leaf) (i : ℕ) → i < area.leaves → leaf.0 ≡ area.first_leaf.0 + i → has_leaf area leaf ≡ true
+pub has_at : (area : Area) (leaf : Leaf) (i : ℕ) → i < area.leaves → leaf.0 ≡ area.first_leaf.0 + i → has_leaf area leaf ≡ true
 has_at area leaf i there e =
     let from : nat_le area.first_leaf.0 leaf.0 ≡ true = grind (arith, nat_tests) in
     let to : nat_lt leaf.0 (area.first_leaf.0 + area.leaves) ≡ true = grind (arith, nat_tests) in

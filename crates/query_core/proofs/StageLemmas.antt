@@ -104,3 +104,5 @@ settles_so setting stage answer step (Err why) is settles = record {}
 pub slots_here : (round : Round) (leaf : Leaf) → has_leaf round.area leaf ≡ true
     → slots_in round leaf ≡ slots_on leaf round.resolved
 slots_here round leaf has = ap (λ b. cond b (slots_on leaf round.resolved) []) has
+
+pub ruleset going_on = (leaf_next, leaves_left, none_left, no_leaf_left)

@@ -1,4 +1,6 @@
+pub mod Answers
 pub mod Areas
+pub mod Askings
 pub mod Courses
 pub mod Findings
 pub mod Loadings

@@ -19,5 +19,5 @@ mod visits;
 
 pub use answers::{Answer, Cuts, Flags, Resolved, Resolveds, RoundFault, Trace};
 pub use asks::{Ask, Seen, Told};
-pub use laws::sessions_name_what_they_found;
+pub use laws::{sessions_answer_rightly, sessions_name_what_they_found};
 pub use machine::QueryMachine;

@@ -1,5 +1,5 @@
 // The machine of a query.
-ghost use Rattle.std.specs.Prelude.{◌≡◌, ◌≤◌, ◌^◌, IfOk, OnOk};
+ghost use Rattle.std.specs.Prelude.{◌≡◌, ◌≤◌, ◌^◌, IfOk, OnErr, OnOk};
 ghost use Rattle.mon_value.specs.declared.limits.TheConstants.{ROW_BITS};
 ghost use Rattle.query_core.specs.Areas.{areas_of};
 ghost use Rattle.query_core.specs.Machine as spec;
@@ -112,15 +112,29 @@ impl QueryMachine {
         }
     }
 
-    /// Goes on by what its last event came to. Where it is refused, it is to be dropped.
+    /// Goes on by what its last event came to. Where that is refused, it stands as a query that has not begun.
     pub fn told(&mut self, told: Told) -> Result<(), OutOfMemory>
         requires { MayBeTold self.old.setting self.old.stage told }
         ensures setting { self.new.setting ≡ self.old.setting }
         ensures stage { OnOk result (LeadsTo self.old.setting self.old.stage told self.new.stage) }
         ensures avoided { OnOk result
             (self.new.avoided ≡ spec.avoided_after self.old.avoided self.old.stage told) }
+        ensures refused { OnErr result (self.new ≡ spec.new_query self.old.setting) }
     {
-        tell(&self.setting, &mut self.avoided, &mut self.stage, told)
+        let gone_on = tell(&self.setting, &mut self.avoided, &mut self.stage, told);
+        if gone_on.is_err() {
+            self.begin_anew();
+        }
+        gone_on
+    }
+
+    // Forgets all that it was told.
+    fn begin_anew(&mut self)
+        ensures anew { self.new ≡ spec.new_query self.old.setting }
+    {
+        let alloc = self.setting.alloc();
+        self.avoided = Leaves::new(alloc);
+        self.stage = Stage::Rooting(Loading::none(alloc));
     }
 
     /// How it ended.
@@ -136,7 +150,7 @@ impl QueryMachine {
     }
 }
 
-// Goes on by an answer; where it is refused, the query stands as one that has not begun.
+// Goes on by an answer.
 fn tell(
     setting: &Setting,
     avoided: &mut Leaves,

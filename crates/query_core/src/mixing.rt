@@ -38,7 +38,7 @@ fn settled(setting: &Setting, step: Step) -> Result<Stage, OutOfMemory>
 }
 
 // The answers of a zone's leaves are mixed, unless their load is above the limit.
-#[tactic(auto, using(crate::proofs::MixLemmas::asked_leaves, crate::proofs::MixLemmas::may_go_on, crate::proofs::MixLemmas::zone_goes_on, crate::proofs::MixLemmas::zone_stops))]
+#[tactic(auto, using(crate::proofs::MixLemmas::zone_mixed))]
 fn mixed_zone(setting: &Setting, course: Course, answers: LeafAnswers) -> Result<Stage, OutOfMemory>
     requires { spec.HasParts setting.now course.answers answers }
     ensures stage { IfOk result (spec.IsZoneMixed setting.now course answers) }

@@ -53,7 +53,7 @@ impl Visits {
     }
 
     /// Goes on to the next leaf that is to be visited.
-    #[tactic(auto, using(crate::proofs::StageLemmas::leaf_next, crate::proofs::StageLemmas::leaves_left, crate::proofs::StageLemmas::none_left, crate::proofs::StageLemmas::no_leaf_left))]
+    #[tactic(auto, using(crate::proofs::StageLemmas::going_on))]
     pub(crate) fn go_on(&mut self) -> Option<Leaf>
         ensures leaf { result ≡ spec.next_leaf self.old }
         ensures gone { self.new ≡ spec.gone_on self.old }

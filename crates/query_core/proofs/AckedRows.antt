@@ -1,0 +1,296 @@
+-- Rows that were acknowledged are in the history of the leaf of each replica that serves.
+use Rattle.std.proofs.Common.{◌≡◌, ◌∙◌, ℕ, zero, suc, ◌+◌, ◌<◌, ◌≤◌, Bool, true, false, not, cond, ◌||◌, nat_eq, List, [], ◌∷◌, ◌++◌, length, map, take, slice_get, Some, ◌⊎◌, inl, inr, refl, sym, ap, subst, append-nil, append_assoc, length-append, arith}
+use Rattle.std.specs.Prelude.{filter, Contains}
+use Rattle.std.specs.List.{AllByRecursion as All, flat_map}
+use Rattle.std.proofs.lemmas.Bool.{and_from, cases_lt, eq-eqb, or_parts}
+use Rattle.std.proofs.lemmas.Bool.Decides.{nat_tests}
+use Rattle.std.proofs.lemmas.List.{get_or_at, take_at}
+use Rattle.std.proofs.lemmas.List.Concat.{flat_map-append}
+use Rattle.std.proofs.lemmas.List.Elements.{Contains-append_left, Contains-append_right}
+use Rattle.std.proofs.lemmas.List.Sums.{sum_by-append, sum_by-cons}
+use Rattle.mon_value.specs.LeafHistories.{entry_rows, is_opened, replica_rows, same_replica}
+use Rattle.mon_value.specs.declared.histories.Ack.{Ack}
+use Rattle.mon_value.specs.declared.histories.Entry.{Entry}
+use Rattle.mon_value.specs.declared.histories.Entry.TheVariants as entry
+use Rattle.mon_value.specs.declared.histories.Miss.{Miss}
+use Rattle.mon_value.specs.declared.histories.RangeEntry.{RangeEntry}
+use Rattle.mon_value.specs.declared.histories.RangeEntry.TheVariants as range_entry
+use Rattle.mon_value.specs.declared.positions.Leaf.{Leaf}
+use Rattle.mon_value.specs.declared.positions.Range.{Range}
+use Rattle.mon_value.specs.declared.positions.Slot.{Slot}
+use Rattle.mon_value.specs.declared.positions.SlotLeaf.{SlotLeaf}
+use Rattle.mon_value.specs.declared.rows.Row.{Row}
+use Rattle.mon_schema.specs.SchemaLists.{SchemaLists}
+use Rattle.mon_topo.proofs.RangeHistoryLemmas.{AreNumbered, IsLegal-push, all_append, all_on, get_there, numbered}
+use Rattle.mon_topo.specs.HeldHistories.{Histories, IsBorneOut, leaf_history}
+use Rattle.mon_topo.specs.RangeHistories as spec
+use Rattle.mon_topo.specs.RangeHistories.{acked, acked_row, is_missed, opened, same_slot, serving, serving_after, times}
+use Rattle.mon_topo.specs.Replicas.{HasReplicas}
+use Rattle.mon_topo.specs.Zones.{first_replicas}
+use Rattle.mon_topo.specs.declared.zones.ZoneSpec.{ZoneSpec}
+
+-- ---- lists
+
+pub in_flat_map : {X Y : Type 0} (f : X → List Y) (xs : List X) (x : X) (y : Y) → Contains xs x → Contains (f x) y
+    → Contains (flat_map f xs) y
+in_flat_map f [] x y there here = absurd (omega (arith, there.1))
+in_flat_map f (first ∷ xs) x y (zero, l, e) here =
+    Contains-append_left (f first) (flat_map f xs) y (subst (λ z. Contains (f z) y) (sym e) here)
+in_flat_map f (first ∷ xs) x y (suc k, l, e) here =
+    Contains-append_right (f first) (flat_map f xs) y (in_flat_map f xs x y (k, omega (arith, l), e) here)
+
+all_in_flat_map : {X Y : Type 0} (f : X → List Y) (xs : List X) (x : X) (ys : List Y) → Contains xs x
+    → All (Contains (f x)) ys → All (Contains (flat_map f xs)) ys
+all_in_flat_map f xs x ys there =
+    all_on (Contains (f x)) (Contains (flat_map f xs)) (λ y. in_flat_map f xs x y there) ys
+
+all_of_itself : {X : Type 0} (xs : List X) → All (Contains xs) xs
+all_of_itself [] = record {}
+all_of_itself (x ∷ xs) = (
+  (zero, omega arith, refl),
+  all_on (Contains xs) (Contains (x ∷ xs)) (λ y there. Contains-append_right (x ∷ []) xs y there) xs (all_of_itself xs),
+)
+
+at_place : {X : Type 0} (P : X → Type 0) (xs : List X) (k : ℕ) (x : X) → All P xs → slice_get xs k ≡ Some x → P x
+at_place P [] k x all e = absurd (cc)
+at_place P (y ∷ xs) zero x all e = let same : y ≡ x = cc in subst P same all.0
+at_place P (y ∷ xs) (suc k) x all e = at_place P xs k x all.1 e
+
+-- ---- a leaf's history
+
+same_itself : (r : Range) (slot : Slot) → same_replica r slot r slot ≡ true
+same_itself r slot = and_from (nat_eq r.0 r.0) (nat_eq slot.0 slot.0) (eq-eqb r.0 r.0 refl) (eq-eqb slot.0 slot.0 refl)
+
+opened_at : (r other : Range) (slot place : Slot) (pass : ℕ) (rows : List Row) (history : List Entry)
+    → is_opened r slot history ≡ true → is_opened r slot (entry.Opened pass other place rows ∷ history) ≡ true
+opened_at r other slot place pass rows history rest = by (same_replica r slot other place)
+  where
+    by : (b : Bool) → (b || is_opened r slot history) ≡ true
+    by true = refl
+    by false = rest
+
+opened_behind : (r : Range) (slot : Slot) (e : Entry) (history : List Entry)
+    → is_opened r slot history ≡ true → is_opened r slot (e ∷ history) ≡ true
+opened_behind r slot (entry.Opened pass other place rows) history rest = opened_at r other slot place pass rows history rest
+opened_behind r slot (entry.Put pass other place row) history rest = rest
+opened_behind r slot (entry.Down pass) history rest = rest
+opened_behind r slot (entry.Up pass) history rest = rest
+
+pub opened_there : (r : Range) (slot : Slot) (pass : ℕ) (rows : List Row) (history : List Entry)
+    → Contains history (entry.Opened pass r slot rows) → is_opened r slot history ≡ true
+opened_there r slot pass rows [] there = absurd (omega (arith, there.1))
+opened_there r slot pass rows (first ∷ history) (zero, l, e) =
+    subst (λ (one : Entry). is_opened r slot (one ∷ history) ≡ true) (sym e)
+    (ap (λ b. b || is_opened r slot history) (same_itself r slot))
+opened_there r slot pass rows (first ∷ history) (suc k, l, e) =
+    opened_behind r slot first history (opened_there r slot pass rows history (k, omega (arith, l), e))
+
+rows_opened : (r : Range) (slot : Slot) (pass : ℕ) (rows : List Row) (history : List Entry)
+    → Contains history (entry.Opened pass r slot rows) → All (Contains (replica_rows r slot history)) rows
+rows_opened r slot pass rows history there =
+    all_in_flat_map (entry_rows r slot) history (entry.Opened pass r slot rows) rows there
+    (subst (λ (own : List Row). All (Contains own) rows) (sym (ap (λ b. cond b rows []) (same_itself r slot))) (all_of_itself rows))
+
+row_put : (r : Range) (slot : Slot) (pass : ℕ) (row : Row) (history : List Entry)
+    → Contains history (entry.Put pass r slot row) → Contains (replica_rows r slot history) row
+row_put r slot pass row history there =
+    in_flat_map (entry_rows r slot) history (entry.Put pass r slot row) row there
+    (subst (λ (own : List Row). Contains own row) (sym (ap (λ b. cond b (row ∷ []) []) (same_itself r slot)))
+    (zero, omega arith, refl))
+
+-- ---- slots that took a row
+
+abbrev slot_numbered : ℕ → Slot
+slot_numbered n = record { 0 = n }
+
+slot_same : (a b : Slot) → same_slot a b ≡ true → a ≡ b
+slot_same a b e =
+    let same : a.0 ≡ b.0 = grind (arith, nat_tests) in
+    ap slot_numbered same
+
+abbrev one_if : Bool → ℕ
+one_if b = cond b 1 0
+
+one_time : (slot : Slot) (x : Slot) (xs : List Slot)
+    → times slot (x ∷ xs) ≡ one_if (same_slot slot x) + times slot xs
+one_time slot x xs = sum_by-cons (λ other. cond (same_slot slot other) 1 0) x xs
+
+counted : (slot : Slot) (xs : List Slot) → Contains xs slot → 0 < times slot xs
+counted slot [] there = absurd (omega (arith, there.1))
+counted slot (x ∷ xs) (zero, l, e) =
+    let here : one_if (same_slot slot x) ≡ one_if true =
+    ap (λ (y : Slot). one_if (same_slot slot y)) e ∙ ap one_if (eq-eqb slot.0 slot.0 refl) in
+    omega (arith, one_time slot x xs, here)
+counted slot (x ∷ xs) (suc k, l, e) =
+    let rest = counted slot xs (k, omega (arith, l), e) in omega (arith, one_time slot x xs, rest)
+
+found_by : (slot x : Slot) (xs : List Slot) (b : Bool) → same_slot slot x ≡ b → (0 < times slot xs → Contains xs slot)
+    → 0 < one_if b + times slot xs → Contains (x ∷ xs) slot
+found_by slot x xs true e rest some = (zero, omega arith, sym (slot_same slot x e))
+found_by slot x xs false e rest some =
+    Contains-append_right (x ∷ []) xs slot (rest (omega (arith, some)))
+
+found : (slot : Slot) (xs : List Slot) → 0 < times slot xs → Contains xs slot
+found slot [] some = absurd (omega (arith, some))
+found slot (x ∷ xs) some =
+    found_by slot x xs (same_slot slot x) refl (found slot xs) (omega (arith, some, one_time slot x xs))
+
+eq_turned : (a b : ℕ) → nat_eq a b ≡ false → nat_eq b a ≡ false
+eq_turned a b e = grind (arith, nat_tests)
+
+none_missed : (replica : SlotLeaf) (missed : List Miss) → is_missed missed replica ≡ false
+    → times replica.slot (map (λ (miss : Miss). miss.slot) missed) ≡ 0
+none_missed replica [] e = refl
+none_missed replica (miss ∷ missed) e =
+    let both = or_parts (same_slot miss.slot replica.slot) (is_missed missed replica) e in
+    let here : one_if (same_slot replica.slot miss.slot) ≡ one_if false =
+    ap one_if (eq_turned miss.slot.0 replica.slot.0 both.0) in
+    omega (arith, one_time replica.slot miss.slot (map (λ (miss : Miss). miss.slot) missed), here, none_missed replica missed both.1)
+
+slot_there : (replica : SlotLeaf) (replicas : List SlotLeaf) → Contains replicas replica
+    → Contains (map (λ (one : SlotLeaf). one.slot) replicas) replica.slot
+slot_there replica [] there = absurd (omega (arith, there.1))
+slot_there replica (first ∷ replicas) (zero, l, e) = (zero, omega arith, ap (λ (one : SlotLeaf). one.slot) e)
+slot_there replica (first ∷ replicas) (suc k, l, e) =
+    Contains-append_right (first.slot ∷ []) (map (λ (one : SlotLeaf). one.slot) replicas) replica.slot
+    (slot_there replica replicas (k, omega (arith, l), e))
+
+took_it : (range : Range) (replicas : List SlotLeaf) (ack : Ack) (replica : SlotLeaf) → spec.IsAckOf range replicas ack
+    → Contains replicas replica → is_missed ack.missed replica ≡ false → Contains ack.took replica.slot
+took_it range replicas ack replica is there missed_not =
+    let slot = replica.slot in
+    let all = sum_by-append (λ other. cond (same_slot slot other) 1 0) ack.took (map (λ (miss : Miss). miss.slot) ack.missed) in
+    found slot ack.took
+    (omega (
+      arith,
+      is.named slot,
+      all,
+      none_missed replica ack.missed missed_not,
+      counted slot (map (λ (one : SlotLeaf). one.slot) replicas) (slot_there replica replicas there),
+    ))
+
+-- ---- one entry after another
+
+serving_more : (replicas : List SlotLeaf) (history more : List RangeEntry)
+    → serving_after replicas (history ++ more) ≡ serving_after (serving_after replicas history) more
+serving_more replicas [] more = refl
+serving_more replicas (range_entry.Opened pass slot leaf ∷ history) more =
+    serving_more (replicas ++ record { slot = slot; leaf = leaf } ∷ []) history more
+serving_more replicas (range_entry.Acked pass row ack ∷ history) more =
+    serving_more (filter (λ replica. not (is_missed ack.missed replica)) replicas) history more
+
+module _ (zones : List ZoneSpec) (seen : Histories) (r : Range) where
+  -- a replica of the range is opened on its leaf, in the range's zone, which has the rows that a history acknowledges
+  pub record HasRows (history : List RangeEntry) (replica : SlotLeaf) : Type 0 where
+    pub zoned : spec.IsInZoneOf zones r replica.leaf
+    pub opened : is_opened r replica.slot (leaf_history seen replica.leaf) ≡ true
+    pub rows : All (Contains (replica_rows r replica.slot (leaf_history seen replica.leaf))) (acked history)
+
+  abbrev ServeAll : List RangeEntry → Type 0
+  ServeAll history = All (HasRows history) (serving history)
+
+  acked_more : (history : List RangeEntry) (e : RangeEntry) → acked (history ++ e ∷ []) ≡ acked history ++ (acked_row e ++ [])
+  acked_more history e = flat_map-append acked_row history (e ∷ [])
+
+  opened_step : (history : List RangeEntry) (pass : ℕ) (slot : Slot) (leaf : Leaf) → ServeAll history
+      → Contains (leaf_history seen leaf) (entry.Opened pass r slot (acked history))
+      → (whose : ℕ) → spec.IsInZoneOf zones r leaf → ServeAll (history ++ range_entry.Opened whose slot leaf ∷ [])
+  opened_step history pass slot leaf all there whose zoned =
+      let replica : SlotLeaf = record { slot = slot; leaf = leaf } in
+      let more = history ++ range_entry.Opened whose slot leaf ∷ [] in
+      let same : acked more ≡ acked history = acked_more history (range_entry.Opened whose slot leaf) ∙ append-nil (acked history) in
+      let to : (one : SlotLeaf) → HasRows history one → HasRows more one = λ one has. record {
+        zoned = has.zoned;
+        opened = has.opened;
+        rows = subst (All (Contains (replica_rows r one.slot (leaf_history seen one.leaf)))) (sym same) has.rows;
+      } in
+      let new : HasRows history replica = record {
+        zoned = zoned;
+        opened = opened_there r slot pass (acked history) (leaf_history seen leaf) there;
+        rows = rows_opened r slot pass (acked history) (leaf_history seen leaf) there;
+      } in
+      subst (All (HasRows more)) (sym (serving_more [] history (range_entry.Opened whose slot leaf ∷ [])))
+      (all_on (HasRows history) (HasRows more) to (serving history ++ replica ∷ [])
+      (all_append (HasRows history) (serving history) (replica ∷ []) all (new, record {})))
+
+  module _ (history : List RangeEntry) (pass : ℕ) (row : Row) (ack : Ack) (is : spec.IsAckOf r (serving history) ack)
+      (put : (replica : SlotLeaf) → Contains (opened history) replica → Contains ack.took replica.slot
+      → Contains (leaf_history seen replica.leaf) (entry.Put pass ack.range replica.slot row)) where
+    taken_by : (replica : SlotLeaf) (replicas : List SlotLeaf) (b : Bool) → is_missed ack.missed replica ≡ b
+        → HasRows history replica → Contains (opened history) replica → Contains (serving history) replica
+        → All (HasRows (history ++ range_entry.Acked pass row ack ∷ [])) replicas
+        → All (HasRows (history ++ range_entry.Acked pass row ack ∷ [])) (cond (not b) (replica ∷ replicas) replicas)
+    taken_by replica replicas true e has known serves rest = rest
+    taken_by replica replicas false e has known serves rest =
+        let own = replica_rows r replica.slot (leaf_history seen replica.leaf) in
+        let there = put replica known (took_it r (serving history) ack replica is serves e) in
+        let here : Contains own row = row_put r replica.slot pass row (leaf_history seen replica.leaf)
+        (subst (λ (range : Range). Contains (leaf_history seen replica.leaf) (entry.Put pass range replica.slot row)) is.ranged there) in (
+          record {
+            zoned = has.zoned;
+            opened = has.opened;
+            rows = subst (All (Contains own)) (sym (acked_more history (range_entry.Acked pass row ack)))
+                (all_append (Contains own) (acked history) (row ∷ []) has.rows (here, record {}));
+          },
+          rest,
+        )
+
+    taken_all : (replicas : List SlotLeaf) → All (HasRows history) replicas → All (Contains (opened history)) replicas
+        → All (Contains (serving history)) replicas
+        → All (HasRows (history ++ range_entry.Acked pass row ack ∷ []))
+        (filter (λ replica. not (is_missed ack.missed replica)) replicas)
+    taken_all [] has known serve = record {}
+    taken_all (replica ∷ replicas) has known serve =
+        taken_by replica (filter (λ replica. not (is_missed ack.missed replica)) replicas) (is_missed ack.missed replica) refl
+        has.0 known.0 serve.0 (taken_all replicas has.1 known.1 serve.1)
+
+    acked_step : ServeAll history → AreNumbered history → ServeAll (history ++ range_entry.Acked pass row ack ∷ [])
+    acked_step all numbers =
+        subst (All (HasRows (history ++ range_entry.Acked pass row ack ∷ [])))
+        (sym (serving_more [] history (range_entry.Acked pass row ack ∷ [])))
+        (taken_all (serving history) all numbers.among (all_of_itself (serving history)))
+
+  module _ (held : SchemaLists) (points : ℕ) (replicas : HasReplicas zones r) where
+    placed_by : (slot : ℕ) (leaf : Leaf) (few : (slot < length (first_replicas zones r.0)) ⊎ (length (first_replicas zones r.0) ≤ slot))
+        → (serve : List SlotLeaf) → spec.IsPlaced zones r slot leaf serve → spec.IsInZoneOf zones r leaf
+    placed_by slot leaf (inl first) serve placed =
+        at_place (spec.IsInZoneOf zones r) (first_replicas zones r.0) slot leaf replicas.zoned (placed.0 first)
+    placed_by slot leaf (inr later) serve placed = (placed.1 later).zoned
+
+    one_step : (history : List RangeEntry) (e : RangeEntry) (more : List RangeEntry)
+        → spec.IsLegal held zones points r history → spec.MayFollow held zones points r history e
+        → ServeAll history → IsBorneOut seen r (history ++ e ∷ more) (length history) e → ServeAll (history ++ e ∷ [])
+    one_step history (range_entry.Opened pass slot leaf) more legal may all out =
+        opened_step history out.pass slot leaf all
+        (subst (λ (front : List RangeEntry). Contains (leaf_history seen leaf) (entry.Opened out.pass r slot (acked front)))
+        (take_at history (range_entry.Opened pass slot leaf ∷ more) (length history) refl) out.entered) pass
+        (placed_by slot.0 leaf (cases_lt slot.0 (length (first_replicas zones r.0))) (serving history) may.2)
+    one_step history (range_entry.Acked pass row ack) more legal may all out =
+        let front = take_at history (range_entry.Acked pass row ack ∷ more) (length history) refl in
+        acked_step history pass row ack may.0
+        (λ replica known took. (out.0 replica
+        (subst (λ (fore : List RangeEntry). Contains (opened fore) replica) (sym front) known) took).put)
+        all (numbered held zones points r history legal)
+
+    abbrev BornOut : List RangeEntry → Type 0
+    BornOut all = (k : ℕ) (e : RangeEntry) → slice_get all k ≡ Some e → IsBorneOut seen r all k e
+
+    serve_from : (history more : List RangeEntry) (n : ℕ) → spec.IsLegal held zones points r history
+        → spec.GoesOn held zones points r history more → BornOut (history ++ more) → ServeAll history
+        → ServeAll (history ++ take n more)
+    serve_from history [] zero legal goes out all = subst ServeAll (sym (append-nil history)) all
+    serve_from history [] (suc n) legal goes out all = subst ServeAll (sym (append-nil history)) all
+    serve_from history (e ∷ more) zero legal goes out all = subst ServeAll (sym (append-nil history)) all
+    serve_from history (e ∷ more) (suc n) legal goes out all =
+        let here : slice_get (history ++ e ∷ more) (length history) ≡ Some e =
+        get_there (history ++ e ∷ more) (length history) e (omega (arith, length-append history (e ∷ more)))
+        (get_or_at history e more e (length history) refl) in
+        subst ServeAll (append_assoc history (e ∷ []) (take n more))
+        (serve_from (history ++ e ∷ []) more n (IsLegal-push held zones points r history e legal goes.0) goes.1
+        (subst BornOut (sym (append_assoc history (e ∷ []) more)) out)
+        (one_step history e more legal goes.0 all (out (length history) e here)))
+
+    -- at each length of a range's history, each replica that serves is of this kind
+    pub serve_at : (history : List RangeEntry) (n : ℕ) → spec.IsLegal held zones points r history → BornOut history
+        → All (HasRows (take n history)) (serving (take n history))
+    serve_at history n legal out = serve_from [] history n (record {}) legal out (record {})

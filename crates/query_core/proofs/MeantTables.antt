@@ -1,0 +1,46 @@
+-- A licensed session ends with what was mixed of its leaves' answers.
+use Rattle.std.proofs.Common.{◌≡◌, ℤ, List, [], ◌∷◌, subst, Result}
+use Rattle.mon_topo.specs.Settings.{Setting as Store}
+use Rattle.query_core.specs.declared.answers.Answer.{Answer}
+use Rattle.query_core.specs.declared.answers.RoundFault.{RoundFault}
+use Rattle.query_core.specs.declared.stages.Stage.{Stage}
+use Rattle.query_core.specs.declared.stages.Stage.TheVariants as at
+use Rattle.query_core.specs.Areas.{areas_of}
+use Rattle.query_core.specs.Machine.{Query, new_query}
+use Rattle.query_core.specs.Sessions as session
+use Rattle.query_core.specs.Sessions.{IsSound, View}
+use Rattle.query_core.specs.Settings.{Setting}
+use Rattle.query_core.proofs.PartFacts.{EndParts, StageParts}
+use Rattle.query_core.proofs.SessionParts.{Keeps, session_parts}
+use Rattle.query_core.proofs.UnreadLeaves.{TellsOf}
+
+module _ (store : Store) (setting : Setting) (moment : ℤ) where
+  -- what was seen at the end of a session is sound
+  pub sound_then : (events : List (session.Event store setting moment)) (before : View) (query : Query) → IsSound store before
+      → session.IsLicensed store setting moment before query events
+      → IsSound store (session.view_after store setting moment before events)
+  sound_then [] before query sound licensed = sound
+  sound_then (event ∷ events) before query sound licensed =
+      sound_then events event.view (session.told_then store setting moment query event) licensed.0.sound licensed.1
+
+  module _ (areas : setting.areas ≡ areas_of store.zones) (Also : View → Query → Type 0)
+      (keeps : Keeps store setting moment (TellsOf setting) areas Also)
+      (view : View) (events : List (session.Event store setting moment)) (sound : IsSound store view)
+      (also : Also view (new_query setting))
+      (licensed : session.IsLicensed store setting moment view (new_query setting) events) where
+    abbrev exit : View
+    exit = session.view_after store setting moment view events
+
+    abbrev last : Query
+    last = session.query_after store setting moment (new_query setting) events
+
+    stage_last : StageParts store setting moment (TellsOf setting) exit.seen last.stage
+    stage_last =
+        session_parts store setting moment (TellsOf setting) areas Also keeps events view (new_query setting) sound also tt
+        licensed
+
+    -- how it ends
+    pub ends : (end : Result Answer RoundFault) → last.stage ≡ at.Ended end
+        → EndParts store setting moment (TellsOf setting) exit.seen end
+    ends end ended =
+        subst (λ (stage : Stage). StageParts store setting moment (TellsOf setting) exit.seen stage) ended stage_last

@@ -1,0 +1,54 @@
+-- A range that resolves does so to a leaf of its zone.
+use Rattle.std.proofs.Common.{◌≡◌, ◌∙◌, ◌<◌, ◌≤◌, ◌⊎◌, inl, inr, ℕ, zero, suc, Bool, not, Some, List, [], ◌∷◌, length, get_or, take, refl, sym, ap, arith}
+use Rattle.std.specs.List.{AllByRecursion, filter}
+use Rattle.std.proofs.lemmas.Bool.{cases_lt}
+use Rattle.mon_topo.specs.HeldHistories.{AreHeld, Histories, range_history}
+use Rattle.mon_topo.specs.RangeHistories.{IsInZoneOf, serving}
+use Rattle.mon_topo.specs.Replicas.{HasReplicas}
+use Rattle.mon_topo.specs.Zones.{range_numbered, ranges_in}
+use Rattle.mon_topo.specs.declared.zones.ZoneSpec.{ZoneSpec}
+use Rattle.mon_schema.specs.SchemaLists.{SchemaLists}
+use Rattle.mon_value.specs.declared.positions.Leaf.{Leaf}
+use Rattle.mon_value.specs.declared.positions.SlotLeaf.{SlotLeaf}
+use Rattle.mql_types.proofs.JoinedRows.{all-map, column_of_all}
+use Rattle.mql_types.proofs.KeptRows.{all-filter}
+use Rattle.query_core.specs.declared.answers.Resolved.{Resolved}
+use Rattle.query_core.specs.Traces.{IsFirst, first_serving, is_avoided, replica_of}
+use Rattle.query_core.proofs.AckedRows.{HasRows, serve_at}
+
+nothing_past : {X : Type 0} (lists : List (List X)) (n : ℕ) → length lists ≤ n → get_or lists n [] ≡ []
+nothing_past [] n past = refl
+nothing_past (xs ∷ lists) zero past = absurd (omega (arith, past))
+nothing_past (xs ∷ lists) (suc n) past = nothing_past lists n (omega (arith, past))
+
+take_nothing : {X : Type 0} (n : ℕ) (xs : List X) → xs ≡ [] → take n xs ≡ []
+take_nothing zero xs none = refl
+take_nothing (suc n) [] none = refl
+take_nothing (suc n) (x ∷ xs) none = absurd cc
+
+module _ (held : SchemaLists) (zones : List ZoneSpec) (points : ℕ)
+    (replicas : (range : ℕ) → range < length (ranges_in zones) → HasReplicas zones (range_numbered range))
+    (at_entry exit : Histories) (holds : AreHeld held zones points exit) (avoided : List Leaf) where
+  zoned_by : (one : Resolved) → IsFirst at_entry exit avoided one
+      → (one.range.0 < length exit.ranges) ⊎ (length exit.ranges ≤ one.range.0) → IsInZoneOf zones one.range one.leaf
+  zoned_by one is (inl within) =
+      let history = range_history exit one.range in
+      let front = take is.found history in
+      let serve = serve_at zones exit one.range held points
+      (replicas one.range.0 (omega (arith, within, holds.all_ranges))) history is.found
+      (holds.legal one.range within) (holds.borne_out one.range within).borne_out in
+      let is_free : SlotLeaf → Bool = λ replica. not (is_avoided avoided replica) in
+      (column_of_all (HasRows zones exit one.range front) (filter is_free (serving front)) 0 (replica_of one)
+      (all-filter (HasRows zones exit one.range front) is_free (serving front) serve) is.first).zoned
+  zoned_by one is (inr past) =
+      let none : take is.found (range_history exit one.range) ≡ [] =
+      take_nothing is.found (range_history exit one.range) (nothing_past exit.ranges one.range.0 past) in
+      let clash : first_serving avoided [] ≡ Some (replica_of one) =
+      ap (first_serving avoided) (sym none) ∙ is.first in
+      absurd cc
+
+  pub zoned_first : (some : List Resolved) → AllByRecursion (IsFirst at_entry exit avoided) some
+      → AllByRecursion (λ (one : Resolved). IsInZoneOf zones one.range one.leaf) some
+  zoned_first some all =
+      all-map (IsFirst at_entry exit avoided) (λ (one : Resolved). IsInZoneOf zones one.range one.leaf) some
+      (λ one is. zoned_by one is (cases_lt one.range.0 (length exit.ranges))) all
