@@ -1,0 +1,5 @@
+use Rattle.weave_core.proofs.SightLemmas.{leaf_seen, range_seen}
+use Rattle.weave_core.proofs.kept_laws.sights_grow.Goals as goal
+
+pub returns : goal.returns
+returns c = record { leaf = leaf_seen; range = range_seen }

@@ -1,0 +1,23 @@
+use Rattle.std.specs.Prelude.{Ok, Err}
+use Rattle.query_core.specs.Answers.{IsAnsweredRightly, IsStoppedRightly}
+use Rattle.query_core.specs.declared.answers.RoundFault.TheVariants.{StepLimit}
+use Rattle.query_core.specs.declared.stages.Stage.TheVariants.{Ended}
+use Rattle.weave_core.specs.Core.{seen_by}
+use Rattle.weave_core.proofs.ReaderLemmas.{as_new, seen_now, stage_is}
+use Rattle.weave_core.proofs.laws.queries_answer_rightly.Goals as goal
+
+pub returns : goal.returns
+returns c = record {
+  answered = λ store world reader answer own new asked from e.
+      seen_now store world reader own new
+      (λ now. IsAnsweredRightly store reader.setting reader.moment reader.begin.seen now.seen answer)
+      (c.sessions_answer_rightly.ensures.answered store reader.setting reader.moment (seen_by reader.begin) reader.session
+      answer asked from own.sound (as_new store world reader own new)
+      (stage_is store world reader own new (Ended (Ok answer)) e));
+  stopped = λ store world reader limit trace own new asked from e.
+      seen_now store world reader own new
+      (λ now. IsStoppedRightly store reader.setting reader.moment reader.begin.seen now.seen limit trace)
+      (c.sessions_answer_rightly.ensures.stopped store reader.setting reader.moment (seen_by reader.begin) reader.session
+      limit trace asked from own.sound (as_new store world reader own new)
+      (stage_is store world reader own new (Ended (Err (StepLimit limit trace))) e));
+}

@@ -1,0 +1,54 @@
+-- The hint words: a word for each place and bucket, the root's words first and then those of each zone.
+use Rattle.std.specs.Prelude.{◌≡◌, ℕ, ◌+◌, ◌*◌, ◌%◌, ◌^◌, ◌<◌, ◌||◌, ◌&&◌, Bool, nat_eq, List, length, get_or, set, replicate, bit_or}
+use Rattle.mon_hints.specs.Words.{has_bit}
+use Rattle.weave_core.specs.declared.words.Place.{Place}
+use Rattle.weave_core.specs.declared.words.Place.TheVariants as at
+
+-- the words, table by table, and how many buckets each table is for
+pub record HintTable : Type 0 where
+  pub words : List ℕ
+  pub buckets : ℕ
+
+abbrev pub table_of : Place → ℕ
+table_of at.Root = 0
+table_of (at.Zone zone) = zone.0 + 1
+
+abbrev pub index_of : HintTable → Place → ℕ → ℕ
+index_of hints place bucket = table_of place * hints.buckets + bucket
+
+abbrev pub word_at : HintTable → Place → ℕ → ℕ
+word_at hints place bucket = get_or hints.words (index_of hints place bucket) 0
+
+-- there is a word of a place and a bucket
+pub record HasWord (hints : HintTable) (place : Place) (bucket : ℕ) : Type 0 where
+  pub bucket_there : bucket < hints.buckets
+  pub word_there : index_of hints place bucket < length hints.words
+
+-- no bit is set
+abbrev pub no_words : ℕ → ℕ → HintTable
+no_words zones buckets = record { words = replicate ((zones + 1) * buckets) 0; buckets = buckets }
+
+-- the bit of a child
+abbrev pub bit_of : ℕ → ℕ
+bit_of child = 1 * 2 ^ child % 2 ^ 64
+
+-- a child's bit is set
+abbrev pub raised : HintTable → Place → ℕ → ℕ → HintTable
+raised hints place child bucket = record {
+  words = set hints.words (index_of hints place bucket) (bit_or (word_at hints place bucket) (bit_of child));
+  buckets = hints.buckets;
+}
+
+abbrev pub same_place : Place → Place → Bool
+same_place a b = nat_eq (table_of a) (table_of b)
+
+-- whether a child has its bit in the word of a place and a bucket, once one bit more was set
+abbrev pub with_raised : HintTable → Place → ℕ → ℕ → Place → ℕ → ℕ → Bool
+with_raised hints place child bucket other b c =
+    ((same_place other place && nat_eq b bucket) && nat_eq c child) || has_bit (word_at hints other b) c
+
+-- what setting a bit changes: that bit, and no other
+abbrev pub RaisesOne : HintTable → Place → ℕ → ℕ → Type 0
+RaisesOne hints place child bucket =
+    (other : Place) (b c : ℕ) → b < hints.buckets
+    → has_bit (word_at (raised hints place child bucket) other b) c ≡ with_raised hints place child bucket other b c

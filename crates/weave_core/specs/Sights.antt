@@ -1,0 +1,48 @@
+-- How far histories were seen: what of someone's histories is known at run time.
+use Rattle.std.specs.Prelude.{◌≡◌, ℕ, nat_lt, List, [], ◌∷◌, length, map, set, slice_get, if◌then◌else◌}
+use Rattle.mon_value.specs.declared.histories.RangeEntry.{RangeEntry}
+use Rattle.mon_value.specs.declared.positions.Leaf.{Leaf}
+use Rattle.mon_value.specs.declared.positions.Range.{Range}
+use Rattle.mon_topo.specs.HeldHistories.{Histories}
+use Rattle.mon_topo.specs.RangeHistories.{serving}
+use Rattle.weave_core.specs.declared.sights.RangeSight.{RangeSight}
+use Rattle.weave_core.specs.declared.sights.Sight.{Sight}
+
+-- the length of a range's history, and the first replica that serves in it
+abbrev pub range_sight : List RangeEntry → RangeSight
+range_sight history = record { length = length history; first = slice_get (serving history) 0 }
+
+-- how far someone has seen histories
+abbrev pub sight_of : Histories → Sight
+sight_of seen = record { leaves = map length seen.leaves; ranges = map range_sight seen.ranges }
+
+-- ---- two together
+
+-- both are of the same leaves and ranges
+abbrev pub AreAlike : Sight → Sight → Type 0
+AreAlike a b = (length a.leaves ≡ length b.leaves) × (length a.ranges ≡ length b.ranges)
+
+-- of two the farther one, by how far each of them is
+abbrev pub farther : {X : Type 0} → (X → ℕ) → X → X → X
+farther far a b = if nat_lt (far a) (far b) then b else a
+
+-- place by place
+abbrev pub farther_each : {X : Type 0} → (X → ℕ) → List X → List X → List X
+farther_each far [] others = others
+farther_each far (x ∷ xs) [] = x ∷ xs
+farther_each far (x ∷ xs) (other ∷ others) = farther far x other ∷ farther_each far xs others
+
+-- of each history how far either was seen
+abbrev pub joined_sight : Sight → Sight → Sight
+joined_sight a b = record {
+  leaves = farther_each (λ length. length) a.leaves b.leaves;
+  ranges = farther_each (λ range. range.length) a.ranges b.ranges;
+}
+
+-- ---- one history farther
+
+abbrev pub with_leaf_sight : Leaf → ℕ → Sight → Sight
+with_leaf_sight leaf cut sight = record { leaves = set sight.leaves leaf.0 cut; ranges = sight.ranges }
+
+abbrev pub with_range_sight : Range → RangeSight → Sight → Sight
+with_range_sight range one sight = record { leaves = sight.leaves; ranges = set sight.ranges range.0 one }
