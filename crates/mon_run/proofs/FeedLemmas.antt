@@ -6,10 +6,13 @@ use Rattle.mon_config.specs.declared.config.Config.{Config}
 use Rattle.mon_points.specs.Fitting.{ReadFits}
 use Rattle.mon_points.specs.declared.records.RowRead.{RowRead}
 use Rattle.mon_points.specs.declared.records.RowRead.TheVariants as read
-use Rattle.mon_run.specs.Feeds.{Verdict, fault_in, fed_by, range_of_key, refusal_of, refusals, row_fault, taken, unless, verdict, verdicts}
+use Rattle.mon_run.specs.Feeds.{Verdict, fault_in, fed_by, refusal_of, refusals, row_verdict, taken, unless, verdict, verdicts}
+use Rattle.mon_store.specs.Writes.{write_fault}
+use Rattle.mon_store.specs.declared.faults.WriteFault.{WriteFault}
+use Rattle.mon_run.specs.declared.outcome.RowRefused.TheVariants as refused
 use Rattle.mon_run.specs.declared.outcome.RowRefusal.{RowRefusal}
 use Rattle.mon_run.specs.declared.outcome.RowRefused.{RowRefused}
-use Rattle.mon_run.specs.within.Sound.{AllFit}
+use Rattle.mon_store.specs.Stores.{AllFit}
 use Rattle.mon_run.specs.within.Takings.{Front}
 
 -- ---- records so far and records that are left
@@ -73,7 +76,7 @@ taken_more : (P : Row → Type 0) (rows : List Row) (v : Verdict) → ((row : Ro
 taken_more P rows (Ok row) holds all = all_more P rows row all (holds row refl)
 taken_more P rows (Err fault) holds all = subst (AllByRecursion P) (sym (append-nil rows)) all
 
-unless_row : (row kept : Row) (fault : Option RowRefused) → unless row fault ≡ Ok kept → row ≡ kept
+unless_row : (row kept : Row) (fault : Option WriteFault) → unless row fault ≡ Ok kept → row ≡ kept
 unless_row row kept None same = cc
 unless_row row kept (Some fault) same = absurd cc
 
@@ -81,7 +84,7 @@ unless_row row kept (Some fault) same = absurd cc
 accepted_fits : (config : Config) (rows : List Row) (record_read : RowRead) (kept : Row) → ReadFits config.schemas record_read → verdict config rows record_read ≡ Ok kept → ReadFits config.schemas (read.Row kept)
 accepted_fits config rows (read.Fault fault) kept fit same = absurd cc
 accepted_fits config rows (read.Row row) kept fit same =
-    subst (λ (r : Row). ReadFits config.schemas (read.Row r)) (unless_row row kept (row_fault config rows row (range_of_key config row.key)) same) fit
+    subst (λ (r : Row). ReadFits config.schemas (read.Row r)) (unless_row row kept (write_fault config rows row) same) fit
 
 pub fit_more : (config : Config) (rows : List Row) (record_read : RowRead) (rows' : List Row) → ReadFits config.schemas record_read → rows' ≡ rows ++ taken (verdict config rows record_read)
     → AllFit config.schemas rows → AllFit config.schemas rows'
@@ -99,3 +102,14 @@ kept_where_refused rows rows' (Err why) fault is took = took ∙ append-nil rows
 pub whatever_fails : {T E : Type 0} (result : Result T E) (P : Type 0) → P → OnErr result P
 whatever_fails (Ok value) P holds = tt
 whatever_fails (Err error) P holds = holds
+
+-- ---- a row that is written, or not
+
+-- a row without a fault is accepted
+pub accepted : (config : Config) (rows : List Row) (row : Row) → write_fault config rows row ≡ None → row_verdict config rows row ≡ Ok row
+accepted config rows row none = ap (unless row) none
+
+-- a row with a fault is refused for it
+pub refused_for : (config : Config) (rows : List Row) (row : Row) (fault : WriteFault) → write_fault config rows row ≡ Some fault
+    → row_verdict config rows row ≡ Err (refused.Write fault)
+refused_for config rows row fault is = ap (unless row) is

@@ -1,13 +1,10 @@
 mod ContentLemmas
-mod CountLemmas
 mod EndLemmas
 mod FeedLemmas
-mod HoldingLemmas
+mod LimitLemmas
 mod QueryLemmas
 mod QueryTextLemmas
 mod ReadLemmas
 mod RunLemmas
-mod SeriesOfLemmas
 mod SinkLemmas
 mod StepLemmas
-mod TakeLemmas

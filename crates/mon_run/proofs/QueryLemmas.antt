@@ -14,9 +14,18 @@ use Rattle.mon_value.specs.declared.tables.TimedRow.{TimedRow}
 use Rattle.mon_meaning.specs.Central.{IsMeant, IsOver}
 use Rattle.mon_meaning.specs.declared.meter.OverLimit.{OverLimit}
 use Rattle.mon_table.specs.Tables.{codes, column_names, lines_of_rows, newline, printed_table, table_text}
+use Rattle.mon_schema.specs.HeldMetrics.{AreHeld}
+use Rattle.mon_schema.specs.HeldTargets.{AllTellLocations}
+use Rattle.mon_schema.specs.SchemaLists.{SchemaLists}
+use Rattle.mql_ast.specs.Grammar.{Spells}
+use Rattle.mql_ast.specs.Trees.{PipeTree}
+use Rattle.mql_types.proofs.DurationLemmas.{durations_spelled}
 use Rattle.mql_types.specs.Loads.{load}
 use Rattle.mql_types.specs.Meaning.{meaning}
 use Rattle.mql_types.specs.Nodes.{TypedTree, columns_of}
+use Rattle.mql_types.specs.Typing.{typing}
+use Rattle.mql_types.proofs.SpelledQueries.{query_spelled}
+use Rattle.mon_store.specs.QueryTypes.{HasType}
 use Rattle.mon_run.specs.Queries.{refused_as, table_within}
 use Rattle.mon_run.specs.declared.outcome.LineFault.{LineFault}
 use Rattle.mon_run.specs.declared.outcome.LineFault.TheVariants as fault
@@ -58,3 +67,15 @@ withheld refusal.OutOfMemory first next is = tt
 -- a first step that gives a value leaves the next
 pub gone_on : {A B F : Type 0} (first : Result A F) (x : A) (next : A → Result B F) → first ≡ Ok x → next x ≡ (first >>= next)
 gone_on first x next is = sym (ap (λ answer. answer >>= next) is)
+
+-- a text's query that has a type over lawful schemas
+pub has_type : (held : SchemaLists) (query : PipeTree) (text : List ℕ) (typed : TypedTree) → AreHeld held.metrics → AllTellLocations held.targets
+    → Spells query text → typing held query ≡ Ok typed → HasType held typed
+has_type held query text typed metrics targets spelled is = record {
+  query = query;
+  metrics = metrics;
+  targets = targets;
+  spelled = query_spelled query text spelled;
+  durations = durations_spelled query text spelled;
+  is = is;
+}

@@ -6,6 +6,8 @@ use Rattle.mon_config.specs.FaultTexts.{config_fault_text}
 use Rattle.mon_config.specs.declared.faults.ConfigFault.{ConfigFault}
 use Rattle.mon_points.specs.FaultTexts.{row_fault_text}
 use Rattle.mon_script.specs.declared.script.ScriptFault.{ScriptFault}
+use Rattle.mon_store.specs.declared.faults.WriteFault.{WriteFault}
+use Rattle.mon_store.specs.declared.faults.WriteFault.TheVariants as write
 use Rattle.mon_table.specs.Tables.{newline}
 use Rattle.mon_run.specs.declared.outcome.RowRefused.{RowRefused}
 use Rattle.mon_run.specs.declared.outcome.RowRefused.TheVariants as refused
@@ -13,11 +15,15 @@ use Rattle.mon_run.specs.declared.outcome.RowRefusal.{RowRefusal}
 
 -- ---- lines
 
+-- why a row was not written
+abbrev pub write_fault_text : WriteFault → List ℕ
+write_fault_text write.NoZone = codes "NoZone"
+write_fault_text (write.OldPoint last) = codes "OldPoint " ++ signed_decimal last
+write_fault_text (write.RangeFull limit) = codes "RangeFull " ++ decimal limit
+
 abbrev pub row_refused_text : RowRefused → List ℕ
 row_refused_text (refused.Read fault) = row_fault_text fault
-row_refused_text refused.NoZone = codes "NoZone"
-row_refused_text (refused.OldPoint last) = codes "OldPoint " ++ signed_decimal last
-row_refused_text (refused.RangeFull limit) = codes "RangeFull " ++ decimal limit
+row_refused_text (refused.Write fault) = write_fault_text fault
 
 abbrev pub refusal_line : RowRefusal → List ℕ
 refusal_line refusal = codes "row " ++ decimal refusal.number ++ codes ": " ++ row_refused_text refusal.fault ++ newline

@@ -1,4 +1,3 @@
 -- What only proofs read: the relations between the steps of a run.
-pub mod Sound
 pub mod Stops
 pub mod Takings

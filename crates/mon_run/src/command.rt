@@ -5,6 +5,7 @@ ghost use Rattle.mon_run.specs.Faults.{Rose};
 ghost use Rattle.mon_run.specs.Folders.{Told};
 ghost use Rattle.mon_run.specs.Plans.{run_plan};
 
+use crate::accepted::Accepted;
 use crate::outcome::Outcome;
 use crate::outside::{Folder, Sink};
 use crate::runs::{Log, Run};
@@ -37,7 +38,7 @@ pub fn run<F: Folder, O: Sink>(
     let status = run.close(ended);
     Outcome {
         status,
-        accepted: log.accepted,
+        accepted: Accepted::of(log.store),
         lines: log.ends,
     }
 }

@@ -1,16 +1,15 @@
 // A feed: the records of a points file, each accepted or refused.
 ghost use Rattle.std.specs.Prelude.{◌≡◌, ◌+◌, ◌≤◌, ◌++◌, length, IfOk, OnErr, OnOk};
 ghost use Rattle.mon_run.specs.Feeds as spec;
-ghost use Rattle.mon_run.specs.within.Sound.{AreCounted, AreSound};
+ghost use Rattle.mon_store.specs.Stores.{AreSound, IsKept, accepted_rows};
 ghost use Rattle.mon_run.specs.within.Takings.{FedAs, Front};
 
-use crate::accepted::Accepted;
-use crate::holdings::Holdings;
 use crate::outcome::{RowRefusal, RowRefusals, RowRefused};
-use crate::zone::Zone;
+use mon_config::Config;
 use mon_points::{KeyCache, RowRead, read_rows_with};
-use mon_value::{LONGEST_FILE, OutOfMemory};
-use std::alloc::Global;
+use mon_store::Store;
+use mon_value::{LONGEST_FILE, OutOfMemory, Refusal, Row};
+use std::alloc::{AllocError, Global};
 
 /// How many rows a feed accepted, and what it refused.
 #[derive(Drop)]
@@ -23,51 +22,52 @@ pub(crate) struct Fed {
 /// refused. The keys are those that were read before, which rows share.
 pub(crate) fn feed(
     alloc: Global,
-    zone: &Zone,
-    accepted: &mut Accepted,
-    holdings: &mut Holdings,
+    config: &Config,
+    store: &mut Store,
     keys: &mut KeyCache,
     content: &[u8],
 ) -> Result<Fed, OutOfMemory>
     requires short { length content.now ≤ LONGEST_FILE }
-    requires sound { AreSound zone.now accepted.old holdings.old }
-    ensures fed { IfOk result (λ fed. FedAs fed (spec.fed zone.now accepted.old content.now)) }
-    ensures rows { OnOk result (accepted.new ≡ accepted.old ++ (spec.fed zone.now accepted.old content.now).accepted) }
-    ensures front { OnErr result (Front (spec.fed zone.now accepted.old content.now).accepted
-        accepted.old accepted.new) }
-    ensures sound { OnOk result (AreSound zone.now accepted.new holdings.new) }
+    requires sound { AreSound config.now store.old }
+    ensures fed { IfOk result (λ fed. FedAs fed (spec.fed config.now (accepted_rows store.old) content.now)) }
+    ensures rows { OnOk result (accepted_rows store.new
+        ≡ accepted_rows store.old ++ (spec.fed config.now (accepted_rows store.old) content.now).accepted) }
+    ensures front { OnErr result (Front (spec.fed config.now (accepted_rows store.old) content.now).accepted
+        (accepted_rows store.old) (accepted_rows store.new)) }
+    ensures sound { OnOk result (AreSound config.now store.new) }
 {
-    let before = accepted.len();
-    let reads = read_rows_with(alloc, content, &zone.config().schemas, keys)?;
+    let before = store.len();
+    let reads = read_rows_with(alloc, content, &config.schemas, keys)?;
     let mut refused = RowRefusals::new(alloc);
     let mut number = 0u32;
     for read in reads {
         number += 1;
-        take(zone, accepted, holdings, &mut refused, number, read)?;
+        take(config, store, &mut refused, number, read)?;
     }
+    store.settle()?;
     Ok(Fed {
-        accepted: accepted.len() - before,
+        accepted: store.len() - before,
         refused,
     })
 }
 
 // Accepts or refuses one record.
 fn take(
-    zone: &Zone,
-    accepted: &mut Accepted,
-    holdings: &mut Holdings,
+    config: &Config,
+    store: &mut Store,
     refused: &mut RowRefusals,
     number: u32,
     read: RowRead,
 ) -> Result<(), OutOfMemory>
-    requires counted { AreCounted zone.now accepted.old holdings.old }
-    ensures counted { OnOk result (AreCounted zone.now accepted.new holdings.new) }
-    ensures taken { OnOk result (accepted.new ≡ accepted.old ++ spec.taken (spec.verdict zone.now accepted.old read)) }
+    requires kept { IsKept config.now store.old }
+    ensures kept { OnOk result (IsKept config.now store.new) }
+    ensures taken { OnOk result (accepted_rows store.new
+        ≡ accepted_rows store.old ++ spec.taken (spec.verdict config.now (accepted_rows store.old) read)) }
     ensures refused { OnOk result (refused.new ≡ refused.old
-        ++ spec.refusal_of number (spec.verdict zone.now accepted.old read)) }
-    ensures kept { OnErr result (accepted.new ≡ accepted.old) }
+        ++ spec.refusal_of number (spec.verdict config.now (accepted_rows store.old) read)) }
+    ensures rows { OnErr result (accepted_rows store.new ≡ accepted_rows store.old) }
 {
-    let fault = fault_of(zone, accepted, holdings, read)?;
+    let fault = fault_of(config, store, read)?;
     match fault {
         Some(why) => refused.push(RowRefusal { number, fault: why }),
         None => Ok(()),
@@ -76,19 +76,37 @@ fn take(
 
 // Takes the row of a record, or says why the record is refused.
 fn fault_of(
-    zone: &Zone,
-    accepted: &mut Accepted,
-    holdings: &mut Holdings,
+    config: &Config,
+    store: &mut Store,
     read: RowRead,
 ) -> Result<Option<RowRefused>, OutOfMemory>
-    requires counted { AreCounted zone.now accepted.old holdings.old }
-    ensures counted { OnOk result (AreCounted zone.now accepted.new holdings.new) }
-    ensures refused { IfOk result (λ fault. fault ≡ spec.fault_in (spec.verdict zone.now accepted.old read)) }
-    ensures taken { OnOk result (accepted.new ≡ accepted.old ++ spec.taken (spec.verdict zone.now accepted.old read)) }
-    ensures kept { OnErr result (accepted.new ≡ accepted.old) }
+    requires kept { IsKept config.now store.old }
+    ensures kept { OnOk result (IsKept config.now store.new) }
+    ensures refused { IfOk result (λ fault.
+        fault ≡ spec.fault_in (spec.verdict config.now (accepted_rows store.old) read)) }
+    ensures taken { OnOk result (accepted_rows store.new
+        ≡ accepted_rows store.old ++ spec.taken (spec.verdict config.now (accepted_rows store.old) read)) }
+    ensures rows { OnErr result (accepted_rows store.new ≡ accepted_rows store.old) }
 {
     match read {
-        RowRead::Row(row) => accepted.take(zone, holdings, row),
+        RowRead::Row(row) => write(config, store, &row),
         RowRead::Fault(fault) => Ok(Some(RowRefused::Read(fault))),
+    }
+}
+
+// Writes a row, or says why it is refused.
+fn write(config: &Config, store: &mut Store, row: &Row) -> Result<Option<RowRefused>, OutOfMemory>
+    requires kept { IsKept config.now store.old }
+    ensures kept { OnOk result (IsKept config.now store.new) }
+    ensures refused { IfOk result (λ fault.
+        fault ≡ spec.fault_in (spec.row_verdict config.now (accepted_rows store.old) row.now)) }
+    ensures taken { OnOk result (accepted_rows store.new
+        ≡ accepted_rows store.old ++ spec.taken (spec.row_verdict config.now (accepted_rows store.old) row.now)) }
+    ensures rows { OnErr result (accepted_rows store.new ≡ accepted_rows store.old) }
+{
+    match store.write(config, row) {
+        Ok(()) => Ok(None),
+        Err(Refusal::Fault(fault)) => Ok(Some(RowRefused::Write(fault))),
+        Err(Refusal::OutOfMemory) => Err(AllocError),
     }
 }

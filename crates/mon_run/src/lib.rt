@@ -4,7 +4,6 @@
 mod accepted;
 mod command;
 mod feeds;
-mod holdings;
 mod outcome;
 mod outside;
 mod queries;
@@ -12,7 +11,6 @@ mod refusals;
 mod runs;
 mod stop;
 mod texts;
-mod zone;
 
 pub use accepted::Accepted;
 pub use command::run;

@@ -1,6 +1,7 @@
 // What a run came to.
 use crate::accepted::Accepted;
 use mon_points::RowFault;
+use mon_store::WriteFault;
 use mon_value::{ListOf, TryCopy};
 use mql_parse::ParseFault;
 use mql_types::TypeFault;
@@ -11,12 +12,8 @@ use std::alloc::{AllocError, Global};
 pub enum RowRefused {
     /// It is no row.
     Read(RowFault),
-    /// No zone lists its location.
-    NoZone,
-    /// The last point of its series ends at this second, at its own end or after it.
-    OldPoint(i64),
-    /// Its range holds as many rows as a range may, which is this number.
-    RangeFull(u64),
+    /// The store didn't take its row.
+    Write(WriteFault),
 }
 
 /// A record that was refused. Records are numbered from 1.
@@ -96,15 +93,5 @@ impl TryCopy for LineEnd {
             LineEnd::Asked { moment } => Ok(LineEnd::Asked { moment: *moment }),
             LineEnd::Refused(fault) => Ok(LineEnd::Refused(*fault)),
         }
-    }
-}
-
-impl TryCopy for Outcome {
-    fn copy(&self, alloc: Global) -> Result<Outcome, AllocError> {
-        Ok(Outcome {
-            status: self.status,
-            accepted: self.accepted.copy(alloc)?,
-            lines: self.lines.copy(alloc)?,
-        })
     }
 }

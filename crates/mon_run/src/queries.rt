@@ -8,18 +8,21 @@ ghost use Rattle.mql_types.specs.Nodes.{typed_tree};
 ghost use Rattle.mql_types.specs.Typing.{typing};
 ghost use Rattle.mon_run.specs.Queries as spec;
 ghost use Rattle.mon_run.specs.QueryTexts.{GoesByTree, HasNoTree, IsRefused};
-ghost use Rattle.mon_run.specs.within.Sound.{AllFit, IsLimited};
+ghost use Rattle.mon_store.specs.QueryTypes.{HasType};
+ghost use Rattle.mon_store.specs.Stores.{AreSound, accepted_rows};
+ghost use Rattle.mon_table.specs.Tables.{printed_table};
 
-use crate::accepted::Accepted;
 use crate::outcome::{LineEnd, LineFault};
 use crate::refusals::refused_line;
 use mon_config::Config;
 use mon_schema::Schemas;
+use mon_store::Store;
 use mon_table::print;
-use mon_value::{OutOfMemory, Refusal, Text};
+use mon_value::{OutOfMemory, Refusal, Table, Text};
 use mql_ast::Query;
 use mql_parse::parse;
-use mql_types::{Typed, check};
+use mql_types::{Plan, Typed, check};
+use plan_split::split;
 use std::alloc::{AllocError, Global};
 
 /// How a query's line ends, and what it prints.
@@ -42,17 +45,16 @@ impl Reply {
 pub(crate) fn reply_to(
     alloc: Global,
     config: &Config,
-    accepted: &Accepted,
+    store: &Store,
     moment: i64,
     text: &Text,
 ) -> Result<Reply, OutOfMemory>
-    requires limited { IsLimited config.now }
-    requires fit { AllFit config.now.schemas accepted.now }
+    requires sound { AreSound config.now store.now }
     requires moment { pos 0 ≤ℤ moment }
     ensures reply { IfOk result (λ reply. reply ≡ spec.reply_of moment
-        (spec.query_answer config.now accepted.now moment text.now)) }
+        (spec.query_answer config.now (accepted_rows store.now) moment text.now)) }
 {
-    match answer(alloc, config, accepted, moment, text.as_bytes()) {
+    match answer(alloc, config, store, moment, text.as_bytes()) {
         Ok(text) => Ok(Reply {
             end: LineEnd::Asked { moment },
             text,
@@ -69,20 +71,41 @@ pub(crate) fn reply_to(
 fn answer(
     alloc: Global,
     config: &Config,
-    accepted: &Accepted,
+    store: &Store,
     moment: i64,
     text: &[u8],
 ) -> Result<Text, Refusal<LineFault>>
-    requires limited { IsLimited config.now }
-    requires fit { AllFit config.now.schemas accepted.now }
+    requires sound { AreSound config.now store.now }
     requires moment { pos 0 ≤ℤ moment }
-    ensures answer { Gives result (spec.query_answer config.now accepted.now moment text.now) }
+    ensures answer { Gives result (spec.query_answer config.now (accepted_rows store.now) moment text.now) }
 {
     config.schemas.metrics_are_lawful();
+    config.schemas.targets_tell_locations();
     let query = parsed(alloc, text)?;
     let typed = typed(alloc, &query, &config.schemas)?;
-    let table = accepted.table(&typed, moment, config.limit)?;
+    let plan = split(alloc, typed, config.buckets)?;
+    let table = table_within(store, config, &plan, moment)?;
     Ok(print(alloc, &table)?)
+}
+
+// The table of a plan, unless its load is above the limit.
+fn table_within(
+    store: &Store,
+    config: &Config,
+    plan: &Plan,
+    moment: i64,
+) -> Result<Table, Refusal<LineFault>>
+    requires sound { AreSound config.now store.now }
+    requires typed { HasType config.now.schemas (typed_tree plan.now.typed) }
+    requires moment { pos 0 ≤ℤ moment }
+    ensures printed { GivesView printed_table result
+        (spec.table_within config.now.limit (typed_tree plan.now.typed) (accepted_rows store.now) moment) }
+{
+    match store.table(config, plan, moment) {
+        Ok(table) => Ok(table),
+        Err(Refusal::Fault(_over)) => Err(Refusal::Fault(LineFault::StepLimit(config.limit))),
+        Err(Refusal::OutOfMemory) => Err(Refusal::OutOfMemory),
+    }
 }
 
 /// A query comes to what the tree that spells its text does; a text that no tree spells is refused for

@@ -6,33 +6,30 @@ ghost use Rattle.mon_script.specs.Lawful.{IsLawful, IsLawfulLine};
 ghost use Rattle.mon_run.specs.Endings.{Did};
 ghost use Rattle.mon_run.specs.Plans as plan;
 ghost use Rattle.mon_run.specs.Plans.{Ask, End, Write};
-ghost use Rattle.mon_run.specs.within.Sound.{AreEmpty, AreSound, IsLimited};
+ghost use Rattle.mon_store.specs.Stores.{AreSound, IsLimited, accepted_rows};
 ghost use Rattle.mon_run.specs.within.Takings.{FileTaken, TakeStops};
 ghost use Rattle.mon_run.specs.within.Stops.{Between, Closes, Completes, Continues, Halts, HasRead, LineRuns, LineStops, PutStops};
 ghost use Rattle.mon_run.specs.within.Stops.{ReadStops, StopsBetween, WriteStops, files_plan, named_plan};
 ghost use Rattle.mon_run.specs.within.Stops.{is_silent as silent, status_of as code};
 
-use crate::accepted::Accepted;
 use crate::feeds::{Fed, feed};
-use crate::holdings::Holdings;
 use crate::outcome::{LineEnd, LineEnds};
 use crate::outside::{Folder, FolderFault, Sink, write_all};
 use crate::queries::reply_to;
 use crate::stop::Stop;
 use crate::texts::{feed_text, own_text};
-use crate::zone::Zone;
 use mon_config::{Config, read_config};
 use mon_points::KeyCache;
 use mon_script::{LineForm, ScriptLine, read_script};
+use mon_store::Store;
 use mon_value::{LONGEST_FILE, Text};
 use std::alloc::Global;
 
-/// What a run has come to: the rows that it accepted, and the ends of its lines. Beside them it keeps
-/// what the ranges hold, and the keys of the series that it read.
+/// What a run has come to: the rows that it accepted, as its leaves keep them, and the ends of its lines. Beside them it
+/// keeps the keys of the series that it read.
 #[derive(Drop)]
 pub(crate) struct Log {
-    pub accepted: Accepted,
-    pub holdings: Holdings,
+    pub store: Store,
     pub ends: LineEnds,
     pub keys: KeyCache,
 }
@@ -40,13 +37,11 @@ pub(crate) struct Log {
 impl Log {
     /// Nothing so far.
     pub fn new(alloc: Global) -> Log
-        ensures rows { result.accepted ≡ [] }
+        ensures rows { accepted_rows result.store ≡ [] }
         ensures ends { result.ends ≡ [] }
-        ensures empty { AreEmpty result.holdings }
     {
         Log {
-            accepted: Accepted::new(alloc),
-            holdings: Holdings::new(alloc),
+            store: Store::new(alloc),
             ends: LineEnds::new(alloc),
             keys: KeyCache::new(alloc),
         }
@@ -65,8 +60,7 @@ pub(crate) struct Run<'f, 'o, 'l, F: Folder, O: Sink> {
 impl<'f, 'o, 'l, F: Folder, O: Sink> Run<'f, 'o, 'l, F, O> {
     /// Runs the command that the words say, and says whether a line was refused.
     pub fn command(&mut self, words: &[String]) -> Result<bool, Stop>
-        requires fresh { self.old.log.now.accepted ≡ [] }
-        requires empty { AreEmpty self.old.log.now.holdings }
+        requires fresh { accepted_rows self.old.log.now.store ≡ [] }
         ensures continues { Continues F.state O.state self.old self.new }
         ensures completes { IfOk result (λ refused. Between F.state O.state
             (Completes (λ files. plan.run_plan files (map string_bytes words.now)) refused) self.old self.new) }
@@ -81,8 +75,7 @@ impl<'f, 'o, 'l, F: Folder, O: Sink> Run<'f, 'o, 'l, F, O> {
 
     // Runs a script under a configuration.
     fn files(&mut self, config: &str, script: &str) -> Result<bool, Stop>
-        requires fresh { self.old.log.now.accepted ≡ [] }
-        requires empty { AreEmpty self.old.log.now.holdings }
+        requires fresh { accepted_rows self.old.log.now.store ≡ [] }
         ensures continues { Continues F.state O.state self.old self.new }
         ensures completes { IfOk result (λ refused. Between F.state O.state
             (Completes (files_plan config.now script.now) refused) self.old self.new) }
@@ -97,8 +90,7 @@ impl<'f, 'o, 'l, F: Folder, O: Sink> Run<'f, 'o, 'l, F, O> {
     // Runs a script's file under a configuration.
     fn script(&mut self, config: &Config, name: &str) -> Result<bool, Stop>
         requires limited { IsLimited config.now }
-        requires fresh { self.old.log.now.accepted ≡ [] }
-        requires empty { AreEmpty self.old.log.now.holdings }
+        requires fresh { accepted_rows self.old.log.now.store ≡ [] }
         ensures continues { Continues F.state O.state self.old self.new }
         ensures completes { IfOk result (λ refused. Between F.state O.state
             (Completes (named_plan config.now name.now) refused) self.old self.new) }
@@ -107,59 +99,61 @@ impl<'f, 'o, 'l, F: Folder, O: Sink> Run<'f, 'o, 'l, F, O> {
     {
         let text = self.read(name)?;
         let script = read_script(self.alloc, text.as_slice())?;
-        let zone = Zone::new(config);
-        self.lines(&zone, script.as_slice())
+        let store = Store::open(self.alloc, config)?;
+        self.log.store = store;
+        self.lines(config, script.as_slice())
     }
 
     // Runs the lines of a script, and says whether one was refused.
-    fn lines(&mut self, zone: &Zone, lines: &[ScriptLine]) -> Result<bool, Stop>
+    fn lines(&mut self, config: &Config, lines: &[ScriptLine]) -> Result<bool, Stop>
         requires lawful { AllByRecursion IsLawfulLine lines.now }
-        requires sound { AreSound zone.now self.old.log.now.accepted self.old.log.now.holdings }
+        requires sound { AreSound config.now self.old.log.now.store }
         ensures continues { Continues F.state O.state self.old self.new }
         ensures completes { IfOk result (λ refused. Between F.state O.state
-            (Completes (λ files. plan.lines_plan zone.now files false self.old.log.now.accepted lines.now) refused)
-            self.old self.new) }
+            (Completes (λ files. plan.lines_plan config.now files false (accepted_rows self.old.log.now.store) lines.now)
+            refused) self.old self.new) }
         ensures halts { IfErr result (StopsBetween F.state O.state
-            (Halts (λ files. plan.lines_plan zone.now files false self.old.log.now.accepted lines.now)) self.old self.new) }
+            (Halts (λ files. plan.lines_plan config.now files false (accepted_rows self.old.log.now.store) lines.now))
+            self.old self.new) }
     {
         let mut refused = false;
         for line in lines {
-            refused = is_either(self.line(zone, &line.what)?, refused);
+            refused = is_either(self.line(config, &line.what)?, refused);
         }
         Ok(refused)
     }
 
     // Runs a line, and says whether it was refused.
-    fn line(&mut self, zone: &Zone, form: &LineForm) -> Result<bool, Stop>
+    fn line(&mut self, config: &Config, form: &LineForm) -> Result<bool, Stop>
         requires lawful { IsLawful form.now }
-        requires sound { AreSound zone.now self.old.log.now.accepted self.old.log.now.holdings }
+        requires sound { AreSound config.now self.old.log.now.store }
         ensures continues { Continues F.state O.state self.old self.new }
         ensures refused { IfOk result (λ refused. refused
-            ≡ plan.is_refused zone.now self.old.log.now.accepted form.now) }
-        ensures ran { OnOk result (Between F.state O.state (LineRuns zone.now form.now) self.old self.new) }
-        ensures stops { IfErr result (StopsBetween F.state O.state (LineStops zone.now form.now) self.old self.new) }
-        ensures sound { OnOk result (AreSound zone.now self.new.log.now.accepted self.new.log.now.holdings) }
+            ≡ plan.is_refused config.now (accepted_rows self.old.log.now.store) form.now) }
+        ensures ran { OnOk result (Between F.state O.state (LineRuns config.now form.now) self.old self.new) }
+        ensures stops { IfErr result (StopsBetween F.state O.state (LineStops config.now form.now) self.old self.new) }
+        ensures sound { OnOk result (AreSound config.now self.new.log.now.store) }
     {
         match form {
             LineForm::Feed(name) => {
-                self.feed(zone, name)?;
+                self.feed(config, name)?;
                 Ok(false)
             }
-            LineForm::Query(moment, text) => self.query(zone, *moment, text),
+            LineForm::Query(moment, text) => self.query(config, *moment, text),
         }
     }
 
     // Runs a feed.
-    fn feed(&mut self, zone: &Zone, name: &Text) -> Result<(), Stop>
-        requires sound { AreSound zone.now self.old.log.now.accepted self.old.log.now.holdings }
+    fn feed(&mut self, config: &Config, name: &Text) -> Result<(), Stop>
+        requires sound { AreSound config.now self.old.log.now.store }
         ensures continues { Continues F.state O.state self.old self.new }
         ensures ran { OnOk result (Between F.state O.state
-            (LineRuns zone.now (LineForm.Feed name.now)) self.old self.new) }
+            (LineRuns config.now (LineForm.Feed name.now)) self.old self.new) }
         ensures stops { IfErr result (StopsBetween F.state O.state
-            (LineStops zone.now (LineForm.Feed name.now)) self.old self.new) }
-        ensures sound { OnOk result (AreSound zone.now self.new.log.now.accepted self.new.log.now.holdings) }
+            (LineStops config.now (LineForm.Feed name.now)) self.old self.new) }
+        ensures sound { OnOk result (AreSound config.now self.new.log.now.store) }
     {
-        let fed = self.take(zone, name)?;
+        let fed = self.take(config, name)?;
         let text = feed_text(self.alloc, name.as_str(), fed.accepted, &fed.refused)?;
         let end = LineEnd::Fed {
             accepted: fed.accepted,
@@ -169,41 +163,39 @@ impl<'f, 'o, 'l, F: Folder, O: Sink> Run<'f, 'o, 'l, F, O> {
     }
 
     // Takes the records of a file.
-    fn take(&mut self, zone: &Zone, name: &Text) -> Result<Fed, Stop>
-        requires sound { AreSound zone.now self.old.log.now.accepted self.old.log.now.holdings }
+    fn take(&mut self, config: &Config, name: &Text) -> Result<Fed, Stop>
+        requires sound { AreSound config.now self.old.log.now.store }
         ensures continues { Continues F.state O.state self.old self.new }
         ensures took { IfOk result (λ fed. Between F.state O.state
-            (FileTaken zone.now name.now fed) self.old self.new) }
-        ensures stops { IfErr result (StopsBetween F.state O.state (TakeStops zone.now name.now) self.old self.new) }
-        ensures sound { OnOk result (AreSound zone.now self.new.log.now.accepted self.new.log.now.holdings) }
+            (FileTaken config.now name.now fed) self.old self.new) }
+        ensures stops { IfErr result (StopsBetween F.state O.state (TakeStops config.now name.now) self.old self.new) }
+        ensures sound { OnOk result (AreSound config.now self.new.log.now.store) }
     {
         let content = self.read(name.as_str())?;
         let log = &mut *self.log;
         Ok(feed(
             self.alloc,
-            zone,
-            &mut log.accepted,
-            &mut log.holdings,
+            config,
+            &mut log.store,
             &mut log.keys,
             content.as_slice(),
         )?)
     }
 
     // Runs a query, and says whether it was refused.
-    fn query(&mut self, zone: &Zone, moment: i64, text: &Text) -> Result<bool, Stop>
+    fn query(&mut self, config: &Config, moment: i64, text: &Text) -> Result<bool, Stop>
         requires lawful { IsLawful (LineForm.Query moment text.now) }
-        requires sound { AreSound zone.now self.old.log.now.accepted self.old.log.now.holdings }
+        requires sound { AreSound config.now self.old.log.now.store }
         ensures continues { Continues F.state O.state self.old self.new }
         ensures refused { IfOk result (λ refused. refused
-            ≡ plan.is_refused zone.now self.old.log.now.accepted (LineForm.Query moment text.now)) }
+            ≡ plan.is_refused config.now (accepted_rows self.old.log.now.store) (LineForm.Query moment text.now)) }
         ensures ran { OnOk result (Between F.state O.state
-            (LineRuns zone.now (LineForm.Query moment text.now)) self.old self.new) }
+            (LineRuns config.now (LineForm.Query moment text.now)) self.old self.new) }
         ensures stops { IfErr result (StopsBetween F.state O.state
-            (LineStops zone.now (LineForm.Query moment text.now)) self.old self.new) }
-        ensures sound { OnOk result (AreSound zone.now self.new.log.now.accepted self.new.log.now.holdings) }
+            (LineStops config.now (LineForm.Query moment text.now)) self.old self.new) }
+        ensures sound { OnOk result (AreSound config.now self.new.log.now.store) }
     {
-        let config = zone.config();
-        let reply = reply_to(self.alloc, config, &self.log.accepted, moment, text)?;
+        let reply = reply_to(self.alloc, config, &self.log.store, moment, text)?;
         let refused = reply.is_refused();
         self.put(reply.end, reply.text.as_bytes())?;
         Ok(refused)
@@ -212,8 +204,7 @@ impl<'f, 'o, 'l, F: Folder, O: Sink> Run<'f, 'o, 'l, F, O> {
     // Notes how a line ended, and writes its text.
     fn put(&mut self, end: LineEnd, text: &[u8]) -> Result<(), Stop>
         ensures continues { Continues F.state O.state self.old self.new }
-        ensures rows { self.new.log.now.accepted ≡ self.old.log.now.accepted }
-        ensures holdings { self.new.log.now.holdings ≡ self.old.log.now.holdings }
+        ensures store { self.new.log.now.store ≡ self.old.log.now.store }
         ensures put { OnOk result (Between F.state O.state (Did (End end ∷ Write text.now ∷ [])) self.old self.new) }
         ensures stops { IfErr result (StopsBetween F.state O.state (PutStops end text.now) self.old self.new) }
     {
@@ -224,8 +215,7 @@ impl<'f, 'o, 'l, F: Folder, O: Sink> Run<'f, 'o, 'l, F, O> {
     // Notes how a line ended.
     fn end(&mut self, end: LineEnd) -> Result<(), Stop>
         ensures continues { Continues F.state O.state self.old self.new }
-        ensures rows { self.new.log.now.accepted ≡ self.old.log.now.accepted }
-        ensures holdings { self.new.log.now.holdings ≡ self.old.log.now.holdings }
+        ensures store { self.new.log.now.store ≡ self.old.log.now.store }
         ensures ended { OnOk result (Between F.state O.state (Did (End end ∷ [])) self.old self.new) }
         ensures kept { OnErr result (Between F.state O.state (Did []) self.old self.new) }
         ensures stops { IfErr result (λ stop. stop ≡ Stop.OutOfMemory) }

@@ -2,7 +2,7 @@
 use mon_config::ConfigFault;
 use mon_script::ScriptFault;
 use mon_value::{Refusal, Text};
-use std::alloc::{AllocError, AllocFailed};
+use std::alloc::AllocError;
 
 /// Why a run stops.
 #[derive(Debug, Drop)]
@@ -30,17 +30,6 @@ impl From<AllocError> for Stop {
     ghost from_gives = { λ _ stop. stop ≡ OutOfMemory };
 
     fn from(_error: AllocError) -> Stop {
-        Stop::OutOfMemory
-    }
-}
-
-impl<T: Drop> From<AllocFailed<T>> for Stop {
-    ghost use Rattle.std.specs.Prelude.{◌≡◌};
-    ghost use Rattle.mon_run.specs.declared.stop.Stop.TheVariants.{OutOfMemory};
-
-    ghost from_gives = { λ _ stop. stop ≡ OutOfMemory };
-
-    fn from(_error: AllocFailed<T>) -> Stop {
         Stop::OutOfMemory
     }
 }

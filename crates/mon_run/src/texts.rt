@@ -6,6 +6,7 @@ ghost use Rattle.mon_table.specs.Tables.{newline};
 
 use crate::outcome::{RowRefusal, RowRefusals, RowRefused};
 use crate::stop::Stop;
+use mon_store::WriteFault;
 use mon_value::OutOfMemory;
 use std::alloc::Global;
 
@@ -44,9 +45,13 @@ fn push_refusal(alloc: Global, text: &mut String, refusal: &RowRefusal) -> Resul
     let number = refusal.number;
     let line = match refusal.fault {
         RowRefused::Read(fault) => format!(in alloc; "row {number}: {fault}\n")?,
-        RowRefused::NoZone => format!(in alloc; "row {number}: NoZone\n")?,
-        RowRefused::OldPoint(last) => format!(in alloc; "row {number}: OldPoint {last}\n")?,
-        RowRefused::RangeFull(limit) => format!(in alloc; "row {number}: RangeFull {limit}\n")?,
+        RowRefused::Write(WriteFault::NoZone) => format!(in alloc; "row {number}: NoZone\n")?,
+        RowRefused::Write(WriteFault::OldPoint(last)) => {
+            format!(in alloc; "row {number}: OldPoint {last}\n")?
+        }
+        RowRefused::Write(WriteFault::RangeFull(limit)) => {
+            format!(in alloc; "row {number}: RangeFull {limit}\n")?
+        }
     };
     text.push_str(line.as_str())
 }

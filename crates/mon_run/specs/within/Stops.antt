@@ -15,6 +15,7 @@ use Rattle.mon_run.specs.Sinks.{SinkState}
 use Rattle.mon_run.specs.Plans.{Ask, End, Miss, Plan, Step, Write, command_plan, config_plan, end_status, ending, is_too_long, line_plan, line_rows, plan_behind, read_plan, run_command}
 use Rattle.mon_run.specs.Texts.{config_text, read_text, script_text, too_long_text, usage_text}
 use Rattle.mon_run.specs.declared.outcome.LineEnd.{LineEnd}
+use Rattle.mon_store.specs.Stores.{accepted_rows}
 use Rattle.mon_run.specs.declared.runs.Run.{Run}
 use Rattle.mon_run.specs.declared.stop.Stop.{Stop}
 use Rattle.mon_run.specs.declared.stop.Stop.TheVariants as stop
@@ -29,7 +30,7 @@ pub record Counts (before after : Progress) : Type 0 where
 module _ {F O : Type 0} (folder : F → FolderState) (sink : O → SinkState) where
   -- what a run has come to
   abbrev pub seen : Run F O → Progress
-  seen run = progress (folder run.folder.now) (sink run.out.now) run.log.now.ends run.log.now.accepted
+  seen run = progress (folder run.folder.now) (sink run.out.now) run.log.now.ends (accepted_rows run.log.now.store)
 
   -- what holds of all that a run had come to before and has come to after, and where it stops
   abbrev pub Between : (Progress → Progress → Type 0) → Run F O → Run F O → Type 0

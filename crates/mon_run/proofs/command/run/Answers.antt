@@ -1,7 +1,9 @@
-use Rattle.std.proofs.Common.{rules, ◌≡◌, Bool, [], map, string_bytes, sym, subst}
+use Rattle.std.proofs.Common.{rules, ◌≡◌, Bool, [], map, string_bytes, sym, subst, ◌∙◌, ap, List}
 use Rattle.mon_run.specs.Endings.{Progress, RunIs, progress}
 use Rattle.mon_run.specs.Plans.{Plan, run_plan}
 use Rattle.mon_run.specs.declared.stop.Stop.{Stop}
+use Rattle.mon_value.specs.declared.rows.Row.{Row}
+use Rattle.mon_store.specs.Stores.{accepted_rows}
 use Rattle.mon_run.specs.within.Stops.{Causes, Completes, Done, Halts, Stops, seen}
 use Rattle.mon_run.proofs.EndLemmas.{run_ended}
 use Rattle.mon_run.proofs.RunLemmas.{err_weaker, ok_weaker}
@@ -10,7 +12,7 @@ use Rattle.mon_run.proofs.command.run.Goals as goal
 pub returns-clause-told : goal.returns-clause-told
 returns-clause-told g c = λ files told.
     let plan : Plan = run_plan files (map string_bytes c.args.words.now) in
-    let fresh : Progress = progress (g.F.Folder.state c.args.folder.now) (g.O.Sink.state c.args.out.now) c.new-log.result.ends c.new-log.result.accepted in
+    let fresh : Progress = progress (g.F.Folder.state c.args.folder.now) (g.O.Sink.state c.args.out.now) c.new-log.result.ends (accepted_rows c.new-log.result.store) in
     let before : Progress = progress (g.F.Folder.state c.args.folder.now) (g.O.Sink.state c.args.out.now) [] [] in
     let mid : Progress = seen g.F.Folder.state g.O.Sink.state c.command-ended.new.self in
     let after : Progress = seen g.F.Folder.state g.O.Sink.state c.close-status.new.self in
@@ -25,6 +27,8 @@ returns-clause-told g c = λ files told.
     let folder : c.folder-1.given.0 ≡ c.close-status.new.self.folder.now = search rules in
     let out : c.out-1.given.0 ≡ c.close-status.new.self.out.now = search rules in
     let log : c.log-2-1.given.0 ≡ c.close-status.new.self.log.now = search rules in
-    let last : after ≡ progress (g.F.Folder.state c.folder-1.given.0) (g.O.Sink.state c.out-1.given.0) c.log-2-1.given.0.ends c.log-2-1.given.0.accepted =
-    λ i. progress (g.F.Folder.state (sym folder i)) (g.O.Sink.state (sym out i)) (sym log i).ends (sym log i).accepted in
+    let seen_last : after ≡ progress (g.F.Folder.state c.folder-1.given.0) (g.O.Sink.state c.out-1.given.0) c.log-2-1.given.0.ends (accepted_rows c.log-2-1.given.0.store) =
+    λ i. progress (g.F.Folder.state (sym folder i)) (g.O.Sink.state (sym out i)) (sym log i).ends (accepted_rows (sym log i).store) in
+    let last : after ≡ progress (g.F.Folder.state c.folder-1.given.0) (g.O.Sink.state c.out-1.given.0) c.log-2-1.given.0.ends c.of.result =
+    seen_last ∙ ap (λ (rows : List Row). progress (g.F.Folder.state c.folder-1.given.0) (g.O.Sink.state c.out-1.given.0) c.log-2-1.given.0.ends rows) (sym c.of.ensures.rows) in
     subst (λ (a : Progress). RunIs plan c.close-status.result before a) last fact

@@ -1,15 +1,17 @@
+use Rattle.std.proofs.Common.{sym, subst}
 use Rattle.mql_ast.specs.Trees.{PipeTree, query_tree}
-use Rattle.mql_types.proofs.QueryLaws.{spelled_typed}
-use Rattle.mql_types.specs.Nodes.{typed_tree}
+use Rattle.mql_types.specs.Nodes.{TypedTree, typed_tree}
 use Rattle.mql_types.specs.Typing.{typing}
-use Rattle.mon_run.proofs.QueryLemmas.{taken_as}
 use Rattle.mon_run.specs.declared.outcome.LineFault.TheVariants as fault
+use Rattle.mon_store.specs.QueryTypes.{HasType}
+use Rattle.mon_run.proofs.QueryLemmas.{has_type, taken_as}
 use Rattle.mon_run.proofs.queries.answer.Goals as goal
 
--- the query was read of the text and typed over the schemas, which the rows fit
-pub table-requires-clause-typed : goal.table-requires-clause-typed
-table-requires-clause-typed c =
+-- the query was read of the text and typed over the schemas
+pub table_within-requires-clause-typed : goal.table_within-requires-clause-typed
+table_within-requires-clause-typed c =
     let schemas = c.args.config.now.schemas in
     let tree : PipeTree = query_tree c.in_ok-query.query in
-    spelled_typed schemas tree c.args.text.now (typed_tree c.in_ok-typed.typed) c.args.accepted.now c.metrics_are_lawful.ensures.held c.in_ok-query.ensures.spelled
-    (taken_as fault.Typing (typing schemas tree) (typed_tree c.in_ok-typed.typed) c.in_ok-typed.ensures.typed) c.requires.fit
+    subst (λ (typed : TypedTree). HasType schemas typed) (sym c.in_ok-plan.ensures.typed)
+    (has_type schemas tree c.args.text.now (typed_tree c.in_ok-typed.typed) c.metrics_are_lawful.ensures.held c.targets_tell_locations.ensures.located
+    c.in_ok-query.ensures.spelled (taken_as fault.Typing (typing schemas tree) (typed_tree c.in_ok-typed.typed) c.in_ok-typed.ensures.typed))

@@ -5,6 +5,7 @@ use Rattle.mon_run.specs.within.Stops.{Completes, Halts, HasRead, config_stop, f
 use Rattle.std.proofs.lemmas.Result.{err_from_is_err_and}
 use Rattle.mon_run.proofs.EndLemmas.{causes_earlier, refused_config}
 use Rattle.mon_run.proofs.RunLemmas.{handed_on, err_weaker, ok_weaker, files_done, files_halt, files_refused}
+use Rattle.mon_run.proofs.LimitLemmas.{is_limited}
 use Rattle.mon_run.proofs.runs.Run.files.Goals as goal
 
 pub returns-in_err-text-clause-halts : goal.returns-in_err-text-clause-halts
@@ -47,3 +48,6 @@ returns-clause-halts g c =
       causes = causes_earlier before mid after stopped c.read.ensures.continues.counts halts.causes;
     })
     c.script.ensures.halts
+
+pub script-requires-clause-limited : goal.script-requires-clause-limited
+script-requires-clause-limited g c = is_limited c.in_ok-config.config c.in_ok-config.ensures.lawful

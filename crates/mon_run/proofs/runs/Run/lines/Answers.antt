@@ -24,7 +24,7 @@ loop-line-preserved g c =
       sound = e.sound;
       reached = λ files told.
           let so_far = i.reached files told in
-          reached_more {line = line} c.is_either-refused.result (c.is_either-refused.ensures.either ∙ ap (λ (b : Bool). b || c.loop-line.refused) e.refused) (subst (λ (left : List ScriptLine). Reached c.args.zone.now files lines left c.loop-line.refused (seen g.F.Folder.state g.O.Sink.state c.args.self.now) (seen g.F.Folder.state g.O.Sink.state c.loop-line.self)) next so_far) (e.ran files (so_far.did.files ∙ told));
+          reached_more {line = line} c.is_either-refused.result (c.is_either-refused.ensures.either ∙ ap (λ (b : Bool). b || c.loop-line.refused) e.refused) (subst (λ (left : List ScriptLine). Reached c.args.config.now files lines left c.loop-line.refused (seen g.F.Folder.state g.O.Sink.state c.args.self.now) (seen g.F.Folder.state g.O.Sink.state c.loop-line.self)) next so_far) (e.ran files (so_far.did.files ∙ told));
     }
 
 pub returns-clause-completes : goal.returns-clause-completes
@@ -43,10 +43,10 @@ returns-in_err-line-clause-halts g c =
     let before : Progress = seen g.F.Folder.state g.O.Sink.state c.args.self.now in
     let now : Progress = seen g.F.Folder.state g.O.Sink.state c.loop-line.self in
     let after : Progress = seen g.F.Folder.state g.O.Sink.state c.line.new.self in
-    let fact : Halts (λ files. lines_plan c.args.zone.now files false before.rows lines) c.in_err-line.field-0.0 before after = record {
+    let fact : Halts (λ files. lines_plan c.args.config.now files false before.rows lines) c.in_err-line.field-0.0 before after = record {
       told = λ files told.
           let so_far = i.reached files told in
-          reached_stops after c.in_err-line.field-0.0 (subst (λ (left : List ScriptLine). Reached c.args.zone.now files lines left c.loop-line.refused before now) next so_far) (c.in_err-line.ensures.stops.told files (so_far.did.files ∙ told));
+          reached_stops after c.in_err-line.field-0.0 (subst (λ (left : List ScriptLine). Reached c.args.config.now files lines left c.loop-line.refused before now) next so_far) (c.in_err-line.ensures.stops.told files (so_far.did.files ∙ told));
       causes = causes_earlier before now after c.in_err-line.field-0.0 i.continues.counts c.in_err-line.ensures.stops.causes;
     } in
     search rules

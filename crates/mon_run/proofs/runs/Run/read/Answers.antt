@@ -6,6 +6,7 @@ use Rattle.mon_run.specs.Folders.{content_of}
 use Rattle.mon_run.specs.Plans.{Ask, Miss, is_too_long}
 use Rattle.mon_run.specs.declared.stop.Stop.TheVariants as stop
 use Rattle.mon_run.specs.declared.outside.folder.FolderFault.TheVariants as fault
+use Rattle.mon_store.specs.Stores.{accepted_rows}
 use Rattle.mon_run.specs.within.Stops.{ReadStops, seen}
 use Rattle.mon_run.proofs.ReadLemmas.{asks_failed, asks_starved, asks_too_long}
 use Rattle.mon_run.proofs.EndLemmas.{last_read_failed}
@@ -16,7 +17,7 @@ use Rattle.mon_run.proofs.runs.Run.read.Goals as goal
 pub returns-in-Err-Failed-clause-stops : goal.returns-in-Err-Failed-clause-stops
 returns-in-Err-Failed-clause-stops g c =
     let before : Progress = seen g.F.Folder.state g.O.Sink.state c.args.self.now in
-    let after : Progress = progress (g.F.Folder.state c.read.new.self) (g.O.Sink.state c.args.self.now.out.now) c.args.self.now.log.now.ends c.args.self.now.log.now.accepted in
+    let after : Progress = progress (g.F.Folder.state c.read.new.self) (g.O.Sink.state c.args.self.now.out.now) c.args.self.now.log.now.ends (accepted_rows c.args.self.now.log.now.store) in
     let name = c.args.name.now in
     let failed : c.read.result ≡ Err fault.Failed = cc in
     let asked = asks_failed c.read.result name before.folder.asked after.folder.asked failed c.read.ensures.asked in
@@ -31,7 +32,7 @@ returns-in-Err-Failed-clause-stops g c =
 pub returns-in-Err-TooLong-clause-stops : goal.returns-in-Err-TooLong-clause-stops
 returns-in-Err-TooLong-clause-stops g c =
     let before : Progress = seen g.F.Folder.state g.O.Sink.state c.args.self.now in
-    let after : Progress = progress (g.F.Folder.state c.read.new.self) (g.O.Sink.state c.args.self.now.out.now) c.args.self.now.log.now.ends c.args.self.now.log.now.accepted in
+    let after : Progress = progress (g.F.Folder.state c.read.new.self) (g.O.Sink.state c.args.self.now.out.now) c.args.self.now.log.now.ends (accepted_rows c.args.self.now.log.now.store) in
     let name = c.args.name.now in
     let failed : c.read.result ≡ Err fault.TooLong = cc in
     let asked = asks_too_long c.read.result name before.folder.asked after.folder.asked failed c.read.ensures.asked in
@@ -48,7 +49,7 @@ returns-in-Err-TooLong-clause-stops g c =
 pub returns-in-Err-OutOfMemory-clause-stops : goal.returns-in-Err-OutOfMemory-clause-stops
 returns-in-Err-OutOfMemory-clause-stops g c =
     let before : Progress = seen g.F.Folder.state g.O.Sink.state c.args.self.now in
-    let after : Progress = progress (g.F.Folder.state c.read.new.self) (g.O.Sink.state c.args.self.now.out.now) c.args.self.now.log.now.ends c.args.self.now.log.now.accepted in
+    let after : Progress = progress (g.F.Folder.state c.read.new.self) (g.O.Sink.state c.args.self.now.out.now) c.args.self.now.log.now.ends (accepted_rows c.args.self.now.log.now.store) in
     let name = c.args.name.now in
     let failed : c.read.result ≡ Err fault.OutOfMemory = cc in
     record {

@@ -1,0 +1,17 @@
+mod DivisionLemmas
+mod DivisionPoints
+mod FirstLemmas
+mod KeepLemmas
+mod LeafRowLemmas
+mod ListedLemmas
+mod OpenLemmas
+mod PlacedRangeLemmas
+mod PutLemmas
+mod RangeRowLemmas
+mod SettleLemmas
+mod StoreLemmas
+mod TableLemmas
+mod TakeLemmas
+mod TurnLemmas
+mod MeaningOrderLemmas
+mod SeriesOrderLemmas

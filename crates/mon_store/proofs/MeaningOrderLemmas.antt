@@ -1,0 +1,218 @@
+-- What a query means, and how much work it is: the same over rows whose series stand in another order.
+use Rattle.std.proofs.Common.{◌≡◌, ℕ, ℤ, Bool, true, false, ◌||◌, cond, List, [], ◌∷◌, map, Result, Ok, Err, refl, sym, ap, subst, ◌∙◌, arith}
+use Rattle.std.specs.Prelude.{IsPermutation}
+use Rattle.std.specs.List.{AllByRecursion}
+use Rattle.std.proofs.lemmas.List.Sorted.{IsPermutation-append, IsPermutation-refl, IsPermutation-sym, IsPermutation-trans, length_permutation, sum_by-IsPermutation}
+use Rattle.mon_value.proofs.PermutationLemmas.{filter-permutation, flat_map-permutation}
+use Rattle.mon_value.proofs.SameLemmas.{same_series-Decides}
+use Rattle.mon_value.proofs.SourceLemmas.{has_series}
+use Rattle.mon_value.specs.Same.{same_series}
+use Rattle.mon_value.specs.Sources.{key_of_row, points_by_series, points_of, rows_of, series_of}
+use Rattle.mon_value.specs.declared.grids.Grid.{Grid}
+use Rattle.mon_value.specs.declared.refusals.Refusal.{Refusal}
+use Rattle.mon_value.specs.declared.refusals.Refusal.TheVariants as refusal
+use Rattle.mon_value.specs.declared.rows.Point.{Point}
+use Rattle.mon_value.specs.declared.rows.Row.{Row}
+use Rattle.mon_value.specs.declared.rows.SeriesKey.{SeriesKey}
+use Rattle.mon_value.specs.declared.tables.Table.{Table}
+use Rattle.mon_value.specs.declared.tables.TimedRow.{TimedRow}
+use Rattle.mql_ast.specs.Truths.{predicate_truth}
+use Rattle.mql_types.specs.Loads.{load}
+use Rattle.mql_types.specs.Meaning.{grid_of, meaning, value_row}
+use Rattle.mql_types.specs.Nodes as node
+use Rattle.mql_types.specs.Nodes.{NodeTree, TypedTree, columns_of}
+use Rattle.mql_types.specs.Soundness.{IsTyped}
+use Rattle.mon_schema.specs.Fits.{fits}
+use Rattle.mon_meaning.specs.Central.{IsAnswer, IsRefusedBy}
+use Rattle.mon_meaning.specs.declared.meter.OverLimit.{OverLimit}
+use Rattle.mon_meaning.specs.within.SeriesMeaning.{SeriesGroup, load_by_series, reach_count, rows_by_series, series_rows}
+use Rattle.mon_meaning.proofs.FilterLemmas.{all-permutation, filter_map-permutation}
+use Rattle.mon_meaning.proofs.KeyOrders.{keys_there}
+use Rattle.mon_meaning.proofs.OperationOrders.{group_rows-permutation, pairs-permutation, top_rows-permutation}
+use Rattle.mon_meaning.proofs.PartLemmas.{part_load, part_rows}
+
+-- ---- rows and loads of trees
+
+rows_in_order : (grid : Grid) (tree : NodeTree) (series others : List SeriesGroup) → IsPermutation series others
+    → IsPermutation (rows_by_series grid tree series) (rows_by_series grid tree others)
+rows_in_order grid (node.Fetch info schema metric) series others same = IsPermutation-refl []
+rows_in_order grid (node.Filter info by input) series others same =
+    filter-permutation (λ (row : TimedRow). predicate_truth by info.columns row.cells) _ _
+    (rows_in_order grid input series others same)
+rows_in_order grid (node.Align info by input) series others same =
+    flat_map-permutation (series_rows grid by input) series others same
+rows_in_order grid (node.GroupBy info by with input) series others same =
+    group_rows-permutation by with _ _ (rows_in_order grid input series others same)
+rows_in_order grid (node.Value info items input) series others same =
+    filter_map-permutation (value_row (columns_of input) items) _ _ (rows_in_order grid input series others same)
+rows_in_order grid (node.Top info most column input) series others same =
+    top_rows-permutation most column _ _ (rows_in_order grid input series others same)
+rows_in_order grid (node.Join info left right) series others same =
+    pairs-permutation (columns_of left) (columns_of right) _ _ _ _ (rows_in_order grid left series others same)
+    (rows_in_order grid right series others same)
+rows_in_order grid (node.Union info left right) series others same =
+    IsPermutation-append _ _ _ _ (rows_in_order grid left series others same)
+    (rows_in_order grid right series others same)
+
+loads_in_order : (grid : Grid) (tree : NodeTree) (series others : List SeriesGroup) → IsPermutation series others
+    → load_by_series grid tree series ≡ load_by_series grid tree others
+loads_in_order grid (node.Fetch info schema metric) series others same = refl
+loads_in_order grid (node.Filter info by input) series others same = loads_in_order grid input series others same
+loads_in_order grid (node.Align info by input) series others same =
+    omega (
+      arith,
+      sum_by-IsPermutation (reach_count grid by input) series others same,
+      length_permutation _ _ (rows_in_order grid (node.Align info by input) series others same),
+    )
+loads_in_order grid (node.GroupBy info by with input) series others same = loads_in_order grid input series others same
+loads_in_order grid (node.Value info items input) series others same = loads_in_order grid input series others same
+loads_in_order grid (node.Top info most column input) series others same = loads_in_order grid input series others same
+loads_in_order grid (node.Join info left right) series others same =
+    omega (
+      arith,
+      loads_in_order grid left series others same,
+      loads_in_order grid right series others same,
+      length_permutation _ _ (rows_in_order grid (node.Join info left right) series others same),
+    )
+loads_in_order grid (node.Union info left right) series others same =
+    omega (arith, loads_in_order grid left series others same, loads_in_order grid right series others same)
+
+-- ---- queries
+
+module _ (typed : TypedTree) (some others : List Row) (moment : ℤ)
+    (same : IsPermutation (points_by_series some) (points_by_series others)) where
+  abbrev grid : Grid
+  grid = grid_of typed moment
+
+  by_series : (rows : List Row)
+      → IsPermutation (meaning typed rows moment) (rows_by_series grid typed.tree (points_by_series rows))
+  by_series rows =
+      part_rows grid typed.tree (points_by_series rows) rows refl
+      (rows_by_series grid typed.tree (points_by_series rows)) refl
+
+  pub meaning_in_order : IsPermutation (meaning typed some moment) (meaning typed others moment)
+  meaning_in_order =
+      IsPermutation-trans _ _ _ (by_series some)
+      (IsPermutation-trans _ _ _ (rows_in_order grid typed.tree (points_by_series some) (points_by_series others) same)
+      (IsPermutation-sym (meaning typed others moment) _ (by_series others)))
+
+  pub load_in_order : load typed some moment ≡ load typed others moment
+  load_in_order =
+      sym (part_load grid typed.tree (points_by_series some) some refl)
+      ∙ loads_in_order grid typed.tree (points_by_series some) (points_by_series others) same
+      ∙ part_load grid typed.tree (points_by_series others) others refl
+
+  refused_in_order : (limit : ℕ) (refused : Refusal OverLimit) → IsRefusedBy typed some moment limit refused
+      → IsRefusedBy typed others moment limit refused
+  refused_in_order limit (refusal.Fault over) is = record {
+    above = is.above;
+    most = omega (arith, is.most, load_in_order);
+  }
+  refused_in_order limit refusal.OutOfMemory is = tt
+
+  -- an answer over rows is one over those of their series in another order
+  pub answer_in_order : (limit : ℕ) (result : Result Table (Refusal OverLimit)) → IsAnswer typed some moment limit result
+      → IsAnswer typed others moment limit result
+  answer_in_order limit (Ok table) meant = record {
+    columns = meant.columns;
+    rows = IsPermutation-trans _ _ _ (IsPermutation-sym (meaning typed some moment) _ meaning_in_order) meant.rows;
+    within = omega (arith, meant.within, load_in_order);
+  }
+  answer_in_order limit (Err refused) is = refused_in_order limit refused is
+
+-- ---- what holds of each row
+
+module _ (P : Row → Type 0) where
+  -- what holds of each point of a series, as a row of it
+  abbrev OfPoints : SeriesKey → List Point → Type 0
+  OfPoints key points = AllByRecursion (λ (point : Point). P (record { key = key; point = point })) points
+
+  abbrev OfSeries : SeriesGroup → Type 0
+  OfSeries series = OfPoints series.0 series.1
+
+  -- a row more, if it is of the series
+  abbrev with_row : SeriesKey → Row → List Row → Bool → List Point
+  with_row key row rows b = map (λ (r : Row). r.point) (cond b (row ∷ rows_of key rows) (rows_of key rows))
+
+  points_with : (key : SeriesKey) (row : Row) (rows : List Row) (b : Bool) → same_series key row.key ≡ b
+      → points_of key (row ∷ rows) ≡ with_row key row rows b
+  points_with key row rows b e =
+      ap (λ c. map (λ (r : Row). r.point) (cond c (row ∷ rows_of key rows) (rows_of key rows))) e
+
+  into_series_by : (key : SeriesKey) (row : Row) (rows : List Row) (b : Bool) → same_series key row.key ≡ b → P row
+      → OfPoints key (points_of key rows) → OfPoints key (with_row key row rows b)
+  into_series_by key row rows true e here rest =
+      let alike : row.key ≡ key = sym ((same_series-Decides key row.key).0 e) in
+      (subst (λ (k : SeriesKey). P (record { key = k; point = row.point })) alike here, rest)
+  into_series_by key row rows false e here rest = rest
+
+  into_series : (key : SeriesKey) (rows : List Row) → AllByRecursion P rows → OfPoints key (points_of key rows)
+  into_series key [] all = tt
+  into_series key (row ∷ rows) all =
+      let b = same_series key row.key in
+      subst (OfPoints key) (sym (points_with key row rows b refl))
+      (into_series_by key row rows b refl all.0 (into_series key rows all.1))
+
+  all_series : (rows : List Row) (keys : List SeriesKey) → AllByRecursion P rows
+      → AllByRecursion OfSeries (map (λ key. (key, points_of key rows)) keys)
+  all_series rows [] all = tt
+  all_series rows (key ∷ keys) all = (into_series key rows all, all_series rows keys all)
+
+  at_key_by : (key first : SeriesKey) (rows : List Row) (keys : List SeriesKey) (b : Bool) → same_series key first ≡ b
+      → has_series key (first ∷ keys) ≡ true → OfPoints first (points_of first rows)
+      → (has_series key keys ≡ true → OfPoints key (points_of key rows)) → OfPoints key (points_of key rows)
+  at_key_by key first rows keys true e there here rest =
+      subst (λ (k : SeriesKey). OfPoints k (points_of k rows)) (sym ((same_series-Decides key first).0 e)) here
+  at_key_by key first rows keys false e there here rest =
+      rest (sym (ap (λ c. c || has_series key keys) e) ∙ there)
+
+  at_key : (key : SeriesKey) (rows : List Row) (keys : List SeriesKey) → has_series key keys ≡ true
+      → AllByRecursion OfSeries (map (λ key. (key, points_of key rows)) keys) → OfPoints key (points_of key rows)
+  at_key key rows [] there all = absurd cc
+  at_key key rows (first ∷ keys) there all =
+      at_key_by key first rows keys (same_series key first) refl there all.0
+      (λ left. at_key key rows keys left all.1)
+
+  less_by : (key : SeriesKey) (row : Row) (rows : List Row) (b : Bool) → OfPoints key (with_row key row rows b)
+      → OfPoints key (points_of key rows)
+  less_by key row rows true all = all.1
+  less_by key row rows false all = all
+
+  less : (key : SeriesKey) (row : Row) (rows : List Row) → OfPoints key (points_of key (row ∷ rows))
+      → OfPoints key (points_of key rows)
+  less key row rows all =
+      let b = same_series key row.key in
+      less_by key row rows b (subst (OfPoints key) (points_with key row rows b refl) all)
+
+  from_series : (keys : List SeriesKey) (rows : List Row)
+      → AllByRecursion (λ (row : Row). has_series row.key keys ≡ true) rows
+      → ((key : SeriesKey) → has_series key keys ≡ true → OfPoints key (points_of key rows)) → AllByRecursion P rows
+  from_series keys [] there all = tt
+  from_series keys (row ∷ rows) there all =
+      let itself : same_series row.key row.key ≡ true = (same_series-Decides row.key row.key).1 refl in
+      let own : OfPoints row.key (with_row row.key row rows true) =
+      subst (OfPoints row.key) (points_with row.key row rows true itself) (all row.key there.0) in (
+        own.0,
+        from_series keys rows there.1 (λ key has. less key row rows (all key has)),
+      )
+
+  pub rows_in_series : (some others : List Row) → IsPermutation (points_by_series some) (points_by_series others)
+      → AllByRecursion P some → AllByRecursion P others
+  rows_in_series some others same all =
+      let each : AllByRecursion OfSeries (points_by_series others) =
+      all-permutation OfSeries _ _ same (all_series some (series_of some) all) in
+      from_series (series_of others) others (keys_there same_series same_series-Decides key_of_row others)
+      (λ key there. at_key key others (series_of others) there each)
+
+-- a query that is typed for rows is typed for those of their series in another order
+pub typed_in_order : (typed : TypedTree) (some others : List Row)
+    → IsPermutation (points_by_series some) (points_by_series others) → IsTyped typed some → IsTyped typed others
+typed_in_order typed some others same of = record {
+  held = of.held;
+  query = of.query;
+  metrics = of.metrics;
+  spelled = of.spelled;
+  durations = of.durations;
+  is = of.is;
+  fit = rows_in_series (λ row. fits of.held row ≡ true) some others same of.fit;
+}

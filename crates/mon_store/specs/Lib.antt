@@ -1,0 +1,4 @@
+pub mod QueryTypes
+pub mod Stores
+pub mod within
+pub mod Writes
