@@ -1,106 +1,188 @@
-// The calls whose cases stand in tables.
+// The cases of a table, and what the call that it names answers to them.
 use crate::case_tables::{Case, CaseTable, Entry};
 use crate::escapes::shown;
 use crate::files::{name_beside, read_text};
-use crate::trouble::Trouble;
+use crate::settings::Setting;
+use crate::trouble::{Done, Trouble};
+use crate::{
+    configurations, expressions, groups, hints, leaf_growth, leaf_states, meanings, plans, points,
+    queries, ranges, runs, schemas, scripts, series, tables, typing, values, writes,
+};
 use std::alloc::AllocError;
-
-/// A public call whose cases stand in tables.
-pub(crate) trait Call {
-    /// Takes the content of a file under which the cases that follow stand.
-    fn take(&mut self, content: &str) -> Result<(), Trouble>;
-
-    /// What the call answers to a case, as tables write it.
-    fn answer(&mut self, given: &str) -> Result<Vec<u8>, Trouble>;
-}
 
 /// What the cases of a table came to.
 #[derive(Drop)]
 pub(crate) struct Report {
+    setting: Setting,
     /// A line for each case that differs.
     pub(crate) text: String,
     pub(crate) cases: u64,
     pub(crate) held: u64,
 }
 
-impl Report {
-    pub(crate) fn add(&mut self, line: &str) -> Result<(), AllocError> {
-        self.text.push_str(line)?;
-        self.text.push_str("\n")
-    }
-}
-
 /// Checks the cases of a table.
-pub(crate) fn check<C: Call>(
-    rt: &HostRuntime,
-    name: &str,
-    table: &CaseTable,
-    mut call: C,
-) -> Result<Report, AllocError>
-where
-    C: Drop,
-{
+pub(crate) fn check(rt: &HostRuntime, name: &str, table: &CaseTable) -> Result<Report, AllocError> {
     let mut report = Report {
+        setting: Setting::new(rt.alloc()),
         text: String::new(rt.alloc()),
         cases: 0,
         held: 0,
     };
     for entry in table.entries.as_slice() {
-        match entry {
-            Entry::Under(file) => take_file(rt, name, file.as_str(), &mut call, &mut report)?,
-            Entry::Case(case) => check_case(rt, name, case, &mut call, &mut report)?,
-        }
+        check_entry(rt, &mut report, name, table.call.as_str(), entry)?;
     }
     Ok(report)
 }
 
-// Gives the content of a file to the call.
-fn take_file<C: Call>(
+fn check_entry(
     rt: &HostRuntime,
-    name: &str,
-    file: &str,
-    call: &mut C,
     report: &mut Report,
+    name: &str,
+    call: &str,
+    entry: &Entry,
 ) -> Result<(), AllocError> {
-    let path = name_beside(rt.alloc(), name, file)?;
-    let taken = match read_text(rt, path.as_str()) {
-        Some(content) => call.take(content.as_str()),
-        None => Err(Trouble::Misspelled),
-    };
-    match taken {
-        Ok(()) => Ok(()),
-        Err(Trouble::OutOfMemory) => Err(AllocError),
-        Err(Trouble::Misspelled) => {
-            report.add(format!(in rt.alloc(); "{name}: cannot take {file}")?.as_str())
-        }
+    match entry {
+        Entry::Under(file) => report.take_file(rt, name, file.as_str()),
+        Entry::Case(case) => report.check_case(name, call, case),
     }
 }
 
-// Checks a case, and tells where it differs.
-fn check_case<C: Call>(
-    rt: &HostRuntime,
+impl Report {
+    // Takes a file of the table's folder.
+    fn take_file(&mut self, rt: &HostRuntime, name: &str, file: &str) -> Result<(), AllocError> {
+        let path = name_beside(rt.alloc(), name, file)?;
+        match read_text(rt, path.as_str()) {
+            Some(content) => self.take(name, file, content.as_str()),
+            None => self.tell_file(name, file),
+        }
+    }
+
+    fn take(&mut self, name: &str, file: &str, content: &str) -> Result<(), AllocError> {
+        match self.setting.take(content) {
+            Ok(()) => Ok(()),
+            Err(Trouble::OutOfMemory) => Err(AllocError),
+            Err(Trouble::Misspelled) => self.tell_file(name, file),
+        }
+    }
+
+    fn tell_file(&mut self, name: &str, file: &str) -> Result<(), AllocError> {
+        writeln!(self.text, "{name}: cannot take {file}")
+    }
+
+    // Checks a case, and tells where it differs.
+    fn check_case(&mut self, name: &str, call: &str, case: &Case) -> Result<(), AllocError> {
+        self.cases = self.cases.saturating_add(1);
+        match answer(&mut self.setting, call, case.given.as_str()) {
+            Ok(answer) => self.compare(name, case, answer.as_slice()),
+            Err(Trouble::OutOfMemory) => Err(AllocError),
+            Err(Trouble::Misspelled) => self.tell_case(name, call, case.line),
+        }
+    }
+
+    fn compare(&mut self, name: &str, case: &Case, answer: &[u8]) -> Result<(), AllocError> {
+        if answer == case.wanted.as_slice() {
+            self.held = self.held.saturating_add(1);
+            return Ok(());
+        }
+        self.tell(name, case.line, "wants", case.wanted.as_slice())?;
+        self.tell(name, case.line, "gives", answer)
+    }
+
+    fn tell_case(&mut self, name: &str, call: &str, line: usize) -> Result<(), AllocError> {
+        writeln!(self.text, "{name}: line {line} is no case of {call}")
+    }
+
+    fn tell(
+        &mut self,
+        name: &str,
+        line: usize,
+        verb: &str,
+        bytes: &[u8],
+    ) -> Result<(), AllocError> {
+        let bytes = shown(self.setting.alloc, bytes)?;
+        let bytes = bytes.as_str();
+        writeln!(self.text, "{name}: line {line} {verb} {bytes}")
+    }
+}
+
+// What a call answers to a case, as tables write it.
+fn answer(setting: &mut Setting, call: &str, given: &str) -> Result<Vec<u8>, Trouble> {
+    match call {
+        "mon_run::run" => runs::answer(setting.alloc, setting.content.as_str(), given),
+        "mon_hints::excerpts_of" => hints::excerpts(setting.alloc, given),
+        _ => text_answer(setting, call, given),
+    }
+}
+
+fn text_answer(setting: &mut Setting, call: &str, given: &str) -> Result<Vec<u8>, Trouble> {
+    let mut text = String::new(setting.alloc);
+    write_answer(&mut text, setting, call, given)?;
+    Ok(text.into_bytes())
+}
+
+fn write_answer(text: &mut String, setting: &mut Setting, call: &str, given: &str) -> Done {
+    let (home, name) = call.split_once("::").unwrap_or((call, ""));
+    match home {
+        "mon_value" => values::write_answer(text, setting.alloc, name, given),
+        "mon_hints" => hints::write_answer(text, setting.alloc, name, given),
+        "mon_expr" => expressions::write_answer(text, setting.alloc, name, given),
+        "mon_schema" => schemas::write_answer(text, setting.alloc, &mut setting.schemas, given),
+        "write_core" => writes::write_answer(text, setting.alloc, given),
+        _ => write_of_files(text, setting, home, name, given),
+    }
+}
+
+// The same of the calls of the layers that read texts and make tables.
+fn write_of_files(
+    text: &mut String,
+    setting: &Setting,
+    home: &str,
     name: &str,
-    case: &Case,
-    call: &mut C,
-    report: &mut Report,
-) -> Result<(), AllocError> {
-    let alloc = rt.alloc();
-    report.cases = report.cases.saturating_add(1);
-    let line = case.line;
-    match call.answer(case.given.as_str()) {
-        Ok(answer) if answer.as_slice() == case.wanted.as_slice() => {
-            report.held = report.held.saturating_add(1);
-            Ok(())
-        }
-        Ok(answer) => {
-            let wanted = shown(alloc, case.wanted.as_slice())?;
-            let came = shown(alloc, answer.as_slice())?;
-            report.add(format!(in alloc; "{name}: line {line} wants {wanted}")?.as_str())?;
-            report.add(format!(in alloc; "{name}: line {line} gives {came}")?.as_str())
-        }
-        Err(Trouble::OutOfMemory) => Err(AllocError),
-        Err(Trouble::Misspelled) => {
-            report.add(format!(in alloc; "{name}: line {line} is no case of the call")?.as_str())
-        }
+    given: &str,
+) -> Done {
+    match home {
+        "mon_config" => configurations::write_answer(text, setting.alloc, given),
+        "mon_topo" => ranges::write_answer(text, setting, name, given),
+        "mon_points" => points::write_answer(text, setting, given),
+        "mon_script" => scripts::write_answer(text, setting.alloc, given),
+        "mon_table" => tables::write_answer(text, setting.alloc, given),
+        "leaf_store" => write_of_leaves(text, setting, name, given),
+        _ => write_of_queries(text, setting, home, name, given),
+    }
+}
+
+// The same of the calls of leaves' states.
+fn write_of_leaves(text: &mut String, setting: &Setting, name: &str, given: &str) -> Done {
+    match name {
+        "LeafState" => leaf_states::write_answer(text, setting, given),
+        "LeafState of many puts" => leaf_growth::write_answer(text, setting, given),
+        _ => Err(Trouble::Misspelled),
+    }
+}
+
+// The same of the calls of queries.
+fn write_of_queries(
+    text: &mut String,
+    setting: &Setting,
+    home: &str,
+    name: &str,
+    given: &str,
+) -> Done {
+    match home {
+        "mql_parse" => queries::write_answer(text, setting.alloc, name, given),
+        "mql_types" => typing::write_answer(text, setting, name, given),
+        "plan_split" => plans::write_answer(text, setting, name, given),
+        "mon_fold" => write_of_folds(text, setting, name, given),
+        "mon_meaning" => meanings::write_answer(text, setting, given),
+        _ => Err(Trouble::Misspelled),
+    }
+}
+
+// The same of the calls that align and group.
+fn write_of_folds(text: &mut String, setting: &Setting, name: &str, given: &str) -> Done {
+    match name {
+        "align" => series::write_answer(text, setting.alloc, given),
+        "group" => groups::write_answer(text, setting.alloc, given),
+        _ => Err(Trouble::Misspelled),
     }
 }

@@ -1,7 +1,7 @@
 // Tables of cases, as files hold them.
 use crate::escapes::{add_line, bytes_of};
-use crate::trouble::Trouble;
-use std::alloc::{AllocError, AllocFailed, Global};
+use crate::trouble::{Done, Trouble};
+use std::alloc::{AllocError, Global};
 use std::fmt;
 
 /// A case: what the call is given, as the table writes it, and the answer that is wanted.
@@ -18,13 +18,6 @@ pub(crate) enum Entry {
     /// A file under which the cases behind it stand.
     Under(String),
     Case(Case),
-}
-
-/// A table: the call that answers its cases, and its entries in order.
-#[derive(Drop)]
-pub(crate) struct CaseTable {
-    pub(crate) call: String,
-    pub(crate) entries: Vec<Entry>,
 }
 
 /// Why a text is no table.
@@ -65,142 +58,144 @@ impl From<AllocError> for TableFault {
     }
 }
 
-impl<T: Drop> From<AllocFailed<T>> for TableFault {
-    fn from(_error: AllocFailed<T>) -> TableFault {
-        TableFault::OutOfMemory
-    }
+// Where the next line stands.
+#[derive(Clone, Copy)]
+enum Place {
+    Outside,
+    /// Behind lines that are given.
+    Given,
+    /// Behind lines of an answer.
+    Answer,
+}
+
+/// A table: the call that answers its cases, and its entries in order.
+#[derive(Drop)]
+pub(crate) struct CaseTable {
+    alloc: Global,
+    pub(crate) call: String,
+    pub(crate) entries: Vec<Entry>,
+    /// What stands before and behind each case of one line.
+    front: String,
+    back: String,
+    place: Place,
+    /// The line at which the last entry began.
+    line: usize,
+    cases: usize,
+    /// The number in the last line.
+    end: Option<usize>,
 }
 
 /// The table that a text is. Its first line is `cases of CALL` and its last one `end N`, where N is the
 /// number of cases.
 pub(crate) fn read_table(alloc: Global, text: &str) -> Result<CaseTable, TableFault> {
-    let Some((head, lines)) = text.split_once('\n') else {
-        return Err(TableFault::NoCall);
-    };
+    let (head, lines) = text.split_once('\n').unwrap_or((text, ""));
     let Some(call) = head.strip_prefix("cases of ") else {
         return Err(TableFault::NoCall);
     };
-    let mut reader = Reader::new(alloc);
-    for (place, line) in lines.lines().enumerate() {
-        match reader.take(place.saturating_add(2), line) {
-            Ok(()) => {}
-            Err(Trouble::OutOfMemory) => return Err(TableFault::OutOfMemory),
-            Err(Trouble::Misspelled) => return Err(TableFault::BadLine(reader.line)),
-        }
-    }
-    Ok(CaseTable {
-        call: String::from_str(alloc, call)?,
-        entries: reader.finish()?,
-    })
+    let mut table = CaseTable::new(alloc, call)?;
+    table.take_all(lines)?;
+    table.check_end()?;
+    Ok(table)
 }
 
-// A case of several lines, as far as it was read.
-#[derive(Drop)]
-struct Paragraph {
-    given: String,
-    wanted: Option<Vec<u8>>,
-}
-
-// What was read of a table.
-#[derive(Drop)]
-struct Reader {
-    alloc: Global,
-    entries: Vec<Entry>,
-    /// What stands before and behind each case of one line.
-    around: Option<(String, String)>,
-    paragraph: Option<Paragraph>,
-    /// The line at which the last entry began.
-    line: usize,
-    /// The number in the last line.
-    end: Option<usize>,
-}
-
-impl Reader {
-    fn new(alloc: Global) -> Reader {
-        Reader {
+impl CaseTable {
+    fn new(alloc: Global, call: &str) -> Result<CaseTable, AllocError> {
+        Ok(CaseTable {
             alloc,
+            call: String::from_str(alloc, call)?,
             entries: Vec::new(alloc),
-            around: None,
-            paragraph: None,
+            front: String::new(alloc),
+            back: String::new(alloc),
+            place: Place::Outside,
             line: 0,
+            cases: 0,
             end: None,
-        }
+        })
     }
 
-    // Takes the next line.
-    fn take(&mut self, number: usize, line: &str) -> Result<(), Trouble> {
-        if let Some(paragraph) = self.paragraph.take() {
-            return self.go_on(paragraph, line);
+    fn take_all(&mut self, lines: &str) -> Result<(), TableFault> {
+        for (place, line) in lines.lines().enumerate() {
+            match self.take(place.saturating_add(2), line) {
+                Ok(()) => {}
+                Err(Trouble::OutOfMemory) => return Err(TableFault::OutOfMemory),
+                Err(Trouble::Misspelled) => return Err(TableFault::BadLine(self.line)),
+            }
         }
-        self.line = number;
-        if self.end.is_some() {
-            return Err(Trouble::Misspelled);
-        }
-        self.begin(line)
-    }
-
-    // Takes a line behind those of a paragraph.
-    fn go_on(&mut self, mut paragraph: Paragraph, line: &str) -> Result<(), Trouble> {
-        if line.is_empty() {
-            return self.close(paragraph);
-        }
-        add_to(self.alloc, &mut paragraph, line)?;
-        self.paragraph = Some(paragraph);
         Ok(())
     }
 
+    // Takes the next line.
+    fn take(&mut self, number: usize, line: &str) -> Done {
+        match self.place {
+            Place::Outside => {
+                self.line = number;
+                self.begin(line)
+            }
+            Place::Given => self.take_given(line),
+            Place::Answer => self.take_answer(line),
+        }
+    }
+
     // Takes a line that stands in no paragraph.
-    fn begin(&mut self, line: &str) -> Result<(), Trouble> {
+    fn begin(&mut self, line: &str) -> Done {
+        if self.end.is_some() {
+            return Err(Trouble::Misspelled);
+        }
         if line.is_empty() || line.starts_with("# ") {
             return Ok(());
         }
-        if let Some(name) = line.strip_prefix("under ") {
-            let name = String::from_str(self.alloc, name)?;
-            self.entries.push(Entry::Under(name))?;
-            return Ok(());
+        let (word, rest) = line.split_once(' ').unwrap_or((line, ""));
+        match word {
+            "under" => self.add_file(rest),
+            "within" => self.put_around(rest),
+            "end" => self.take_end(rest),
+            _ => self.begin_case(line),
         }
-        if let Some(around) = line.strip_prefix("within ") {
-            return self.put_around(around);
-        }
-        if let Some(count) = line.strip_prefix("end ") {
-            return self.take_end(count);
-        }
+    }
+
+    fn begin_case(&mut self, line: &str) -> Done {
         match line.split_once(" => ") {
             Some((given, wanted)) => self.add_case(given, wanted),
             None => self.begin_paragraph(line),
         }
     }
 
+    fn add_file(&mut self, name: &str) -> Done {
+        let name = String::from_str(self.alloc, name)?;
+        Ok(self.entries.push(Entry::Under(name))?)
+    }
+
     // The cases of one line that follow stand in the place of the `@`.
-    fn put_around(&mut self, around: &str) -> Result<(), Trouble> {
+    fn put_around(&mut self, around: &str) -> Done {
         let Some((front, back)) = around.split_once('@') else {
             return Err(Trouble::Misspelled);
         };
-        let front = String::from_str(self.alloc, front)?;
-        let back = String::from_str(self.alloc, back)?;
-        self.around = Some((front, back));
+        self.front = String::from_str(self.alloc, front)?;
+        self.back = String::from_str(self.alloc, back)?;
         Ok(())
     }
 
-    fn take_end(&mut self, count: &str) -> Result<(), Trouble> {
-        let Ok(count) = count.parse::<usize>() else {
-            return Err(Trouble::Misspelled);
-        };
-        self.end = Some(count);
-        Ok(())
+    fn take_end(&mut self, count: &str) -> Done {
+        match count.parse::<usize>() {
+            Ok(count) => {
+                self.end = Some(count);
+                Ok(())
+            }
+            Err(_) => Err(Trouble::Misspelled),
+        }
     }
 
     // Adds a case of one line.
-    fn add_case(&mut self, given: &str, wanted: &str) -> Result<(), Trouble> {
-        let given = match &self.around {
-            Some((front, back)) => format!(in self.alloc; "{front}{given}{back}")?,
-            None => String::from_str(self.alloc, given)?,
-        };
+    fn add_case(&mut self, given: &str, wanted: &str) -> Done {
+        let front = self.front.as_str();
+        let back = self.back.as_str();
+        let given = format!(in self.alloc; "{front}{given}{back}")?;
         let wanted = bytes_of(self.alloc, wanted)?;
         self.put_case(given, wanted)
     }
 
-    fn put_case(&mut self, given: String, wanted: Vec<u8>) -> Result<(), Trouble> {
+    fn put_case(&mut self, given: String, wanted: Vec<u8>) -> Done {
+        self.cases = self.cases.saturating_add(1);
         self.entries.push(Entry::Case(Case {
             line: self.line,
             given,
@@ -209,59 +204,65 @@ impl Reader {
         Ok(())
     }
 
-    fn begin_paragraph(&mut self, line: &str) -> Result<(), Trouble> {
-        let mut paragraph = Paragraph {
-            given: String::new(self.alloc),
-            wanted: None,
-        };
-        add_to(self.alloc, &mut paragraph, line)?;
-        self.paragraph = Some(paragraph);
+    fn begin_paragraph(&mut self, line: &str) -> Done {
+        self.put_case(String::new(self.alloc), Vec::new(self.alloc))?;
+        self.place = Place::Given;
+        self.take_given(line)
+    }
+
+    // Takes a line behind those that a paragraph gives. The answer begins with the line that begins with `=>`.
+    fn take_given(&mut self, line: &str) -> Done {
+        if line.is_empty() {
+            return Err(Trouble::Misspelled);
+        }
+        if line == "=>" {
+            self.place = Place::Answer;
+            return Ok(());
+        }
+        match line.strip_prefix("=> ") {
+            Some(first) => {
+                self.place = Place::Answer;
+                self.add_answer(first)
+            }
+            None => self.add_given(line),
+        }
+    }
+
+    fn add_given(&mut self, line: &str) -> Done {
+        if let Some(Entry::Case(case)) = self.entries.last_mut() {
+            case.given.push_str(line)?;
+            case.given.push_str("\n")?;
+        }
         Ok(())
     }
 
-    // Adds the case that a paragraph is.
-    fn close(&mut self, paragraph: Paragraph) -> Result<(), Trouble> {
-        let Paragraph { given, wanted } = paragraph;
-        match wanted {
-            Some(wanted) => self.put_case(given, wanted),
-            None => Err(Trouble::Misspelled),
+    // Takes a line of an answer, which an empty line ends.
+    fn take_answer(&mut self, line: &str) -> Done {
+        if line.is_empty() {
+            self.place = Place::Outside;
+            return Ok(());
+        }
+        self.add_answer(line)
+    }
+
+    fn add_answer(&mut self, line: &str) -> Done {
+        match self.entries.last_mut() {
+            Some(Entry::Case(case)) => add_line(&mut case.wanted, line),
+            _ => Ok(()),
         }
     }
 
-    // The entries of a table whose last line was read.
-    fn finish(self) -> Result<Vec<Entry>, TableFault> {
+    // Whether the table is whole, with as many cases as its last line says.
+    fn check_end(&self) -> Result<(), TableFault> {
         let Some(end) = self.end else {
             return Err(TableFault::NoEnd);
         };
-        let cases = self.entries.iter().filter(|entry| is_case(entry)).count();
-        if cases == 0 {
+        if self.cases == 0 {
             return Err(TableFault::NoCases);
         }
-        if cases != end {
-            return Err(TableFault::WrongEnd(cases));
+        if self.cases != end {
+            return Err(TableFault::WrongEnd(self.cases));
         }
-        Ok(self.entries)
+        Ok(())
     }
-}
-
-fn is_case(entry: &Entry) -> bool {
-    matches!(entry, Entry::Case(_))
-}
-
-// Adds a line to a paragraph. The answer begins with the line that begins with `=>`.
-fn add_to(alloc: Global, paragraph: &mut Paragraph, line: &str) -> Result<(), Trouble> {
-    if let Some(wanted) = &mut paragraph.wanted {
-        return add_line(alloc, wanted, line);
-    }
-    let Some(first) = line.strip_prefix("=>") else {
-        paragraph.given.push_str(line)?;
-        paragraph.given.push_str("\n")?;
-        return Ok(());
-    };
-    let mut wanted = Vec::new(alloc);
-    if let Some(first) = first.strip_prefix(' ') {
-        add_line(alloc, &mut wanted, first)?;
-    }
-    paragraph.wanted = Some(wanted);
-    Ok(())
 }

@@ -1,11 +1,9 @@
 // Values, fields and schemas, as tables write them.
 use crate::escapes::text_of;
 use crate::trouble::Trouble;
-use mon_config::read_config;
-use mon_schema::Schemas;
 use mon_value::{
-    Bounds, Counts, Field, FieldType, FieldValue, FieldValues, Fields, Refusal, Target, Text,
-    Value, ValueType,
+    Bounds, Counts, Field, FieldType, FieldValue, FieldValues, Fields, Target, Text, Value,
+    ValueType,
 };
 use std::alloc::Global;
 use std::str::FromStr;
@@ -24,15 +22,6 @@ where
     match word.parse::<T>() {
         Ok(number) => Ok(number),
         Err(_) => Err(Trouble::Misspelled),
-    }
-}
-
-/// The schemas of a configuration.
-pub(crate) fn schemas_of(alloc: Global, config: &str) -> Result<Schemas, Trouble> {
-    match read_config(alloc, config.as_bytes()) {
-        Ok(config) => Ok(config.schemas),
-        Err(Refusal::Fault(_fault)) => Err(Trouble::Misspelled),
-        Err(Refusal::OutOfMemory) => Err(Trouble::OutOfMemory),
     }
 }
 
@@ -87,6 +76,11 @@ pub(crate) fn field_value_of(alloc: Global, word: &str) -> Result<FieldValue, Tr
 /// A target, as the words SCHEMA FIELDS.
 pub(crate) fn target_of(alloc: Global, words: &str) -> Result<Target, Trouble> {
     let (schema, fields) = first_word(words);
+    target_with(alloc, schema, fields)
+}
+
+/// A target of a schema, with fields.
+pub(crate) fn target_with(alloc: Global, schema: &str, fields: &str) -> Result<Target, Trouble> {
     Ok(Target {
         schema: Text::from_str(alloc, schema)?,
         fields: field_values_of(alloc, fields)?,

@@ -1,8 +1,12 @@
 // Patterns and predicates, and what they say of texts and rows.
-use crate::calls::Call;
-use crate::descriptions::value_of;
+ghost use Rattle.std.specs.Prelude.{IfOk};
+ghost use Rattle.mql_ast.specs.Grammar.{Spells};
+ghost use Rattle.mql_ast.specs.Trees.{query_tree};
+
+use crate::descriptions::{number_in, value_of};
 use crate::escapes::{bytes_of, text_of};
-use crate::trouble::Trouble;
+use crate::texts::put;
+use crate::trouble::{Done, Trouble};
 use mon_expr::{BoundPredicate, holds, matches};
 use mon_value::{Bounds, Cells, Column, Columns, Refusal, Text, Texts, Value, ValueType};
 use mql_ast::{OpKind, Pattern, Predicate, Query};
@@ -10,43 +14,51 @@ use mql_parse::parse;
 use std::alloc::{AllocError, Global};
 use std::str::Split;
 
-/// A case is `[PATTERN] [TEXT]`; its answer is whether the whole text matches, by the call and by all cuts.
-#[derive(Drop)]
-pub(crate) struct Patterns {
-    alloc: Global,
-}
-
-impl Patterns {
-    pub(crate) fn new(alloc: Global) -> Patterns {
-        Patterns { alloc }
+/// A case of `matches` is `[PATTERN] [TEXT]`; its answer is whether the whole text matches, by the call and by all cuts.
+///
+/// A case of `matches on all texts` is `LETTERS, at most SIGNS on at most LETTERS`: all patterns of so many signs, which
+/// are the letters and `.*`, on all texts of so many letters. Its answer is how many of each there are, and how many
+/// pairs match, by the call and by all cuts.
+///
+/// A case of `holds` is `NAME=VALUE NAME=VALUE .. ? PREDICATE`; its answer is whether the predicate holds of the row
+/// with these cells, by name and bound to its columns.
+pub(crate) fn write_answer(text: &mut String, alloc: Global, call: &str, given: &str) -> Done {
+    match call {
+        "matches" => write_match(text, alloc, given),
+        "matches on all texts" => write_matches(text, alloc, given),
+        "holds" => write_truth(text, alloc, given),
+        _ => Err(Trouble::Misspelled),
     }
 }
 
-impl Call for Patterns {
-    fn take(&mut self, _content: &str) -> Result<(), Trouble> {
-        Err(Trouble::Misspelled)
+fn write_match(text: &mut String, alloc: Global, given: &str) -> Done {
+    let inner = given.strip_prefix('[').unwrap_or("");
+    let inner = inner.strip_suffix(']').unwrap_or("");
+    let Some((signs, matched)) = inner.split_once("] [") else {
+        return Err(Trouble::Misspelled);
+    };
+    let query = like_query(alloc, signs)?;
+    let matched = bytes_of(alloc, matched)?;
+    match filter_of(&query) {
+        Some(Predicate::Like(_, pattern)) => write_both_ways(text, pattern, matched.as_slice()),
+        _ => Err(Trouble::Misspelled),
     }
+}
 
-    fn answer(&mut self, given: &str) -> Result<Vec<u8>, Trouble> {
-        let inner = given
-            .strip_prefix('[')
-            .and_then(|rest| rest.strip_suffix(']'));
-        let Some((signs, text)) = inner.and_then(|inner| inner.split_once("] [")) else {
-            return Err(Trouble::Misspelled);
-        };
-        let signs = text_of(self.alloc, signs)?;
-        let text = bytes_of(self.alloc, text)?;
-        let signs = signs.as_str().replace(self.alloc, "\\", "\\\\")?;
-        let signs = signs.as_str().replace(self.alloc, "\"", "\\\"")?;
-        let query = format!(in self.alloc; "fetch T::/m | filter u=~\"{signs}\"")?;
-        let query = query_of(self.alloc, query.as_bytes())?;
-        match filter_of(&query) {
-            Some(Predicate::Like(_, pattern)) => match matches_both_ways(pattern, text.as_slice()) {
-                Some(truth) => told(self.alloc, truth),
-                None => Ok(String::from_str(self.alloc, "the cuts differ")?.into_bytes()),
-            },
-            _ => Err(Trouble::Misspelled),
-        }
+// A query whose only operation is a filter by a pattern.
+fn like_query(alloc: Global, signs: &str) -> Result<Query, Trouble> {
+    let signs = text_of(alloc, signs)?;
+    let signs = signs.as_str().replace(alloc, "\\", "\\\\")?;
+    let signs = signs.as_str().replace(alloc, "\"", "\\\"")?;
+    let signs = signs.as_str();
+    let query = format!(in alloc; "fetch T::/m | filter u=~\"{signs}\"")?;
+    query_of(alloc, query.as_bytes())
+}
+
+fn write_both_ways(text: &mut String, pattern: &Pattern, matched: &[u8]) -> Done {
+    match matches_both_ways(pattern, matched) {
+        Some(truth) => Ok(write!(text, "{truth}")?),
+        None => put(text, "the cuts differ"),
     }
 }
 
@@ -79,69 +91,43 @@ fn matches_by_cuts(pieces: &[Text], text: &[u8]) -> bool {
     false
 }
 
-/// A case is `LETTERS, at most SIGNS on at most LETTERS`: all patterns of so many signs, which are the letters and
-/// `.*`, on all texts of so many letters. Its answer is how many of each there are, and how many pairs match, by the
-/// call and by all cuts.
-#[derive(Drop)]
-pub(crate) struct AllPatterns {
-    alloc: Global,
+fn write_matches(text: &mut String, alloc: Global, given: &str) -> Done {
+    let Some((letters, most)) = given.split_once(", at most ") else {
+        return Err(Trouble::Misspelled);
+    };
+    let Some((most_signs, most_letters)) = most.split_once(" on at most ") else {
+        return Err(Trouble::Misspelled);
+    };
+    let texts = words_of(alloc, letters, number_in(most_letters)?)?;
+    let signs = format!(in alloc; "{letters}.")?;
+    let patterns = words_of(alloc, signs.as_str(), number_in(most_signs)?)?;
+    write_pairs(text, alloc, patterns.as_slice(), texts.as_slice())
 }
 
-impl AllPatterns {
-    pub(crate) fn new(alloc: Global) -> AllPatterns {
-        AllPatterns { alloc }
-    }
-}
-
-impl Call for AllPatterns {
-    fn take(&mut self, _content: &str) -> Result<(), Trouble> {
-        Err(Trouble::Misspelled)
-    }
-
-    fn answer(&mut self, given: &str) -> Result<Vec<u8>, Trouble> {
-        let alloc = self.alloc;
-        let Some((letters, most)) = given.split_once(", at most ") else {
-            return Err(Trouble::Misspelled);
-        };
-        let Some((most_signs, most_letters)) = most.split_once(" on at most ") else {
-            return Err(Trouble::Misspelled);
-        };
-        let (Ok(most_signs), Ok(most_letters)) = (
-            most_signs.parse::<u32>(),
-            most_letters.parse::<u32>(),
-        ) else {
-            return Err(Trouble::Misspelled);
-        };
-        let signs = format!(in alloc; "{letters}.")?;
-        let patterns = words_of(alloc, signs.as_str(), most_signs)?;
-        let texts = words_of(alloc, letters, most_letters)?;
-        let mut matching = 0u64;
-        for word in patterns.as_slice() {
-            match matching_texts(&pattern_of(alloc, word.as_str())?, texts.as_slice()) {
-                Ok(more) => matching = matching.saturating_add(more),
-                Err(text) => {
-                    let told = format!(in alloc; "the cuts of {word} differ on {text}")?;
-                    return Ok(told.into_bytes());
-                }
-            }
+fn write_pairs(text: &mut String, alloc: Global, patterns: &[String], texts: &[String]) -> Done {
+    let mut matching = 0u64;
+    for word in patterns {
+        match matching_texts(alloc, word.as_str(), texts)? {
+            Some(more) => matching = matching.saturating_add(more),
+            None => return Ok(write!(text, "the cuts of {word} differ")?),
         }
-        let (patterns, texts) = (patterns.len(), texts.len());
-        let told = format!(in alloc; "{patterns} patterns, {texts} texts, {matching} match")?;
-        Ok(told.into_bytes())
     }
+    let (patterns, texts) = (patterns.len(), texts.len());
+    Ok(write!(text, "{patterns} patterns, {texts} texts, {matching} match")?)
 }
 
-// How many of the texts match, or the first on which the call and all cuts differ.
-fn matching_texts<'a>(pattern: &Pattern, texts: &'a [String]) -> Result<u64, &'a str> {
+// How many of the texts match the pattern of a word, or none where the call and all cuts differ on one.
+fn matching_texts(alloc: Global, word: &str, texts: &[String]) -> Result<Option<u64>, AllocError> {
+    let pattern = pattern_of(alloc, word)?;
     let mut matching = 0u64;
     for text in texts {
-        match matches_both_ways(pattern, text.as_bytes()) {
+        match matches_both_ways(&pattern, text.as_bytes()) {
             Some(true) => matching = matching.saturating_add(1),
             Some(false) => {}
-            None => return Err(text.as_str()),
+            None => return Ok(None),
         }
     }
-    Ok(matching)
+    Ok(Some(matching))
 }
 
 // All words of at most so many of the signs.
@@ -186,62 +172,67 @@ fn pattern_of(alloc: Global, word: &str) -> Result<Pattern, AllocError> {
     Ok(Pattern { at: 0, pieces })
 }
 
-/// A case is `NAME=VALUE NAME=VALUE .. ? PREDICATE`; its answer is whether the predicate holds of the row with these
-/// cells, by name and bound to its columns.
+fn write_truth(text: &mut String, alloc: Global, given: &str) -> Done {
+    let Some((row, predicate)) = given.split_once(" ? ") else {
+        return Err(Trouble::Misspelled);
+    };
+    let mut described = DescribedRow::new(alloc);
+    described.add_cells(row.split(' '))?;
+    let query = filtering(alloc, predicate)?;
+    match filter_of(&query) {
+        Some(predicate) => described.write_truth(text, predicate),
+        None => Err(Trouble::Misspelled),
+    }
+}
+
+/// The cells of a row, with their columns.
 #[derive(Drop)]
-pub(crate) struct Predicates {
+pub(crate) struct DescribedRow {
     alloc: Global,
+    columns: Columns,
+    cells: Cells,
 }
 
-impl Predicates {
-    pub(crate) fn new(alloc: Global) -> Predicates {
-        Predicates { alloc }
-    }
-}
-
-impl Call for Predicates {
-    fn take(&mut self, _content: &str) -> Result<(), Trouble> {
-        Err(Trouble::Misspelled)
-    }
-
-    fn answer(&mut self, given: &str) -> Result<Vec<u8>, Trouble> {
-        let alloc = self.alloc;
-        let Some((row, predicate)) = given.split_once(" ? ") else {
-            return Err(Trouble::Misspelled);
-        };
-        let mut columns = Columns::new(alloc);
-        let mut cells = Cells::new(alloc);
-        add_cells(alloc, row.split(' '), &mut columns, &mut cells)?;
-        let query = filtering(alloc, predicate)?;
-        let Some(predicate) = filter_of(&query) else {
-            return Err(Trouble::Misspelled);
-        };
-        let truth = holds(predicate, &columns, &cells);
-        let bound = BoundPredicate::new(alloc, predicate, &columns)?;
-        if bound.holds(&cells) == truth {
-            told(alloc, truth)
-        } else {
-            Ok(String::from_str(alloc, "bound it differs")?.into_bytes())
+impl DescribedRow {
+    pub(crate) fn new(alloc: Global) -> DescribedRow {
+        DescribedRow {
+            alloc,
+            columns: Columns::new(alloc),
+            cells: Cells::new(alloc),
         }
     }
-}
 
-/// Adds the cells of a row, each a word `NAME=VALUE`, with their columns.
-pub(crate) fn add_cells(
-    alloc: Global,
-    words: Split<'_, char>,
-    columns: &mut Columns,
-    cells: &mut Cells,
-) -> Result<(), Trouble> {
-    for word in words {
-        let Some((name, written)) = word.split_once('=') else {
-            return Err(Trouble::Misspelled);
-        };
-        let cell = value_of(alloc, written)?;
-        columns.push(column_of(alloc, name, &cell)?)?;
-        cells.push(cell)?;
+    /// Adds cells, each a word `NAME=VALUE`.
+    pub(crate) fn add_cells(&mut self, words: Split<'_, char>) -> Done {
+        for word in words {
+            match word.split_once('=') {
+                Some((name, written)) => self.add_cell(name, written)?,
+                None => return Err(Trouble::Misspelled),
+            }
+        }
+        Ok(())
     }
-    Ok(())
+
+    fn add_cell(&mut self, name: &str, written: &str) -> Done {
+        let cell = value_of(self.alloc, written)?;
+        self.columns.push(column_of(self.alloc, name, &cell)?)?;
+        Ok(self.cells.push(cell)?)
+    }
+
+    /// Whether a predicate holds.
+    pub(crate) fn holds(&self, predicate: &Predicate) -> bool {
+        holds(predicate, &self.columns, &self.cells)
+    }
+
+    // Whether a predicate holds, by name and bound to the columns.
+    fn write_truth(&self, text: &mut String, predicate: &Predicate) -> Done {
+        let truth = self.holds(predicate);
+        let bound = BoundPredicate::new(self.alloc, predicate, &self.columns)?;
+        if bound.holds(&self.cells) == truth {
+            return Ok(write!(text, "{truth}")?);
+        }
+        put(text, "bound it differs")
+    }
 }
 
 /// A query whose only operation is a filter by a predicate.
@@ -269,7 +260,9 @@ fn column_of(alloc: Global, name: &str, cell: &Value) -> Result<Column, AllocErr
 }
 
 /// The query that a text is.
-pub(crate) fn query_of(alloc: Global, text: &[u8]) -> Result<Query, Trouble> {
+pub(crate) fn query_of(alloc: Global, text: &[u8]) -> Result<Query, Trouble>
+    ensures spelled { IfOk result (λ query. Spells (query_tree query) text.now) }
+{
     match parse(alloc, text) {
         Ok(query) => Ok(query),
         Err(Refusal::Fault(_fault)) => Err(Trouble::Misspelled),
@@ -283,8 +276,4 @@ pub(crate) fn filter_of(query: &Query) -> Option<&Predicate> {
         OpKind::Filter(predicate) => Some(predicate),
         _ => None,
     }
-}
-
-fn told(alloc: Global, truth: bool) -> Result<Vec<u8>, Trouble> {
-    Ok(format!(in alloc; "{truth}")?.into_bytes())
 }

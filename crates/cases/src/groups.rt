@@ -2,11 +2,11 @@
 ghost use Rattle.std.specs.Prelude.{◌≡◌};
 ghost use Rattle.mon_value.specs.Joins.{union_of};
 
-use crate::calls::Call;
 use crate::descriptions::{first_word, number_in, value_type_of};
 use crate::groupable::can_group;
-use crate::tables::{row_of, rows_written};
-use crate::trouble::Trouble;
+use crate::tables::{rows_of, write_rows};
+use crate::texts::{put, put_between};
+use crate::trouble::{Done, Trouble};
 use mon_fold::{finish_parts, group, groups_can_merge, merge_parts};
 use mon_table::union;
 use mon_value::{
@@ -19,44 +19,29 @@ use std::alloc::Global;
 /// rows are grouped by columns; a line of columns `NAME:TYPE` with `|` between; and a line for each row,
 /// its time and its cells with `|` between. Rows behind a line `and` are grouped by themselves, and both
 /// groups are merged. Its answer is the names of the columns, and a line for each group.
-#[derive(Drop)]
-pub(crate) struct Groups {
-    alloc: Global,
-}
-
-impl Groups {
-    pub(crate) fn new(alloc: Global) -> Groups {
-        Groups { alloc }
-    }
-
-    fn answer_to(&self, how: &str, columns: &str, rows: &str) -> Result<String, Trouble> {
-        let alloc = self.alloc;
-        let grouping = grouping_of(alloc, how)?;
-        let columns = columns_of(alloc, columns)?;
-        let Some((here, there)) = rows.split_once("and\n") else {
-            let rows = rows_of(alloc, rows)?;
-            return grouped(alloc, &Table { columns, rows }, &grouping);
-        };
-        let here = rows_of(alloc, here)?;
-        let there = rows_of(alloc, there)?;
-        merged(alloc, columns, here, there, &grouping)
+pub(crate) fn write_answer(text: &mut String, alloc: Global, given: &str) -> Done {
+    let Some((how, table)) = given.split_once('\n') else {
+        return Err(Trouble::Misspelled);
+    };
+    let Some((columns, rows)) = table.split_once('\n') else {
+        return Err(Trouble::Misspelled);
+    };
+    let grouping = grouping_of(alloc, how)?;
+    match rows.split_once("and\n") {
+        Some((here, there)) => {
+            let here = table_of(alloc, columns, here)?;
+            let there = rows_of(alloc, there)?;
+            write_merged(text, alloc, &here, there, &grouping)
+        }
+        None => write_grouped(text, alloc, &table_of(alloc, columns, rows)?, &grouping),
     }
 }
 
-impl Call for Groups {
-    fn take(&mut self, _content: &str) -> Result<(), Trouble> {
-        Err(Trouble::Misspelled)
-    }
-
-    fn answer(&mut self, given: &str) -> Result<Vec<u8>, Trouble> {
-        let Some((how, table)) = given.split_once('\n') else {
-            return Err(Trouble::Misspelled);
-        };
-        let Some((columns, rows)) = table.split_once('\n') else {
-            return Err(Trouble::Misspelled);
-        };
-        Ok(self.answer_to(how, columns, rows)?.into_bytes())
-    }
+fn table_of(alloc: Global, columns: &str, rows: &str) -> Result<Table, Trouble> {
+    Ok(Table {
+        columns: columns_of(alloc, columns)?,
+        rows: rows_of(alloc, rows)?,
+    })
 }
 
 /// The columns that rows are grouped by, and what is made of each group.
@@ -67,34 +52,30 @@ struct Grouping {
 }
 
 // The groups of a table.
-fn grouped(alloc: Global, table: &Table, grouping: &Grouping) -> Result<String, Trouble> {
+fn write_grouped(text: &mut String, alloc: Global, table: &Table, grouping: &Grouping) -> Done {
     let Grouping { by, with } = grouping;
     if can_group(table, by.as_slice(), with.as_slice()) {
         let parts = group(alloc, table, by, with)?;
-        return text_of(alloc, &finish_parts(alloc, parts)?);
+        return write_table(text, alloc, &finish_parts(alloc, parts)?);
     }
     Err(Trouble::Misspelled)
 }
 
-// The groups of the rows here and there, merged.
-fn merged(
+// The groups of a table and of further rows, merged.
+fn write_merged(
+    text: &mut String,
     alloc: Global,
-    columns: Columns,
-    here: TimedRows,
+    here: &Table,
     there: TimedRows,
     grouping: &Grouping,
-) -> Result<String, Trouble> {
+) -> Done {
     let there = Table {
-        columns: columns.copy(alloc)?,
+        columns: here.columns.copy(alloc)?,
         rows: there,
     };
-    let here = Table {
-        columns,
-        rows: here,
-    };
     let both = union(alloc, here.copy(alloc)?, there.copy(alloc)?)?;
-    match merged_table(alloc, &here, &there, &both, grouping)? {
-        Some(table) => text_of(alloc, &table),
+    match merged_table(alloc, here, &there, &both, grouping)? {
+        Some(table) => write_table(text, alloc, &table),
         None => Err(Trouble::Misspelled),
     }
 }
@@ -193,24 +174,12 @@ fn column_of(alloc: Global, word: &str) -> Result<Column, Trouble> {
     })
 }
 
-fn rows_of(alloc: Global, lines: &str) -> Result<TimedRows, Trouble> {
-    let mut rows = TimedRows::new(alloc);
-    for line in lines.lines() {
-        rows.push(row_of(alloc, line)?)?;
-    }
-    Ok(rows)
-}
-
 // The names of a table's columns, and its rows.
-fn text_of(alloc: Global, table: &Table) -> Result<String, Trouble> {
-    let mut text = String::new(alloc);
+fn write_table(text: &mut String, alloc: Global, table: &Table) -> Done {
     for column in table.columns.as_slice() {
-        if !text.is_empty() {
-            text.push_str("|")?;
-        }
-        text.push_str(column.name.as_str())?;
+        put_between(text, "|")?;
+        put(text, column.name.as_str())?;
     }
-    text.push_str("\n")?;
-    text.push_str(rows_written(alloc, table)?.as_str())?;
-    Ok(text)
+    put(text, "\n")?;
+    write_rows(text, alloc, table)
 }

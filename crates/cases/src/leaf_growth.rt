@@ -1,13 +1,11 @@
 // A leaf that takes many rows.
-use crate::calls::Call;
-use crate::descriptions::{number_in, schemas_of};
+use crate::descriptions::{number_in, target_of};
 use crate::leaf_states::{append, may_come, new_leaf, settle};
-use crate::trouble::Trouble;
+use crate::settings::Setting;
+use crate::trouble::{Done, Trouble};
 use leaf_store::{Entry, LeafState, SlotRows};
-use mon_schema::Schemas;
 use mon_value::{
-    FieldValue, FieldValues, Point, Range, Row, RowList, SeriesKey, Shared, Slot, Target, Text,
-    TryCopy, Value,
+    FieldValues, Point, Range, Row, RowList, SeriesKey, Shared, Slot, Text, TryCopy, Value,
 };
 use std::alloc::Global;
 
@@ -24,51 +22,41 @@ const WINDOW: i64 = 10;
 
 /// A case is `COUNT puts of COUNT series`, of whole numbers to each series in turn, each settled before the next. Its
 /// answer is the length of the history, and how many points are seen by a window of each series, of the last ten seconds.
-#[derive(Drop)]
-pub(crate) struct LeafGrowth {
+pub(crate) fn write_answer(text: &mut String, setting: &Setting, given: &str) -> Done {
+    let Some((puts, series)) = given.split_once(" puts of ") else {
+        return Err(Trouble::Misspelled);
+    };
+    let puts: u32 = number_in(puts)?;
+    let series: u32 = number_in(series.strip_suffix(" series").unwrap_or(""))?;
+    let rounds = puts.checked_div(series).unwrap_or(0);
+    let keys = keys_of(setting.alloc, series)?;
+    let mut leaf = new_leaf(setting, BUCKETS)?;
+    take_rounds(setting.alloc, &mut leaf, keys.as_slice(), rounds)?;
+    write_growth(text, &mut leaf, rounds)
+}
+
+// Opens the replica, and puts a row of each series in each round.
+fn take_rounds(
     alloc: Global,
-    schemas: Schemas,
+    leaf: &mut LeafState,
+    keys: &[Shared<SeriesKey>],
+    rounds: u32,
+) -> Done {
+    take(leaf, opened(alloc))?;
+    for round in 0..rounds {
+        take_round(alloc, leaf, keys, round)?;
+    }
+    Ok(())
 }
 
-impl LeafGrowth {
-    pub(crate) fn new(alloc: Global) -> LeafGrowth {
-        LeafGrowth {
-            alloc,
-            schemas: Schemas::new(alloc),
-        }
-    }
-}
-
-impl Call for LeafGrowth {
-    fn take(&mut self, content: &str) -> Result<(), Trouble> {
-        self.schemas = schemas_of(self.alloc, content)?;
-        Ok(())
-    }
-
-    fn answer(&mut self, given: &str) -> Result<Vec<u8>, Trouble> {
-        let Some((puts, series)) = given.split_once(" puts of ") else {
-            return Err(Trouble::Misspelled);
-        };
-        let Some(series) = series.strip_suffix(" series") else {
-            return Err(Trouble::Misspelled);
-        };
-        let puts: u32 = number_in(puts)?;
-        let series: u32 = number_in(series)?;
-        let rounds = puts.checked_div(series).unwrap_or(0);
-        let keys = keys_of(self.alloc, series)?;
-        let mut leaf = new_leaf(self.alloc, BUCKETS, &self.schemas)?;
-        take(&mut leaf, opened(self.alloc))?;
-        for round in 0..rounds {
-            take_round(self.alloc, &mut leaf, keys.as_slice(), round)?;
-        }
-        settle(&mut leaf)?;
-        let seen = match leaf.slot(RANGE, SLOT) {
-            Some(rows) => points_seen(rows, rounds),
-            None => 0,
-        };
-        let length = leaf.length();
-        Ok(format!(in self.alloc; "{length} entries, {seen} points seen")?.into_bytes())
-    }
+fn write_growth(text: &mut String, leaf: &mut LeafState, rounds: u32) -> Done {
+    settle(leaf)?;
+    let length = leaf.length();
+    let seen = match leaf.slot(RANGE, SLOT) {
+        Some(rows) => points_seen(rows, rounds),
+        None => 0,
+    };
+    Ok(write!(text, "{length} entries, {seen} points seen")?)
 }
 
 // Keys of so many series.
@@ -81,15 +69,8 @@ fn keys_of(alloc: Global, series: u32) -> Result<Vec<Shared<SeriesKey>>, Trouble
 }
 
 fn key_of(alloc: Global, number: u32) -> Result<SeriesKey, Trouble> {
-    let name = format!(in alloc; "u{number}")?;
-    let mut fields = FieldValues::new(alloc);
-    fields.push(FieldValue::Text(Text::from_string(name)))?;
-    fields.push(FieldValue::Text(Text::from_str(alloc, "e")?))?;
     Ok(SeriesKey {
-        target: Target {
-            schema: Text::from_str(alloc, "T")?,
-            fields,
-        },
+        target: target_of(alloc, format!(in alloc; "T u{number},e")?.as_str())?,
         metric: Text::from_str(alloc, "/m")?,
         fields: FieldValues::new(alloc),
     })
@@ -106,37 +87,32 @@ fn opened(alloc: Global) -> Entry {
 }
 
 // Puts a row of each series, which ends at the second behind a round's number.
-fn take_round(
-    alloc: Global,
-    leaf: &mut LeafState,
-    keys: &[Shared<SeriesKey>],
-    round: u32,
-) -> Result<(), Trouble> {
-    let end = i64::from(round) + 1;
+fn take_round(alloc: Global, leaf: &mut LeafState, keys: &[Shared<SeriesKey>], round: u32) -> Done {
     for key in keys {
-        let row = Row {
-            key: key.copy(alloc)?,
+        take(leaf, put_of(key.copy(alloc)?, round))?;
+    }
+    Ok(())
+}
+
+fn put_of(key: Shared<SeriesKey>, round: u32) -> Entry {
+    let end = i64::from(round) + 1;
+    Entry::Put {
+        pass: u64::from(round),
+        range: RANGE,
+        slot: SLOT,
+        row: Row {
+            key,
             point: Point {
                 start: end,
                 end,
                 value: Value::Int(i128::from(round)),
             },
-        };
-        take(
-            leaf,
-            Entry::Put {
-                pass: u64::from(round),
-                range: RANGE,
-                slot: SLOT,
-                row,
-            },
-        )?;
+        },
     }
-    Ok(())
 }
 
 // Appends an entry, and settles what came before it.
-fn take(leaf: &mut LeafState, entry: Entry) -> Result<(), Trouble> {
+fn take(leaf: &mut LeafState, entry: Entry) -> Done {
     settle(leaf)?;
     if !may_come(leaf, &entry) {
         return Err(Trouble::Misspelled);

@@ -26,36 +26,17 @@ mod runs;
 mod schemas;
 mod scripts;
 mod series;
+mod settings;
 mod sizes;
 mod tables;
+mod texts;
 mod trouble;
 mod typing;
 mod values;
 mod writes;
 
 use crate::calls::{Report, check};
-use crate::case_tables::{CaseTable, read_table};
-use crate::configurations::Configurations;
-use crate::expressions::{AllPatterns, Patterns, Predicates};
-use crate::groups::Groups;
-use crate::hints::{ExcerptLists, Hints, Masks};
-use crate::leaf_growth::LeafGrowth;
-use crate::leaf_states::LeafStates;
-use crate::levels::ExplainedTexts;
-use crate::meanings::Meanings;
-use crate::plans::{FormulaTruths, Plans};
-use crate::points::PointTexts;
-use crate::queries::{QueryFronts, QueryTexts};
-use crate::ranges::{RangesAtBounds, RangesOfTargets};
-use crate::runs::Runs;
-use crate::schemas::SchemaLines;
-use crate::scripts::Scripts;
-use crate::series::Alignments;
-use crate::tables::Tables;
-use crate::typing::TypedTexts;
-use crate::values::{NumberTexts, Orders, TargetOrders, ValueTexts};
-use crate::writes::Writes;
-use std::alloc::AllocError;
+use crate::case_tables::read_table;
 use std::process::ExitCode;
 use std::{env, io};
 
@@ -89,66 +70,32 @@ fn check_tables(rt: &HostRuntime) -> io::Result<bool> {
 
 // Checks the table in a file.
 fn check_table(rt: &HostRuntime, name: &str) -> io::Result<bool> {
-    let Some(text) = files::read_text(rt, name) else {
-        println!(rt; "{name}: cannot be read")?;
-        return Ok(false);
-    };
-    let table = match read_table(rt.alloc(), text.as_str()) {
-        Ok(table) => table,
+    match files::read_text(rt, name) {
+        Some(text) => check_text(rt, name, text.as_str()),
+        None => {
+            println!(rt; "{name}: cannot be read")?;
+            Ok(false)
+        }
+    }
+}
+
+// Checks the table that a text is.
+fn check_text(rt: &HostRuntime, name: &str, text: &str) -> io::Result<bool> {
+    match read_table(rt.alloc(), text) {
+        Ok(table) => print_report(rt, name, &check(rt, name, &table)?),
         Err(fault) => {
             println!(rt; "{name}: {fault}")?;
-            return Ok(false);
+            Ok(false)
         }
-    };
-    let Some(report) = report_on(rt, name, &table)? else {
-        println!(rt; "{name}: there is no call {}", table.call)?;
-        return Ok(false);
-    };
-    let Report { text, cases, held } = report;
+    }
+}
+
+// Prints what the cases came to. Whether each held.
+fn print_report(rt: &HostRuntime, name: &str, report: &Report) -> io::Result<bool> {
+    let text = report.text.as_str();
+    let cases = report.cases;
+    let held = report.held;
     print!(rt; "{text}")?;
     println!(rt; "{name}: {held} of {cases} held")?;
     Ok(text.is_empty() && held == cases)
-}
-
-// What the cases of a table came to, or none where its call is not known.
-fn report_on(
-    rt: &HostRuntime,
-    name: &str,
-    table: &CaseTable,
-) -> Result<Option<Report>, AllocError> {
-    let alloc = rt.alloc();
-    let report = match table.call.as_str() {
-        "mon_value::compare" => check(rt, name, table, Orders::new(alloc))?,
-        "mon_value::compare_targets" => check(rt, name, table, TargetOrders::new(alloc))?,
-        "mon_value::read_number" => check(rt, name, table, NumberTexts::new(alloc))?,
-        "mon_value::write_text" => check(rt, name, table, ValueTexts::new(alloc))?,
-        "mon_schema::Schemas" => check(rt, name, table, SchemaLines::new(alloc))?,
-        "mon_hints::hints_of" => check(rt, name, table, Hints::new(alloc))?,
-        "mon_hints::excerpts_of" => check(rt, name, table, ExcerptLists::new(alloc))?,
-        "mon_hints::mask" => check(rt, name, table, Masks::new(alloc))?,
-        "mon_config::read_config" => check(rt, name, table, Configurations::new(alloc))?,
-        "mon_topo::range_of" => check(rt, name, table, RangesOfTargets::new(alloc))?,
-        "mon_topo::range_of at bounds" => check(rt, name, table, RangesAtBounds::new(alloc))?,
-        "mon_points::read_rows" => check(rt, name, table, PointTexts::new(alloc))?,
-        "mon_fold::align" => check(rt, name, table, Alignments::new(alloc))?,
-        "mon_fold::group" => check(rt, name, table, Groups::new(alloc))?,
-        "mon_meaning::central" => check(rt, name, table, Meanings::new(alloc))?,
-        "mon_table" => check(rt, name, table, Tables::new(alloc))?,
-        "mon_script::read_script" => check(rt, name, table, Scripts::new(alloc))?,
-        "mon_expr::matches" => check(rt, name, table, Patterns::new(alloc))?,
-        "mon_expr::matches on all texts" => check(rt, name, table, AllPatterns::new(alloc))?,
-        "mon_expr::holds" => check(rt, name, table, Predicates::new(alloc))?,
-        "mql_parse::parse" => check(rt, name, table, QueryTexts::new(alloc))?,
-        "mql_parse::parse at fronts" => check(rt, name, table, QueryFronts::new(alloc))?,
-        "mql_types::check" => check(rt, name, table, TypedTexts::new(alloc))?,
-        "mql_types::op_levels" => check(rt, name, table, ExplainedTexts::new(alloc))?,
-        "plan_split::formula_of" => check(rt, name, table, FormulaTruths::new(alloc))?,
-        "plan_split::split" => check(rt, name, table, Plans::new(alloc))?,
-        "write_core::WriteMachine" => check(rt, name, table, Writes::new(alloc))?,
-        "leaf_store::LeafState" => check(rt, name, table, LeafStates::new(alloc))?,
-        "leaf_store::LeafState of many puts" => check(rt, name, table, LeafGrowth::new(alloc))?,
-        "mon_run::run" => check(rt, name, table, Runs::new(alloc))?,
-        _ => return Ok(None),
-    };
-    Ok(Some(report))
 }

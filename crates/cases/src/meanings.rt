@@ -1,25 +1,21 @@
 // What typed queries mean over rows.
-ghost use Rattle.std.specs.Prelude.{◌≡◌, IfOk, IsTrue, Ok, true};
+ghost use Rattle.std.specs.Prelude.{◌≡◌, IfOk, IsTrue, true};
 ghost use Rattle.std.specs.List.{AllByRecursion};
 ghost use Rattle.mon_schema.specs.Fits.{fits};
 ghost use Rattle.mon_value.specs.Sources.{EndsBefore, IsSource};
-ghost use Rattle.mql_ast.specs.Grammar.{Spells};
-ghost use Rattle.mql_ast.specs.Trees.{query_tree};
-ghost use Rattle.mql_types.specs.Nodes.{typed_tree};
-ghost use Rattle.mql_types.specs.Typing.{typing};
 
-use crate::calls::Call;
-use crate::descriptions::{first_word, number_in, schemas_of};
+use crate::descriptions::{first_word, number_in};
 use crate::escapes::bytes_of;
-use crate::trouble::Trouble;
+use crate::expressions::query_of;
+use crate::settings::Setting;
+use crate::texts::put;
+use crate::trouble::{Done, Trouble};
+use crate::typing::typed_over;
 use mon_meaning::central;
 use mon_points::{RowRead, read_rows};
 use mon_schema::Schemas;
 use mon_table::print;
 use mon_value::{Refusal, Row, RowList, Text};
-use mql_ast::Query;
-use mql_parse::parse;
-use mql_types::{Typed, check};
 use std::alloc::Global;
 
 // The most that a limit may be.
@@ -27,48 +23,17 @@ const MOST: u64 = 1 << 24;
 
 /// A case is a paragraph: a line `at MOMENT within LIMIT: QUERY`, and a text of points. Its answer is the table that is
 /// printed, or `over`. The schemas are those of the configuration that the cases stand under.
-#[derive(Drop)]
-pub(crate) struct Meanings {
-    alloc: Global,
-    schemas: Schemas,
-}
-
-impl Meanings {
-    pub(crate) fn new(alloc: Global) -> Meanings {
-        Meanings {
-            alloc,
-            schemas: Schemas::new(alloc),
-        }
-    }
-}
-
-impl Call for Meanings {
-    fn take(&mut self, content: &str) -> Result<(), Trouble> {
-        self.schemas = schemas_of(self.alloc, content)?;
-        Ok(())
-    }
-
-    fn answer(&mut self, given: &str) -> Result<Vec<u8>, Trouble> {
-        let Some((head, points)) = given.split_once('\n') else {
-            return Err(Trouble::Misspelled);
-        };
-        let Some((when, query)) = head.split_once(": ") else {
-            return Err(Trouble::Misspelled);
-        };
-        let (moment, limit) = asked(when)?;
-        let query = bytes_of(self.alloc, query)?;
-        let points = bytes_of(self.alloc, points)?;
-        let rows = rows_of(self.alloc, &self.schemas, points.as_slice())?;
-        let text = meant(
-            self.alloc,
-            &self.schemas,
-            query.as_slice(),
-            &rows,
-            moment,
-            limit,
-        )?;
-        Ok(String::from_str(self.alloc, text.as_str())?.into_bytes())
-    }
+pub(crate) fn write_answer(text: &mut String, setting: &Setting, given: &str) -> Done {
+    let (head, points) = given.split_once('\n').unwrap_or((given, ""));
+    let Some((when, query)) = head.split_once(": ") else {
+        return Err(Trouble::Misspelled);
+    };
+    let (moment, limit) = asked(when)?;
+    let points = bytes_of(setting.alloc, points)?;
+    let rows = rows_of(setting.alloc, &setting.schemas, points.as_slice())?;
+    let query = bytes_of(setting.alloc, query)?;
+    let table = meant(setting, query.as_slice(), &rows, moment, limit)?;
+    put(text, table.as_str())
 }
 
 // The moment, and the limit.
@@ -82,18 +47,18 @@ fn asked(when: &str) -> Result<(i64, u64), Trouble> {
 
 // The table that a query's text means over rows.
 fn meant(
-    alloc: Global,
-    schemas: &Schemas,
+    setting: &Setting,
     text: &[u8],
     rows: &RowList,
     moment: i64,
     limit: u64,
 ) -> Result<Text, Trouble>
-    requires fit { AllByRecursion (λ row. fits schemas.now row ≡ true) rows.now }
+    requires fit { AllByRecursion (λ row. fits setting.now.schemas row ≡ true) rows.now }
 {
-    let query = parsed(alloc, text)?;
-    let typed = typed_over(alloc, &query, schemas)?;
-    schemas.metrics_are_lawful();
+    let alloc = setting.alloc;
+    let query = query_of(alloc, text)?;
+    let typed = typed_over(alloc, &query, &setting.schemas)?;
+    setting.schemas.metrics_are_lawful();
     if 0 <= moment && limit <= MOST && is_source(rows.as_slice()) {
         return match central(alloc, &typed, rows, moment, limit) {
             Ok(table) => Ok(print(alloc, &table)?),
@@ -102,26 +67,6 @@ fn meant(
         };
     }
     Err(Trouble::Misspelled)
-}
-
-fn parsed(alloc: Global, text: &[u8]) -> Result<Query, Trouble>
-    ensures spelled { IfOk result (λ query. Spells (query_tree query) text.now) }
-{
-    match parse(alloc, text) {
-        Ok(query) => Ok(query),
-        Err(Refusal::Fault(_fault)) => Err(Trouble::Misspelled),
-        Err(Refusal::OutOfMemory) => Err(Trouble::OutOfMemory),
-    }
-}
-
-fn typed_over(alloc: Global, query: &Query, schemas: &Schemas) -> Result<Typed, Trouble>
-    ensures typed { IfOk result (λ typed. typing schemas.now (query_tree query.now) ≡ Ok (typed_tree typed)) }
-{
-    match check(alloc, query, schemas) {
-        Ok(typed) => Ok(typed),
-        Err(Refusal::Fault(_fault)) => Err(Trouble::Misspelled),
-        Err(Refusal::OutOfMemory) => Err(Trouble::OutOfMemory),
-    }
 }
 
 /// The rows of a text of points.

@@ -1,68 +1,71 @@
 // Formulas of predicates, and plans of queries.
-use crate::calls::Call;
-use crate::descriptions::{first_word, schemas_of};
-use crate::escapes::bytes_of;
-use crate::expressions::{add_cells, filter_of, filtering, query_of};
+use crate::descriptions::first_word;
+use crate::expressions::{DescribedRow, filter_of, filtering};
 use crate::hints::Described;
-use crate::trouble::Trouble;
-use mon_expr::holds;
-use mon_hints::{Buckets, Formula, Words, hints_of, mask};
-use mon_schema::Schemas;
-use mon_value::{Cells, Columns, Refusal};
-use mql_types::{Plan, check};
+use crate::settings::Setting;
+use crate::texts::{put, put_list};
+use crate::trouble::{Done, Trouble};
+use crate::typing::{query_in, typed_over};
+use mon_hints::{Formula, Words, hints_of, mask};
+use mql_ast::Predicate;
+use mql_types::Plan;
 use plan_split::{formula_of, split};
 use std::alloc::Global;
 
 // How many buckets there are.
 const BUCKETS: u32 = 1_024;
 
-/// A case is `FIELD=VALUE,.. FIELD=VALUE,.. ? PREDICATE`, with the fields of the target and those of the metric. Its
-/// answer is whether the predicate holds of the series, and whether the predicate's formula lets the series in, or is
-/// `All`.
-#[derive(Drop)]
-pub(crate) struct FormulaTruths {
-    alloc: Global,
-}
-
-impl FormulaTruths {
-    pub(crate) fn new(alloc: Global) -> FormulaTruths {
-        FormulaTruths { alloc }
+/// A case of `formula_of` is `FIELD=VALUE,.. FIELD=VALUE,.. ? PREDICATE`, with the fields of the target and those of the
+/// metric. Its answer is whether the predicate holds of the series, and whether the predicate's formula lets the series
+/// in, or is `All`.
+///
+/// A case of `split` is a query text; its answer is the buckets of the formula of each fetch, with a `|` between, and
+/// those of the plan. The schemas are those of the configuration that the cases stand under.
+pub(crate) fn write_answer(text: &mut String, setting: &Setting, call: &str, given: &str) -> Done {
+    match call {
+        "formula_of" => write_truths(text, setting.alloc, given),
+        "split" => write_plan(text, setting, given),
+        _ => Err(Trouble::Misspelled),
     }
 }
 
-impl Call for FormulaTruths {
-    fn take(&mut self, _content: &str) -> Result<(), Trouble> {
-        Err(Trouble::Misspelled)
+fn write_truths(text: &mut String, alloc: Global, given: &str) -> Done {
+    let Some((fields, predicate)) = given.split_once(" ? ") else {
+        return Err(Trouble::Misspelled);
+    };
+    let query = filtering(alloc, predicate)?;
+    match filter_of(&query) {
+        Some(predicate) => write_truths_of(text, alloc, fields, predicate),
+        None => Err(Trouble::Misspelled),
     }
+}
 
-    fn answer(&mut self, given: &str) -> Result<Vec<u8>, Trouble> {
-        let alloc = self.alloc;
-        let Some((fields, predicate)) = given.split_once(" ? ") else {
-            return Err(Trouble::Misspelled);
-        };
-        let (targets, metrics) = first_word(fields);
-        let mut columns = Columns::new(alloc);
-        let mut cells = Cells::new(alloc);
-        add_cells(alloc, targets.split(','), &mut columns, &mut cells)?;
-        if !metrics.is_empty() {
-            add_cells(alloc, metrics.split(','), &mut columns, &mut cells)?;
-        }
-        let query = filtering(alloc, predicate)?;
-        let Some(predicate) = filter_of(&query) else {
-            return Err(Trouble::Misspelled);
-        };
-        let truth = holds(predicate, &columns, &cells);
-        let formula = formula_of(alloc, predicate, b"T", BUCKETS)?;
-        let series = Described::new(alloc, "T", "/m", targets, metrics)?;
-        let said = if matches!(formula, Formula::All) {
-            "all"
-        } else if lets_in(alloc, &formula, &series)? {
-            "let in"
-        } else {
-            "ruled out"
-        };
-        Ok(format!(in alloc; "{truth}, {said}")?.into_bytes())
+fn write_truths_of(text: &mut String, alloc: Global, fields: &str, predicate: &Predicate) -> Done {
+    let truth = is_true_of(alloc, fields, predicate)?;
+    write!(text, "{truth}, ")?;
+    let formula = formula_of(alloc, predicate, b"T", BUCKETS)?;
+    write_said(text, alloc, &formula, fields)
+}
+
+// Whether a predicate holds of fields.
+fn is_true_of(alloc: Global, fields: &str, predicate: &Predicate) -> Result<bool, Trouble> {
+    let (targets, metrics) = first_word(fields);
+    let mut row = DescribedRow::new(alloc);
+    row.add_cells(targets.split(','))?;
+    if !metrics.is_empty() {
+        row.add_cells(metrics.split(','))?;
     }
+    Ok(row.holds(predicate))
+}
+
+// What a formula says of the series with these fields.
+fn write_said(text: &mut String, alloc: Global, formula: &Formula, fields: &str) -> Done {
+    if matches!(formula, Formula::All) {
+        return put(text, "all");
+    }
+    let series = Described::new(alloc, "T", "/m", fields)?;
+    let lets_in = lets_in(alloc, formula, &series)?;
+    put(text, if lets_in { "let in" } else { "ruled out" })
 }
 
 // Whether a formula holds of the buckets of a series.
@@ -75,57 +78,20 @@ fn lets_in(alloc: Global, formula: &Formula, series: &Described) -> Result<bool,
     Ok(mask(formula, &hints, &words) == 1)
 }
 
-/// A case is a query text; its answer is the buckets of the formula of each fetch, with a `|` between, and those of the
-/// plan. The schemas are those of the configuration that the cases stand under.
-#[derive(Drop)]
-pub(crate) struct Plans {
-    alloc: Global,
-    schemas: Schemas,
+fn write_plan(text: &mut String, setting: &Setting, given: &str) -> Done {
+    let plan = plan_of(setting, given)?;
+    let mut sign = "";
+    for formula in plan.formulas.as_slice() {
+        put(text, sign)?;
+        put_list(text, formula.buckets(setting.alloc)?.as_slice())?;
+        sign = " | ";
+    }
+    put(text, " > ")?;
+    put_list(text, plan.buckets.as_slice())
 }
 
-impl Plans {
-    pub(crate) fn new(alloc: Global) -> Plans {
-        Plans {
-            alloc,
-            schemas: Schemas::new(alloc),
-        }
-    }
-
-    fn plan_of(&self, given: &str) -> Result<Plan, Trouble> {
-        let text = bytes_of(self.alloc, given)?;
-        let query = query_of(self.alloc, text.as_slice())?;
-        match check(self.alloc, &query, &self.schemas) {
-            Ok(typed) => Ok(split(self.alloc, typed, BUCKETS)?),
-            Err(Refusal::Fault(_fault)) => Err(Trouble::Misspelled),
-            Err(Refusal::OutOfMemory) => Err(Trouble::OutOfMemory),
-        }
-    }
-}
-
-impl Call for Plans {
-    fn take(&mut self, content: &str) -> Result<(), Trouble> {
-        self.schemas = schemas_of(self.alloc, content)?;
-        Ok(())
-    }
-
-    fn answer(&mut self, given: &str) -> Result<Vec<u8>, Trouble> {
-        let plan = self.plan_of(given)?;
-        let mut told = String::new(self.alloc);
-        for (place, formula) in plan.formulas.as_slice().iter().enumerate() {
-            told.push_str(if place == 0 { "" } else { " | " })?;
-            add_buckets(self.alloc, &mut told, &formula.buckets(self.alloc)?)?;
-        }
-        told.push_str(" > ")?;
-        add_buckets(self.alloc, &mut told, &plan.buckets)?;
-        Ok(told.into_bytes())
-    }
-}
-
-// Adds buckets with a blank between.
-fn add_buckets(alloc: Global, told: &mut String, buckets: &Buckets) -> Result<(), Trouble> {
-    for (place, bucket) in buckets.as_slice().iter().enumerate() {
-        told.push_str(if place == 0 { "" } else { " " })?;
-        told.push_str(format!(in alloc; "{bucket}")?.as_str())?;
-    }
-    Ok(())
+fn plan_of(setting: &Setting, given: &str) -> Result<Plan, Trouble> {
+    let query = query_in(setting.alloc, given)?;
+    let typed = typed_over(setting.alloc, &query, &setting.schemas)?;
+    Ok(split(setting.alloc, typed, BUCKETS)?)
 }

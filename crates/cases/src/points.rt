@@ -1,87 +1,67 @@
 // Texts of points, and what their records are read as.
-use crate::calls::Call;
-use crate::descriptions::schemas_of;
 use crate::escapes::bytes_of;
-use crate::trouble::Trouble;
+use crate::settings::Setting;
+use crate::texts::put_between;
+use crate::trouble::Done;
 use mon_points::{RowRead, read_rows};
-use mon_schema::Schemas;
-use mon_value::{FieldValue, Row, write_text};
-use std::alloc::{AllocError, Global};
+use mon_value::{FieldValue, Row, SeriesKey, write_text};
+use std::alloc::Global;
 
 /// A case is a text of points; its answer has each record as a row's cells or as its fault, with ` | `
 /// between. The schemas are those of the configuration that the cases stand under.
-#[derive(Drop)]
-pub(crate) struct PointTexts {
-    alloc: Global,
-    schemas: Schemas,
-}
-
-impl PointTexts {
-    pub(crate) fn new(alloc: Global) -> PointTexts {
-        PointTexts {
-            alloc,
-            schemas: Schemas::new(alloc),
-        }
-    }
-}
-
-impl Call for PointTexts {
-    fn take(&mut self, content: &str) -> Result<(), Trouble> {
-        self.schemas = schemas_of(self.alloc, content)?;
-        Ok(())
-    }
-
-    fn answer(&mut self, given: &str) -> Result<Vec<u8>, Trouble> {
-        let text = bytes_of(self.alloc, given)?;
-        let reads = read_rows(self.alloc, text.as_slice(), &self.schemas)?;
-        let mut answer = String::new(self.alloc);
-        for read in reads.as_slice() {
-            if !answer.is_empty() {
-                answer.push_str(" | ")?;
-            }
-            add_read(self.alloc, &mut answer, read)?;
-        }
-        Ok(answer.into_bytes())
-    }
-}
-
-// Adds what a record is read as.
-fn add_read(alloc: Global, text: &mut String, read: &RowRead) -> Result<(), AllocError> {
-    match read {
-        RowRead::Row(row) => add_row(alloc, text, row),
-        RowRead::Fault(fault) => text.push_str(format!(in alloc; "{fault}")?.as_str()),
-    }
-}
-
-/// Adds the cells of a row, with commas between.
-pub(crate) fn add_row(alloc: Global, text: &mut String, row: &Row) -> Result<(), AllocError> {
-    let schema = row.key.target.schema.as_str();
-    let metric = row.key.metric.as_str();
-    let start = row.point.start;
-    let end = row.point.end;
-    let value = write_text(alloc, &row.point.value)?;
-    let value = value.as_str();
-    text.push_str(format!(in alloc; "{schema},{metric},{start},{end},{value}")?.as_str())?;
-    add_fields(alloc, text, row.key.target.fields.as_slice())?;
-    add_fields(alloc, text, row.key.fields.as_slice())
-}
-
-/// Adds the fields, with a comma before each.
-pub(crate) fn add_fields(
-    alloc: Global,
-    text: &mut String,
-    fields: &[FieldValue],
-) -> Result<(), AllocError> {
-    for field in fields {
-        add_field(alloc, text, field)?;
+pub(crate) fn write_answer(text: &mut String, setting: &Setting, given: &str) -> Done {
+    let points = bytes_of(setting.alloc, given)?;
+    let reads = read_rows(setting.alloc, points.as_slice(), &setting.schemas)?;
+    for read in reads.as_slice() {
+        put_between(text, " | ")?;
+        add_read(text, setting.alloc, read)?;
     }
     Ok(())
 }
 
-fn add_field(alloc: Global, text: &mut String, field: &FieldValue) -> Result<(), AllocError> {
-    match field {
-        FieldValue::Int(number) => text.push_str(format!(in alloc; ",{number}")?.as_str()),
-        FieldValue::Bool(truth) => text.push_str(format!(in alloc; ",{truth}")?.as_str()),
-        FieldValue::Text(name) => text.push_str(format!(in alloc; ",{}", name.as_str())?.as_str()),
+// Adds what a record is read as.
+fn add_read(text: &mut String, alloc: Global, read: &RowRead) -> Done {
+    match read {
+        RowRead::Row(row) => add_row(text, alloc, row),
+        RowRead::Fault(fault) => Ok(write!(text, "{fault}")?),
+    }
+}
+
+/// Adds the cells of a row, with commas between.
+pub(crate) fn add_row(text: &mut String, alloc: Global, row: &Row) -> Done {
+    let start = row.point.start;
+    let end = row.point.end;
+    let value = write_text(alloc, &row.point.value)?;
+    let value = value.as_str();
+    add_names(text, &row.key)?;
+    write!(text, ",{start},{end},{value}")?;
+    add_fields(text, &row.key)
+}
+
+/// Adds the names of a series' schema and metric, with a comma between.
+pub(crate) fn add_names(text: &mut String, key: &SeriesKey) -> Done {
+    let schema = key.target.schema.as_str();
+    let metric = key.metric.as_str();
+    Ok(write!(text, "{schema},{metric}")?)
+}
+
+/// Adds the fields of a series, with a comma before each.
+pub(crate) fn add_fields(text: &mut String, key: &SeriesKey) -> Done {
+    add_values(text, key.target.fields.as_slice())?;
+    add_values(text, key.fields.as_slice())
+}
+
+fn add_values(text: &mut String, values: &[FieldValue]) -> Done {
+    for value in values {
+        add_value(text, value)?;
+    }
+    Ok(())
+}
+
+fn add_value(text: &mut String, value: &FieldValue) -> Done {
+    match value {
+        FieldValue::Int(number) => Ok(write!(text, ",{number}")?),
+        FieldValue::Bool(truth) => Ok(write!(text, ",{truth}")?),
+        FieldValue::Text(name) => Ok(write!(text, ",{}", name.as_str())?),
     }
 }

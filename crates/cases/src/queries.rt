@@ -1,120 +1,105 @@
 // Query texts, and what each is read as.
-use crate::calls::Call;
 use crate::escapes::bytes_of;
-use crate::trouble::Trouble;
+use crate::texts::put;
+use crate::trouble::{Done, Trouble};
 use mon_value::Refusal;
 use mql_ast::print_query;
 use mql_parse::{ParseFault, ParseKind, parse};
-use std::alloc::{AllocError, Global};
+use std::alloc::Global;
+use std::mem;
 
 /// What each byte of a text is replaced by.
 const REPLACEMENTS: &[u8] = b"a_0x/.:{}(),;|&!=\" \x01";
 
-/// A case is a query text; its answer is the canonical text of its tree, or its fault.
-#[derive(Drop)]
-pub(crate) struct QueryTexts {
-    alloc: Global,
-}
-
-impl QueryTexts {
-    pub(crate) fn new(alloc: Global) -> QueryTexts {
-        QueryTexts { alloc }
+/// A case of `parse` is a query text; its answer is the canonical text of its tree, or its fault.
+///
+/// A case of `parse at fronts` is a query; its answer is how many of its fronts are queries. Each other front goes wrong
+/// at its end, and no text with one byte replaced goes wrong in front of that byte.
+pub(crate) fn write_answer(text: &mut String, alloc: Global, call: &str, given: &str) -> Done {
+    let mut query = bytes_of(alloc, given)?;
+    match call {
+        "parse" => write_read(text, alloc, query.as_slice()),
+        "parse at fronts" => write_fronts(text, alloc, query.as_mut_slice()),
+        _ => Err(Trouble::Misspelled),
     }
 }
 
-impl Call for QueryTexts {
-    fn take(&mut self, _content: &str) -> Result<(), Trouble> {
-        Err(Trouble::Misspelled)
-    }
-
-    fn answer(&mut self, given: &str) -> Result<Vec<u8>, Trouble> {
-        let text = bytes_of(self.alloc, given)?;
-        match parse(self.alloc, text.as_slice()) {
-            Ok(query) => {
-                let printed = print_query(self.alloc, &query)?;
-                Ok(Vec::from_slice(self.alloc, printed.as_str().as_bytes())?)
-            }
-            Err(Refusal::Fault(fault)) => Ok(fault_text(self.alloc, fault)?.into_bytes()),
-            Err(Refusal::OutOfMemory) => Err(Trouble::OutOfMemory),
-        }
+fn write_read(text: &mut String, alloc: Global, query: &[u8]) -> Done {
+    match parse(alloc, query) {
+        Ok(query) => put(text, print_query(alloc, &query)?.as_str()),
+        Err(Refusal::Fault(fault)) => write_fault(text, fault),
+        Err(Refusal::OutOfMemory) => Err(Trouble::OutOfMemory),
     }
 }
 
-fn fault_text(alloc: Global, fault: ParseFault) -> Result<String, AllocError> {
+fn write_fault(text: &mut String, fault: ParseFault) -> Done {
     let at = fault.at;
+    let kind = kind_word(fault.kind);
+    write!(text, "{at} {kind}")?;
     match fault.kind {
-        ParseKind::BadToken => format!(in alloc; "{at} BadToken"),
-        ParseKind::NumberTooLarge => format!(in alloc; "{at} NumberTooLarge"),
-        ParseKind::BadPattern => format!(in alloc; "{at} BadPattern"),
-        ParseKind::TooDeep => format!(in alloc; "{at} TooDeep"),
-        ParseKind::TooLong => format!(in alloc; "{at} TooLong"),
-        ParseKind::Expected(what) => {
-            let word = what.word();
-            format!(in alloc; "{at} Expected {word}")
-        }
+        ParseKind::Expected(what) => put(text, what.word()),
+        _ => Ok(()),
     }
 }
 
-/// A case is a query; its answer is how many of its fronts are queries. Each other front goes wrong at its end, and
-/// no text with one byte replaced goes wrong in front of that byte.
-#[derive(Drop)]
-pub(crate) struct QueryFronts {
-    alloc: Global,
-}
-
-impl QueryFronts {
-    pub(crate) fn new(alloc: Global) -> QueryFronts {
-        QueryFronts { alloc }
+fn kind_word(kind: ParseKind) -> &'static str {
+    match kind {
+        ParseKind::BadToken => "BadToken",
+        ParseKind::NumberTooLarge => "NumberTooLarge",
+        ParseKind::BadPattern => "BadPattern",
+        ParseKind::TooDeep => "TooDeep",
+        ParseKind::TooLong => "TooLong",
+        ParseKind::Expected(_) => "Expected ",
     }
 }
 
-impl Call for QueryFronts {
-    fn take(&mut self, _content: &str) -> Result<(), Trouble> {
-        Err(Trouble::Misspelled)
+fn write_fronts(text: &mut String, alloc: Global, query: &mut [u8]) -> Done {
+    let mut queries = 0u64;
+    for length in 0..=query.len() {
+        let front = query.get(..length).unwrap_or(&[]);
+        match fault_place(alloc, front)? {
+            None => queries = queries.saturating_add(1),
+            Some(at) if at == length => {}
+            Some(at) => return Ok(write!(text, "the front of {length} goes wrong at {at}")?),
+        }
     }
-
-    fn answer(&mut self, given: &str) -> Result<Vec<u8>, Trouble> {
-        let text = bytes_of(self.alloc, given)?;
-        let mut queries = 0u64;
-        for length in 0..=text.len() {
-            let front = text.as_slice().get(..length).unwrap_or(&[]);
-            match fault_place(self.alloc, front)? {
-                None => queries = queries.saturating_add(1),
-                Some(at) if at == length => {}
-                Some(at) => {
-                    let told = format!(in self.alloc; "the front of {length} goes wrong at {at}")?;
-                    return Ok(told.into_bytes());
-                }
-            }
-        }
-        if let Some(place) = early_fault(self.alloc, text)? {
-            let told = format!(in self.alloc; "byte {place} replaced goes wrong in front of it")?;
-            return Ok(told.into_bytes());
-        }
-        Ok(format!(in self.alloc; "{queries} fronts are queries")?.into_bytes())
+    match early_fault(alloc, query)? {
+        Some(place) => Ok(write!(text, "byte {place} replaced goes wrong in front of it")?),
+        None => Ok(write!(text, "{queries} fronts are queries")?),
     }
 }
 
 // The place of a byte of which a replacement goes wrong in front of it.
-fn early_fault(alloc: Global, text: Vec<u8>) -> Result<Option<usize>, Trouble> {
-    let mut text = text;
-    for place in 0..text.len() {
+fn early_fault(alloc: Global, query: &mut [u8]) -> Result<Option<usize>, Trouble> {
+    for place in 0..query.len() {
         for replacement in REPLACEMENTS {
-            let Some(byte) = text.as_mut_slice().get_mut(place) else {
-                return Ok(None);
-            };
-            let kept = *byte;
-            *byte = *replacement;
-            let at = fault_place(alloc, text.as_slice())?;
-            if at.is_some_and(|at| at < place) {
+            if goes_wrong_before(alloc, query, place, *replacement)? {
                 return Ok(Some(place));
-            }
-            if let Some(byte) = text.as_mut_slice().get_mut(place) {
-                *byte = kept;
             }
         }
     }
     Ok(None)
+}
+
+// Whether a text with a byte replaced goes wrong in front of that byte.
+fn goes_wrong_before(
+    alloc: Global,
+    query: &mut [u8],
+    place: usize,
+    replacement: u8,
+) -> Result<bool, Trouble> {
+    let kept = put_at(query, place, replacement);
+    let at = fault_place(alloc, query)?;
+    put_at(query, place, kept);
+    Ok(at.is_some_and(|at| at < place))
+}
+
+// Puts a byte at a place, and gives the one that stood there.
+fn put_at(query: &mut [u8], place: usize, byte: u8) -> u8 {
+    match query.get_mut(place) {
+        Some(stood) => mem::replace(stood, byte),
+        None => byte,
+    }
 }
 
 // Where a text goes wrong, or none where it is a query.

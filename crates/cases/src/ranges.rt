@@ -1,106 +1,42 @@
 // Targets, and the ranges that they lie in.
-use crate::calls::Call;
 use crate::descriptions::{number_in, target_of};
-use crate::trouble::Trouble;
-use mon_config::{Config, read_config};
+use crate::settings::{Setting, config_of};
+use crate::texts::put;
+use crate::trouble::{Done, Trouble};
+use mon_config::Config;
 use mon_topo::{Topology, Zone, location_of};
-use mon_value::{FieldValue, FieldValues, Refusal, Target, Text};
+use mon_value::{FieldValue, FieldValues, Target, Text};
 use std::alloc::Global;
 
-/// A case is a target `SCHEMA FIELD,FIELD` under a configuration; its answer is the name of its range, or
+/// A case of `range_of` is a target `SCHEMA FIELD,FIELD` under a configuration; its answer is the name of its range, or
 /// `none` where no zone lists its location.
-#[derive(Drop)]
-pub(crate) struct RangesOfTargets {
-    alloc: Global,
-    config: Option<Config>,
-}
-
-impl RangesOfTargets {
-    pub(crate) fn new(alloc: Global) -> RangesOfTargets {
-        RangesOfTargets {
-            alloc,
-            config: None,
-        }
+///
+/// A case of `range_of at bounds` is `COUNT ranges`, of a zone whose bounds are 10, 20 and so on; its answer says at how
+/// many bounds, and just below and just above how many, a target lies in the range of its number.
+pub(crate) fn write_answer(text: &mut String, setting: &Setting, call: &str, given: &str) -> Done {
+    match call {
+        "range_of" => write_range(text, setting, given),
+        "range_of at bounds" => write_bounds(text, setting.alloc, given),
+        _ => Err(Trouble::Misspelled),
     }
 }
 
-impl Call for RangesOfTargets {
-    fn take(&mut self, content: &str) -> Result<(), Trouble> {
-        self.config = Some(config_of(self.alloc, content)?);
-        Ok(())
+fn write_range(text: &mut String, setting: &Setting, given: &str) -> Done {
+    let Some(topology) = &setting.topology else {
+        return Err(Trouble::Misspelled);
+    };
+    let target = target_of(setting.alloc, given)?;
+    let Some(location) = location_of(&setting.schemas, &target) else {
+        return put(text, "none");
+    };
+    match topology.zone_of(location.as_bytes()) {
+        Some(zone) => write_name(text, topology, zone, &target),
+        None => put(text, "none"),
     }
-
-    fn answer(&mut self, given: &str) -> Result<Vec<u8>, Trouble> {
-        let Some(config) = &self.config else {
-            return Err(Trouble::Misspelled);
-        };
-        let target = target_of(self.alloc, given)?;
-        let answer = match zone_of(config, &target) {
-            Some(zone) => range_name(self.alloc, &config.topology, zone, &target)?,
-            None => String::from_str(self.alloc, "none")?,
-        };
-        Ok(answer.into_bytes())
-    }
-}
-
-/// A case is `COUNT ranges`, of a zone whose bounds are 10, 20 and so on; its answer says at how many bounds, and
-/// just below and just above how many, a target lies in the range of its number.
-#[derive(Drop)]
-pub(crate) struct RangesAtBounds {
-    alloc: Global,
-}
-
-impl RangesAtBounds {
-    pub(crate) fn new(alloc: Global) -> RangesAtBounds {
-        RangesAtBounds { alloc }
-    }
-}
-
-impl Call for RangesAtBounds {
-    fn take(&mut self, _content: &str) -> Result<(), Trouble> {
-        Err(Trouble::Misspelled)
-    }
-
-    fn answer(&mut self, given: &str) -> Result<Vec<u8>, Trouble> {
-        let Some(count) = given.strip_suffix(" ranges") else {
-            return Err(Trouble::Misspelled);
-        };
-        let count: u32 = number_in(count)?;
-        let config = config_of(self.alloc, numbered_zone(self.alloc, count)?.as_str())?;
-        let mut at = 0u64;
-        let mut below = 0u64;
-        let mut above = 0u64;
-        for j in 1..count {
-            let bound = 10 * j as i64;
-            at = at.saturating_add(lies(self.alloc, &config.topology, bound, j)?);
-            below = below.saturating_add(lies(self.alloc, &config.topology, bound - 1, j - 1)?);
-            above = above.saturating_add(lies(self.alloc, &config.topology, bound + 1, j)?);
-        }
-        Ok(format!(in self.alloc; "{at} at, {below} below, {above} above")?.into_bytes())
-    }
-}
-
-fn config_of(alloc: Global, content: &str) -> Result<Config, Trouble> {
-    match read_config(alloc, content.as_bytes()) {
-        Ok(config) => Ok(config),
-        Err(Refusal::Fault(_fault)) => Err(Trouble::Misspelled),
-        Err(Refusal::OutOfMemory) => Err(Trouble::OutOfMemory),
-    }
-}
-
-// The zone that lists a target's location.
-fn zone_of(config: &Config, target: &Target) -> Option<Zone> {
-    let location = location_of(&config.schemas, target)?;
-    config.topology.zone_of(location.as_bytes())
 }
 
 // The name of the range of a zone that a target lies in.
-fn range_name(
-    alloc: Global,
-    topology: &Topology,
-    zone: Zone,
-    target: &Target,
-) -> Result<String, Trouble> {
+fn write_name(text: &mut String, topology: &Topology, zone: Zone, target: &Target) -> Done {
     if zone.0 >= topology.zones() {
         return Err(Trouble::Misspelled);
     }
@@ -108,7 +44,56 @@ fn range_name(
     let (first, _) = topology.ranges_of(zone);
     let place = range.0.saturating_sub(first.0);
     let name = topology.zone_name(zone);
-    Ok(format!(in alloc; "{}/{place}", name.as_str())?)
+    Ok(write!(text, "{}/{place}", name.as_str())?)
+}
+
+fn write_bounds(text: &mut String, alloc: Global, given: &str) -> Done {
+    let Some(count) = given.strip_suffix(" ranges") else {
+        return Err(Trouble::Misspelled);
+    };
+    let count: u32 = number_in(count)?;
+    let config = numbered_config(alloc, count)?;
+    let at = lying(alloc, &config.topology, count, 0)?;
+    let below = lying(alloc, &config.topology, count, -1)?;
+    let above = lying(alloc, &config.topology, count, 1)?;
+    Ok(write!(text, "{at} at, {below} below, {above} above")?)
+}
+
+// How many targets that stand so far from a bound lie in the range on that side of it.
+fn lying(alloc: Global, topology: &Topology, count: u32, beside: i32) -> Result<u32, Trouble> {
+    let mut lying = 0u32;
+    for place in 1..count {
+        let number = 10 * i64::from(place) + i64::from(beside);
+        let range = if beside < 0 { place - 1 } else { place };
+        if range_at(alloc, topology, number)? == range {
+            lying = lying.saturating_add(1);
+        }
+    }
+    Ok(lying)
+}
+
+// The range that the target of a number lies in.
+fn range_at(alloc: Global, topology: &Topology, number: i64) -> Result<u32, Trouble> {
+    let target = numbered_target(alloc, number)?;
+    match topology.zone_of(b"e".as_slice()) {
+        Some(zone) if zone.0 < topology.zones() => Ok(topology.range_of(zone, &target).0),
+        _ => Err(Trouble::Misspelled),
+    }
+}
+
+fn numbered_target(alloc: Global, number: i64) -> Result<Target, Trouble> {
+    let mut fields = FieldValues::new(alloc);
+    fields.push(FieldValue::Int(number))?;
+    fields.push(FieldValue::Text(Text::from_str(alloc, "e")?))?;
+    Ok(Target {
+        schema: Text::from_str(alloc, "T")?,
+        fields,
+    })
+}
+
+fn numbered_config(alloc: Global, count: u32) -> Result<Config, Trouble> {
+    let text = numbered_zone(alloc, count)?;
+    config_of(alloc, text.as_str())
 }
 
 // A configuration of one zone with so many ranges, from none, 10, 20 and so on.
@@ -122,30 +107,8 @@ fn numbered_zone(alloc: Global, count: u32) -> Result<String, Trouble> {
     )?;
     for j in 1..count {
         let bound = 10 * j as u64;
-        text.push_str(format!(in alloc; r#",{{"from":["T",{bound}],"leaves":["e1"]}}"#)?.as_str())?;
+        write!(text, r#",{{"from":["T",{bound}],"leaves":["e1"]}}"#)?;
     }
     text.push_str("]}]}")?;
     Ok(text)
-}
-
-// 1 where the target of a number lies in the range of this number, and 0 else.
-fn lies(alloc: Global, topology: &Topology, number: i64, place: u32) -> Result<u64, Trouble> {
-    let mut fields = FieldValues::new(alloc);
-    fields.push(FieldValue::Int(number))?;
-    fields.push(FieldValue::Text(Text::from_str(alloc, "e")?))?;
-    let target = Target {
-        schema: Text::from_str(alloc, "T")?,
-        fields,
-    };
-    let Some(zone) = topology.zone_of(b"e".as_slice()) else {
-        return Err(Trouble::Misspelled);
-    };
-    if zone.0 >= topology.zones() {
-        return Err(Trouble::Misspelled);
-    }
-    Ok(if topology.range_of(zone, &target).0 == place {
-        1
-    } else {
-        0
-    })
 }

@@ -1,30 +1,30 @@
 // Texts of comma-separated values, as a reader of such texts reads them.
-use crate::trouble::Trouble;
+use crate::texts::put;
+use crate::trouble::{Done, Trouble};
 use csv::{ByteRecord, ReaderBuilder};
 use std::alloc::Global;
 
-/// The records of a text, one in a line, each with its fields in brackets.
-pub(crate) fn records_in(alloc: Global, text: &[u8]) -> Result<String, Trouble> {
+/// Writes the records of a text, one in a line, each with its fields in brackets.
+pub(crate) fn write_records(text: &mut String, alloc: Global, records: &[u8]) -> Done {
     let mut reader = ReaderBuilder::new()
         .has_headers(false)
         .flexible(true)
-        .from_reader(alloc, text);
+        .from_reader(alloc, records);
     let mut record = ByteRecord::new(alloc);
-    let mut shown = String::new(alloc);
-    for _ in 0..=text.len() {
+    for _ in 0..=records.len() {
         match reader.read_byte_record(&mut record) {
-            Ok(true) => add_record(alloc, &mut shown, &record)?,
+            Ok(true) => write_record(text, &record)?,
             Ok(false) => break,
             Err(_) => return Err(Trouble::OutOfMemory),
         }
     }
-    Ok(shown)
+    Ok(())
 }
 
-fn add_record(alloc: Global, shown: &mut String, record: &ByteRecord) -> Result<(), Trouble> {
+fn write_record(text: &mut String, record: &ByteRecord) -> Done {
     for field in record.iter() {
         let field = str::from_utf8(field).unwrap_or("?");
-        shown.push_str(format!(in alloc; "[{field}]")?.as_str())?;
+        write!(text, "[{field}]")?;
     }
-    Ok(shown.push_str("\n")?)
+    put(text, "\n")
 }

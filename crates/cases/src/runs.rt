@@ -1,8 +1,7 @@
 // Runs in memory: their words and files, and their status and text.
-use crate::calls::Call;
-use crate::descriptions::number_in;
+use crate::descriptions::{first_word, number_in};
 use crate::escapes::add_line;
-use crate::trouble::Trouble;
+use crate::trouble::{Done, Trouble};
 use mon_run::{MemoryFile, MemoryFiles, MemoryFolder, MemorySink, run};
 use mon_value::Text;
 use std::alloc::Global;
@@ -27,41 +26,12 @@ const ROOM: usize = 1 << 20;
 ///   lets the output fail after so many bytes;
 /// - `each cut of NAME` runs with each front of that file in its place. The answer has what these runs
 ///   come to, each behind a line `cut A to B` with the lengths of the fronts that come to it.
-#[derive(Drop)]
-pub(crate) struct Runs {
-    alloc: Global,
-    config: String,
-}
-
-impl Runs {
-    pub(crate) fn new(alloc: Global) -> Runs {
-        Runs {
-            alloc,
-            config: String::new(alloc),
-        }
-    }
-
-    // The run that a paragraph describes.
-    fn described(&self, lines: &str) -> Result<Described, Trouble> {
-        let mut described = Described::new(self.alloc)?;
-        for line in lines.lines() {
-            described.take(line)?;
-        }
-        described.give(CONFIG, self.config.as_bytes())?;
-        described.give(SCRIPT, b"".as_slice())?;
-        Ok(described)
-    }
-}
-
-impl Call for Runs {
-    fn take(&mut self, content: &str) -> Result<(), Trouble> {
-        self.config = String::from_str(self.alloc, content)?;
-        Ok(())
-    }
-
-    fn answer(&mut self, given: &str) -> Result<Vec<u8>, Trouble> {
-        self.described(given)?.answer()
-    }
+pub(crate) fn answer(alloc: Global, config: &str, given: &str) -> Result<Vec<u8>, Trouble> {
+    let mut described = Described::new(alloc)?;
+    described.take_all(given)?;
+    described.give(CONFIG, config.as_bytes())?;
+    described.give(SCRIPT, b"".as_slice())?;
+    described.answer()
 }
 
 // A run that is described.
@@ -89,31 +59,60 @@ impl Described {
         })
     }
 
-    // Takes a line of the description.
-    fn take(&mut self, line: &str) -> Result<(), Trouble> {
-        if let Some(words) = line.strip_prefix('$') {
-            self.words = words_of(self.alloc, words)?;
-            return Ok(());
+    fn take_all(&mut self, lines: &str) -> Done {
+        for line in lines.lines() {
+            self.take(line)?;
         }
+        Ok(())
+    }
+
+    // Takes a line of the description.
+    fn take(&mut self, line: &str) -> Done {
         if let Some(line) = line.strip_prefix('>') {
             return self.add(SCRIPT, line.strip_prefix(' ').unwrap_or(line));
         }
-        if let Some(name) = line.strip_prefix("without ") {
-            self.without.push(Text::from_str(self.alloc, name)?)?;
-            return Ok(());
+        let (word, rest) = first_word(line);
+        match word {
+            "$" => self.take_words(rest),
+            "without" => self.take_away(rest),
+            "failing" => self.add_failing(rest),
+            "room" => self.take_room(rest),
+            "each" => self.take_cut(rest),
+            _ => self.take_file(line),
         }
-        if let Some(number) = line.strip_prefix("failing ") {
-            self.failing.push(number_in(number)?)?;
-            return Ok(());
+    }
+
+    fn take_words(&mut self, words: &str) -> Done {
+        self.words = words_of(self.alloc, words)?;
+        Ok(())
+    }
+
+    fn take_away(&mut self, name: &str) -> Done {
+        self.without.push(Text::from_str(self.alloc, name)?)?;
+        Ok(())
+    }
+
+    fn add_failing(&mut self, number: &str) -> Done {
+        self.failing.push(number_in(number)?)?;
+        Ok(())
+    }
+
+    fn take_room(&mut self, number: &str) -> Done {
+        self.room = number_in(number)?;
+        Ok(())
+    }
+
+    fn take_cut(&mut self, words: &str) -> Done {
+        match words.strip_prefix("cut of ") {
+            Some(name) => {
+                self.cut = Some(Text::from_str(self.alloc, name)?);
+                Ok(())
+            }
+            None => Err(Trouble::Misspelled),
         }
-        if let Some(number) = line.strip_prefix("room ") {
-            self.room = number_in(number)?;
-            return Ok(());
-        }
-        if let Some(name) = line.strip_prefix("each cut of ") {
-            self.cut = Some(Text::from_str(self.alloc, name)?);
-            return Ok(());
-        }
+    }
+
+    fn take_file(&mut self, line: &str) -> Done {
         match line.split_once(": ") {
             Some((name, line)) => self.add(name, line),
             None => Err(Trouble::Misspelled),
@@ -121,19 +120,19 @@ impl Described {
     }
 
     // Adds a line to a file.
-    fn add(&mut self, name: &str, line: &str) -> Result<(), Trouble> {
+    fn add(&mut self, name: &str, line: &str) -> Done {
         for file in self.files.iter_mut() {
             if file.name.as_str() == name {
-                return add_line(self.alloc, &mut file.content, line);
+                return add_line(&mut file.content, line);
             }
         }
         let mut content = Vec::new(self.alloc);
-        add_line(self.alloc, &mut content, line)?;
+        add_line(&mut content, line)?;
         self.give(name, content.as_slice())
     }
 
     // Adds a file behind the others, if it is not to be taken away. Of two with one name the first counts.
-    fn give(&mut self, name: &str, content: &[u8]) -> Result<(), Trouble> {
+    fn give(&mut self, name: &str, content: &[u8]) -> Done {
         if self.without.iter().any(|other| other.as_str() == name) {
             return Ok(());
         }
@@ -224,7 +223,7 @@ impl Cuts {
     }
 
     // Adds what the front of a length comes to.
-    fn add(&mut self, length: usize, came: Vec<u8>) -> Result<(), Trouble> {
+    fn add(&mut self, length: usize, came: Vec<u8>) -> Done {
         if self.came.as_slice() != came.as_slice() {
             self.put()?;
             self.first = length;
@@ -235,7 +234,7 @@ impl Cuts {
     }
 
     // Puts what the last fronts come to behind the answer.
-    fn put(&mut self) -> Result<(), Trouble> {
+    fn put(&mut self) -> Done {
         if self.came.is_empty() {
             return Ok(());
         }

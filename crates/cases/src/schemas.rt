@@ -1,10 +1,10 @@
 // Schemas that are added one after another, and rows that fit them or don't.
-use crate::calls::Call;
 use crate::descriptions::{
-    field_values_of, fields_of, first_word, number_in, target_of, value_of, value_type_of,
+    field_values_of, fields_of, first_word, number_in, target_with, value_of, value_type_of,
 };
 use crate::escapes::text_of;
-use crate::trouble::Trouble;
+use crate::texts::put;
+use crate::trouble::{Done, Trouble};
 use mon_schema::{Kind, MetricSchema, SchemaFault, Schemas, TargetSchema};
 use mon_value::{Point, Refusal, Row, SeriesKey, Shared, Text};
 use std::alloc::Global;
@@ -15,74 +15,42 @@ use std::alloc::Global;
 ///   `held` or the fault;
 /// - `find target NAME` and `find metric NAME` are answered by `found` or `none`;
 /// - `row SCHEMA METRIC FIELDS FIELDS START END VALUE` is answered by `fits` or `none`.
-#[derive(Drop)]
-pub(crate) struct SchemaLines {
+pub(crate) fn write_answer(
+    text: &mut String,
     alloc: Global,
-    schemas: Schemas,
-}
-
-impl SchemaLines {
-    pub(crate) fn new(alloc: Global) -> SchemaLines {
-        SchemaLines {
-            alloc,
-            schemas: Schemas::new(alloc),
-        }
-    }
-
-    // The answer to a line.
-    fn answer_line(&mut self, line: &str) -> Result<String, Trouble> {
-        let (word, rest) = first_word(line);
-        match word {
-            "target" => {
-                let schema = target_schema(self.alloc, rest)?;
-                told(self.alloc, self.schemas.add_target(schema))
-            }
-            "metric" => {
-                let metric = metric_schema(self.alloc, rest)?;
-                told(self.alloc, self.schemas.add_metric(metric))
-            }
-            "find" => answer_if(self.alloc, self.finds(rest)?, "found"),
-            "row" => {
-                let row = row_of(self.alloc, rest)?;
-                answer_if(self.alloc, self.schemas.fits(&row), "fits")
-            }
-            _ => Err(Trouble::Misspelled),
-        }
-    }
-
-    // Whether a schema is found.
-    fn finds(&self, words: &str) -> Result<bool, Trouble> {
-        let (what, name) = first_word(words);
-        match what {
-            "target" => Ok(self.schemas.target(name.as_bytes()).is_some()),
-            "metric" => Ok(self.schemas.metric(name.as_bytes()).is_some()),
-            _ => Err(Trouble::Misspelled),
-        }
+    schemas: &mut Schemas,
+    given: &str,
+) -> Done {
+    let line = text_of(alloc, given)?;
+    let (word, rest) = first_word(line.as_str());
+    match word {
+        "target" => write_added(text, schemas.add_target(target_schema(alloc, rest)?)),
+        "metric" => write_added(text, schemas.add_metric(metric_schema(alloc, rest)?)),
+        "find" => write_found(text, schemas, rest),
+        "row" => write_if(text, schemas.fits(&row_of(alloc, rest)?), "fits"),
+        _ => Err(Trouble::Misspelled),
     }
 }
 
-impl Call for SchemaLines {
-    fn take(&mut self, _content: &str) -> Result<(), Trouble> {
-        Err(Trouble::Misspelled)
-    }
-
-    fn answer(&mut self, given: &str) -> Result<Vec<u8>, Trouble> {
-        let line = text_of(self.alloc, given)?;
-        let answer = self.answer_line(line.as_str())?;
-        Ok(answer.into_bytes())
+// Whether a schema is found.
+fn write_found(text: &mut String, schemas: &Schemas, words: &str) -> Done {
+    let (what, name) = first_word(words);
+    match what {
+        "target" => write_if(text, schemas.target(name.as_bytes()).is_some(), "found"),
+        "metric" => write_if(text, schemas.metric(name.as_bytes()).is_some(), "found"),
+        _ => Err(Trouble::Misspelled),
     }
 }
 
-fn answer_if(alloc: Global, holds: bool, yes: &str) -> Result<String, Trouble> {
-    let answer = if holds { yes } else { "none" };
-    Ok(String::from_str(alloc, answer)?)
+fn write_if(text: &mut String, holds: bool, yes: &str) -> Done {
+    put(text, if holds { yes } else { "none" })
 }
 
 // What came of adding a schema.
-fn told(alloc: Global, added: Result<(), Refusal<SchemaFault>>) -> Result<String, Trouble> {
+fn write_added(text: &mut String, added: Result<(), Refusal<SchemaFault>>) -> Done {
     match added {
-        Ok(()) => Ok(String::from_str(alloc, "held")?),
-        Err(Refusal::Fault(fault)) => Ok(format!(in alloc; "{fault}")?),
+        Ok(()) => put(text, "held"),
+        Err(Refusal::Fault(fault)) => Ok(write!(text, "{fault}")?),
         Err(Refusal::OutOfMemory) => Err(Trouble::OutOfMemory),
     }
 }
@@ -122,9 +90,8 @@ fn row_of(alloc: Global, words: &str) -> Result<Row, Trouble> {
     let (metric, words) = first_word(words);
     let (targets, words) = first_word(words);
     let (metrics, point) = first_word(words);
-    let target = format!(in alloc; "{schema} {targets}")?;
     let key = SeriesKey {
-        target: target_of(alloc, target.as_str())?,
+        target: target_with(alloc, schema, targets)?,
         metric: Text::from_str(alloc, metric)?,
         fields: field_values_of(alloc, metrics)?,
     };

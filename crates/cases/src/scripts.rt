@@ -1,60 +1,38 @@
 // Scripts, and the lines that they are read as.
-use crate::calls::Call;
 use crate::escapes::bytes_of;
-use crate::trouble::Trouble;
+use crate::texts::put_between;
+use crate::trouble::{Done, Trouble};
 use mon_script::{LineForm, Script, read_script};
 use mon_value::{LONGEST_FILE, Refusal};
 use std::alloc::Global;
 
 /// A case is a script; its answer has each line that does something with its number, and ` | ` between,
 /// or `line N` where that line is refused.
-#[derive(Drop)]
-pub(crate) struct Scripts {
-    alloc: Global,
-}
-
-impl Scripts {
-    pub(crate) fn new(alloc: Global) -> Scripts {
-        Scripts { alloc }
+pub(crate) fn write_answer(text: &mut String, alloc: Global, given: &str) -> Done {
+    let content = bytes_of(alloc, given)?;
+    if content.len() as u64 > LONGEST_FILE {
+        return Err(Trouble::Misspelled);
+    }
+    match read_script(alloc, content.as_slice()) {
+        Ok(script) => write_lines(text, &script),
+        Err(Refusal::Fault(fault)) => Ok(write!(text, "line {}", fault.line)?),
+        Err(Refusal::OutOfMemory) => Err(Trouble::OutOfMemory),
     }
 }
 
-impl Call for Scripts {
-    fn take(&mut self, _content: &str) -> Result<(), Trouble> {
-        Err(Trouble::Misspelled)
-    }
-
-    fn answer(&mut self, given: &str) -> Result<Vec<u8>, Trouble> {
-        let text = bytes_of(self.alloc, given)?;
-        if text.len() as u64 > LONGEST_FILE {
-            return Err(Trouble::Misspelled);
-        }
-        let answer = match read_script(self.alloc, text.as_slice()) {
-            Ok(script) => lines_of(self.alloc, &script)?,
-            Err(Refusal::Fault(fault)) => format!(in self.alloc; "line {}", fault.line)?,
-            Err(Refusal::OutOfMemory) => return Err(Trouble::OutOfMemory),
-        };
-        Ok(answer.into_bytes())
-    }
-}
-
-// The lines of a script.
-fn lines_of(alloc: Global, script: &Script) -> Result<String, Trouble> {
-    let mut text = String::new(alloc);
+fn write_lines(text: &mut String, script: &Script) -> Done {
     for line in script.as_slice() {
-        if !text.is_empty() {
-            text.push_str(" | ")?;
-        }
+        put_between(text, " | ")?;
         let number = line.number;
-        let form = form_text(alloc, &line.what)?;
-        text.push_str(format!(in alloc; "{number} {form}")?.as_str())?;
+        write!(text, "{number} ")?;
+        write_form(text, &line.what)?;
     }
-    Ok(text)
+    Ok(())
 }
 
-fn form_text(alloc: Global, form: &LineForm) -> Result<String, Trouble> {
+fn write_form(text: &mut String, form: &LineForm) -> Done {
     match form {
-        LineForm::Feed(name) => Ok(format!(in alloc; "feed {}", name.as_str())?),
-        LineForm::Query(moment, text) => Ok(format!(in alloc; "query {moment} {}", text.as_str())?),
+        LineForm::Feed(name) => Ok(write!(text, "feed {}", name.as_str())?),
+        LineForm::Query(moment, query) => Ok(write!(text, "query {moment} {}", query.as_str())?),
     }
 }

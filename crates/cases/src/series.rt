@@ -3,46 +3,29 @@ ghost use Rattle.std.specs.Prelude.{IfSome, IsTrue, ◌<ℤ◌};
 ghost use Rattle.mon_value.specs.Sources.{last_end};
 
 use crate::alignable::can_align;
-use crate::calls::Call;
 use crate::descriptions::{first_word, number_in, value_of};
-use crate::trouble::Trouble;
+use crate::texts::{put, put_between};
+use crate::trouble::{Done, Trouble};
 use mon_fold::align;
-use mon_series::Series;
-use mon_value::{Aligner, Grid, Point, TimedValue, TimedValues, Value, write_text};
-use std::alloc::{AllocError, Global};
+use mon_series::{KeptPoint, Series};
+use mon_value::{Aligner, Grid, Point, TimedValue, TimedValues, write_text};
+use std::alloc::Global;
 
 /// A case is `delta SECONDS at MOMENT every SECONDS within SECONDS: END VALUE, ..`, or `newest` in the
 /// place of `delta`, with the points of a series, or `none`. Its answer is what stands at which times, as
 /// `TIME TEXT, ..`, or `none`.
-#[derive(Drop)]
-pub(crate) struct Alignments {
-    alloc: Global,
-}
-
-impl Alignments {
-    pub(crate) fn new(alloc: Global) -> Alignments {
-        Alignments { alloc }
+pub(crate) fn write_answer(text: &mut String, alloc: Global, given: &str) -> Done {
+    let Some((how, points)) = given.split_once(": ") else {
+        return Err(Trouble::Misspelled);
+    };
+    let Some((by, grid)) = alignment_in(how) else {
+        return Err(Trouble::Misspelled);
+    };
+    let series = series_of(alloc, points)?;
+    if can_align(alloc, by, &grid, series.points())? {
+        return write_values(text, alloc, &align(alloc, &series, by, &grid)?);
     }
-}
-
-impl Call for Alignments {
-    fn take(&mut self, _content: &str) -> Result<(), Trouble> {
-        Err(Trouble::Misspelled)
-    }
-
-    fn answer(&mut self, given: &str) -> Result<Vec<u8>, Trouble> {
-        let Some((how, points)) = given.split_once(": ") else {
-            return Err(Trouble::Misspelled);
-        };
-        let Some((by, grid)) = alignment_in(how) else {
-            return Err(Trouble::Misspelled);
-        };
-        let series = series_of(self.alloc, points)?;
-        if can_align(by, &grid, series.points()) {
-            return told(self.alloc, &align(self.alloc, &series, by, &grid)?);
-        }
-        Err(Trouble::Misspelled)
-    }
+    Err(Trouble::Misspelled)
 }
 
 // How a series is aligned, and the times that it is brought to.
@@ -84,22 +67,25 @@ fn series_of(alloc: Global, points: &str) -> Result<Series, Trouble> {
     }
     for words in points.split(", ") {
         let (end, value) = first_word(words);
-        let end = number_in(end)?;
-        let value = value_of(alloc, value)?;
-        add_point(&mut series, end, value)?;
+        add_point(&mut series, point_of(alloc, number_in(end)?, value)?)?;
     }
     Ok(series)
 }
 
+fn point_of(alloc: Global, end: i64, value: &str) -> Result<KeptPoint, Trouble> {
+    let point = Point {
+        start: end,
+        end,
+        value: value_of(alloc, value)?,
+    };
+    Ok(KeptPoint::new(alloc, point)?)
+}
+
 // Adds a point, whose end is behind that of the last one.
-fn add_point(series: &mut Series, end: i64, value: Value) -> Result<(), Trouble> {
-    if comes_last(series, end) {
+fn add_point(series: &mut Series, point: KeptPoint) -> Done {
+    if comes_last(series, point.end()) {
         series.reserve()?;
-        series.push(Point {
-            start: end,
-            end,
-            value,
-        });
+        series.push(point);
         return Ok(());
     }
     Err(Trouble::Misspelled)
@@ -115,22 +101,19 @@ fn comes_last(series: &Series, end: i64) -> bool
     }
 }
 
-fn told(alloc: Global, values: &TimedValues) -> Result<Vec<u8>, Trouble> {
-    let mut text = String::new(alloc);
+fn write_values(text: &mut String, alloc: Global, values: &TimedValues) -> Done {
+    if values.is_empty() {
+        return put(text, "none");
+    }
     for value in values.as_slice() {
-        add_value(alloc, &mut text, value)?;
+        put_between(text, ", ")?;
+        add_value(text, alloc, value)?;
     }
-    if text.is_empty() {
-        text.push_str("none")?;
-    }
-    Ok(text.into_bytes())
+    Ok(())
 }
 
-fn add_value(alloc: Global, text: &mut String, value: &TimedValue) -> Result<(), AllocError> {
-    if !text.is_empty() {
-        text.push_str(", ")?;
-    }
+fn add_value(text: &mut String, alloc: Global, value: &TimedValue) -> Done {
     let time = value.time;
     let value = write_text(alloc, &value.value)?;
-    text.push_str(format!(in alloc; "{time} {}", value.as_str())?.as_str())
+    Ok(write!(text, "{time} {}", value.as_str())?)
 }

@@ -2,16 +2,16 @@
 ghost use Rattle.std.specs.Prelude.{IsTrue};
 ghost use Rattle.mon_value.specs.Columns.{IsWhole};
 
-use crate::calls::Call;
-use crate::descriptions::{first_word, number_in, value_of};
-use crate::records::records_in;
-use crate::trouble::Trouble;
+use crate::descriptions::{number_in, value_of};
+use crate::records::write_records;
+use crate::texts::put;
+use crate::trouble::{Done, Trouble};
 use mon_table::{join, print, sorted, union};
 use mon_value::{
-    Cells, Column, Columns, Refusal, Table, Text, TimedRow, TimedRows, TryCopy, Value, ValueType,
+    Cells, Column, Columns, Refusal, Table, Text, TimedRow, TimedRows, TryCopy, ValueType,
     write_text,
 };
-use std::alloc::{AllocError, Global};
+use std::alloc::Global;
 
 /// A case is a paragraph: a line that says what is done, a line of columns with `|` between, and a line
 /// for each row, its time and its cells with `|` between. A cell `#0..9` stands for ten rows. Where two
@@ -21,105 +21,82 @@ use std::alloc::{AllocError, Global};
 ///   rows as they are written for `sort`, or `over ROOM`;
 /// - `size of join ROOM` is answered by the number of rows;
 /// - `read back` prints the table and is answered by what the records of that text are read as.
-#[derive(Drop)]
-pub(crate) struct Tables {
-    alloc: Global,
-}
-
-impl Tables {
-    pub(crate) fn new(alloc: Global) -> Tables {
-        Tables { alloc }
-    }
-
-    // The answer to a paragraph.
-    fn answer_to(&self, what: &str, tables: &str) -> Result<String, Trouble> {
-        let alloc = self.alloc;
-        if what == "print" {
-            return printed(alloc, &table_of(alloc, tables)?);
+pub(crate) fn write_answer(text: &mut String, alloc: Global, given: &str) -> Done {
+    let (what, tables) = given.split_once('\n').unwrap_or((given, ""));
+    match tables.split_once("and\n") {
+        Some((first, second)) => {
+            let first = table_of(alloc, first)?;
+            let second = table_of(alloc, second)?;
+            write_of_two(text, alloc, what, first, second)
         }
-        if what == "sort" {
-            return rows_written(alloc, &sorted(table_of(alloc, tables)?));
-        }
-        if what == "read back" {
-            let text = print(alloc, &table_of(alloc, tables)?)?;
-            return Ok(records_in(alloc, text.as_bytes())?);
-        }
-        let Some((first, second)) = tables.split_once("and\n") else {
-            return Err(Trouble::Misspelled);
-        };
-        let first = table_of(alloc, first)?;
-        let second = table_of(alloc, second)?;
-        if what == "union" {
-            return printed_union(alloc, first, second);
-        }
-        if let Some(room) = what.strip_prefix("join ") {
-            return printed_join(alloc, &first, &second, number_in(room)?);
-        }
-        match what.strip_prefix("size of join ") {
-            Some(room) => size_of_join(alloc, &first, &second, number_in(room)?),
-            None => Err(Trouble::Misspelled),
-        }
+        None => write_of_one(text, alloc, what, table_of(alloc, tables)?),
     }
 }
 
-impl Call for Tables {
-    fn take(&mut self, _content: &str) -> Result<(), Trouble> {
-        Err(Trouble::Misspelled)
-    }
-
-    fn answer(&mut self, given: &str) -> Result<Vec<u8>, Trouble> {
-        let Some((what, tables)) = given.split_once('\n') else {
-            return Err(Trouble::Misspelled);
-        };
-        let answer = self.answer_to(what, tables)?;
-        Ok(answer.into_bytes())
+fn write_of_one(text: &mut String, alloc: Global, what: &str, table: Table) -> Done {
+    match what {
+        "print" => write_printed(text, alloc, &table),
+        "sort" => write_rows(text, alloc, &sorted(table)),
+        "read back" => write_records(text, alloc, print(alloc, &table)?.as_bytes()),
+        _ => Err(Trouble::Misspelled),
     }
 }
 
-fn printed(alloc: Global, table: &Table) -> Result<String, Trouble> {
-    let text = print(alloc, table)?;
-    Ok(String::from_str(alloc, text.as_str())?)
+fn write_of_two(text: &mut String, alloc: Global, what: &str, first: Table, second: Table) -> Done {
+    if what == "union" {
+        return write_union(text, alloc, first, second);
+    }
+    if let Some(room) = what.strip_prefix("join ") {
+        return write_join(text, alloc, &first, &second, number_in(room)?);
+    }
+    match what.strip_prefix("size of join ") {
+        Some(room) => write_size_of_join(text, alloc, &first, &second, number_in(room)?),
+        None => Err(Trouble::Misspelled),
+    }
 }
 
-/// The rows of a table in the order in which they stand.
-pub(crate) fn rows_written(alloc: Global, table: &Table) -> Result<String, Trouble> {
-    let mut text = String::new(alloc);
+fn write_printed(text: &mut String, alloc: Global, table: &Table) -> Done {
+    put(text, print(alloc, table)?.as_str())
+}
+
+/// Writes the rows of a table in the order in which they stand.
+pub(crate) fn write_rows(text: &mut String, alloc: Global, table: &Table) -> Done {
     for row in table.rows.as_slice() {
-        add_row(alloc, &mut text, row)?;
+        write_row(text, alloc, row)?;
     }
-    Ok(text)
+    Ok(())
 }
 
-fn add_row(alloc: Global, text: &mut String, row: &TimedRow) -> Result<(), AllocError> {
+fn write_row(text: &mut String, alloc: Global, row: &TimedRow) -> Done {
     let time = row.time;
-    text.push_str(format!(in alloc; "{time}")?.as_str())?;
+    write!(text, "{time}")?;
     for cell in row.cells.as_slice() {
-        text.push_str("|")?;
-        text.push_str(write_text(alloc, cell)?.as_str())?;
+        put(text, "|")?;
+        put(text, write_text(alloc, cell)?.as_str())?;
     }
-    text.push_str("\n")
+    put(text, "\n")
 }
 
 // Both tables' rows; the second table has the columns of the first.
-fn printed_union(alloc: Global, a: Table, b: Table) -> Result<String, Trouble> {
+fn write_union(text: &mut String, alloc: Global, a: Table, b: Table) -> Done {
     let b = Table {
         columns: a.columns.copy(alloc)?,
         rows: b.rows,
     };
-    printed(alloc, &union(alloc, a, b)?)
+    write_printed(text, alloc, &union(alloc, a, b)?)
 }
 
-fn printed_join(alloc: Global, a: &Table, b: &Table, room: u64) -> Result<String, Trouble> {
+fn write_join(text: &mut String, alloc: Global, a: &Table, b: &Table, room: u64) -> Done {
     match joined(alloc, a, b, room)? {
-        Some(table) => printed(alloc, &table),
-        None => Ok(format!(in alloc; "over {room}\n")?),
+        Some(table) => write_printed(text, alloc, &table),
+        None => Ok(writeln!(text, "over {room}")?),
     }
 }
 
-fn size_of_join(alloc: Global, a: &Table, b: &Table, room: u64) -> Result<String, Trouble> {
+fn write_size_of_join(text: &mut String, alloc: Global, a: &Table, b: &Table, room: u64) -> Done {
     match joined(alloc, a, b, room)? {
-        Some(table) => Ok(format!(in alloc; "{} rows\n", table.rows.len())?),
-        None => Ok(format!(in alloc; "over {room}\n")?),
+        Some(table) => Ok(writeln!(text, "{} rows", table.rows.len())?),
+        None => Ok(writeln!(text, "over {room}")?),
     }
 }
 
@@ -150,53 +127,64 @@ fn is_whole(table: &Table) -> bool
 }
 
 fn table_of(alloc: Global, lines: &str) -> Result<Table, Trouble> {
-    let Some((names, rows)) = lines.split_once('\n') else {
-        return Err(Trouble::Misspelled);
-    };
-    let mut table = Table {
+    let (names, rows) = lines.split_once('\n').unwrap_or((lines, ""));
+    Ok(Table {
         columns: columns_of(alloc, names)?,
-        rows: TimedRows::new(alloc),
-    };
-    for line in rows.lines() {
-        add_rows(alloc, &mut table.rows, line)?;
-    }
-    Ok(table)
+        rows: rows_of(alloc, rows)?,
+    })
 }
 
 fn columns_of(alloc: Global, names: &str) -> Result<Columns, Trouble> {
     let mut columns = Columns::new(alloc);
     for name in names.split('|') {
-        columns.push(Column {
-            name: Text::from_str(alloc, name)?,
-            of: ValueType::Text,
-            key: true,
-            anchor: None,
-            cell_bits: 0,
-            total_bits: 0,
-        })?;
+        columns.push(column_of(alloc, name)?)?;
     }
     Ok(columns)
 }
 
-// Adds the row of a line, or its rows where a cell stands for several.
-fn add_rows(alloc: Global, rows: &mut TimedRows, line: &str) -> Result<(), Trouble> {
-    let Some((front, last)) = line.split_once("..") else {
-        rows.push(row_of(alloc, line)?)?;
-        return Ok(());
-    };
+fn column_of(alloc: Global, name: &str) -> Result<Column, Trouble> {
+    Ok(Column {
+        name: Text::from_str(alloc, name)?,
+        of: ValueType::Text,
+        key: true,
+        anchor: None,
+        cell_bits: 0,
+        total_bits: 0,
+    })
+}
+
+/// The rows of lines.
+pub(crate) fn rows_of(alloc: Global, lines: &str) -> Result<TimedRows, Trouble> {
+    let mut rows = TimedRows::new(alloc);
+    for line in lines.lines() {
+        match line.split_once("..") {
+            Some((front, last)) => add_rows(alloc, &mut rows, front, last)?,
+            None => rows.push(row_of(alloc, line)?)?,
+        }
+    }
+    Ok(rows)
+}
+
+// Adds the rows of a line with a cell that stands for several.
+fn add_rows(alloc: Global, rows: &mut TimedRows, front: &str, last: &str) -> Done {
     let Some((front, first)) = front.split_once('#') else {
         return Err(Trouble::Misspelled);
     };
     let first: i64 = number_in(first)?;
     let last: i64 = number_in(last)?;
     for number in first..=last {
-        rows.push(row_of(alloc, format!(in alloc; "{front}#{number}")?.as_str())?)?;
+        rows.push(numbered_row(alloc, front, number)?)?;
     }
     Ok(())
 }
 
-/// The row of a line.
-pub(crate) fn row_of(alloc: Global, line: &str) -> Result<TimedRow, Trouble> {
+fn numbered_row(alloc: Global, front: &str, number: i64) -> Result<TimedRow, Trouble> {
+    let line = format!(in alloc; "{front}#{number}")?;
+    row_of(alloc, line.as_str())
+}
+
+// The row of a line.
+fn row_of(alloc: Global, line: &str) -> Result<TimedRow, Trouble> {
     let (time, cells) = line.split_once('|').unwrap_or((line, ""));
     Ok(TimedRow {
         time: number_in(time)?,

@@ -9,6 +9,9 @@ pub(crate) enum Trouble {
     Misspelled,
 }
 
+/// Whether all was written, or taken.
+pub(crate) type Done = Result<(), Trouble>;
+
 impl From<AllocError> for Trouble {
     fn from(_error: AllocError) -> Trouble {
         Trouble::OutOfMemory

@@ -1,67 +1,86 @@
 // Query texts, and what each is typed as.
-use crate::calls::Call;
-use crate::descriptions::schemas_of;
+ghost use Rattle.std.specs.Prelude.{◌≡◌, IfOk, Ok};
+ghost use Rattle.mql_ast.specs.Trees.{query_tree};
+ghost use Rattle.mql_types.specs.Nodes.{typed_tree};
+ghost use Rattle.mql_types.specs.Typing.{typing};
+
 use crate::escapes::bytes_of;
 use crate::expressions::query_of;
-use crate::trouble::Trouble;
+use crate::levels::write_levels;
+use crate::settings::Setting;
+use crate::texts::put;
+use crate::trouble::{Done, Trouble};
 use mon_schema::Schemas;
 use mon_value::{Anchor, Column, Refusal, ValueType};
+use mql_ast::Query;
 use mql_types::{Level, Node, NodeInfo, TypeFault, TypeKind, TypeWord, Typed, check};
-use std::alloc::{AllocError, Global};
+use std::alloc::Global;
 
-/// A case is a query text; its answer is its typed tree, or its fault. The schemas are those of the configuration that
-/// the cases stand under.
-#[derive(Drop)]
-pub(crate) struct TypedTexts {
-    alloc: Global,
-    schemas: Schemas,
-}
-
-impl TypedTexts {
-    pub(crate) fn new(alloc: Global) -> TypedTexts {
-        TypedTexts {
-            alloc,
-            schemas: Schemas::new(alloc),
-        }
+/// A case is a query text; its answer is its typed tree for `check`, what explains it for `op_levels`, or its fault.
+/// The schemas are those of the configuration that the cases stand under.
+pub(crate) fn write_answer(text: &mut String, setting: &Setting, call: &str, given: &str) -> Done {
+    let query = query_in(setting.alloc, given)?;
+    match check(setting.alloc, &query, &setting.schemas) {
+        Ok(typed) => write_typed(text, setting.alloc, call, &typed),
+        Err(Refusal::Fault(fault)) => write_fault(text, fault),
+        Err(Refusal::OutOfMemory) => Err(Trouble::OutOfMemory),
     }
 }
 
-impl Call for TypedTexts {
-    fn take(&mut self, content: &str) -> Result<(), Trouble> {
-        self.schemas = schemas_of(self.alloc, content)?;
-        Ok(())
-    }
+/// The query that a case writes.
+pub(crate) fn query_in(alloc: Global, given: &str) -> Result<Query, Trouble> {
+    let text = bytes_of(alloc, given)?;
+    query_of(alloc, text.as_slice())
+}
 
-    fn answer(&mut self, given: &str) -> Result<Vec<u8>, Trouble> {
-        let text = bytes_of(self.alloc, given)?;
-        let query = query_of(self.alloc, text.as_slice())?;
-        match check(self.alloc, &query, &self.schemas) {
-            Ok(typed) => Ok(typed_text(self.alloc, &typed)?.into_bytes()),
-            Err(Refusal::Fault(fault)) => Ok(fault_text(self.alloc, fault)?.into_bytes()),
-            Err(Refusal::OutOfMemory) => Err(Trouble::OutOfMemory),
-        }
+/// A query as it is typed over schemas.
+pub(crate) fn typed_over(alloc: Global, query: &Query, schemas: &Schemas) -> Result<Typed, Trouble>
+    ensures typed { IfOk result (λ typed. typing schemas.now (query_tree query.now) ≡ Ok (typed_tree typed)) }
+{
+    match check(alloc, query, schemas) {
+        Ok(typed) => Ok(typed),
+        Err(Refusal::Fault(_fault)) => Err(Trouble::Misspelled),
+        Err(Refusal::OutOfMemory) => Err(Trouble::OutOfMemory),
     }
 }
 
-/// A fault of typing: its place, its kind and its parts.
-pub(crate) fn fault_text(alloc: Global, fault: TypeFault) -> Result<String, AllocError> {
+fn write_typed(text: &mut String, alloc: Global, call: &str, typed: &Typed) -> Done {
+    match call {
+        "check" => write_tree(text, typed),
+        "op_levels" => write_levels(text, alloc, typed),
+        _ => Err(Trouble::Misspelled),
+    }
+}
+
+// A fault of typing: its place, its kind and its parts.
+fn write_fault(text: &mut String, fault: TypeFault) -> Done {
     let at = fault.at;
+    let kind = kind_word(fault.kind);
+    write!(text, "{at} {kind}")?;
     match fault.kind {
-        TypeKind::UnknownSchema => format!(in alloc; "{at} UnknownSchema"),
-        TypeKind::UnknownMetric => format!(in alloc; "{at} UnknownMetric"),
-        TypeKind::UnknownColumn => format!(in alloc; "{at} UnknownColumn"),
-        TypeKind::Mismatch(left, right) => {
-            let left = word_of(left);
-            let right = word_of(right);
-            format!(in alloc; "{at} Mismatch {left} {right}")
-        }
-        TypeKind::NotDelta => format!(in alloc; "{at} NotDelta"),
-        TypeKind::NotGauge => format!(in alloc; "{at} NotGauge"),
-        TypeKind::DuplicateColumn => format!(in alloc; "{at} DuplicateColumn"),
-        TypeKind::BranchColumns => format!(in alloc; "{at} BranchColumns"),
-        TypeKind::TooManyTimes => format!(in alloc; "{at} TooManyTimes"),
-        TypeKind::TooWide(bits) => format!(in alloc; "{at} TooWide {bits}"),
-        TypeKind::BadOrder => format!(in alloc; "{at} BadOrder"),
+        TypeKind::Mismatch(left, right) => write_mismatch(text, word_of(left), word_of(right)),
+        TypeKind::TooWide(bits) => Ok(write!(text, " {bits}")?),
+        _ => Ok(()),
+    }
+}
+
+fn write_mismatch(text: &mut String, left: &str, right: &str) -> Done {
+    Ok(write!(text, " {left} {right}")?)
+}
+
+fn kind_word(kind: TypeKind) -> &'static str {
+    match kind {
+        TypeKind::UnknownSchema => "UnknownSchema",
+        TypeKind::UnknownMetric => "UnknownMetric",
+        TypeKind::UnknownColumn => "UnknownColumn",
+        TypeKind::Mismatch(_, _) => "Mismatch",
+        TypeKind::NotDelta => "NotDelta",
+        TypeKind::NotGauge => "NotGauge",
+        TypeKind::DuplicateColumn => "DuplicateColumn",
+        TypeKind::BranchColumns => "BranchColumns",
+        TypeKind::TooManyTimes => "TooManyTimes",
+        TypeKind::TooWide(_) => "TooWide",
+        TypeKind::BadOrder => "BadOrder",
     }
 }
 
@@ -75,82 +94,67 @@ fn word_of(word: TypeWord) -> &'static str {
 }
 
 // The times, each node with its level in the order of the text, and the columns of the answer.
-fn typed_text(alloc: Global, typed: &Typed) -> Result<String, AllocError> {
+fn write_tree(text: &mut String, typed: &Typed) -> Done {
     let every = typed.every;
     let within = typed.within;
-    let mut text = format!(in alloc; "every {every} within {within}")?;
-    add_node(&mut text, &typed.tree)?;
-    for (place, column) in typed.tree.columns().iter().enumerate() {
-        text.push_str(if place == 0 { " > " } else { ", " })?;
-        add_column(alloc, &mut text, column)?;
+    write!(text, "every {every} within {within}")?;
+    add_node(text, &typed.tree)?;
+    let mut sign = " > ";
+    for column in typed.tree.columns() {
+        put(text, sign)?;
+        add_column(text, column)?;
+        sign = ", ";
     }
-    Ok(text)
+    Ok(())
 }
 
 // Adds the nodes of a tree with their levels.
-fn add_node(text: &mut String, node: &Node) -> Result<(), AllocError> {
-    match node {
-        Node::Fetch {
-            info,
-            schema: _,
-            metric: _,
-        } => add_level(text, "fetch", info),
-        Node::Filter { info, by: _, input } => {
+fn add_node(text: &mut String, node: &Node) -> Done {
+    let word = match node {
+        Node::Fetch { .. } => "fetch",
+        Node::Filter { input, .. } => {
             add_node(text, input)?;
-            add_level(text, "filter", info)
+            "filter"
         }
-        Node::Align { info, by: _, input } => {
+        Node::Align { input, .. } => {
             add_node(text, input)?;
-            add_level(text, "align", info)
+            "align"
         }
-        Node::GroupBy {
-            info,
-            by: _,
-            with: _,
-            input,
-        } => {
+        Node::GroupBy { input, .. } => {
             add_node(text, input)?;
-            add_level(text, "group_by", info)
+            "group_by"
         }
-        Node::Value {
-            info,
-            items: _,
-            input,
-        } => {
+        Node::Value { input, .. } => {
             add_node(text, input)?;
-            add_level(text, "value", info)
+            "value"
         }
-        Node::Top {
-            info,
-            most: _,
-            column: _,
-            input,
-        } => {
+        Node::Top { input, .. } => {
             add_node(text, input)?;
-            add_level(text, "top", info)
+            "top"
         }
-        Node::Join { info, left, right } => {
+        Node::Join { left, right, .. } => {
             add_node(text, left)?;
             add_node(text, right)?;
-            add_level(text, "join", info)
+            "join"
         }
-        Node::Union { info, left, right } => {
+        Node::Union { left, right, .. } => {
             add_node(text, left)?;
             add_node(text, right)?;
-            add_level(text, "union", info)
+            "union"
         }
-    }
+    };
+    add_level(text, word, node.info())
 }
 
 // Adds a node's word and level; a default alignment is told as such.
-fn add_level(text: &mut String, word: &str, info: &NodeInfo) -> Result<(), AllocError> {
-    text.push_str(if info.at.is_some() {
+fn add_level(text: &mut String, word: &str, info: &NodeInfo) -> Done {
+    let sign = if info.at.is_some() {
         " > "
     } else {
         " > default "
-    })?;
-    text.push_str(word)?;
-    text.push_str(level_word(info.level))
+    };
+    let level = level_word(info.level);
+    Ok(write!(text, "{sign}{word}{level}")?)
 }
 
 /// The word of a level, behind a blank.
@@ -163,24 +167,34 @@ pub(crate) fn level_word(level: Level) -> &'static str {
 }
 
 // Adds a column: its name, with a star where it is a key, its type, both bounds in bits, and its anchor.
-fn add_column(alloc: Global, text: &mut String, column: &Column) -> Result<(), AllocError> {
-    text.push_str(column.name.as_str())?;
-    text.push_str(if column.key { "*:" } else { ":" })?;
-    text.push_str(match column.of {
+fn add_column(text: &mut String, column: &Column) -> Done {
+    let name = column.name.as_str();
+    let star = if column.key { "*" } else { "" };
+    let of = type_word(&column.of);
+    let cell = column.cell_bits;
+    let total = column.total_bits;
+    write!(text, "{name}{star}:{of} {cell}/{total}")?;
+    match &column.anchor {
+        Some(anchor) => add_anchor(text, anchor),
+        None => Ok(()),
+    }
+}
+
+fn type_word(of: &ValueType) -> &'static str {
+    match of {
         ValueType::Int => "int",
         ValueType::Bool => "bool",
         ValueType::Text => "text",
         ValueType::Dist(_) => "dist",
-    })?;
-    let cell = column.cell_bits;
-    let total = column.total_bits;
-    text.push_str(format!(in alloc; " {cell}/{total}")?.as_str())?;
-    match &column.anchor {
-        Some(Anchor::Field { schema, field }) => {
+    }
+}
+
+fn add_anchor(text: &mut String, anchor: &Anchor) -> Done {
+    match anchor {
+        Anchor::Field { schema, field } => {
             let schema = schema.as_str();
-            text.push_str(format!(in alloc; " {schema}.{field}")?.as_str())
+            Ok(write!(text, " {schema}.{field}")?)
         }
-        Some(Anchor::Location) => text.push_str(" location"),
-        None => Ok(()),
+        Anchor::Location => put(text, " location"),
     }
 }

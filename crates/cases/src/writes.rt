@@ -1,7 +1,7 @@
 // The events of a write.
-use crate::calls::Call;
 use crate::descriptions::{first_word, number_in};
-use crate::trouble::Trouble;
+use crate::texts::put;
+use crate::trouble::{Done, Trouble};
 use mon_hints::Buckets;
 use mon_value::{Ack, Founds, Leaf, Range, Slot, SlotLeaf, SlotLeaves};
 use std::alloc::Global;
@@ -10,55 +10,42 @@ use write_core::{WriteAsk, WriteEnd, WriteMachine, WriteTold};
 /// A case is what a write is told of its events, with ` | ` between: `slots SLOT@LEAF ..`, `old END`, `full COUNT`,
 /// `up BUCKET ..`, `down CUT` or `done`. Its answer has the events in order with ` > ` between, the next one last, and
 /// behind ` = ` how the write ended, if it did.
-#[derive(Drop)]
-pub(crate) struct Writes {
-    alloc: Global,
+pub(crate) fn write_answer(text: &mut String, alloc: Global, given: &str) -> Done {
+    let mut machine = WriteMachine::new(alloc, Range(0));
+    for told in given.split('|') {
+        add_ask(text, &machine.next())?;
+        put(text, " > ")?;
+        machine.told(told_of(alloc, told.trim())?)?;
+    }
+    add_last(text, machine)
 }
 
-impl Writes {
-    pub(crate) fn new(alloc: Global) -> Writes {
-        Writes { alloc }
+// Adds the event that comes next, and how the write ended, if it did.
+fn add_last(text: &mut String, machine: WriteMachine) -> Done {
+    let ask = machine.next();
+    add_ask(text, &ask)?;
+    if let WriteAsk::Finished = ask {
+        put(text, " = ")?;
+        add_end(text, &machine.finish())?;
     }
+    Ok(())
 }
 
-impl Call for Writes {
-    fn take(&mut self, _content: &str) -> Result<(), Trouble> {
-        Err(Trouble::Misspelled)
-    }
-
-    fn answer(&mut self, given: &str) -> Result<Vec<u8>, Trouble> {
-        let mut machine = WriteMachine::new(self.alloc, Range(0));
-        let mut text = String::new(self.alloc);
-        for told in given.split('|') {
-            text.push_str(ask_text(self.alloc, &machine.next())?.as_str())?;
-            text.push_str(" > ")?;
-            machine.told(told_of(self.alloc, told.trim())?)?;
-        }
-        let ask = machine.next();
-        text.push_str(ask_text(self.alloc, &ask)?.as_str())?;
-        if let WriteAsk::Finished = ask {
-            text.push_str(" = ")?;
-            text.push_str(end_text(self.alloc, &machine.finish())?.as_str())?;
-        }
-        Ok(text.into_bytes())
-    }
-}
-
-fn ask_text(alloc: Global, ask: &WriteAsk) -> Result<String, Trouble> {
+fn add_ask(text: &mut String, ask: &WriteAsk) -> Done {
     match ask {
-        WriteAsk::Lock => Ok(String::from_str(alloc, "lock")?),
-        WriteAsk::Reserve(slot, leaf) => replica_text(alloc, "reserve", *slot, *leaf),
-        WriteAsk::Enter(slot, leaf) => replica_text(alloc, "enter", *slot, *leaf),
-        WriteAsk::RaiseRoot(bucket) => Ok(format!(in alloc; "root {bucket}")?),
-        WriteAsk::RaiseZone(bucket) => Ok(format!(in alloc; "zone {bucket}")?),
-        WriteAsk::Put(slot, leaf) => replica_text(alloc, "put", *slot, *leaf),
-        WriteAsk::Ack => Ok(String::from_str(alloc, "ack")?),
-        WriteAsk::Finished => Ok(String::from_str(alloc, "finished")?),
+        WriteAsk::Lock => put(text, "lock"),
+        WriteAsk::Reserve(slot, leaf) => add_replica(text, "reserve", *slot, *leaf),
+        WriteAsk::Enter(slot, leaf) => add_replica(text, "enter", *slot, *leaf),
+        WriteAsk::RaiseRoot(bucket) => Ok(write!(text, "root {bucket}")?),
+        WriteAsk::RaiseZone(bucket) => Ok(write!(text, "zone {bucket}")?),
+        WriteAsk::Put(slot, leaf) => add_replica(text, "put", *slot, *leaf),
+        WriteAsk::Ack => put(text, "ack"),
+        WriteAsk::Finished => put(text, "finished"),
     }
 }
 
-fn replica_text(alloc: Global, event: &str, slot: Slot, leaf: Leaf) -> Result<String, Trouble> {
-    Ok(format!(in alloc; "{event} {}@{}", slot.0, leaf.0)?)
+fn add_replica(text: &mut String, event: &str, slot: Slot, leaf: Leaf) -> Done {
+    Ok(write!(text, "{event} {}@{}", slot.0, leaf.0)?)
 }
 
 fn told_of(alloc: Global, line: &str) -> Result<WriteTold, Trouble> {
@@ -77,15 +64,19 @@ fn told_of(alloc: Global, line: &str) -> Result<WriteTold, Trouble> {
 fn replicas_of(alloc: Global, words: &str) -> Result<SlotLeaves, Trouble> {
     let mut replicas = SlotLeaves::new(alloc);
     for word in words.split(' ') {
-        let Some((slot, leaf)) = word.split_once('@') else {
-            return Err(Trouble::Misspelled);
-        };
-        replicas.push(SlotLeaf {
-            slot: Slot(number_in(slot)?),
-            leaf: Leaf(number_in(leaf)?),
-        })?;
+        replicas.push(replica_of(word)?)?;
     }
     Ok(replicas)
+}
+
+fn replica_of(word: &str) -> Result<SlotLeaf, Trouble> {
+    let Some((slot, leaf)) = word.split_once('@') else {
+        return Err(Trouble::Misspelled);
+    };
+    Ok(SlotLeaf {
+        slot: Slot(number_in(slot)?),
+        leaf: Leaf(number_in(leaf)?),
+    })
 }
 
 fn buckets_of(alloc: Global, words: &str) -> Result<Buckets, Trouble> {
@@ -99,32 +90,31 @@ fn buckets_of(alloc: Global, words: &str) -> Result<Buckets, Trouble> {
     Ok(buckets)
 }
 
-fn end_text(alloc: Global, end: &WriteEnd) -> Result<String, Trouble> {
+fn add_end(text: &mut String, end: &WriteEnd) -> Done {
     match end {
-        WriteEnd::Old(last) => Ok(format!(in alloc; "old {last}")?),
-        WriteEnd::Full(count) => Ok(format!(in alloc; "full {count}")?),
-        WriteEnd::Unavailable(founds) => founds_text(alloc, founds),
-        WriteEnd::Written(ack) => ack_text(alloc, ack),
+        WriteEnd::Old(last) => Ok(write!(text, "old {last}")?),
+        WriteEnd::Full(count) => Ok(write!(text, "full {count}")?),
+        WriteEnd::Unavailable(founds) => add_founds(text, founds),
+        WriteEnd::Written(ack) => add_ack(text, ack),
     }
 }
 
-fn founds_text(alloc: Global, founds: &Founds) -> Result<String, Trouble> {
-    let mut text = String::from_str(alloc, "unavailable")?;
+fn add_founds(text: &mut String, founds: &Founds) -> Done {
+    put(text, "unavailable")?;
     for found in founds.as_slice() {
-        text.push_str(format!(in alloc; " {}@{}", found.leaf.0, found.cut)?.as_str())?;
+        write!(text, " {}@{}", found.leaf.0, found.cut)?;
     }
-    Ok(text)
+    Ok(())
 }
 
-fn ack_text(alloc: Global, ack: &Ack) -> Result<String, Trouble> {
-    let mut text = String::from_str(alloc, "took")?;
+fn add_ack(text: &mut String, ack: &Ack) -> Done {
+    put(text, "took")?;
     for slot in ack.took.as_slice() {
-        text.push_str(format!(in alloc; " {}", slot.0)?.as_str())?;
+        write!(text, " {}", slot.0)?;
     }
-    text.push_str(", missed")?;
+    put(text, ", missed")?;
     for miss in ack.missed.as_slice() {
-        let cut = miss.cut;
-        text.push_str(format!(in alloc; " {}@{}@{cut}", miss.slot.0, miss.leaf.0)?.as_str())?;
+        write!(text, " {}@{}@{}", miss.slot.0, miss.leaf.0, miss.cut)?;
     }
-    Ok(text)
+    Ok(())
 }

@@ -1,19 +1,19 @@
-use Rattle.std.proofs.Common.{rules, subst, sym}
-use Rattle.mon_value.specs.Alignments.{CanAlign}
+use Rattle.std.proofs.Common.{rules, ◌≤◌, subst, sum_by, sym, IfOk, IsTrue}
+use Rattle.mon_value.specs.Alignments.{CanAddAll, CanAlign, most_aligned, values_of}
 use Rattle.mon_value.specs.Grids.{IsDuration, IsLawful}
+use Rattle.mon_value.specs.Values.{magnitude}
 use Rattle.mon_value.specs.declared.aligners.Aligner.{Aligner}
-use Rattle.cases.proofs.CaseConditions.{delta_aligns}
+use Rattle.mon_value.specs.declared.aligners.Aligner.TheVariants.{Delta}
+use Rattle.cases.proofs.CaseConditions.{both_told, delta_aligns}
 use Rattle.cases.proofs.alignable.can_align.Goals as goal
 
-pub returns-then-is_duration : goal.returns-then-is_duration
-returns-then-is_duration c =
+pub returns-in-Delta : goal.returns-in-Delta
+returns-in-Delta c =
     let grid = c.args.grid.now in
     let points = c.args.points.now in
     let looks : IsDuration c.in-Delta.seconds = search rules in
     let lawful : IsLawful grid = search rules in record {
-      can = λ holds.
-          let alike = c.can_add.ensures.alike holds in
-          let small = c.can_add.ensures.small holds in
-          subst (λ (by : Aligner). CanAlign by grid points) (sym c.in-Delta.is)
-          (delta_aligns c.in-Delta.seconds grid points looks lawful alike small);
+      can = subst (λ (by : Aligner). IfOk c.can_add.result (λ can. IsTrue can → CanAlign by grid points)) (sym c.in-Delta.is)
+          (both_told (CanAddAll (values_of points)) (sum_by magnitude (values_of points) ≤ most_aligned) (CanAlign (Delta c.in-Delta.seconds) grid points)
+          c.can_add.result c.can_add.ensures.alike c.can_add.ensures.small (delta_aligns c.in-Delta.seconds grid points looks lawful));
     }
