@@ -56,15 +56,21 @@ def made_values():
         yield state // 2**33 % 1000
 
 
-def write_input(folder):
-    (folder / "config.json").write_text(json.dumps(CONFIG))
+def write_points(folder, times=1):
+    """The files of points, with so many times the series and the points."""
     values = made_values()
+    tasks = TASKS * times
     for number in range(FILES):
         with open(folder / f"p{number}.csv", "w", encoding="utf-8") as out:
-            for row in range(ROWS):
-                task = row % TASKS
-                end = 10 * (row // TASKS + 1)
+            for row in range(ROWS * times):
+                task = row % tasks
+                end = 10 * (row // tasks + 1)
                 out.write(f"Task,/work,{end - 10},{end},{next(values)},u{number},job{task % 10},c{task % 4},{task}\n")
+
+
+def write_input(folder):
+    (folder / "config.json").write_text(json.dumps(CONFIG))
+    write_points(folder)
     for count in (FILES // 2, FILES):
         lines = [f"feed p{number}.csv\n" for number in range(count)]
         (folder / f"script{count}.txt").write_text("".join(lines) + "query 1000 fetch Task::/work\n")
