@@ -1,6 +1,7 @@
 -- How far histories were seen: what of a seat's histories is known at run time.
-use Rattle.std.specs.Prelude.{◌≡◌, ℕ, nat_lt, List, [], ◌∷◌, length, map, replicate, slice_get, None, if◌then◌else◌}
+use Rattle.std.specs.Prelude.{◌≡◌, ℕ, List, length, map, replicate, slice_get, None}
 use Rattle.mon_value.specs.declared.histories.RangeEntry.{RangeEntry}
+use Rattle.mon_topo.specs.Farther.{farther_each}
 use Rattle.mon_topo.specs.RangeHistories.{serving}
 use Rattle.history_book.specs.declared.views.Histories.{Histories}
 use Rattle.know.specs.declared.reaches.RangeReach.{RangeReach}
@@ -26,16 +27,6 @@ no_reach leaves ranges = record { leaves = replicate leaves 0; ranges = replicat
 -- both are of the same leaves and ranges
 abbrev pub AreAlike : Reach → Reach → Type 0
 AreAlike a b = (length a.leaves ≡ length b.leaves) × (length a.ranges ≡ length b.ranges)
-
--- of two the farther one, by how far each of them is
-abbrev pub farther : {X : Type 0} → (X → ℕ) → X → X → X
-farther far a b = if nat_lt (far a) (far b) then b else a
-
--- place by place
-abbrev pub farther_each : {X : Type 0} → (X → ℕ) → List X → List X → List X
-farther_each far [] others = others
-farther_each far (x ∷ xs) [] = x ∷ xs
-farther_each far (x ∷ xs) (other ∷ others) = farther far x other ∷ farther_each far xs others
 
 -- of each history how far either was seen
 abbrev pub joined_reach : Reach → Reach → Reach

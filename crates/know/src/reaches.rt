@@ -1,7 +1,9 @@
 // How far histories were seen.
 ghost use Rattle.std.specs.Prelude.{◌≡◌, length, IfOk};
-ghost use Rattle.know.specs.Reaches.{AreAlike, farther_each, joined_reach, no_reach};
+ghost use Rattle.mon_topo.specs.Farther.{farther_each};
+ghost use Rattle.know.specs.Reaches.{AreAlike, joined_reach, no_reach};
 
+use mon_topo::join_lengths;
 use mon_value::{ListOf, OutOfMemory, SlotLeaf, TryCopy};
 use std::alloc::{AllocError, Global};
 
@@ -50,18 +52,6 @@ impl TryCopy for Reach {
             leaves: ListOf::from_vec(self.leaves.as_slice().to_vec(alloc)?),
             ranges: ListOf::from_vec(self.ranges.as_slice().to_vec(alloc)?),
         })
-    }
-}
-
-// Puts the greater one of two lengths in each place.
-fn join_lengths(mine: &mut [u64], theirs: &[u64])
-    requires alike { length mine.old ≡ length theirs.now }
-    ensures joined { mine.new ≡ farther_each (λ length. length) mine.old theirs.now }
-{
-    for (i, other) in theirs.iter().enumerate() {
-        if mine[i] < *other {
-            mine[i] = *other;
-        }
     }
 }
 

@@ -1,4 +1,5 @@
 pub mod Bounds
+pub mod Farther
 pub mod FaultTexts
 pub mod Faults
 pub mod HeldHistories

@@ -5,6 +5,7 @@
 mod bounds;
 mod faults;
 mod laws;
+mod lengths;
 mod limits;
 mod lists;
 mod locations;
@@ -20,6 +21,7 @@ mod zones;
 
 pub use faults::{TopoFault, TopoKind};
 pub use laws::{ranges_have_replicas, targets_have_one_range};
+pub use lengths::join_lengths;
 pub use limits::{
     MOST_LEAVES, MOST_LEAVES_OF_ZONE, MOST_RANGES, MOST_REPLICAS, MOST_SLOTS, MOST_ZONES,
 };

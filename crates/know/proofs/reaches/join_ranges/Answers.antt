@@ -1,5 +1,5 @@
 use Rattle.std.proofs.Common.{sym}
-use Rattle.know.proofs.ReachLemmas.{farther_each-nil, place_kept, place_taken}
+use Rattle.mon_topo.proofs.FartherLemmas.{farther_each-nil, place_kept, place_taken}
 use Rattle.know.proofs.reaches.join_ranges.Goals as goal
 use Rattle.know.proofs.reaches.join_ranges.Goals.{else-mine-i, then-mine-i}
 

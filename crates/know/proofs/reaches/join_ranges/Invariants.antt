@@ -1,6 +1,6 @@
 -- the places so far are joined
 use Rattle.std.proofs.Common.{◌≡◌, take}
-use Rattle.know.specs.Reaches.{farther_each}
+use Rattle.mon_topo.specs.Farther.{farther_each}
 use Rattle.know.proofs.reaches.join_ranges.Given as goal
 
 abbrev pub invariant-loop-i : goal.invariant-loop-i

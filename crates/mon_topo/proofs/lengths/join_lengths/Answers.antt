@@ -1,7 +1,7 @@
 use Rattle.std.proofs.Common.{sym}
-use Rattle.know.proofs.ReachLemmas.{farther_each-nil, place_kept, place_taken}
-use Rattle.know.proofs.reaches.join_lengths.Goals as goal
-use Rattle.know.proofs.reaches.join_lengths.Goals.{else-mine-i, then-mine-i}
+use Rattle.mon_topo.proofs.FartherLemmas.{farther_each-nil, place_kept, place_taken}
+use Rattle.mon_topo.proofs.lengths.join_lengths.Goals as goal
+use Rattle.mon_topo.proofs.lengths.join_lengths.Goals.{else-mine-i, then-mine-i}
 
 pub loop-i-init : goal.loop-i-init
 loop-i-init c = sym (farther_each-nil (λ length. length) c.args.mine.now)

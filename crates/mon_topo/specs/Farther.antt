@@ -1,0 +1,12 @@
+-- Of two lists of how far something is, place by place, the farther one.
+use Rattle.std.specs.Prelude.{ℕ, nat_lt, List, [], ◌∷◌, if◌then◌else◌}
+
+-- of two the farther one, by how far each of them is
+abbrev pub farther : {X : Type 0} → (X → ℕ) → X → X → X
+farther far a b = if nat_lt (far a) (far b) then b else a
+
+-- place by place
+abbrev pub farther_each : {X : Type 0} → (X → ℕ) → List X → List X → List X
+farther_each far [] others = others
+farther_each far (x ∷ xs) [] = x ∷ xs
+farther_each far (x ∷ xs) (other ∷ others) = farther far x other ∷ farther_each far xs others
