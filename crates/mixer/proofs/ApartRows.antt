@@ -10,9 +10,9 @@ use Rattle.mon_value.specs.Alignments.{aligned_values}
 use Rattle.mon_value.specs.Groups.{group_key, group_row, group_rows, rows_by_group}
 use Rattle.mon_value.specs.Joins.{is_pair, pair_of, pairs_of}
 use Rattle.mon_value.specs.Keyed.{items_by_key}
-use Rattle.mon_value.specs.Same.{same_row, same_series}
+use Rattle.mon_value.specs.Same.{same_row}
 use Rattle.mon_value.specs.SeriesRows.{row_of}
-use Rattle.mon_value.specs.Sources.{key_of_row, points_by_series, points_of, rows_of, series_of}
+use Rattle.mon_value.specs.Sources.{points_by_series}
 use Rattle.mon_value.specs.declared.aggregates.Aggregate.{Aggregate}
 use Rattle.mon_value.specs.declared.aligners.Aligner.{Aligner}
 use Rattle.mon_value.specs.declared.columns.Anchor.{Anchor}
@@ -24,13 +24,14 @@ use Rattle.mon_value.specs.declared.rows.Row.{Row}
 use Rattle.mon_value.specs.declared.rows.SeriesKey.{SeriesKey}
 use Rattle.mon_value.specs.declared.tables.TimedRow.{TimedRow}
 use Rattle.mon_value.specs.declared.values.Value.{Value}
-use Rattle.mon_value.proofs.SameLemmas.{same_row-Decides, same_series-Decides}
+use Rattle.mon_value.proofs.SameLemmas.{same_row-Decides}
 use Rattle.mon_schema.specs.SchemaLists.{SchemaLists}
 use Rattle.mql_types.specs.Branches.{common_columns}
 use Rattle.mql_types.specs.Groupings.{key_columns_at}
 use Rattle.mql_types.specs.Levels.{is_location_anchor, same_anchor}
 use Rattle.mql_types.specs.Meaning.{aligned_rows}
-use Rattle.mixer.proofs.ApartKeys.{items_by_key-apart}
+use Rattle.mon_meaning.proofs.ApartKeys.{items_by_key-apart}
+use Rattle.mon_meaning.proofs.ApartSeries.{series-apart}
 use Rattle.mixer.proofs.HeldCells.{Stems, Tell}
 use Rattle.mixer.proofs.PairHomes as pair_homes
 use Rattle.mixer.proofs.StemmingRows.{AllStem, keys_stem, pair_agrees}
@@ -40,37 +41,14 @@ use Rattle.mixer.proofs.StemmingRows.{AllStem, keys_stem, pair_agrees}
 abbrev SeriesGroup : Type 0
 SeriesGroup = SeriesKey × List Point
 
-abbrev points_in : SeriesKey × List Row → SeriesGroup
-points_in group = (group.0, map (λ (row : Row). row.point) group.1)
-
-points_grouped : (rows : List Row) (keys : List SeriesKey)
-    → map (λ key. (key, points_of key rows)) keys ≡ map points_in (map (λ key. (key, rows_of key rows)) keys)
-points_grouped rows [] = refl
-points_grouped rows (key ∷ keys) =
-    ap (λ (more : List SeriesGroup). (key, points_of key rows) ∷ more) (points_grouped rows keys)
-
-by_rows : (rows : List Row) → points_by_series rows ≡ map points_in (items_by_key same_series key_of_row rows)
-by_rows rows = points_grouped rows (series_of rows)
-
 module _ (P Q : SeriesKey → Type 0) (apart : (key : SeriesKey) → P key → Q key → ⊥) where
-  pub series-apart : (xs ys : List Row) → AllByRecursion (λ (row : Row). P row.key) xs
-      → AllByRecursion (λ (row : Row). Q row.key) ys
-      → points_by_series (xs ++ ys) ≡ points_by_series xs ++ points_by_series ys
-  series-apart xs ys p q =
-      let left = by_rows xs in
-      let right = by_rows ys in
-      by_rows (xs ++ ys)
-      ∙ ap (map points_in) (items_by_key-apart same_series same_series-Decides key_of_row P Q apart xs ys p q)
-      ∙ map-append points_in (items_by_key same_series key_of_row xs) (items_by_key same_series key_of_row ys)
-      ∙ (λ i. sym left i ++ sym right i)
-
   -- series that stand on one side alone are aligned there
   pub aligned-apart : (by : Aligner) (grid : Grid) (xs ys : List Row) → AllByRecursion (λ (row : Row). P row.key) xs
       → AllByRecursion (λ (row : Row). Q row.key) ys
       → aligned_rows by grid (xs ++ ys) ≡ aligned_rows by grid xs ++ aligned_rows by grid ys
   aligned-apart by grid xs ys p q =
       let made : SeriesGroup → List TimedRow = λ series. map (row_of series.0) (aligned_values by grid series.1) in
-      ap (flat_map made) (series-apart xs ys p q) ∙ flat_map-append made (points_by_series xs) (points_by_series ys)
+      ap (flat_map made) (series-apart P Q apart xs ys p q) ∙ flat_map-append made (points_by_series xs) (points_by_series ys)
 
 -- ---- pairs of which some rows have none
 

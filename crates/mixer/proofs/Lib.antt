@@ -1,5 +1,4 @@
 pub mod AnchorLemmas
-pub mod ApartKeys
 pub mod ApartLoads
 pub mod ApartPieces
 pub mod ApartRows

@@ -24,7 +24,7 @@ use Rattle.mql_types.specs.Meaning.{key_cells, value_row}
 use Rattle.mql_types.proofs.JoinedRows.{all-flat_map, all-made, all-map}
 use Rattle.mql_types.proofs.KeptRows.{all-append}
 use Rattle.mql_types.proofs.MadeCells.{all-filter_map, same_item}
-use Rattle.mixer.proofs.ApartKeys.{all_keys}
+use Rattle.mon_meaning.proofs.ApartKeys.{all_keys}
 use Rattle.mixer.proofs.HeldCells as held_cells
 use Rattle.mixer.proofs.HeldCells.{HasNoAnchor, Holds, Stems, Tell}
 use Rattle.mixer.proofs.PairHomes as pair_homes

@@ -47,7 +47,7 @@ use Rattle.mql_types.proofs.FetchedTrees.{AllFit, ArePoints, columns_fetched_are
 use Rattle.mql_types.proofs.JoinedRows.{all-both, all-flat_map, all-made, all-map}
 use Rattle.mql_types.proofs.KeptRows.{all-filter}
 use Rattle.mql_types.proofs.TypedTrees.{AlignOf, AreRows, GroupOf, ValueOf}
-use Rattle.mixer.proofs.ApartKeys.{all_keys}
+use Rattle.mon_meaning.proofs.ApartKeys.{all_keys}
 use Rattle.mixer.proofs.HeldCells as held_cells
 use Rattle.mixer.proofs.HeldCells.{Holds, SaysIf, Stems}
 use Rattle.mixer.proofs.LocalTrees.{IsLocal, MakesWhole}

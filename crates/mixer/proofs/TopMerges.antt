@@ -19,7 +19,7 @@ use Rattle.mql_types.proofs.KeptRows.{all-sorted, all-take}
 use Rattle.mon_meaning.proofs.FilterLemmas.{flat_map-agree}
 use Rattle.mon_meaning.proofs.KeyOrders as orders
 use Rattle.mon_meaning.proofs.OperationOrders.{rank_exact, rank_total, top_rows-permutation}
-use Rattle.mixer.proofs.ApartKeys.{all_keys}
+use Rattle.mon_meaning.proofs.ApartKeys.{all_keys}
 use Rattle.mixer.proofs.TopParts.{block_keys, firsts_append, no_block, one_block}
 use Rattle.mixer.proofs.TypedRows.{each_has_rows}
 

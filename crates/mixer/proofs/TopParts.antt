@@ -13,7 +13,7 @@ use Rattle.mon_value.specs.Order.{TellsApart}
 use Rattle.mon_value.specs.Sorting.{sorted_list, sorted_list_with}
 use Rattle.mon_value.proofs.KeyedLemmas as keyed
 use Rattle.mon_value.proofs.SortingLemmas.{InOrder, sorted_list-InOrder, sorted_list-alike, sorted_list-in_order}
-use Rattle.mixer.proofs.ApartKeys.{all_keys}
+use Rattle.mon_meaning.proofs.ApartKeys.{all_keys}
 use Rattle.mon_meaning.proofs.KeyOrders as orders
 
 take_twice : {A : Type 0} (n : ℕ) (xs : List A) → take n (take n xs) ≡ take n xs

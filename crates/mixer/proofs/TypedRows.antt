@@ -37,7 +37,7 @@ use Rattle.mql_types.proofs.JoinedRows.{FitColumns-append, all-map}
 use Rattle.mql_types.proofs.KeptRows.{all-filter}
 use Rattle.mql_types.proofs.MadeCells.{kept_shaped, nothing_is, same_item}
 use Rattle.mql_types.proofs.SumBounds.{AreLawful, no_faults, none_where}
-use Rattle.mixer.proofs.ApartKeys.{all_keys}
+use Rattle.mon_meaning.proofs.ApartKeys.{all_keys}
 use Rattle.mixer.proofs.TypedCells.{AreTyped, TypedCell, alone_typed, aggregate_typed, cells_typed, cons_typed}
 use Rattle.mixer.proofs.TypedCells.{count_typed, keys_typed, sum_typed}
 

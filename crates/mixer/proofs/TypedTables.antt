@@ -56,7 +56,7 @@ use Rattle.mql_types.proofs.KeptRows.{all-append, all-filter, all-sorted, all-ta
 use Rattle.mql_types.proofs.MadeCells.{all-filter_map, kept_shaped, length_fit}
 use Rattle.mql_types.proofs.SumBounds.{AreLawful}
 use Rattle.mql_types.proofs.TypedTrees.{AlignOf, AreRows, GroupOf, ValueOf, lawful_columns}
-use Rattle.mixer.proofs.ApartKeys.{all_keys}
+use Rattle.mon_meaning.proofs.ApartKeys.{all_keys}
 use Rattle.mixer.proofs.LocalTrees.{MakesWhole}
 use Rattle.mixer.proofs.StemmingRows.{AreWhole}
 use Rattle.mixer.proofs.TypedCells.{AreTyped}

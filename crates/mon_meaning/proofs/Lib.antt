@@ -9,6 +9,7 @@ mod KeptLemmas
 mod KeyCells
 pub mod KeyOrders
 mod MapGroups
+pub mod MeaningOrderLemmas
 mod MetricSeries
 mod OperationLemmas
 pub mod OperationOrders
@@ -17,6 +18,7 @@ mod PartsToComeLemmas
 pub mod PathLemmas
 mod ReachLemmas
 mod ReadyLemmas
+pub mod SeriesOrderLemmas
 mod SeriesOrders
 pub mod StandingPieces
 mod TopLemmas

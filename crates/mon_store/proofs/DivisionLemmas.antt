@@ -37,9 +37,9 @@ use Rattle.mon_store.specs.within.Leaves.{first_slot, first_slots, is_at, leaf_o
 use Rattle.mon_store.proofs.DivisionPoints.{points_divided}
 use Rattle.mon_store.proofs.LeafRowLemmas.{LiesOn, lie_on, no_targets}
 use Rattle.mon_store.proofs.ListedLemmas.{all_append, all_flat, all_listed, all_weaker, apart_listed, map_listed}
-use Rattle.mon_store.proofs.MeaningOrderLemmas.{answer_in_order}
-use Rattle.mon_store.proofs.PlacedRangeLemmas.{is_placed, range_known}
-use Rattle.mon_store.proofs.SeriesOrderLemmas.{series_in_order}
+use Rattle.mon_meaning.proofs.MeaningOrderLemmas.{answer_in_order}
+use Rattle.mon_topo.proofs.PlacedRangeLemmas.{is_placed, range_known}
+use Rattle.mon_meaning.proofs.SeriesOrderLemmas.{series_in_order}
 use Rattle.mon_store.proofs.StoreLemmas.{AllHave}
 
 -- ---- what holds of each row holds of those that are divided
@@ -122,8 +122,8 @@ module _ (config : Config) (has : AllHave config.topology) (z i : ℕ) (there : 
   on_leaf range None at first here = absurd cc
   on_leaf range (Some leaf) at first here =
       let zones = config.topology in
-      let placed = is_placed config row.key.target range at in
-      let replicas : HasReplicas zones range = has range.0 (range_known config row.key.target range at) in
+      let placed = is_placed config.schemas config.topology row.key.target range at in
+      let replicas : HasReplicas zones range = has range.0 (range_known config.schemas config.topology row.key.target range at) in
       let zoned : IsInZoneOf zones range leaf =
       all_at (IsInZoneOf zones range) (first_replicas zones range.0) 0 leaf first replicas.zoned in
       let number : 0 + z ≡ z = omega arith in

@@ -25,7 +25,7 @@ use Rattle.mon_store.specs.Stores.{range_rows}
 use Rattle.mon_store.specs.within.Leaves.{first_slot, first_slots, is_at, leaf_of}
 use Rattle.mon_store.proofs.LeafRowLemmas.{first_replica, is_in}
 use Rattle.mon_store.proofs.OpenLemmas.{replica_there}
-use Rattle.mon_store.proofs.PlacedRangeLemmas.{range_known}
+use Rattle.mon_topo.proofs.PlacedRangeLemmas.{range_known}
 use Rattle.mon_store.proofs.RangeRowLemmas.{points_of-ranged}
 use Rattle.mon_store.proofs.StoreLemmas.{AllHave}
 
@@ -200,7 +200,7 @@ module _ (config : Config) (has : AllHave config.topology) (rows : List Row) (ke
       → cond (is_range_below (length (ranges_in zones)) o && is_at n (leaf_for o)) points [] ≡ cond (is_at n (leaf_for o)) points []
   known_by n None is = refl
   known_by n (Some range) is =
-      let within : range.0 < length (ranges_in zones) = range_known config key.target range is in
+      let within : range.0 < length (ranges_in zones) = range_known config.schemas config.topology key.target range is in
       let below : nat_lt range.0 (length (ranges_in zones)) ≡ true = grind (arith, nat_tests) in
       ap (λ b. cond (b && is_at n (leaf_of zones range first_slot)) points []) below
 
@@ -271,7 +271,7 @@ module _ (config : Config) (has : AllHave config.topology) (rows : List Row) (ke
       → cond (is_below (length (leaves_in zones)) (leaf_for o)) points [] ≡ points
   whole_by None is placed = sym (no_points rows is placed)
   whole_by (Some range) is placed =
-      let within : range.0 < length (ranges_in zones) = range_known config key.target range is in
+      let within : range.0 < length (ranges_in zones) = range_known config.schemas config.topology key.target range is in
       let replicas : HasReplicas zones range = has range.0 within in
       let first = first_there (first_replicas zones range.0) replicas.some in
       let there : first.0.0 < length (leaves_in zones) = replica_there zones range 0 first.0 replicas first.1 in

@@ -5,7 +5,6 @@ mod KeepLemmas
 mod LeafRowLemmas
 mod ListedLemmas
 mod OpenLemmas
-mod PlacedRangeLemmas
 mod PutLemmas
 mod RangeRowLemmas
 mod SettleLemmas
@@ -13,5 +12,3 @@ mod StoreLemmas
 mod TableLemmas
 mod TakeLemmas
 mod TurnLemmas
-mod MeaningOrderLemmas
-mod SeriesOrderLemmas
