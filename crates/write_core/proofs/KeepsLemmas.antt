@@ -24,7 +24,7 @@ use Rattle.write_core.specs.Program.{Acking, Ended, Entering, Inside, Locking, M
 use Rattle.write_core.specs.Rounds.{Round, marks_of}
 use Rattle.mon_topo.specs.Settings.{Setting}
 use Rattle.write_core.specs.Views.{IsWithin, View, of_leaf, of_range}
-use Rattle.write_core.specs.World.{Actor, IsPart, Recovers, Recovery, World, Writer, Writes, changed, gone_on, pass_of, put_of}
+use Rattle.write_core.specs.World.{Actor, IsPart, Recovers, Recovery, Stands, World, Writer, Writes, changed, gone_on, pass_of, put_of}
 use Rattle.write_core.specs.declared.marks.Fate.{Fate}
 use Rattle.write_core.specs.declared.marks.Fate.TheVariants as fate
 use Rattle.write_core.specs.declared.marks.Mark.{Mark}
@@ -350,3 +350,7 @@ pub actor_stays : (setting : Setting) (before after : World) (i : ℕ) (actor : 
 actor_stays setting before after i (Writes writer) keeps h = writer_stays setting before after i writer keeps h
 actor_stays setting before after i (Recovers recovery) keeps h =
     recovery_stays setting before after i recovery keeps h
+actor_stays setting before after i (Stands stander) keeps h = record {
+  part = part_moves setting before after stander.view keeps.grows h.part;
+  unused = record { puts = λ l. keeps.puts l ∙ h.unused.puts l; acks = λ r. keeps.acks r ∙ h.unused.acks r };
+}

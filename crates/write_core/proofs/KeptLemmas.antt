@@ -8,11 +8,11 @@ use Rattle.write_core.specs.Marks.{ack_of, some_took}
 use Rattle.write_core.specs.Program.{Acking, Ended, Entering, Inside, Locking, Marked, Not, Reserving, Stage, Verdict, after}
 use Rattle.write_core.specs.Steps.{CanComeAt, CanEnter, CanGo, CanReserve, IsToldByRange, acknowledged, entered, gone_on_inside, reserved, step_at, stepped, unchanged}
 use Rattle.write_core.specs.CopySteps.{CanRecover, recovered}
-use Rattle.write_core.specs.Events.{CanHappen, CanRun, Copies, Event, Goes, Learns, Resolves, Switches, Visits, happened, run}
+use Rattle.write_core.specs.Events.{Begins, CanHappen, CanRun, Copies, Event, Goes, Learns, Resolves, Switches, Visits, happened, run}
 use Rattle.write_core.specs.Recovering.{CopyStage, CopyTold, Over}
 use Rattle.mon_topo.specs.Settings.{Setting}
 use Rattle.write_core.specs.Views.{View, of_leaf, of_range, joined}
-use Rattle.write_core.specs.World.{Actor, IsPart, Recovers, Recovery, World, Writer, Writes, at_range, writes_on}
+use Rattle.write_core.specs.World.{Actor, IsPart, Recovers, Recovery, Stands, World, Writer, Writes, at_range, writes_on}
 use Rattle.write_core.specs.declared.asks.WriteTold.{WriteTold}
 use Rattle.write_core.specs.declared.asks.WriteTold.TheVariants as told
 use Rattle.write_core.specs.declared.marks.Mark.{Mark}
@@ -21,7 +21,7 @@ use Rattle.write_core.proofs.InsideLemmas.{put_row, raise_root, raise_zone}
 use Rattle.write_core.proofs.LeafEventLemmas.{enter_down, enter_up, reserve_down, reserve_up}
 use Rattle.write_core.proofs.RangeEventLemmas.{ack_marked, ack_refused, lock_refused, lock_slots}
 use Rattle.mon_topo.proofs.RangeHistoryLemmas.{get_there}
-use Rattle.write_core.proofs.SwitchLemmas.{learn_kept, resolve_kept, switch_kept, visit_kept}
+use Rattle.write_core.proofs.SwitchLemmas.{begin_kept, learn_kept, resolve_kept, switch_kept, visit_kept}
 use Rattle.write_core.proofs.ViewLemmas.{joined_sound, joined_within, within_itself}
 use Rattle.write_core.proofs.KeepsLemmas.{part_moves}
 use Rattle.write_core.proofs.StepLemmas.{IsStep, recovery_of, writer_of}
@@ -107,6 +107,7 @@ step_kept setting world i (Writes who) is kept answer can =
     let own = writer_of setting world i who kept is in
     stage_kept setting world i who is kept who.stage answer own.at own.deeds can
 step_kept setting world i (Recovers who) is kept answer can = absurd can
+step_kept setting world i (Stands stander) is kept answer can = absurd can
 
 -- and whichever recovery does
 copy_kept : (setting : Setting) (world : World) (i : ℕ) (actor : Actor) → world.actors i ≡ actor → IsKept setting world
@@ -114,6 +115,7 @@ copy_kept : (setting : Setting) (world : World) (i : ℕ) (actor : Actor) → wo
 copy_kept setting world i (Writes who) is kept told can = absurd can
 copy_kept setting world i (Recovers who) is kept told can =
     recovery_kept setting world i who is kept who.stage told (recovery_of setting world i who kept is).at can
+copy_kept setting world i (Stands stander) is kept told can = absurd can
 
 happened_kept : (setting : Setting) (world : World) (event : Event) → CanHappen setting world event
     → IsKept setting world → IsStep setting world (happened setting world event)
@@ -122,6 +124,7 @@ happened_kept setting world (Goes i answer) can kept =
 happened_kept setting world (Copies i told) can kept = copy_kept setting world i (world.actors i) refl kept told can
 happened_kept setting world (Switches leaf entry view) can kept = switch_kept setting world kept leaf entry view can
 happened_kept setting world (Learns i view) can kept = learn_kept setting world kept i view can.1 can.0
+happened_kept setting world (Begins i row range) can kept = begin_kept setting world kept i row range can
 happened_kept setting world (Visits leaf view) can kept = visit_kept setting world kept leaf view can.1
 happened_kept setting world (Resolves range view) can kept = resolve_kept setting world kept range view can.1
 
@@ -178,6 +181,10 @@ new_kept setting world new =
       part = subst (λ (view : View). IsPart setting world view) (sym h.view) all;
       aimed = h.aimed;
       at = subst (λ (stage : CopyStage). IsCopyAt setting world i recovery stage) (sym h.stage) tt;
+    }
+    new_actor i (Stands stander) h = record {
+      part = subst (λ (view : View). IsPart setting world view) (sym h.view) all;
+      unused = h.unused;
     }
 
 module _ (setting : Setting) (world : World) (i : ℕ) (writer : Writer) (kept : IsKept setting world)

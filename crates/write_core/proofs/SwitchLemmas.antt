@@ -8,18 +8,19 @@ use Rattle.mon_value.specs.declared.positions.Leaf.{Leaf}
 use Rattle.mon_value.specs.declared.positions.Range.{Range}
 use Rattle.mon_value.specs.declared.positions.Slot.{Slot}
 use Rattle.mon_value.specs.declared.positions.Zone.{Zone}
+use Rattle.mon_value.specs.declared.rows.Row.{Row}
 use Rattle.mon_topo.specs.HeldHistories.{AreAtHome}
 use Rattle.mon_topo.proofs.HeldLemmas.{leaf_entry_by, leaf_entry_other, leaf_entry_same}
 use Rattle.mon_topo.specs.Zones.{leaf_numbered, range_numbered}
 use Rattle.mon_hints.specs.Covers.{Bits, Covers}
 use Rattle.mon_hints.specs.HistoryBuckets.{history_buckets}
-use Rattle.write_core.specs.Invariant.{IsActor, IsAt, IsCopyAt, IsKept}
+use Rattle.write_core.specs.Invariant.{IsActor, IsAt, IsCopyAt, IsKept, IsWriter}
 use Rattle.write_core.specs.Recovering.{CopyStage}
 use Rattle.write_core.specs.Program.{Stage}
-use Rattle.write_core.specs.Events.{CanSwitch, HasNotBegun, learned, resolved, switched, visited}
+use Rattle.write_core.specs.Events.{CanBegin, CanSwitch, HasNotBegun, begun, learned, new_writer, resolved, switched, visited}
 use Rattle.mon_topo.specs.Settings.{Setting, zone_of_leaf}
 use Rattle.write_core.specs.Views.{IsSound, IsWithin, View, joined, of_leaf, of_range, with_entry}
-use Rattle.write_core.specs.World.{Actor, IsPart, Recovers, World, Writes, copied_on, gone_on, pass_of, wiser}
+use Rattle.write_core.specs.World.{Actor, IsPart, Recovers, Stands, World, Writes, copied_on, gone_on, pass_of, wiser}
 use Rattle.write_core.proofs.ChangeLemmas.{entry_sound, entry_up, entry_within}
 use Rattle.write_core.proofs.DeedLemmas.{puts_stay, switch_is_no_put}
 use Rattle.write_core.proofs.KeepsLemmas.{Keeps, actor_stays, apart_stay, changed_by, opened_with, part_moves, settled_moves}
@@ -181,6 +182,7 @@ module _ (setting : Setting) (world : World) (kept : IsKept setting world) where
     wiser_pass : (actor : Actor) → pass_of (wiser actor view) ≡ pass_of actor
     wiser_pass (Writes writer) = refl
     wiser_pass (Recovers recovery) = refl
+    wiser_pass (Stands stander) = refl
 
     wiser_kept : (actor : Actor) → HasNotBegun actor → IsActor setting world i actor
         → IsActor setting after i (wiser actor view)
@@ -197,6 +199,10 @@ module _ (setting : Setting) (world : World) (kept : IsKept setting world) where
       at = subst (λ (stage : CopyStage). IsCopyAt setting after i
           (copied_on recovery recovery.stage (joined recovery.view view)) stage) (sym beginning) tt;
     }
+    wiser_kept (Stands stander) before h = record {
+      part = both stander.view h.part;
+      unused = record { puts = h.unused.puts; acks = h.unused.acks };
+    }
 
     -- an actor that has not begun may learn what someone has seen
     pub learn_kept : HasNotBegun (world.actors i) → IsStep setting world after
@@ -212,6 +218,54 @@ module _ (setting : Setting) (world : World) (kept : IsKept setting world) where
             (wiser_kept (world.actors i) before (kept.actors i))
             (λ j apart. actor_stays setting world after j (world.actors j) (keeps_wiser j) (kept.actors j));
         passes = apart_stay world.actors i (wiser (world.actors i) view) (wiser_pass (world.actors i)) kept.passes;
+      };
+      grows = within_itself world.truth;
+    }
+
+  -- ---- writes that begin
+
+  module _ (i : ℕ) (row : Row) (range : Range) where
+    abbrev with_writer : World
+    with_writer = begun world i row range
+
+    stays_part : (x : View) → IsPart setting world x → IsPart setting with_writer x
+    stays_part x h = record { sound = h.sound; within = h.within }
+
+    keeps_begun : (j : ℕ) → Keeps world with_writer j (pass_of (world.actors j))
+    keeps_begun j = record {
+      grows = within_itself world.truth;
+      count = refl;
+      ranges = λ r held. record { holder = held; history = refl; rows = λ s o. refl; opened = λ s o. refl };
+      leaves = λ o held. record { holder = held; history = refl };
+      puts = λ l. refl;
+      acks = λ r. refl;
+    }
+
+    begins_kept : (actor : Actor) → CanBegin setting world row range actor → IsActor setting world i actor
+        → IsWriter setting with_writer i (new_writer row range actor)
+    begins_kept (Writes writer) can h = absurd can
+    begins_kept (Recovers recovery) can h = absurd can
+    begins_kept (Stands stander) can h = record {
+      part = stays_part stander.view h.part;
+      lawful = record { at_home = can.0; there = can.1 };
+      at = tt;
+      deeds = record { puts = h.unused.puts; acks = h.unused.acks };
+    }
+
+    -- someone who stands by begins a write
+    pub begin_kept : CanBegin setting world row range (world.actors i) → IsStep setting world with_writer
+    begin_kept can = record {
+      kept = record {
+        truth = kept.truth;
+        leaves = λ l. stays_part (world.leaves l.0) (kept.leaves l);
+        ranges = λ r. stays_part (world.ranges r.0) (kept.ranges r);
+        whole_leaves = kept.whole_leaves;
+        whole_ranges = kept.whole_ranges;
+        settled = kept.settled;
+        actors = changed_by world.actors i (Writes (new_writer row range (world.actors i)))
+            (λ j actor. IsActor setting with_writer j actor) (begins_kept (world.actors i) can (kept.actors i))
+            (λ j apart. actor_stays setting world with_writer j (world.actors j) (keeps_begun j) (kept.actors j));
+        passes = apart_stay world.actors i (Writes (new_writer row range (world.actors i))) refl kept.passes;
       };
       grows = within_itself world.truth;
     }

@@ -15,7 +15,7 @@ use Rattle.mon_hints.specs.HistoryBuckets.{rows_buckets}
 use Rattle.write_core.specs.Recovering.{Admits, Beginning, Carrying, CopyStage, CopyTold, Copying, Denied, Gives, HasRoom, Nearing, Over, Sources, Telling, WasDone, WasDown, Within, copying}
 use Rattle.write_core.specs.Steps.{AreUnraised, unchanged}
 use Rattle.write_core.specs.Views.{View, of_leaf, of_range, with_entry, with_range_entry, with_root_bit, with_zone_bit}
-use Rattle.write_core.specs.World.{Actor, Recovers, Recovery, World, Writes, at_leaf, at_range, recovers_on}
+use Rattle.write_core.specs.World.{Actor, Recovers, Recovery, Stands, World, Writes, at_leaf, at_range, recovers_on}
 
 -- ---- what is opened
 
@@ -88,6 +88,7 @@ CanCopyAt setting world recovery (Over is_open) told = ⊥
 abbrev pub CanRecover : Setting → World → Actor → CopyTold → Type 0
 CanRecover setting world (Writes writer) told = ⊥
 CanRecover setting world (Recovers recovery) told = CanCopyAt setting world recovery recovery.stage told
+CanRecover setting world (Stands stander) told = ⊥
 
 -- the next event of a recovery can come, with this answer
 abbrev pub CanCopy : Setting → World → ℕ → CopyTold → Type 0
@@ -147,6 +148,7 @@ copy_at setting world i who (Over is_open) told = world
 abbrev pub recovered : Setting → World → ℕ → Actor → CopyTold → World
 recovered setting world i (Writes writer) told = world
 recovered setting world i (Recovers recovery) told = copy_at setting world i recovery recovery.stage told
+recovered setting world i (Stands stander) told = world
 
 -- the next event of a recovery, with this answer
 abbrev pub copy_step : Setting → World → ℕ → CopyTold → World

@@ -4,13 +4,15 @@ use Rattle.mon_value.specs.LeafHistories.{MayFollow, is_switch}
 use Rattle.mon_value.specs.declared.histories.Entry.{Entry}
 use Rattle.mon_value.specs.declared.positions.Leaf.{Leaf}
 use Rattle.mon_value.specs.declared.positions.Range.{Range}
+use Rattle.mon_value.specs.declared.rows.Row.{Row}
+use Rattle.mon_topo.specs.HeldHistories.{IsAtHome}
 use Rattle.mon_topo.specs.Settings.{Setting}
 use Rattle.write_core.specs.CopySteps.{CanCopy, copy_step}
 use Rattle.write_core.specs.Program.{Locking}
 use Rattle.write_core.specs.Recovering.{Beginning, CopyTold}
 use Rattle.write_core.specs.Steps.{CanCome, step}
 use Rattle.write_core.specs.Views.{View, joined, of_leaf, with_entry}
-use Rattle.write_core.specs.World.{Actor, IsPart, Recovers, World, Writes, changed, wiser}
+use Rattle.write_core.specs.World.{Actor, IsPart, Recovers, Stands, World, Writer, Writes, changed, pass_of, view_of, wiser}
 use Rattle.write_core.specs.declared.asks.WriteTold.{WriteTold}
 
 -- a leaf goes down or comes up, while nobody holds it, by someone who has seen so much
@@ -31,10 +33,11 @@ switched world leaf entry view = record {
   actors = world.actors;
 }
 
--- an actor that has not begun
+-- an actor that has not begun to write or to recover
 abbrev pub HasNotBegun : Actor → Type 0
 HasNotBegun (Writes writer) = writer.stage ≡ Locking
 HasNotBegun (Recovers recovery) = recovery.stage ≡ Beginning
+HasNotBegun (Stands stander) = Unit {0}
 
 -- an actor learns what someone has seen
 abbrev pub learned : World → ℕ → View → World
@@ -45,6 +48,27 @@ learned world i view = record {
   leaf_holder = world.leaf_holder;
   range_holder = world.range_holder;
   actors = changed world.actors i (wiser (world.actors i) view);
+}
+
+-- someone who stands by is to write a row, which lies in a range that there is
+abbrev pub CanBegin : Setting → World → Row → Range → Actor → Type 0
+CanBegin setting world row range (Stands stander) =
+    IsAtHome setting.held setting.zones range row × (range.0 < length world.truth.seen.ranges)
+CanBegin setting world row range (Writes writer) = ⊥
+CanBegin setting world row range (Recovers recovery) = ⊥
+
+abbrev pub new_writer : Row → Range → Actor → Writer
+new_writer row range actor =
+    record { pass = pass_of actor; row = row; range = range; stage = Locking; view = view_of actor }
+
+abbrev pub begun : World → ℕ → Row → Range → World
+begun world i row range = record {
+  truth = world.truth;
+  leaves = world.leaves;
+  ranges = world.ranges;
+  leaf_holder = world.leaf_holder;
+  range_holder = world.range_holder;
+  actors = changed world.actors i (Writes (new_writer row range (world.actors i)));
 }
 
 -- someone who has seen so much looks at a leaf: both have then seen what either had
@@ -72,12 +96,13 @@ resolved world range view = record {
 -- ---- events, one after another
 
 -- a write, or a recovery, does its next event and is told so; a leaf is switched; an actor that has not begun learns
--- something; someone looks at a leaf or at a range that nobody holds
+-- something; someone who stands by begins a write; someone looks at a leaf or at a range that nobody holds
 pub data Event : Type 0 where
   Goes : ℕ → WriteTold → Event
   Copies : ℕ → CopyTold → Event
   Switches : Leaf → Entry → View → Event
   Learns : ℕ → View → Event
+  Begins : ℕ → Row → Range → Event
   Visits : Leaf → View → Event
   Resolves : Range → View → Event
 
@@ -86,6 +111,7 @@ CanHappen setting world (Goes i answer) = CanCome setting world i answer
 CanHappen setting world (Copies i told) = CanCopy setting world i told
 CanHappen setting world (Switches leaf entry view) = CanSwitch setting world leaf entry view
 CanHappen setting world (Learns i view) = HasNotBegun (world.actors i) × IsPart setting world view
+CanHappen setting world (Begins i row range) = CanBegin setting world row range (world.actors i)
 CanHappen setting world (Visits leaf view) = (world.leaf_holder leaf.0 ≡ None) × IsPart setting world view
 CanHappen setting world (Resolves range view) = (world.range_holder range.0 ≡ None) × IsPart setting world view
 
@@ -94,6 +120,7 @@ happened setting world (Goes i answer) = step setting world i answer
 happened setting world (Copies i told) = copy_step setting world i told
 happened setting world (Switches leaf entry view) = switched world leaf entry view
 happened setting world (Learns i view) = learned world i view
+happened setting world (Begins i row range) = begun world i row range
 happened setting world (Visits leaf view) = visited world leaf view
 happened setting world (Resolves range view) = resolved world range view
 

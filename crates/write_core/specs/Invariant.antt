@@ -22,7 +22,7 @@ use Rattle.write_core.specs.Rounds.{Round, marks_of}
 use Rattle.write_core.specs.Deeds.{HasDone, IsUnused}
 use Rattle.mon_topo.specs.Settings.{Setting, zone_of_leaf}
 use Rattle.write_core.specs.Views.{IsSound, View, of_leaf, of_range}
-use Rattle.write_core.specs.World.{Actor, IsPart, Recovers, Recovery, World, Writer, Writes, pass_of, put_of}
+use Rattle.write_core.specs.World.{Actor, IsPart, Recovers, Recovery, Stander, Stands, World, Writer, Writes, pass_of, put_of}
 use Rattle.write_core.specs.declared.marks.Fate.{Fate}
 use Rattle.write_core.specs.declared.marks.Fate.TheVariants as fate
 use Rattle.write_core.specs.declared.marks.Mark.{Mark}
@@ -265,11 +265,19 @@ pub record IsRecovery (setting : Setting) (world : World) (i : ℕ) (recovery : 
   pub aimed : IsAimed setting recovery
   pub at : IsCopyAt setting world i recovery recovery.stage
 
+-- ---- someone who stands by
+
+-- has written nothing by its pass
+pub record IsStander (setting : Setting) (world : World) (stander : Stander) : Type 0 where
+  pub part : IsPart setting world stander.view
+  pub unused : IsUnused world.truth stander.pass
+
 -- ---- the whole
 
 abbrev pub IsActor : Setting → World → ℕ → Actor → Type 0
 IsActor setting world i (Writes writer) = IsWriter setting world i writer
 IsActor setting world i (Recovers recovery) = IsRecovery setting world i recovery
+IsActor setting world i (Stands stander) = IsStander setting world stander
 
 -- each actor has a pass of its own
 abbrev pub AreApart : (ℕ → Actor) → Type 0
@@ -303,9 +311,15 @@ pub record IsNewRecovery (setting : Setting) (world : World) (recovery : Recover
   pub stage : recovery.stage ≡ Beginning
   pub view : recovery.view ≡ world.truth
 
+-- so has someone who stands by, by whose pass nobody has put anything either
+pub record IsNewStander (world : World) (stander : Stander) : Type 0 where
+  pub view : stander.view ≡ world.truth
+  pub unused : IsUnused world.truth stander.pass
+
 abbrev pub IsNewActor : Setting → World → Actor → Type 0
 IsNewActor setting world (Writes writer) = IsNewWriter setting world writer
 IsNewActor setting world (Recovers recovery) = IsNewRecovery setting world recovery
+IsNewActor setting world (Stands stander) = IsNewStander world stander
 
 -- nobody has begun, and everyone has seen all that there is; each actor has a pass of its own
 pub record IsNew (setting : Setting) (world : World) : Type 0 where

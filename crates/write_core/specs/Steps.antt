@@ -14,7 +14,7 @@ use Rattle.write_core.specs.Marks.{ack_of, some_took}
 use Rattle.write_core.specs.Program.{Acking, Ended, Entering, Inside, Locking, Marked, Not, Reserving, Stage, Verdict, after}
 use Rattle.mon_topo.specs.Settings.{Setting, zone_of_leaf}
 use Rattle.write_core.specs.Views.{View, of_leaf, of_range, with_entry, with_range_entry, with_root_bit, with_zone_bit}
-use Rattle.write_core.specs.World.{Actor, Recovers, World, Writer, Writes, at_leaf, at_range, put_of, writes_on}
+use Rattle.write_core.specs.World.{Actor, Recovers, Stands, World, Writer, Writes, at_leaf, at_range, put_of, writes_on}
 use Rattle.write_core.specs.declared.asks.WriteTold.{WriteTold}
 use Rattle.write_core.specs.declared.asks.WriteTold.TheVariants as told
 use Rattle.write_core.specs.declared.marks.Mark.{Mark}
@@ -74,6 +74,7 @@ CanComeAt setting world writer (Ended verdict) answer = ⊥
 abbrev pub CanGo : Setting → World → Actor → WriteTold → Type 0
 CanGo setting world (Writes writer) answer = CanComeAt setting world writer writer.stage answer
 CanGo setting world (Recovers recovery) answer = ⊥
+CanGo setting world (Stands stander) answer = ⊥
 
 -- the next event of a write can come, with this answer
 abbrev pub CanCome : Setting → World → ℕ → WriteTold → Type 0
@@ -136,6 +137,7 @@ step_at setting world i who (Ended verdict) answer = world
 abbrev pub stepped : Setting → World → ℕ → Actor → WriteTold → World
 stepped setting world i (Writes writer) answer = step_at setting world i writer writer.stage answer
 stepped setting world i (Recovers recovery) answer = world
+stepped setting world i (Stands stander) answer = world
 
 -- the next event of a write, with this answer
 abbrev pub step : Setting → World → ℕ → WriteTold → World

@@ -1,4 +1,4 @@
--- Everything that writes and recoveries share, and what is each one's own: how far it is, and what it has seen and knows.
+-- Everything that actors share, and what is each one's own: how far it is, and what it has seen and knows.
 use Rattle.std.specs.Prelude.{ℕ, nat_eq, Option, if◌then◌else◌}
 use Rattle.mon_value.specs.declared.histories.Entry.{Entry}
 use Rattle.mon_value.specs.declared.histories.Entry.TheVariants as entry
@@ -29,17 +29,25 @@ pub record Recovery : Type 0 where
   pub stage : CopyStage
   pub view : View
 
+-- someone who has written nothing by a pass: a reader, or who has not been told yet what to do
+pub record Stander : Type 0 where
+  pub pass : ℕ
+  pub view : View
+
 pub data Actor : Type 0 where
   Writes : Writer → Actor
   Recovers : Recovery → Actor
+  Stands : Stander → Actor
 
 abbrev pub pass_of : Actor → ℕ
 pass_of (Writes writer) = writer.pass
 pass_of (Recovers recovery) = recovery.pass
+pass_of (Stands stander) = stander.pass
 
 abbrev pub view_of : Actor → View
 view_of (Writes writer) = writer.view
 view_of (Recovers recovery) = recovery.view
+view_of (Stands stander) = stander.view
 
 -- a write, further on
 abbrev pub gone_on : Writer → Stage → View → Writer
@@ -62,10 +70,14 @@ writes_on writer stage view = Writes (gone_on writer stage view)
 abbrev pub recovers_on : Recovery → CopyStage → View → Actor
 recovers_on recovery stage view = Recovers (copied_on recovery stage view)
 
+abbrev pub stands_on : Stander → View → Actor
+stands_on stander view = Stands (record { pass = stander.pass; view = view })
+
 -- the same, with more seen
 abbrev pub wiser : Actor → View → Actor
 wiser (Writes writer) view = writes_on writer writer.stage (joined writer.view view)
 wiser (Recovers recovery) view = recovers_on recovery recovery.stage (joined recovery.view view)
+wiser (Stands stander) view = stands_on stander (joined stander.view view)
 
 -- the entry that a write puts to a replica
 abbrev pub put_of : Writer → Mark → Entry
@@ -74,7 +86,7 @@ put_of writer mark = entry.Put writer.pass writer.range mark.slot writer.row
 -- ---- the world
 
 -- the whole histories and the words themselves; what each leaf and each range has seen and knows; who holds which leaf and
--- which range; and the writes and recoveries
+-- which range; and the actors
 pub record World : Type 0 where
   pub truth : View
   pub leaves : ℕ → View
