@@ -1,22 +1,26 @@
 -- What was read of a part before its fault can be completed to a whole part.
-use Rattle.std.proofs.Common.{◌≡◌, ℕ, zero, suc, ◌+◌, ◌<◌, Bool, true, false, ◌==◌, ◌||◌, List, [], ◌∷◌, ◌++◌, length, refl, sym, ap, ◌∙◌, subst, arith, if◌then◌else◌, append_assoc, length-append, Result, Ok, Err}
+use Rattle.std.proofs.Common.{◌≡◌, ℕ, zero, suc, ◌+◌, ◌<◌, Bool, true, false, ◌==◌, ◌||◌, List, [], ◌∷◌, ◌++◌, length, refl, sym, ap, ◌∙◌, subst, arith, if◌then◌else◌, append_assoc, length-append, Some, None, Result, Ok, Err}
 use Rattle.std.proofs.lemmas.Bool.{false≢true}
 use Rattle.std.proofs.lemmas.List.{append-nil}
 use Rattle.std.specs.Result.{IfOk}
 use Rattle.mon_value.specs.Answers.{◌>>=◌}
 use Rattle.mql_ast.specs.Bytes.{is_word_byte, is_metric_byte}
 use Rattle.mql_ast.specs.Rests.{Rest, first_of}
+use Rattle.mql_ast.specs.Quotes.{Whole}
 use Rattle.mql_parse.specs.declared.faults.ParseFault.{ParseFault}
 use Rattle.mql_parse.specs.declared.faults.ParseKind.{ParseKind}
 use Rattle.mql_parse.specs.declared.faults.ParseKind.TheVariants.{BadToken, BadPattern, Expected, NumberTooLarge, TooDeep, TooLong}
 use Rattle.mql_parse.specs.declared.faults.What.{What}
 use Rattle.mql_parse.specs.FaultNumbers.{IsNumber}
-use Rattle.mql_parse.specs.FaultTokens.{IsToken}
+use Rattle.mql_parse.specs.declared.faults.What.TheVariants as what
+use Rattle.mql_parse.specs.FaultKinds.{open_quotes}
+use Rattle.mql_parse.specs.FaultTokens.{IsBare}
 use Rattle.mql_parse.specs.Outcomes.{Outcome}
 use Rattle.mql_parse.specs.Repeats.{Turn, Done, Again, Stuck, turn_outcome, repetition, goes_on, on_read}
 use Rattle.mql_parse.specs.Behind.{Behind}
 use Rattle.mql_parse.specs.Soundness.{OfTurn}
 use Rattle.mql_parse.proofs.BehindLemmas.{behind_is_shorter}
+use Rattle.mql_parse.proofs.KindFits.{quotes_append}
 use Rattle.mql_parse.proofs.Loops.{GoesBehind}
 use Rattle.mql_parse.proofs.Sound.{repeated_turn}
 
@@ -95,18 +99,26 @@ anyhow w f = record { opens = tt; fills = f.fills }
 pub unended : {o : Front} {R : List ℕ → List ℕ → Type 0} (w : List ℕ) → Text o true R w → Text o false R w
 unended w f = record { opens = f.opens; fills = λ z h. f.fills z tt }
 
--- one text of a kind
+-- bytes that leave quotes open where they are, and so have none
+abbrev pub NoQuotes : List ℕ → Type 0
+NoQuotes t = open_quotes (Some Whole) t ≡ Some Whole
+
+pub no_quotes_on : (a b : List ℕ) → NoQuotes a → NoQuotes b → NoQuotes (a ++ b)
+no_quotes_on a b f g = quotes_append (Some Whole) a b ∙ ap (λ o. open_quotes o b) f ∙ g
+
+-- one text of a kind, without quotes
 pub record Default (L : List ℕ → Type 0) : Type 0 where
   pub text : List ℕ
+  pub plain : NoQuotes text
   pub is : L text
 
 abbrev pub both : {o o' : Front} {c c' : Bool} {R S : List ℕ → List ℕ → Type 0} → joins c o' ≡ true →
     Default (Text o c R) →
     Default (Text o' c' S) → Default (Text o c' (Then R S))
-both j f g = record { text = f.text ++ g.text; is = join f.text g.text j f.is g.is }
+both j f g = record { text = f.text ++ g.text; plain = no_quotes_on f.text g.text f.plain g.plain; is = join f.text g.text j f.is g.is }
 
 abbrev pub default_as : {L M : List ℕ → Type 0} → ((w : List ℕ) → L w → M w) → Default L → Default M
-default_as h d = record { text = d.text; is = h d.text d.is }
+default_as h d = record { text = d.text; plain = d.plain; is = h d.text d.is }
 
 -- what was read between the two is a text of a kind
 pub record Cut (L : List ℕ → Type 0) (s r : Rest) : Type 0 where
@@ -152,16 +164,30 @@ known_smaller BadToken h = tt
 known_smaller BadPattern h = tt
 known_smaller TooLong h = tt
 
--- the front goes on with a token of this kind, or with the rest of one that was begun, to a text of a kind
+-- what comes is a line's end and a token of this kind, or the rest of one that was begun
+abbrev pub ComesBy : What → List ℕ → ℕ → List ℕ → Type 0
+ComesBy w [] byte rest = (byte ≡ 10) × IsBare w rest
+ComesBy w (b ∷ begun) byte rest = (IsBare w (b ∷ begun) → ⊥) × IsBare w (b ∷ (begun ++ byte ∷ rest))
+
+-- behind a text in quotes that was begun, the rest opens quotes where none are open
+abbrev pub Closes : What → List ℕ → List ℕ → Type 0
+Closes w [] tail = Unit {0}
+Closes w (b ∷ begun) tail = w ≡ what.Text → open_quotes None tail ≡ Some Whole
+
+closes_on : (w : What) (begun tail d : List ℕ) → NoQuotes d → Closes w begun tail → Closes w begun (tail ++ d)
+closes_on w [] tail d p h = tt
+closes_on w (b ∷ begun) tail d p h = λ e. quotes_append None tail d ∙ ap (λ o. open_quotes o d) (h e) ∙ p
+
+-- the front goes on with what comes to a text of a kind
 pub record Comes (L : List ℕ → Type 0) (front : List ℕ) (w : What) : Type 0 where
   pub before : List ℕ
   pub begun : List ℕ
   pub byte : ℕ
   pub rest : List ℕ
   pub parts : front ≡ before ++ begun
-  pub unfinished : IsToken w begun → ⊥
-  pub token : IsToken w (begun ++ byte ∷ rest)
+  pub way : ComesBy w begun byte rest
   pub more : List ℕ
+  pub closes : Closes w begun (byte ∷ (rest ++ more))
   pub is : L (front ++ byte ∷ (rest ++ more))
 
 -- what is claimed of a fault that expects something, and nothing of another kind of fault
@@ -256,9 +282,9 @@ comes_before {N = N} v front w g = record {
   byte = g.byte;
   rest = g.rest;
   parts = ap (λ t. v ++ t) g.parts ∙ sym (append_assoc v g.before g.begun);
-  unfinished = g.unfinished;
-  token = g.token;
+  way = g.way;
   more = g.more;
+  closes = g.closes;
   is = subst N (sym (append_assoc v front (g.byte ∷ (g.rest ++ g.more)))) g.is;
 }
 
@@ -299,9 +325,10 @@ comes_as {M = M} front h w g =
       byte = g.byte;
       rest = g.rest;
       parts = g.parts;
-      unfinished = g.unfinished;
-      token = g.token;
+      way = g.way;
       more = g.more ++ d.text;
+      closes = subst (λ u. Closes w g.begun (g.byte ∷ u)) (append_assoc g.rest g.more d.text)
+          (closes_on w g.begun t d.text d.plain g.closes);
       is = subst M (append_assoc front t d.text
           ∙ ap (λ u. front ++ g.byte ∷ u) (append_assoc g.rest g.more d.text)) d.is;
     }
@@ -321,7 +348,7 @@ finish_as {M = M} s e f h = let d = h (f.front ++ f.tail) f.is in record {
 
 -- nothing more is needed
 pub as_it_is : (M : List ℕ → Type 0) (w : List ℕ) → M w → Default (λ v. M (w ++ v))
-as_it_is M w h = record { text = []; is = subst M (sym (append-nil w)) h }
+as_it_is M w h = record { text = []; plain = refl; is = subst M (sym (append-nil w)) h }
 
 -- nothing more is read
 pub stay : (N : List ℕ → Type 0) (s : Rest) (w : List ℕ) → N w → Cut (λ v. N (w ++ v)) s s
@@ -379,7 +406,7 @@ pub then_ends : {A B : Type 0} {left : A → Rest} {left' : B → Rest} {o o' : 
     Ends left (λ x. Text o c S) (Text o c S) s m → Default (Text o' c' T) →
     ((x : A) → Ends left' (λ y. Text o' c' T) (Text o' c' T) (left x) (f x)) →
     Ends left' (λ y. Text o c' (Then S T)) (Text o c' (Then S T)) s (m >>= f)
-then_ends s m f j h d g = bind_ends s m f h (λ w t. record { text = d.text; is = join w d.text j t d.is })
+then_ends s m f j h d g = bind_ends s m f h (λ w t. record { text = d.text; plain = d.plain; is = join w d.text j t d.is })
     (λ x w t. ends_as _ (f x) (g x) (λ y v u. join w v j t u) (λ v u. join w v j t u))
 
 pub if_ends : {A : Type 0} {left : A → Rest} {P : A → List ℕ → Type 0} {E : List ℕ → Type 0} (s : Rest) (t : Bool)

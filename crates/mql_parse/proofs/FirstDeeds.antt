@@ -1,5 +1,5 @@
 -- What operations expect comes first.
-use Rattle.std.proofs.Common.{◌≡◌, ℕ, ℤ, Bool, true, false, ◌==◌, List, ◌∷◌, codes, refl, arith, if◌then◌else◌, Ok, Err}
+use Rattle.std.proofs.Common.{◌≡◌, ℕ, ℤ, Bool, true, false, ◌==◌, List, ◌∷◌, codes, refl, if◌then◌else◌, Ok, Err}
 use Rattle.mon_value.specs.Answers.{◌>>=◌}
 use Rattle.mql_ast.specs.declared.names.Name.{Name}
 use Rattle.mql_ast.specs.Trees.{PredicateTree, DeedTree, Filter, GroupBy, Value, Top, Every, Within, OpTree}
@@ -12,12 +12,9 @@ use Rattle.mql_parse.specs.SumReading as sums
 use Rattle.mql_parse.specs.PredicateReading as predicates
 use Rattle.mql_parse.specs.Folds as folds
 use Rattle.mql_parse.specs.PipeReading as pipes
-use Rattle.mql_parse.specs.FaultTokens.{IsBare}
-use Rattle.mql_parse.specs.FaultFirsts.{is_lone_sign}
 use Rattle.mql_parse.specs.Steadiness.{next}
-use Rattle.mql_parse.proofs.TokenFronts.{align_word, group_by_word, value_word, top_word, every_word, within_word, filter_word, delta_word, next_older_word}
 use Rattle.mql_parse.proofs.Firsts.{Spot, Begun, Meets, Before, First, NoMore, first_to, first_next, first_bind, first_unexpected, meets_then, meets_map, meets_of, meets_from, meets_to, meets_behind_pass, meets_up_to, before_skip, before_unexpected, before_next, before_bind, meets_ok, sign_to}
-use Rattle.mql_parse.proofs.FirstBytes.{token_begins, at_byte, comma_begins, opening_begins, closing_begins, open_bracket_begins}
+use Rattle.mql_parse.proofs.FirstBytes.{at_byte, at_bytes, comma_begins, opening_begins, closing_begins, open_bracket_begins}
 use Rattle.mql_parse.proofs.FirstTokens.{all_solid, meets_name}
 use Rattle.mql_parse.proofs.FirstNumbers.{first_positive, meets_positive, first_duration, meets_duration}
 use Rattle.mql_parse.proofs.FirstSums.{items_meets}
@@ -49,37 +46,35 @@ opened m = sign 40 what.OpenParenthesis m >>= closed
 opened_meets : (x : Spot) → Meets x next next NoMore opened
 opened_meets x =
     meets_behind_pass x next next next NoMore (sign 40 what.OpenParenthesis) closed
-    (sign_to x 40 what.OpenParenthesis refl (opening_begins x what.OpenParenthesis (omega arith)))
+    (sign_to x 40 what.OpenParenthesis refl (opening_begins x what.OpenParenthesis refl))
     (meets_up_to x next NoMore NoMore 41 what.CloseParenthesis reading.duration refl
-    (closing_begins x what.CloseParenthesis (omega arith)) (λ y h. absurd h)
+    (closing_begins x what.CloseParenthesis refl) (λ y h. absurd h)
     (meets_to x next NoMore reading.duration (meets_duration x)))
 
 aligned_keyword : (x : Spot) (c : ℕ) (cs : List ℕ) (deed : ℤ → DeedTree) → (0 == c) ≡ false →
-    all_solid (c ∷ cs) ≡ true → Keyword x (DeedGoes x) c (λ t. map_outcome deed (pipes.aligned_for (c ∷ cs) t))
+    all_solid (c ∷ cs) ≡ true → Keyword x (DeedGoes x) c cs (λ t. map_outcome deed (pipes.aligned_for (c ∷ cs) t))
 aligned_keyword x c cs deed z h =
-    keyword_map x NoMore (DeedGoes x) c deed (pipes.aligned_for (c ∷ cs)) (λ y n. absurd n)
+    keyword_map x NoMore (DeedGoes x) c cs deed (pipes.aligned_for (c ∷ cs)) (λ y n. absurd n)
     (keyword x NoMore what.Aligner c cs opened z h (meets_from x next NoMore opened (opened_meets x)))
 
 aligner_first : (x : Spot) → First x next next what.Aligner (λ m. pipes.aligner_here (skip m))
 aligner_first x =
-    first_keyword x (DeedGoes x) what.Aligner 100 _ _ (aligned_keyword x 100 (codes "elta") _ refl refl)
-    (at_byte x what.Aligner 100
-    (token_begins what.Aligner what.Aligner 100 (codes "elta") (omega arith) refl delta_word.bare))
-    (first_keyword x (DeedGoes x) what.Aligner 110 _ (λ m. Err (unexpected what.Aligner (skip m)))
+    first_keyword x (DeedGoes x) what.Aligner 100 (codes "elta") _ _ (aligned_keyword x 100 (codes "elta") _ refl refl)
+    (λ h k. at_byte x what.Aligner what.Aligner 100 refl refl h)
+    (first_keyword x (DeedGoes x) what.Aligner 110 (codes "ext_older") _ (λ m. Err (unexpected what.Aligner (skip m)))
     (aligned_keyword x 110 (codes "ext_older") _ refl refl)
-    (at_byte x what.Aligner 110
-    (token_begins what.Aligner what.Aligner 110 (codes "ext_older") (omega arith) refl next_older_word.bare))
+    (λ h k. at_byte x what.Aligner what.Aligner 110 refl refl h)
     (first_unexpected x next what.Aligner))
 
 aligner_before : (x : Spot) → Before x next next (DeedGoes x) (λ m. pipes.aligner_here (skip m))
 aligner_before x =
-    before_keyword x (DeedGoes x) 100 _ _ (aligned_keyword x 100 (codes "elta") _ refl refl)
-    (before_keyword x (DeedGoes x) 110 _ (λ m. Err (unexpected what.Aligner (skip m)))
+    before_keyword x (DeedGoes x) 100 (codes "elta") _ _ (aligned_keyword x 100 (codes "elta") _ refl refl)
+    (before_keyword x (DeedGoes x) 110 (codes "ext_older") _ (λ m. Err (unexpected what.Aligner (skip m)))
     (aligned_keyword x 110 (codes "ext_older") _ refl refl)
     (before_skip x next (DeedGoes x) (λ t. Err (unexpected what.Aligner t))
     (before_unexpected x next (DeedGoes x) what.Aligner)))
 
-align_keyword : (x : Spot) → Keyword x (DeedGoes x) 97 pipes.align
+align_keyword : (x : Spot) → Keyword x (DeedGoes x) 97 (codes "lign") pipes.align
 unfolding pipes.align
 align_keyword x =
     keyword_apart x (DeedGoes x) 97 (codes "lign") what.Aligner (λ m. pipes.aligner_here (skip m)) refl refl
@@ -104,13 +99,13 @@ group_opened_meets : (x : Spot) → Meets x next next (DeedGoes x) group_opened
 group_opened_meets x =
     let G = DeedGoes x in
     meets_behind_pass x next next next G (sign 91 what.OpenBracket) grouped
-    (sign_to x 91 what.OpenBracket refl (open_bracket_begins x what.OpenBracket (omega arith)))
+    (sign_to x 91 what.OpenBracket refl (open_bracket_begins x what.OpenBracket refl))
     (meets_then x next next next G folds.names (λ columns. behind_names columns.0 columns.1) (names_meets x)
     (λ ns. meets_behind_pass x next next next G (sign 44 what.Comma) (folded ns)
-    (sign_to x 44 what.Comma refl (comma_begins x what.Comma (omega arith)))
+    (sign_to x 44 what.Comma refl (comma_begins x what.Comma refl))
     (meets_map x next next (CommaGoes x) G (λ all. GroupBy ns all) folds.aggregates (λ all g. g) (aggregates_meets x))))
 
-group_by_keyword : (x : Spot) → Keyword x (DeedGoes x) 103 pipes.group_by
+group_by_keyword : (x : Spot) → Keyword x (DeedGoes x) 103 (codes "roup_by") pipes.group_by
 unfolding pipes.group_by
 group_by_keyword x = keyword x (DeedGoes x) what.Operation 103 (codes "roup_by") group_opened refl refl
     (meets_from x next (DeedGoes x) group_opened (group_opened_meets x))
@@ -118,13 +113,13 @@ group_by_keyword x = keyword x (DeedGoes x) what.Operation 103 (codes "roup_by")
 abbrev items_opened : ℕ → Rest → Outcome DeedTree
 items_opened d m = sign 91 what.OpenBracket m >>= λ r. map_outcome Value (sums.items d r)
 
-value_keyword : (x : Spot) (d : ℕ) → Keyword x (DeedGoes x) 118 (pipes.value d)
+value_keyword : (x : Spot) (d : ℕ) → Keyword x (DeedGoes x) 118 (codes "alue") (pipes.value d)
 unfolding pipes.value
 value_keyword x d = keyword x (DeedGoes x) what.Operation 118 (codes "alue") (items_opened d) refl refl
     (meets_from x next (DeedGoes x) (items_opened d)
     (meets_behind_pass x next next next (DeedGoes x) (sign 91 what.OpenBracket)
     (λ r. map_outcome Value (sums.items d r))
-    (sign_to x 91 what.OpenBracket refl (open_bracket_begins x what.OpenBracket (omega arith)))
+    (sign_to x 91 what.OpenBracket refl (open_bracket_begins x what.OpenBracket refl))
     (meets_map x next next NoMore (DeedGoes x) Value (sums.items d) (λ y n. absurd n) (items_meets x d))))
 
 abbrev behind_number : ℕ → Rest → Outcome DeedTree
@@ -137,11 +132,11 @@ behind_number_meets : (x : Spot) (n : ℕ) → Meets x next next (DeedGoes x) (b
 behind_number_meets x n =
     meets_behind_pass x next next next (DeedGoes x) (sign 44 what.Comma)
     (λ k. map_outcome (λ column. Top n column) (reading.name k))
-    (sign_to x 44 what.Comma refl (comma_begins x what.Comma (omega arith)))
+    (sign_to x 44 what.Comma refl (comma_begins x what.Comma refl))
     (meets_map x next next NoMore (DeedGoes x) (λ column. Top n column) reading.name (λ y h. absurd h)
     (meets_to x next NoMore reading.name (meets_name x)))
 
-top_keyword : (x : Spot) → Keyword x (DeedGoes x) 116 pipes.top
+top_keyword : (x : Spot) → Keyword x (DeedGoes x) 116 (codes "op") pipes.top
 unfolding pipes.top
 top_keyword x =
     keyword_apart x (DeedGoes x) 116 (codes "op") what.Number counted refl refl
@@ -152,7 +147,7 @@ top_keyword x =
     (meets_to x next NoMore (reading.positive 16777216) (meets_positive x 16777216)) (behind_number_meets x))
 
 duration_keyword : (x : Spot) (deed : ℤ → DeedTree) (c : ℕ) (cs : List ℕ) → (0 == c) ≡ false →
-    all_solid (c ∷ cs) ≡ true → Keyword x (DeedGoes x) c (pipes.duration_deed deed (c ∷ cs))
+    all_solid (c ∷ cs) ≡ true → Keyword x (DeedGoes x) c cs (pipes.duration_deed deed (c ∷ cs))
 unfolding pipes.duration_deed
 duration_keyword x deed c cs z h =
     keyword_apart x (DeedGoes x) c cs what.Number (λ m. map_outcome deed (reading.duration m)) z h
@@ -160,38 +155,35 @@ duration_keyword x deed c cs z h =
     (meets_map x next next NoMore (DeedGoes x) deed reading.duration (λ y n. absurd n)
     (meets_to x next NoMore reading.duration (meets_duration x)))
 
-operation_begins : (x : Spot) (c : ℕ) (cs : List ℕ) → is_lone_sign c ≡ false → IsBare what.Operation (c ∷ cs) →
-    (x.byte == c) ≡ true → Begun x what.Operation
-operation_begins x c cs z k =
-    at_byte x what.Operation c (token_begins what.Operation what.Operation c cs (omega arith) z k)
-
 deed_first : (x : Spot) (d : ℕ) → First x next next what.Operation (λ s. pipes.deed_here d (skip s))
 unfolding pipes.deed_here
 deed_first x d =
     let G = DeedGoes x in
-    first_keyword x G what.Operation 97 _ _ (align_keyword x) (operation_begins x 97 (codes "lign") refl align_word.bare)
-    (first_keyword x G what.Operation 103 _ _ (group_by_keyword x)
-    (operation_begins x 103 (codes "roup_by") refl group_by_word.bare)
-    (first_keyword x G what.Operation 118 _ _ (value_keyword x d)
-    (operation_begins x 118 (codes "alue") refl value_word.bare)
-    (first_keyword x G what.Operation 116 _ _ (top_keyword x) (operation_begins x 116 (codes "op") refl top_word.bare)
-    (first_keyword x G what.Operation 101 _ _ (duration_keyword x Every 101 (codes "very") refl refl)
-    (operation_begins x 101 (codes "very") refl every_word.bare)
-    (first_keyword x G what.Operation 119 _ (λ s. Err (unexpected what.Operation (skip s)))
-    (duration_keyword x Within 119 (codes "ithin") refl refl)
-    (operation_begins x 119 (codes "ithin") refl within_word.bare) (first_unexpected x next what.Operation))))))
+    let w = what.Operation in
+    first_keyword x G w 97 (codes "lign") _ _ (align_keyword x)
+    (at_bytes x w w 97 108 refl refl)
+    (first_keyword x G w 103 (codes "roup_by") _ _ (group_by_keyword x)
+    (λ h k. at_byte x w w 103 refl refl h)
+    (first_keyword x G w 118 (codes "alue") _ _ (value_keyword x d)
+    (λ h k. at_byte x w w 118 refl refl h)
+    (first_keyword x G w 116 (codes "op") _ _ (top_keyword x)
+    (at_bytes x w w 116 111 refl refl)
+    (first_keyword x G w 101 (codes "very") _ _ (duration_keyword x Every 101 (codes "very") refl refl)
+    (λ h k. at_byte x w w 101 refl refl h)
+    (first_keyword x G w 119 (codes "ithin") _ (λ s. Err (unexpected w (skip s))) (duration_keyword x Within 119 (codes "ithin") refl refl)
+    (λ h k. at_byte x w w 119 refl refl h)
+    (first_unexpected x next w))))))
 
 deed_before : (x : Spot) (d : ℕ) → Before x next next (DeedGoes x) (λ s. pipes.deed_here d (skip s))
 unfolding pipes.deed_here
 deed_before x d =
     let G = DeedGoes x in
-    before_keyword x G 97 _ _ (align_keyword x)
-    (before_keyword x G 103 _ _ (group_by_keyword x)
-    (before_keyword x G 118 _ _ (value_keyword x d)
-    (before_keyword x G 116 _ _ (top_keyword x)
-    (before_keyword x G 101 _ _ (duration_keyword x Every 101 (codes "very") refl refl)
-    (before_keyword x G 119 _ (λ s. Err (unexpected what.Operation (skip s)))
-    (duration_keyword x Within 119 (codes "ithin") refl refl)
+    before_keyword x G 97 (codes "lign") _ _ (align_keyword x)
+    (before_keyword x G 103 (codes "roup_by") _ _ (group_by_keyword x)
+    (before_keyword x G 118 (codes "alue") _ _ (value_keyword x d)
+    (before_keyword x G 116 (codes "op") _ _ (top_keyword x)
+    (before_keyword x G 101 (codes "very") _ _ (duration_keyword x Every 101 (codes "very") refl refl)
+    (before_keyword x G 119 (codes "ithin") _ (λ s. Err (unexpected what.Operation (skip s))) (duration_keyword x Within 119 (codes "ithin") refl refl)
     (before_skip x next G (λ t. Err (unexpected what.Operation t)) (before_unexpected x next G what.Operation)))))))
 
 -- filters
@@ -202,9 +194,9 @@ filter_goes : (x : Spot) (bar : Bool) → BarGoes x bar → OnBar x bar false
 filter_goes x true h = h
 filter_goes x false h = h
 
-filter_keyword : (x : Spot) (d : ℕ) → Keyword x (OpGoes x) 102 (pipes.filter_here d)
+filter_keyword : (x : Spot) (d : ℕ) → Keyword x (OpGoes x) 102 (codes "ilter") (pipes.filter_here d)
 filter_keyword x d =
-    keyword_here x (OpGoes x) 102
+    keyword_here x (OpGoes x) 102 (codes "ilter")
     (λ n t. pipes.word_apart (codes "filter") what.Name t >>= λ m. map_outcome (filtered n) (predicates.predicate d m))
     (λ n. keyword_apart x (OpGoes x) 102 (codes "ilter") what.Name
     (λ m. map_outcome (filtered n) (predicates.predicate d m)) refl refl
@@ -221,15 +213,15 @@ other d n s = map_outcome (unbarred n) (pipes.deed_here d (skip s))
 pub operation_first : (x : Spot) (d : ℕ) → First x next next what.Operation (pipes.operation d)
 unfolding pipes.operation
 operation_first x d =
-    first_keyword x (OpGoes x) what.Operation 102 (pipes.filter_here d) (λ s. other d (skip s).at s)
-    (filter_keyword x d) (operation_begins x 102 (codes "ilter") refl filter_word.bare)
+    first_keyword x (OpGoes x) what.Operation 102 (codes "ilter") (pipes.filter_here d) (λ s. other d (skip s).at s)
+    (filter_keyword x d) (at_bytes x what.Operation what.Operation 102 105 refl refl)
     (first_next x next what.Operation (other d)
     (λ n. first_map x what.Operation (unbarred n) (λ s. pipes.deed_here d (skip s)) (deed_first x d)))
 
 operation_before : (x : Spot) (d : ℕ) → Before x next next (OpGoes x) (pipes.operation d)
 unfolding pipes.operation
 operation_before x d =
-    before_keyword x (OpGoes x) 102 (pipes.filter_here d) (λ s. other d (skip s).at s) (filter_keyword x d)
+    before_keyword x (OpGoes x) 102 (codes "ilter") (pipes.filter_here d) (λ s. other d (skip s).at s) (filter_keyword x d)
     (before_next x next (OpGoes x) (other d)
     (λ n. before_bind x next next next (DeedGoes x) (OpGoes x) (λ s. pipes.deed_here d (skip s))
     (λ y. Ok (unbarred n y.0, y.1)) (deed_before x d) (λ deed. meets_ok x next (OpGoes x) (unbarred n deed))

@@ -1,5 +1,5 @@
 -- What negations, chains of conditions and filters expect comes first.
-use Rattle.std.proofs.Common.{◌≡◌, ℕ, zero, suc, Bool, true, false, ◌==◌, [], ◌∷◌, refl, sym, ap, ◌∙◌, subst, arith, if◌then◌else◌, Ok, Err}
+use Rattle.std.proofs.Common.{◌≡◌, ℕ, zero, suc, Bool, true, false, ◌==◌, refl, sym, ap, ◌∙◌, subst, if◌then◌else◌, Ok, Err}
 use Rattle.mql_ast.specs.Trees.{PredicateTree, Not, And, Or}
 use Rattle.mql_ast.specs.Bytes.{is_letter}
 use Rattle.mql_ast.specs.Rests.{Rest, head, behind, skip}
@@ -16,9 +16,8 @@ use Rattle.mql_parse.proofs.PipeSound.{filter_turn_behind}
 use Rattle.mql_parse.proofs.Steady.{steady_from}
 use Rattle.mql_parse.proofs.PredicateSteady.{and_turn_steady, or_turn_steady, deeper_steady_by, negation_steady, filter_turn_steady}
 use Rattle.mql_parse.proofs.TurnSteady.{steady_repetition}
-use Rattle.mql_parse.proofs.TokenFronts.{and_word}
 use Rattle.mql_parse.proofs.Firsts.{Spot, Splits, Begun, begun_later, WentOutcome, Meets, Before, FirstOutcome, First, NoMore, passed_far, first_wider, first_bind, meets_bind, meets_ok, meets_map, meets_of, meets_from, meets_to, meets_by, meets_up_to, first_if, first_unexpected, before_of, before_if, before_skip, before_behind, before_behind_skip, before_unexpected, before_fault}
-use Rattle.mql_parse.proofs.FirstBytes.{token_begins, at_byte, letter_begins, opening_begins, closing_begins, bar_begins, exclamation_begins}
+use Rattle.mql_parse.proofs.FirstBytes.{at_byte, opening_begins, closing_begins, bar_begins, exclamation_begins}
 use Rattle.mql_parse.proofs.FirstTokens.{meets_unexpected, meets_if_here, far_behind}
 use Rattle.mql_parse.proofs.FirstTurns.{meets_either, went_either, skip_far, skip_went, turn_read, OfState, Stopped, turn_if_read, goes_on_read, meets_repetition, repetition_went}
 use Rattle.mql_parse.proofs.FirstPredicates.{condition_meets, condition_far}
@@ -37,13 +36,13 @@ negation_first : (x : Spot) (d : ℕ) → First x next next what.Name (predicate
 unfolding predicates.negation_with
 negation_first x d =
     first_if x next what.Name (λ b. b == 33) _ _ (deeper_far x d Opposite 33 refl)
-    (exclamation_begins x what.Name (omega arith))
+    (exclamation_begins x what.Name refl)
     (first_if x next what.Name (λ b. b == 40) _ _ (deeper_far x d Group 40 refl)
-    (opening_begins x what.Name (omega arith))
+    (opening_begins x what.Name refl)
     (first_if x next what.Name is_letter (λ s. predicates.condition (skip s))
     (λ s. Err (unexpected what.Name (skip s)))
     (λ s e h. first_wider x what.Name (predicates.condition (skip s)) (condition_far x s e h))
-    (letter_begins x) (first_unexpected x next what.Name)))
+    (λ h. refl) (first_unexpected x next what.Name)))
 
 negation_before_with : (x : Spot) (opposite group : Rest → Rest → Outcome PredicateTree) →
     Before x here next NoMore (λ t. opposite t (behind t)) → Before x here next NoMore (λ t. group t (behind t)) →
@@ -88,7 +87,7 @@ double_shape b w join part left s =
 
 module _ (x : Spot) (P G : PredicateTree → Type 0) (b : ℕ) (w : What)
     (join : PredicateTree → PredicateTree → PredicateTree) (part : Rest → Outcome PredicateTree)
-    (z : (0 == b) ≡ false) (blank : (32 == b) ≡ false) (goes : (left y : PredicateTree) → P y → G (join left y))
+    (z : (0 == b) ≡ false) (blank : (10 == b) ≡ false) (goes : (left y : PredicateTree) → P y → G (join left y))
     (begins : (left : PredicateTree) → (x.byte == b) ≡ true → G left) (k : Meets x next next P part) where
   second_meets : (left : PredicateTree) → Meets x here next (OfState G) (second_sign b w (join left) part)
   second_meets left =
@@ -121,7 +120,7 @@ module _ (x : Spot) (P G : PredicateTree → Type 0) (b : ℕ) (w : What)
 
 -- `&&`
 and_begins : (x : Spot) → (x.byte == 38) ≡ true → Begun x what.And
-and_begins x = at_byte x what.And 38 (token_begins what.And what.And 38 (38 ∷ []) (omega arith) refl and_word.bare)
+and_begins x = at_byte x what.And what.And 38 refl refl
 
 conjunction_meets_by : (x : Spot) (d : ℕ) → Meets x next next NoMore (predicates.negation d) →
     Meets x next next (AndGoes x) (predicates.conjunction d)
@@ -138,7 +137,7 @@ conjunction_meets_by x d k =
     (λ a r n e. absurd n)
 
 and_then_bar : (x : Spot) → Begun x what.And → Begun x what.Bar
-and_then_bar x g = begun_later x what.And what.Bar (omega arith) g
+and_then_bar x g = begun_later x what.And what.Bar refl g
 
 disjunction_meets_by : (x : Spot) (d : ℕ) → Meets x next next NoMore (predicates.negation d) →
     Meets x next next (OrGoes x) (predicates.disjunction d)
@@ -148,9 +147,9 @@ disjunction_meets_by x d k =
     let parts = conjunction_meets_by x d k in
     let turn = predicates.or_turn part in
     let meets = λ (left : PredicateTree) (s t : Rest) (c : Splits x s t). (double_meets x (AndGoes x) (OrGoes x) 124
-    what.Or Or part refl refl (λ l y g. and_then_bar x g) (λ l h. bar_begins x what.Bar (omega arith) h) parts left).agrees s t c in
+    what.Or Or part refl refl (λ l y g. and_then_bar x g) (λ l h. bar_begins x what.Bar refl h) parts left).agrees s t c in
     let went = λ (left : PredicateTree) (r : Rest). double_went x (AndGoes x) (OrGoes x) 124 what.Or Or part refl refl
-    (λ l y g. and_then_bar x g) (λ l h. bar_begins x what.Bar (omega arith) h) parts left r in
+    (λ l y g. and_then_bar x g) (λ l h. bar_begins x what.Bar refl h) parts left r in
     meets_bind x next next next (AndGoes x) (OrGoes x) part (λ first. repetition turn first.0 first.1) parts
     (meets_repetition x (OrGoes x) turn (or_turn_behind d) (or_turn_steady part parts.steady) meets went)
     (λ a r g e. repetition_went x (OrGoes x) turn (or_turn_behind d) (or_turn_steady part parts.steady) meets went a r
@@ -161,8 +160,8 @@ deeper_meets_by : (x : Spot) (d : ℕ) (way : Deeper) → Meets x next next NoMo
 deeper_meets_by x d Opposite k = meets_map x next next NoMore NoMore Not (predicates.negation d) (λ y h. h) k
 deeper_meets_by x d Group k =
     meets_up_to x next (OrGoes x) NoMore 41 what.CloseParenthesis (predicates.disjunction d) refl
-    (closing_begins x what.CloseParenthesis (omega arith))
-    (λ p g. begun_later x what.Bar what.CloseParenthesis (omega arith) g) (disjunction_meets_by x d k)
+    (closing_begins x what.CloseParenthesis refl)
+    (λ p g. begun_later x what.Bar what.CloseParenthesis refl g) (disjunction_meets_by x d k)
 
 negation_meets_with : (x : Spot) (d : ℕ) →
     Before x here next NoMore (λ t. predicates.deeper d Opposite t (behind t)) →
@@ -241,7 +240,7 @@ module _ (x : Spot) (part : Rest → Outcome PredicateTree) (k : Meets x next ne
       (meets_either x G (λ c. c == 124) (λ s. second (behind (skip s))) (λ s. Ok (((left.0, false), false), s))
       (before_behind_skip x next G second (filter_second_meets left.0))
       (skip_far x next G (λ c. c == 124) refl second (filter_second_meets left.0).steady)
-      (meets_ok x next G ((left.0, false), false)) (λ h s e l. (e, bar_begins x what.Bar (omega arith) h)))
+      (meets_ok x next G ((left.0, false), false)) (λ h s e l. (e, bar_begins x what.Bar refl h)))
 
   filter_went : (left : PredicateTree × Bool) (r : Rest) → FilterGoes x left → next r ≡ x.at →
       WentOutcome x next (Stopped (FilterGoes x)) (turn_read (predicates.filter_turn part left r))

@@ -1,33 +1,34 @@
 -- What the names and aggregates of `group_by` expect comes first.
-use Rattle.std.proofs.Common.{◌≡◌, ℕ, ◌≤◌, Bool, true, false, ◌==◌, List, [], ◌∷◌, ◌++◌, codes, refl, arith, if◌then◌else◌, Option, Some, None, Ok, Err}
+use Rattle.std.proofs.Common.{◌≡◌, ◌⊎◌, inl, inr, ℕ, Bool, true, false, ◌==◌, List, [], ◌∷◌, ◌++◌, codes, refl, sym, ap, subst, if◌then◌else◌, Option, Some, None, Ok, Err}
 use Rattle.mon_value.specs.Answers.{◌>>=◌}
 use Rattle.mql_ast.specs.declared.names.Name.{Name}
 use Rattle.mql_ast.specs.declared.operations.Aggregate.{Aggregate}
 use Rattle.mql_ast.specs.declared.operations.FoldWord.{FoldWord}
 use Rattle.mql_ast.specs.declared.operations.FoldWord.TheVariants as fold
-use Rattle.mql_ast.specs.Rests.{Rest, head, behind, skip}
+use Rattle.mql_ast.specs.Bytes.{is_blank}
+use Rattle.mql_ast.specs.Rests.{Rest, first_of, head, behind, skip}
 use Rattle.mql_parse.specs.declared.faults.What.{What}
 use Rattle.mql_parse.specs.declared.faults.What.TheVariants as what
 use Rattle.mql_parse.specs.Outcomes.{Outcome, unexpected, exact, sign, up_to}
 use Rattle.mql_parse.specs.Repeats.{Done, Again, on_read, repetition, list_turn}
 use Rattle.mql_parse.specs.TokenReading as reading
 use Rattle.mql_parse.specs.Folds as folds
-use Rattle.mql_parse.specs.FaultTokens.{IsBare}
-use Rattle.mql_parse.specs.FaultFirsts.{rank, is_lone_sign}
 use Rattle.mql_parse.specs.Steadiness.{here, next}
+use Rattle.mql_parse.proofs.RestLemmas.{skip_off}
+use Rattle.mql_parse.proofs.Spots.{beyond}
+use Rattle.mql_parse.proofs.TokenEndings.{equal_byte}
 use Rattle.mql_parse.proofs.ListSound.{names_turn_behind, aggregates_turn_behind}
 use Rattle.mql_parse.proofs.Steady.{steady_from, steady_ok}
 use Rattle.mql_parse.proofs.FoldSteady.{aggregate_turn_steady}
-use Rattle.mql_parse.proofs.TokenFronts.{count_word, sum_word, min_word, aggregate_word}
-use Rattle.mql_parse.proofs.Firsts.{Spot, Begun, begun_later, WentOutcome, Meets, Before, First, NoMore, passed_far, first_went, first_to, first_next, first_bind, first_if, first_unexpected, meets_then, meets_ok, meets_map, meets_of, meets_to, meets_by, meets_behind_pass, meets_up_to, before_of, before_if, before_if_here, before_skip, before_behind, before_part_behind, before_unexpected, before_next, before_to, before_then, sign_to}
-use Rattle.mql_parse.proofs.FirstBytes.{token_begins, at_byte, comma_begins, opening_begins, closing_begins, close_bracket_begins, colon_begins}
-use Rattle.mql_parse.proofs.FirstTokens.{all_solid, meets_unexpected, meets_if_here, far_behind, meets_exact, keyword_far, first_name, meets_name}
+use Rattle.mql_parse.proofs.Firsts.{Spot, Begun, Failed, failed_bind, begun_later, WentOutcome, Meets, Before, First, NoMore, passed_far, first_went, first_to, first_next, first_bind, first_if, first_if_or, first_unexpected, meets_then, meets_ok, meets_map, meets_of, meets_to, meets_by, meets_behind_pass, meets_up_to, before_of, before_if, before_if_here, before_skip, before_behind, before_part_behind, before_unexpected, before_next, before_to, before_then, sign_to}
+use Rattle.mql_parse.proofs.FirstBytes.{at_byte, at_bytes, comma_begins, opening_begins, closing_begins, close_bracket_begins, colon_begins}
+use Rattle.mql_parse.proofs.FirstTokens.{all_solid, second_or, exact_fails, meets_unexpected, meets_if_here, far_behind, meets_exact, keyword_far, first_name, meets_name}
 use Rattle.mql_parse.proofs.FirstTurns.{meets_either, skip_far, turn_read, OfState, Stopped, turn_if_read, on_read_read, meets_repetition, meets_list, first_list, first_part}
 
 -- names between brackets
 listed_names : (x : Spot) → Meets x next next NoMore (λ s. repetition (list_turn 93 what.CloseBracket reading.name) [] s)
 listed_names x = meets_list x NoMore 93 what.CloseBracket reading.name refl
-    (comma_begins x what.CloseBracket (omega arith)) (close_bracket_begins x what.CloseBracket (omega arith))
+    (comma_begins x what.CloseBracket refl) (close_bracket_begins x what.CloseBracket refl)
     (λ n g. absurd g) (meets_to x next NoMore reading.name (meets_name x)) names_turn_behind
 
 names_first : (x : Spot) → First x next next what.Name folds.names
@@ -36,9 +37,9 @@ names_first x =
     first_if x next what.Name (λ b. b == 93) (λ s. Ok ([], behind (skip s))) _
     (λ s e h. passed_far {A = List Name} x next what.Name (λ b. b == 93) refl (λ r. Ok ([], r))
     (steady_from next (λ r. Ok ([], r)) (steady_ok next [])) s e h)
-    (close_bracket_begins x what.Name (omega arith))
+    (close_bracket_begins x what.Name refl)
     (first_list x NoMore 93 what.CloseBracket reading.name refl
-    (comma_begins x what.CloseBracket (omega arith)) (close_bracket_begins x what.CloseBracket (omega arith))
+    (comma_begins x what.CloseBracket refl) (close_bracket_begins x what.CloseBracket refl)
     (λ n g. absurd g) (meets_to x next NoMore reading.name (meets_name x)) names_turn_behind what.Name
     (first_to x next what.Name reading.name (first_name x)))
 
@@ -57,7 +58,7 @@ read_as_meets : (x : Spot) (word : FoldWord) (rest : List ℕ) → all_solid res
 read_as_meets x word rest h = meets_behind_pass x here here here NoMore (exact what.Aggregate rest) (λ r. Ok (word, r))
     (meets_exact x what.Aggregate rest h) (meets_ok x here NoMore word)
 
-letter_meets : (x : Spot) (b : ℕ) (read other : Rest → Outcome FoldWord) → (0 == b) ≡ false → (32 == b) ≡ false →
+letter_meets : (x : Spot) (b : ℕ) (read other : Rest → Outcome FoldWord) → (0 == b) ≡ false → (10 == b) ≡ false →
     Meets x here here NoMore read → Meets x here here NoMore other →
     Meets x here here NoMore (λ s. if head s == b then read (behind s) else other s)
 letter_meets x b read other z blank f g =
@@ -78,31 +79,28 @@ fold_behind_m_meets x =
     (letter_meets x 101 folds.fold_behind_me (λ s. Err (unexpected what.Aggregate s)) refl refl (fold_behind_me_meets x)
     (meets_unexpected x here NoMore what.Aggregate)))
 
-fold_begins : (x : Spot) (b : ℕ) (rest : List ℕ) → is_lone_sign b ≡ false → IsBare what.Aggregate (b ∷ rest) →
-    (x.byte == b) ≡ true → Begun x what.Aggregate
-fold_begins x b rest z k =
-    at_byte x what.Aggregate b (token_begins what.Aggregate what.Aggregate b rest (omega arith) z k)
-
 fold_first : (x : Spot) → First x next here what.Aggregate (λ s. folds.fold_here (skip s))
 unfolding folds.fold_here
 fold_first x =
     first_if x here what.Aggregate (λ b. b == 99) _ _
     (λ s e h. keyword_far x here what.Aggregate what.Aggregate 99 (codes "ount") (λ r. Ok (fold.Count, r)) refl
     (steady_ok here fold.Count) s e h)
-    (fold_begins x 99 (codes "ount") refl count_word.bare)
+    (at_byte x what.Aggregate what.Aggregate 99 refl refl)
     (first_if x here what.Aggregate (λ b. b == 115) _ _
     (λ s e h. keyword_far x here what.Aggregate what.Aggregate 115 (codes "um") (λ r. Ok (fold.Sum, r)) refl
     (steady_ok here fold.Sum) s e h)
-    (fold_begins x 115 (codes "um") refl sum_word.bare)
-    (first_if x here what.Aggregate (λ b. b == 97) _ _
+    (at_byte x what.Aggregate what.Aggregate 115 refl refl)
+    (first_if_or x here what.Aggregate (λ b. b == 97) _ _
     (λ s e h. keyword_far x here what.Aggregate what.Aggregate 97 (codes "ggregate") (λ r. Ok (fold.Aggregate, r)) refl
     (steady_ok here fold.Aggregate) s e h)
-    (fold_begins x 97 (codes "ggregate") refl aggregate_word.bare)
+    (second_or x what.Aggregate 97 (codes "ggregate") (folds.read_as fold.Aggregate (codes "aggregate"))
+    (exact_fails what.Aggregate 97 (codes "ggregate") (λ r. Ok (fold.Aggregate, r)))
+    (at_bytes x what.Aggregate what.Aggregate 97 103 refl refl))
     (first_if x here what.Aggregate (λ b. b == 109) (λ s. folds.fold_behind_m (behind (skip s)))
     (λ s. Err (unexpected what.Aggregate (skip s)))
     (λ s e h. passed_far x here what.Aggregate (λ b. b == 109) refl folds.fold_behind_m (fold_behind_m_meets x).steady s
     e h)
-    (fold_begins x 109 (codes "in") refl min_word.bare) (first_unexpected x here what.Aggregate))))
+    (at_byte x what.Aggregate what.Aggregate 109 refl refl) (first_unexpected x here what.Aggregate))))
 
 fold_before : (x : Spot) → Before x here here NoMore folds.fold_here
 unfolding folds.fold_here
@@ -141,7 +139,7 @@ fold_call_meets x at label word =
     let column = λ (s : Rest). up_to 41 what.CloseParenthesis (folds.folded_column word s) in
     meets_map x next next NoMore NoMore (folds.aggregate_of at label word) column (λ y h. h)
     (meets_up_to x next NoMore NoMore 41 what.CloseParenthesis (folds.folded_column word) refl
-    (closing_begins x what.CloseParenthesis (omega arith)) (λ y h. absurd h) (folded_column_meets x word))
+    (closing_begins x what.CloseParenthesis refl) (λ y h. absurd h) (folded_column_meets x word))
 
 abbrev call_of : Name → ℕ → FoldWord → Rest → Outcome Aggregate
 call_of label at word r = sign 40 what.OpenParenthesis r >>= λ k. folds.fold_call at (Some label) word k
@@ -149,7 +147,7 @@ call_of label at word r = sign 40 what.OpenParenthesis r >>= λ k. folds.fold_ca
 call_meets : (x : Spot) (label : Name) (at : ℕ) (word : FoldWord) → Meets x next next NoMore (call_of label at word)
 call_meets x label at word =
     meets_behind_pass x next next next NoMore (sign 40 what.OpenParenthesis) (folds.fold_call at (Some label) word)
-    (sign_to x 40 what.OpenParenthesis refl (opening_begins x what.OpenParenthesis (omega arith)))
+    (sign_to x 40 what.OpenParenthesis refl (opening_begins x what.OpenParenthesis refl))
     (fold_call_meets x at (Some label) word)
 
 labelled_fold_meets : (x : Spot) (label : Name) → Meets x next next NoMore (folds.labelled_fold label)
@@ -170,10 +168,6 @@ abbrev behind_name : Option FoldWord → What
 behind_name None = what.Colon
 behind_name (Some word) = what.OpenParenthesis
 
-behind_name_rank : (o : Option FoldWord) → rank (behind_name o) ≤ rank what.Colon
-behind_name_rank None = omega arith
-behind_name_rank (Some word) = omega arith
-
 bare_fold_first : (x : Spot) (at : ℕ) (o : Option FoldWord) →
     First x next next (behind_name o) (λ r. folds.bare_fold at o (skip r))
 bare_fold_first x at None = first_unexpected x next what.Colon
@@ -182,7 +176,7 @@ bare_fold_first x at (Some word) =
     (λ r. Err (unexpected what.OpenParenthesis (skip r)))
     (λ s e h. passed_far x next what.OpenParenthesis (λ b. b == 40) refl (folds.fold_call at None word)
     (steady_from next (folds.fold_call at None word) (fold_call_meets x at None word).steady) s e h)
-    (opening_begins x what.OpenParenthesis (omega arith)) (first_unexpected x next what.OpenParenthesis)
+    (opening_begins x what.OpenParenthesis refl) (first_unexpected x next what.OpenParenthesis)
 
 bare_fold_before : (x : Spot) (at : ℕ) (o : Option FoldWord) →
     Before x next next NoMore (λ r. folds.bare_fold at o (skip r))
@@ -200,17 +194,47 @@ behind_label first =
     if head (skip first.1) == 58 then folds.labelled_fold first.0 (behind (skip first.1))
     else folds.bare_fold first.0.at (folds.fold_of first.0.text) (skip first.1)
 
+-- no colon begins a fold
+fold_fails : (r : Rest) → (head r == 58) ≡ true → Failed (folds.fold_here (skip r))
+unfolding folds.fold_here
+fold_fails r h =
+    let same = equal_byte (head r) 58 h in
+    subst (λ s. Failed (if head s == 99 then folds.read_as fold.Count (codes "count") s else
+    (if head s == 115 then folds.read_as fold.Sum (codes "sum") s else
+    (if head s == 97 then folds.read_as fold.Aggregate (codes "aggregate") s else
+    (if head s == 109 then folds.fold_behind_m (behind s) else Err (unexpected what.Aggregate s))))))
+    (sym (skip_off r (ap is_blank same)))
+    (subst (λ b. Failed (if b == 99 then folds.read_as fold.Count (codes "count") r else
+    (if b == 115 then folds.read_as fold.Sum (codes "sum") r else
+    (if b == 97 then folds.read_as fold.Aggregate (codes "aggregate") r else
+    (if b == 109 then folds.fold_behind_m (behind r) else Err (unexpected what.Aggregate r))))))
+    (sym same) tt)
+
+-- two colons don't stand behind a name
+colon_allowed : (x : Spot) (first : Name) (o : Option FoldWord) (t : Rest) → skip t ≡ beyond x →
+    (x.byte == 58) ≡ true → Begun x (behind_name o) ⊎ Failed (folds.labelled_fold first (behind (skip t)))
+colon_allowed x first (Some word) t e h = inl (colon_begins x what.OpenParenthesis refl refl h)
+colon_allowed x first None t e h = either (first_of x.more == 58) refl
+  where
+    either : (b : Bool) → (first_of x.more == 58) ≡ b →
+        Begun x what.Colon ⊎ Failed (folds.labelled_fold first (behind (skip t)))
+    either true g =
+        inr (subst (λ r. Failed (folds.labelled_fold first (behind r))) (sym e)
+        (failed_bind (folds.fold_here (skip (behind (beyond x)))) _ (fold_fails (behind (beyond x)) g)))
+    either false g =
+        inl (at_byte x what.Colon what.Colon 58 (ap (λ b. if b then what.Colons else what.Colon) g) refl h)
+
 behind_label_meets : (x : Spot) (first : Name) → Meets x next next NoMore (λ r. behind_label (first, r))
 behind_label_meets x first =
     let o = folds.fold_of first.text in
     let labelled = folds.labelled_fold first in
     let there = labelled_fold_meets x first in
     meets_of x next next NoMore (behind_name o) (λ r. behind_label (first, r))
-    (first_if x next (behind_name o) (λ b. b == 58) (λ r. labelled (behind (skip r)))
+    (first_if_or x next (behind_name o) (λ b. b == 58) (λ r. labelled (behind (skip r)))
     (λ r. folds.bare_fold first.at o (skip r))
     (λ s e h. passed_far x next (behind_name o) (λ b. b == 58) refl labelled (steady_from next labelled there.steady) s e
     h)
-    (colon_begins x (behind_name o) (behind_name_rank o)) (bare_fold_first x first.at o))
+    (colon_allowed x first o) (bare_fold_first x first.at o))
     (before_if x next NoMore (λ b. b == 58) (λ r. labelled (behind (skip r)))
     (λ r. folds.bare_fold first.at o (skip r)) (before_part_behind x next NoMore labelled there)
     (bare_fold_before x first.at o))
@@ -249,7 +273,7 @@ aggregates_on_meets x so_far a =
     (before_part_behind x next G (λ r. Ok ((all, true), r)) (meets_ok x next G (all, true)))
     (skip_far x next G (λ b. b == 44) refl (λ r. Ok ((all, true), r))
     (steady_from next (λ r. Ok ((all, true), r)) (steady_ok next (all, true))))
-    (meets_ok x next G (all, false)) (λ h s e l. (e, comma_begins x what.Comma (omega arith) h)))
+    (meets_ok x next G (all, false)) (λ h s e l. (e, comma_begins x what.Comma refl h)))
 
 aggregate_turn_meets : (x : Spot) (so_far : List Aggregate) →
     Meets x next next (OfState (CommaGoes x)) (λ s. turn_read (folds.aggregate_turn so_far s))
@@ -270,7 +294,7 @@ aggregate_turn_went x so_far r g e =
     (turn_read (on_read (folds.aggregates_on so_far) (folds.aggregate r)))
     ((first_part x what.Name folds.aggregate (folds.aggregates_on so_far) (aggregate_first x)
     (λ a. (aggregates_on_meets x so_far a).steady)).names r e)
-    (begun_later x what.Comma what.Name (omega arith) g)
+    (begun_later x what.Comma what.Name refl g)
 
 pub aggregates_meets : (x : Spot) → Meets x next next (CommaGoes x) folds.aggregates
 unfolding folds.aggregates

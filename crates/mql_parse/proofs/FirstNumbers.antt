@@ -49,11 +49,11 @@ map_meets x f (Ok y) p h = λ l. by_part (h l)
         ReadSame x (f y.0) y.1 (map_outcome f p) ⊎ ((y.1.at ≡ x.at) × ⊥)
     by_part (inl c) = inl (c.0, (ap (map_outcome f) c.1.0, c.1.1))
     by_part (inr c) = absurd c.1
-map_meets x f (Err g) p h = λ e w k n. by_part (h e w k n)
+map_meets x f (Err g) p h = λ e w k. by_part w (h e w k)
   where
-    by_part : {w : What} → Begun x w ⊎ Failed p → Begun x w ⊎ Failed (map_outcome f p)
-    by_part (inl b) = inl b
-    by_part (inr b) = inr (failed_bind p (λ y. Ok (f y.0, y.1)) b)
+    by_part : (w : What) → Begun x w ⊎ Failed p → Begun x w ⊎ Failed (map_outcome f p)
+    by_part w (inl b) = inl b
+    by_part w (inr b) = inr (failed_bind p (λ y. Ok (f y.0, y.1)) b)
 
 -- metrics
 slash_meets : (x : Spot) (after : Bool) (at : ℕ) (bs cs : List ℕ) →
@@ -62,7 +62,7 @@ slash_meets : (x : Spot) (after : Bool) (at : ℕ) (bs cs : List ℕ) →
     { at = at; bytes = bs })) else Ok ([], record { at = at; bytes = bs }))
     (if after then Err (unexpected what.Metric (record { at = at; bytes = cs })) else Ok
     ([], record { at = at; bytes = cs }))
-slash_meets x true at bs cs c = λ e w k n. inr tt
+slash_meets x true at bs cs c = λ e w k. inr tt
 slash_meets x false at bs cs c = λ l. inl (record { at = at; bytes = cs }, (refl, c))
 
 metric_spot : (x : Spot) (after : Bool) (at : ℕ) (bs : List ℕ) → at ≡ x.at →
@@ -105,7 +105,7 @@ digits_spot x most value at (b ∷ bs) e = by_tests (is_digit b) (nat_le (value 
         else Ok (value, record { at = at; bytes = b ∷ bs })) (reading.digits most value at (instead x))
     by_tests true true = beyond_meets x here NoMore (at + 1) _ _
         ((digits_steady most (value * 10 + (b - 48))).reaches (record { at = at + 1; bytes = bs })) (omega (arith, e))
-    by_tests true false = λ d w k n. absurd (cc)
+    by_tests true false = λ d w k. absurd (cc)
     by_tests false u = λ l. inl
         (record { at = at; bytes = instead x }, (refl, splits x [] (b ∷ bs) at (omega (arith, e))))
 
@@ -116,7 +116,7 @@ meets_digits x most = meets_bytes x (reading.digits most) (digits_steady most)
     (if_same x here NoMore (nat_le (value * 10 + (b - 48)) most) (nat_le (value * 10 + (b - 48)) most) _ _
     (Err (fault NumberTooLarge (record { at = at; bytes = b ∷ bs })))
     (Err (fault NumberTooLarge (record { at = at; bytes = b ∷ cs }))) refl (ih (value * 10 + (b - 48)))
-    (λ e w k n. inr tt))
+    (λ e w k. inr tt))
     (λ l. inl (record { at = at; bytes = b ∷ cs }, (refl, c))))
 
 -- numbers
@@ -143,7 +143,7 @@ first_positive x most =
     (λ s. Err (unexpected what.Number (skip s)))
     (λ s e h. passed_far x here what.Number begins_positive refl
     (λ r. reading.digits most (head (skip s) - 48) r.at r.bytes) (digits_steady most (head (skip s) - 48)) s e h)
-    (λ h. digit_begins x what.Number (omega arith) (and_first (is_digit x.byte) (not (x.byte == 48)) h))
+    (λ h. digit_begins x what.Number refl (and_first (is_digit x.byte) (not (x.byte == 48)) h))
     (first_unexpected x here what.Number)
 
 before_positive : (x : Spot) (most : ℕ) → Before x next here NoMore (reading.positive most)
@@ -167,7 +167,7 @@ unfolding reading.number
 first_number x most =
     first_if x here what.Number (λ b. b == 48) (λ s. Ok (0, behind (skip s))) (reading.positive most)
     (λ s e h. passed_far {A = ℕ} x here what.Number (λ b. b == 48) refl (λ r. Ok (0, r)) (steady_ok here 0) s e h)
-    (λ h. digit_begins x what.Number (omega arith) (ap is_digit (equal_byte x.byte 48 h)))
+    (λ h. digit_begins x what.Number refl (ap is_digit (equal_byte x.byte 48 h)))
     (first_positive x most)
 
 before_number : (x : Spot) (most : ℕ) → Before x next here NoMore (reading.number most)
@@ -247,12 +247,12 @@ units_same x n b s t c l = by_tests (unit_seconds b == 0) (nat_le (n * unit_seco
         Err (fault NumberTooLarge s)))
         (if t' then Err (unexpected what.Unit t) else (if u then Ok (pos (n * unit_seconds b), behind t) else
         Err (fault NumberTooLarge t)))
-    by_tests true u = λ e w k m. inr tt
+    by_tests true u = λ e w k. inr tt
     by_tests false true = λ e. inl (behind t, (refl, splits_behind x s t c l))
-    by_tests false false = λ e w k m. inr tt
+    by_tests false false = λ e w k. inr tt
 
 units_spot : (x : Spot) (n : ℕ) (s t : Rest) → s.at ≡ x.at → MeetsOutcome x here NoMore (units_by n (head s) s)
-    (units_by n 32 t)
+    (units_by n 10 t)
 units_spot x n s t e = by_tests (unit_seconds (head s) == 0) (nat_le (n * unit_seconds (head s)) longest) refl
   where
     of_bytes : (at : ℕ) (bs : List ℕ) → (unit_seconds (first_of bs) == 0) ≡ false → at + 1 ≤ (behind_first at bs).at
@@ -262,9 +262,9 @@ units_spot x n s t e = by_tests (unit_seconds (head s) == 0) (nat_le (n * unit_s
     by_tests : (t' u : Bool) → (unit_seconds (head s) == 0) ≡ t' → MeetsOutcome x here NoMore
         (if t' then Err (unexpected what.Unit s) else (if u then Ok (pos (n * unit_seconds (head s)), behind s) else
         Err (fault NumberTooLarge s))) (Err (unexpected what.Unit t))
-    by_tests true u h = λ d w k m. inr tt
+    by_tests true u h = λ d w k. inr tt
     by_tests false true h = λ l. absurd (omega (arith, l, e, of_bytes s.at s.bytes h))
-    by_tests false false h = λ d w k m. inr tt
+    by_tests false false h = λ d w k. inr tt
 
 meets_units : (x : Spot) (n : ℕ) → Meets x here here NoMore (λ r. reading.units (n, r))
 meets_units x n = record {

@@ -1,5 +1,5 @@
 -- What pipes expect comes first.
-use Rattle.std.proofs.Common.{◌≡◌, ℕ, zero, suc, ◌≤◌, Bool, true, false, ◌==◌, List, [], ◌∷◌, ◌++◌, codes, refl, sym, ap, ◌∙◌, subst, arith, if◌then◌else◌, Ok, Err}
+use Rattle.std.proofs.Common.{◌≡◌, ℕ, zero, suc, Bool, true, false, ◌==◌, List, [], ◌∷◌, ◌++◌, codes, refl, sym, ap, ◌∙◌, subst, if◌then◌else◌, Ok, Err}
 use Rattle.mon_value.specs.Answers.{◌>>=◌}
 use Rattle.mql_ast.specs.declared.names.Name.{Name}
 use Rattle.mql_ast.specs.declared.pipes.How.{How}
@@ -13,15 +13,13 @@ use Rattle.mql_parse.specs.Outcomes.{Outcome, unexpected, exact, sign, map_outco
 use Rattle.mql_parse.specs.Repeats.{Done, Again, Stuck, repetition}
 use Rattle.mql_parse.specs.TokenReading as reading
 use Rattle.mql_parse.specs.PipeReading as pipes
-use Rattle.mql_parse.specs.FaultTokens.{IsBare}
-use Rattle.mql_parse.specs.FaultFirsts.{rank}
 use Rattle.mql_parse.specs.Steadiness.{here, next, unit_read}
 use Rattle.mql_parse.proofs.PipeSound.{operation_turn_behind, branch_turn_behind}
 use Rattle.mql_parse.proofs.Steady.{steady_from}
 use Rattle.mql_parse.proofs.PipeSteady.{operation_turn_steady, branch_turn_steady, behind_fetch, pipe_steady, branches_steady_by}
-use Rattle.mql_parse.proofs.TokenFronts.{fetch_word, join_word, union_word}
+use Rattle.mql_parse.proofs.FirstWords.{admits}
 use Rattle.mql_parse.proofs.Firsts.{Spot, Begun, begun_later, WentOutcome, Meets, Before, FirstOutcome, First, NoMore, passed_far, first_went, first_to, first_next, first_bind, first_behind_pass, first_if, first_sign, first_unexpected, meets_then, meets_bind, meets_ok, meets_map, meets_of, meets_from, meets_to, meets_by, meets_behind_pass, before_of, before_if, before_skip, before_behind, before_part_behind, before_unexpected, before_fault, before_here, before_map, before_next, sign_to}
-use Rattle.mql_parse.proofs.FirstBytes.{token_begins, at_byte, bar_begins, colon_begins, semicolon_begins, open_brace_begins, close_brace_begins}
+use Rattle.mql_parse.proofs.FirstBytes.{at_byte, at_bytes, slash_begins, bar_begins, colon_begins, semicolon_begins, open_brace_begins, close_brace_begins}
 use Rattle.mql_parse.proofs.FirstTokens.{all_solid, meets_exact, first_exact, meets_apart, first_name, meets_name}
 use Rattle.mql_parse.proofs.FirstNumbers.{meets_metric_from}
 use Rattle.mql_parse.proofs.FirstTurns.{meets_either, went_either, skip_far, skip_went, turn_read, OfState, Stopped, turn_if_read, on_read_read, meets_repetition, list_state, part_meets}
@@ -40,9 +38,9 @@ last_groups : (so_far : Bool) (ops : List OpTree) (op : OpTree) →
 last_groups so_far [] op = refl
 last_groups so_far (first ∷ ops) op = last_groups (pipes.is_group_by first.what) ops op
 
-op_on_rank : (groups : Bool) → rank (op_on groups) ≤ rank what.Bar
-op_on_rank true = omega arith
-op_on_rank false = omega arith
+op_on_admits : (groups : Bool) → admits (op_on groups) what.Bar ≡ true
+op_on_admits true = refl
+op_on_admits false = refl
 
 abbrev read_on : List OpTree → OpTree × Bool → (List OpTree × Bool) × Bool
 read_on ops read = (pipes.with_op ops read, true)
@@ -85,7 +83,7 @@ bar_or_done x d ops =
     (before_part_behind x next G (further d ops) (further_meets x d ops))
     (skip_far x next G (λ b. b == 124) refl (further d ops) (steady_from next (further d ops) (further_meets x d ops).steady))
     (meets_ok x next G ((ops, false), false))
-    (λ h s e l. (e, bar_begins x (op_on (pipes.groups_last ops)) (op_on_rank (pipes.groups_last ops)) h))
+    (λ h s e l. (e, bar_begins x (op_on (pipes.groups_last ops)) (op_on_admits (pipes.groups_last ops)) h))
 
 ops_state_meets : (x : Spot) (d : ℕ) (ops : List OpTree) (bar : Bool) →
     Meets x next next (OfState (BarredGoes x)) (ops_state d (ops, bar))
@@ -129,23 +127,23 @@ operations_meets x d =
 
 -- how branches are combined
 how_keyword : (x : Spot) (c : ℕ) (cs : List ℕ) (h : How) → (0 == c) ≡ false → all_solid (c ∷ cs) ≡ true →
-    Keyword x NoMore c (λ t. exact what.How (c ∷ cs) t >>= λ r. Ok (h, r))
+    Keyword x NoMore c cs (λ t. exact what.How (c ∷ cs) t >>= λ r. Ok (h, r))
 how_keyword x c cs h z k = keyword x NoMore what.How c cs (λ r. Ok (h, r)) z k
     (meets_to x here NoMore (λ r. Ok (h, r)) (meets_ok x here NoMore h))
 
 how_first : (x : Spot) → First x next next what.How (λ m. pipes.how_here (skip m))
 how_first x =
-    first_keyword x NoMore what.How 106 _ _ (how_keyword x 106 (codes "oin") how.Join refl refl)
-    (at_byte x what.How 106 (token_begins what.How what.How 106 (codes "oin") (omega arith) refl join_word.bare))
-    (first_keyword x NoMore what.How 117 _ (λ m. Err (unexpected what.How (skip m)))
+    first_keyword x NoMore what.How 106 (codes "oin") _ _ (how_keyword x 106 (codes "oin") how.Join refl refl)
+    (λ h k. at_byte x what.How what.How 106 refl refl h)
+    (first_keyword x NoMore what.How 117 (codes "nion") _ (λ m. Err (unexpected what.How (skip m)))
     (how_keyword x 117 (codes "nion") how.Union refl refl)
-    (at_byte x what.How 117 (token_begins what.How what.How 117 (codes "nion") (omega arith) refl union_word.bare))
+    (λ h k. at_byte x what.How what.How 117 refl refl h)
     (first_unexpected x next what.How))
 
 how_before : (x : Spot) → Before x next next NoMore (λ m. pipes.how_here (skip m))
 how_before x =
-    before_keyword x NoMore 106 _ _ (how_keyword x 106 (codes "oin") how.Join refl refl)
-    (before_keyword x NoMore 117 _ (λ m. Err (unexpected what.How (skip m)))
+    before_keyword x NoMore 106 (codes "oin") _ _ (how_keyword x 106 (codes "oin") how.Join refl refl)
+    (before_keyword x NoMore 117 (codes "nion") _ (λ m. Err (unexpected what.How (skip m)))
     (how_keyword x 117 (codes "nion") how.Union refl refl)
     (before_skip x next NoMore (λ t. Err (unexpected what.How t)) (before_unexpected x next NoMore what.How)))
 
@@ -159,7 +157,7 @@ branches_how_meets : (x : Spot) (at : ℕ) (all : List PipeTree) → Meets x nex
 unfolding pipes.branches_how
 branches_how_meets x at all =
     meets_behind_pass x next next next NoMore (sign 124 what.Bar) (joined at all)
-    (sign_to x 124 what.Bar refl (bar_begins x what.Bar (omega arith)))
+    (sign_to x 124 what.Bar refl (bar_begins x what.Bar refl))
     (meets_of x next next NoMore what.How (joined at all)
     (first_next x next what.How (named_at at all)
     (λ n. first_map x what.How (λ by. Branches at (branches all) by n) (λ m. pipes.how_here (skip m)) (how_first x)))
@@ -168,10 +166,6 @@ branches_how_meets x at all =
     (how_before x))))
 
 -- a fetch
-metric_token : IsBare what.Metric (47 ∷ 97 ∷ [])
-unfolding skip
-metric_token = ((2, record { at = 0; text = 47 ∷ 97 ∷ [] }), refl)
-
 abbrev behind_slash : ℕ → Rest → Outcome Name
 behind_slash n slash = reading.metric_from true slash.at slash.bytes >>= λ y. Ok (metric_name n y.0, y.1)
 
@@ -182,8 +176,8 @@ metric_read x n = meets_map x here here NoMore NoMore (metric_name n)
 abbrev metric_at : ℕ → Rest → Outcome Name
 metric_at n t = exact what.Metric (codes "/") t >>= behind_slash n
 
-metric_keyword : (x : Spot) → Keyword x NoMore 47 (λ t. metric_at t.at t)
-metric_keyword x = keyword_here x NoMore 47 metric_at
+metric_keyword : (x : Spot) → Keyword x NoMore 47 [] (λ t. metric_at t.at t)
+metric_keyword x = keyword_here x NoMore 47 [] metric_at
     (λ n. keyword x NoMore what.Metric 47 [] (behind_slash n) refl refl
     (meets_to x here NoMore (behind_slash n) (metric_read x n)))
 
@@ -195,7 +189,7 @@ metric_meets x =
     (λ n. first_behind_pass x next here next what.Metric (λ s. exact what.Metric (codes "/") (skip s))
     (behind_slash n)
     (first_exact x what.Metric 47 [] refl
-    (at_byte x what.Metric 47 (token_begins what.Metric what.Metric 47 (97 ∷ []) (omega arith) refl metric_token)))
+    (slash_begins x what.Metric refl))
     (meets_to x here NoMore (behind_slash n) (metric_read x n)).steady))
     (before_skip x next NoMore (λ t. metric_at t.at t)
     (before_of x here next NoMore (λ t. metric_at t.at t) (metric_keyword x).meets))
@@ -214,7 +208,7 @@ colons_meets x n schema =
     meets_of x next next NoMore what.Colons (colons n schema)
     (first_behind_pass x next here next what.Colons (λ s. exact what.Colons (codes "::") (skip s)) on
     (first_exact x what.Colons 58 (58 ∷ []) refl
-    (colon_begins x what.Colons (omega arith)))
+    (colon_begins x what.Colons refl refl))
     (steady_from next on metric.steady))
     (before_skip x next NoMore (λ t. exact what.Colons (codes "::") t >>= on)
     (before_of x here next NoMore (λ t. exact what.Colons (codes "::") t >>= on)
@@ -224,10 +218,10 @@ colons_meets x n schema =
 abbrev named : ℕ → Rest → Outcome SourceTree
 named n space = reading.name space >>= λ schema. colons n schema.0 schema.1
 
-fetch_keyword : (x : Spot) → Keyword x NoMore 102 pipes.fetch
+fetch_keyword : (x : Spot) → Keyword x NoMore 102 (codes "etch") pipes.fetch
 unfolding pipes.fetch
 fetch_keyword x =
-    keyword_here x NoMore 102 (λ n t. exact what.Fetch (codes "fetch") t >>= behind_fetch n)
+    keyword_here x NoMore 102 (codes "etch") (λ n t. exact what.Fetch (codes "fetch") t >>= behind_fetch n)
     (λ n. keyword x NoMore what.Fetch 102 (codes "etch") (behind_fetch n) refl refl
     (meets_apart x next NoMore what.Name (named n)
     (first_bind x next next next what.Name reading.name (λ schema. colons n schema.0 schema.1)
@@ -253,14 +247,14 @@ branch_turn_meets : (x : Spot) (pipe : Rest → Outcome PipeTree) → Meets x ne
     (so_far : List PipeTree) → Meets x next next (OfState NoMore) (λ s. turn_read (pipes.branch_turn pipe so_far s))
 unfolding pipes.branch_turn
 branch_turn_meets x pipe k so_far =
-    part_meets x 59 125 what.CloseBrace refl refl (semicolon_begins x what.CloseBrace (omega arith))
-    (close_brace_begins x what.CloseBrace (omega arith)) (PipeGoes x) pipe (pipes.branch_behind so_far)
+    part_meets x 59 125 what.CloseBrace refl refl (semicolon_begins x what.CloseBrace refl)
+    (close_brace_begins x what.CloseBrace refl) (PipeGoes x) pipe (pipes.branch_behind so_far)
     (λ p. so_far ++ p ∷ []) (λ p r. branch_shape so_far p r)
     (λ p g. close_goes (pipes.groups_last (pipes.ops_of p)) g) k
   where
     close_goes : (groups : Bool) → Begun x (op_on groups) → Begun x what.CloseBrace
-    close_goes true g = begun_later x what.Comma what.CloseBrace (omega arith) g
-    close_goes false g = begun_later x what.Bar what.CloseBrace (omega arith) g
+    close_goes true g = begun_later x what.Comma what.CloseBrace refl g
+    close_goes false g = begun_later x what.Bar what.CloseBrace refl g
 
 -- behind the first branch
 abbrev behind_first_branch : ℕ → ℕ → PipeTree × Rest → Outcome SourceTree
@@ -268,14 +262,14 @@ behind_first_branch d at first =
     sign 59 (pipes.behind_branch first.0) first.1 >>= λ more.
     repetition (pipes.branch_turn (pipes.pipe d)) (first.0 ∷ []) more >>= λ all. pipes.branches_how at all.0 all.1
 
-branch_on_rank : (groups : Bool) → rank (if groups then what.Comma else what.Semicolon) ≤ rank what.Semicolon
-branch_on_rank true = omega arith
-branch_on_rank false = omega arith
+branch_on_admits : (groups : Bool) → admits (if groups then what.Comma else what.Semicolon) what.Semicolon ≡ true
+branch_on_admits true = refl
+branch_on_admits false = refl
 
 branch_goes : (x : Spot) (groups : Bool) → Begun x (op_on groups) →
     Begun x (if groups then what.Comma else what.Semicolon)
 branch_goes x true g = g
-branch_goes x false g = begun_later x what.Bar what.Semicolon (omega arith) g
+branch_goes x false g = begun_later x what.Bar what.Semicolon refl g
 
 further_branches : (x : Spot) (d at : ℕ) → Meets x next next (PipeGoes x) (pipes.pipe d) → (first : PipeTree) →
     Meets x next next NoMore (λ more. repetition (pipes.branch_turn (pipes.pipe d)) (first ∷ []) more >>=
@@ -295,7 +289,7 @@ unfolding pipes.branches_with
 branches_meets x d at k =
     let word = λ (first : PipeTree). pipes.behind_branch first in
     let begins = λ (first : PipeTree). semicolon_begins x (word first)
-    (branch_on_rank (pipes.groups_last (pipes.ops_of first))) in
+    (branch_on_admits (pipes.groups_last (pipes.ops_of first))) in
     meets_bind x next next next (PipeGoes x) NoMore (pipes.pipe d) (behind_first_branch d at) k
     (λ first. meets_behind_pass x next next next NoMore (sign 59 (word first)) _
     (sign_to x 59 (word first) refl (begins first)) (further_branches x d at k first))
@@ -319,17 +313,17 @@ group_far x (suc d) s e h =
 source_first : (x : Spot) (d : ℕ) → First x next next what.Fetch (pipes.source d)
 unfolding pipes.source_with
 source_first x d =
-    first_keyword x NoMore what.Fetch 102 pipes.fetch _ (fetch_keyword x)
-    (at_byte x what.Fetch 102 (token_begins what.Fetch what.Fetch 102 (codes "etch") (omega arith) refl fetch_word.bare))
+    first_keyword x NoMore what.Fetch 102 (codes "etch") pipes.fetch _ (fetch_keyword x)
+    (at_bytes x what.Fetch what.Fetch 102 101 refl refl)
     (first_if x next what.Fetch (λ b. b == 123) (λ s. pipes.pipe_group d (skip s) (behind (skip s)))
-    (λ s. Err (unexpected what.Fetch (skip s))) (group_far x d) (open_brace_begins x what.Fetch (omega arith))
+    (λ s. Err (unexpected what.Fetch (skip s))) (group_far x d) (open_brace_begins x what.Fetch refl)
     (first_unexpected x next what.Fetch))
 
 source_before : (x : Spot) (d : ℕ) → Before x here next NoMore (λ t. pipes.pipe_group d t (behind t)) →
     Before x next next NoMore (pipes.source d)
 unfolding pipes.source_with
 source_before x d k =
-    before_keyword x NoMore 102 pipes.fetch _ (fetch_keyword x)
+    before_keyword x NoMore 102 (codes "etch") pipes.fetch _ (fetch_keyword x)
     (before_if x next NoMore (λ b. b == 123) (λ s. pipes.pipe_group d (skip s) (behind (skip s)))
     (λ s. Err (unexpected what.Fetch (skip s)))
     (before_skip x next NoMore (λ t. pipes.pipe_group d t (behind t)) k)

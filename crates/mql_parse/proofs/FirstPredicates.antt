@@ -1,47 +1,31 @@
 -- What predicates expect comes first.
-use Rattle.std.proofs.Common.{◌≡◌, inl, ℕ, Bool, true, false, ◌==◌, ◌||◌, List, [], ◌∷◌, codes, refl, sym, subst, arith, if◌then◌else◌, Ok, Err}
+use Rattle.std.proofs.Common.{◌≡◌, ℕ, Bool, true, false, ◌==◌, ◌||◌, List, ◌∷◌, codes, refl, ap, if◌then◌else◌, Ok, Err}
 use Rattle.mon_value.specs.Answers.{◌>>=◌}
+use Rattle.mon_value.specs.declared.values.FieldValue.{FieldValue}
 use Rattle.mon_value.specs.declared.values.FieldValue.TheVariants as field
 use Rattle.mql_ast.specs.declared.names.Name.{Name}
 use Rattle.mql_ast.specs.declared.predicates.Comparison.{Comparison}
 use Rattle.mql_ast.specs.declared.predicates.Comparison.TheVariants as comparison
 use Rattle.mql_ast.specs.Trees.{PredicateTree, Compare, Like}
 use Rattle.mql_ast.specs.Bytes.{is_letter, is_digit}
-use Rattle.mql_ast.specs.Rests.{Rest, head, behind, skip}
+use Rattle.mql_ast.specs.Rests.{Rest, first_of, head, behind, skip}
 use Rattle.mql_ast.specs.Tokens.{word_here}
 use Rattle.mql_parse.specs.declared.faults.What.TheVariants as what
 use Rattle.mql_parse.specs.Outcomes.{Outcome, unexpected, exact, sign, map_outcome}
 use Rattle.mql_parse.specs.TokenReading as reading
 use Rattle.mql_parse.specs.PredicateReading as predicates
 use Rattle.mql_parse.specs.PredicateReading.{Compared, WithValue, WithPattern, Deeper, Opposite, Group}
-use Rattle.mql_parse.specs.FaultTokens.{IsBare}
-use Rattle.mql_parse.specs.Steadiness.{here, next, unit_read}
-use Rattle.mql_parse.proofs.Steady.{steady_from, steady_ok, steady_map, pass_bind}
+use Rattle.mql_parse.specs.Steadiness.{here, next}
+use Rattle.mql_parse.proofs.Steady.{steady_from, steady_ok, steady_map}
 use Rattle.mql_parse.proofs.TokenSteady.{text_steady}
-use Rattle.mql_parse.proofs.Firsts.{Spot, Begun, Meets, Before, FirstOutcome, First, NoMore, passed_far, if_first, kind_names, first_on, meets_then, meets_ok, meets_map, meets_of, meets_quoted, meets_to, meets_behind_pass, first_if, first_unexpected, before_of, before_if, before_skip, before_behind, before_behind_skip, before_unexpected, before_map, before_next, before_behind_pass, sign_names, before_sign}
-use Rattle.mql_parse.proofs.FirstBytes.{token_begins, byte_begins, at_byte, exclamation_begins}
-use Rattle.mql_parse.proofs.FirstTokens.{all_solid, meets_unexpected, meets_if_here, far_behind, meets_exact, keyword_far, meets_word, first_word}
+use Rattle.mql_parse.proofs.Firsts.{Spot, Begun, Meets, Before, First, FirstOutcome, NoMore, passed_far, first_next, first_bind, first_behind_pass, first_sign, meets_then, meets_ok, meets_map, meets_of, meets_to, meets_behind_pass, first_if, first_if_or, first_unexpected, before_of, before_if, before_skip, before_behind, before_behind_skip, before_unexpected, before_map, before_next, before_behind_pass, before_sign}
+use Rattle.mql_parse.proofs.FirstBytes.{at_byte, at_bytes, exclamation_begins, quote_begins, minus_or_digit}
+use Rattle.mql_parse.proofs.FirstTokens.{all_solid, exact_fails, second_or, meets_unexpected, meets_if_here, far_behind, meets_exact, keyword_far, meets_word, first_word}
 use Rattle.mql_parse.proofs.FirstNumbers.{before_signed, signed_far, map_first}
 use Rattle.mql_parse.proofs.FirstQuotes.{meets_text, meets_pattern}
 
 -- comparisons
-equals_token : IsBare what.Comparison (61 ∷ 61 ∷ [])
-unfolding skip
-equals_token = inl ((2, comparison.Equal), refl)
-
-less_token : IsBare what.Comparison (60 ∷ [])
-unfolding skip
-less_token = inl ((1, comparison.Less), refl)
-
-greater_token : IsBare what.Comparison (62 ∷ [])
-unfolding skip
-greater_token = inl ((1, comparison.Greater), refl)
-
-compares_at : (x : Spot) (b : ℕ) → IsBare what.Comparison (b ∷ []) → (x.byte == b) ≡ true →
-    Begun x what.Comparison
-compares_at x b k = at_byte x what.Comparison b (byte_begins what.Comparison what.Comparison b (omega arith) k)
-
-byte_meets : {A : Type 0} (x : Spot) (a : A) (test : ℕ → Bool) (other : Rest → Outcome A) → test 32 ≡ false →
+byte_meets : {A : Type 0} (x : Spot) (a : A) (test : ℕ → Bool) (other : Rest → Outcome A) → test 10 ≡ false →
     test 0 ≡ false → Meets x here here NoMore other →
     Meets x here here NoMore (λ s. if test (head s) then Ok (a, behind s) else other s)
 byte_meets x a test other z n k =
@@ -75,24 +59,23 @@ comparison_first x =
     first_if x here what.Comparison (λ b. b == 61) (λ s. predicates.behind_equals (behind (skip s))) _
     (λ s e h. passed_far x here what.Comparison (λ b. b == 61) refl predicates.behind_equals
     (behind_equals_meets x).steady s e h)
-    (at_byte x what.Comparison 61
-    (token_begins what.Comparison what.Comparison 61 (61 ∷ []) (omega arith) refl equals_token))
+    (at_byte x what.Comparison what.Comparison 61 refl refl)
     (first_if x here what.Comparison (λ b. b == 33) (λ s. not_equal (behind (skip s))) _
     (λ s e h. passed_far x here what.Comparison (λ b. b == 33) refl not_equal (not_equal_meets x).steady s e h)
-    (exclamation_begins x what.Comparison (omega arith))
+    (exclamation_begins x what.Comparison refl)
     (first_if x here what.Comparison (λ b. b == 60)
     (λ s. predicates.maybe_equal comparison.Less comparison.AtMost (behind (skip s))) _
     (λ s e h. passed_far x here what.Comparison (λ b. b == 60) refl
     (predicates.maybe_equal comparison.Less comparison.AtMost)
     (maybe_equal_meets x comparison.Less comparison.AtMost).steady s e h)
-    (compares_at x 60 less_token)
+    (at_byte x what.Comparison what.Comparison 60 refl refl)
     (first_if x here what.Comparison (λ b. b == 62)
     (λ s. predicates.maybe_equal comparison.Greater comparison.AtLeast (behind (skip s)))
     (λ s. Err (unexpected what.Comparison (skip s)))
     (λ s e h. passed_far x here what.Comparison (λ b. b == 62) refl
     (predicates.maybe_equal comparison.Greater comparison.AtLeast)
     (maybe_equal_meets x comparison.Greater comparison.AtLeast).steady s e h)
-    (compares_at x 62 greater_token) (first_unexpected x here what.Comparison))))
+    (at_byte x what.Comparison what.Comparison 62 refl refl) (first_unexpected x here what.Comparison))))
 
 comparison_before : (x : Spot) → Before x next here NoMore predicates.comparison_kind
 unfolding predicates.comparison_kind
@@ -127,22 +110,34 @@ truth_before x c cs truth h =
     (meets_behind_pass x here here here NoMore (exact what.Truth (c ∷ cs)) (λ r. Ok (field.Bool truth, r))
     (meets_exact x what.Truth (c ∷ cs) h) (meets_ok x here NoMore (field.Bool truth))))
 
-value_names : (x : Spot) (s : Rest) → next s ≡ x.at → FirstOutcome x here what.Text (predicates.value s)
+true_begins : (x : Spot) → (x.byte == 116) ≡ true → Begun x what.Text
+true_begins x h = either (first_of x.more == 114) refl
+  where
+    either : (t : Bool) → (first_of x.more == 114) ≡ t → Begun x what.Text
+    either true e = at_byte x what.Text what.Truth 116 (ap (λ t. if t then what.Truth else what.Operation) e) refl h
+    either false e =
+        at_byte x what.Text what.Operation 116 (ap (λ t. if t then what.Truth else what.Operation) e) refl h
+
+value_first : (x : Spot) → First x next here what.Text predicates.value
 unfolding predicates.value
-value_names x s e =
-    if_first x here what.Text (head (skip s) == 34) _ _
-    (λ h. passed_far x here what.Text (λ b. b == 34) refl (λ r. map_outcome (λ y. field.Text y) (reading.text r))
+value_first x =
+    let yes : Rest → Outcome FieldValue = λ r. Ok (field.Bool true, r) in
+    let no : Rest → Outcome FieldValue = λ r. Ok (field.Bool false, r) in
+    first_if x here what.Text (λ b. b == 34) (λ s. map_outcome (λ y. field.Text y) (reading.text (behind (skip s)))) _
+    (λ s e h. passed_far x here what.Text (λ b. b == 34) refl (λ r. map_outcome (λ y. field.Text y) (reading.text r))
     (steady_map here here (λ y. field.Text y) reading.text text_steady) s e h)
-    (if_first x here what.Text (head (skip s) == 116) _ _
-    (λ h. keyword_far x here what.Text what.Truth 116 (codes "rue") (λ r. Ok (field.Bool true, r)) refl
-    (steady_ok here (field.Bool true)) s e h)
-    (if_first x here what.Text (head (skip s) == 102) _ _
-    (λ h. keyword_far x here what.Text what.Truth 102 (codes "alse") (λ r. Ok (field.Bool false, r)) refl
-    (steady_ok here (field.Bool false)) s e h)
-    (if_first x here what.Text (head (skip s) == 45 || is_digit (head (skip s))) _
-    (Err (unexpected what.Text (skip s)))
-    (λ h. map_first x here what.Text (λ z. field.Int z) (reading.signed s) (signed_far x what.Text s e h))
-    (λ d v k. kind_names what.Text (skip s).bytes v k))))
+    (quote_begins x what.Text refl)
+    (first_if x here what.Text (λ b. b == 116) (λ s. exact what.Truth (codes "true") (skip s) >>= yes) _
+    (λ s e h. keyword_far x here what.Text what.Truth 116 (codes "rue") yes refl (steady_ok here (field.Bool true)) s e h)
+    (true_begins x)
+    (first_if_or x here what.Text (λ b. b == 102) (λ s. exact what.Truth (codes "false") (skip s) >>= no) _
+    (λ s e h. keyword_far x here what.Text what.Truth 102 (codes "alse") no refl (steady_ok here (field.Bool false)) s e h)
+    (second_or x what.Text 102 (codes "alse") (λ t. exact what.Truth (codes "false") t >>= no)
+    (exact_fails what.Truth 102 (codes "alse") no) (at_bytes x what.Text what.Truth 102 97 refl refl))
+    (first_if x here what.Text (λ b. b == 45 || is_digit b) (λ s. map_outcome (λ z. field.Int z) (reading.signed s))
+    (λ s. Err (unexpected what.Text (skip s)))
+    (λ s e h. map_first x here what.Text (λ z. field.Int z) (reading.signed s) (signed_far x what.Text s e h))
+    (minus_or_digit x what.Text refl refl) (first_unexpected x here what.Text))))
 
 value_before : (x : Spot) → Before x next here NoMore predicates.value
 unfolding predicates.value
@@ -167,20 +162,20 @@ like_meets x column n = meets_map x here here NoMore NoMore (λ ps. Like column 
 compares_how_meets : (x : Spot) (column : Name) (how : Compared) →
     Meets x next here NoMore (λ r. predicates.compares_how column (how, r))
 compares_how_meets x column (WithValue how) =
-    meets_quoted x next here NoMore (λ r. predicates.compares_how column (WithValue how, r))
-    (λ s e. map_first x here what.Text (λ v. Compare column how (record { at = (skip s).at; value = v }))
-    (predicates.value s) (value_names x s e))
-    (before_next x here NoMore
-    (λ n s. map_outcome (λ v. Compare column how (record { at = n; value = v })) (predicates.value s))
+    let read = λ (n : ℕ) (s : Rest). map_outcome (λ v. Compare column how (record { at = n; value = v }))
+    (predicates.value s) in
+    meets_of x next here NoMore what.Text (λ r. predicates.compares_how column (WithValue how, r))
+    (first_next x here what.Text read (λ n. first_bind x next here here what.Text predicates.value _ (value_first x)
+    (λ v. steady_ok here (Compare column how (record { at = n; value = v })))))
+    (before_next x here NoMore read
     (λ n. before_map x next here (λ v. Compare column how (record { at = n; value = v })) predicates.value
     (value_before x)))
 compares_how_meets x column WithPattern =
-    meets_quoted x next here NoMore (λ r. predicates.compares_how column (WithPattern, r))
-    (λ s e. subst (FirstOutcome x here what.Text)
-    (sym (pass_bind (sign 34 what.Text s) (like column (skip s).at)))
-    (first_on x here here what.Text (unit_read (sign 34 what.Text s)) (λ y. like column (skip s).at y.1)
-    (sign_names x 34 what.Text refl s e) (λ a. (like_meets x column (skip s).at).steady)))
-    (before_next x here NoMore (λ n s. sign 34 what.Text s >>= like column n)
+    let read = λ (n : ℕ) (s : Rest). sign 34 what.Text s >>= like column n in
+    meets_of x next here NoMore what.Text (λ r. predicates.compares_how column (WithPattern, r))
+    (first_next x here what.Text read (λ n. first_behind_pass x next here here what.Text (sign 34 what.Text)
+    (like column n) (first_sign x 34 what.Text refl (quote_begins x what.Text refl)) (like_meets x column n).steady))
+    (before_next x here NoMore read
     (λ n. before_behind_pass x next here here NoMore (sign 34 what.Text) (like column n) (before_sign x 34 what.Text)
     (like_meets x column n)))
 

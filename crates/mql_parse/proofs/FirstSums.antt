@@ -1,5 +1,5 @@
 -- What sums and items expect comes first.
-use Rattle.std.proofs.Common.{◌≡◌, ℕ, zero, suc, ◌≤◌, Bool, true, false, ◌==◌, ◌||◌, refl, sym, ap, ◌∙◌, subst, arith, if◌then◌else◌, Ok, Err}
+use Rattle.std.proofs.Common.{◌≡◌, ℕ, zero, suc, Bool, true, false, ◌==◌, ◌||◌, refl, sym, ap, ◌∙◌, subst, if◌then◌else◌, Ok, Err}
 use Rattle.mon_value.specs.Answers.{◌>>=◌}
 use Rattle.mql_ast.specs.declared.names.Name.{Name}
 use Rattle.mql_ast.specs.Trees.{ItemTree, Column, Number, Percentile}
@@ -14,14 +14,14 @@ use Rattle.mql_parse.specs.Repeats.{Done, goes_on, repetition}
 use Rattle.mql_parse.specs.TokenReading as reading
 use Rattle.mql_parse.specs.SumReading as sums
 use Rattle.mql_parse.specs.SumReading.{SumSeen, seen_sum, is_percentile}
-use Rattle.mql_parse.specs.FaultFirsts.{rank}
 use Rattle.mql_parse.specs.Steadiness.{here, next, unit_read}
 use Rattle.mql_parse.proofs.SumSound.{term_turn_behind}
 use Rattle.mql_parse.proofs.ListSound.{items_turn_behind}
 use Rattle.mql_parse.proofs.Steady.{steady_from, steady_ok, steady_bind}
 use Rattle.mql_parse.proofs.SumSteady.{term_turn_steady, sum_end_steady, sum_steady}
+use Rattle.mql_parse.proofs.FirstWords.{admits, leads}
 use Rattle.mql_parse.proofs.Firsts.{Spot, Splits, Begun, begun_later, WentOutcome, Meets, Before, FirstOutcome, First, NoMore, passed_far, first_went, meets_then, meets_bind, meets_ok, meets_map, meets_of, meets_from, meets_to, meets_by, meets_behind_pass, first_if, first_to, first_wider, first_sign, first_behind_pass, first_unexpected, before_of, before_if, before_skip, before_behind, before_part_behind, before_unexpected, before_fault, before_map, before_next, before_to, sign_to}
-use Rattle.mql_parse.proofs.FirstBytes.{letter_begins, comma_begins, opening_begins, closing_begins, close_bracket_begins, colon_begins, plus_begins, minus_begins, minus_or_digit}
+use Rattle.mql_parse.proofs.FirstBytes.{comma_begins, opening_begins, closing_begins, close_bracket_begins, colon_begins, plus_begins, minus_begins, minus_or_digit}
 use Rattle.mql_parse.proofs.FirstTokens.{meets_word, meets_name, first_word}
 use Rattle.mql_parse.proofs.FirstNumbers.{meets_positive, before_signed, signed_far, map_first}
 use Rattle.mql_parse.proofs.FirstTurns.{meets_either, went_either, meets_choice, skip_far, skip_went, turn_read, OfState, Stopped, turn_if_read, goes_on_read, meets_repetition, repetition_went, meets_list}
@@ -33,20 +33,20 @@ sum_on bare = if bare then what.OpenParenthesis else what.Plus
 abbrev pub SumGoes : Spot → SumSeen → Type 0
 SumGoes x seen = Begun x (sum_on seen.bare)
 
-sum_on_rank : (bare : Bool) → rank (sum_on bare) ≤ rank what.Plus
-sum_on_rank true = omega arith
-sum_on_rank false = omega arith
+sum_on_leads : (bare : Bool) → leads what.Plus (sum_on bare) ≡ true
+sum_on_leads true = refl
+sum_on_leads false = refl
 
 percentile_meets : (x : Spot) (at : ℕ) → Meets x next next (SumGoes x) (sums.percentile at)
 unfolding sums.percentile
 percentile_meets x at =
     meets_then x next next next (SumGoes x) reading.name _ (meets_to x next NoMore reading.name (meets_name x))
     (λ column. meets_behind_pass x next next next (SumGoes x) (sign 44 what.Comma) _
-    (sign_to x 44 what.Comma refl (comma_begins x what.Comma (omega arith)))
+    (sign_to x 44 what.Comma refl (comma_begins x what.Comma refl))
     (meets_then x next next next (SumGoes x) (reading.positive 100) _
     (meets_to x next NoMore (reading.positive 100) (meets_positive x 100))
     (λ p. meets_behind_pass x next next next (SumGoes x) (sign 41 what.CloseParenthesis) _
-    (sign_to x 41 what.CloseParenthesis refl (closing_begins x what.CloseParenthesis (omega arith)))
+    (sign_to x 41 what.CloseParenthesis refl (closing_begins x what.CloseParenthesis refl))
     (meets_ok x next (SumGoes x) (seen_sum (Percentile at column p) false)))))
 
 word_read_meets : (x : Spot) (word : Name) → Meets x next next (SumGoes x) (λ r. sums.word_read (word, r))
@@ -58,7 +58,7 @@ word_read_meets x word =
     (skip_far x next (SumGoes x) (λ b. b == 40) refl (sums.percentile word.at)
     (steady_from next (sums.percentile word.at) (percentile_meets x word.at).steady))
     (meets_ok x next (SumGoes x) (seen_sum (Column word) true))
-    (λ h s e l. (e, opening_begins x what.OpenParenthesis (omega arith) h)))
+    (λ h s e l. (e, opening_begins x what.OpenParenthesis refl h)))
     (meets_ok x next (SumGoes x) (seen_sum (Column word) false))
 
 word_term_meets : (x : Spot) → Meets x here next (SumGoes x) (λ t. sums.word_read (word_here t))
@@ -79,16 +79,16 @@ term_first_with : (x : Spot) (group : Rest → Rest → Outcome SumSeen) →
 unfolding sums.term_with
 term_first_with x group k =
     first_if x next what.Name (λ b. b == 40) (λ s. group (skip s) (behind (skip s))) _ k
-    (opening_begins x what.Name (omega arith))
+    (opening_begins x what.Name refl)
     (first_if x next what.Name (λ b. b == 45 || is_digit b) sums.number_term _
     (λ s e h. map_first x next what.Name (λ z. seen_sum (Number (skip s).at z) false) (reading.signed s)
     (first_wider x what.Name (reading.signed s) (signed_far x what.Name s e h)))
-    (minus_or_digit x what.Name (omega arith))
+    (minus_or_digit x what.Name refl refl)
     (first_if x next what.Name is_letter (λ s. sums.word_read (word_here (skip s)))
     (λ s. Err (unexpected what.Name (skip s)))
     (first_word x next sums.word_read what.Name (λ a. steady_from next (λ r. sums.word_read (a, r))
     (word_read_meets x a).steady))
-    (letter_begins x) (first_unexpected x next what.Name)))
+    (λ h. refl) (first_unexpected x next what.Name)))
 
 term_before_with : (x : Spot) (group : Rest → Rest → Outcome SumSeen) →
     Before x here next (SumGoes x) (λ t. group t (behind t)) →
@@ -133,7 +133,7 @@ module _ (x : Spot) (term : Rest → Outcome SumSeen) (k : Meets x next next (Su
   part_meets join h = meets_map x next next (SumGoes x) (OfState (SumGoes x)) (λ y. (join y, true)) term h k
 
   signs_go : (left : SumSeen) → Begun x what.Plus → SumGoes x left
-  signs_go left g = begun_later x what.Plus (sum_on left.bare) (sum_on_rank left.bare) g
+  signs_go left g = begun_later x what.Plus (sum_on left.bare) (sum_on_leads left.bare) g
 
   term_turn_meets : (left : SumSeen) →
       Meets x next next (OfState (SumGoes x)) (λ s. turn_read (sums.term_turn term left s))
@@ -155,11 +155,11 @@ module _ (x : Spot) (term : Rest → Outcome SumSeen) (k : Meets x next next (Su
       (skip_far x next G (λ b. b == 45) refl (λ s. map_outcome (λ y. (sums.sum_minus left y, true)) (term s))
       (steady_from next _ minus.steady))
       (meets_ok x next G (left, false))
-      (λ h s e. last s (minus_begins x what.Plus (omega arith) h) e))
+      (λ h s e. last s (minus_begins x what.Plus refl h) e))
       (λ h s e. went_either x G (head (skip s) == 45) _ (Ok ((left, false), s))
       (λ g. skip_went x next G (λ b. b == 45) refl (λ s. map_outcome (λ y. (sums.sum_minus left y, true)) (term s))
       (steady_from next _ minus.steady) s e g)
-      (last s (plus_begins x what.Plus (omega arith) h) e)))
+      (last s (plus_begins x what.Plus refl h) e)))
 
   term_turn_went : (left : SumSeen) (r : Rest) → SumGoes x left → next r ≡ x.at →
       WentOutcome x next (Stopped (SumGoes x)) (turn_read (sums.term_turn term left r))
@@ -187,13 +187,13 @@ sum_meets_by x d k =
     (repetition_went x (SumGoes x) turn (term_turn_behind d) (term_turn_steady (sums.term d) k.steady) meets went)
 
 -- what stands behind a sum in parentheses
-behind_sum_rank : (bare : Bool) → rank (sums.behind_sum bare) ≤ rank what.CloseParenthesis
-behind_sum_rank true = omega arith
-behind_sum_rank false = omega arith
+behind_sum_admits : (bare : Bool) → admits (sums.behind_sum bare) what.CloseParenthesis ≡ true
+behind_sum_admits true = refl
+behind_sum_admits false = refl
 
 behind_sum_goes : (x : Spot) (bare : Bool) → Begun x (sum_on bare) → Begun x (sums.behind_sum bare)
 behind_sum_goes x true g = g
-behind_sum_goes x false g = begun_later x what.Plus what.CloseParenthesis (omega arith) g
+behind_sum_goes x false g = begun_later x what.Plus what.CloseParenthesis refl g
 
 sum_end_first : (x : Spot) (inner : SumSeen) →
     First x next next (sums.behind_sum inner.bare) (λ r. sums.sum_end (inner, r))
@@ -201,14 +201,14 @@ sum_end_first x inner =
     let w = sums.behind_sum inner.bare in
     first_behind_pass x next next next w (sign 41 w) (λ r. Ok (seen_sum inner.sum false, r))
     (first_to x next w (λ s. unit_read (sign 41 w s))
-    (first_sign x 41 w refl (closing_begins x w (behind_sum_rank inner.bare))))
+    (first_sign x 41 w refl (closing_begins x w (behind_sum_admits inner.bare))))
     (steady_ok next (seen_sum inner.sum false))
 
 sum_end_meets : (x : Spot) (inner : SumSeen) → Meets x next next (SumGoes x) (λ r. sums.sum_end (inner, r))
 sum_end_meets x inner =
     let w = sums.behind_sum inner.bare in
     meets_behind_pass x next next next (SumGoes x) (sign 41 w) (λ r. Ok (seen_sum inner.sum false, r))
-    (sign_to x 41 w refl (closing_begins x w (behind_sum_rank inner.bare)))
+    (sign_to x 41 w refl (closing_begins x w (behind_sum_admits inner.bare)))
     (meets_ok x next (SumGoes x) (seen_sum inner.sum false))
 
 group_meets_by : (x : Spot) (d : ℕ) → Meets x next next (SumGoes x) (sums.sum d) →
@@ -249,8 +249,8 @@ sum_meets x d = sum_meets_with x d (group_before x d)
 
 -- items
 sum_on_close : (x : Spot) (bare : Bool) → Begun x (sum_on bare) → Begun x what.CloseBracket
-sum_on_close x true g = begun_later x what.OpenParenthesis what.CloseBracket (omega arith) g
-sum_on_close x false g = begun_later x what.Plus what.CloseBracket (omega arith) g
+sum_on_close x true g = begun_later x what.OpenParenthesis what.CloseBracket refl g
+sum_on_close x false g = begun_later x what.Plus what.CloseBracket refl g
 
 labelled_meets : (x : Spot) (d : ℕ) (label : Name) → Meets x next next (λ i. Begun x what.CloseBracket)
     (λ r. map_outcome (sums.labelled_sum label) (sums.sum d r))
@@ -270,11 +270,11 @@ item_meets x d =
     (skip_far x next G (λ b. b == 58) refl (λ r. map_outcome (sums.labelled_sum label) (sums.sum d r))
     (steady_from next _ (labelled_meets x d label).steady))
     (meets_ok x next G (sums.single label))
-    (λ h s e l. (e, colon_begins x what.CloseBracket (omega arith) h)))
+    (λ h s e l. (e, colon_begins x what.CloseBracket refl refl h)))
 
 pub items_meets : (x : Spot) (d : ℕ) → Meets x next next NoMore (sums.items d)
 unfolding sums.items_with
 items_meets x d =
     meets_list x (λ i. Begun x what.CloseBracket) 93 what.CloseBracket (sums.item_with (sums.sum d)) refl
-    (comma_begins x what.CloseBracket (omega arith)) (close_bracket_begins x what.CloseBracket (omega arith))
+    (comma_begins x what.CloseBracket refl) (close_bracket_begins x what.CloseBracket refl)
     (λ i g. g) (item_meets x d) (items_turn_behind d)

@@ -1,5 +1,5 @@
 -- What tokens expect comes first.
-use Rattle.std.proofs.Common.{◌≡◌, inl, inr, ℕ, ◌+◌, ◌<◌, ◌≤◌, Bool, true, false, ◌==◌, ◌||◌, ◌&&◌, not, List, [], ◌∷◌, ◌++◌, length, refl, sym, ap, ◌∙◌, subst, arith, if◌then◌else◌, Ok, Err}
+use Rattle.std.proofs.Common.{◌≡◌, ◌⊎◌, inl, inr, ℕ, ◌+◌, ◌<◌, ◌≤◌, Bool, true, false, ◌==◌, ◌||◌, ◌&&◌, not, List, [], ◌∷◌, ◌++◌, length, refl, sym, ap, ◌∙◌, subst, arith, if◌then◌else◌, Ok, Err}
 use Rattle.std.proofs.lemmas.Bool.{false≢true}
 use Rattle.std.proofs.lemmas.Bool.Decides.{nat_tests}
 use Rattle.mon_value.specs.Answers.{◌>>=◌}
@@ -15,16 +15,16 @@ use Rattle.mql_parse.specs.Steadiness.{here, next, Steady, unit_read}
 use Rattle.mql_parse.proofs.RestLemmas.{skip_off}
 use Rattle.mql_parse.proofs.Steady.{steady_from, steady_unexpected, steady_if, steady_behind_pass, unit_if, head_test}
 use Rattle.mql_parse.proofs.TokenSteady.{exact_steady, word_steady, word_on}
-use Rattle.mql_parse.proofs.Firsts.{Spot, instead, Splits, splits, over_splits, splits_head, splits_blank, Begun, MeetsOutcome, Meets, Before, FirstOutcome, First, NoMore, beyond_meets, beyond_first, first_meets, kind_names, passed_far, meets_by, meets_ok, meets_of, by_place, if_same, first_by, first_if, first_unexpected, before_of, before_if_here, before_skip, before_behind, before_unexpected}
-use Rattle.mql_parse.proofs.FirstBytes.{letter_begins}
+use Rattle.mql_parse.proofs.Firsts.{Spot, instead, Splits, splits, over_splits, splits_head, splits_blank, Begun, Failed, MeetsOutcome, Meets, Before, FirstOutcome, First, NoMore, beyond_meets, beyond_first, first_meets, kind_names, passed_far, meets_by, meets_ok, meets_of, by_place, if_same, first_by, first_if, first_unexpected, before_of, before_if_here, before_skip, before_behind, before_unexpected}
+use Rattle.mql_parse.proofs.Spots.{beyond}
 
 -- a fault here, and a choice by the byte that stands here
 pub meets_unexpected : {A : Type 0} (x : Spot) (to : Rest → ℕ) (G : A → Type 0) (w : What) →
     Meets {A = A} x here to G (λ s. Err (unexpected w s))
-meets_unexpected x to G w = record { steady = steady_unexpected to w; agrees = λ s t c e v k n. inr tt }
+meets_unexpected x to G w = record { steady = steady_unexpected to w; agrees = λ s t c e v k. inr tt }
 
 pub meets_if_here : {A : Type 0} (x : Spot) (to : Rest → ℕ) (G : A → Type 0) (test : ℕ → Bool)
-    (read other : Rest → Outcome A) → test 32 ≡ false →
+    (read other : Rest → Outcome A) → test 10 ≡ false →
     ((s : Rest) → s.at ≡ x.at → test (head s) ≡ true → (p : Outcome A) → MeetsOutcome x to G (read s) p) →
     Before x here to G read → Meets x here to G other →
     Meets x here to G (λ s. if test (head s) then read s else other s)
@@ -62,7 +62,7 @@ far_behind x to G test z read k s h e p =
 -- words and signs of several bytes, of which none is a blank
 abbrev pub all_solid : List ℕ → Bool
 all_solid [] = true
-all_solid (c ∷ cs) = not (32 == c) && (not (0 == c) && all_solid cs)
+all_solid (c ∷ cs) = not (10 == c) && (not (0 == c) && all_solid cs)
 
 both : (a b : Bool) → (not a && b) ≡ true → (a ≡ false) × (b ≡ true)
 both true b h = absurd (false≢true h)
@@ -72,7 +72,7 @@ pub meets_exact : (x : Spot) (w : What) (cs : List ℕ) → all_solid cs ≡ tru
     Meets x here here NoMore (λ s. unit_read (exact w cs s))
 meets_exact x w [] h = meets_ok x here NoMore tt
 meets_exact x w (c ∷ cs) h =
-    let first = both (32 == c) (not (0 == c) && all_solid cs) h in
+    let first = both (10 == c) (not (0 == c) && all_solid cs) h in
     let second = both (0 == c) (all_solid cs) first.1 in
     meets_by x here here NoMore (λ s. unit_read (exact w (c ∷ cs) s))
     (λ s. if head s == c then unit_read (exact w cs (behind s)) else Err (unexpected w s))
@@ -93,6 +93,32 @@ first_exact x w c cs z h =
     (first_if x here w (λ b. b == c) (λ s. unit_read (exact w cs (behind (skip s)))) (λ s. Err (unexpected w (skip s)))
     (λ s e k. passed_far x here w (λ b. b == c) z (λ s. unit_read (exact w cs s)) (exact_steady w cs) s e k)
     h (first_unexpected x here w))
+
+-- whether the byte behind the first may be the second of a word
+abbrev pub second : List ℕ → ℕ → Bool
+second [] b = true
+second (c ∷ cs) b = b == c
+
+pub exact_fails : {B : Type 0} (w : What) (c : ℕ) (cs : List ℕ) (on : Rest → Outcome B) (r : Rest) →
+    second cs (head (behind r)) ≡ false → Failed (exact w (c ∷ cs) r >>= on)
+exact_fails w c [] on r h = absurd (false≢true (sym h))
+exact_fails w c (next ∷ cs) on r h = either (head r == c)
+  where
+    either : (t : Bool) → Failed ((if t then exact w (next ∷ cs) (behind r) else Err (unexpected w r)) >>= on)
+    either true = subst (λ b. Failed ((if b then exact w cs (behind (behind r)) else Err (unexpected w (behind r))) >>= on))
+        (sym h) tt
+    either false = tt
+
+-- the word at the spot is allowed, or another than the reader wants
+pub second_or : {A : Type 0} (x : Spot) (w : What) (c : ℕ) (cs : List ℕ) (read : Rest → Outcome A) →
+    ((r : Rest) → second cs (head (behind r)) ≡ false → Failed (read r)) →
+    ((x.byte == c) ≡ true → second cs (first_of x.more) ≡ true → Begun x w) → (t : Rest) → skip t ≡ beyond x →
+    (x.byte == c) ≡ true → Begun x w ⊎ Failed (read (skip t))
+second_or x w c cs read fails begun t e h = either (second cs (first_of x.more)) refl
+  where
+    either : (b : Bool) → second cs (first_of x.more) ≡ b → Begun x w ⊎ Failed (read (skip t))
+    either true g = inl (begun h g)
+    either false g = inr (subst (λ r. Failed (read r)) (sym e) (fails (beyond x) g))
 
 -- a word whose first byte is there, and what stands behind it
 pub keyword_far : {B : Type 0} (x : Spot) (to : Rest → ℕ) (v w : What) (c : ℕ) (cs : List ℕ)
@@ -216,7 +242,7 @@ first_word x to on w k s e h =
 pub first_name : (x : Spot) → First x next here what.Name reading.name
 unfolding reading.name
 first_name x = first_if x here what.Name is_letter (λ s. Ok (word_here (skip s))) (λ s. Err (unexpected what.Name (skip s)))
-    (λ s e h. word_far x (skip s).at (skip s).bytes e h) (letter_begins x) (first_unexpected x here what.Name)
+    (λ s e h. word_far x (skip s).at (skip s).bytes e h) (λ h. refl) (first_unexpected x here what.Name)
 
 before_name : (x : Spot) → Before x next here NoMore reading.name
 unfolding reading.name

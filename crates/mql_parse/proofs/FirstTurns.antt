@@ -184,11 +184,11 @@ module _ {A : Type 0} (x : Spot) (G : A → Type 0) (turn : A → Rest → Turn 
       either (inl l) =
           beyond_meets x next G (next r) (repetition turn b r) (turn_outcome v rest_of_turns) (reached b r) l
       either (inr l) = by_part (k l)
-  turn_meets s (Stuck f) v h k ih = λ e w d n. by_part (k e w d n)
+  turn_meets s (Stuck f) v h k ih = λ e w d. by_part w (k e w d)
     where
-      by_part : {w : What} → Begun x w ⊎ Failed (turn_read v) → Begun x w ⊎ Failed (turn_outcome v rest_of_turns)
-      by_part (inl b) = inl b
-      by_part (inr b) = inr (failed_same v b)
+      by_part : (w : What) → Begun x w ⊎ Failed (turn_read v) → Begun x w ⊎ Failed (turn_outcome v rest_of_turns)
+      by_part w (inl b) = inl b
+      by_part w (inr b) = inr (failed_same v b)
 
   turns_meet : (most : ℕ) (a : A) (s t : Rest) → length s.bytes < most → Splits x s t →
       MeetsOutcome x next G (repetition turn a s) (repetition turn a t)

@@ -1,4 +1,4 @@
--- What a reader expects comes first, or a text that goes on there with a blank and a byte is refused.
+-- What a reader expects comes first, or a text that goes on there with a line's end and another token is refused.
 use Rattle.std.proofs.Common.{◌≡◌, ◌⊎◌, inl, inr, ℕ, ◌+◌, ◌<◌, ◌≤◌, Bool, true, false, ◌==◌, List, [], ◌∷◌, refl, sym, ap, ◌∙◌, subst, arith, if◌then◌else◌, Result, Ok, Err}
 use Rattle.std.proofs.lemmas.Bool.{false≢true, cases_lt}
 use Rattle.std.proofs.Math.Nat.{eq-or-lt_of_le}
@@ -9,20 +9,19 @@ use Rattle.mql_parse.specs.declared.faults.ParseFault.{ParseFault}
 use Rattle.mql_parse.specs.declared.faults.ParseKind.{ParseKind}
 use Rattle.mql_parse.specs.declared.faults.ParseKind.TheVariants.{BadToken, Expected}
 use Rattle.mql_parse.specs.declared.faults.What.{What}
-use Rattle.mql_parse.specs.declared.faults.What.TheVariants as what
 use Rattle.mql_parse.specs.Outcomes.{Outcome, fault, kind_of, unexpected, sign, map_outcome, up_to}
-use Rattle.mql_parse.specs.FaultFirsts.{rank, BeginsFrom}
 use Rattle.mql_parse.specs.Steadiness.{here, next, Reaches, Steady, unit_read}
+use Rattle.mql_parse.proofs.FirstWords.{allowed, leads, allowed_later}
+use Rattle.mql_parse.proofs.Spots.{beyond}
 pub use Rattle.mql_parse.proofs.Spots.{Spot, instead, Splits, splits, over_splits, splits_head, splits_behind, splits_blank, splits_skip, splits_beyond}
 use Rattle.mql_parse.proofs.Steady.{skip_on, steady_by, steady_from, steady_to, steady_bind, steady_ok, steady_if, steady_skip, steady_behind, steady_unexpected, steady_fault, head_test, next_test, steady_here, steady_next, pass_bind, unit_if}
 
--- the byte of the spot begins a token of this word or of a later one
+-- this word allows the one at the spot
 abbrev pub Begun : Spot → What → Type 0
-Begun x w = BeginsFrom w x.byte
+Begun x w = allowed w x.word ≡ true
 
-pub begun_later : (x : Spot) (v w : What) → rank w ≤ rank v → Begun x v → Begun x w
-begun_later x v w h g =
-    record { word = g.word; later = omega (arith, h, g.later); rest = g.rest; token = g.token; lone = g.lone }
+pub begun_later : (x : Spot) (v w : What) → leads v w ≡ true → Begun x v → Begun x w
+begun_later x v w h g = allowed_later v w x.word h g
 
 abbrev pub Failed : {A : Type 0} → Outcome A → Type 0
 Failed (Ok y) = ⊥
@@ -41,17 +40,17 @@ ReadSame x a r other = (q : Rest) × ((other ≡ Ok (a, q)) × Splits x r q)
 abbrev pub MeetsOutcome : {A : Type 0} → Spot → (Rest → ℕ) → (A → Type 0) → Outcome A → Outcome A → Type 0
 MeetsOutcome x to G (Ok y) other = to y.1 ≤ x.at → ReadSame x y.0 y.1 other ⊎ ((to y.1 ≡ x.at) × G y.0)
 MeetsOutcome x to G (Err f) other =
-    f.at ≡ x.at → (w : What) → f.kind ≡ Expected w → (w ≡ what.Text → ⊥) → Begun x w ⊎ Failed other
+    f.at ≡ x.at → (w : What) → f.kind ≡ Expected w → Begun x w ⊎ Failed other
 
 -- what is claimed of a part that is read at the spot, where its first byte there is one that the word allows
 abbrev pub WentOutcome : {A : Type 0} → Spot → (Rest → ℕ) → (A → Type 0) → Outcome A → Type 0
 WentOutcome x to G (Ok y) = to y.1 ≤ x.at → (to y.1 ≡ x.at) × G y.0
-WentOutcome x to G (Err f) = f.at ≡ x.at → (w : What) → f.kind ≡ Expected w → (w ≡ what.Text → ⊥) → Begun x w
+WentOutcome x to G (Err f) = f.at ≡ x.at → (w : What) → f.kind ≡ Expected w → Begun x w
 
 pub went_meets : {A : Type 0} (x : Spot) (to : Rest → ℕ) (G : A → Type 0) (o p : Outcome A) → WentOutcome x to G o →
     MeetsOutcome x to G o p
 went_meets x to G (Ok y) p h = λ l. inr (h l)
-went_meets x to G (Err f) p h = λ e w k n. inl (h e w k n)
+went_meets x to G (Err f) p h = λ e w k. inl (h e w k)
 
 pub record Meets {A : Type 0} (x : Spot) (from to : Rest → ℕ) (G : A → Type 0) (read : Rest → Outcome A) : Type 0 where
   pub steady : Steady from to read
@@ -99,13 +98,13 @@ beyond_first x to w n (Err f) h l = λ e v k. absurd (omega (arith, h, l, e))
 pub first_went : {A : Type 0} (x : Spot) (to : Rest → ℕ) (G : A → Type 0) (w : What) (o : Outcome A) →
     FirstOutcome x to w o → Begun x w → WentOutcome x to G o
 first_went x to G w (Ok y) h g = λ l. absurd (omega (arith, h, l))
-first_went x to G w (Err f) h g = λ e v k n. subst (Begun x) (sym (h e v k)) g
+first_went x to G w (Err f) h g = λ e v k. subst (Begun x) (sym (h e v k)) g
 
 pub first_meets : {A : Type 0} (x : Spot) (to : Rest → ℕ) (G : A → Type 0) (w : What) (o p : Outcome A) →
     FirstOutcome x to w o → Begun x w ⊎ Failed p → MeetsOutcome x to G o p
 first_meets x to G w (Ok y) p h g = λ l. absurd (omega (arith, h, l))
-first_meets x to G w (Err f) p h (inl g) = λ e v k n. inl (subst (Begun x) (sym (h e v k)) g)
-first_meets x to G w (Err f) p h (inr g) = λ e v k n. inr g
+first_meets x to G w (Err f) p h (inl g) = λ e v k. inl (subst (Begun x) (sym (h e v k)) g)
+first_meets x to G w (Err f) p h (inr g) = λ e v k. inr g
 
 -- one reader behind another
 module _ {A B : Type 0} (x : Spot) (mid to : Rest → ℕ) (G : A → Type 0) (H : B → Type 0) (on : A × Rest → Outcome B)
@@ -124,11 +123,11 @@ module _ {A B : Type 0} (x : Spot) (mid to : Rest → ℕ) (G : A → Type 0) (H
       either : (x.at < mid r) ⊎ (mid r ≤ x.at) → MeetsOutcome x to H (on (a, r)) (p >>= on)
       either (inl l) = beyond_meets x to H (mid r) (on (a, r)) (p >>= on) ((g a).steady.reaches r) l
       either (inr l) = same (h l)
-  bind_meets (Err f) p h = λ e w k n. by_part (h e w k n)
+  bind_meets (Err f) p h = λ e w k. by_part w (h e w k)
     where
-      by_part : {w : What} → Begun x w ⊎ Failed p → Begun x w ⊎ Failed (p >>= on)
-      by_part (inl b) = inl b
-      by_part (inr b) = inr (failed_bind p on b)
+      by_part : (w : What) → Begun x w ⊎ Failed p → Begun x w ⊎ Failed (p >>= on)
+      by_part w (inl b) = inl b
+      by_part w (inr b) = inr (failed_bind p on b)
 
 pub meets_bind : {A B : Type 0} (x : Spot) (from mid to : Rest → ℕ) (G : A → Type 0) (H : B → Type 0)
     (read : Rest → Outcome A) (on : A × Rest → Outcome B) → Meets x from mid G read →
@@ -236,21 +235,28 @@ pub if_first : {A : Type 0} (x : Spot) (to : Rest → ℕ) (w : What) (t : Bool)
 if_first x to w true o p h k = h refl
 if_first x to w false o p h k = k
 
-if_refuses : {A : Type 0} (x : Spot) (w : What) (t : Bool) (o p : Outcome A) → (t ≡ true → Begun x w) →
+if_refuses : {A : Type 0} (x : Spot) (w : What) (t : Bool) (o p : Outcome A) → (t ≡ true → Begun x w ⊎ Failed o) →
     Begun x w ⊎ Failed p → Begun x w ⊎ Failed (if t then o else p)
-if_refuses x w true o p h k = inl (h refl)
+if_refuses x w true o p h k = h refl
 if_refuses x w false o p h k = k
+
+-- where the reader behind the test may refuse what stands at the spot
+pub first_if_or : {A : Type 0} (x : Spot) (to : Rest → ℕ) (w : What) (test : ℕ → Bool) (read other : Rest → Outcome A) →
+    ((s : Rest) → next s ≡ x.at → test (head (skip s)) ≡ true → FirstOutcome x to w (read s)) →
+    ((t : Rest) → skip t ≡ beyond x → test x.byte ≡ true → Begun x w ⊎ Failed (read t)) → First x next to w other →
+    First x next to w (λ s. if test (head (skip s)) then read s else other s)
+first_if_or x to w test read other far begun k = record {
+  names = λ s h. if_first x to w (test (head (skip s))) (read s) (other s) (far s h) (k.names s h);
+  refuses = λ s t c h. subst (λ b. Begun x w ⊎ Failed (if test b then read t else other t))
+      (sym (ap head (splits_beyond x s t c h)))
+      (if_refuses x w (test x.byte) (read t) (other t) (begun t (splits_beyond x s t c h)) (k.refuses s t c h));
+}
 
 pub first_if : {A : Type 0} (x : Spot) (to : Rest → ℕ) (w : What) (test : ℕ → Bool) (read other : Rest → Outcome A) →
     ((s : Rest) → next s ≡ x.at → test (head (skip s)) ≡ true → FirstOutcome x to w (read s)) →
     (test x.byte ≡ true → Begun x w) → First x next to w other →
     First x next to w (λ s. if test (head (skip s)) then read s else other s)
-first_if x to w test read other far begun k = record {
-  names = λ s h. if_first x to w (test (head (skip s))) (read s) (other s) (far s h) (k.names s h);
-  refuses = λ s t c h. subst (λ b. Begun x w ⊎ Failed (if test b then read t else other t))
-      (sym (ap head (splits_beyond x s t c h)))
-      (if_refuses x w (test x.byte) (read t) (other t) begun (k.refuses s t c h));
-}
+first_if x to w test read other far begun k = first_if_or x to w test read other far (λ t e h. inl (begun h)) k
 
 pub if_same : {A : Type 0} (x : Spot) (to : Rest → ℕ) (G : A → Type 0) (t u : Bool) (o o' p p' : Outcome A) → u ≡ t →
     MeetsOutcome x to G o o' → MeetsOutcome x to G p p' →
@@ -298,20 +304,6 @@ first_bind {A = A} {B = B} x from mid to w read on f g = record {
     refuse : (o : Outcome A) → Begun x w ⊎ Failed o → Begun x w ⊎ Failed (o >>= on)
     refuse o (inl b) = inl b
     refuse o (inr b) = inr (failed_bind o on b)
-
--- a part that a text in quotes may begin: nothing is said of what it expects first
-pub meets_quoted : {A : Type 0} (x : Spot) (from to : Rest → ℕ) (G : A → Type 0) (read : Rest → Outcome A) →
-    ((s : Rest) → from s ≡ x.at → FirstOutcome x to what.Text (read s)) → Before x from to G read →
-    Meets x from to G read
-meets_quoted {A = A} x from to G read names k = record {
-  steady = k.steady;
-  agrees = λ s t c. by_place (from s) x.at (λ l. k.agrees s t c l) (λ e. quoted (read s) (read t) (names s e))
-      (λ l. beyond_meets x to G (from s) (read s) (read t) (k.steady.reaches s) l);
-}
-  where
-    quoted : (o p : Outcome A) → FirstOutcome x to what.Text o → MeetsOutcome x to G o p
-    quoted (Ok y) p h = λ l. absurd (omega (arith, h, l))
-    quoted (Err f) p h = λ e v k n. absurd (n (h e v k))
 
 -- choices by a byte
 pub before_if : {A : Type 0} (x : Spot) (to : Rest → ℕ) (G : A → Type 0) (test : ℕ → Bool)

@@ -18,8 +18,8 @@ use Rattle.mql_parse.proofs.Firsts.{Failed}
 use Rattle.mql_parse.proofs.Swaps.{numbered, with_one, rest_at, ahead, over_pair}
 use Rattle.mql_parse.proofs.Follows.{Swap, counts, Any, FollowsIn, Follows, beyond, where_failed}
 
--- no digit goes on a character of several bytes
-abbrev High : Open → Type 0
+-- no line's end and no digit goes on a character of several bytes
+abbrev pub High : Open → Type 0
 High Whole = Unit {0}
 High Escape = Unit {0}
 High (More left low high) = nat_le 58 low ≡ true
@@ -47,7 +47,7 @@ further_high left = either (nat_le left 1)
     either true = tt
     either false = refl
 
-abbrev StepHigh : TextStep → Type 0
+abbrev pub StepHigh : TextStep → Type 0
 StepHigh TextEnd = Unit {0}
 StepHigh (TextPass u) = High u
 StepHigh (TextKeep u) = High u
@@ -61,7 +61,7 @@ kept_high : (o : Option Open) → IfSome o High → StepHigh (kept o)
 kept_high None h = tt
 kept_high (Some u) h = h
 
-text_step_high : (u : Open) (b : ℕ) → StepHigh (text_step u b)
+pub text_step_high : (u : Open) (b : ℕ) → StepHigh (text_step u b)
 text_step_high Whole b =
     step_if (b == 34) TextEnd _ tt
     (step_if (b == 92) (TextPass Escape) (kept (begins_character b)) tt
@@ -219,7 +219,7 @@ module _ (x : Swap) where
   }
 
 -- patterns
-abbrev SignHigh : PatternStep → Type 0
+abbrev pub SignHigh : PatternStep → Type 0
 SignHigh PatternEnd = Unit {0}
 SignHigh PatternCut = Unit {0}
 SignHigh (PatternPass u mark) = High u
@@ -239,7 +239,7 @@ unfit_high : (o : Option Open) → SignHigh (unfit o)
 unfit_high None = tt
 unfit_high (Some u) = tt
 
-pattern_step_high : (u : Open) (mark : Sign) (b : ℕ) → SignHigh (pattern_step u mark b)
+pub pattern_step_high : (u : Open) (mark : Sign) (b : ℕ) → SignHigh (pattern_step u mark b)
 pattern_step_high Whole Plain b =
     sign_if (b == 34) PatternEnd _ tt
     (sign_if (b == 92) (PatternPass Escape Plain) _ tt

@@ -17,8 +17,7 @@ use Rattle.mql_parse.specs.FaultDepths.{SpellsWithin, BeginsWithin}
 use Rattle.mql_parse.specs.PipeReading as pipes
 use Rattle.mql_parse.proofs.RestLemmas.{skip_off}
 use Rattle.mql_parse.proofs.Endings.{Cut, Smaller, IfTooLarge, if_too_large, Comes, IfExpected, expected_by, Finish, EndsIn, behind_read, finish_before}
-use Rattle.mql_parse.proofs.TokenFronts.{nothing_whole, fetch_word}
-use Rattle.mql_parse.proofs.TokenEndings.{at_place, skip_over, skip_cut, bare_token, sign_token, bar, comma, wrong}
+use Rattle.mql_parse.proofs.TokenEndings.{at_place, skip_over, skip_cut, wrong}
 use Rattle.mql_parse.proofs.NumberEndings.{duration_default}
 use Rattle.mql_parse.proofs.ListEndings.{folding_default}
 use Rattle.mql_parse.proofs.FirstFaults.{FetchAt, FetchFirst, pipe_first}
@@ -32,35 +31,33 @@ shorter_begins d v w b = record {
   spelled = subst (SpellsWithin d b.tree) (append_assoc v w b.more) b.spelled;
 }
 
--- a text whose first byte is no blank and that is a whole pipe begins a query, and so does each front of it
+-- the text is spelled by some tree of at most so many levels
+abbrev pub Spelled : ℕ → List ℕ → Type 0
+Spelled d text = (tree : PipeTree) × SpellsWithin d tree text
+
+-- a whole pipe whose first byte is no blank is spelled
+whole_spelled : (d b : ℕ) (text : List ℕ) → is_blank b ≡ false → PipeText d (b ∷ text) → Spelled d (b ∷ text)
+whole_spelled d b text h f =
+    let n = f.fills [] refl 0 in (
+      n.0.1,
+      record {
+        begins = skip_off (start (b ∷ text)) h;
+        end = at_place n.0.0 [];
+        whole = subst (λ t. Pipe d (start t) (at_place n.0.0 []) n.0.1) (append-nil (b ∷ text)) n.1;
+        ended = refl;
+      },
+    )
+
+-- and each front of it begins a query
 whole_begins : (d b : ℕ) (front tail : List ℕ) → is_blank b ≡ false → PipeText d ((b ∷ front) ++ tail) →
     BeginsWithin d (b ∷ front)
-whole_begins d b front tail h f =
-    let n = f.fills [] refl 0 in
-    record {
-      more = tail;
-      tree = n.0.1;
-      spelled = record {
-        begins = skip_off (start ((b ∷ front) ++ tail)) h;
-        end = at_place n.0.0 [];
-        whole = subst (λ t. Pipe d (start t) (at_place n.0.0 []) n.0.1) (append-nil ((b ∷ front) ++ tail)) n.1;
-        ended = refl;
-      };
-    }
+whole_begins d b front tail h f = let whole = whole_spelled d b (front ++ tail) h f in
+    record { more = tail; tree = whole.0; spelled = whole.1 }
 
--- nothing begins `fetch a::/a`
+-- nothing begins `fetch _::/a`
 nothing_begins : (d : ℕ) → BeginsWithin d []
-nothing_begins d = let whole = pipe_default d in let n = whole.is.fills [] refl 0 in
-    record {
-      more = 102 ∷ whole.text;
-      tree = n.0.1;
-      spelled = record {
-        begins = skip_off (start (102 ∷ whole.text)) refl;
-        end = at_place n.0.0 [];
-        whole = subst (λ t. Pipe d (start t) (at_place n.0.0 []) n.0.1) (append-nil (102 ∷ whole.text)) n.1;
-        ended = refl;
-      };
-    }
+nothing_begins d = let whole = whole_spelled d 102 (pipe_default d).text refl (pipe_default d).is in
+    record { more = 102 ∷ (pipe_default d).text; tree = whole.0; spelled = whole.1 }
 
 -- a text with no blank first
 first_not_blank : (b : ℕ) (bs : List ℕ) → ((skip (start (b ∷ bs))).at == 0) ≡ true → is_blank b ≡ false
@@ -77,12 +74,17 @@ first_not_blank b bs h = either (is_blank b) refl
 abbrev pub NumberBegins : ℕ → List ℕ → ℕ → Type 0
 NumberBegins d text at = Smaller (BeginsWithin d) (start text) at
 
+-- what may come at the front of a text is `fetch`, and elsewhere what is claimed
+abbrev pub Arrives : ℕ → List ℕ → What → Type 0
+Arrives d [] w = w ≡ what.Fetch
+Arrives d (b ∷ front) w = Comes (Spelled d) (b ∷ front) w
+
 -- what the claim says of a fault
 record FaultBegins (d : ℕ) (text : List ℕ) (f : ParseFault) : Type 0 where
   within : f.at ≤ length text
   begins : BeginsWithin d (take f.at text)
   smaller : IfTooLarge f.kind (NumberBegins d text f.at)
-  comes : IfExpected f.kind (Comes (BeginsWithin d) (take f.at text))
+  comes : IfExpected f.kind (Arrives d (take f.at text))
 
 abbrev FrontBegins : ℕ → List ℕ → Result PipeTree ParseFault → Type 0
 FrontBegins d text (Ok tree) = Unit {0}
@@ -111,19 +113,9 @@ numbered d text at h g = record {
         (subst (λ u. ((skip (start u)).at == 0) ≡ true) e h))
         (subst (PipeText d) (sym (append_assoc (b ∷ before) (49 ∷ g.byte ∷ []) g.tail)) t)
 
-fetch_comes : (d : ℕ) → Comes (BeginsWithin d) [] what.Fetch
-fetch_comes d = record {
-  before = [];
-  begun = [];
-  byte = 102;
-  rest = codes "etch";
-  parts = refl;
-  unfinished = nothing_whole what.Fetch;
-  token = bare_token what.Fetch (codes "fetch") fetch_word.bare;
-  more = in_fetch.text;
-  is = whole_begins d 102 (codes "etch" ++ in_fetch.text) [] refl
-      (subst (PipeText d) (sym (append-nil (102 ∷ (codes "etch" ++ in_fetch.text)))) (pipe_default d).is);
-}
+-- `fetch`
+pub fetch_begins : (d : ℕ) → BeginsWithin d (codes "fetch")
+fetch_begins d = whole_begins d 102 (codes "etch") in_fetch.text refl (pipe_default d).is
 
 finished : (d : ℕ) (text : List ℕ) (e : ParseFault) → ((skip (start text)).at == 0) ≡ true → FetchAt 0 e →
     Finish (PipeText d) (start text) e → FaultBegins d text e
@@ -131,7 +123,7 @@ finished d text e h first f = record {
   within = omega (arith, f.place, ap length f.bytes, length-append f.front f.left);
   begins = subst (BeginsWithin d) (sym front) (by_front f.front f.bytes f.is);
   smaller = if_too_large e.kind (numbered d text e.at h) f.smaller;
-  comes = subst (λ v. IfExpected e.kind (Comes (BeginsWithin d) v)) (sym front)
+  comes = subst (λ v. IfExpected e.kind (Arrives d v)) (sym front)
       (expected_by e.kind (come f.front f.bytes f.place) f.comes);
 }
   where
@@ -147,31 +139,28 @@ finished d text e h first f = record {
         (first_not_blank x (v ++ f.left) (subst (λ y. ((skip (start y)).at == 0) ≡ true) b h)) t
 
     come : (v : List ℕ) → text ≡ v ++ f.left → e.at ≡ 0 + length v → (w : What) → e.kind ≡ Expected w →
-        Comes (PipeText d) v w → Comes (BeginsWithin d) v w
-    come [] b p w k g =
-        subst (Comes (BeginsWithin d) []) (sym (first (omega (arith, p)) w k)) (fetch_comes d)
+        Comes (PipeText d) v w → Arrives d v w
+    come [] b p w k g = first (omega (arith, p)) w k
     come (x ∷ v) b p w k g = record {
       before = g.before;
       begun = g.begun;
       byte = g.byte;
       rest = g.rest;
       parts = g.parts;
-      unfinished = g.unfinished;
-      token = g.token;
+      way = g.way;
       more = g.more;
-      is = whole_begins d x (v ++ g.byte ∷ (g.rest ++ g.more)) []
-          (first_not_blank x (v ++ f.left) (subst (λ y. ((skip (start y)).at == 0) ≡ true) b h))
-          (subst (PipeText d) (sym (append-nil (x ∷ (v ++ g.byte ∷ (g.rest ++ g.more))))) g.is);
+      closes = g.closes;
+      is = whole_spelled d x (v ++ g.byte ∷ (g.rest ++ g.more))
+          (first_not_blank x (v ++ f.left) (subst (λ y. ((skip (start y)).at == 0) ≡ true) b h)) g.is;
     }
 
 -- behind a whole pipe
 missing : (d : ℕ) (v : List ℕ) (groups : Bool) → PipeText d v → Longer d groups v → (r : Rest) →
     Finish (λ u. PipeText d (v ++ u)) r (unexpected (if groups then what.Comma else what.Bar) (skip r))
 missing d v false g h r =
-    wrong what.Bar r 124 [] (codes "every" ++ duration_default.text)
-    (bare_token what.Bar (124 ∷ []) (sign_token 124 bar)) (λ bs e. one_more_operation d v bs e g)
+    wrong what.Bar r 124 [] (codes "every" ++ duration_default.text) refl (λ bs e. one_more_operation d v bs e g)
 missing d v true g h r =
-    wrong what.Comma r 44 [] folding_default.text (bare_token what.Comma (44 ∷ []) (sign_token 44 comma)) (h refl)
+    wrong what.Comma r 44 [] folding_default.text refl (h refl)
 
 ended : (d : ℕ) (text : List ℕ) (tree : PipeTree) (r : Rest) (bs : List ℕ) → ((skip (start text)).at == 0) ≡ true →
     0 < (skip r).at → Cut (PipeSeen d tree) (start text) r → FrontBegins d text (pipes.query_end_in tree r bs)
@@ -203,7 +192,7 @@ query_front d text =
       within = omega arith;
       begins = nothing_begins d;
       smaller = tt;
-      comes = fetch_comes d;
+      comes = refl;
     }
 
 -- what stands before the place of a fault begins some query text
@@ -225,6 +214,6 @@ fault_number_begins d text f e =
 
 -- and where something is expected, it may come there
 pub fault_comes : (d : ℕ) (text : List ℕ) (f : ParseFault) → pipes.query_within d text ≡ Err f →
-    IfExpected f.kind (Comes (BeginsWithin d) (take f.at text))
+    IfExpected f.kind (Arrives d (take f.at text))
 fault_comes d text f e =
     let front : FrontBegins d text (Err f) = subst (FrontBegins d text) e (query_front d text) in front.comes

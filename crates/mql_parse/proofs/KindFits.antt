@@ -46,7 +46,7 @@ TurnFits s (Done a r) = Outside None s r
 TurnFits s (Again a r) = Outside None s r
 TurnFits s (Stuck f) = FaultFits None s f
 
-quotes_append : (o : Option Open) (v w : List ℕ) → open_quotes o (v ++ w) ≡ open_quotes (open_quotes o v) w
+pub quotes_append : (o : Option Open) (v w : List ℕ) → open_quotes o (v ++ w) ≡ open_quotes (open_quotes o v) w
 quotes_append o [] w = refl
 quotes_append o (b ∷ v) w = quotes_append (quotes_after o b) v w
 

@@ -17,6 +17,7 @@ pub mod FirstSums
 pub mod FirstTexts
 pub mod FirstTokens
 pub mod FirstTurns
+pub mod FirstWords
 pub mod Firsts
 pub mod FoldKinds
 pub mod FoldSteady

@@ -14,21 +14,21 @@ use Rattle.mql_parse.specs.declared.faults.What.{What}
 use Rattle.mql_parse.specs.declared.faults.What.TheVariants as what
 use Rattle.mql_parse.specs.Outcomes.{Outcome, unexpected, exact, sign, map_outcome, up_to}
 use Rattle.mql_parse.specs.Repeats.{Done, Again, Stuck, list_or_end, list_turn, repetition}
-use Rattle.mql_parse.specs.FaultTokens.{IsSignToken, IsBare, IsToken}
+use Rattle.mql_parse.specs.FaultTokens.{IsBare}
 use Rattle.mql_parse.specs.TokenReading as reading
 use Rattle.mql_parse.specs.SumReading as sums
 use Rattle.mql_parse.specs.Folds as folds
 use Rattle.mql_parse.proofs.ListSound.{names_turn_behind, items_turn_behind, aggregates_turn_behind, fold_of_sound}
-use Rattle.mql_parse.proofs.Endings.{Anyhow, Worded, Parted, Text, Then, join, changed, worded, anyhow, Default, Cut, Finish, finish_before, Ends, behind_read, Reads, stay, as_it_is, cut_as, cut_then, bind_ends, ends_as, done_ends, if_ends, TurnEnds, if_turns, on_read_ends, loop_ends}
+use Rattle.mql_parse.proofs.Endings.{Anyhow, Worded, Parted, Text, Then, join, changed, worded, anyhow, NoQuotes, no_quotes_on, Default, Cut, Finish, Ends, behind_read, Reads, stay, as_it_is, cut_as, cut_then, bind_ends, ends_as, done_ends, if_ends, TurnEnds, if_turns, on_read_ends, loop_ends}
 use Rattle.mql_parse.proofs.TokenFronts.{Fronts, WordOf, count_word, sum_word, min_word, max_word, mean_word, merge_word, aggregate_word}
-use Rattle.mql_parse.proofs.TokenEndings.{at_place, AreBlanks, skip_cut, bare_token, sign_token, word_from, begun_here, wrong, wrong_here, IsSign, SignSpan, sign_text, sign_cut, sign_ends, sign_default, WordSpan, word_text, all_nonzero, NamedSpan, NameSpan, some_name, named_ends, name_ends, name_default, open_parenthesis, close_parenthesis, close_bracket, comma, colon}
+use Rattle.mql_parse.proofs.TokenEndings.{at_place, AreBlanks, blank_last, skip_cut, exact_ends, word_from, begun_here, wrong, IsSign, SignSpan, sign_text, sign_cut, sign_ends, sign_default, WordSpan, word_text, all_nonzero, NamedSpan, NameSpan, some_name, named_ends, name_ends, name_default, open_parenthesis, close_parenthesis, close_bracket, comma, colon}
 use Rattle.mql_parse.proofs.SumEndings.{SumText, sum_ends}
 use Rattle.mql_parse.proofs.ValueEndings.{FirstByte, first_is, byte_is}
 use Rattle.mql_parse.proofs.Loops.{GoesBehind}
 
 -- a part, one list of such parts, and the sign that ends it
 module _ {A : Type 0} (part : Rest → Outcome A) (close : ℕ) (w : What) (closes : IsSign close)
-    (token : IsSignToken close (close ∷ []) → IsBare w (close ∷ []))
+    (token : IsBare w (close ∷ [])) (plain : NoQuotes (close ∷ []))
     (behind_turn : GoesBehind (list_turn close w part)) (Part Parts : List ℕ → List ℕ → Type 0)
     (parted : (s : Rest) → Reads (Text Anyhow false Part) s (part s)) (one : (x z : List ℕ) → Part x z → Parts x z)
     (more : (x z : List ℕ) → Then (Then Parts (SignSpan 44)) Part x z → Parts x z) where
@@ -58,14 +58,18 @@ module _ {A : Type 0} (part : Rest → Outcome A) (close : ℕ) (w : What) (clos
       (list_turn close w part so_far s)
   list_turn_ends so_far s y f =
       on_read_ends s (list_or_end close w so_far) (part s) (parted s)
-      (λ v g. record { text = close ∷ []; is = listed y v (close ∷ []) f g (sign_text close closes [] tt) })
+      (λ v g. record {
+        text = close ∷ [];
+        plain = plain;
+        is = listed y v (close ∷ []) f g (sign_text close closes [] tt);
+      })
       (λ x v g. let t = skip x.1 in let all = so_far ++ x.0 ∷ [] in
       if_turns x.1 (head t == 44) (Again all (behind t)) _
       (λ h. record { way = cut_as x.1 (behind t) (sign_cut 44 comma x.1 h) (λ u k. further y v u f g k) })
       (λ _. if_turns x.1 (head t == close) (Done all (behind t)) (Stuck (unexpected w t))
       (λ h. record { way = cut_as x.1 (behind t) (sign_cut close closes x.1 h) (λ u k. listed y v u f g k) })
       (λ _. record {
-        way = wrong w x.1 close [] [] (bare_token w (close ∷ []) (token (sign_token close closes)))
+        way = wrong w x.1 close [] [] token
             (λ bs e. listed y v (bs ++ close ∷ []) f g (sign_text close closes bs e));
       })))
 
@@ -97,7 +101,7 @@ grouping_span x z k = either k.second
 some_names_ends : (s : Rest) → Reads (Text Anyhow true (Then NamesSpan (SignSpan 93))) s
     (repetition (list_turn 93 what.CloseBracket reading.name) [] s)
 some_names_ends =
-    list_ends reading.name 93 what.CloseBracket close_bracket (λ t. t) names_turn_behind NameSpan NamesSpan
+    list_ends reading.name 93 what.CloseBracket close_bracket refl refl names_turn_behind NameSpan NamesSpan
     (λ s. ends_as s (reading.name s) (name_ends s) (λ x w f. anyhow w f) (λ w f. anyhow w f))
     (λ x z f at. let n = f at in ((n.0.0, n.0.1 ∷ []), one_name n.1))
     (λ x z k at. let a = k.first.first at in let b = k.first.second a.0.0 in let c = k.second b.0 in
@@ -118,6 +122,7 @@ pub names_default : Default (Text Anyhow true InGrouping)
 names_default =
     record {
       text = 93 ∷ [];
+      plain = refl;
       is = changed (λ x z k. inl k) (93 ∷ [])
           (anyhow (93 ∷ []) (sign_text 93 close_bracket [] tt));
     }
@@ -159,17 +164,18 @@ item_ends d s =
 pub items_ends : (d : ℕ) (s : Rest) → Reads (Text Anyhow true (Then (ItemsSpan d) (SignSpan 93))) s (sums.items d s)
 unfolding sums.items_with
 items_ends d =
-    list_ends (sums.item_with (sums.sum d)) 93 what.CloseBracket close_bracket (λ t. t) (items_turn_behind d)
+    list_ends (sums.item_with (sums.sum d)) 93 what.CloseBracket close_bracket refl refl (items_turn_behind d)
     (ItemSpan d)
     (ItemsSpan d) (item_ends d)
     (λ x z f at. let n = f at in ((n.0.0, n.0.1 ∷ []), one_item n.1))
     (λ x z k at. let a = k.first.first at in let b = k.first.second a.0.0 in let c = k.second b.0 in
     ((c.0.0, a.0.1 ++ c.0.1 ∷ []), more_items a.1 b.1 c.1))
 
--- ` a]`
+-- ` _]`
 pub items_default : (d : ℕ) → Default (Text Anyhow true (Then (ItemsSpan d) (SignSpan 93)))
 items_default d = record {
   text = name_default.text ++ 93 ∷ [];
+  plain = refl;
   is = join name_default.text (93 ∷ []) refl
       (changed (λ x z f at. let n = f at in ((n.0.0, n.0.1 ∷ []), one_item n.1)) name_default.text
       (single_text d name_default.text (worded name_default.text name_default.is)))
@@ -184,24 +190,25 @@ abbrev AnyFoldWord : List ℕ → Type 0
 AnyFoldWord w = (f : FoldWord) × FoldWordText f w
 
 -- the rest of a fold's word
-fold_from : (f : FoldWord) (cs : List ℕ) → all_nonzero cs ≡ true → (s m : Rest) (v before begun : List ℕ) →
-    s.bytes ≡ v ++ m.bytes → m.at ≡ s.at + length v → v ≡ before ++ begun → Fronts what.Aggregate begun cs →
-    IsToken what.Aggregate (begun ++ cs) → FoldWordText f (v ++ cs) → Ends behind_read
+fold_from : (f : FoldWord) (cs : List ℕ) → all_nonzero cs ≡ true → (s m : Rest) (v before : List ℕ) (b : ℕ)
+    (begun : List ℕ) → s.bytes ≡ v ++ m.bytes → m.at ≡ s.at + length v → v ≡ before ++ b ∷ begun →
+    Fronts what.Aggregate (b ∷ begun) cs → IsBare what.Aggregate (b ∷ (begun ++ cs)) → FoldWordText f (v ++ cs) → Ends behind_read
     (λ x. FoldWordText x.0) AnyFoldWord s (folds.read_as f cs m)
-fold_from f cs nonzero s m v before begun e p q u k h =
+fold_from f cs nonzero s m v before b begun e p q u k h =
     done_ends s (exact what.Aggregate cs m) (λ r. (f, r))
-    (ends_as s (exact what.Aggregate cs m) (word_from what.Aggregate cs nonzero s m v before begun e p q u k)
+    (ends_as s (exact what.Aggregate cs m) (word_from what.Aggregate cs (λ e. cc) nonzero s m v before b begun e p q u k)
     (λ r u g. subst (FoldWordText f) (sym g) h) (λ u g. (f, subst (FoldWordText f) (sym g) h))) (λ r. refl)
     (λ r u g. g)
 
 -- a word that is read from its first byte on
 whole_ends : (s : Rest) (f : FoldWord) (c : ℕ) (cs : List ℕ) → all_nonzero (c ∷ cs) ≡ true →
-    WordOf what.Aggregate (c ∷ cs) → ((bs : List ℕ) → AreBlanks bs → FoldWordText f (bs ++ c ∷ cs)) →
+    WordOf what.Aggregate c cs → ((bs : List ℕ) → AreBlanks bs → FoldWordText f (bs ++ c ∷ cs)) →
     Ends behind_read (λ x. FoldWordText x.0) AnyFoldWord s (folds.read_as f (c ∷ cs) (skip s))
 whole_ends s f c cs nonzero word h =
-    let bs = skip_cut s in
-    fold_from f (c ∷ cs) nonzero s (skip s) bs.front bs.front [] bs.bytes bs.place (sym (append-nil bs.front))
-    word.fronts (bare_token what.Aggregate (c ∷ cs) word.bare) (h bs.front bs.is)
+    done_ends s (exact what.Aggregate (c ∷ cs) (skip s)) (λ r. (f, r))
+    (ends_as s (exact what.Aggregate (c ∷ cs) (skip s))
+    (exact_ends {L = FoldWordText f} what.Aggregate c cs nonzero word h s) (λ r u g. g) (λ u g. (f, g))) (λ r. refl)
+    (λ r u g. g)
 
 count_text : (bs : List ℕ) → AreBlanks bs → FoldWordText fold.Count (bs ++ codes "count")
 count_text bs e = word_text Anyhow 99 (codes "ount") refl tt bs e
@@ -236,22 +243,21 @@ module _ (s m : Rest) (bs v x : List ℕ) (e : AreBlanks bs) (q : v ≡ bs ++ 10
   m_on f b cs zero nonzero h spelled u token =
       let c = byte_is b zero m h in
       let longer = (v ++ x) ++ b ∷ [] in
-      fold_from f cs nonzero s (behind m) longer bs (109 ∷ (x ++ b ∷ []))
+      fold_from f cs nonzero s (behind m) longer bs 109 (x ++ b ∷ [])
       (bytes ∙ ap (λ t. (v ++ x) ++ t) (c.bytes ∙ ap (λ t. t ++ (behind m).bytes) c.is)
       ∙ sym (append_assoc (v ++ x) (b ∷ []) (behind m).bytes))
       (omega (arith, place, c.place, ap length c.is, length-append (v ++ x) (b ∷ [])))
-      (ap (λ t. t ++ b ∷ []) split ∙ append_assoc bs (109 ∷ x) (b ∷ [])) u
-      (bare_token what.Aggregate (109 ∷ ((x ++ b ∷ []) ++ cs)) token)
+      (ap (λ t. t ++ b ∷ []) split ∙ append_assoc bs (109 ∷ x) (b ∷ [])) u token
       (subst (FoldWordText f) (ap (λ t. t ++ cs) (sym (append_assoc v x (b ∷ []))))
       (m_word f bs v (x ++ b ∷ []) cs e spelled q))
 
   -- where it can't go on
   m_stuck : (f : FoldWord) (b : ℕ) (cs : List ℕ) → fold_named f ≡ 109 ∷ (x ++ b ∷ cs) →
-      (IsToken what.Aggregate (109 ∷ x) → ⊥) → IsBare what.Aggregate (109 ∷ (x ++ b ∷ cs)) → Finish AnyFoldWord s
+      (IsBare what.Aggregate (109 ∷ x) → ⊥) → IsBare what.Aggregate (109 ∷ (x ++ b ∷ cs)) → Finish AnyFoldWord s
       (unexpected what.Aggregate m)
   m_stuck f b cs spelled u token =
-      begun_here {L = AnyFoldWord} what.Aggregate s m (v ++ x) bs (109 ∷ x) b cs [] bytes place split u
-      (bare_token what.Aggregate (109 ∷ (x ++ b ∷ cs)) token) (
+      begun_here {L = AnyFoldWord} what.Aggregate s m (v ++ x) bs (109 ∷ x) b cs [] bytes place split (u, token)
+      (λ e. absurd (cc)) (
         f,
         subst (λ t. FoldWordText f ((v ++ x) ++ b ∷ t)) (sym (append-nil cs))
             (m_word f bs v x (b ∷ cs) e spelled q),
@@ -264,14 +270,14 @@ behind_me_ends s m bs v e q bytes place =
     let x = 101 ∷ [] in
     if_ends s (head m == 97) (folds.read_as fold.Mean (codes "n") (behind m)) _
     (λ h. m_on s m bs v x e q bytes place fold.Mean 97
-    (codes "n") refl refl h refl mean_word.fronts.1.1.1 mean_word.bare)
+    (codes "n") refl refl h refl mean_word.fronts.1.1 mean_word.bare)
     (λ _. if_ends s (head m == 114) (folds.read_as fold.Merge (codes "ge") (behind m))
     (Err (unexpected what.Aggregate m))
-    (λ h. m_on s m bs v x e q bytes place fold.Merge 114 (codes "ge") refl refl h refl merge_word.fronts.1.1.1
+    (λ h. m_on s m bs v x e q bytes place fold.Merge 114 (codes "ge") refl refl h refl merge_word.fronts.1.1
     merge_word.bare)
     (λ _. record {
       way = m_stuck s m bs v x e q bytes place fold.Mean 97
-          (codes "n") refl mean_word.fronts.1.1.0 mean_word.bare;
+          (codes "n") refl mean_word.fronts.1.0 mean_word.bare;
     }))
 
 behind_m_ends : (s m : Rest) → Cut (FirstByte 109) s m → Ends behind_read (λ x. FoldWordText x.0) AnyFoldWord s
@@ -285,9 +291,9 @@ behind_m_ends s m c =
     let bytes : s.bytes ≡ (v ++ []) ++ m.bytes = c.bytes ∙ ap (λ t. t ++ m.bytes) (sym (append-nil v)) in
     let place : m.at ≡ s.at + length (v ++ []) = c.place ∙ ap (λ t. s.at + length t) (sym (append-nil v)) in
     if_ends s (head m == 105) (folds.read_as fold.Min (codes "n") (behind m)) _
-    (λ h. m_on s m bs v [] e q bytes place fold.Min 105 (codes "n") refl refl h refl min_word.fronts.1.1 min_word.bare)
+    (λ h. m_on s m bs v [] e q bytes place fold.Min 105 (codes "n") refl refl h refl min_word.fronts.1 min_word.bare)
     (λ _. if_ends s (head m == 97) (folds.read_as fold.Max (codes "x") (behind m)) _
-    (λ h. m_on s m bs v [] e q bytes place fold.Max 97 (codes "x") refl refl h refl max_word.fronts.1.1 max_word.bare)
+    (λ h. m_on s m bs v [] e q bytes place fold.Max 97 (codes "x") refl refl h refl max_word.fronts.1 max_word.bare)
     (λ _. if_ends s (head m == 101) (folds.fold_behind_me (behind m)) (Err (unexpected what.Aggregate m))
     (λ h. let k = byte_is 101 refl m h in
     behind_me_ends s (behind m) bs v e q
@@ -296,7 +302,7 @@ behind_m_ends s m c =
     (omega (arith, c.place, k.place, ap length k.is, length-append v (101 ∷ []))))
     (λ _. record {
       way = m_stuck s m bs v [] e q bytes place fold.Min 105
-          (codes "n") refl min_word.fronts.1.0 min_word.bare;
+          (codes "n") refl min_word.fronts.0 min_word.bare;
     })))
 
 fold_here_ends : (s : Rest) → Ends behind_read (λ x. FoldWordText x.0) AnyFoldWord s (folds.fold_here (skip s))
@@ -312,7 +318,7 @@ fold_here_ends s =
     (λ _. if_ends s (head t == 109) (folds.fold_behind_m (behind t)) (Err (unexpected what.Aggregate t))
     (λ h. behind_m_ends s (behind t) (first_is 109 refl s h))
     (λ _. record {
-      way = wrong what.Aggregate s 115 (codes "um") [] (bare_token what.Aggregate (codes "sum") sum_word.bare)
+      way = wrong what.Aggregate s 115 (codes "um") [] sum_word.bare
           (λ bs e. (fold.Sum, sum_word_text bs e));
     }))))
 
@@ -345,7 +351,7 @@ count_ends at label s v f =
     done_ends s (sign 41 what.CloseParenthesis s >>= λ r. Ok (None, r))
     (λ x. (folds.aggregate_of at label fold.Count x.0, x.1))
     (done_ends {left' = behind_read} s (sign 41 what.CloseParenthesis s) (λ r. (None, r))
-    (ends_as s (sign 41 what.CloseParenthesis s) (sign_ends 41 what.CloseParenthesis close_parenthesis (λ t. t) s)
+    (ends_as s (sign 41 what.CloseParenthesis s) (sign_ends 41 what.CloseParenthesis close_parenthesis refl s)
     (λ r u g. counted_text v u f g) (λ u g. counted_text v u f g)) (λ r. refl) (λ r u g. g)) (λ x. refl)
     (λ x u g. g)
 
@@ -356,10 +362,10 @@ named_fold_ends at label w h s v f =
     done_ends s (up_to 41 what.CloseParenthesis (folds.some_column s)) (λ x. (folds.aggregate_of at label w x.0, x.1))
     (bind_ends {left' = behind_read} s (folds.some_column s) _
     (done_ends {left' = behind_read} s (reading.name s) (λ x. (Some x.0, x.1)) (name_ends s) (λ x. refl)
-    (λ x u g. g)) (λ u g. let e = sign_default 41 close_parenthesis in
-    record { text = e.text; is = folded_text w h v u e.text f g e.is })
+    (λ x u g. g)) (λ u g. let e = sign_default 41 close_parenthesis refl in
+    record { text = e.text; plain = e.plain; is = folded_text w h v u e.text f g e.is })
     (λ x u g. done_ends x.1 (sign 41 what.CloseParenthesis x.1) (λ r. (x.0, r))
-    (ends_as x.1 (sign 41 what.CloseParenthesis x.1) (sign_ends 41 what.CloseParenthesis close_parenthesis (λ t. t) x.1)
+    (ends_as x.1 (sign 41 what.CloseParenthesis x.1) (sign_ends 41 what.CloseParenthesis close_parenthesis refl x.1)
     (λ r y k. folded_text w h v u y f g k) (λ y k. folded_text w h v u y f g k)) (λ r. refl) (λ r y k. k)))
     (λ x. refl) (λ x u g. g)
 
@@ -374,15 +380,15 @@ fold_call_ends at label fold.Mean s v f = named_fold_ends at label fold.Mean (λ
 fold_call_ends at label fold.Merge s v f = named_fold_ends at label fold.Merge (λ i. cc) s v f
 fold_call_ends at label fold.Aggregate s v f = named_fold_ends at label fold.Aggregate (λ i. cc) s v f
 
--- `)` or ` a)` behind the parenthesis
+-- `)` or ` _)` behind the parenthesis
 in_named_fold : (w : FoldWord) → (w ≡ fold.Count → ⊥) → (v : List ℕ) → Text Parted true (SignSpan 40) v →
     Default (λ u. FoldedText w (v ++ u))
-in_named_fold w h v f = let n = name_default in let e = sign_default 41 close_parenthesis in
-    record { text = n.text ++ e.text; is = folded_text w h v n.text e.text f (worded n.text n.is) e.is }
+in_named_fold w h v f = let n = name_default in let e = sign_default 41 close_parenthesis refl in
+    record { text = n.text ++ e.text; plain = e.plain; is = folded_text w h v n.text e.text f (worded n.text n.is) e.is }
 
 in_fold : (w : FoldWord) (v : List ℕ) → Text Parted true (SignSpan 40) v → Default (λ u. FoldedText w (v ++ u))
-in_fold fold.Count v f = let e = sign_default 41 close_parenthesis in
-    record { text = e.text; is = counted_text v e.text f e.is }
+in_fold fold.Count v f = let e = sign_default 41 close_parenthesis refl in
+    record { text = e.text; plain = e.plain; is = counted_text v e.text f e.is }
 in_fold fold.Sum v f = in_named_fold fold.Sum (λ i. cc) v f
 in_fold fold.Min v f = in_named_fold fold.Min (λ i. cc) v f
 in_fold fold.Max v f = in_named_fold fold.Max (λ i. cc) v f
@@ -391,8 +397,8 @@ in_fold fold.Merge v f = in_named_fold fold.Merge (λ i. cc) v f
 in_fold fold.Aggregate v f = in_named_fold fold.Aggregate (λ i. cc) v f
 
 folded_default : (w : FoldWord) → Default (FoldedText w)
-folded_default w = let o = sign_default 40 open_parenthesis in let d = in_fold w o.text o.is in
-    record { text = o.text ++ d.text; is = d.is }
+folded_default w = let o = sign_default 40 open_parenthesis refl in let d = in_fold w o.text o.is in
+    record { text = o.text ++ d.text; plain = no_quotes_on o.text d.text o.plain d.plain; is = d.is }
 
 -- aggregates
 abbrev pub FoldingSpan : List ℕ → List ℕ → Type 0
@@ -435,10 +441,12 @@ labelled_fold_ends : (label : Name) (s : Rest) (w v : List ℕ) → Text Worded 
     Text Parted true (SignSpan 58) v → Reads (λ u. FoldingText (w ++ (v ++ u))) s (folds.labelled_fold label s)
 labelled_fold_ends label s w v f g =
     bind_ends s (folds.fold_here (skip s)) _ (fold_here_ends s)
-    (λ u h. let d = folded_default h.0 in record { text = d.text; is = named_text h.0 w v u d.text f g h.1 d.is })
+    (λ u h. let d = folded_default h.0 in record
+    { text = d.text; plain = d.plain; is = named_text h.0 w v u d.text f g h.1 d.is })
     (λ x u h. bind_ends x.1 (sign 40 what.OpenParenthesis x.1) _
-    (sign_ends 40 what.OpenParenthesis open_parenthesis (λ t. t) x.1)
-    (λ y k. let d = in_fold x.0 y k in record { text = d.text; is = named_text x.0 w v u (y ++ d.text) f g h d.is })
+    (sign_ends 40 what.OpenParenthesis open_parenthesis refl x.1)
+    (λ y k. let d = in_fold x.0 y k in record
+    { text = d.text; plain = d.plain; is = named_text x.0 w v u (y ++ d.text) f g h d.is })
     (λ o y k. ends_as o (folds.fold_call (skip s).at (Some label) x.0 o)
     (fold_call_ends (skip s).at (Some label) x.0 o y k) (λ z q l. named_text x.0 w v u (y ++ q) f g h l)
     (λ q l. named_text x.0 w v u (y ++ q) f g h l)))
@@ -448,7 +456,7 @@ bare_fold_ends : (at : ℕ) (text : List ℕ) (m : Rest) (w : List ℕ) → Text
     (folds.bare_fold at o (skip m))
 bare_fold_ends at text m w f None h =
     record {
-      way = wrong what.Colon m 58 [] counting (bare_token what.Colon (58 ∷ []) (sign_token 58 colon))
+      way = wrong what.Colon m 58 [] counting refl
           (λ bs e. subst (λ t. FoldingText (w ++ t)) (append_assoc bs (58 ∷ []) counting)
           (counting_text w (bs ++ 58 ∷ []) (changed (some_name text) w f) (sign_text 58 colon bs e)));
     }
@@ -463,19 +471,21 @@ bare_fold_ends at text m w f (Some g) h =
     opened : Finish (λ u. FoldingText (w ++ u)) m (unexpected what.OpenParenthesis (skip m))
     opened =
         let c = skip_cut m in
-        let d = in_fold g (c.front ++ 40 ∷ []) (sign_text 40 open_parenthesis c.front c.is) in
-        finish_before {N = λ u. FoldingText (w ++ u)} m (skip m) (unexpected what.OpenParenthesis (skip m)) c.front
-        c.bytes c.place
-        (wrong_here what.OpenParenthesis (skip m) 40 [] d.text
-        (bare_token what.OpenParenthesis (40 ∷ []) (sign_token 40 open_parenthesis)) (subst (λ t. FoldingText
-        (w ++ t)) (append_assoc c.front (40 ∷ []) d.text)
-        (unnamed_text text g w ((c.front ++ 40 ∷ []) ++ d.text) h f d.is)))
+        let v = c.front ++ 10 ∷ [] in
+        let d = in_fold g (v ++ 40 ∷ []) (sign_text 40 open_parenthesis v (blank_last c.front c.is)) in
+        begun_here {L = λ u. FoldingText (w ++ u)} what.OpenParenthesis m (skip m) c.front c.front [] 10 (40 ∷ []) d.text
+        c.bytes c.place (sym (append-nil c.front)) (refl, refl) tt
+        (subst (λ t. FoldingText (w ++ t))
+        (ap (λ t. t ++ d.text) (append_assoc c.front (10 ∷ []) (40 ∷ []))
+        ∙ append_assoc c.front (10 ∷ 40 ∷ []) d.text)
+        (unnamed_text text g w ((v ++ 40 ∷ []) ++ d.text) h f d.is))
 
 pub aggregate_ends : (s : Rest) → Reads FoldingText s (folds.aggregate s)
 unfolding folds.aggregate
 aggregate_ends s =
     bind_ends s (reading.name s) _ (named_ends s)
-    (λ w f. record { text = 58 ∷ counting; is = counting_text w (58 ∷ []) f (sign_text 58 colon [] tt) })
+    (λ w f. record
+    { text = 58 ∷ counting; plain = (folded_default fold.Count).plain; is = counting_text w (58 ∷ []) f (sign_text 58 colon [] tt) })
     (λ x w f. let m = behind (skip x.1) in
     if_ends x.1 (head (skip x.1) == 58) (folds.labelled_fold x.0 m) _
     (λ h. cut_then x.1 m (folds.labelled_fold x.0 m) (sign_cut 58 colon x.1 h)
@@ -521,16 +531,17 @@ aggregates_ends s =
     loop_ends folds.aggregate_turn aggregates_turn_behind (λ a w. MoreFoldings w) (λ a w. FoldingsText w) FoldingsText
     aggregate_turn_ends [] s [] (inl refl)
 
--- ` a:count()`
+-- ` _:count()`
 pub folding_default : Default FoldingText
 folding_default = record {
   text = name_default.text ++ (58 ∷ counting);
+  plain = (folded_default fold.Count).plain;
   is = counting_text name_default.text (58 ∷ []) (worded name_default.text name_default.is) (sign_text 58 colon [] tt);
 }
 
 pub aggregates_default : Default FoldingsText
 aggregates_default =
-    record { text = folding_default.text; is = foldings_grown [] folding_default.text (inl refl) folding_default.is }
+    record { text = folding_default.text; plain = folding_default.plain; is = foldings_grown [] folding_default.text (inl refl) folding_default.is }
 
 -- one more aggregate behind others
 pub one_more_folding : (x z : List ℕ) → Then FoldingsSpan (Then (SignSpan 44) FoldingSpan) x z → FoldingsSpan x z

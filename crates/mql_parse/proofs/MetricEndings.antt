@@ -10,12 +10,12 @@ use Rattle.mql_ast.specs.Tokens.{metric_name, metric_behind}
 use Rattle.mql_parse.specs.declared.faults.ParseFault.{ParseFault}
 use Rattle.mql_parse.specs.declared.faults.What.TheVariants as what
 use Rattle.mql_parse.specs.Outcomes.{unexpected}
-use Rattle.mql_parse.specs.FaultTokens.{IsWhole, IsToken}
+use Rattle.mql_parse.specs.FaultTokens.{IsWhole, IsBare}
 use Rattle.mql_parse.specs.TokenReading as reading
 use Rattle.mql_parse.proofs.Endings.{Stops, Anyhow, Text, Default, Finish, Ends, Reads, done_ends}
 use Rattle.mql_parse.proofs.TextFronts.{MetricOpen, slash_open, metric_byte_open, metric_slash_open, open_metric}
 use Rattle.mql_parse.proofs.TokenHalts.{Halts, halted_unexpected, if_halts, halts_on, halts_map, halts_end}
-use Rattle.mql_parse.proofs.TokenEndings.{at_place, AreBlanks, outer_no_metric, equal_byte, first_cut, bare_token, wrong, Token, word_text, WordSpan}
+use Rattle.mql_parse.proofs.TokenEndings.{at_place, AreBlanks, outer_no_metric, equal_byte, first_cut, wrong, Token, word_text, WordSpan}
 
 -- a metric's name from behind a slash or another of its bytes
 abbrev MetricText : Bool → List ℕ → Type 0
@@ -72,7 +72,7 @@ metric_from_halts after at [] =
     let s = at_place at [] in
     if_halts after (Err (unexpected what.Metric s)) (Ok ([], s))
     (λ h. halted_unexpected {K = MetricOpen after} {L = MetricText after} what.Metric s 97 [] (slash_open after h)
-    (one_more after))
+    (one_more after) (λ e. cc))
     (λ h. record { way = record { front = []; bytes = refl; place = omega arith; is = none_more after h } })
 metric_from_halts after at (b ∷ bs) =
     let s = at_place at (b ∷ bs) in
@@ -91,7 +91,7 @@ metric_from_halts after at (b ∷ bs) =
     (λ u k. metric_slash_open after b u h g k) (λ u f. metric_slash after b u h g f)))
     (λ g. if_halts after (Err (unexpected what.Metric s)) (Ok ([], s))
     (λ h. halted_unexpected {K = MetricOpen after} {L = MetricText after} what.Metric s 97 [] (slash_open after h)
-    (one_more after))
+    (one_more after) (λ e. cc))
     (λ h. record { way = record { front = []; bytes = refl; place = omega arith; is = none_more after h } })))
 
 metric_text : (w u : List ℕ) → Text Anyhow true (WordSpan (codes "/")) w → MetricText true u →
@@ -113,10 +113,9 @@ slash_text bs u e f =
     subst (Text Anyhow false (Token grammar.metric_at)) (append_assoc bs (47 ∷ []) u)
     (metric_text (bs ++ 47 ∷ []) u (word_text Anyhow 47 [] refl tt bs e) f)
 
-slash_token : (u : List ℕ) → MetricText true u → IsToken what.Metric (47 ∷ u)
+slash_token : (u : List ℕ) → MetricText true u → IsBare what.Metric (47 ∷ u)
 slash_token u f =
-    bare_token what.Metric (47 ∷ u)
-    (subst (IsWhole grammar.metric_at) (append-nil (47 ∷ u)) ((slash_text [] u tt f).fills [] refl 0))
+    subst (IsWhole grammar.metric_at) (append-nil (47 ∷ u)) (refl, (slash_text [] u tt f).fills [] refl 0)
 
 pub if_bind : {A B : Type 0} {left : B → Rest} {P : B → List ℕ → Type 0} {E : List ℕ → Type 0} (s : Rest) (t : Bool)
     (x : A) (e : ParseFault) (f : A → Result B ParseFault) → (t ≡ true → Ends left P E s (f x)) →
@@ -136,7 +135,7 @@ metric_ends s =
     (λ h. let c = first_cut (λ b. b == 47) refl s h in
     let v : c.front ≡ c.is.0 ++ 47 ∷ [] = c.is.1.1 ∙ ap (λ b. c.is.0 ++ b ∷ []) (equal_byte (head t) 47 h) in
     done_ends s on (λ read. (named read.0, read.1))
-    (halts_end {R = Text Anyhow false (Token grammar.metric_at)} s m c.front c.is.0 (47 ∷ []) on c.bytes c.place v
+    (halts_end {R = Text Anyhow false (Token grammar.metric_at)} s m c.front c.is.0 47 on c.bytes c.place v
     (metric_from_halts true m.at m.bytes)
     (λ u f. subst (λ x. Text Anyhow false (Token grammar.metric_at) (x ++ u)) (sym v)
     (subst (Text Anyhow false (Token grammar.metric_at)) (sym (append_assoc c.is.0 (47 ∷ []) u))
@@ -149,6 +148,7 @@ pub metric_default : Default (Text Anyhow false (Token grammar.metric_at))
 metric_default =
     record {
       text = 47 ∷ 97 ∷ [];
+      plain = refl;
       is = metric_text (47 ∷ []) (97 ∷ []) (word_text Anyhow 47 [] refl tt [] tt)
           (one_more true);
     }

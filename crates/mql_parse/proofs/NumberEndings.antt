@@ -3,7 +3,7 @@ use Rattle.std.proofs.Common.{◌≡◌, ℕ, pos, ◌+◌, ◌-◌, ◌*◌, �
 use Rattle.std.proofs.lemmas.Bool.{false≢true}
 use Rattle.std.proofs.lemmas.List.{append-nil}
 use Rattle.std.proofs.lemmas.Bool.Decides.{nat_tests}
-use Rattle.mql_ast.specs.Bytes.{is_digit}
+use Rattle.mql_ast.specs.Bytes.{is_blank, is_digit}
 use Rattle.mql_ast.specs.Rests.{Rest, first_of, head, behind, skip}
 use Rattle.mql_ast.specs.Tokens as grammar
 use Rattle.mql_ast.specs.Tokens.{sign_at, minus, unit_seconds, longest}
@@ -13,12 +13,12 @@ use Rattle.mql_parse.specs.declared.faults.ParseKind.TheVariants.{NumberTooLarge
 use Rattle.mql_parse.specs.declared.faults.What.TheVariants as what
 use Rattle.mql_parse.specs.Outcomes.{Outcome, fault, unexpected, map_outcome}
 use Rattle.mql_parse.specs.FaultNumbers.{AreDigits, IsNumber}
-use Rattle.mql_parse.specs.FaultTokens.{IsWhole, IsToken}
+use Rattle.mql_parse.specs.FaultTokens.{IsWhole, IsBare}
 use Rattle.mql_parse.specs.TokenReading as reading
 use Rattle.mql_parse.proofs.RestLemmas.{skip_off}
 use Rattle.mql_parse.proofs.BehindLemmas.{sign_taken}
 use Rattle.mql_parse.proofs.Endings.{Worded, Parted, OpensAs, opens_on, Text, join, changed, worded, Default, Cut, Smaller, known_smaller, Comes, IfExpected, Finish, finish_as, cut_before, cut_as, Ends, behind_read, Reads, ends_before_it, cut_then, ends_as, done_ends, if_ends}
-use Rattle.mql_parse.proofs.TokenEndings.{at_place, and_first, bare_token, blank_token, AreBlanks, blanks_open, skip_over, digit_not_blank, digit_in_word, outer_no_digit, byte_cut, first_cut, wrong, wrong_here, SignSpan, minus_sign, sign_cut, Token}
+use Rattle.mql_parse.proofs.TokenEndings.{at_place, and_first, AreBlanks, blank_last, blanks_open, skip_over, digit_not_blank, digit_in_word, outer_no_digit, byte_cut, first_cut, begun_here, wrong_spaced, SignSpan, minus_sign, sign_cut, Token}
 
 -- digits behind others: the number that they make
 abbrev IsDigits : ℕ → ℕ → ℕ → List ℕ → Type 0
@@ -133,11 +133,12 @@ PositiveText most v w =
     (n : ℕ) × (grammar.positive_at most (at_place at (w ++ z)) ≡ Some (v, at_place n z))
 
 -- a number behind blanks
-abbrev NumberBehind : List ℕ → Type 0
-NumberBehind w = (bs : List ℕ) × ((u : List ℕ) × (AreBlanks bs × (IsNumber u × (w ≡ bs ++ u))))
+abbrev NumberBehind : ℕ → ℕ → List ℕ → Type 0
+NumberBehind most v w =
+    (bs : List ℕ) × ((u : List ℕ) × (AreBlanks bs × (IsNumber u × ((w ≡ bs ++ u) × PositiveText most v u))))
 
 abbrev IsPositive : ℕ → ℕ → List ℕ → Type 0
-IsPositive most v w = OpensAs Worded w × (PositiveText most v w × ((nat_le v most ≡ true) × NumberBehind w))
+IsPositive most v w = OpensAs Worded w × (PositiveText most v w × ((nat_le v most ≡ true) × NumberBehind most v w))
 
 digit_first : (b : ℕ) (u : List ℕ) → is_digit b ≡ true → OpensAs Worded (b ∷ u)
 digit_first b u h = λ v g y. absurd (false≢true (sym g ∙ digit_in_word b h))
@@ -145,17 +146,20 @@ digit_first b u h = λ v g y. absurd (false≢true (sym g ∙ digit_in_word b h)
 first_positive : (most v b : ℕ) (bs u : List ℕ) → AreBlanks bs → (is_digit b && not (b == 48)) ≡ true →
     IsDigits most (b - 48) v u → IsPositive most v (bs ++ (b ∷ u))
 first_positive most v b bs u e h f =
-    let d = and_first (is_digit b) (not (b == 48)) h in (
+    let d = and_first (is_digit b) (not (b == 48)) h in
+    let plain : PositiveText most v (b ∷ u) = λ z g at. let n = f.0 z g (at + 1) in (
+      n.0,
+      ap (positive_of most) (skip_off (at_place at (b ∷ (u ++ z))) (digit_not_blank b d))
+          ∙ ap (λ t. if t then grammar.digits_from most (b - 48) (at + 1) (u ++ z) else None) h ∙ n.1,
+    ) in (
       blanks_open Worded bs (b ∷ u) e (digit_first b u d),
       (
-        (λ z g at. let n = f.0 z g (at + length bs + 1) in (
+        (λ z g at. let n = plain z g (at + length bs) in (
           n.0,
           ap (λ t. grammar.positive_at most (at_place at t)) (append_assoc bs (b ∷ u) z)
-              ∙ ap (positive_of most) (skip_over bs (b ∷ (u ++ z)) at e
-              ∙ skip_off (at_place (at + length bs) (b ∷ (u ++ z))) (digit_not_blank b d))
-              ∙ ap (λ t. if t then grammar.digits_from most (b - 48) (at + length bs + 1) (u ++ z) else None) h ∙ n.1,
+              ∙ ap (positive_of most) (skip_over bs (b ∷ (u ++ z)) at e) ∙ n.1,
         )),
-        (f.1.0, (bs, (b ∷ u, (e, ((h, f.1.1), refl))))),
+        (f.1.0, (bs, (b ∷ u, (e, ((h, f.1.1), (refl, plain)))))),
       ),
     )
 
@@ -169,14 +173,10 @@ behind_first_digit most v b w u c h f =
     subst (IsPositive most v) (sym (append_assoc c.0 (b ∷ []) u) ∙ ap (λ t. t ++ u) (sym c.1.1))
     (first_positive most v b c.0 u c.1.0 h f)
 
-one_after : (most : ℕ) → nat_le 1 most ≡ true → (bs : List ℕ) → AreBlanks bs → IsPositive most 1 (bs ++ 32 ∷ 49 ∷ [])
+one_after : (most : ℕ) → nat_le 1 most ≡ true → (bs : List ℕ) → AreBlanks bs → IsPositive most 1 (bs ++ 10 ∷ 49 ∷ [])
 one_after most h bs e =
-    subst (IsPositive most 1) (append_assoc bs (32 ∷ []) (49 ∷ []))
-    (first_positive most 1 49 (bs ++ 32 ∷ []) [] (blank_last bs e) refl (no_digits most 1 h))
-  where
-    blank_last : (bs : List ℕ) → AreBlanks bs → AreBlanks (bs ++ 32 ∷ [])
-    blank_last [] e = (refl, tt)
-    blank_last (b ∷ bs) e = (e.0, blank_last bs e.1)
+    subst (IsPositive most 1) (append_assoc bs (10 ∷ []) (49 ∷ []))
+    (first_positive most 1 49 (bs ++ 10 ∷ []) [] (blank_last bs e) refl (no_digits most 1 h))
 
 at_least_one : (most : ℕ) → nat_le 19 most ≡ true → nat_le 1 most ≡ true
 at_least_one most h = grind (arith, nat_tests)
@@ -251,11 +251,11 @@ positive_is_number most s x h = let t = skip s in
     number_either (head t == 48) (is_digit (head t)) x (0, behind t)
     (grammar.digits_from most (head t - 48) (behind t).at (behind t).bytes) h
 
--- ` 1`
-pub number_token : IsToken what.Number (32 ∷ 49 ∷ [])
-number_token = blank_token what.Number (49 ∷ []) (bare_token what.Number (49 ∷ []) (1, number_one))
+-- `1`
+pub number_token : IsBare what.Number (49 ∷ [])
+number_token = (1, (refl, number_one))
   where
-    number_one : IsWhole (grammar.number_at 1) (49 ∷ [])
+    number_one : (n : ℕ × ℕ) × (grammar.number_at 1 (at_place 0 (49 ∷ [])) ≡ Some (n.1, at_place n.0 []))
     number_one = let n = (first_positive 1 1 49 [] [] tt refl (no_digits 1 1 refl)).1.0 [] refl 0 in
         ((n.0, 1), positive_is_number 1 (at_place 0 (49 ∷ [])) (1, at_place n.0 []) n.1)
 
@@ -270,7 +270,7 @@ positive_end most le s =
     (digits_end most (head t - 48) (behind t).at (behind t).bytes
     (first_small most (head t) le (and_first (is_digit (head t)) (not (head t == 48)) h))))
     (λ h. record {
-      way = wrong what.Number s 32 (49 ∷ []) [] number_token
+      way = wrong_spaced what.Number s (49 ∷ []) [] number_token
           (λ bs e. (1, one_after most (at_least_one most le) bs e));
     })
 
@@ -284,16 +284,16 @@ positive_ends most le s =
     ends_as s (reading.positive most s) (positive_end most le s) (λ x w f. positive_text most x.0 w f)
     (λ w f. positive_text most f.0 w f.1)
 
-pub a_positive : (most : ℕ) → nat_le 1 most ≡ true → Text Parted false (Token (grammar.positive_at most)) (32 ∷ 49 ∷ [])
+pub a_positive : (most : ℕ) → nat_le 1 most ≡ true → Text Parted false (Token (grammar.positive_at most)) (10 ∷ 49 ∷ [])
 a_positive most h = record {
   opens = λ u. refl;
-  fills = (positive_text most 1 (32 ∷ 49 ∷ []) (one_after most h [] tt)).fills;
+  fills = (positive_text most 1 (10 ∷ 49 ∷ []) (one_after most h [] tt)).fills;
 }
 
 -- ` 1`
 abbrev pub positive_default : (most : ℕ) → nat_le 1 most ≡ true →
     Default (Text Parted false (Token (grammar.positive_at most)))
-positive_default most h = record { text = 32 ∷ 49 ∷ []; is = a_positive most h }
+positive_default most h = record { text = 10 ∷ 49 ∷ []; plain = refl; is = a_positive most h }
 
 -- durations
 unit_no_digit : (c : ℕ) → (unit_seconds c == 0) ≡ false → is_digit c ≡ false
@@ -335,9 +335,6 @@ one_fits c =
     (either_small (c == 109) 60 _ refl
     (either_small (c == 104) 3600 _ refl (either_small (c == 100) 86400 0 refl refl)))
 
-unit_token : IsToken what.Unit (115 ∷ [])
-unit_token = bare_token what.Unit (115 ∷ []) (115, (refl, refl))
-
 -- a unit behind a number
 module _ (s r : Rest) (v : ℕ) (c : Cut (IsPositive longest v) s r) (u : (unit_seconds (head r) == 0) ≡ false) where
   unit_byte : r.bytes ≡ head r ∷ (behind r).bytes
@@ -357,7 +354,7 @@ module _ (s r : Rest) (v : ℕ) (c : Cut (IsPositive longest v) s r) (u : (unit_
             (unit_text v (head r) c.front c.is u m);
       }
 
-  unit_smaller : NumberBehind c.front → Smaller (Text Worded true (Token grammar.duration_at)) s r.at
+  unit_smaller : NumberBehind longest v c.front → Smaller (Text Worded true (Token grammar.duration_at)) s r.at
   unit_smaller n = record {
     before = n.0;
     number = n.1.0;
@@ -365,9 +362,9 @@ module _ (s r : Rest) (v : ℕ) (c : Cut (IsPositive longest v) s r) (u : (unit_
     after = (behind r).bytes;
     is_number = n.1.1.1.0;
     bytes = c.bytes ∙ ap (λ t. c.front ++ t) unit_byte
-        ∙ ap (λ t. t ++ (head r ∷ (behind r).bytes)) n.1.1.1.1
+        ∙ ap (λ t. t ++ (head r ∷ (behind r).bytes)) n.1.1.1.1.0
         ∙ append_assoc n.0 n.1.0 (head r ∷ (behind r).bytes);
-    place = omega (arith, c.place, ap length n.1.1.1.1, length-append n.0 n.1.0);
+    place = omega (arith, c.place, ap length n.1.1.1.1.0, length-append n.0 n.1.0);
     tail = [];
     is = subst (Text Worded true (Token grammar.duration_at)) (append_assoc n.0 (49 ∷ []) (head r ∷ []))
         (unit_text 1 (head r) (n.0 ++ 49 ∷ [])
@@ -386,6 +383,46 @@ module _ (s r : Rest) (v : ℕ) (c : Cut (IsPositive longest v) s r) (u : (unit_
     comes = tt;
   }
 
+-- a number and a unit, and a number alone
+with_seconds : (v : ℕ) (w : List ℕ) → nat_le v longest ≡ true → PositiveText longest v w →
+    is_blank (first_of w) ≡ false → IsWhole grammar.duration_at (w ++ 115 ∷ [])
+with_seconds v w m f h =
+    let n = f (115 ∷ []) refl 0 in (
+      first_blank w h,
+      (
+        (n.0 + 1, pos (v * unit_seconds 115)),
+        ap (option_and_then grammar.with_unit) n.1
+            ∙ ap (λ t. if t then Some (pos (v * unit_seconds 115), at_place (n.0 + 1) []) else None) (seconds_fit v m),
+      ),
+    )
+  where
+    first_blank : (w : List ℕ) → is_blank (first_of w) ≡ false → is_blank (first_of (w ++ 115 ∷ [])) ≡ false
+    first_blank [] h = refl
+    first_blank (b ∷ w) h = h
+
+without_unit : (v : ℕ) (w : List ℕ) → PositiveText longest v w → IsWhole grammar.duration_at w → ⊥
+without_unit v w f h =
+    let n = f [] refl 0 in
+    let none : grammar.duration_at (at_place 0 w) ≡ None =
+    ap (λ t. grammar.duration_at (at_place 0 t)) (sym (append-nil w)) ∙ ap (option_and_then grammar.with_unit) n.1 in
+    let some = h.1.1 in absurd (cc)
+
+-- the unit of a number
+unit_missing : (s r : Rest) (v : ℕ) → Cut (IsPositive longest v) s r →
+    Finish (Text Worded true (Token grammar.duration_at)) s (unexpected what.Unit r)
+unit_missing s r v c = let n = c.is.1.1.1 in by_number n.1.0 n.1.1.1.0 n.1.1.1.1.0 n.1.1.1.1.1
+  where
+    by_number : (u : List ℕ) → IsNumber u → c.front ≡ c.is.1.1.1.0 ++ u → PositiveText longest v u →
+        Finish (Text Worded true (Token grammar.duration_at)) s (unexpected what.Unit r)
+    by_number [] k q f = absurd k
+    by_number (b ∷ u) k q f =
+        begun_here {L = Text Worded true (Token grammar.duration_at)} what.Unit s r c.front c.is.1.1.1.0 (b ∷ u) 115 []
+        [] c.bytes c.place q (
+          without_unit v (b ∷ u) f,
+          with_seconds v (b ∷ u) c.is.1.1.0 f (digit_not_blank b (and_first (is_digit b) (not (b == 48)) k.0)),
+        )
+        (λ e. absurd (cc)) (in_seconds v c.front c.is)
+
 pub duration_ends : (s : Rest) → Reads (Text Worded true (Token grammar.duration_at)) s (reading.duration s)
 unfolding reading.duration
 duration_ends s = by_number (reading.positive longest s) (positive_end longest refl s)
@@ -394,29 +431,28 @@ duration_ends s = by_number (reading.positive longest s) (positive_end longest r
         Reads (Text Worded true (Token grammar.duration_at)) s (o >>= reading.units)
     by_number (Err e) h = record {
       way = finish_as {M = Text Worded true (Token grammar.duration_at)} s e h.way
-          (λ w f. record { text = 115 ∷ []; is = in_seconds f.0 w f.1 });
+          (λ w f. record { text = 115 ∷ []; plain = refl; is = in_seconds f.0 w f.1 });
     }
     by_number (Ok x) h =
         let c = h.way in
         let r = x.1 in
         let seconds = x.0 * unit_seconds (head r) in
         if_ends s (unit_seconds (head r) == 0) (Err (unexpected what.Unit r)) _
-        (λ u. ends_before_it s r c.front (Err (unexpected what.Unit r)) c.bytes c.place
-        (record { way = wrong_here what.Unit r 115 [] [] unit_token (in_seconds x.0 c.front c.is) }))
+        (λ u. record { way = unit_missing s r x.0 c })
         (λ u. if_ends s (nat_le seconds longest) (Ok (pos seconds, behind r)) (Err (fault NumberTooLarge r))
         (λ m. ends_before_it s r c.front (Ok (pos seconds, behind r)) c.bytes c.place
         (record { way = unit_cut s r x.0 c u m }))
         (λ m. record { way = unit_too_large s r x.0 c u }))
 
-pub a_duration : Text Parted true (Token grammar.duration_at) (32 ∷ 49 ∷ 115 ∷ [])
+pub a_duration : Text Parted true (Token grammar.duration_at) (10 ∷ 49 ∷ 115 ∷ [])
 a_duration = record {
   opens = λ u. refl;
-  fills = (unit_text 1 115 (32 ∷ 49 ∷ []) (one_after longest refl [] tt) refl refl).fills;
+  fills = (unit_text 1 115 (10 ∷ 49 ∷ []) (one_after longest refl [] tt) refl refl).fills;
 }
 
 -- ` 1s`
 abbrev pub duration_default : Default (Text Parted true (Token grammar.duration_at))
-duration_default = record { text = 32 ∷ 49 ∷ 115 ∷ []; is = a_duration }
+duration_default = record { text = 10 ∷ 49 ∷ 115 ∷ []; plain = refl; is = a_duration }
 
 -- numbers with a sign or without
 zero_number : (most : ℕ) (bs : List ℕ) → AreBlanks bs → Text Worded false (Token (grammar.number_at most))
@@ -528,11 +564,12 @@ signed_ends s =
 pub signed_default : Default (Text Parted false (Token grammar.signed_at))
 signed_default =
     record {
-      text = 32 ∷ 48 ∷ [];
+      text = 10 ∷ 48 ∷ [];
+      plain = refl;
       is = record {
         opens = λ u. refl;
         fills = λ z h at. let n =
-            (zero_number (2 ^ 63 - 1) (32 ∷ []) (refl, tt)).fills z h at in
-            ((n.0.0, pos n.0.1), signed_plain (at_place at (32 ∷ 48 ∷ z)) (n.0.1, at_place n.0.0 z) n.1);
+            (zero_number (2 ^ 63 - 1) (10 ∷ []) (refl, tt)).fills z h at in
+            ((n.0.0, pos n.0.1), signed_plain (at_place at (10 ∷ 48 ∷ z)) (n.0.1, at_place n.0.0 z) n.1);
       };
     }

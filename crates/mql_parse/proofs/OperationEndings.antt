@@ -1,5 +1,5 @@
 -- What was read of an operation before its fault can be completed.
-use Rattle.std.proofs.Common.{◌≡◌, ℕ, ℤ, Bool, true, false, ◌==◌, ◌⊎◌, inl, inr, List, [], ◌∷◌, ◌++◌, codes, refl, sym, ap, ◌∙◌, subst, append_assoc, ◌+◌, option_and_then, Ok, Err}
+use Rattle.std.proofs.Common.{◌≡◌, ℕ, ℤ, Bool, true, false, ◌==◌, ◌⊎◌, inl, inr, List, [], ◌∷◌, ◌++◌, codes, refl, sym, ◌∙◌, subst, append_assoc, Ok, Err}
 use Rattle.std.specs.Result.{IfOk}
 use Rattle.std.proofs.lemmas.Bool.{false≢true}
 use Rattle.mon_value.specs.declared.aligners.Aligner.TheVariants as aligner
@@ -7,7 +7,7 @@ use Rattle.mql_ast.specs.Trees as tree
 use Rattle.mql_ast.specs.Trees.{PredicateTree, DeedTree, OpTree}
 use Rattle.mql_ast.specs.Bytes.{is_blank}
 use Rattle.mql_ast.specs.Rests.{Rest, head, skip}
-use Rattle.mql_ast.specs.Tokens.{positive_at, duration_at, with_unit, longest}
+use Rattle.mql_ast.specs.Tokens.{positive_at, duration_at}
 use Rattle.mql_ast.specs.Grammar as grammar
 use Rattle.mql_ast.specs.Grammar.{Deed, align_delta, align_next_older}
 use Rattle.mql_parse.specs.declared.faults.What.TheVariants as what
@@ -16,14 +16,13 @@ use Rattle.mql_parse.specs.TokenReading as reading
 use Rattle.mql_parse.specs.SumReading.{items}
 use Rattle.mql_parse.specs.PredicateReading as predicates
 use Rattle.mql_parse.specs.Folds as folds
-use Rattle.mql_parse.specs.FaultTokens.{IsToken}
 use Rattle.mql_parse.specs.PipeReading as pipes
 use Rattle.mql_parse.proofs.Endings.{Anyhow, Worded, Parted, OpensAs, Text, Then, join, changed, worded, unended, Default, both, default_as, Ends, behind_read, ends_known, Reads, ends_as, done_ends, then_ends, if_ends}
 use Rattle.mql_parse.proofs.TokenFronts.{WordOf, filter_word, align_word, group_by_word, value_word, top_word, every_word, within_word, delta_word, next_older_word}
-use Rattle.mql_parse.proofs.TokenEndings.{at_place, AreBlanks, all_nonzero, skip_over, bare_token, blank_token, word_over, sign_text, wrong, SignSpan, sign_ends, sign_default, WordSpan, word_text, word_ends, SpacedSpan, spaced, Token, NameSpan, name_ends, name_default, open_parenthesis, close_parenthesis, open_bracket, comma}
-use Rattle.mql_parse.proofs.SpacedEndings.{Blanked, Opening, word_spaced_ends}
-use Rattle.mql_parse.proofs.NumberEndings.{positive_of, number_token, positive_ends, positive_default, duration_ends, duration_default}
-use Rattle.mql_parse.proofs.PredicateEndings.{predicate_blanked, predicate_opening, DisjunctionSpan, FilterSpan, predicate_ends, predicate_default}
+use Rattle.mql_parse.proofs.TokenEndings.{at_place, AreBlanks, all_nonzero, sign_text, wrong, SignSpan, sign_ends, sign_default, WordSpan, word_text, word_ends, SpacedSpan, spaced, Token, NameSpan, name_ends, name_default, open_parenthesis, close_parenthesis, open_bracket, comma}
+use Rattle.mql_parse.proofs.SpacedEndings.{Opening, word_spaced_ends}
+use Rattle.mql_parse.proofs.NumberEndings.{number_token, positive_ends, positive_default, duration_ends, duration_default}
+use Rattle.mql_parse.proofs.PredicateEndings.{predicate_opening, DisjunctionSpan, FilterSpan, predicate_ends, predicate_default}
 use Rattle.mql_parse.proofs.ListEndings.{InGrouping, grouping_span, names_ends, names_default, ItemsSpan, items_ends, items_default, FoldingSpan, FoldingsSpan, folding_default, one_more_folding, aggregates_ends, aggregates_default}
 use Rattle.mql_parse.proofs.Sound.{if_sound, bind_sound}
 use Rattle.mql_parse.proofs.SumEndings.{any_ok}
@@ -36,26 +35,26 @@ abbrev AlignerSpan : List ℕ → List ℕ → Type 0
 AlignerSpan x z = AlignedSpan (codes "delta") x z ⊎ AlignedSpan (codes "next_older") x z
 
 duration_closed : Default (Text Worded true (Then (Token duration_at) (SignSpan 41)))
-duration_closed = default_as worded (both refl duration_default (sign_default 41 close_parenthesis))
+duration_closed = default_as worded (both refl duration_default (sign_default 41 close_parenthesis refl))
 
 in_aligned : Default (Text Parted true (Then (SignSpan 40) (Then (Token duration_at) (SignSpan 41))))
-in_aligned = both refl (sign_default 40 open_parenthesis) duration_closed
+in_aligned = both refl (sign_default 40 open_parenthesis refl) duration_closed
 
 up_to_ends : (j : Rest) → Reads (Text Worded true (Then (Token duration_at) (SignSpan 41))) j
     (up_to 41 what.CloseParenthesis (reading.duration j))
 up_to_ends j =
-    then_ends j (reading.duration j) _ refl (duration_ends j) (sign_default 41 close_parenthesis)
+    then_ends j (reading.duration j) _ refl (duration_ends j) (sign_default 41 close_parenthesis refl)
     (λ x. done_ends x.1 (sign 41 what.CloseParenthesis x.1) (λ r. (x.0, r))
-    (sign_ends 41 what.CloseParenthesis close_parenthesis (λ t. t) x.1) (λ r. refl) (λ r w f. f))
+    (sign_ends 41 what.CloseParenthesis close_parenthesis refl x.1) (λ r. refl) (λ r w f. f))
 
 aligned_ends : (c : ℕ) (cs : List ℕ) → is_blank c ≡ false → OpensAs Worded (c ∷ cs) → all_nonzero (c ∷ cs) ≡ true →
-    WordOf what.Aligner (c ∷ cs) → (m : Rest) →
+    WordOf what.Aligner c cs → (m : Rest) →
     Reads (Text Worded true (AlignedSpan (c ∷ cs))) m (pipes.aligned_for (c ∷ cs) (skip m))
 aligned_ends c cs blank f nonzero token m =
     then_ends m (exact what.Aligner (c ∷ cs) (skip m)) _ refl
     (word_ends Worded what.Aligner c cs blank f nonzero token m)
     in_aligned (λ k.
-    then_ends k (sign 40 what.OpenParenthesis k) _ refl (sign_ends 40 what.OpenParenthesis open_parenthesis (λ t. t) k)
+    then_ends k (sign 40 what.OpenParenthesis k) _ refl (sign_ends 40 what.OpenParenthesis open_parenthesis refl k)
     duration_closed up_to_ends)
 
 delta_opens : OpensAs Worded (codes "delta")
@@ -71,15 +70,12 @@ delta_text bs e =
     (join (bs ++ codes "delta") in_aligned.text refl (word_text Worded 100 (codes "elta") refl delta_opens bs e)
     in_aligned.is))
 
-an_aligner : Text Parted true AlignerSpan (32 ∷ (codes "delta" ++ in_aligned.text))
-an_aligner = record { opens = λ u. refl; fills = (delta_text (32 ∷ []) (refl, tt)).fills }
+an_aligner : Text Parted true AlignerSpan (10 ∷ (codes "delta" ++ in_aligned.text))
+an_aligner = record { opens = λ u. refl; fills = (delta_text (10 ∷ []) (refl, tt)).fills }
 
 -- ` delta( 1s)`
 abbrev aligner_default : Default (Text Parted true AlignerSpan)
-aligner_default = record { text = 32 ∷ (codes "delta" ++ in_aligned.text); is = an_aligner }
-
-delta_token : IsToken what.Aligner (codes "delta")
-delta_token = bare_token what.Aligner (codes "delta") delta_word.bare
+aligner_default = record { text = 10 ∷ (codes "delta" ++ in_aligned.text); plain = in_aligned.plain; is = an_aligner }
 
 aligner_ends : (m : Rest) → Reads (Text Worded true AlignerSpan) m (pipes.aligner_here (skip m))
 aligner_ends m =
@@ -95,28 +91,10 @@ aligner_ends m =
     (λ _. done_ends m next (λ x. (tree.Align (aligner.NextOlder x.0), x.1))
     (ends_as m next (aligned_ends 110 (codes "ext_older") refl next_opens refl next_older_word m)
     (λ x w f. changed (λ x z k. inr k) w f) (λ w f. changed (λ x z k. inr k) w f)) (λ x. refl) (λ x w f. f))
-    (λ _. record { way = wrong what.Aligner m 100 (codes "elta") in_aligned.text delta_token delta_text }))
-
-aligner_blanked : Blanked AlignerSpan
-aligner_blanked x z (inl k) = inl (record {
-  between = k.between;
-  first = word_over (codes "delta") (32 ∷ []) (refl, tt) x k.between k.first;
-  second = k.second;
-})
-aligner_blanked x z (inr k) = inr (record {
-  between = k.between;
-  first = word_over (codes "next_older") (32 ∷ []) (refl, tt) x k.between k.first;
-  second = k.second;
-})
+    (λ _. record { way = wrong what.Aligner m 100 (codes "elta") in_aligned.text delta_word.bare delta_text }))
 
 aligner_opening : Opening what.Aligner aligner_default.text
-aligner_opening = record {
-  byte = 32;
-  rest = codes "delta";
-  more = in_aligned.text;
-  is = refl;
-  token = blank_token what.Aligner (codes "delta") delta_token;
-}
+aligner_opening = record { token = codes "delta"; more = in_aligned.text; is = refl; bare = delta_word.bare }
 
 -- operations other than a filter
 abbrev pub DeedSpan : ℕ → List ℕ → List ℕ → Type 0
@@ -140,7 +118,7 @@ align_ends : (d : ℕ) (s : Rest) → Reads (DeedText d) s (pipes.align (skip s)
 unfolding pipes.align
 align_ends d s =
     ends_as s _ (word_spaced_ends what.Operation what.Aligner 97 (codes "lign") refl refl align_word s
-    (λ m. pipes.aligner_here (skip m)) aligner_blanked aligner_default aligner_opening
+    (λ m. pipes.aligner_here (skip m)) aligner_default aligner_opening
     aligner_ends) (λ x w f. unended w (changed (align_span d) w f))
     (λ w f. unended w (changed (align_span d) w f))
 
@@ -155,7 +133,7 @@ group_span d x z k at =
     ((e.0.0, tree.GroupBy b.0.1 e.0.1), grammar.group_by a.1 b.1 c.1 e.1)
 
 more_aggregates : Default (Text Parted true (Then (SignSpan 44) FoldingsSpan))
-more_aggregates = both refl (sign_default 44 comma) aggregates_default
+more_aggregates = both refl (sign_default 44 comma refl) aggregates_default
 
 in_group_by : Default (Text Anyhow true (Then InGrouping (Then (SignSpan 44) FoldingsSpan)))
 in_group_by = both refl names_default more_aggregates
@@ -210,11 +188,11 @@ unfolding pipes.group_by
 group_by_ends d s = ends_as s _
     (then_ends s (exact what.Operation (codes "group_by") (skip s)) _ refl
     (word_ends Anyhow what.Operation 103 (codes "roup_by") refl tt refl group_by_word s)
-    (both refl (sign_default 91 open_bracket) in_group_by) (λ word.
+    (both refl (sign_default 91 open_bracket refl) in_group_by) (λ word.
     then_ends word (sign 91 what.OpenBracket word) _ refl
-    (sign_ends 91 what.OpenBracket open_bracket (λ t. t) word) in_group_by (λ bracket.
+    (sign_ends 91 what.OpenBracket open_bracket refl word) in_group_by (λ bracket.
     then_ends bracket (folds.names bracket) _ refl (names_ends bracket) more_aggregates (λ columns.
-    then_ends columns.1 (sign 44 what.Comma columns.1) _ refl (sign_ends 44 what.Comma comma (λ t. t) columns.1)
+    then_ends columns.1 (sign 44 what.Comma columns.1) _ refl (sign_ends 44 what.Comma comma refl columns.1)
     aggregates_default (λ k.
     done_ends k (folds.aggregates k) (λ x. (tree.GroupBy columns.0 x.0, x.1)) (aggregates_ends k) (λ x. refl)
     (λ x w f. f))))))
@@ -280,8 +258,8 @@ unfolding pipes.value
 value_ends d s = ends_as s _
     (then_ends s (exact what.Operation (codes "value") (skip s)) _ refl
     (word_ends Anyhow what.Operation 118 (codes "alue") refl tt refl value_word s)
-    (both refl (sign_default 91 open_bracket) (items_default d)) (λ word.
-    then_ends word (sign 91 what.OpenBracket word) _ refl (sign_ends 91 what.OpenBracket open_bracket (λ t. t) word)
+    (both refl (sign_default 91 open_bracket refl) (items_default d)) (λ word.
+    then_ends word (sign 91 what.OpenBracket word) _ refl (sign_ends 91 what.OpenBracket open_bracket refl word)
     (items_default d) (λ bracket.
     done_ends bracket (items d bracket) (λ x. (tree.Value x.0, x.1)) (items_ends d bracket) (λ x. refl) (λ x w f. f))))
     (λ x w f. unended w (changed (value_span d) w f)) (λ w f. unended w (changed (value_span d) w f))
@@ -300,47 +278,31 @@ some_column : Default (Text Worded false NameSpan)
 some_column = default_as worded name_default
 
 in_top : Default (Text Parted false (Then (SignSpan 44) NameSpan))
-in_top = both refl (sign_default 44 comma) some_column
+in_top = both refl (sign_default 44 comma refl) some_column
 
-positive_blanked : (most : ℕ) → Blanked (Token (positive_at most))
-positive_blanked most x z k at =
-    let n = k (at + 1) in (n.0, ap (positive_of most) (skip_over (32 ∷ []) x at (refl, tt)) ∙ n.1)
-
-top_blanked : Blanked (Then (Token (positive_at 16777216)) (Then (SignSpan 44) NameSpan))
-top_blanked x z k = record {
-  between = k.between;
-  first = positive_blanked 16777216 x k.between k.first;
-  second = k.second;
-}
-
-top_opening : Opening what.Number (32 ∷ 49 ∷ in_top.text)
-top_opening = record { byte = 32; rest = 49 ∷ []; more = in_top.text; is = refl; token = number_token }
-
-duration_blanked : Blanked (Token duration_at)
-duration_blanked x z k at =
-    let n = k (at + 1) in
-    (n.0, ap (λ t. option_and_then with_unit (positive_of longest t)) (skip_over (32 ∷ []) x at (refl, tt)) ∙ n.1)
+top_opening : Opening what.Number (10 ∷ 49 ∷ in_top.text)
+top_opening = record { token = 49 ∷ []; more = in_top.text; is = refl; bare = number_token }
 
 duration_opening : Opening what.Number duration_default.text
-duration_opening = record { byte = 32; rest = 49 ∷ []; more = 115 ∷ []; is = refl; token = number_token }
+duration_opening = record { token = 49 ∷ []; more = 115 ∷ []; is = refl; bare = number_token }
 
 top_ends : (d : ℕ) (s : Rest) → Reads (DeedText d) s (pipes.top (skip s))
 unfolding pipes.top
 top_ends d s = ends_as s _
-    (word_spaced_ends what.Operation what.Number 116 (codes "op") refl refl top_word s _ top_blanked (both refl
+    (word_spaced_ends what.Operation what.Number 116 (codes "op") refl refl top_word s _ (both refl
     (positive_default 16777216 refl) in_top) top_opening (λ m.
     then_ends m (reading.positive 16777216 m) _ refl (positive_ends 16777216 refl m) in_top (λ n.
-    then_ends n.1 (sign 44 what.Comma n.1) _ refl (sign_ends 44 what.Comma comma (λ t. t) n.1) some_column (λ k.
+    then_ends n.1 (sign 44 what.Comma n.1) _ refl (sign_ends 44 what.Comma comma refl n.1) some_column (λ k.
     done_ends k (reading.name k) (λ x. (tree.Top n.0 x.0, x.1)) (name_ends k) (λ x. refl) (λ x w f. f)))))
     (λ x w f. changed (top_span d) w f) (λ w f. changed (top_span d) w f)
 
 lasting_ends : (d c : ℕ) (cs : List ℕ) (deed : ℤ → DeedTree) → is_blank c ≡ false → all_nonzero (c ∷ cs) ≡ true →
-    WordOf what.Operation (c ∷ cs) → ((x z : List ℕ) → Then (SpacedSpan (c ∷ cs)) (Token duration_at) x z →
+    WordOf what.Operation c cs → ((x z : List ℕ) → Then (SpacedSpan (c ∷ cs)) (Token duration_at) x z →
     DeedSpan d x z) → (s : Rest) →
     Reads (DeedText d) s (pipes.duration_deed deed (c ∷ cs) (skip s))
 unfolding pipes.duration_deed
 lasting_ends d c cs deed blank nonzero token h s = ends_as s _
-    (word_spaced_ends what.Operation what.Number c cs blank nonzero token s _ duration_blanked duration_default
+    (word_spaced_ends what.Operation what.Number c cs blank nonzero token s _ duration_default
     duration_opening
     (λ m. done_ends m (reading.duration m) (λ x. (deed x.0, x.1))
     (ends_as m (reading.duration m) (duration_ends m) (λ x w f. f) (λ w f. f)) (λ x. refl) (λ x w f. f)))
@@ -353,10 +315,6 @@ every_span d x z k at = let a = k.first.0 at in let b = k.second a.0 in
 within_span : (d : ℕ) (x z : List ℕ) → Then (SpacedSpan (codes "within")) (Token duration_at) x z → DeedSpan d x z
 within_span d x z k at = let a = k.first.0 at in let b = k.second a.0 in
     ((b.0.0, tree.Within b.0.1), grammar.within a.1 k.first.1 b.1)
-
-every_token : IsToken what.Operation (codes "every")
-every_token =
-    bare_token what.Operation (codes "every") every_word.bare
 
 pub every_text : (d : ℕ) (bs : List ℕ) → AreBlanks bs → DeedText d (bs ++ (codes "every" ++ duration_default.text))
 every_text d bs e =
@@ -386,7 +344,7 @@ deed_ends d s =
     (λ _. other_deed d s within (lasting_ends d 119 (codes "ithin") tree.Within refl refl within_word (within_span d) s)
     (lasting_other tree.Within (λ z. refl) (codes "within") t))
     (λ _. record {
-      way = wrong what.Operation s 101 (codes "very") duration_default.text every_token (every_text d);
+      way = wrong what.Operation s 101 (codes "very") duration_default.text every_word.bare (every_text d);
     }))))))
 
 -- an operation, and the bar behind it where it was read
@@ -437,7 +395,7 @@ operation_ends d s =
     (ends_known s (pipes.filter_here d t)
     (word_spaced_ends {left = behind_read} {k = λ y. y.0.1} {R = λ y. FilterSpan d y.0.1} what.Operation what.Name 102
     (codes "ilter") refl refl filter_word s (λ m. map_outcome (λ x. (pipes.op_at t.at (tree.Filter x.0), x.1))
-    (predicates.predicate d m)) (predicate_blanked d) (predicate_default d) (predicate_opening d) (λ m.
+    (predicates.predicate d m)) (predicate_default d) (predicate_opening d) (λ m.
     done_ends m (predicates.predicate d m) (λ x. ((pipes.op_at t.at (tree.Filter x.0.0), x.0.1), x.1))
     (predicate_ends d m) (λ x. refl) (λ x w f. f))) (filter_other d t))
     (λ x w f. (changed (filtered_span d x.0.1) w f.0, λ h. absurd (false≢true (sym f.1 ∙ h))))

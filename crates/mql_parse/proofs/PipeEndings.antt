@@ -15,13 +15,12 @@ use Rattle.mql_parse.specs.declared.faults.What.TheVariants as what
 use Rattle.mql_parse.specs.Outcomes.{Outcome, unexpected, exact, sign}
 use Rattle.mql_parse.specs.Repeats.{Done, Again, Stuck, repetition}
 use Rattle.mql_parse.specs.TokenReading as reading
-use Rattle.mql_parse.specs.FaultTokens.{IsToken}
 use Rattle.mql_parse.specs.PipeReading as pipes
 use Rattle.mql_parse.proofs.PipeSound.{operation_turn_behind, branch_turn_behind}
-use Rattle.mql_parse.proofs.Endings.{Anyhow, Parted, Text, Then, join, changed, anyhow, unended, Default, both, Finish, Ends, behind_read, Reads, stay, as_it_is, cut_as, cut_then, bind_ends, ends_as, done_ends, then_ends, if_ends, TurnEnds, if_turns, turns_as, cut_turns, on_read_ends, loop_ends}
+use Rattle.mql_parse.proofs.Endings.{Anyhow, Parted, Text, Then, join, changed, anyhow, unended, NoQuotes, no_quotes_on, Default, both, Finish, Ends, behind_read, Reads, stay, as_it_is, cut_as, cut_then, bind_ends, ends_as, done_ends, then_ends, if_ends, TurnEnds, if_turns, turns_as, cut_turns, on_read_ends, loop_ends}
 use Rattle.mql_parse.proofs.TokenFronts.{fetch_word, colons_word, join_word, union_word}
-use Rattle.mql_parse.proofs.TokenEndings.{at_place, comma, AreBlanks, bare_token, sign_token, name_token, any_name_over, refused, wrong, SignSpan, sign_text, sign_cut, sign_ends, sign_default, WordSpan, word_text, word_default, word_ends, SpacedSpan, spaced, Token, NameSpan, name_ends, name_default, open_brace, close_brace, semicolon, bar}
-use Rattle.mql_parse.proofs.SpacedEndings.{Blanked, Opening, spaced_ends}
+use Rattle.mql_parse.proofs.TokenEndings.{at_place, AreBlanks, refused, wrong, SignSpan, sign_text, sign_cut, sign_ends, sign_default, WordSpan, word_text, word_default, word_ends, SpacedSpan, spaced, Token, NameSpan, name_ends, name_default, open_brace, close_brace, semicolon, bar}
+use Rattle.mql_parse.proofs.SpacedEndings.{Opening, spaced_ends}
 use Rattle.mql_parse.proofs.MetricEndings.{if_bind, metric_ends, metric_default}
 use Rattle.mql_parse.proofs.NumberEndings.{duration_default}
 use Rattle.mql_parse.proofs.ListEndings.{folding_default}
@@ -153,29 +152,19 @@ fetch_span d x z k at =
     ((e.0.0, tree.Fetch (skip (at_place at x)).at b.0.1 e.0.1), grammar.fetch a.1 k.first.1 b.1 c.1 e.1)
 
 pub in_metric : Default (Text Parted false (Then (WordSpan (codes "::")) (Token metric_at)))
-in_metric = both refl (word_default Parted 58 (58 ∷ []) refl (λ u. refl)) metric_default
+in_metric = both refl (word_default Parted 58 (58 ∷ []) refl (λ u. refl) refl) metric_default
 
 abbrev pub in_fetch : Default (Text Parted false (Then NameSpan (Then (WordSpan (codes "::")) (Token metric_at))))
 in_fetch = both refl name_default in_metric
 
-in_fetch_blanked : Blanked (Then NameSpan (Then (WordSpan (codes "::")) (Token metric_at)))
-in_fetch_blanked x z k = record {
-  between = k.between;
-  first = any_name_over (32 ∷ []) (refl, tt) x k.between k.first;
-  second = k.second;
-}
-
 fetch_opening : Opening what.Name in_fetch.text
-fetch_opening = record { byte = 32; rest = 97 ∷ []; more = in_metric.text; is = refl; token = name_token }
-
-fetch_token : IsToken what.Fetch (codes "fetch")
-fetch_token = bare_token what.Fetch (codes "fetch") fetch_word.bare
+fetch_opening = record { token = 95 ∷ []; more = in_metric.text; is = refl; bare = refl }
 
 fetch_ends : (d : ℕ) (s : Rest) → Reads (SourceText d) s (pipes.fetch (skip s))
 unfolding pipes.fetch
 fetch_ends d s = ends_as s _
     (spaced_ends what.Fetch what.Name 102
-    (codes "etch") refl refl fetch_word s _ in_fetch_blanked in_fetch fetch_opening (λ m.
+    (codes "etch") refl refl fetch_word s _ in_fetch fetch_opening (λ m.
     then_ends m (reading.name m) _ refl (name_ends m) in_metric (λ schema.
     then_ends schema.1 (exact what.Colons (codes "::") (skip schema.1)) _ refl
     (word_ends Parted what.Colons 58 (58 ∷ []) refl (λ u. refl) refl colons_word schema.1) metric_default (λ colons.
@@ -183,7 +172,7 @@ fetch_ends d s = ends_as s _
     (λ x. refl) (λ x w f. f)))))
     (λ x w f. changed (fetch_span d) w f) (λ w f. changed (fetch_span d) w f)
 
--- `fetch a::/a`
+-- `fetch _::/a`
 pub fetch_text : (d : ℕ) (bs : List ℕ) → AreBlanks bs → SourceText d (bs ++ (codes "fetch" ++ in_fetch.text))
 fetch_text d bs e =
     subst (SourceText d) (append_assoc bs (codes "fetch") in_fetch.text)
@@ -195,6 +184,7 @@ abbrev pub pipe_default : (d : ℕ) → Default (λ v. PipeText d (102 ∷ v))
 pipe_default d =
     record {
       text = codes "etch" ++ in_fetch.text;
+      plain = in_metric.plain;
       is = source_pipe d (codes "fetch" ++ in_fetch.text)
           (fetch_text d [] tt);
     }
@@ -212,9 +202,6 @@ union_span x z k at = let n = k at in ((n.0, how.Union), n.1)
 join_text : (bs : List ℕ) → AreBlanks bs → Text Anyhow true HowSpan (bs ++ codes "join")
 join_text bs e = changed join_span (bs ++ codes "join") (word_text Anyhow 106 (codes "oin") refl tt bs e)
 
-join_token : IsToken what.How (codes "join")
-join_token = bare_token what.How (codes "join") join_word.bare
-
 how_ends : (s : Rest) → Reads (Text Anyhow true HowSpan) s (pipes.how_here (skip s))
 how_ends s =
     let t = skip s in
@@ -228,23 +215,22 @@ how_ends s =
     (λ _. done_ends s united (λ r. (how.Union, r))
     (ends_as s united (word_ends Anyhow what.How 117 (codes "nion") refl tt refl union_word s)
     (λ r w f. changed union_span w f) (λ w f. changed union_span w f)) (λ r. refl) (λ r w f. f))
-    (λ _. record { way = wrong what.How s 106 (codes "oin") [] join_token join_text }))
+    (λ _. record { way = wrong what.How s 106 (codes "oin") [] join_word.bare join_text }))
 
 abbrev BarHow : List ℕ → List ℕ → Type 0
 BarHow = Then (SignSpan 124) HowSpan
 
 how_default : Default (Text Anyhow true HowSpan)
-how_default = record { text = codes "join"; is = join_text [] tt }
+how_default = record { text = codes "join"; plain = refl; is = join_text [] tt }
 
 -- `|join`
 bar_how_default : Default (Text Parted true BarHow)
-bar_how_default = both refl (sign_default 124 bar) how_default
+bar_how_default = both refl (sign_default 124 bar refl) how_default
 
 branches_how_ends : (at : ℕ) (all : List PipeTree) (s : Rest) →
     Reads (Text Parted true BarHow) s (pipes.branches_how at all s)
 unfolding pipes.branches_how
-branches_how_ends at all s = then_ends s (sign 124 what.Bar s) _ refl (sign_ends 124 what.Bar bar
-    (λ t. t) s) how_default
+branches_how_ends at all s = then_ends s (sign 124 what.Bar s) _ refl (sign_ends 124 what.Bar bar refl s) how_default
     (λ m. done_ends m (pipes.how_here (skip m)) (λ x. (tree.Branches at (branches all) x.0 (skip m).at, x.1))
     (how_ends m) (λ x. refl) (λ x w f. f))
 
@@ -312,9 +298,14 @@ source_text d w v u y q f g h =
     (anyhow (w ++ (((v ++ u) ++ y) ++ q)) (changed (source_span d) (w ++ (((v ++ u) ++ y) ++ q))
     (join w (((v ++ u) ++ y) ++ q) refl f (join ((v ++ u) ++ y) q refl g h)))))
 
--- `fetch a::/a}`
+-- `fetch _::/a}`
 last_branch : List ℕ
 last_branch = (codes "fetch" ++ in_fetch.text) ++ 125 ∷ []
+
+last_plain : NoQuotes (last_branch ++ bar_how_default.text)
+unfolding last_branch
+last_plain = no_quotes_on last_branch bar_how_default.text
+    (no_quotes_on (codes "fetch" ++ in_fetch.text) (125 ∷ []) in_metric.plain refl) bar_how_default.plain
 
 last_closed : (d : ℕ) (w : List ℕ) → BegunText d w → ClosedText d (w ++ last_branch)
 unfolding last_branch
@@ -332,14 +323,14 @@ branch_missing : (d : ℕ) (w v : List ℕ) → Text Parted true (SignSpan 123) 
     (unexpected (if groups then what.Comma else what.Semicolon) (skip r))
 branch_missing d w v f false g h r =
     let end = last_branch ++ bar_how_default.text in
-    wrong what.Semicolon r 59 [] end (bare_token what.Semicolon (59 ∷ []) (sign_token 59 semicolon))
+    wrong what.Semicolon r 59 [] end refl
     (λ bs e. subst (λ t. SourceText (suc d) (w ++ (v ++ t))) (append_assoc bs (59 ∷ []) end)
     (source_text d w v (bs ++ 59 ∷ []) last_branch bar_how_default.text f
     (last_closed d (v ++ (bs ++ 59 ∷ [])) (first_branch d v (bs ++ 59 ∷ []) g (sign_text 59 semicolon bs e)))
     bar_how_default.is))
 branch_missing d w v f true g h r =
     let end = 59 ∷ (last_branch ++ bar_how_default.text) in
-    wrong what.Comma r 44 [] (folding_default.text ++ end) (bare_token what.Comma (44 ∷ []) (sign_token 44 comma))
+    wrong what.Comma r 44 [] (folding_default.text ++ end) refl
     (λ bs e. let more = bs ++ 44 ∷ folding_default.text in
     subst (λ t. SourceText (suc d) (w ++ t))
     (append_assoc v more end ∙ ap (λ t. v ++ t) (append_assoc bs (44 ∷ folding_default.text) end))
@@ -354,7 +345,11 @@ module _ (d : ℕ) (piped : (s : Rest) → ReadsPipe d s (pipes.pipe d s)) where
   unfolding pipes.branch_turn
   branch_turn_ends so_far s w f =
       on_read_ends s (pipes.branch_behind so_far) (pipes.pipe d s) (piped s)
-      (λ v g. record { text = 125 ∷ []; is = closed_text d w v (125 ∷ []) f g (sign_text 125 close_brace [] tt) })
+      (λ v g. record {
+        text = 125 ∷ [];
+        plain = refl;
+        is = closed_text d w v (125 ∷ []) f g (sign_text 125 close_brace [] tt);
+      })
       (λ x v g. let t = skip x.1 in let all = so_far ++ x.0 ∷ [] in
       if_turns x.1 (head t == 59) (Again all (behind t)) _
       (λ h. record { way = cut_as x.1 (behind t) (sign_cut 59 semicolon x.1 h) (λ u k. begun_text d w v u f g.0 k) })
@@ -364,7 +359,7 @@ module _ (d : ℕ) (piped : (s : Rest) → ReadsPipe d s (pipes.pipe d s)) where
             (λ u k. closed_text d w v u f g.0 k);
       })
       (λ _. record {
-        way = wrong what.CloseBrace x.1 125 [] [] (bare_token what.CloseBrace (125 ∷ []) (sign_token 125 close_brace))
+        way = wrong what.CloseBrace x.1 125 [] [] refl
             (λ bs e. closed_text d w v (bs ++ 125 ∷ []) f g.0 (sign_text 125 close_brace bs e));
       })))
 
@@ -376,8 +371,9 @@ module _ (d : ℕ) (piped : (s : Rest) → ReadsPipe d s (pipes.pipe d s)) where
       let q = bar_how_default in
       cut_then s m _ (sign_cut 123 open_brace s h) (λ w f.
       bind_ends m (pipes.pipe d m) _ (piped m)
-      (λ v g. let semi = sign_default 59 semicolon in record {
+      (λ v g. let semi = sign_default 59 semicolon refl in record {
         text = semi.text ++ (last_branch ++ q.text);
+        plain = no_quotes_on semi.text (last_branch ++ q.text) semi.plain last_plain;
         is = source_text d w v semi.text last_branch q.text f
             (last_closed d (v ++ semi.text) (first_branch d v semi.text g semi.is)) q.is;
       })
@@ -389,7 +385,7 @@ module _ (d : ℕ) (piped : (s : Rest) → ReadsPipe d s (pipes.pipe d s)) where
       (λ u k. bind_ends m (repetition (pipes.branch_turn (pipes.pipe d)) (first.0 ∷ []) m) _
       (loop_ends (pipes.branch_turn (pipes.pipe d)) (branch_turn_behind d) (λ a y. BegunText d y)
       (λ a y. ClosedText d y) (ClosedText d) branch_turn_ends (first.0 ∷ []) m (v ++ u)
-      (first_branch d v u g.0 k)) (λ y l. record { text = q.text; is = source_text d w v u y q.text f l q.is })
+      (first_branch d v u g.0 k)) (λ y l. record { text = q.text; plain = q.plain; is = source_text d w v u y q.text f l q.is })
       (λ all y l. ends_as all.1 (pipes.branches_how (skip s).at all.0 all.1)
       (branches_how_ends (skip s).at all.0 all.1) (λ x z p. source_text d w v u y z f l p)
       (λ z p. source_text d w v u y z f l p))))
@@ -403,7 +399,7 @@ module _ (d : ℕ) (grouped : (s : Rest) → (head (skip s) == 123) ≡ true →
       let t = skip s in
       if_ends s (head t == 102) (pipes.fetch t) _ (λ _. fetch_ends d s)
       (λ _. if_ends s (head t == 123) (pipes.pipe_group d t (behind t)) (Err (unexpected what.Fetch t)) (grouped s)
-      (λ _. record { way = wrong what.Fetch s 102 (codes "etch") in_fetch.text fetch_token (fetch_text d) }))
+      (λ _. record { way = wrong what.Fetch s 102 (codes "etch") in_fetch.text fetch_word.bare (fetch_text d) }))
 
   pipe_ends_with : (s : Rest) → ReadsPipe d s (pipes.pipe d s)
   unfolding pipes.pipe_with

@@ -1,5 +1,5 @@
 -- What was read of a predicate before its fault can be completed.
-use Rattle.std.proofs.Common.{◌≡◌, ℕ, zero, suc, ◌+◌, Bool, true, false, ◌==◌, List, [], ◌∷◌, ◌++◌, codes, refl, sym, ap, ◌∙◌, subst, if◌then◌else◌, append_assoc, Some, None, Err}
+use Rattle.std.proofs.Common.{◌≡◌, ℕ, zero, suc, Bool, true, false, ◌==◌, List, [], ◌∷◌, ◌++◌, codes, refl, sym, ap, ◌∙◌, subst, if◌then◌else◌, append_assoc, Err}
 use Rattle.mql_ast.specs.declared.names.Name.{Name}
 use Rattle.mql_ast.specs.declared.predicates.Comparison.{Comparison}
 use Rattle.mql_ast.specs.declared.predicates.Comparison.TheVariants as comparison
@@ -7,7 +7,7 @@ use Rattle.mql_ast.specs.Trees as tree
 use Rattle.mql_ast.specs.Trees.{PredicateTree}
 use Rattle.mql_ast.specs.Bytes.{is_letter}
 use Rattle.mql_ast.specs.Rests.{Rest, head, behind, skip}
-use Rattle.mql_ast.specs.Tokens.{sign_at, name_at, word_here}
+use Rattle.mql_ast.specs.Tokens.{word_here}
 use Rattle.mql_ast.specs.Grammar.{literal, Disjunction, one_conjunction, or, Conjunction, one_negation, and, Negation, not, in_parentheses, compare, like}
 use Rattle.mql_parse.specs.declared.faults.ParseKind.TheVariants.{TooDeep}
 use Rattle.mql_parse.specs.declared.faults.What.{What}
@@ -19,11 +19,11 @@ use Rattle.mql_parse.specs.PredicateReading as predicates
 use Rattle.mql_parse.specs.PredicateReading.{Compared, WithValue, WithPattern, Opposite, Group}
 use Rattle.mql_parse.proofs.PredicateSound.{and_turn_behind, or_turn_behind}
 use Rattle.mql_parse.proofs.PipeSound.{filter_turn_behind}
-use Rattle.mql_parse.proofs.Endings.{Worded, Parted, opens_on, Text, Then, join, changed, worded, unended, Default, default_as, Ends, behind_read, Reads, stay, as_it_is, cut_then, bind_ends, ends_as, done_ends, if_ends, TurnEnds, if_turns, cut_turns, goes_on_ends, loop_ends}
+use Rattle.mql_parse.proofs.Endings.{Worded, Parted, opens_on, Text, Then, join, changed, worded, unended, NoQuotes, Default, default_as, Ends, behind_read, Reads, stay, as_it_is, cut_then, bind_ends, ends_as, done_ends, if_ends, TurnEnds, if_turns, cut_turns, goes_on_ends, loop_ends}
 use Rattle.mql_parse.proofs.TokenFronts.{WordOf, and_word, or_word}
 use Rattle.mql_parse.proofs.TextFronts.{open_text}
-use Rattle.mql_parse.proofs.TokenEndings.{at_place, AreBlanks, skip_over, bare_token, name_token, begun_here, refused, wrong, IsSign, SignSpan, sign_text, sign_cut, sign_ends, sign_default, WordSpan, word_text, NameSpan, some_name, name_cut, name_after, name_default, open_parenthesis, close_parenthesis, exclamation, quote, bar}
-use Rattle.mql_parse.proofs.SpacedEndings.{Blanked, Opening}
+use Rattle.mql_parse.proofs.TokenEndings.{at_place, AreBlanks, begun_here, refused, wrong, wrong_spaced, IsSign, SignSpan, sign_text, sign_cut, sign_ends, sign_default, WordSpan, word_text, NameSpan, some_name, name_cut, name_after, name_default, open_parenthesis, close_parenthesis, exclamation, quote, bar}
+use Rattle.mql_parse.proofs.SpacedEndings.{Opening}
 use Rattle.mql_parse.proofs.MetricEndings.{if_bind}
 use Rattle.mql_parse.proofs.TokenHalts.{halts_end}
 use Rattle.mql_parse.proofs.TextEndings.{pattern_rest_ends, no_pattern}
@@ -87,7 +87,7 @@ how_ends d n w f (WithPattern, k) v g =
     (λ q. map_outcome (λ ps. tree.Like n (predicates.pattern_of k ps)) (reading.pattern q))
     (λ h. let c = first_is 34 refl k h in
     done_ends k (reading.pattern m) (λ x. (tree.Like n (predicates.pattern_of k x.0), x.1))
-    (halts_end {R = λ u. NegationText d (w ++ (v ++ u))} k m c.front c.is.0 (34 ∷ []) (reading.pattern m) c.bytes
+    (halts_end {R = λ u. NegationText d (w ++ (v ++ u))} k m c.front c.is.0 34 (reading.pattern m) c.bytes
     c.place c.is.1.1 (pattern_rest_ends m)
     (λ u p. liked (c.front ++ u) (pattern_text c.front u
     (subst (Text Parted true (SignSpan 34)) (sym c.is.1.1) (sign_text 34 quote c.is.0 c.is.1.0)) p))
@@ -103,12 +103,16 @@ condition_ends d s l =
     let word = word_here (skip s) in
     cut_then s word.1 _ (name_cut s l) (λ w f. let g = changed (some_name word.0.text) w f in
     bind_ends word.1 (predicates.comparison_kind word.1) (predicates.compares_how word.0) (compared_ends word.1)
-    (λ v h. record { text = value_default.text; is = compared_value d w v g h })
+    (λ v h. record { text = value_default.text; plain = value_default.plain; is = compared_value d w v g h })
     (λ x v h. how_ends d word.0 w g x v h))
 
--- ` a== 0`
+-- ` _== 0`
 pub condition_rest : List ℕ
 condition_rest = 61 ∷ 61 ∷ value_default.text
+
+pub condition_plain : NoQuotes (10 ∷ 95 ∷ condition_rest)
+unfolding condition_rest
+condition_plain = value_default.plain
 
 condition_after : (d : ℕ) (bs : List ℕ) → AreBlanks bs → NegationText d (bs ++ (name_default.text ++ condition_rest))
 unfolding condition_rest
@@ -118,7 +122,8 @@ condition_after d bs e =
     (compared_text comparison.Equal 61 (61 ∷ []) equals two_equals [] tt) value_default.is)
 
 negation_default : (d : ℕ) → Default (NegationText d)
-negation_default d = record { text = name_default.text ++ condition_rest; is = condition_after d [] tt }
+negation_default d =
+    record { text = name_default.text ++ condition_rest; plain = condition_plain; is = condition_after d [] tt }
 
 not_text : (d : ℕ) (w v : List ℕ) → Text Parted true (SignSpan 33) w → NegationText d v → NegationText (suc d) (w ++ v)
 not_text d w v f g =
@@ -164,7 +169,7 @@ module _ (d : ℕ) (opposite group : Rest → Rest → Outcome PredicateTree)
       if_ends s (b == 33) (opposite t (behind t)) _ (opposed s)
       (λ _. if_ends s (b == 40) (group t (behind t)) _ (grouped s)
       (λ _. if_ends s (is_letter b) (predicates.condition t) (Err (unexpected what.Name t)) (condition_ends d s)
-      (λ _. record { way = wrong what.Name s 32 (97 ∷ []) condition_rest name_token (condition_after d) })))
+      (λ _. record { way = wrong_spaced what.Name s (95 ∷ []) condition_rest refl (condition_after d) })))
 
 -- a further part behind a sign that is written twice
 doubled_text : (b : ℕ) → IsSign b → (v : List ℕ) → FirstByte b v → Text Parted true (WordSpan (b ∷ b ∷ []))
@@ -182,7 +187,7 @@ module _ (b : ℕ) (h : IsSign b) (Part Whole' : List ℕ → Type 0) (part : Re
       subst (λ t. Whole' (w ++ t)) (ap (λ t. (v ++ t) ++ y) (sym e) ∙ append_assoc v u y)
       (joined w (v ++ b ∷ []) y f (doubled_text b h v c) g)
 
-  double_turn_ends : (w : What) → WordOf w (b ∷ b ∷ []) →
+  double_turn_ends : (w : What) → WordOf w b (b ∷ []) →
       (join : PredicateTree → PredicateTree → PredicateTree) (l : PredicateTree) (s : Rest) (x : List ℕ) → Whole' x →
       TurnEnds (λ a v. Whole' (x ++ v)) (λ a v. Whole' (x ++ v)) (λ v. Whole' (x ++ v)) s
       (predicates.double_turn b w join part l s)
@@ -199,7 +204,7 @@ module _ (b : ℕ) (h : IsSign b) (Part Whole' : List ℕ → Type 0) (part : Re
       (λ z y p. doubled x v u y f d i p))))
       (λ g. record {
         way = begun_here {L = λ v. Whole' (x ++ v)} w s m c.front c.is.0 (b ∷ []) b [] default.text c.bytes c.place
-            c.is.1.1 word.fronts.1.0 (bare_token w (b ∷ b ∷ []) word.bare)
+            c.is.1.1 (word.fronts.0, word.bare) (λ e. absurd (word.other e))
             (doubled x c.front (b ∷ []) default.text f c.is refl default.is);
       }))
       (λ e. record { way = stay Whole' s x f })
@@ -271,11 +276,11 @@ deeper_ends (suc d) way s h =
     by_way Group h negated = let m = behind (skip s) in
         cut_then s m _ (sign_cut 40 open_parenthesis s h) (λ w f.
         bind_ends m (predicates.disjunction d m) _ (disjunction_ends_with d negated m)
-        (λ v g. let e = sign_default 41 close_parenthesis in record
-        { text = e.text; is = in_parentheses_text d w v e.text f g e.is })
+        (λ v g. let e = sign_default 41 close_parenthesis refl in record
+        { text = e.text; plain = e.plain; is = in_parentheses_text d w v e.text f g e.is })
         (λ x v g. done_ends x.1 (sign 41 what.CloseParenthesis x.1) (λ r. (x.0, r))
         (ends_as x.1 (sign 41 what.CloseParenthesis x.1)
-        (sign_ends 41 what.CloseParenthesis close_parenthesis (λ t. t) x.1) (λ r u k. in_parentheses_text d w v u f g k)
+        (sign_ends 41 what.CloseParenthesis close_parenthesis refl x.1) (λ r u k. in_parentheses_text d w v u f g k)
         (λ u k. in_parentheses_text d w v u f g k)) (λ r. refl) (λ r u k. k)))
 
 negation_ends : (d : ℕ) (s : Rest) → Reads (NegationText d) s (predicates.negation d s)
@@ -336,38 +341,9 @@ a_predicate d = record {
       (one_negation_text d (name_default.text ++ (61 ∷ 61 ∷ value_default.text)) (condition_after d [] tt))).fills;
 }
 
--- ` a== 0`
+-- ` _== 0`
 abbrev pub predicate_default : (d : ℕ) → Default (Text Parted false (DisjunctionSpan d))
-predicate_default d = record { text = name_default.text ++ condition_rest; is = a_predicate d }
+predicate_default d = record { text = name_default.text ++ condition_rest; plain = condition_plain; is = a_predicate d }
 
 pub predicate_opening : (d : ℕ) → Opening what.Name (predicate_default d).text
-predicate_opening d = record { byte = 32; rest = 97 ∷ []; more = condition_rest; is = refl; token = name_token }
-
--- a blank may stand in front, since each part begins behind blanks
-sign_same : (b : ℕ) (s s' m : Rest) → skip s ≡ skip s' → sign_at b s ≡ Some m → sign_at b s' ≡ Some m
-sign_same b s s' m e f = ap (λ t. if head t == b then Some (behind t) else None) (sym e) ∙ f
-
-name_same : (s s' : Rest) (x : Name × Rest) → skip s ≡ skip s' → name_at s ≡ Some x → name_at s' ≡ Some x
-name_same s s' x e f = ap (λ t. if is_letter (head t) then Some (word_here t) else None) (sym e) ∙ f
-
-negation_same : {d : ℕ} {s r : Rest} {p : PredicateTree} (s' : Rest) → skip s ≡ skip s' → Negation d s r p →
-    Negation d s' r p
-negation_same {s = s} s' e (not f n) = not (sign_same 33 s s' _ e f) n
-negation_same {s = s} s' e (in_parentheses f n g) = in_parentheses (sign_same 40 s s' _ e f) n g
-negation_same {s = s} s' e (compare f c v) = compare (name_same s s' _ e f) c v
-negation_same {s = s} s' e (like f c p) = like (name_same s s' _ e f) c p
-
-conjunction_same : {d : ℕ} {s r : Rest} {p : PredicateTree} (s' : Rest) → skip s ≡ skip s' → Conjunction d s r p →
-    Conjunction d s' r p
-conjunction_same s' e (one_negation n) = one_negation (negation_same s' e n)
-conjunction_same s' e (and l f n) = and (conjunction_same s' e l) f n
-
-disjunction_same : {d : ℕ} {s r : Rest} {p : PredicateTree} (s' : Rest) → skip s ≡ skip s' → Disjunction d s r p →
-    Disjunction d s' r p
-disjunction_same s' e (one_conjunction n) = one_conjunction (conjunction_same s' e n)
-disjunction_same s' e (or l f n) = or (disjunction_same s' e l) f n
-
-pub predicate_blanked : (d : ℕ) → Blanked (DisjunctionSpan d)
-predicate_blanked d x z k at =
-    let n = k (at + 1) in
-    (n.0, disjunction_same (at_place at (32 ∷ x)) (sym (skip_over (32 ∷ []) x at (refl, tt))) n.1)
+predicate_opening d = record { token = 95 ∷ []; more = condition_rest; is = refl; bare = refl }

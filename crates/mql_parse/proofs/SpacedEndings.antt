@@ -1,5 +1,5 @@
 -- What was read behind a keyword that no letter, digit or `_` may go on can be completed.
-use Rattle.std.proofs.Common.{◌≡◌, ℕ, ◌+◌, Bool, true, false, ◌==◌, not, List, [], ◌∷◌, ◌++◌, length, refl, sym, ap, ◌∙◌, subst, if◌then◌else◌, Result, Ok, Err}
+use Rattle.std.proofs.Common.{◌≡◌, ℕ, ◌+◌, Bool, true, false, ◌==◌, not, List, [], ◌∷◌, ◌++◌, length, refl, sym, ap, ◌∙◌, subst, arith, if◌then◌else◌, Result, Ok, Err}
 use Rattle.std.proofs.lemmas.Bool.{false≢true}
 use Rattle.mon_value.specs.Answers.{◌>>=◌}
 use Rattle.mql_ast.specs.Bytes.{is_blank, is_digit, is_word_byte}
@@ -8,41 +8,44 @@ use Rattle.mql_parse.specs.declared.faults.ParseFault.{ParseFault}
 use Rattle.mql_parse.specs.declared.faults.What.{What}
 use Rattle.mql_parse.specs.Outcomes.{unexpected, exact, apart}
 use Rattle.mql_parse.specs.FaultNumbers.{IsNumber}
-use Rattle.mql_parse.specs.FaultTokens.{IsToken}
-use Rattle.mql_parse.proofs.TokenFronts.{no_parts, nothing_whole, WordOf}
-use Rattle.mql_parse.proofs.Endings.{Anyhow, Worded, Parted, Text, Then, join, Default, Smaller, IfTooLarge, if_too_large, Comes, IfExpected, if_expected, Finish, Ends, bind_ends, ends_as}
-use Rattle.mql_parse.proofs.TokenEndings.{digit_in_word, and_first, blank_token, wrong_here, all_nonzero, word_ends, SpacedSpan, spaced}
+use Rattle.mql_parse.specs.FaultTokens.{IsBare}
+use Rattle.mql_parse.proofs.TokenFronts.{WordOf}
+use Rattle.mql_parse.proofs.Endings.{is_inner, Anyhow, Worded, Parted, Text, Then, join, Default, Smaller, IfTooLarge, if_too_large, ComesBy, Comes, IfExpected, if_expected, Finish, Ends, bind_ends, ends_as}
+use Rattle.mql_parse.proofs.TokenEndings.{digit_in_word, and_first, begun_here, all_nonzero, word_ends, SpacedSpan, spaced}
 
--- a blank may stand in front
-abbrev pub Blanked : (List ℕ → List ℕ → Type 0) → Type 0
-Blanked S = (x z : List ℕ) → S x z → S (32 ∷ x) z
+no_parts : (a b : List ℕ) → [] ≡ a ++ b → b ≡ []
+no_parts [] b h = sym h
+no_parts (x ∷ a) b h = absurd (cc)
 
--- what comes at the front, behind a blank
-blank_first : {c : Bool} {S : List ℕ → List ℕ → Type 0} → Blanked S → (w : What) → Comes (Text Worded c S) [] w →
+-- what comes at the front begins with a blank, and stands apart
+blank_first : {c : Bool} {S : List ℕ → List ℕ → Type 0} (w : What) → Comes (Text Worded c S) [] w →
     Comes (Text Parted c S) [] w
-blank_first blanked w g =
-    let none = no_parts g.before g.begun g.parts in record {
-      before = [];
-      begun = [];
-      byte = 32;
-      rest = g.byte ∷ g.rest;
-      parts = refl;
-      unfinished = nothing_whole w;
-      token = blank_token w (g.byte ∷ g.rest) (subst (λ t. IsToken w (t ++ g.byte ∷ g.rest)) none g.token);
-      more = g.more;
-      is = record {
-        opens = λ u. refl;
-        fills = λ z h. blanked (g.byte ∷ ((g.rest ++ g.more) ++ z)) z (g.is.fills z h);
-      };
-    }
+blank_first {c = c} {S = S} w g = record {
+  before = g.before;
+  begun = g.begun;
+  byte = g.byte;
+  rest = g.rest;
+  parts = g.parts;
+  way = g.way;
+  more = g.more;
+  closes = g.closes;
+  is = record {
+    opens = λ u. ap is_inner (by_begun g.begun (no_parts g.before g.begun g.parts) g.way);
+    fills = g.is.fills;
+  };
+}
+  where
+    by_begun : (begun : List ℕ) → begun ≡ [] → ComesBy w begun g.byte g.rest → g.byte ≡ 10
+    by_begun [] e k = k.0
+    by_begun (b ∷ begun) e k = absurd (cc)
 
 -- what is read where no word byte stands stands apart
 pub parted : {B : Type 0} {left : B → Rest} {k : B → Bool} {R : B → List ℕ → List ℕ → Type 0} {c : Bool} {S : List ℕ →
-    List ℕ → Type 0} → Blanked S → (m : Rest) (o : Result B ParseFault) → is_word_byte (head m) ≡ false → Default
+    List ℕ → Type 0} → (m : Rest) (o : Result B ParseFault) → is_word_byte (head m) ≡ false → Default
     (Text Parted c S) →
     Ends left (λ y. Text Worded (k y) (R y)) (Text Worded c S) m o → Ends left (λ y. Text Parted (k y) (R y))
     (Text Parted c S) m o
-parted {left = left} blanked m (Ok y) h d f = let t = f.way in record {
+parted {left = left} m (Ok y) h d f = let t = f.way in record {
   way = record {
     front = t.front;
     bytes = t.bytes;
@@ -53,7 +56,7 @@ parted {left = left} blanked m (Ok y) h d f = let t = f.way in record {
     };
   };
 }
-parted {c = c} {S = S} blanked m (Err e) h d f =
+parted {c = c} {S = S} m (Err e) h d f =
     record { way = by_front f.way.front f.way.left f.way.bytes f.way.place f.way.tail f.way.is f.way.comes }
   where
     opened : (x : ℕ) (v u : List ℕ) → m.bytes ≡ x ∷ v → Text Worded c S (x ∷ u) → Text Parted c S (x ∷ u)
@@ -101,7 +104,7 @@ parted {c = c} {S = S} blanked m (Err e) h d f =
       tail = d.text;
       is = d.is;
       smaller = smaller;
-      comes = if_expected e.kind (blank_first blanked) g;
+      comes = if_expected e.kind blank_first g;
     }
     by_front (x ∷ front) left b p tail t g = record {
       front = x ∷ front;
@@ -117,34 +120,34 @@ parted {c = c} {S = S} blanked m (Err e) h d f =
         byte = k.byte;
         rest = k.rest;
         parts = k.parts;
-        unfinished = k.unfinished;
-        token = k.token;
+        way = k.way;
         more = k.more;
+        closes = k.closes;
         is = opened x (front ++ left) (front ++ k.byte ∷ (k.rest ++ k.more)) b k.is;
       }) g;
     }
 
--- a text that begins with a token of this kind
+-- a text that begins with a line's end and a token of this kind
 pub record Opening (w : What) (t : List ℕ) : Type 0 where
-  pub byte : ℕ
-  pub rest : List ℕ
+  pub token : List ℕ
   pub more : List ℕ
-  pub is : t ≡ byte ∷ (rest ++ more)
-  pub token : IsToken w (byte ∷ rest)
+  pub is : t ≡ 10 ∷ (token ++ more)
+  pub bare : IsBare w token
 
 pub apart_ends : {B : Type 0} {left : B → Rest} {k : B → Bool} {R : B → List ℕ → List ℕ → Type 0} {c : Bool}
-    {S : List ℕ → List ℕ → Type 0} (w : What) (m : Rest) (f : Rest → Result B ParseFault) → Blanked S →
+    {S : List ℕ → List ℕ → Type 0} (w : What) (m : Rest) (f : Rest → Result B ParseFault) →
     (d : Default (Text Parted c S)) → Opening w d.text →
     Ends left (λ y. Text Worded (k y) (R y)) (Text Worded c S) m (f m) → Ends left (λ y. Text Parted (k y) (R y))
     (Text Parted c S) m (apart w m >>= f)
-apart_ends {left = left} {k = k} {R = R} {c = c} {S = S} w m f blanked d o g = either (is_word_byte (head m)) refl
+apart_ends {left = left} {k = k} {R = R} {c = c} {S = S} w m f d o g = either (is_word_byte (head m)) refl
   where
     either : (t : Bool) → is_word_byte (head m) ≡ t → Ends left (λ y. Text Parted (k y) (R y)) (Text Parted c S) m
         ((if t then Err (unexpected w m) else Ok m) >>= f)
     either true h = record {
-      way = wrong_here w m o.byte o.rest o.more o.token (subst (Text Parted c S) o.is d.is);
+      way = begun_here {L = Text Parted c S} w m m [] [] [] 10 o.token o.more refl (omega arith) refl (refl, o.bare) tt
+          (subst (Text Parted c S) o.is d.is);
     }
-    either false h = parted blanked m (f m) h d g
+    either false h = parted m (f m) h d g
 
 in_turn : {A B C : Type 0} (o : Result A ParseFault) (g : A → Result B ParseFault) (f : B → Result C ParseFault) →
     ((o >>= g) >>= f) ≡ (o >>= λ x. g x >>= f)
@@ -154,27 +157,27 @@ in_turn (Err e) g f = refl
 -- what is read behind a keyword that no word byte goes on
 pub spaced_ends : {B : Type 0} {left : B → Rest} {k : B → Bool} {R : B → List ℕ → List ℕ → Type 0} {c' : Bool}
     {S : List ℕ → List ℕ → Type 0} (v w : What) (c : ℕ) (cs : List ℕ) → is_blank c ≡ false →
-    all_nonzero (c ∷ cs) ≡ true → WordOf v (c ∷ cs) → (s : Rest)
-    (f : Rest → Result B ParseFault) → Blanked S → (d : Default (Text Parted c' S)) → Opening w d.text →
+    all_nonzero (c ∷ cs) ≡ true → WordOf v c cs → (s : Rest)
+    (f : Rest → Result B ParseFault) → (d : Default (Text Parted c' S)) → Opening w d.text →
     ((m : Rest) → Ends left (λ y. Text Worded (k y) (R y)) (Text Worded c' S) m (f m)) →
     Ends left (λ y. Text Anyhow (k y) (Then (SpacedSpan (c ∷ cs)) (R y)))
     (Text Anyhow c' (Then (SpacedSpan (c ∷ cs)) S)) s (exact v (c ∷ cs) (skip s) >>= λ m. apart w m >>= f)
-spaced_ends v w c cs blank nonzero k s f blanked d o g =
+spaced_ends v w c cs blank nonzero k s f d o g =
     bind_ends s (exact v (c ∷ cs) (skip s)) _ (word_ends Anyhow v c cs blank tt nonzero k s)
-    (λ x t. record { text = d.text; is = join x d.text refl (spaced (c ∷ cs) x t) d.is })
-    (λ m x t. ends_as m (apart w m >>= f) (apart_ends w m f blanked d o (g m)) (λ y u h. join x u refl (spaced
+    (λ x t. record { text = d.text; plain = d.plain; is = join x d.text refl (spaced (c ∷ cs) x t) d.is })
+    (λ m x t. ends_as m (apart w m >>= f) (apart_ends w m f d o (g m)) (λ y u h. join x u refl (spaced
     (c ∷ cs) x t) h)
     (λ u h. join x u refl (spaced (c ∷ cs) x t) h))
 
 pub word_spaced_ends : {B : Type 0} {left : B → Rest} {k : B → Bool} {R : B → List ℕ → List ℕ → Type 0} {c' : Bool}
     {S : List ℕ → List ℕ → Type 0} (v w : What) (c : ℕ) (cs : List ℕ) → is_blank c ≡ false →
-    all_nonzero (c ∷ cs) ≡ true → WordOf v (c ∷ cs) → (s : Rest)
-    (f : Rest → Result B ParseFault) → Blanked S → (d : Default (Text Parted c' S)) → Opening w d.text →
+    all_nonzero (c ∷ cs) ≡ true → WordOf v c cs → (s : Rest)
+    (f : Rest → Result B ParseFault) → (d : Default (Text Parted c' S)) → Opening w d.text →
     ((m : Rest) → Ends left (λ y. Text Worded (k y) (R y)) (Text Worded c' S) m (f m)) →
     Ends left (λ y. Text Anyhow (k y) (Then (SpacedSpan (c ∷ cs)) (R y)))
     (Text Anyhow c' (Then (SpacedSpan (c ∷ cs)) S)) s ((exact v (c ∷ cs) (skip s) >>= λ m. apart w m) >>= f)
-word_spaced_ends {left = left} {k = k} {R = R} {c' = c'} {S = S} v w c cs blank nonzero token s f blanked d o g =
+word_spaced_ends {left = left} {k = k} {R = R} {c' = c'} {S = S} v w c cs blank nonzero token s f d o g =
     subst (λ o. Ends left (λ y. Text Anyhow (k y) (Then (SpacedSpan (c ∷ cs)) (R y)))
     (Text Anyhow c' (Then (SpacedSpan (c ∷ cs)) S)) s o)
     (sym (in_turn (exact v (c ∷ cs) (skip s)) (λ m. apart w m) f))
-    (spaced_ends v w c cs blank nonzero token s f blanked d o g)
+    (spaced_ends v w c cs blank nonzero token s f d o g)

@@ -1,17 +1,21 @@
--- Two texts that are the same up to a place, where the second goes on with a blank and a byte.
+-- Two texts that are the same up to a place, where the second goes on with a line's end and a token.
 use Rattle.std.proofs.Common.{◌≡◌, ℕ, ◌+◌, ◌<◌, ◌≤◌, Bool, true, false, List, [], ◌∷◌, ◌++◌, length, refl, sym, ap, ◌∙◌, subst, arith, if◌then◌else◌}
 use Rattle.mql_ast.specs.Bytes.{is_blank}
 use Rattle.mql_ast.specs.Rests.{Rest, first_of, behind_first, behind_blanks, head, behind, skip}
+use Rattle.mql_parse.specs.declared.faults.What.{What}
+use Rattle.mql_parse.proofs.FirstWords.{Starts}
 
--- a place, and what stands there in the second text behind a blank
+-- a place, and what stands there in the second text: a line's end and a token of this word
 pub record Spot : Type 0 where
   pub at : ℕ
   pub byte : ℕ
   pub more : List ℕ
   pub solid : is_blank byte ≡ false
+  pub word : What
+  pub starts : Starts word byte (first_of more)
 
 abbrev pub instead : Spot → List ℕ
-instead x = 32 ∷ x.byte ∷ x.more
+instead x = 10 ∷ x.byte ∷ x.more
 
 -- what is left of two texts at one place before the spot
 pub record Splits (x : Spot) (s t : Rest) : Type 0 where
@@ -57,12 +61,12 @@ splits_behind x = over_splits x (λ s t. s.at < x.at → Splits x (behind s) (be
 
 -- at the spot stands a blank
 blank_split : (x : Spot) (common after : List ℕ) (at : ℕ) → at + length common ≡ x.at → at ≡ x.at →
-    first_of (common ++ instead x) ≡ 32
+    first_of (common ++ instead x) ≡ 10
 blank_split x [] after at h l = refl
 blank_split x (c ∷ common) after at h l = absurd (omega (arith, h, l))
 
-pub splits_blank : (x : Spot) (s t : Rest) → Splits x s t → s.at ≡ x.at → head t ≡ 32
-splits_blank x = over_splits x (λ s t. s.at ≡ x.at → head t ≡ 32) (blank_split x)
+pub splits_blank : (x : Spot) (s t : Rest) → Splits x s t → s.at ≡ x.at → head t ≡ 10
+splits_blank x = over_splits x (λ s t. s.at ≡ x.at → head t ≡ 10) (blank_split x)
 
 -- what is left of the second behind the blanks
 abbrev pub beyond : Spot → Rest

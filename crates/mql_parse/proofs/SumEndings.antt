@@ -21,7 +21,7 @@ use Rattle.mql_parse.proofs.Sound.{bind_sound}
 use Rattle.mql_parse.proofs.MetricEndings.{if_bind}
 use Rattle.mql_parse.proofs.SumSound.{same_word, term_turn_behind}
 use Rattle.mql_parse.proofs.Endings.{Anyhow, Worded, Parted, Text, Then, join, changed, worded, anyhow, unended, Default, both, default_as, Finish, Ends, behind_read, ends_known, Reads, stay, as_it_is, cut_as, cut_then, bind_ends, ends_as, done_ends, then_ends, if_ends, TurnEnds, if_turns, cut_turns, goes_on_ends, loop_ends}
-use Rattle.mql_parse.proofs.TokenEndings.{at_place, AreBlanks, bare_token, sign_token, refused, wrong, name_token, SignSpan, sign_text, sign_cut, sign_ends, sign_default, Token, NamedSpan, NameSpan, some_name, name_cut, name_ends, name_after, name_default, plus_sign, minus_sign, open_parenthesis, close_parenthesis, comma}
+use Rattle.mql_parse.proofs.TokenEndings.{at_place, AreBlanks, refused, wrong, wrong_spaced, SignSpan, sign_text, sign_cut, sign_ends, sign_default, Token, NamedSpan, NameSpan, some_name, name_cut, name_ends, name_after, name_default, plus_sign, minus_sign, open_parenthesis, close_parenthesis, comma}
 use Rattle.mql_parse.proofs.NumberEndings.{positive_ends, positive_default, signed_ends}
 
 abbrev pub SumSpan : ℕ → List ℕ → List ℕ → Type 0
@@ -91,11 +91,11 @@ minus_text d w v u f g k =
 
 -- terms
 rest_of_percentile : Default (Text Worded true (Then (Token (positive_at 100)) (SignSpan 41)))
-rest_of_percentile = default_as worded (both refl (positive_default 100 refl) (sign_default 41 close_parenthesis))
+rest_of_percentile = default_as worded (both refl (positive_default 100 refl) (sign_default 41 close_parenthesis refl))
 
--- ` a, 1)`
+-- ` _, 1)`
 call_default : Default (Text Worded true InPercentile)
-call_default = default_as worded (both refl name_default (both refl (sign_default 44 comma) rest_of_percentile))
+call_default = default_as worded (both refl name_default (both refl (sign_default 44 comma refl) rest_of_percentile))
 
 -- where the last word is a bare `percentile`, its parenthesis may come
 abbrev Called : (List ℕ → Type 0) → Bool → List ℕ → Type 0
@@ -117,12 +117,12 @@ called_text d text w h f = λ _ bs e.
 percentile_ends : (at : ℕ) (m : Rest) → Reads (Text Worded true InPercentile) m (sums.percentile at m)
 unfolding sums.percentile
 percentile_ends at m =
-    then_ends m (reading.name m) _ refl (name_ends m) (both refl (sign_default 44 comma) rest_of_percentile) (λ column.
-    then_ends column.1 (sign 44 what.Comma column.1) _ refl (sign_ends 44 what.Comma comma (λ t. t) column.1)
+    then_ends m (reading.name m) _ refl (name_ends m) (both refl (sign_default 44 comma refl) rest_of_percentile) (λ column.
+    then_ends column.1 (sign 44 what.Comma column.1) _ refl (sign_ends 44 what.Comma comma refl column.1)
     rest_of_percentile (λ k.
-    then_ends k (reading.positive 100 k) _ refl (positive_ends 100 refl k) (sign_default 41 close_parenthesis) (λ p.
+    then_ends k (reading.positive 100 k) _ refl (positive_ends 100 refl k) (sign_default 41 close_parenthesis refl) (λ p.
     done_ends p.1 (sign 41 what.CloseParenthesis p.1) (λ r. (seen_sum (tree.Percentile at column.0 p.0) false, r))
-    (sign_ends 41 what.CloseParenthesis close_parenthesis (λ t. t) p.1) (λ r. refl) (λ r w f. f))))
+    (sign_ends 41 what.CloseParenthesis close_parenthesis refl p.1) (λ r. refl) (λ r w f. f))))
 
 pub any_ok : {A : Type 0} (o : Result A ParseFault) → IfOk o (λ x. Unit {0})
 any_ok (Ok x) = tt
@@ -183,7 +183,7 @@ module _ (d : ℕ) (group : Rest → Rest → Outcome SumSeen) (grouped : (s : R
       (ends_as s (reading.signed s) (signed_ends s) (λ x w f. number_text d w f) (λ w f. number_text d w f))
       (λ x. refl) (λ x w f. (f, not_bare (TermText d) false w refl)))
       (λ _. if_ends s (is_letter b) (sums.word_read (word_here t)) (Err (unexpected what.Name t)) (word_ends d s)
-      (λ _. record { way = wrong what.Name s 32 (97 ∷ []) [] name_token (column_after d) })))
+      (λ _. record { way = wrong_spaced what.Name s (95 ∷ []) [] refl (column_after d) })))
 
 -- a further term, and what may come behind it
 further_seen : (d : ℕ) (w v u : List ℕ) (left right : SumSeen) (join : SumSeen → SumSeen → SumSeen) →
@@ -241,11 +241,11 @@ sum_end_ends d w v f x g =
         (unexpected (sums.behind_sum bare) (skip x.1))
     closing false h =
         wrong what.CloseParenthesis x.1 41 [] []
-        (bare_token what.CloseParenthesis (41 ∷ []) (sign_token 41 close_parenthesis))
+        refl
         (λ bs e. group_text d w v (bs ++ 41 ∷ []) f g.0 (sign_text 41 close_parenthesis bs e))
     closing true h =
         wrong what.OpenParenthesis x.1 40 [] (call_default.text ++ 41 ∷ [])
-        (bare_token what.OpenParenthesis (40 ∷ []) (sign_token 40 open_parenthesis))
+        refl
         (λ bs e. subst (λ t. TermText (suc d) (w ++ t))
         (append_assoc v (bs ++ 40 ∷ call_default.text) (41 ∷ [])
         ∙ ap (λ t. v ++ t) (append_assoc bs (40 ∷ call_default.text) (41 ∷ [])))
@@ -275,8 +275,8 @@ group_ends (suc d) s h =
     seen_group (suc d) s all
     (cut_then s m all (sign_cut 40 open_parenthesis s h) (λ w f.
     bind_ends m (sums.sum d m) sums.sum_end (sum_ends_with d (term_ends_with d (sums.sum_group d) (group_ends d)) m)
-    (λ v g. let e = sign_default 41 close_parenthesis in record
-    { text = e.text; is = group_text d w v e.text f g e.is })
+    (λ v g. let e = sign_default 41 close_parenthesis refl in record
+    { text = e.text; plain = e.plain; is = group_text d w v e.text f g e.is })
     (λ x v g. sum_end_ends d w v f x g))) (group_bare (suc d) (skip s) m)
 
 pub sum_ends : (d : ℕ) (s : Rest) → Reads (SumText d) s (sums.sum d s)

@@ -18,7 +18,7 @@ use Rattle.mql_parse.proofs.Complete.{bound}
 use Rattle.mql_parse.proofs.PipeComplete.{PipeEnds, pipe_read}
 
 -- nothing is left, and so no pipe goes on
-end_ends : (r : Rest) → r.bytes ≡ [] → PipeEnds r
+pub end_ends : (r : Rest) → r.bytes ≡ [] → PipeEnds r
 end_ends r e =
     let nothing : head r ≡ 0 = ap first_of e in
     let nothing_behind : head (skip r) ≡ 0 = ap head (skip_off r (ap is_blank nothing)) ∙ nothing in

@@ -1,5 +1,5 @@
 -- What was read of a text in quotes before its fault can be completed.
-use Rattle.std.proofs.Common.{◌≡◌, ℕ, zero, suc, ◌+◌, ◌≤◌, true, ◌&&◌, nat_le, List, [], ◌∷◌, ◌++◌, refl, ap, ◌∙◌, subst, arith, if◌then◌else◌, Option, Some, None, option_and_then, Ok, Err}
+use Rattle.std.proofs.Common.{◌≡◌, ℕ, zero, suc, ◌+◌, ◌≤◌, true, false, ◌==◌, ◌&&◌, nat_le, List, [], ◌∷◌, ◌++◌, refl, ap, ◌∙◌, subst, arith, if◌then◌else◌, Option, Some, None, option_and_then, Ok, Err}
 use Rattle.std.specs.Str.{IsUtf8}
 use Rattle.std.proofs.lemmas.Bool.Decides.{nat_tests}
 use Rattle.std.proofs.lemmas.Str.{IsUtf8-nil}
@@ -12,7 +12,7 @@ use Rattle.mql_parse.specs.declared.faults.ParseKind.TheVariants.{BadToken, BadP
 use Rattle.mql_parse.specs.declared.faults.What.TheVariants as what
 use Rattle.mql_parse.specs.Outcomes.{Outcome, fault}
 use Rattle.mql_parse.specs.TokenReading as reading
-use Rattle.mql_parse.specs.FaultKinds.{open_behind}
+use Rattle.mql_parse.specs.FaultKinds.{open_behind, open_quotes}
 use Rattle.mql_parse.proofs.Endings.{IfTooLarge, IfExpected}
 use Rattle.mql_parse.proofs.TokenEndings.{at_place}
 use Rattle.mql_parse.proofs.QuoteKinds.{SameStep, same_step}
@@ -41,19 +41,26 @@ PatternRest u =
     (z : List ℕ) (at : ℕ) →
     (n : ℕ × List (List ℕ)) × (quotes.pattern_from Whole Plain [] [] at (u ++ z) ≡ Some (n.1, at_place n.0 z))
 
-low_within : (low high : ℕ) → nat_le low high ≡ true →
+low_within : (low high : ℕ) → (nat_le 128 low && nat_le low high) ≡ true →
     (low ≤ low) × ((low ≤ high) × ((nat_le low low && nat_le low high) ≡ true))
 low_within low high h = (omega arith, (grind (arith, nat_tests), grind (arith, nat_tests)))
 
--- a byte and what else ends a text of a kind
+no_quote : (low high : ℕ) → (nat_le 128 low && nat_le low high) ≡ true → (low == 34) ≡ false
+no_quote low high h = grind (arith, nat_tests)
+
+-- a byte and what else ends a text of a kind, and would open quotes where none are open
 abbrev Closing : (List ℕ → Type 0) → Type 0
-Closing L = (b : ℕ) × ((w : List ℕ) × L (b ∷ w))
+Closing L = (b : ℕ) × ((w : List ℕ) × (L (b ∷ w) × (open_quotes None (b ∷ w) ≡ Some Whole)))
+
+opened_behind : (b : ℕ) (w : List ℕ) → (b == 34) ≡ false → open_quotes None w ≡ Some Whole →
+    open_quotes None (b ∷ w) ≡ Some Whole
+opened_behind b w h e = ap (λ t. open_quotes (if t then Some Whole else None) w) h ∙ e
 
 -- what a fault here is a front of
 stopped : {A : Type 0} {L : List ℕ → Type 0} (u : Open) (kind : ParseKind) (s : Rest) → IfTooLarge kind ⊥ →
     IfExpected kind (λ x. x ≡ what.Text) → Closing L →
     Halts {A = A} what.Text (QuotesOpen u) L s (Err (fault kind s))
-stopped {L = L} u kind s k e d = halted_at {K = QuotesOpen u} {L = L} what.Text kind s d.0 d.1.0 (u, refl) d.1.1 k e
+stopped {L = L} u kind s k e d = halted_at {K = QuotesOpen u} {L = L} what.Text kind s d.0 d.1.0 (u, refl) d.1.1.0 (λ same. d.1.1.1) k e
 
 -- texts, byte by byte
 text_after : ℕ → List ℕ → ℕ → List ℕ → TextStep → Option (List ℕ × Rest)
@@ -81,9 +88,9 @@ text_keeps u next b t w e f = λ z at. let n = f z (at + 1) in (n.0, ap (text_af
 
 -- what ends a text
 close_whole : (t : List ℕ) → IsUtf8 t → Closing (TextOf Whole t)
-close_whole t h = (34, ([], text_ends Whole 34 t refl h))
+close_whole t h = (34, ([], (text_ends Whole 34 t refl h, refl)))
 
-close_more : (n low high : ℕ) (t : List ℕ) → nat_le low high ≡ true → IsCompleted (suc n) low high t →
+close_more : (n low high : ℕ) (t : List ℕ) → (nat_le 128 low && nat_le low high) ≡ true → IsCompleted (suc n) low high t →
     Closing (TextOf (More (suc n) low high) t)
 close_more zero low high t h c =
     let l = low_within low high h in
@@ -91,8 +98,11 @@ close_more zero low high t h c =
       low,
       (
         more.0 ∷ more.1.0,
-        text_keeps (More 1 low high) Whole low t (more.0 ∷ more.1.0)
-            (ap (λ b. if b then TextKeep (further 1) else TextBad) l.1.1) more.1.1,
+        (
+          text_keeps (More 1 low high) Whole low t (more.0 ∷ more.1.0)
+              (ap (λ b. if b then TextKeep (further 1) else TextBad) l.1.1) more.1.1.0,
+          opened_behind low (more.0 ∷ more.1.0) (no_quote low high h) more.1.1.1,
+        ),
       ),
     )
 close_more (suc n) low high t h c =
@@ -101,16 +111,19 @@ close_more (suc n) low high t h c =
       low,
       (
         more.0 ∷ more.1.0,
-        text_keeps (More (suc (suc n)) low high) (More (suc n) 128 191) low t (more.0 ∷ more.1.0)
-            (ap (λ b. if b then TextKeep (further (suc (suc n))) else TextBad) l.1.1
-            ∙ ap (λ u. TextKeep u) (several_further n)) more.1.1,
+        (
+          text_keeps (More (suc (suc n)) low high) (More (suc n) 128 191) low t (more.0 ∷ more.1.0)
+              (ap (λ b. if b then TextKeep (further (suc (suc n))) else TextBad) l.1.1
+              ∙ ap (λ u. TextKeep u) (several_further n)) more.1.1.0,
+          opened_behind low (more.0 ∷ more.1.0) (no_quote low high h) more.1.1.1,
+        ),
       ),
     )
 
 close_text : (u : Open) (t : List ℕ) → LeavesOpen u t → Closing (TextOf u t)
 close_text Whole t h = close_whole t h
-close_text Escape t h = let more = close_whole (t ++ 34 ∷ []) (kept_ascii 34 t (omega arith) h) in
-    (34, (more.0 ∷ more.1.0, text_keeps Escape Whole 34 t (more.0 ∷ more.1.0) refl more.1.1))
+close_text Escape t h = let more = close_whole (t ++ 92 ∷ []) (kept_ascii 92 t (omega arith) h) in
+    (92, (more.0 ∷ more.1.0, (text_keeps Escape Whole 92 t (more.0 ∷ more.1.0) refl more.1.1.0, more.1.1.1)))
 close_text (More zero low high) t h = absurd h
 close_text (More (suc n) low high) t h = close_more n low high t h.0 h.1
 
@@ -199,18 +212,27 @@ pattern_keeps u mark ps next sign b t w e f = λ z at. let n = f z (at + 1) in
 
 -- what ends a pattern
 close_plain : (ps : List (List ℕ)) (t : List ℕ) → IsUtf8 t → Closing (PatternOf Whole Plain ps t)
-close_plain ps t h = (34, ([], pattern_ends Whole Plain ps 34 t refl h))
+close_plain ps t h = (34, ([], (pattern_ends Whole Plain ps 34 t refl h, refl)))
 
-close_kept : (u : Open) (mark : Sign) (b : ℕ) (ps : List (List ℕ)) (t : List ℕ) →
+close_kept : (u : Open) (mark : Sign) (b : ℕ) (ps : List (List ℕ)) (t : List ℕ) → (b == 34) ≡ false →
     pattern_step u mark b ≡ PatternKeep Whole Plain → IsUtf8 (t ++ b ∷ []) → Closing (PatternOf u mark ps t)
-close_kept u mark b ps t e h = let more = close_plain ps (t ++ b ∷ []) h in
-    (b, (more.0 ∷ more.1.0, pattern_keeps u mark ps Whole Plain b t (more.0 ∷ more.1.0) e more.1.1))
+close_kept u mark b ps t n e h = let more = close_plain ps (t ++ b ∷ []) h in (
+  b,
+  (
+    more.0 ∷ more.1.0,
+    (
+      pattern_keeps u mark ps Whole Plain b t (more.0 ∷ more.1.0) e more.1.1.0,
+      opened_behind b (more.0 ∷ more.1.0) n more.1.1.1,
+    ),
+  ),
+)
 
-close_more_plain : (n low high : ℕ) (mark : Sign) (ps : List (List ℕ)) (t : List ℕ) → nat_le low high ≡ true →
+close_more_plain : (n low high : ℕ) (mark : Sign) (ps : List (List ℕ)) (t : List ℕ) →
+    (nat_le 128 low && nat_le low high) ≡ true →
     IsCompleted (suc n) low high t → Closing (PatternOf (More (suc n) low high) mark ps t)
 close_more_plain zero low high mark ps t h c =
     let l = low_within low high h in
-    close_kept (More 1 low high) mark low ps t (ap (λ b. if b then PatternKeep (further 1) Plain else PatternBad)
+    close_kept (More 1 low high) mark low ps t (no_quote low high h) (ap (λ b. if b then PatternKeep (further 1) Plain else PatternBad)
     l.1.1) (c low l.0 l.1.0)
 close_more_plain (suc n) low high mark ps t h c =
     let l = low_within low high h in
@@ -218,21 +240,36 @@ close_more_plain (suc n) low high mark ps t h c =
       low,
       (
         more.0 ∷ more.1.0,
-        pattern_keeps (More (suc (suc n)) low high) mark ps (More (suc n) 128 191) Plain low t (more.0 ∷ more.1.0)
-            (ap (λ b. if b then PatternKeep (further (suc (suc n))) Plain else PatternBad) l.1.1
-            ∙ ap (λ u. PatternKeep u Plain) (several_further n)) more.1.1,
+        (
+          pattern_keeps (More (suc (suc n)) low high) mark ps (More (suc n) 128 191) Plain low t (more.0 ∷ more.1.0)
+              (ap (λ b. if b then PatternKeep (further (suc (suc n))) Plain else PatternBad) l.1.1
+              ∙ ap (λ u. PatternKeep u Plain) (several_further n)) more.1.1.0,
+          opened_behind low (more.0 ∷ more.1.0) (no_quote low high h) more.1.1.1,
+        ),
       ),
     )
+
+close_dot : (ps : List (List ℕ)) (t : List ℕ) → IsUtf8 t → Closing (PatternOf Whole Backslash ps t)
+close_dot ps t h = close_kept Whole Backslash 46 ps t refl refl (kept_ascii 46 t (omega arith) h)
 
 close_pattern : (u : Open) (mark : Sign) (ps : List (List ℕ)) (t : List ℕ) → LeavesSign u mark t →
     Closing (PatternOf u mark ps t)
 close_pattern Whole Plain ps t h = close_plain ps t h
 close_pattern Whole Dot ps t h = let more = close_plain (ps ++ t ∷ []) [] IsUtf8-nil in
-    (42, (more.0 ∷ more.1.0, pattern_cuts Whole Dot ps 42 t (more.0 ∷ more.1.0) refl h more.1.1))
-close_pattern Whole Backslash ps t h = close_kept Whole Backslash 46 ps t refl (kept_ascii 46 t (omega arith) h)
-close_pattern Escape Plain ps t h = close_kept Escape Plain 34 ps t refl (kept_ascii 34 t (omega arith) h)
+    (42, (more.0 ∷ more.1.0, (pattern_cuts Whole Dot ps 42 t (more.0 ∷ more.1.0) refl h more.1.1.0, more.1.1.1)))
+close_pattern Whole Backslash ps t h = close_dot ps t h
+close_pattern Escape Plain ps t h = let more = close_dot ps t h in (
+  92,
+  (
+    more.0 ∷ more.1.0,
+    (
+      pattern_passes Escape Plain ps Whole Backslash 92 t (more.0 ∷ more.1.0) refl more.1.1.0,
+      more.1.1.1,
+    ),
+  ),
+)
 close_pattern Escape Dot ps t h = absurd h
-close_pattern Escape Backslash ps t h = close_kept Escape Backslash 92 ps t refl (kept_ascii 92 t (omega arith) h)
+close_pattern Escape Backslash ps t h = close_kept Escape Backslash 92 ps t refl refl (kept_ascii 92 t (omega arith) h)
 close_pattern (More zero low high) mark ps t h = absurd h
 close_pattern (More (suc n) low high) mark ps t h = close_more_plain n low high mark ps t h.0 h.1
 

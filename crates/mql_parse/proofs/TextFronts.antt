@@ -11,11 +11,11 @@ use Rattle.mql_parse.specs.declared.faults.What.TheVariants as what
 use Rattle.mql_parse.specs.Outcomes.{Outcome}
 use Rattle.mql_parse.specs.TokenReading as reading
 use Rattle.mql_parse.specs.FaultKinds.{open_behind, open_quotes}
-use Rattle.mql_parse.specs.FaultTokens.{IsBare, IsToken}
+use Rattle.mql_parse.specs.FaultTokens.{IsBare}
 use Rattle.mql_parse.proofs.Links.{text_from_links, pattern_from_links}
 use Rattle.mql_parse.proofs.KindFits.{Fits}
 use Rattle.mql_parse.proofs.QuoteKinds.{text_fits, pattern_fits}
-use Rattle.mql_parse.proofs.TokenFronts.{whole, bare_of}
+use Rattle.mql_parse.proofs.TokenFronts.{whole}
 
 -- the quotes are open behind these bytes
 abbrev pub QuotesOpen : Open → List ℕ → Type 0
@@ -42,14 +42,14 @@ closed_by x (Err f) u e z k = absurd (some_none x e)
 text_closed : (u : List ℕ) → IsBare what.Text (34 ∷ u) → open_quotes (Some Whole) u ≡ None
 unfolding skip reading.text reading.pattern
 text_closed u (inl n) =
-    closed_by (n.0.1, record { at = n.0.0; bytes = [] }) (reading.text_from Whole [] 1 u) u
-    (sym n.1 ∙ text_from_links Whole [] 1 u) refl (text_fits (record { at = 1; bytes = u }))
+    closed_by (n.1.0.1, record { at = n.1.0.0; bytes = [] }) (reading.text_from Whole [] 1 u) u
+    (sym n.1.1 ∙ text_from_links Whole [] 1 u) refl (text_fits (record { at = 1; bytes = u }))
 text_closed u (inr n) =
-    closed_by (n.0.1, record { at = n.0.0; bytes = [] }) (reading.pattern_from Whole Plain [] [] 1 u) u
-    (sym n.1 ∙ pattern_from_links Whole Plain [] [] 1 u) refl (pattern_fits (record { at = 1; bytes = u }))
+    closed_by (n.1.0.1, record { at = n.1.0.0; bytes = [] }) (reading.pattern_from Whole Plain [] [] 1 u) u
+    (sym n.1.1 ∙ pattern_from_links Whole Plain [] [] 1 u) refl (pattern_fits (record { at = 1; bytes = u }))
 
-pub open_text : (u : List ℕ) → QuotesOpen Whole u → IsToken what.Text (34 ∷ u) → ⊥
-open_text u k h = let e = sym (text_closed u (bare_of what.Text 34 u refl h)) ∙ k.1 in cc
+pub open_text : (u : List ℕ) → QuotesOpen Whole u → IsBare what.Text (34 ∷ u) → ⊥
+open_text u k h = let e = sym (text_closed u h) ∙ k.1 in cc
 
 -- a metric's name that doesn't end here
 abbrev pub MetricOpen : Bool → List ℕ → Type 0
@@ -76,11 +76,8 @@ metric_slash_open after b u h g k at =
     ∙ ap (λ t. if t then grammar.with_byte b (grammar.metric_from true (at + 1) u) else
     (if after then None else Some ([], record { at = at; bytes = b ∷ u }))) g ∙ ap (grammar.with_byte b) (k (at + 1))
 
-metric_stands : (u : List ℕ) → MetricOpen true u → IsBare what.Metric (47 ∷ u) → ⊥
+pub open_metric : (u : List ℕ) → MetricOpen true u → IsBare what.Metric (47 ∷ u) → ⊥
 unfolding skip
-metric_stands u k n =
+open_metric u k n =
     let none = ap (option_and_then (λ (x : List ℕ × Rest). Some (grammar.metric_name 0 x.0, x.1))) (k 1) in
-    false≢true (ap whole (sym none ∙ n.1))
-
-pub open_metric : (u : List ℕ) → MetricOpen true u → IsToken what.Metric (47 ∷ u) → ⊥
-open_metric u k h = metric_stands u k (bare_of what.Metric 47 u refl h)
+    false≢true (ap whole (sym none ∙ n.1.1))

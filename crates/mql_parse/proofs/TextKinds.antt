@@ -1,6 +1,7 @@
 -- The kind of a text's fault fits its byte.
 use Rattle.std.proofs.Common.{◌≡◌, ℕ, ◌≤◌, Bool, true, false, ◌==◌, ◌||◌, not, List, [], ◌∷◌, ◌++◌, length, take, drop, refl, sym, ap, ◌∙◌, subst, arith, if◌then◌else◌, append_assoc, None, Result, Ok, Err}
 use Rattle.std.specs.Result.{IfErr}
+use Rattle.std.proofs.lemmas.List.{append-nil}
 use Rattle.std.proofs.Math.Seq.{take-append_seam, drop-append_seam}
 use Rattle.mon_value.specs.Answers.{◌>>=◌, GivesView}
 use Rattle.mon_value.specs.declared.refusals.Refusal.{Refusal}
@@ -16,16 +17,17 @@ use Rattle.mql_parse.specs.declared.faults.What.TheVariants as what
 use Rattle.mql_parse.specs.Outcomes.{Outcome, fault}
 use Rattle.mql_parse.specs.PipeReading.{pipe, behind_query, query_end_in, query_end, query_within, query, text_outcome}
 use Rattle.mql_parse.specs.FaultPlaces.{FaultOf}
-use Rattle.mql_parse.specs.FaultDepths.{BeginsWithin}
+use Rattle.mql_parse.specs.FaultDepths.{SpellsWithin, BeginsWithin}
 use Rattle.mql_parse.specs.FaultNumbers.{CouldEndSmaller, NumberKind}
-use Rattle.mql_parse.specs.FaultTokens.{ExpectedKind}
 use Rattle.mql_parse.specs.FaultKinds.{open_quotes, OutsideKind, KindFits, FaultKind}
 use Rattle.mql_parse.proofs.KindFits.{Outside, FaultFits, Fits, fault_before, unexpected_next, fault_fits}
 use Rattle.mql_parse.proofs.PipeKinds.{pipe_fits}
+use Rattle.mql_parse.proofs.PipeComplete.{pipe_read}
+use Rattle.mql_parse.proofs.TextComplete.{end_ends}
 use Rattle.mql_parse.proofs.TextSteady.{begins_here, begins_at_levels, text_fault}
-use Rattle.mql_parse.proofs.Endings.{IfTooLarge, Comes, IfExpected}
+use Rattle.mql_parse.proofs.Endings.{IfTooLarge}
 use Rattle.mql_parse.proofs.FollowTexts.{number_too_large}
-use Rattle.mql_parse.proofs.FrontEndings.{NumberBegins, shorter_begins, fault_number_begins, fault_comes}
+use Rattle.mql_parse.proofs.FrontEndings.{NumberBegins, shorter_begins, fault_number_begins}
 
 -- a fault in place of a tree
 abbrev TreeFits : Rest → Result PipeTree ParseFault → Type 0
@@ -118,27 +120,8 @@ fault_number text (Ok q) h fits = tt
 fault_number text (Err (refusal.Fault f)) h fits = query_fault_number text f (text_fault text f fits h)
 fault_number text (Err refusal.OutOfMemory) h fits = tt
 
-query_fault_expected : (text : List ℕ) (f : ParseFault) → query text ≡ Err f → ExpectedKind text f
-query_fault_expected text f e w kind =
-    let front = take f.at text in
-    let g : Comes (BeginsWithin levels) front w =
-    subst (λ k. IfExpected k (Comes (BeginsWithin levels) front)) kind (fault_comes levels text f e) in
-    record {
-      before = g.before;
-      begun = g.begun;
-      byte = g.byte;
-      rest = g.rest;
-      parts = g.parts;
-      unfinished = g.unfinished;
-      token = g.token;
-      begins = begins_at_levels (front ++ g.byte ∷ g.rest)
-          (shorter_begins levels (front ++ g.byte ∷ g.rest) g.more
-          (subst (BeginsWithin levels) (sym (append_assoc front (g.byte ∷ g.rest) g.more)) g.is));
-    }
-
--- of what is expected
-pub fault_expected : (text : List ℕ) (result : Result Query (Refusal ParseFault)) → GivesView query_tree result
-    (text_outcome text) → length text ≤ longest_text → IfErr result (FaultOf (ExpectedKind text))
-fault_expected text (Ok q) h fits = tt
-fault_expected text (Err (refusal.Fault f)) h fits = query_fault_expected text f (text_fault text f fits h)
-fault_expected text (Err refusal.OutOfMemory) h fits = tt
+-- a text that is spelled leaves no quotes open
+pub spelled_closed : (d : ℕ) (tree : PipeTree) (text : List ℕ) → SpellsWithin d tree text → open_quotes None text ≡ None
+spelled_closed d tree text s =
+    let read = subst (Fits None (start text)) (pipe_read s.whole (end_ends s.end s.ended)) (pipe_fits d (start text)) in
+    ap (open_quotes None) (read.bytes ∙ ap (λ t. read.front ++ t) s.ended ∙ append-nil read.front) ∙ read.closed

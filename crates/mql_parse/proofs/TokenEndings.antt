@@ -11,13 +11,12 @@ use Rattle.mql_parse.specs.declared.faults.ParseKind.TheVariants.{BadToken, Expe
 use Rattle.mql_parse.specs.declared.faults.What.{What}
 use Rattle.mql_parse.specs.declared.faults.What.TheVariants as what
 use Rattle.mql_parse.specs.Outcomes.{kind_of, fault, unexpected, exact, sign}
-use Rattle.mql_parse.specs.FaultTokens.{IsSignToken, IsWordToken, IsBare, IsToken}
-pub use Rattle.mql_parse.specs.FaultTokens.{AreBlanks}
+use Rattle.mql_parse.specs.FaultTokens.{IsBare}
 use Rattle.mql_parse.specs.TokenReading as reading
 use Rattle.mql_parse.proofs.RestLemmas.{skip_off}
 use Rattle.mql_parse.proofs.WordLemmas.{word_bytes_on, word_bytes_off, behind_word_off}
-use Rattle.mql_parse.proofs.TokenFronts.{nothing_whole, both_hold, Fronts, WordOf}
-use Rattle.mql_parse.proofs.Endings.{is_inner, Front, Anyhow, Worded, Parted, OpensAs, Text, changed, worded, Default, Cut, Smaller, IfTooLarge, Comes, IfExpected, Finish, Ends, behind_read, Reads, Leaves, cut_before, cut_as, cut_then, ends_as, if_ends}
+use Rattle.mql_parse.proofs.TokenFronts.{both_hold, Fronts, WordOf}
+use Rattle.mql_parse.proofs.Endings.{is_inner, Front, Anyhow, Worded, Parted, OpensAs, Text, changed, worded, NoQuotes, Default, Cut, Smaller, IfTooLarge, ComesBy, Closes, Comes, IfExpected, Finish, Ends, behind_read, Reads, Leaves, cut_before, cut_as, ends_as, if_ends}
 
 abbrev pub at_place : ℕ → List ℕ → Rest
 at_place at bs = record { at = at; bytes = bs }
@@ -60,6 +59,14 @@ pub outer_no_digit : (b : ℕ) → is_inner b ≡ false → is_digit b ≡ false
 outer_no_digit b h = (neither (is_letter b) (is_digit b) (outer_no_word b h)).1
 
 -- blanks
+abbrev pub AreBlanks : List ℕ → Type 0
+AreBlanks [] = Unit {0}
+AreBlanks (b ∷ bs) = (is_blank b ≡ true) × AreBlanks bs
+
+pub blank_last : (bs : List ℕ) → AreBlanks bs → AreBlanks (bs ++ 10 ∷ [])
+blank_last [] e = (refl, tt)
+blank_last (b ∷ bs) e = (e.0, blank_last bs e.1)
+
 blanks_passed : (bs z : List ℕ) (at : ℕ) → AreBlanks bs → behind_blanks at (bs ++ z) ≡ behind_blanks (at + length bs) z
 blanks_passed [] z at h = ap (λ n. behind_blanks n z) (omega arith)
 blanks_passed (b ∷ bs) z at h =
@@ -126,13 +133,6 @@ expected_of P w (b ∷ bs) h = either (is_alphabet b)
     either true = h
     either false = tt
 
--- a token with no blanks in front, and with one more
-pub bare_token : (w : What) (t : List ℕ) → IsBare w t → IsToken w t
-bare_token w t h = ([], (t, (tt, (h, refl))))
-
-pub blank_token : (w : What) (t : List ℕ) → IsToken w t → IsToken w (32 ∷ t)
-blank_token w t h = (32 ∷ h.0, (h.1.0, ((refl, h.1.1.0), (h.1.1.1.0, ap (λ u. 32 ∷ u) h.1.1.1.1))))
-
 -- where what stands here is refused, blanks aside, for another reason than that something was expected
 pub refused : {L : List ℕ → Type 0} (s : Rest) (tail : List ℕ) (kind : ParseKind) →
     IfTooLarge kind (Smaller L s (skip s).at) → ((front : List ℕ) → IfExpected kind (Comes L front)) →
@@ -150,12 +150,12 @@ refused s tail kind k c h = let blanks = skip_cut s in
       comes = c blanks.front;
     }
 
--- where this was expected behind what was read, which ends in a part of it
+-- where this was expected behind what was read, which ends in a part of it or with which it begins behind a blank
 pub begun_here : {L : List ℕ → Type 0} (w : What) (s m : Rest) (v before begun : List ℕ) (byte : ℕ)
     (rest more : List ℕ) → s.bytes ≡ v ++ m.bytes → m.at ≡ s.at + length v → v ≡ before ++ begun →
-    (IsToken w begun → ⊥) → IsToken w (begun ++ byte ∷ rest) → L (v ++ byte ∷ (rest ++ more)) →
+    ComesBy w begun byte rest → Closes w begun (byte ∷ (rest ++ more)) → L (v ++ byte ∷ (rest ++ more)) →
     Finish L s (unexpected w m)
-begun_here {L = L} w s m v before begun byte rest more e p q u k h = record {
+begun_here {L = L} w s m v before begun byte rest more e p q k c h = record {
   front = v;
   left = m.bytes;
   bytes = e;
@@ -169,24 +169,24 @@ begun_here {L = L} w s m v before begun byte rest more e p q u k h = record {
     byte = byte;
     rest = rest;
     parts = q;
-    unfinished = u;
-    token = k;
+    way = k;
     more = more;
+    closes = c;
     is = h;
   });
 }
 
--- where it is expected behind blanks, and where it is expected here
-pub wrong : {L : List ℕ → Type 0} (w : What) (s : Rest) (byte : ℕ) (rest more : List ℕ) → IsToken w (byte ∷ rest) →
-    ((bs : List ℕ) → AreBlanks bs → L (bs ++ byte ∷ (rest ++ more))) → Finish L s (unexpected w (skip s))
-wrong {L = L} w s byte rest more k h = let blanks = skip_cut s in
-    begun_here {L = L} w s (skip s) blanks.front blanks.front [] byte rest more blanks.bytes blanks.place
-    (sym (append-nil blanks.front)) (nothing_whole w) k (h blanks.front blanks.is)
+-- where it is expected behind blanks: in a text that has one more blank there, and in any
+pub wrong_spaced : {L : List ℕ → Type 0} (w : What) (s : Rest) (token more : List ℕ) → IsBare w token →
+    ((bs : List ℕ) → AreBlanks bs → L (bs ++ 10 ∷ (token ++ more))) → Finish L s (unexpected w (skip s))
+wrong_spaced {L = L} w s token more k h = let blanks = skip_cut s in
+    begun_here {L = L} w s (skip s) blanks.front blanks.front [] 10 token more blanks.bytes blanks.place
+    (sym (append-nil blanks.front)) (refl, k) tt (h blanks.front blanks.is)
 
-pub wrong_here : {L : List ℕ → Type 0} (w : What) (s : Rest) (byte : ℕ) (rest more : List ℕ) →
-    IsToken w (byte ∷ rest) → L (byte ∷ (rest ++ more)) → Finish L s (unexpected w s)
-wrong_here {L = L} w s byte rest more k h =
-    begun_here {L = L} w s s [] [] [] byte rest more refl (omega arith) refl (nothing_whole w) k h
+pub wrong : {L : List ℕ → Type 0} (w : What) (s : Rest) (byte : ℕ) (rest more : List ℕ) → IsBare w (byte ∷ rest) →
+    ((bs : List ℕ) → AreBlanks bs → L (bs ++ byte ∷ (rest ++ more))) → Finish L s (unexpected w (skip s))
+wrong {L = L} w s byte rest more k h = wrong_spaced {L = L} w s (byte ∷ rest) more k
+    (λ bs e. subst L (append_assoc bs (10 ∷ []) (byte ∷ (rest ++ more))) (h (bs ++ 10 ∷ []) (blank_last bs e)))
 
 -- tokens
 abbrev pub SignSpan : ℕ → List ℕ → List ℕ → Type 0
@@ -230,8 +230,8 @@ one_sign b h = record {
 pub sign_text : (b : ℕ) → IsSign b → (bs : List ℕ) → AreBlanks bs → Text Parted true (SignSpan b) (bs ++ b ∷ [])
 sign_text b h bs e = blanks_before bs (b ∷ []) e (sign_over b bs e) (one_sign b h)
 
-pub sign_default : (b : ℕ) → IsSign b → Default (Text Parted true (SignSpan b))
-sign_default b h = record { text = b ∷ []; is = one_sign b h }
+pub sign_default : (b : ℕ) → IsSign b → NoQuotes (b ∷ []) → Default (Text Parted true (SignSpan b))
+sign_default b h p = record { text = b ∷ []; plain = p; is = one_sign b h }
 
 pub equal_byte : (a b : ℕ) → (a == b) ≡ true → a ≡ b
 equal_byte a b h = grind (arith, nat_tests)
@@ -245,16 +245,21 @@ sign_cut b h s e =
     (λ w f. subst (λ v. Text Parted true (SignSpan b) (c.front ++ v))
     (ap (λ x. x ∷ []) (sym (equal_byte (head (skip s)) b e)) ∙ sym f) (sign_text b h c.front c.is)))
 
-pub sign_token : (b : ℕ) → IsSign b → IsSignToken b (b ∷ [])
-sign_token b h = (one_sign b h).fills [] tt 0
-
-pub sign_ends : (b : ℕ) (w : What) → IsSign b → (IsSignToken b (b ∷ []) → IsBare w (b ∷ [])) → (s : Rest) →
+pub sign_ends : (b : ℕ) (w : What) → IsSign b → IsBare w (b ∷ []) → (s : Rest) →
     Leaves (Text Parted true (SignSpan b)) s (sign b w s)
 sign_ends b w h k s =
     if_ends s (head (skip s) == b) (Ok (behind (skip s))) (Err (unexpected w (skip s)))
-    (λ e. record { way = sign_cut b h s e }) (λ e. record {
-      way = wrong w s b [] [] (bare_token w (b ∷ []) (k (sign_token b h))) (sign_text b h);
-    })
+    (λ e. record { way = sign_cut b h s e }) (λ e. record { way = wrong w s b [] [] k (sign_text b h) })
+
+-- the first byte of a token, behind blanks
+pub first_cut : (test : ℕ → Bool) → test 0 ≡ false → (s : Rest) → test (head (skip s)) ≡ true →
+    Cut (λ v. (bs : List ℕ) × (AreBlanks bs × (v ≡ bs ++ head (skip s) ∷ []))) s (behind (skip s))
+first_cut test z s h =
+    let c = skip_cut s in
+    cut_before {N = λ v. (bs : List ℕ) × (AreBlanks bs × (v ≡ bs ++ head (skip s) ∷ []))} s (skip s) (behind (skip s))
+    c.front c.bytes c.place
+    (cut_as (skip s) (behind (skip s)) (byte_cut test z (skip s) h)
+    (λ w f. (c.front, (c.is, ap (λ t. c.front ++ t) f))))
 
 -- keywords
 abbrev pub all_nonzero : List ℕ → Bool
@@ -262,33 +267,47 @@ all_nonzero [] = true
 all_nonzero (c ∷ cs) = not (0 == c) && all_nonzero cs
 
 -- a word that is read on behind what was read, which ends in a part of it
-pub word_from : (w : What) (cs : List ℕ) → all_nonzero cs ≡ true → (s m : Rest) (v before begun : List ℕ) →
-    s.bytes ≡ v ++ m.bytes → m.at ≡ s.at + length v → v ≡ before ++ begun → Fronts w begun cs →
-    IsToken w (begun ++ cs) → Leaves (λ u. u ≡ v ++ cs) s (exact w cs m)
-word_from w [] h s m v before begun e p q u k =
+pub word_from : (w : What) (cs : List ℕ) → (w ≡ what.Text → ⊥) → all_nonzero cs ≡ true → (s m : Rest) (v before : List ℕ) (b : ℕ)
+    (begun : List ℕ) → s.bytes ≡ v ++ m.bytes → m.at ≡ s.at + length v → v ≡ before ++ b ∷ begun →
+    Fronts w (b ∷ begun) cs → IsBare w (b ∷ (begun ++ cs)) → Leaves (λ u. u ≡ v ++ cs) s (exact w cs m)
+word_from w [] o h s m v before b begun e p q u k =
     record { way = record { front = v; bytes = e; place = p; is = sym (append-nil v) } }
-word_from w (c ∷ cs) h s m v before begun e p q u k =
+word_from w (c ∷ cs) o h s m v before b begun e p q u k =
     let nonzero = both_hold (0 == c) (all_nonzero cs) h in
     if_ends s (head m == c) (exact w cs (behind m)) (Err (unexpected w m))
-    (λ g. let b = byte_cut (λ x. x == c) nonzero.0 m g in
-    let first : b.front ≡ c ∷ [] = b.is ∙ ap (λ x. x ∷ []) (equal_byte (head m) c g) in
+    (λ g. let next = byte_cut (λ x. x == c) nonzero.0 m g in
+    let first : next.front ≡ c ∷ [] = next.is ∙ ap (λ x. x ∷ []) (equal_byte (head m) c g) in
     ends_as s (exact w cs (behind m))
-    (word_from w cs nonzero.1 s (behind m) (v ++ c ∷ []) before (begun ++ c ∷ [])
-    (e ∙ ap (λ t. v ++ t) (b.bytes ∙ ap (λ t. t ++ (behind m).bytes) first)
+    (word_from w cs o nonzero.1 s (behind m) (v ++ c ∷ []) before b (begun ++ c ∷ [])
+    (e ∙ ap (λ t. v ++ t) (next.bytes ∙ ap (λ t. t ++ (behind m).bytes) first)
     ∙ sym (append_assoc v (c ∷ []) (behind m).bytes))
-    (omega (arith, p, b.place, ap length first, length-append v (c ∷ [])))
-    (ap (λ t. t ++ c ∷ []) q ∙ append_assoc before begun (c ∷ [])) u.1
-    (subst (IsToken w) (sym (append_assoc begun (c ∷ []) cs)) k))
+    (omega (arith, p, next.place, ap length first, length-append v (c ∷ [])))
+    (ap (λ t. t ++ c ∷ []) q ∙ append_assoc before (b ∷ begun) (c ∷ [])) u.1
+    (subst (λ t. IsBare w (b ∷ t)) (sym (append_assoc begun (c ∷ []) cs)) k))
     (λ r u f. f ∙ append_assoc v (c ∷ []) cs) (λ u f. f ∙ append_assoc v (c ∷ []) cs))
     (λ g. record {
-      way = begun_here {L = λ u. u ≡ v ++ c ∷ cs} w s m v before begun c cs [] e p q u.0 k
+      way = begun_here {L = λ u. u ≡ v ++ c ∷ cs} w s m v before (b ∷ begun) c cs [] e p q (u.0, k) (λ t. absurd (o t))
           (ap (λ t. v ++ c ∷ t) (append-nil cs));
     })
 
-pub exact_ends : (w : What) (cs : List ℕ) → all_nonzero cs ≡ true → WordOf w cs → (s : Rest) →
-    Leaves (λ v. v ≡ cs) s (exact w cs s)
-exact_ends w cs h k s =
-    word_from w cs h s s [] [] [] refl (omega arith) refl k.fronts (bare_token w cs k.bare)
+-- a keyword or a sign of several bytes, behind blanks
+pub exact_ends : {L : List ℕ → Type 0} (w : What) (c : ℕ) (cs : List ℕ) → all_nonzero (c ∷ cs) ≡ true →
+    WordOf w c cs → ((bs : List ℕ) → AreBlanks bs → L (bs ++ c ∷ cs)) → (s : Rest) →
+    Leaves L s (exact w (c ∷ cs) (skip s))
+exact_ends {L = L} w c cs h k f s =
+    let nonzero = both_hold (0 == c) (all_nonzero cs) h in
+    if_ends s (head (skip s) == c) (exact w cs (behind (skip s))) (Err (unexpected w (skip s)))
+    (λ g. let next = first_cut (λ x. x == c) nonzero.0 s g in
+    let front : next.front ≡ next.is.0 ++ c ∷ [] =
+    next.is.1.1 ∙ ap (λ x. next.is.0 ++ x ∷ []) (equal_byte (head (skip s)) c g) in
+    let whole : (u : List ℕ) → u ≡ next.front ++ cs → L u = λ u e. subst L
+    (sym (e ∙ ap (λ t. t ++ cs) front ∙ append_assoc next.is.0 (c ∷ []) cs)) (f next.is.0 next.is.1.0) in
+    ends_as s (exact w cs (behind (skip s)))
+    (word_from w cs k.other nonzero.1 s (behind (skip s)) next.front next.is.0 c [] next.bytes next.place front k.fronts k.bare)
+    (λ r u e. whole u e) (λ u e. whole u e))
+    (λ g. record {
+      way = wrong w s c cs [] k.bare (λ bs e. subst (λ t. L (bs ++ c ∷ t)) (sym (append-nil cs)) (f bs e));
+    })
 
 same_byte : (c : ℕ) → (c == c) ≡ true
 same_byte c = grind (arith, nat_tests)
@@ -317,24 +336,14 @@ pub word_text : (o : Front) (c : ℕ) (cs : List ℕ) → is_blank c ≡ false �
     AreBlanks bs → Text o true (WordSpan (c ∷ cs)) (bs ++ c ∷ cs)
 word_text o c cs h f bs e = blanks_before bs (c ∷ cs) e (word_over (c ∷ cs) bs e) (one_word o c cs h f)
 
-pub word_default : (o : Front) (c : ℕ) (cs : List ℕ) → is_blank c ≡ false → OpensAs o (c ∷ cs) →
+pub word_default : (o : Front) (c : ℕ) (cs : List ℕ) → is_blank c ≡ false → OpensAs o (c ∷ cs) → NoQuotes (c ∷ cs) →
     Default (Text o true (WordSpan (c ∷ cs)))
-word_default o c cs h f = record { text = c ∷ cs; is = one_word o c cs h f }
+word_default o c cs h f p = record { text = c ∷ cs; plain = p; is = one_word o c cs h f }
 
-pub word_token : (c : ℕ) (cs : List ℕ) → is_blank c ≡ false → IsWordToken (c ∷ cs) (c ∷ cs)
-word_token c cs h =
-    let n = (one_word Anyhow c cs h tt).fills [] tt 0 in
-    (n.0, ap (λ t. word_at (c ∷ cs) (at_place 0 t)) (sym (append-nil (c ∷ cs))) ∙ n.1)
-
--- a keyword or a sign of several bytes, behind blanks
 pub word_ends : (o : Front) (w : What) (c : ℕ) (cs : List ℕ) → is_blank c ≡ false → OpensAs o (c ∷ cs) →
-    all_nonzero (c ∷ cs) ≡ true → WordOf w (c ∷ cs) → (s : Rest) →
+    all_nonzero (c ∷ cs) ≡ true → WordOf w c cs → (s : Rest) →
     Leaves (Text o true (WordSpan (c ∷ cs))) s (exact w (c ∷ cs) (skip s))
-word_ends o w c cs h f z k s =
-    cut_then s (skip s) (exact w (c ∷ cs) (skip s)) (skip_cut s)
-    (λ bs e. ends_as (skip s) (exact w (c ∷ cs) (skip s)) (exact_ends w (c ∷ cs) z k (skip s))
-    (λ r u g. subst (λ t. Text o true (WordSpan (c ∷ cs)) (bs ++ t)) (sym g) (word_text o c cs h f bs e))
-    (λ u g. subst (λ t. Text o true (WordSpan (c ∷ cs)) (bs ++ t)) (sym g) (word_text o c cs h f bs e)))
+word_ends o w c cs h f z k s = exact_ends {L = Text o true (WordSpan (c ∷ cs))} w c cs z k (word_text o c cs h f) s
 
 pub spaced : {o : Front} (cs w : List ℕ) → Text o true (WordSpan cs) w → Text o false (SpacedSpan cs) w
 spaced cs w f = record { opens = f.opens; fills = λ z h. (f.fills z tt, outer_no_word (first_of z) h) }
@@ -400,18 +409,14 @@ name_text bs w e h l = blanks_before bs w e (name_over w bs e) (one_name w h l)
 pub some_name : (text x z : List ℕ) → NamedSpan text x z → NameSpan x z
 some_name text x z f = λ at. let n = f at in ((n.0.0, record { at = n.0.1; text = text }), n.1)
 
-pub a_name : Text Parted false NameSpan (32 ∷ 97 ∷ [])
+pub a_name : Text Parted false NameSpan (10 ∷ 95 ∷ [])
 a_name =
-    let name = name_text (32 ∷ []) (97 ∷ []) (refl, tt) (refl, tt) refl in
-    record { opens = λ u. refl; fills = (changed (some_name (97 ∷ [])) (32 ∷ 97 ∷ []) name).fills }
+    let name = name_text (10 ∷ []) (95 ∷ []) (refl, tt) (refl, tt) refl in
+    record { opens = λ u. refl; fills = (changed (some_name (95 ∷ [])) (10 ∷ 95 ∷ []) name).fills }
 
--- ` a`
+-- ` _`
 abbrev pub name_default : Default (Text Parted false NameSpan)
-name_default = record { text = 32 ∷ 97 ∷ []; is = a_name }
-
-pub name_token : IsToken what.Name (32 ∷ 97 ∷ [])
-name_token = blank_token what.Name (97 ∷ []) (bare_token what.Name (97 ∷ [])
-    ((changed (some_name (97 ∷ [])) (97 ∷ []) (name_text [] (97 ∷ []) tt (refl, tt) refl)).fills [] refl 0))
+name_default = record { text = 10 ∷ 95 ∷ []; plain = refl; is = a_name }
 
 pub any_name_over : (bs : List ℕ) → AreBlanks bs → (x z : List ℕ) → NameSpan x z → NameSpan (bs ++ x) z
 any_name_over bs h x z f = λ at. let n = f (at + length bs) in
@@ -439,20 +444,10 @@ unfolding reading.name
 named_ends s =
     if_ends s (is_letter (head (skip s))) (Ok (word_here (skip s))) (Err (unexpected what.Name (skip s)))
     (λ h. record { way = name_cut s h })
-    (λ h. record { way = wrong what.Name s 32 (97 ∷ []) [] name_token name_after })
+    (λ h. record { way = wrong_spaced what.Name s (95 ∷ []) [] refl name_after })
 
 pub name_ends : (s : Rest) → Reads (Text Worded false NameSpan) s (reading.name s)
 name_ends s = ends_as s (reading.name s) (named_ends s) (λ x w f. changed (some_name x.0.text) w f) (λ w f. f)
-
--- the first byte of a token, behind blanks
-pub first_cut : (test : ℕ → Bool) → test 0 ≡ false → (s : Rest) → test (head (skip s)) ≡ true →
-    Cut (λ v. (bs : List ℕ) × (AreBlanks bs × (v ≡ bs ++ head (skip s) ∷ []))) s (behind (skip s))
-first_cut test z s h =
-    let c = skip_cut s in
-    cut_before {N = λ v. (bs : List ℕ) × (AreBlanks bs × (v ≡ bs ++ head (skip s) ∷ []))} s (skip s) (behind (skip s))
-    c.front c.bytes c.place
-    (cut_as (skip s) (behind (skip s)) (byte_cut test z (skip s) h)
-    (λ w f. (c.front, (c.is, ap (λ t. c.front ++ t) f))))
 
 -- the signs
 pub plus_sign : IsSign 43

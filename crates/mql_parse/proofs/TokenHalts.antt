@@ -1,12 +1,15 @@
 -- Readers within one token: what was read of it before a fault is a part of the token.
-use Rattle.std.proofs.Common.{◌≡◌, ℕ, ◌+◌, Bool, true, false, List, [], ◌∷◌, ◌++◌, length, refl, sym, ap, ◌∙◌, subst, arith, if◌then◌else◌, append_assoc, length-append, Ok, Err}
+use Rattle.std.proofs.Common.{◌≡◌, ℕ, ◌+◌, Bool, true, false, List, [], ◌∷◌, ◌++◌, length, refl, sym, ap, ◌∙◌, subst, arith, if◌then◌else◌, append_assoc, length-append, Some, None, Ok, Err}
 use Rattle.std.proofs.lemmas.List.{append-nil}
 use Rattle.mql_ast.specs.Rests.{Rest}
+use Rattle.mql_ast.specs.Quotes.{Whole}
 use Rattle.mql_parse.specs.declared.faults.ParseFault.{ParseFault}
 use Rattle.mql_parse.specs.declared.faults.ParseKind.{ParseKind}
 use Rattle.mql_parse.specs.declared.faults.What.{What}
 use Rattle.mql_parse.specs.Outcomes.{Outcome, kind_of, fault, unexpected, map_outcome}
-use Rattle.mql_parse.specs.FaultTokens.{IsToken}
+use Rattle.mql_parse.specs.declared.faults.What.TheVariants as what
+use Rattle.mql_parse.specs.FaultKinds.{open_quotes}
+use Rattle.mql_parse.specs.FaultTokens.{IsBare}
 use Rattle.mql_parse.proofs.Endings.{Cut, Comes, IfTooLarge, if_too_large, IfExpected, if_expected, Ends, behind_read, cut_before, cut_as}
 use Rattle.mql_parse.proofs.TokenEndings.{none_too_large, expected_of}
 
@@ -19,6 +22,7 @@ pub record HaltFault (w : What) (K L : List ℕ → Type 0) (s : Rest) (f : Pars
   pub byte : ℕ
   pub rest : List ℕ
   pub is : L (front ++ byte ∷ rest)
+  pub closes : w ≡ what.Text → open_quotes None (byte ∷ rest) ≡ Some Whole
   pub unfinished : K front
   pub small : IfTooLarge f.kind ⊥
   pub kind : IfExpected f.kind (λ x. x ≡ w)
@@ -33,9 +37,10 @@ pub record Halts {A : Type 0} (w : What) (K L : List ℕ → Type 0) (s : Rest) 
   pub way : HaltsIn w K L s o
 
 pub halted_at : {A : Type 0} {K L : List ℕ → Type 0} (w : What) (kind : ParseKind) (s : Rest) (byte : ℕ)
-    (rest : List ℕ) → K [] → L (byte ∷ rest) → IfTooLarge kind ⊥ → IfExpected kind (λ x. x ≡ w) →
+    (rest : List ℕ) → K [] → L (byte ∷ rest) → (w ≡ what.Text → open_quotes None (byte ∷ rest) ≡ Some Whole) →
+    IfTooLarge kind ⊥ → IfExpected kind (λ x. x ≡ w) →
     Halts {A = A} w K L s (Err (fault kind s))
-halted_at w kind s byte rest u h k e = record {
+halted_at w kind s byte rest u h q k e = record {
   way = record {
     front = [];
     left = s.bytes;
@@ -44,6 +49,7 @@ halted_at w kind s byte rest u h k e = record {
     byte = byte;
     rest = rest;
     is = h;
+    closes = q;
     unfinished = u;
     small = k;
     kind = e;
@@ -51,9 +57,9 @@ halted_at w kind s byte rest u h k e = record {
 }
 
 pub halted_unexpected : {A : Type 0} {K L : List ℕ → Type 0} (w : What) (s : Rest) (byte : ℕ) (rest : List ℕ) →
-    K [] → L (byte ∷ rest) → Halts {A = A} w K L s (Err (unexpected w s))
-halted_unexpected {K = K} {L = L} w s byte rest u h =
-    halted_at {K = K} {L = L} w (kind_of w s.bytes) s byte rest u h (none_too_large ⊥ w s.bytes)
+    K [] → L (byte ∷ rest) → (w ≡ what.Text → ⊥) → Halts {A = A} w K L s (Err (unexpected w s))
+halted_unexpected {K = K} {L = L} w s byte rest u h o =
+    halted_at {K = K} {L = L} w (kind_of w s.bytes) s byte rest u h (λ e. absurd (o e)) (none_too_large ⊥ w s.bytes)
     (expected_of (λ x. x ≡ w) w s.bytes refl)
 
 pub if_halts : {A : Type 0} {w : What} {K L : List ℕ → Type 0} {s : Rest} (t : Bool) (o p : Outcome A) →
@@ -75,6 +81,7 @@ halts_on {M = M} s m v (Err x) e p h k f = let g = h.way in record {
     byte = g.byte;
     rest = g.rest;
     is = subst M (sym (append_assoc v g.front (g.byte ∷ g.rest))) (f (g.front ++ g.byte ∷ g.rest) g.is);
+    closes = g.closes;
     unfinished = k g.front g.unfinished;
     small = g.small;
     kind = g.kind;
@@ -87,26 +94,25 @@ halts_map s f (Ok x) h = record { way = h.way }
 halts_map s f (Err e) h = record { way = h.way }
 
 -- a reader within a token, from before the token on, of which a part was read
-pub halts_end : {A : Type 0} {w : What} {K L R : List ℕ → Type 0} (s m : Rest) (v before begun : List ℕ)
-    (o : Outcome A) → s.bytes ≡ v ++ m.bytes → m.at ≡ s.at + length v → v ≡ before ++ begun → Halts w K L m o →
-    ((u : List ℕ) → L u → R (v ++ u)) → ((u : List ℕ) → K u → IsToken w (begun ++ u) → ⊥) →
-    ((u : List ℕ) → L u → IsToken w (begun ++ u)) → Ends behind_read (λ x. R) R s o
-halts_end {R = R} s m v before begun (Ok x) e p q h f o k =
+pub halts_end : {A : Type 0} {w : What} {K L R : List ℕ → Type 0} (s m : Rest) (v before : List ℕ) (b : ℕ)
+    (o : Outcome A) → s.bytes ≡ v ++ m.bytes → m.at ≡ s.at + length v → v ≡ before ++ b ∷ [] → Halts w K L m o →
+    ((u : List ℕ) → L u → R (v ++ u)) → ((u : List ℕ) → K u → IsBare w (b ∷ u) → ⊥) →
+    ((u : List ℕ) → L u → IsBare w (b ∷ u)) → Ends behind_read (λ x. R) R s o
+halts_end {R = R} s m v before b (Ok x) e p q h f o k =
     record { way = cut_before {N = R} s m x.1 v e p (cut_as m x.1 h.way f) }
-halts_end {w = w} {R = R} s m v before begun (Err x) e p q h f o k =
+halts_end {w = w} {R = R} s m v before b (Err x) e p q h f o k =
     let g = h.way in
     let front = v ++ g.front in
     let whole = subst R (sym (append_assoc v g.front (g.byte ∷ g.rest))) (f (g.front ++ g.byte ∷ g.rest) g.is) in
     let comes : Comes R front w = record {
       before = before;
-      begun = begun ++ g.front;
+      begun = b ∷ g.front;
       byte = g.byte;
       rest = g.rest;
-      parts = ap (λ t. t ++ g.front) q ∙ append_assoc before begun g.front;
-      unfinished = o g.front g.unfinished;
-      token = subst (IsToken w) (sym (append_assoc begun g.front (g.byte ∷ g.rest)))
-          (k (g.front ++ g.byte ∷ g.rest) g.is);
+      parts = ap (λ t. t ++ g.front) q ∙ append_assoc before (b ∷ []) g.front;
+      way = (o g.front g.unfinished, k (g.front ++ g.byte ∷ g.rest) g.is);
       more = [];
+      closes = λ e. ap (λ t. open_quotes None (g.byte ∷ t)) (append-nil g.rest) ∙ g.closes e;
       is = subst (λ t. R (front ++ g.byte ∷ t)) (sym (append-nil g.rest)) whole;
     } in record {
       way = record {

@@ -96,7 +96,7 @@ abbrev pub LeavesOpen : Open → List ℕ → Type 0
 LeavesOpen Whole t = IsUtf8 t
 LeavesOpen Escape t = IsUtf8 t
 LeavesOpen (More zero low high) t = ⊥
-LeavesOpen (More (suc n) low high) t = (nat_le low high ≡ true) × IsCompleted (suc n) low high t
+LeavesOpen (More (suc n) low high) t = ((nat_le 128 low && nat_le low high) ≡ true) × IsCompleted (suc n) low high t
 
 pub several_further : (n : ℕ) → further (suc (suc n)) ≡ More (suc n) 128 191
 several_further n =

@@ -15,7 +15,7 @@ use Rattle.mql_ast.specs.Quotes.{text_at, pattern_at, Whole, Plain}
 use Rattle.mql_ast.specs.Grammar.{comparison_at, and_equal, or_equal, value_at}
 use Rattle.mql_parse.specs.declared.faults.What.TheVariants as what
 use Rattle.mql_parse.specs.Outcomes.{unexpected, exact, sign, map_outcome}
-use Rattle.mql_parse.specs.FaultTokens.{IsWhole, IsToken}
+use Rattle.mql_parse.specs.FaultTokens.{IsWhole, IsBare}
 use Rattle.mql_parse.specs.TokenReading as reading
 use Rattle.mql_parse.specs.PredicateReading as predicates
 use Rattle.mql_parse.specs.PredicateReading.{Compared, WithValue, WithPattern}
@@ -23,7 +23,7 @@ use Rattle.mql_parse.proofs.RestLemmas.{skip_off}
 use Rattle.mql_parse.proofs.Endings.{Anyhow, Worded, Parted, Text, changed, worded, anyhow, Default, Cut, Finish, Ends, behind_read, Reads, stay, cut_as, cut_then, ends_as, done_ends, if_ends}
 use Rattle.mql_parse.proofs.TokenFronts.{one_equals, one_exclamation, true_word, false_word}
 use Rattle.mql_parse.proofs.TextFronts.{open_text}
-use Rattle.mql_parse.proofs.TokenEndings.{at_place, AreBlanks, skip_over, skip_cut, blanks_open, bare_token, begun_here, wrong, byte_cut, first_cut, IsSign, SignSpan, sign_text, WordSpan, word_text, exact_ends, Token, exclamation, quote}
+use Rattle.mql_parse.proofs.TokenEndings.{at_place, AreBlanks, skip_over, blanks_open, begun_here, wrong, byte_cut, first_cut, IsSign, SignSpan, sign_text, WordSpan, word_text, exact_ends, Token, exclamation, quote}
 use Rattle.mql_parse.proofs.NumberEndings.{signed_ends, signed_default}
 use Rattle.mql_parse.proofs.MetricEndings.{if_bind}
 use Rattle.mql_parse.proofs.TextEndings.{TextRest, PatternRest, text_rest_ends, no_text}
@@ -149,19 +149,18 @@ maybe_ends b v c without with m sign f g =
     })
 
 token_of : (how : Comparison) (c : ℕ) (cs : List ℕ) → IsSign c → Compares how (c ∷ cs) →
-    IsToken what.Comparison (c ∷ cs)
+    IsBare what.Comparison (c ∷ cs)
 token_of how c cs h f =
     let n = (compared_text how c cs h f [] tt).fills [] tt refl 0 in
-    bare_token what.Comparison (c ∷ cs)
-    (inl ((n.0, how), ap (λ t. comparison_at (at_place 0 t)) (sym (append-nil (c ∷ cs))) ∙ n.1))
+    inl (h.1.0, ((n.0, how), ap (λ t. comparison_at (at_place 0 t)) (sym (append-nil (c ∷ cs))) ∙ n.1))
 
 -- a byte that was read, and the second of two that a comparison goes on with
 second_missing : (how : Comparison) (b : ℕ) (s m : Rest) → IsSign b → Compares how (b ∷ 61 ∷ []) →
-    (IsToken what.Comparison (b ∷ []) → ⊥) → Cut (FirstByte b) s m →
+    (IsBare what.Comparison (b ∷ []) → ⊥) → Cut (FirstByte b) s m →
     Finish AnyCompared s (unexpected what.Comparison m)
 second_missing how b s m sign f u c =
-    begun_here {L = AnyCompared} what.Comparison s m c.front c.is.0 (b ∷ []) 61 [] [] c.bytes c.place c.is.1.1 u
-    (token_of how b (61 ∷ []) sign f)
+    begun_here {L = AnyCompared} what.Comparison s m c.front c.is.0 (b ∷ []) 61 [] [] c.bytes c.place c.is.1.1
+    (u, token_of how b (61 ∷ []) sign f) (λ e. absurd (cc))
     (first_joined AnyCompared b c.front (61 ∷ []) (61 ∷ []) c.is refl
     (how, compared_text how b (61 ∷ []) sign f c.is.0 c.is.1.0))
 
@@ -325,19 +324,18 @@ signed_text w f =
           n.1,
     )) w f)
 
-text_token : (u : List ℕ) → TextRest u → IsToken what.Text (34 ∷ u)
+text_token : (u : List ℕ) → TextRest u → IsBare what.Text (34 ∷ u)
 text_token u f =
-    let n = (quoted_only u f) in
-    bare_token what.Text (34 ∷ u) (inl (n.0, n.1))
-  where
-    quoted_only : (u : List ℕ) → TextRest u → IsWhole text_at (34 ∷ u)
-    quoted_only u f =
-        let a = (sign_text 34 quote [] tt).fills u tt 0 in
-        let n = f [] a.0 in (
-          n.0,
-          ap (option_and_then (λ q. quotes.text_from Whole [] q.at q.bytes)) a.1
-              ∙ ap (quotes.text_from Whole [] a.0) (sym (append-nil u)) ∙ n.1,
-        )
+    let a = (sign_text 34 quote [] tt).fills u tt 0 in
+    let n = f [] a.0 in
+    let whole : IsWhole text_at (34 ∷ u) = (
+      refl,
+      (
+        n.0,
+        ap (option_and_then (λ q. quotes.text_from Whole [] q.at q.bytes)) a.1
+            ∙ ap (quotes.text_from Whole [] a.0) (sym (append-nil u)) ∙ n.1,
+      ),
+    ) in inl whole
 
 pub value_ends : (s : Rest) → Reads ValueText s (predicates.value s)
 unfolding predicates.value
@@ -350,20 +348,14 @@ value_ends s =
     if_ends s (b == 34) (map_outcome (λ x. field.Text x) (reading.text m)) _
     (λ h. let c = first_is 34 refl s h in
     done_ends s (reading.text m) (λ x. (field.Text x.0, x.1))
-    (halts_end {R = ValueText} s m c.front c.is.0 (34 ∷ []) (reading.text m) c.bytes c.place c.is.1.1 (text_rest_ends m)
+    (halts_end {R = ValueText} s m c.front c.is.0 34 (reading.text m) c.bytes c.place c.is.1.1 (text_rest_ends m)
     (λ u f. quoted_text c.front u c.is f) open_text text_token) (λ x. refl) (λ x u f. f))
     (λ _. if_ends s (b == 116) (yes >>= λ r. Ok (field.Bool true, r)) _
-    (λ _. cut_then s t (yes >>= λ r. Ok (field.Bool true, r)) (skip_cut s)
-    (λ bs e. done_ends t yes (λ r. (field.Bool true, r))
-    (ends_as t yes (exact_ends what.Truth (codes "true") refl true_word t)
-    (λ r u g. subst (λ x. ValueText (bs ++ x)) (sym g) (true_text bs e))
-    (λ u g. subst (λ x. ValueText (bs ++ x)) (sym g) (true_text bs e))) (λ r. refl) (λ r u f. f)))
+    (λ _. done_ends s yes (λ r. (field.Bool true, r))
+    (exact_ends {L = ValueText} what.Truth 116 (codes "rue") refl true_word true_text s) (λ r. refl) (λ r u f. f))
     (λ _. if_ends s (b == 102) (no >>= λ r. Ok (field.Bool false, r)) _
-    (λ _. cut_then s t (no >>= λ r. Ok (field.Bool false, r)) (skip_cut s)
-    (λ bs e. done_ends t no (λ r. (field.Bool false, r))
-    (ends_as t no (exact_ends what.Truth (codes "false") refl false_word t)
-    (λ r u g. subst (λ x. ValueText (bs ++ x)) (sym g) (false_text bs e))
-    (λ u g. subst (λ x. ValueText (bs ++ x)) (sym g) (false_text bs e))) (λ r. refl) (λ r u f. f)))
+    (λ _. done_ends s no (λ r. (field.Bool false, r))
+    (exact_ends {L = ValueText} what.Truth 102 (codes "alse") refl false_word false_text s) (λ r. refl) (λ r u f. f))
     (λ _. if_ends s (b == 45 || is_digit b) (map_outcome (λ z. field.Int z) (reading.signed s))
     (Err (unexpected what.Text t))
     (λ _. done_ends s (reading.signed s) (λ x. (field.Int x.0, x.1))
@@ -392,6 +384,7 @@ pub value_default : Default ValueText
 value_default =
     record {
       text = signed_default.text;
+      plain = signed_default.plain;
       is = signed_text signed_default.text
           (worded signed_default.text signed_default.is);
     }
@@ -399,16 +392,18 @@ value_default =
 abbrev pub PatternText : List ℕ → Type 0
 PatternText = Text Anyhow true (Token pattern_at)
 
-pub pattern_token : (u : List ℕ) → PatternRest u → IsToken what.Text (34 ∷ u)
+pub pattern_token : (u : List ℕ) → PatternRest u → IsBare what.Text (34 ∷ u)
 pattern_token u f =
     let a = (sign_text 34 quote [] tt).fills u tt 0 in
     let n = f [] a.0 in
     let whole : IsWhole pattern_at (34 ∷ u) = (
-      n.0,
-      ap (option_and_then (λ q. quotes.pattern_from Whole Plain [] [] q.at q.bytes)) a.1
-          ∙ ap (quotes.pattern_from Whole Plain [] [] a.0) (sym (append-nil u)) ∙ n.1,
-    ) in
-    bare_token what.Text (34 ∷ u) (inr whole)
+      refl,
+      (
+        n.0,
+        ap (option_and_then (λ q. quotes.pattern_from Whole Plain [] [] q.at q.bytes)) a.1
+            ∙ ap (quotes.pattern_from Whole Plain [] [] a.0) (sym (append-nil u)) ∙ n.1,
+      ),
+    ) in inr whole
 
 pub pattern_text : (v u : List ℕ) → Text Parted true (SignSpan 34) v → PatternRest u → PatternText (v ++ u)
 pattern_text v u f g = record {

@@ -13,6 +13,7 @@ pub mod FaultPlaces
 pub mod FaultKinds
 pub mod FaultDepths
 pub mod FaultNumbers
+pub mod WordOrder
 pub mod FaultTokens
 pub mod FaultFirsts
 pub mod Views

@@ -2,9 +2,9 @@
 use Rattle.mql_parse.proofs.TextSound.{spelled_by}
 use Rattle.mql_parse.proofs.TextComplete.{given_tree, one_tree}
 use Rattle.mql_parse.proofs.TextSteady.{fault_place, long_fault}
-use Rattle.mql_parse.proofs.TextKinds.{fault_kind, fault_number, fault_expected}
+use Rattle.mql_parse.proofs.TextKinds.{fault_kind, fault_number}
 use Rattle.mql_parse.proofs.TextDepth.{fault_depth}
-use Rattle.mql_parse.proofs.FirstTexts.{fault_first}
+use Rattle.mql_parse.proofs.FirstTexts.{fault_expected, fault_first}
 use Rattle.mql_parse.proofs.parsing.parse.Goals as goal
 
 pub returns : goal.returns
