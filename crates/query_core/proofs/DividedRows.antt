@@ -29,7 +29,7 @@ use Rattle.mixer.specs.Divisions.{AreApart, ShareNoLocation, ShareNoTarget, all_
 use Rattle.mql_types.proofs.JoinedRows.{all-map}
 use Rattle.mql_types.proofs.KeptRows.{all-append, all-filter}
 use Rattle.query_core.specs.declared.answers.Resolved.{Resolved}
-use Rattle.query_core.proofs.PlacedTargets.{is_placed}
+use Rattle.mon_topo.proofs.PlacedRangeLemmas.{is_placed}
 
 -- ---- ranges, each of which stands once
 
@@ -45,7 +45,7 @@ abbrev pub leaf_for : List Resolved → Range → Option Leaf
 leaf_for [] range = None
 leaf_for (one ∷ rest) range = cond (nat_eq one.range.0 range.0) (Some one.leaf) (leaf_for rest range)
 
-itself : (n : ℕ) → nat_eq n n ≡ true
+pub itself : (n : ℕ) → nat_eq n n ≡ true
 itself n = grind (arith, nat_tests)
 
 later : (one other : Resolved) (rest : List Resolved) → IsOther one other → leaf_for rest other.range ≡ Some other.leaf
@@ -111,7 +111,7 @@ points_together key (rows ∷ lists) =
 abbrev key_at : Target → SeriesKey
 key_at target = record { target = target; metric = []; fields = [] }
 
-one_target : (a b : Target) → same_target a b ≡ true → a ≡ b
+pub one_target : (a b : Target) → same_target a b ≡ true → a ≡ b
 one_target a b same =
     let whole : same_series (key_at a) (key_at b) ≡ true = ap (λ c. c && true) same in
     ap (λ (key : SeriesKey). key.target) ((same_series-Decides (key_at a) (key_at b)).0 whole)

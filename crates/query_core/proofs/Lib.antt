@@ -1,15 +1,16 @@
 mod AckedRows
+mod AnswerParts
 mod AreaLemmas
 mod ChosenLeaves
 mod DividedRows
 mod FindingLemmas
-mod HintFacts
-mod MeaningOrderLemmas
-mod MeantTables
+pub mod HintFacts
 mod MixLemmas
+mod MixedParts
+mod NextPlaces
 mod OpeningLemmas
-mod PartFacts
-mod PlacedTargets
+mod PartClaims
+mod PlaceFacts
 mod ReadLeaves
 mod ResolvedZones
 mod RightAnswers
@@ -17,12 +18,13 @@ mod RoundLemmas
 mod SeenSpans
 mod SegmentFacts
 mod SentRows
-mod SeriesOrderLemmas
+mod SessionEnds
 mod SessionParts
 mod Spans
 mod StageLemmas
 mod StoppedTraces
 mod ThroughZones
+pub mod ToldAnswers
 mod TraceAnswers
 mod TraceClaims
 mod TraceEnds
@@ -33,7 +35,10 @@ mod TraceSteps
 mod TraceVisits
 mod TraceWords
 mod UnreadLeaves
+mod VisitParts
+mod VisitedSlots
 mod WantedRows
 mod WholeTraces
 mod ZoneFacts
+mod ZoneParts
 mod ZoneRows

@@ -8,7 +8,9 @@ use Rattle.mon_topo.specs.HeldHistories.{AreHeld, Histories, leaf_history}
 use Rattle.mon_topo.specs.SeenHistories.{AreWithin}
 use Rattle.mon_topo.specs.Settings.{Setting as Store}
 use Rattle.mon_topo.specs.Zones.{first_leaf}
+use Rattle.mon_value.specs.declared.positions.FoundDown.{FoundDown}
 use Rattle.mon_value.specs.declared.positions.Leaf.{Leaf}
+use Rattle.mon_value.specs.declared.positions.Range.{Range}
 use Rattle.mql_types.proofs.JoinedRows.{all-map}
 use Rattle.query_core.specs.Answers.{IsAnsweredRightly, IsStoppedRightly}
 use Rattle.query_core.specs.Askings.{IsAskedOf}
@@ -24,6 +26,7 @@ use Rattle.query_core.specs.declared.stages.Step.{Step}
 use Rattle.query_core.specs.declared.stages.Step.TheVariants as step
 use Rattle.query_core.specs.declared.stages.Turn.{Turn}
 use Rattle.query_core.specs.declared.stages.Turn.TheVariants as turn
+use Rattle.query_core.specs.Findings.{HasNoReplica}
 use Rattle.query_core.specs.Looks.{unread}
 use Rattle.query_core.specs.Machine.{Query, avoided_after, new_query, slots_at}
 use Rattle.query_core.specs.Mixtures.{typed_of, zone_turn}
@@ -33,8 +36,8 @@ use Rattle.query_core.specs.Sessions as session
 use Rattle.query_core.specs.Sessions.{IsSound, View}
 use Rattle.query_core.specs.Settings.{Setting}
 use Rattle.query_core.specs.Traces.{IsFirst, is_wanted, slot_rows}
-use Rattle.query_core.proofs.MeantTables.{ends, sound_then}
-use Rattle.query_core.proofs.PartFacts.{EndParts}
+use Rattle.query_core.proofs.SessionEnds.{sound_then, stage_last}
+use Rattle.query_core.proofs.PartClaims.{EndParts, StageParts}
 use Rattle.query_core.proofs.ReadLeaves.{cuts_of, flags_of}
 use Rattle.query_core.proofs.ResolvedZones.{zoned_first}
 use Rattle.query_core.proofs.SessionParts.{Keeps, StepTells, TurnTells}
@@ -62,7 +65,7 @@ cut_at (look ∷ looks) zero = refl
 cut_at (look ∷ looks) (suc i) = cut_at looks i
 
 -- the buckets that a plan's formulas name are those that its query loads words of
-listed : (store : Store) (setting : Setting) → IsAskedOf store setting
+pub listed : (store : Store) (setting : Setting) → IsAskedOf store setting
     → AreAmong (all_named (formulas (map formula_tree setting.plan.formulas))) setting.plan.buckets
 listed store setting asked bucket named = asked.listed.same bucket ∙ named
 
@@ -104,6 +107,14 @@ module _ (store : Store) (setting : Setting) (moment : ℤ) (asked : IsAskedOf s
           (zone_so store setting moment at_entry asked.replicas asked.areas (listed store setting asked) (unmet_rows store setting asked)
           now avoided course mixed so),
     )
+
+  -- each range of a trace resolved to a leaf of its zone
+  pub trace_zoned : (now : View) → AreHeld store.held store.zones store.points now.seen → (Skip : Leaf → Type 0)
+      (trace : Trace) → claim.TraceSo store setting at_entry now Skip trace → AllZoned store.zones trace.resolved
+  trace_zoned now held Skip trace is =
+      zoned_first store.held store.zones store.points asked.replicas at_entry now.seen held is.avoided trace.resolved
+      (all-map (ResolvedSo at_entry now.seen is.avoided 0 (first_leaf store.zones (length store.zones)))
+      (IsFirst at_entry now.seen is.avoided) trace.resolved (λ one so. so.first) is.span.each)
 
   -- ---- from one event to the next
 
@@ -150,26 +161,30 @@ module _ (store : Store) (setting : Setting) (moment : ℤ) (asked : IsAskedOf s
   held : AreHeld store.held store.zones store.points exit.seen
   held = (sound_then store setting moment events view (new_query setting) sound licensed).held
 
-  parts_at : (end : Result Answer RoundFault) → last.stage ≡ at.Ended end
-      → EndParts store setting moment (TellsOf setting) exit.seen end
-  parts_at =
-      ends store setting moment asked.areas (AreKept store setting moment asked view.seen)
+  pub parts_now : StageParts store setting moment (TellsOf setting) exit.seen last.stage
+  parts_now =
+      stage_last store setting moment asked.areas (AreKept store setting moment asked view.seen)
       (keeps store setting moment asked view.seen) view events sound
       (kept_first store setting moment asked view.seen view refl sound) licensed
+
+  pub claim_now : claim.StageSo store setting view.seen exit last.avoided last.stage
+  claim_now =
+      ended_so store setting moment view.seen asked.replicas asked.areas (listed store setting asked)
+      (unmet_rows store setting asked) view refl sound events licensed
+
+  parts_at : (end : Result Answer RoundFault) → last.stage ≡ at.Ended end
+      → EndParts store setting moment (TellsOf setting) exit.seen end
+  parts_at end ended =
+      subst (λ (stage : Stage). StageParts store setting moment (TellsOf setting) exit.seen stage) ended parts_now
 
   claim_at : (end : Result Answer RoundFault) → last.stage ≡ at.Ended end
       → claim.EndSo store setting view.seen exit end
   claim_at end ended =
-      subst (λ (stage : Stage). claim.StageSo store setting view.seen exit last.avoided stage) ended
-      (ended_so store setting moment view.seen asked.replicas asked.areas (listed store setting asked)
-      (unmet_rows store setting asked) view refl sound events licensed)
+      subst (λ (stage : Stage). claim.StageSo store setting view.seen exit last.avoided stage) ended claim_now
 
   zoned : (Skip : Leaf → Type 0) (trace : Trace) → claim.TraceSo store setting view.seen exit Skip trace
       → AllZoned store.zones trace.resolved
-  zoned Skip trace is =
-      zoned_first store.held store.zones store.points asked.replicas view.seen exit.seen held is.avoided trace.resolved
-      (all-map (ResolvedSo view.seen exit.seen is.avoided 0 (first_leaf store.zones (length store.zones)))
-      (IsFirst view.seen exit.seen is.avoided) trace.resolved (λ one so. so.first) is.span.each)
+  zoned = trace_zoned store setting moment asked view.seen exit held
 
   pub answered_rightly : (answer : Answer) → last.stage ≡ at.Ended (Ok answer)
       → IsAnsweredRightly store setting moment view.seen exit.seen answer
@@ -201,3 +216,7 @@ module _ (store : Store) (setting : Setting) (moment : ℤ) (asked : IsAskedOf s
         limit_is = so.0;
         above = above store setting asked moment from exit.seen held trace so.1 in_zones;
       }
+
+  pub none_rightly : (range : Range) (named : List FoundDown) → last.stage ≡ at.Ended (Err (fault.NoReplica range named))
+      → HasNoReplica store.zones view.seen exit.seen range named
+  none_rightly range named ended = claim_at (Err (fault.NoReplica range named)) ended

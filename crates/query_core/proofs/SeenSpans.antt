@@ -156,34 +156,34 @@ module _ (held : SchemaLists) (zones : List ZoneSpec) (points : ℕ)
   ranges_within =
       omega (arith, so_far (λ (zone : ZoneSpec). zone.ranges) zones k no_zone there, holds.all_ranges)
 
-  abbrev IsOfZone : Resolved → Type 0
-  IsOfZone one = (first_range zones k ≤ one.range.0) × (one.range.0 < first_range zones k + (area_of zones k).ranges)
+  abbrev IsOfZone : Range → Type 0
+  IsOfZone range = (first_range zones k ≤ range.0) × (range.0 < first_range zones k + (area_of zones k).ranges)
 
   abbrev AreNear : List SlotLeaf → Type 0
   AreNear = All (λ (replica : SlotLeaf). (first_leaf zones k ≤ replica.leaf.0) × (replica.leaf.0 < first_leaf zones (k + 1)))
 
-  serve_near : (one : Resolved) → IsOfZone one → (n : ℕ)
-      → All (HasRows zones seen one.range (take n (range_history seen one.range))) (serving (take n (range_history seen one.range)))
-  serve_near one in_zone n =
-      let within : one.range.0 < length seen.ranges = omega (arith, in_zone.1, ranges_within) in
-      serve_at zones seen one.range held points (replicated one.range.0 (omega (arith, within, holds.all_ranges)))
-      (range_history seen one.range) n (holds.legal one.range within) (holds.borne_out one.range within).borne_out
+  serve_near : (range : Range) → IsOfZone range → (n : ℕ)
+      → All (HasRows zones seen range (take n (range_history seen range))) (serving (take n (range_history seen range)))
+  serve_near range in_zone n =
+      let within : range.0 < length seen.ranges = omega (arith, in_zone.1, ranges_within) in
+      serve_at zones seen range held points (replicated range.0 (omega (arith, within, holds.all_ranges)))
+      (range_history seen range) n (holds.legal range within) (holds.borne_out range within).borne_out
 
-  near_at : (one : Resolved) → IsOfZone one → (n : ℕ) → AreNear (serving (take n (range_history seen one.range)))
-  near_at one in_zone n =
-      all_on (HasRows zones seen one.range (take n (range_history seen one.range)))
+  pub near_at : (range : Range) → IsOfZone range → (n : ℕ) → AreNear (serving (take n (range_history seen range)))
+  near_at range in_zone n =
+      all_on (HasRows zones seen range (take n (range_history seen range)))
       (λ (replica : SlotLeaf). (first_leaf zones k ≤ replica.leaf.0) × (replica.leaf.0 < first_leaf zones (k + 1)))
       (λ replica has.
-      (let bounds = leaf_zoned zones k one.range replica.leaf there in_zone.0 in_zone.1 has.zoned in
+      (let bounds = leaf_zoned zones k range replica.leaf there in_zone.0 in_zone.1 has.zoned in
       (bounds.0, omega (arith, bounds.1, leaves_next zones k there))))
-      (serving (take n (range_history seen one.range))) (serve_near one in_zone n)
+      (serving (take n (range_history seen range))) (serve_near range in_zone n)
 
   -- a range of a zone that resolves does so to a leaf of the zone, which has the rows that were acknowledged
   pub record ResolvesSo (avoided : List Leaf) (one : Resolved) : Type 0 where
     pub resolved : ResolvedSo at_entry seen avoided (first_leaf zones k) (first_leaf zones (k + 1)) one
     pub stands : StandsIn (acked (range_history at_entry one.range)) (leaf_history seen one.leaf) one
 
-  pub resolves_so : (avoided : List Leaf) (one : Resolved) → IsOfZone one → IsFirst at_entry seen avoided one
+  pub resolves_so : (avoided : List Leaf) (one : Resolved) → IsOfZone one.range → IsFirst at_entry seen avoided one
       → ResolvesSo avoided one
   resolves_so avoided one in_zone is =
       let history = range_history seen one.range in
@@ -191,11 +191,12 @@ module _ (held : SchemaLists) (zones : List ZoneSpec) (points : ℕ)
       let was = range_history at_entry one.range in
       let serves : Contains (serving front) (replica_of one) = first_there avoided (replica_of one) (serving front) is.first in
       let near = all_at (λ (replica : SlotLeaf). (first_leaf zones k ≤ replica.leaf.0) × (replica.leaf.0 < first_leaf zones (k + 1)))
-      (serving front) (replica_of one) (near_at one in_zone is.found) serves in
-      let has = all_at (HasRows zones seen one.range front) (serving front) (replica_of one) (serve_near one in_zone is.found) serves in
+      (serving front) (replica_of one) (near_at one.range in_zone is.found) serves in
+      let has = all_at (HasRows zones seen one.range front) (serving front) (replica_of one)
+      (serve_near one.range in_zone is.found) serves in
       let begins : BeginsWith front was = begins_before history was is.found (since.ranges one.range) is.between.from in
       record {
-        resolved = record { first = is; near = near_at one in_zone is.found; from = near.0; to = near.1 };
+        resolved = record { first = is; near = near_at one.range in_zone is.found; from = near.0; to = near.1 };
         stands = record {
           opened = has.opened;
           rows = all_front (Contains (replica_rows one.range one.slot (leaf_history seen one.leaf))) (acked was)
@@ -303,7 +304,7 @@ module _ (held : SchemaLists) (zones : List ZoneSpec) (points : ℕ)
     first_is one in_zone is =
         let history = range_history seen one.range in
         let all : take (length history) history ≡ history = take_all (length history) history (omega arith) in
-        let near = near_at held zones points replicated at_entry seen holds since k there one in_zone (length history) in
+        let near = near_at held zones points replicated at_entry seen holds since k there one.range in_zone (length history) in
         let apart : All (λ (replica : SlotLeaf). is_avoided avoided replica ≡ false) (serving history) =
         subst (λ (front : List RangeEntry). All (λ (replica : SlotLeaf). is_avoided avoided replica ≡ false) (serving front)) all
         (all_on (λ (replica : SlotLeaf). (low ≤ replica.leaf.0) × (replica.leaf.0 < first_leaf zones (k + 1)))
@@ -379,7 +380,8 @@ module _ (held : SchemaLists) (zones : List ZoneSpec) (points : ℕ)
           let within = numbers_of own_firsts first count own_ranges in
           let serve = all_taken (λ (one : Resolved). first_serving [] (range_history seen one.range) ≡ Some (replica_of one)) count
           (drop first firsts)
-          (all_left (λ (one : Resolved). first_serving [] (range_history seen one.range) ≡ Some (replica_of one)) first firsts firsts_are) in
+          (all_left (λ (one : Resolved). first_serving [] (range_history seen one.range) ≡ Some (replica_of one)) first firsts
+          firsts_are) in
           let next = leaves_next zones k there in
           record {
             long = omega (arith, next, own_cuts_long, length-map own_cuts unread);

@@ -1,5 +1,5 @@
 -- What each leaf sent, over the rows on it.
-use Rattle.std.proofs.Common.{◌≡◌, ◌∙◌, ◌<◌, ◌≤◌, ◌≤ℤ◌, ◌+◌, ◌-◌, ◌⊎◌, inl, inr, ℕ, ℤ, pos, zero, suc, Bool, true, false, cond, List, [], ◌∷◌, ◌++◌, length, map, drop, get_or, refl, sym, ap, subst, append_assoc, arith}
+use Rattle.std.proofs.Common.{◌≡◌, ◌∙◌, ◌<◌, ◌≤◌, ◌≤ℤ◌, ◌+◌, ◌-◌, ◌⊎◌, inl, inr, ℕ, ℤ, pos, zero, suc, Bool, true, false, cond, List, [], ◌∷◌, ◌++◌, length, map, drop, get_or, refl, sym, ap, subst, arith}
 use Rattle.std.specs.List.{AllByRecursion, flat_map}
 use Rattle.std.proofs.lemmas.Bool.{cases_lt}
 use Rattle.std.proofs.lemmas.List.{map-append}
@@ -24,12 +24,12 @@ use Rattle.query_core.specs.Mixtures.{typed_of}
 use Rattle.query_core.specs.Settings.{Setting}
 use Rattle.query_core.specs.Traces.{rows_on, sent_by, sent_if, was_read}
 use Rattle.query_core.proofs.DividedRows.{all_both}
-use Rattle.query_core.proofs.PartFacts.{CourseIn, CourseThrough}
-use Rattle.query_core.proofs.ReadLeaves.{LeafRead, SendsNothing, cuts_of, flags_of, leaf_read, no_reads, reads_append, reads_from}
+use Rattle.query_core.proofs.MixedParts.{stand_before}
+use Rattle.query_core.proofs.PartClaims.{CourseIn, CourseThrough}
+use Rattle.query_core.proofs.ReadLeaves.{LeafRead, SendsNothing, flags_of, leaf_read, no_reads, reads_append, reads_from}
 use Rattle.query_core.proofs.SegmentFacts.{AreFrom, IsSent, IsWhole, Mixed, PartsSo, Passed, RangesFrom, Segment, SegmentSo, area_in, looks_in, read_rows, resolved_in}
 use Rattle.query_core.proofs.StoppedTraces.{before_so, ranges_of, stands_so}
 use Rattle.query_core.proofs.ThroughZones.{none_first}
-use Rattle.query_core.proofs.UnreadLeaves.{TellsOf}
 use Rattle.query_core.proofs.WholeTraces.{AllStand, first_stands, others_stand, ranges_all, stand}
 use Rattle.query_core.proofs.ZoneRows.{AllZoned, Stands, get_back, get_front, rows_on_each}
 use Rattle.query_core.proofs.ZoneFacts.{leaves_next}
@@ -187,13 +187,13 @@ module _ (store : Store) (setting : Setting) (asked : IsAskedOf store setting) (
       → sent_by of leaf ≡ sent_if (was_read of leaf) (sent (typed_of setting) (rows_on exit of leaf) moment)
 
   pub whole_sends : (course : Course) (through : CourseThrough store setting moment exit course)
-      → AllZoned store.zones (trace_of course).resolved → TellsOf setting exit course → AllSent (trace_of course)
-  whole_sends course through zoned tells leaf =
+      → AllZoned store.zones (trace_of course).resolved → AllSent (trace_of course)
+  whole_sends course through zoned leaf =
       let of = trace_of course in
       let none = none_first setting moment store.zones exit in
-      let reads = all_sent of (ranges_all store setting asked moment from exit held course through zoned tells) zoned 0
+      let reads = all_sent of (ranges_all store setting asked moment from exit held course through zoned) zoned 0
       through.segments through.behind.areas through.behind.each (omega (arith, through.all))
-      (stand store setting asked moment from exit held course through zoned tells) in
+      (stand store setting asked moment from exit held course through zoned) in
       sent_so (most_of of) course
       (subst (λ (looks : List Look). AllByRecursion (SendsSo (most_of of)) (reads_from 0 looks)) (sym through.behind.looks)
       (subst (λ (n : ℕ). AllByRecursion (SendsSo (most_of of)) (reads_from n (flat_map looks_in through.segments))) none.1 reads))
@@ -209,26 +209,8 @@ module _ (store : Store) (setting : Setting) (asked : IsAskedOf store setting) (
     abbrev of_course : Trace
     of_course = trace_of (closed before resolved looks)
 
-    ranges_so : RangesFrom 0 of_course.resolved
+    abbrev ranges_so : RangesFrom 0 of_course.resolved
     ranges_so = ranges_of store setting asked moment from exit held before area resolved looks inside whole zoned
-
-    stand_before : AllStand store setting asked moment from exit held of_course ranges_so zoned 0 inside.segments
-    stand_before =
-        let none = none_first setting moment store.zones exit in
-        let firsts = drop (length course.resolved) course.seen.firsts in
-        let cuts : List Look = map unread (drop (length course.looks) course.seen.cuts) in
-        record {
-          front = [];
-          back = resolved ++ firsts;
-          resolved_is = append_assoc before.resolved resolved firsts
-              ∙ ap (λ front. front ++ (resolved ++ firsts)) inside.behind.resolved;
-          front_count = sym none.0;
-          looks_front = [];
-          looks_back = looks ++ cuts;
-          cuts_are = ap cuts_of (append_assoc before.looks looks cuts
-              ∙ ap (λ front. front ++ (looks ++ cuts)) inside.behind.looks);
-          looks_front_count = sym none.1;
-        }
 
     pub stopped_sends : (parts : List LeafAnswer) → PartsSo setting moment exit resolved area.first_leaf.0 looks parts
         → AllSent of_course
@@ -241,7 +223,8 @@ module _ (store : Store) (setting : Setting) (asked : IsAskedOf store setting) (
           (before_so store setting asked moment from exit held before area resolved looks inside whole zoned).leaves_count,
         ) in
         let earlier = all_sent of_course ranges_so zoned 0 inside.segments inside.behind.areas inside.behind.each
-        (omega (arith, inside.there)) stand_before in
+        (omega (arith, inside.there))
+        (stand_before store setting asked moment from exit held before area resolved looks inside whole zoned) in
         let own = reads_sent of_course ranges_so zoned k resolved looks parts
         (stands_so store setting asked moment from exit held before area resolved looks inside whole zoned)
         (subst (λ (a : Area). PartsSo setting moment exit resolved a.first_leaf.0 looks parts) inside.here so) in

@@ -23,7 +23,9 @@ use Rattle.query_core.specs.Program as spec
 use Rattle.query_core.specs.Sessions as session
 use Rattle.query_core.specs.Sessions.{View}
 use Rattle.query_core.specs.Settings.{Setting}
-use Rattle.query_core.proofs.PartFacts.{CourseAt, CourseThrough, GatheredSo, StageParts, StepParts, TurnParts, answer_parts, next_so}
+use Rattle.query_core.proofs.AnswerParts.{answer_parts}
+use Rattle.query_core.proofs.PartClaims.{CourseAt, CourseThrough, GatheredSo, StageParts, StepParts, TurnParts}
+use Rattle.query_core.proofs.ZoneParts.{next_so}
 use Rattle.query_core.proofs.SegmentFacts.{Mixed, Segment, behind_push}
 
 module _ (store : Store) (setting : Setting) (moment : ℤ) (Tells : Histories → Course → Type 0)

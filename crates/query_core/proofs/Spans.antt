@@ -82,7 +82,8 @@ module _ (at_entry : Histories) where
               (begins_length now was begins) is.first.between;
           first = ap (first_serving avoided) same ∙ is.first.first;
         };
-        near = subst (λ (history : List RangeEntry). All (λ (replica : SlotLeaf). (low ≤ replica.leaf.0) × (replica.leaf.0 < high)) (serving history))
+        near = subst (λ (history : List RangeEntry).
+            All (λ (replica : SlotLeaf). (low ≤ replica.leaf.0) × (replica.leaf.0 < high)) (serving history))
             (sym same) is.near;
         from = is.from;
         to = is.to;
@@ -175,7 +176,8 @@ module _ (at_entry : Histories) (wanted : Row → Bool) (met : List ℕ → Bool
     pub cuts : (leaf : Leaf) → low ≤ leaf.0 → leaf.0 < high → IsLookedAt at_entry now leaf (look_at low looks leaf)
     pub stand : All (StandsAt at_entry now low looks) resolved
     pub tells : (leaf : Leaf) → low ≤ leaf.0 → leaf.0 < high
-        → Skip leaf ⊎ Tells wanted met buckets_of (up_to now leaf (look_at low looks leaf)) (slots_on leaf resolved) (look_at low looks leaf)
+        → Skip leaf
+        ⊎ Tells wanted met buckets_of (up_to now leaf (look_at low looks leaf)) (slots_on leaf resolved) (look_at low looks leaf)
 
   -- ---- as histories grow
 
@@ -321,7 +323,8 @@ module _ (at_entry : Histories) (wanted : Row → Bool) (met : List ℕ → Bool
 
     looked_front : (leaf : Leaf) → low ≤ leaf.0 → leaf.0 < middle → IsLookedAt at_entry now leaf (look_at low (looks ++ others) leaf)
     looked_front leaf from to =
-        subst (IsLookedAt at_entry now leaf) (sym (front_look low looks others leaf from (omega (arith, one.long, to)))) (one.cuts leaf from to)
+        subst (IsLookedAt at_entry now leaf) (sym (front_look low looks others leaf from (omega (arith, one.long, to))))
+        (one.cuts leaf from to)
 
     looked_back : (leaf : Leaf) → middle ≤ leaf.0 → leaf.0 < high → IsLookedAt at_entry now leaf (look_at low (looks ++ others) leaf)
     looked_back leaf from to =

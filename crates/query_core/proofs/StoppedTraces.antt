@@ -34,7 +34,7 @@ use Rattle.query_core.specs.Settings.{Setting}
 use Rattle.query_core.specs.Traces.{slot_rows, source_of}
 use Rattle.query_core.proofs.ChosenLeaves.{ChosenAscend, among_append, among_behind, among_zones, front_among, chosen_append, chosen_leaves, chosen_once, zone_ascends, zones_ascend, zones_from}
 use Rattle.query_core.proofs.DividedRows.{SomeLeaves, all_leaves, divided_rows, rows_at, zone_rows}
-use Rattle.query_core.proofs.PartFacts.{CourseIn}
+use Rattle.query_core.proofs.PartClaims.{CourseIn}
 use Rattle.query_core.proofs.ReadLeaves.{Ascend, LeafRead, among_from, cuts_of, flags_of, leaves_append, leaves_from, leaves_read, read_among, reads_from}
 use Rattle.query_core.proofs.SegmentFacts.{IsWhole, PartsSo, RangesFrom}
 use Rattle.query_core.proofs.TraceRows.{IsLeftOut, is_divided, over_load, own_rows}
@@ -172,7 +172,8 @@ module _ (store : Store) (setting : Setting) (asked : IsAskedOf store setting) (
           (is_divided store setting asked moment from exit held whole_trace ranges_of zoned (chosen_with leaves)
           (chosen_leaves store.zones 0 (chosen_with leaves) (length store.zones) chosen_ascend))
 
-      over_split : AllByRecursion (IsLeftOut (typed_of setting) exit whole_trace (chosen_with leaves)) whole_trace.resolved → (over : OverLimit)
+      over_split : AllByRecursion (IsLeftOut (typed_of setting) exit whole_trace (chosen_with leaves)) whole_trace.resolved
+          → (over : OverLimit)
           → IsOver (typed_of setting) (all_rows (front_rows ++ own_zone ∷ back_rows)) moment setting.limit over
           → setting.limit < load (typed_of setting) (source_of exit whole_trace) moment
       over_split left_out over is =

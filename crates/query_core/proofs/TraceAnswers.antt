@@ -156,7 +156,8 @@ module _ (store : Store) (setting : Setting) (moment : ℤ) (at_entry : Historie
       let same = sym (looked_is one.leaf each.0.to) in (
         (subst (λ (history : List Entry). is_opened one.range one.slot history ≡ true) same stand.0.opened, rest.0),
         (
-          subst (λ (history : List Entry). All (Contains (replica_rows one.range one.slot history)) (acked (range_history at_entry one.range)))
+          subst (λ (history : List Entry).
+              All (Contains (replica_rows one.range one.slot history)) (acked (range_history at_entry one.range)))
               same stand.0.rows,
           rest.1,
         ),

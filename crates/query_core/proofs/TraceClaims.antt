@@ -15,10 +15,11 @@ use Rattle.mon_value.specs.declared.positions.FoundDown.{FoundDown}
 use Rattle.mon_value.specs.declared.positions.Leaf.{Leaf}
 use Rattle.mon_value.specs.declared.positions.Range.{Range}
 use Rattle.mon_value.specs.declared.rows.Row.{Row}
-use Rattle.query_core.proofs.FindingLemmas.{KeepsFounds, founds_on}
+use Rattle.query_core.proofs.FindingLemmas.{KeepsFounds, founds_on, no_replica_on}
 use Rattle.query_core.proofs.HintFacts.{AreKnown}
 use Rattle.query_core.proofs.Spans.{ResolvedSo, SpanSo, StandsIn, range_of, resolved_on, span_on, stands_on}
 use Rattle.query_core.specs.Areas.{area_of, range_at}
+use Rattle.query_core.specs.Findings.{HasNoReplica}
 use Rattle.query_core.specs.Mixtures.{typed_of}
 use Rattle.query_core.specs.Openings.{flag_at, is_met}
 use Rattle.query_core.specs.Rounds.{Round}
@@ -193,7 +194,7 @@ module _ (store : Store) (setting : Setting) (at_entry : Histories) where
 
   abbrev pub EndSo : View → Result Answer RoundFault → Type 0
   EndSo now (Ok answer) = TraceSo now Nobody answer.trace
-  EndSo now (Err (fault.NoReplica range named)) = Unit {0}
+  EndSo now (Err (fault.NoReplica range named)) = HasNoReplica zones at_entry now.seen range named
   EndSo now (Err (fault.StepLimit limit trace)) = TraceSo now Anybody trace
 
   pub record RootingSo (now : View) (avoided : List Leaf) (loading : Loading) : Type 0 where
@@ -315,7 +316,8 @@ module _ (store : Store) (setting : Setting) (at_entry : Histories) where
 
     pub end_on : (end : Result Answer RoundFault) → EndSo before end → EndSo after end
     end_on (Ok answer) is = trace_on Nobody answer.trace is
-    end_on (Err (fault.NoReplica range named)) is = is
+    end_on (Err (fault.NoReplica range named)) is =
+        no_replica_on zones at_entry before.seen after.seen grown.seen range named is
     end_on (Err (fault.StepLimit limit trace)) is = trace_on Anybody trace is
 
     pub stage_on : (avoided : List Leaf) (stage : Stage) → StageSo before avoided stage → StageSo after avoided stage

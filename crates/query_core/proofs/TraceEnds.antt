@@ -13,7 +13,7 @@ use Rattle.query_core.specs.Courses.{closed, trace_of}
 use Rattle.query_core.specs.Mixtures.{typed_of}
 use Rattle.query_core.specs.Settings.{Setting}
 use Rattle.query_core.specs.Traces.{source_of}
-use Rattle.query_core.proofs.PartFacts.{AnsweredSo, LeafOver, OverSo, RootOver, ZoneOver}
+use Rattle.query_core.proofs.PartClaims.{AnsweredSo, LeafOver, OverSo, RootOver, ZoneOver}
 use Rattle.query_core.proofs.SentRows.{AllSent, stopped_sends, whole_sends}
 use Rattle.query_core.proofs.StoppedTraces.{leaf_over, zone_over}
 use Rattle.query_core.proofs.UnreadLeaves.{TellsOf}
@@ -27,8 +27,8 @@ module _ (store : Store) (setting : Setting) (asked : IsAskedOf store setting) (
       → IsMeant (typed_of setting) (source_of exit answer.trace) moment setting.limit answer.table
   answered answer so zoned =
       subst (λ (of : Trace). IsMeant (typed_of setting) (source_of exit of) moment setting.limit answer.table) (sym so.trace_is)
-      (table_meant store setting asked moment from exit held so.course so.through (subst (λ (of : Trace). AllZoned store.zones of.resolved) so.trace_is zoned) so.tells answer.table
-      so.mixes)
+      (table_meant store setting asked moment from exit held so.course so.through
+      (subst (λ (of : Trace). AllZoned store.zones of.resolved) so.trace_is zoned) so.tells answer.table so.mixes)
 
   abbrev IsAbove : Trace → Type 0
   IsAbove of = setting.limit < load (typed_of setting) (source_of exit of) moment
@@ -51,8 +51,8 @@ module _ (store : Store) (setting : Setting) (asked : IsAskedOf store setting) (
   root_above : (of : Trace) → RootOver store setting moment (TellsOf setting) exit of → AllZoned store.zones of.resolved → IsAbove of
   root_above of so zoned =
       subst IsAbove (sym so.trace_is)
-      (root_over store setting asked moment from exit held so.course so.through (subst (λ (of : Trace). AllZoned store.zones of.resolved) so.trace_is zoned) so.tells so.over
-      so.mixes)
+      (root_over store setting asked moment from exit held so.course so.through
+      (subst (λ (of : Trace). AllZoned store.zones of.resolved) so.trace_is zoned) so.tells so.over so.mixes)
 
   pub above : (of : Trace) → OverSo store setting moment (TellsOf setting) exit of → AllZoned store.zones of.resolved
       → setting.limit < load (typed_of setting) (source_of exit of) moment
@@ -70,7 +70,7 @@ module _ (store : Store) (setting : Setting) (asked : IsAskedOf store setting) (
   answered_sends answer so zoned =
       subst IsSent (sym so.trace_is)
       (whole_sends store setting asked moment from exit held so.course so.through
-      (subst (λ (of : Trace). AllZoned store.zones of.resolved) so.trace_is zoned) so.tells)
+      (subst (λ (of : Trace). AllZoned store.zones of.resolved) so.trace_is zoned))
 
   leaf_sends : (of : Trace) → LeafOver store setting moment exit of → AllZoned store.zones of.resolved → IsSent of
   leaf_sends of so zoned =
@@ -92,7 +92,7 @@ module _ (store : Store) (setting : Setting) (asked : IsAskedOf store setting) (
   root_sends of so zoned =
       subst IsSent (sym so.trace_is)
       (whole_sends store setting asked moment from exit held so.course so.through
-      (subst (λ (of : Trace). AllZoned store.zones of.resolved) so.trace_is zoned) so.tells)
+      (subst (λ (of : Trace). AllZoned store.zones of.resolved) so.trace_is zoned))
 
   pub over_sends : (of : Trace) → OverSo store setting moment (TellsOf setting) exit of → AllZoned store.zones of.resolved
       → IsSent of

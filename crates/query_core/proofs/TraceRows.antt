@@ -46,9 +46,9 @@ use Rattle.query_core.specs.Settings.{Setting}
 use Rattle.query_core.specs.Traces as trace
 use Rattle.query_core.specs.Traces.{is_wanted, looked_at, rows_on, slot_rows, source_of}
 use Rattle.query_core.proofs.DividedRows.{AreLeavesOf, AreOtherLeaves, AreOthers, AreResolvedIn, IsOther, SomeLeaves, all_flat, all_leaves, all_leaves_apart, divided_points, divided_rows, fit_in_all, rows_at, zones_apart}
-use Rattle.query_core.proofs.MeaningOrderLemmas.{load_in_order, meaning_in_order}
+use Rattle.mon_meaning.proofs.MeaningOrderLemmas.{load_in_order, meaning_in_order}
 use Rattle.query_core.proofs.SegmentFacts.{RangesFrom}
-use Rattle.query_core.proofs.SeriesOrderLemmas.{series_in_order}
+use Rattle.mon_meaning.proofs.SeriesOrderLemmas.{series_in_order}
 use Rattle.query_core.proofs.WantedRows.{filter_alike, filter_empty, load_of_wanted, meaning_of_wanted, wanted}
 
 -- ---- ranges in their order stand once
@@ -99,7 +99,7 @@ module _ (held : SchemaLists) (zones : List ZoneSpec) (range : Range) (slot : Sl
   entry_at_home (entry.Down pass) home = tt
   entry_at_home (entry.Up pass) home = tt
 
-  replica_at_home : (history : List Entry) → AllByRecursion (AreAtHome held zones) history
+  pub replica_at_home : (history : List Entry) → AllByRecursion (AreAtHome held zones) history
       → AllByRecursion (IsAtHome held zones range) (replica_rows range slot history)
   replica_at_home history home =
       all_flat (IsAtHome held zones range) (entry_rows range slot) history
@@ -140,6 +140,19 @@ abbrev pub IsLeftOut : TypedTree → Histories → Trace → List SomeLeaves →
 IsLeftOut typed exit of chosen one = list_any (same_leaf one.leaf) (all_leaves chosen) ≡ false
     → AllByRecursion (λ row. is_wanted typed row ≡ false) (own_rows exit of one)
 
+-- a query has its type over all rows that fit
+abbrev pub typed_for : (store : Store) (setting : Setting) → IsAskedOf store setting → (rows : List Row)
+    → AllByRecursion (λ row. fits store.held row ≡ true) rows → IsTyped (typed_of setting) rows
+typed_for store setting asked rows fit = record {
+  held = store.held;
+  query = asked.query;
+  metrics = asked.metrics;
+  spelled = asked.spelled;
+  durations = asked.durations;
+  is = asked.typed;
+  fit = fit;
+}
+
 module _ (store : Store) (setting : Setting) (asked : IsAskedOf store setting) (moment : ℤ) (from : pos 0 ≤ℤ moment)
     (exit : Histories) (held : AreHeld store.held store.zones store.points exit) (of : Trace)
     (ranges : RangesFrom 0 of.resolved)
@@ -157,17 +170,6 @@ module _ (store : Store) (setting : Setting) (asked : IsAskedOf store setting) (
   pub are_resolved : AreResolvedIn store.held store.zones (own_rows exit of) of.resolved
   are_resolved = record { once = ranges_once 0 of.resolved ranges; zoned = zoned; home = homes of.resolved }
 
-  abbrev typed_for : (rows : List Row) → AllByRecursion (λ row. fits store.held row ≡ true) rows → IsTyped (typed_of setting) rows
-  typed_for rows fit = record {
-    held = store.held;
-    query = asked.query;
-    metrics = asked.metrics;
-    spelled = asked.spelled;
-    durations = asked.durations;
-    is = asked.typed;
-    fit = fit;
-  }
-
   source_fits : AllByRecursion (λ row. fits store.held row ≡ true) (source_of exit of)
   source_fits =
       all_flat (λ row. fits store.held row ≡ true) (own_rows exit of) of.resolved
@@ -180,7 +182,7 @@ module _ (store : Store) (setting : Setting) (asked : IsAskedOf store setting) (
   pub is_divided : (chosen : List SomeLeaves) → AreLeavesOf store.zones chosen
       → IsDivided (typed_of setting) (divided_rows (own_rows exit of) of.resolved chosen)
   is_divided chosen leaves = record {
-    of = typed_for (all_rows (divided_rows (own_rows exit of) of.resolved chosen))
+    of = typed_for store setting asked (all_rows (divided_rows (own_rows exit of) of.resolved chosen))
         (fit_in_all store.held store.zones (own_rows exit of) of.resolved are_resolved chosen);
     located = asked.targets;
     leaves_apart = all_leaves_apart store.held store.zones (own_rows exit of) of.resolved are_resolved chosen leaves;
@@ -270,10 +272,10 @@ module _ (store : Store) (setting : Setting) (asked : IsAskedOf store setting) (
 
     some_typed : IsTyped (typed_of setting) some
     some_typed =
-        typed_for some (fit_in_all store.held store.zones (own_rows exit of) of.resolved are_resolved chosen)
+        typed_for store setting asked some (fit_in_all store.held store.zones (own_rows exit of) of.resolved are_resolved chosen)
 
     source_typed : IsTyped (typed_of setting) source
-    source_typed = typed_for source source_fits
+    source_typed = typed_for store setting asked source source_fits
 
     pub same_load : load (typed_of setting) some moment ≡ load (typed_of setting) source moment
     same_load =

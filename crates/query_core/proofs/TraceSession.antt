@@ -34,7 +34,7 @@ use Rattle.query_core.proofs.TraceClaims as claim
 use Rattle.query_core.proofs.TraceClaims.{Anybody, Anyhow, Nobody}
 use Rattle.query_core.proofs.TraceLooks.{look_so, looked_is, trace_so}
 use Rattle.query_core.proofs.TraceSteps.{below_more, left_so, next_so, resolving_so, visiting_so}
-use Rattle.query_core.proofs.TraceVisits.{down_so, slot_so, visits_begun}
+use Rattle.query_core.proofs.TraceVisits.{down_so, none_so, slot_so, visits_begun}
 use Rattle.query_core.proofs.TraceWords.{loading_from, root_shut, word_loaded, zone_shut}
 use Rattle.query_core.proofs.ZoneFacts.{leaves_next, zone_of_leaf_at}
 use Rattle.query_core.specs.Areas.{area_of, areas_of}
@@ -203,7 +203,8 @@ module _ (store : Store) (setting : Setting) (moment : ℤ) (at_entry : Historie
           course_is = record {
             span = is.span;
             founds = is.founds;
-            below_is = below_more (first_leaf zs k) (first_leaf zs (k + 1)) (omega (arith, leaves_next zs k zone.there)) avoided is.below_is;
+            below_is = below_more (first_leaf zs k) (first_leaf zs (k + 1)) (omega (arith, leaves_next zs k zone.there)) avoided
+                is.below_is;
             then = is.then;
             is = is.is;
             shut = is.shut;
@@ -217,11 +218,14 @@ module _ (store : Store) (setting : Setting) (moment : ℤ) (at_entry : Historie
     open_by course round loading k zone none loaded all_words false e =
         let shut : list_any (λ flag. flag) (let_in setting.plan loading.words (area_of zs k).leaves) ≡ false =
         subst (λ (area : Area). list_any (λ flag. flag) (let_in setting.plan loading.words area.leaves) ≡ false) zone.area e in
-        let next : claim.CourseSo store setting at_entry after avoided (first_leaf zs (k + 1)) (k + 1) (left course round.area loading.seen) =
-        subst (λ (area : Area). claim.CourseSo store setting at_entry after avoided (first_leaf zs (k + 1)) (k + 1) (left course area loading.seen))
+        let next : claim.CourseSo store setting at_entry after avoided (first_leaf zs (k + 1)) (k + 1)
+        (left course round.area loading.seen) =
+        subst (λ (area : Area). claim.CourseSo store setting at_entry after avoided (first_leaf zs (k + 1)) (k + 1)
+        (left course area loading.seen))
         (sym zone.area)
         (left_so store setting at_entry replicated unmet after avoided course k zone.there zone.course_is loading.seen loaded.then loaded.is
-        (λ leaf from to. zone_shut store setting listed loaded.then loaded.is.sound k zone.there leaf from to loading.words loaded.known all_words
+        (λ leaf from to. zone_shut store setting listed loaded.then loaded.is.sound k zone.there leaf from to loading.words
+        loaded.known all_words
         (no_flag (let_in setting.plan loading.words (area_of zs k).leaves) shut (leaf.0 - first_leaf zs k)))) in
         behind_next after avoided (left course round.area loading.seen)
         (record { k = k + 1; begun = zone.begun; within = omega (arith, zone.there); course_is = next })
@@ -236,7 +240,8 @@ module _ (store : Store) (setting : Setting) (moment : ℤ) (at_entry : Historie
       k = k;
       zone = zone;
       none = none;
-      loaded = loading_from store setting at_entry after (claim.zone_known zs k) (area_of zs k).leaves Anyhow loading.words loading.seen loaded;
+      loaded = loading_from store setting at_entry after (claim.zone_known zs k) (area_of zs k).leaves Anyhow loading.words
+          loading.seen loaded;
     }
     zone_by course round loading k zone none loaded true e =
         open_by course round loading k zone none loaded (enough (length setting.plan.buckets) (length loading.words) e)
@@ -265,7 +270,7 @@ module _ (store : Store) (setting : Setting) (moment : ℤ) (at_entry : Historie
     again_by course round loading k zone is all loaded true e =
         let begun : claim.VisitsSo store setting at_entry after avoided k (own (area_of zs k) round)
         (begin_visits setting (own (area_of zs k) round) loading) (begin_visits setting (own (area_of zs k) round) loading).left =
-        visits_begun store setting moment at_entry replicated listed unmet after avoided k zone.there round.resolved loading is all loaded
+        visits_begun store setting at_entry replicated listed unmet after avoided k zone.there round.resolved loading is all loaded
         (enough (length setting.plan.buckets) (length loading.words) e) in
         visiting_so store setting at_entry replicated unmet after avoided course round (begin_visits setting round loading) k zone
         (subst (λ (area : Area). claim.VisitsSo store setting at_entry after avoided k (own area round)
@@ -302,7 +307,8 @@ module _ (store : Store) (setting : Setting) (moment : ℤ) (at_entry : Historie
         (claim.zone_on store setting at_entry before after grown avoided (first_leaf zs is.k) is.k course round is.zone) is.none
         (word_loaded store setting at_entry before after grown since sound_before (claim.zone_known zs is.k) (zone_stays is.k)
         (area_of zs is.k).leaves Anyhow loading.words loading.seen word seen is.loaded true_then.seen_so
-        (zone_tells is.k is.zone.there round.area is.zone.area (get_or setting.plan.buckets (length loading.words) 0) word seen true_then) (record {}))
+        (zone_tells is.k is.zone.there round.area is.zone.area (get_or setting.plan.buckets (length loading.words) 0) word seen
+        true_then) (record {}))
         (is_whole setting.plan (with_word loading word seen)) refl
     word_so slots (at.Resolving course round range) word seen is true_then = absurd true_then
     word_so slots (at.Reloading course round loading) word seen is true_then =
@@ -405,21 +411,23 @@ module _ (store : Store) (setting : Setting) (moment : ℤ) (at_entry : Historie
         → StepSo after (avoided_after avoided stage answer) (spec.after setting stage answer)
     answer_so slots stage (told.Word word seen) is true_then = word_so slots stage word seen is true_then
     answer_so slots (at.Resolving course round range) (told.Slot slot leaf) is true_then =
-        slot_so store setting moment at_entry replicated listed unmet before after grown since sound avoided course round range slot leaf
+        slot_so store setting at_entry replicated listed unmet before after grown since sound avoided course round range slot leaf
         (claim.stage_on store setting at_entry before after grown avoided (at.Resolving course round range) is) true_then
     answer_so slots (at.Rooting loading) (told.Slot slot leaf) is true_then = absurd true_then
     answer_so slots (at.Entering course round loading) (told.Slot slot leaf) is true_then = absurd true_then
     answer_so slots (at.Reloading course round loading) (told.Slot slot leaf) is true_then = absurd true_then
     answer_so slots (at.Visiting course round visits other) (told.Slot slot leaf) is true_then = absurd true_then
     answer_so slots (at.Ended end) (told.Slot slot leaf) is true_then = absurd true_then
-    answer_so slots (at.Resolving course round range) told.NoSlot is true_then = record {}
+    answer_so slots (at.Resolving course round range) told.NoSlot is true_then =
+        none_so store setting at_entry replicated listed unmet before after grown since sound avoided course round range
+        (claim.stage_on store setting at_entry before after grown avoided (at.Resolving course round range) is) true_then
     answer_so slots (at.Rooting loading) told.NoSlot is true_then = absurd true_then
     answer_so slots (at.Entering course round loading) told.NoSlot is true_then = absurd true_then
     answer_so slots (at.Reloading course round loading) told.NoSlot is true_then = absurd true_then
     answer_so slots (at.Visiting course round visits leaf) told.NoSlot is true_then = absurd true_then
     answer_so slots (at.Ended end) told.NoSlot is true_then = absurd true_then
     answer_so slots (at.Visiting course round visits leaf) (told.Down cut) is true_then =
-        down_so store setting moment at_entry replicated listed unmet before after grown since sound avoided course round visits leaf cut
+        down_so store setting at_entry replicated listed unmet before after grown since sound avoided course round visits leaf cut
         (claim.stage_on store setting at_entry before after grown avoided (at.Visiting course round visits leaf) is) true_then
     answer_so slots (at.Rooting loading) (told.Down cut) is true_then = absurd true_then
     answer_so slots (at.Entering course round loading) (told.Down cut) is true_then = absurd true_then

@@ -186,7 +186,8 @@ module _ (store : Store) (setting : Setting) (at_entry : Histories)
         record {
           k = k;
           zone = zone;
-          visits_are = subst (λ (rest : List Leaf). claim.VisitsSo store setting at_entry now avoided k round (gone_on visits) (leaf ∷ rest))
+          visits_are = subst (λ (rest : List Leaf).
+              claim.VisitsSo store setting at_entry now avoided k round (gone_on visits) (leaf ∷ rest))
               same (record { first = is.first; span = is.span; ours = is.ours });
         }
 

@@ -1,5 +1,5 @@
 -- What a query knows as ranges resolve and leaves are visited.
-use Rattle.std.proofs.Common.{◌≡◌, ◌∙◌, ℕ, ℤ, zero, suc, ◌+◌, ◌-◌, ◌<◌, ◌≤◌, Bool, true, false, not, cond, List, [], ◌∷◌, ◌++◌, length, map, filter, take, drop, get_or, slice_get, Some, Contains, ◌⊎◌, inl, inr, refl, sym, ap, subst, length-append, arith}
+use Rattle.std.proofs.Common.{◌≡◌, ◌∙◌, ℕ, zero, suc, ◌+◌, ◌-◌, ◌<◌, ◌≤◌, Bool, true, false, not, cond, List, [], ◌∷◌, ◌++◌, length, map, filter, take, drop, get_or, slice_get, Some, None, Contains, ◌⊎◌, inl, inr, refl, sym, ap, subst, length-append, arith}
 use Rattle.std.specs.List.{AllByRecursion as All, range_with_len}
 use Rattle.std.proofs.lemmas.Bool.{and_cases}
 use Rattle.std.proofs.lemmas.List.{map-append, take-append-drop, take-take}
@@ -17,7 +17,7 @@ use Rattle.mon_topo.specs.RangeHistories.{acked, serving}
 use Rattle.mon_topo.specs.Replicas.{HasReplicas}
 use Rattle.mon_topo.specs.SeenHistories.{AreWithin}
 use Rattle.mon_topo.specs.Settings.{Setting as Store}
-use Rattle.mon_topo.specs.Zones.{first_leaf, first_range, range_numbered, ranges_in}
+use Rattle.mon_topo.specs.Zones.{first_leaf, first_range, range_numbered, range_zones, ranges_in}
 use Rattle.mon_topo.specs.declared.zones.ZoneSpec.{ZoneSpec}
 use Rattle.mon_value.specs.LeafHistories.{leaf_rows}
 use Rattle.mon_value.specs.declared.histories.Entry.{Entry}
@@ -26,16 +26,18 @@ use Rattle.mon_value.specs.declared.positions.Range.{Range}
 use Rattle.mon_value.specs.declared.positions.RangeSlot.{RangeSlot}
 use Rattle.mon_value.specs.declared.positions.Slot.{Slot}
 use Rattle.mon_value.specs.declared.positions.SlotLeaf.{SlotLeaf}
-use Rattle.query_core.proofs.FindingLemmas.{one_found}
-use Rattle.query_core.proofs.SeenSpans.{resolves_so, seen_cut, tells_unmet}
+use Rattle.query_core.proofs.FindingLemmas.{no_replica, one_found}
+use Rattle.query_core.proofs.RoundLemmas.{has_at}
+use Rattle.query_core.proofs.SeenSpans.{near_at, resolves_so, seen_cut, tells_unmet}
 use Rattle.query_core.proofs.Spans.{ResolvedSo, StandsAt, StandsIn, Tells, look_at, more_avoided, outside, range_of, up_to}
 use Rattle.query_core.proofs.TraceClaims as claim
 use Rattle.query_core.proofs.TraceClaims.{Anybody, Below}
 use Rattle.query_core.proofs.TraceSteps.{resolving_so}
 use Rattle.query_core.proofs.TraceWords.{zone_seen, zone_shut}
-use Rattle.query_core.proofs.ZoneFacts.{leaves_next, ranges_next}
-use Rattle.query_core.specs.Areas.{area_of, leaf_at}
-use Rattle.query_core.specs.Courses.{cuts_seen, firsts_seen, with_found}
+use Rattle.query_core.proofs.ZoneFacts.{leaves_next, ranges_next, zone_of_range_at}
+use Rattle.query_core.specs.Areas.{area_of, has_leaf, leaf_at}
+use Rattle.query_core.specs.Courses.{cuts_seen, firsts_seen, founds_in, with_found}
+use Rattle.query_core.specs.Findings.{HasNoReplica}
 use Rattle.query_core.specs.Looks.{unread}
 use Rattle.query_core.specs.Openings.{flag_at, let_in}
 use Rattle.query_core.specs.Program.{resolving}
@@ -124,7 +126,7 @@ module _ (at_entry now : Histories) (avoided more : List Leaf) (low high : ℕ)
         to = is.to;
       }
 
-module _ (store : Store) (setting : Setting) (moment : ℤ) (at_entry : Histories)
+module _ (store : Store) (setting : Setting) (at_entry : Histories)
     (replicated : (r : ℕ) → r < length (ranges_in store.zones) → HasReplicas store.zones (range_numbered r))
     (listed : AreAmong (all_named (formulas (map formula_tree setting.plan.formulas))) setting.plan.buckets)
     (unmet : (history : List Entry) → All (λ row. fits store.held row ≡ true) (leaf_rows history)
@@ -163,7 +165,8 @@ module _ (store : Store) (setting : Setting) (moment : ℤ) (at_entry : Historie
         } in
         let so = resolves_so store.held zs store.points replicated at_entry after.seen sound.held entry_within k zone.there avoided
         one (omega (arith, number), omega (arith, number, is.more)) first in
-        let count : length round.resolved + 1 ≡ length (round.resolved ++ one ∷ []) = omega (arith, length-append round.resolved (one ∷ [])) in
+        let count : length round.resolved + 1 ≡ length (round.resolved ++ one ∷ []) =
+        omega (arith, length-append round.resolved (one ∷ [])) in
         resolving_so store setting at_entry replicated unmet after avoided course (with_slot round range slot leaf) k
         (record { course_is = zone.course_is; begun = zone.begun; there = zone.there; area = zone.area })
         (record {
@@ -180,6 +183,25 @@ module _ (store : Store) (setting : Setting) (moment : ℤ) (at_entry : Historie
               (λ (one : Resolved). StandsIn (acked (range_history at_entry one.range)) (leaf_history after.seen one.leaf) one)
               round.resolved (one ∷ []) is.round_is.opened (so.stands, record {});
         })
+
+    pub none_so : (course : Course) (round : Round) (range : Range)
+        → claim.ResolvingSo store setting at_entry after avoided course round range
+        → IsResolvedSo before after avoided range None
+        → HasNoReplica zs at_entry after.seen range (founds_in course round.area)
+    none_so course round range is found =
+        let k = is.k in
+        let zone = is.zone in
+        let number : range.0 ≡ first_range zs k + length round.resolved = ap (λ (r : Range). r.0) is.next in
+        let zoned = ap (slice_get (range_zones zs)) number ∙ zone_of_range_at zs k (length round.resolved) zone.there is.more in
+        subst (λ (area : Area). HasNoReplica zs at_entry after.seen range (founds_in course area)) (sym zone.area)
+        (no_replica at_entry before after since zs k avoided course.founds range zoned zone.course_is.founds found
+        (all_on (λ (replica : SlotLeaf). (first_leaf zs k ≤ replica.leaf.0) × (replica.leaf.0 < first_leaf zs (k + 1)))
+        (λ (replica : SlotLeaf). has_leaf (area_of zs k) replica.leaf ≡ true)
+        (λ replica near. has_at (area_of zs k) replica.leaf (replica.leaf.0 - first_leaf zs k)
+        (omega (arith, near.0, near.1, leaves_next zs k zone.there)) (omega (arith, near.0)))
+        (serving (take found.found (range_history after.seen range)))
+        (near_at store.held zs store.points replicated at_entry after.seen sound.held entry_within k zone.there range
+        (omega (arith, number), omega (arith, number, is.more)) found.found)))
 
     pub down_so : (course : Course) (round : Round) (visits : Visits) (leaf : Leaf) (cut : ℕ)
         → claim.VisitingSo store setting at_entry after avoided course round visits (leaf ∷ visits.left)
@@ -207,7 +229,7 @@ module _ (store : Store) (setting : Setting) (moment : ℤ) (at_entry : Historie
               stand = span.stand;
               tells = span.tells;
             };
-            founds = one_found store setting moment at_entry before after since avoided course leaf cut was.founds found;
+            founds = one_found at_entry before after since avoided course leaf cut was.founds found;
             below_is = all_append (λ (one : Leaf). one.0 < first_leaf zs (k + 1)) avoided (leaf ∷ []) was.below_is (ours.1, record {});
             then = was.then;
             is = was.is;
@@ -308,7 +330,8 @@ module _ (store : Store) (setting : Setting) (moment : ℤ) (at_entry : Historie
           → Contains pending leaf ⊎ Told (slots_on leaf resolved) (look_at (first_leaf zs k) (map unread cuts) leaf)
       told_by true e =
           let number : Contains (range_with_len 0 area.leaves) j =
-          subst (Contains (range_with_len 0 area.leaves)) (let same : 0 + j ≡ j = omega arith in same) (in_numbers 0 area.leaves j within) in
+          subst (Contains (range_with_len 0 area.leaves)) (let same : 0 + j ≡ j = omega arith in same)
+          (in_numbers 0 area.leaves j within) in
           inl (subst (Contains pending) leaf_is
           (in_map (leaf_at area) (filter (is_to_visit own flags) (range_with_len 0 area.leaves)) j
           (in_filter (is_to_visit own flags) (range_with_len 0 area.leaves) j number e)))

@@ -126,7 +126,13 @@ module _ (store : Store) (setting : Setting)
         → (then.bits.root z bucket ≡ true) × (then.bits.zone leaf.0 bucket ≡ true)
     covered bucket here =
         let within : leaf.0 < length then.seen.leaves =
-        omega (arith, to, leaves_next store.zones z there, so_far (λ (zone : ZoneSpec). zone.leaves) store.zones z no_zone there, sound.held.all_leaves) in
+        omega (
+          arith,
+          to,
+          leaves_next store.zones z there,
+          so_far (λ (zone : ZoneSpec). zone.leaves) store.zones z no_zone there,
+          sound.held.all_leaves,
+        ) in
         let is = sound.covered leaf within bucket here in
         (subst (λ (n : ℕ). then.bits.root n bucket ≡ true) zone_is is.at_root, is.in_zone)
 
@@ -150,7 +156,8 @@ module _ (store : Store) (setting : Setting)
         (area_of store.zones z).leaves setting.plan.buckets words
         (history_buckets store.buckets_of (leaf_history then.seen leaf)) place listed known in_zone long
         (λ bucket here. subst (λ (n : ℕ). then.bits.zone n bucket ≡ true) same (covered bucket here).1)
-        (sym (get_or-map-range_with_len (lets_in setting.plan words) 0 (area_of store.zones z).leaves place place false in_zone (omega arith)) ∙ out)
+        (sym (get_or-map-range_with_len (lets_in setting.plan words) 0 (area_of store.zones z).leaves place place false in_zone
+        (omega arith)) ∙ out)
 
 -- ---- zones that stand as they had been seen
 
@@ -174,7 +181,8 @@ module _ (store : Store) (setting : Setting) (at_entry : Histories)
 
   split : {X : Type 0} (n m next : ℕ) (xs : List X) → n + m ≡ next → drop n xs ≡ take m (drop n xs) ++ drop next xs
   split n m next xs e =
-      sym (take-append-drop m (drop n xs)) ∙ ap (λ rest. take m (drop n xs) ++ rest) (drop-drop m n xs ∙ ap (λ i. drop i xs) (omega (arith, e)))
+      sym (take-append-drop m (drop n xs))
+      ∙ ap (λ rest. take m (drop n xs) ++ rest) (drop-drop m n xs ∙ ap (λ i. drop i xs) (omega (arith, e)))
 
   abbrev rest_resolved : ℕ → List Resolved
   rest_resolved k = drop (first_range store.zones k) seen.firsts

@@ -5,7 +5,7 @@ use Rattle.std.proofs.lemmas.List.{length-append, map-append}
 use Rattle.std.proofs.lemmas.List.Concat.{flat_map-append}
 use Rattle.mixer.proofs.RefusedParts.{zone_asked}
 use Rattle.mixer.specs.Divisions.{IsDivided, all_rows}
-use Rattle.mixer.specs.ZoneAnswers.{AllLeafParts, AllZoneParts, AreZoneParts}
+use Rattle.mixer.specs.ZoneAnswers.{AllLeafParts, AllZoneParts, AreZoneParts, HasZoneParts}
 use Rattle.mixer.specs.declared.zone_answers.ZoneAnswer.{ZoneAnswer}
 use Rattle.mon_fold.specs.declared.answers.LeafAnswer.{LeafAnswer}
 use Rattle.mon_meaning.specs.Central.{IsMeant, IsOver}
@@ -32,7 +32,7 @@ use Rattle.query_core.specs.Settings.{Setting}
 use Rattle.query_core.specs.Traces.{source_of}
 use Rattle.query_core.proofs.ChosenLeaves.{ChosenAscend, chosen_append, chosen_leaves, chosen_once}
 use Rattle.query_core.proofs.DividedRows.{SomeLeaves, all_leaves, divided_rows, rows_at, zone_rows}
-use Rattle.query_core.proofs.PartFacts.{CourseThrough}
+use Rattle.query_core.proofs.PartClaims.{CourseThrough}
 use Rattle.query_core.proofs.ReadLeaves.{LeafRead, cuts_of, flags_of, leaves_read, no_reads, read_among, reads_append, reads_from}
 use Rattle.query_core.proofs.SegmentFacts.{AreFrom, MixesSo, Mixed, Passed, PartsSo, RangesFrom, Segment, SegmentSo, answers_in, area_in, looks_in, resolved_in}
 use Rattle.query_core.proofs.TraceRows.{IsLeftOut, is_divided, meant, over_load, own_rows}
@@ -43,7 +43,7 @@ use Rattle.query_core.proofs.ZoneRows.{AllZoned, Stands, leaves_below, reads_up,
 
 module _ (store : Store) (setting : Setting) (asked : IsAskedOf store setting) (moment : ℤ) (from : pos 0 ≤ℤ moment)
     (exit : Histories) (held : AreHeld store.held store.zones store.points exit) where
-  abbrev chosen_in : Segment → List SomeLeaves
+  abbrev pub chosen_in : Segment → List SomeLeaves
   chosen_in (Passed area resolved looks) = []
   chosen_in (Mixed area resolved looks parts answer) =
       (area.zone.0, leaves_read (reads_from area.first_leaf.0 looks)) ∷ []
@@ -77,18 +77,18 @@ module _ (store : Store) (setting : Setting) (asked : IsAskedOf store setting) (
           append-nil (leaves_read (reads_from area.first_leaf.0 looks)) ∙ ap (λ n. leaves_read (reads_from n looks)) first
 
   module _ (of : Trace) (ranges : RangesFrom 0 of.resolved) (zoned : AllZoned store.zones of.resolved) where
-    abbrev rows_of_zones : List SomeLeaves → List (List (List Row))
+    abbrev pub rows_of_zones : List SomeLeaves → List (List (List Row))
     rows_of_zones chosen = divided_rows (own_rows exit of) of.resolved chosen
 
-    divided_so : (a : ℕ) (chosen : List SomeLeaves) (b : ℕ) → ChosenAscend store.zones a chosen b
+    pub divided_so : (a : ℕ) (chosen : List SomeLeaves) (b : ℕ) → ChosenAscend store.zones a chosen b
         → IsDivided (typed_of setting) (rows_of_zones chosen)
     divided_so a chosen b ascends =
         is_divided store setting asked moment from exit held of ranges zoned chosen
         (chosen_leaves store.zones a chosen b ascends)
 
-    record PartsIn (k : ℕ) (chosen : List SomeLeaves) (to : ℕ) (answers : List ZoneAnswer) : Type 0 where
-      ascend : ChosenAscend store.zones k chosen to
-      each : AllZoneParts (typed_of setting) (rows_of_zones chosen) moment setting.limit answers
+    pub record PartsIn (k : ℕ) (chosen : List SomeLeaves) (to : ℕ) (answers : List ZoneAnswer) : Type 0 where
+      pub ascend : ChosenAscend store.zones k chosen to
+      pub each : AllZoneParts (typed_of setting) (rows_of_zones chosen) moment setting.limit answers
 
     zone_part : (k : ℕ) (resolved : List Resolved) (looks : List Look) (parts : List LeafAnswer) (answer : ZoneAnswer)
         → Stands store.zones k resolved looks of
@@ -206,7 +206,7 @@ module _ (store : Store) (setting : Setting) (asked : IsAskedOf store setting) (
           );
         }
 
-    all_parts : (k : ℕ) (segments : List Segment) → AreFrom store.zones k segments
+    pub all_parts : (k : ℕ) (segments : List Segment) → AreFrom store.zones k segments
         → AllByRecursion (SegmentSo setting moment exit) segments → k + length segments ≤ length store.zones
         → AllStand k segments
         → PartsIn k (flat_map chosen_in segments) (k + length segments) (flat_map answers_in segments)
@@ -225,7 +225,7 @@ module _ (store : Store) (setting : Setting) (asked : IsAskedOf store setting) (
   -- ---- a table, and a whole load that is above the limit
 
   module _ (course : Course) (through : CourseThrough store setting moment exit course)
-      (zoned : AllZoned store.zones (trace_of course).resolved) (tells : TellsOf setting exit course) where
+      (zoned : AllZoned store.zones (trace_of course).resolved) where
     abbrev count : ℕ
     count = length through.segments
 
@@ -268,6 +268,13 @@ module _ (store : Store) (setting : Setting) (asked : IsAskedOf store setting) (
           parts_all.each;
     }
 
+    pub zones_mix : HasZoneParts (typed_of setting) setting.limit course.answers
+    zones_mix = record {
+      zones = rows_of_zones (trace_of course) ranges_all zoned chosen;
+      moment = moment;
+      are = zones_asked;
+    }
+
     chosen_are : all_leaves chosen ≡ leaves_read (reads_from 0 course.looks)
     chosen_are =
         chosen_reads 0 through.segments through.behind.areas through.behind.each (omega (arith, through.all))
@@ -285,30 +292,31 @@ module _ (store : Store) (setting : Setting) (asked : IsAskedOf store setting) (
         absurd cc
     not_read leaf lacks false flag = refl
 
-    left : AllByRecursion (IsLeftOut (typed_of setting) exit (trace_of course) chosen) (trace_of course).resolved
-    left =
-        left_out_by store setting moment exit count course so zoned tells chosen
-        (λ leaf lacks there. (
-          leaves_below store.zones count leaf through.all there,
-          not_read leaf lacks (get_or (flags_of course.looks) leaf.0 false) refl,
-        ))
+    module _ (tells : TellsOf setting exit course) where
+      left : AllByRecursion (IsLeftOut (typed_of setting) exit (trace_of course) chosen) (trace_of course).resolved
+      left =
+          left_out_by store setting moment exit count course so zoned tells chosen
+          (λ leaf lacks there. (
+            leaves_below store.zones count leaf through.all there,
+            not_read leaf lacks (get_or (flags_of course.looks) leaf.0 false) refl,
+          ))
 
-    pub table_meant : (table : Table)
-        → ((zones : List (List (List Row))) → AreZoneParts (typed_of setting) zones moment setting.limit course.answers
-        → IsMeant (typed_of setting) (all_rows zones) moment setting.limit table)
-        → IsMeant (typed_of setting) (source_of exit (trace_of course)) moment setting.limit table
-    table_meant table mixes =
-        meant store setting asked moment from exit held (trace_of course) ranges_all zoned chosen
-        (chosen_leaves store.zones 0 chosen (0 + count) parts_all.ascend)
-        (chosen_once store.zones 0 chosen (0 + count) parts_all.ascend) left setting.limit table
-        (mixes (rows_of_zones (trace_of course) ranges_all zoned chosen) zones_asked)
+      pub table_meant : (table : Table)
+          → ((zones : List (List (List Row))) → AreZoneParts (typed_of setting) zones moment setting.limit course.answers
+          → IsMeant (typed_of setting) (all_rows zones) moment setting.limit table)
+          → IsMeant (typed_of setting) (source_of exit (trace_of course)) moment setting.limit table
+      table_meant table mixes =
+          meant store setting asked moment from exit held (trace_of course) ranges_all zoned chosen
+          (chosen_leaves store.zones 0 chosen (0 + count) parts_all.ascend)
+          (chosen_once store.zones 0 chosen (0 + count) parts_all.ascend) left setting.limit table
+          (mixes (rows_of_zones (trace_of course) ranges_all zoned chosen) zones_asked)
 
-    pub root_over : (over : OverLimit)
-        → ((zones : List (List (List Row))) → AreZoneParts (typed_of setting) zones moment setting.limit course.answers
-        → IsOver (typed_of setting) (all_rows zones) moment setting.limit over)
-        → setting.limit < load (typed_of setting) (source_of exit (trace_of course)) moment
-    root_over over mixes =
-        over_load store setting asked moment from exit held (trace_of course) ranges_all zoned chosen
-        (chosen_leaves store.zones 0 chosen (0 + count) parts_all.ascend)
-        (chosen_once store.zones 0 chosen (0 + count) parts_all.ascend) left setting.limit over
-        (mixes (rows_of_zones (trace_of course) ranges_all zoned chosen) zones_asked)
+      pub root_over : (over : OverLimit)
+          → ((zones : List (List (List Row))) → AreZoneParts (typed_of setting) zones moment setting.limit course.answers
+          → IsOver (typed_of setting) (all_rows zones) moment setting.limit over)
+          → setting.limit < load (typed_of setting) (source_of exit (trace_of course)) moment
+      root_over over mixes =
+          over_load store setting asked moment from exit held (trace_of course) ranges_all zoned chosen
+          (chosen_leaves store.zones 0 chosen (0 + count) parts_all.ascend)
+          (chosen_once store.zones 0 chosen (0 + count) parts_all.ascend) left setting.limit over
+          (mixes (rows_of_zones (trace_of course) ranges_all zoned chosen) zones_asked)

@@ -19,7 +19,12 @@ pub so_far : {X Y : Type 0} (parts : X → List Y) (xs : List X) (i : ℕ) (d : 
 so_far parts [] i d there = absurd (omega arith)
 so_far parts (x ∷ xs) zero d there = omega (arith, length-append (parts x) (flat_map parts xs))
 so_far parts (x ∷ xs) (suc i) d there =
-    omega (arith, so_far parts xs i d (omega arith), length-append (parts x) (flat_map parts xs), length-append (parts x) (flat_map parts (take i xs)))
+    omega (
+      arith,
+      so_far parts xs i d (omega arith),
+      length-append (parts x) (flat_map parts xs),
+      length-append (parts x) (flat_map parts (take i xs)),
+    )
 
 parts_next : {X Y : Type 0} (parts : X → List Y) (xs : List X) (i : ℕ) (d : X) → i < length xs
     → length (flat_map parts (take (suc i) xs)) ≡ length (flat_map parts (take i xs)) + length (parts (get_or xs i d))
@@ -55,12 +60,18 @@ module _ (zones : List ZoneSpec) where
       ∙ ap (λ (one : Area). one ∷ drop (k + 1) (areas_of zones))
       (get_or-map-range_with_len (area_of zones) 0 (length zones) k k (area_of zones k) there (omega arith))
 
-  -- ---- leaves of a zone
+  -- ---- leaves and ranges of a zone
 
   pub zone_of_leaf_at : (k j : ℕ) → k < length zones → j < (area_of zones k).leaves
       → slice_get (leaf_zones zones) (first_leaf zones k + j) ≡ Some (zone_numbered k)
   zone_of_leaf_at k j there within =
       zone_of_part (λ (zone : ZoneSpec). zone.leaves) 0 zones k j there within
+      ∙ ap (λ n. Some (zone_numbered n)) (omega arith)
+
+  pub zone_of_range_at : (k j : ℕ) → k < length zones → j < (area_of zones k).ranges
+      → slice_get (range_zones zones) (first_range zones k + j) ≡ Some (zone_numbered k)
+  zone_of_range_at k j there within =
+      zone_of_part (λ (zone : ZoneSpec). zone.ranges) 0 zones k j there within
       ∙ ap (λ n. Some (zone_numbered n)) (omega arith)
 
   some_zone : (a b : ℕ) → Some (zone_numbered a) ≡ Some (zone_numbered b) → a ≡ b

@@ -1,12 +1,14 @@
 -- Leaves that a query found down, and ranges of which it found no replica.
-use Rattle.std.specs.Prelude.{◌≡◌, ℕ, true, List, length, take}
+use Rattle.std.specs.Prelude.{◌≡◌, ℕ, true, List, length, slice_get, take, Some}
 use Rattle.std.specs.List.{AllByRecursion}
 use Rattle.mon_topo.specs.HeldHistories.{Histories, leaf_history, range_history}
 use Rattle.mon_topo.specs.RangeHistories.{serving}
+use Rattle.mon_topo.specs.Zones.{range_zones, zone_numbered}
+use Rattle.mon_topo.specs.declared.zones.ZoneSpec.{ZoneSpec}
 use Rattle.mon_value.specs.LeafHistories.{IsDownAt}
 use Rattle.mon_value.specs.declared.positions.FoundDown.{FoundDown}
 use Rattle.mon_value.specs.declared.positions.Range.{Range}
-use Rattle.query_core.specs.declared.areas.Area.{Area}
+use Rattle.query_core.specs.Areas.{area_of}
 use Rattle.query_core.specs.Courses.{founds_of_zone}
 use Rattle.query_core.specs.Traces.{IsBetween, found_leaves, is_avoided}
 
@@ -18,14 +20,16 @@ pub record IsFoundThen (at_entry at_exit : Histories) (found : FoundDown) : Type
 abbrev pub AreFoundThen : Histories → Histories → List FoundDown → Type 0
 AreFoundThen at_entry at_exit = AllByRecursion (IsFoundThen at_entry at_exit)
 
--- at a length of a range's history that was found between two moments, each replica that serves is on a leaf that was
--- found down between them; those of one zone are named
-pub record HasNoReplica (at_entry at_exit : Histories) (range : Range) (named : List FoundDown) : Type 0 where
-  pub area : Area
+-- at a length of a range's history that was found between two moments, each replica that serves is on a leaf that is
+-- named: those of the range's zone are, of all leaves that were found down between them
+pub record HasNoReplica (zones : List ZoneSpec) (at_entry at_exit : Histories) (range : Range) (named : List FoundDown)
+    : Type 0 where
+  pub zone : ℕ
+  pub zoned : slice_get (range_zones zones) range.0 ≡ Some (zone_numbered zone)
   pub founds : List FoundDown
   pub were_found : AreFoundThen at_entry at_exit founds
-  pub named_are : named ≡ founds_of_zone founds area
+  pub named_are : named ≡ founds_of_zone founds (area_of zones zone)
   pub found : ℕ
   pub between : IsBetween (length (range_history at_entry range)) (length (range_history at_exit range)) found
-  pub all_down : AllByRecursion (λ replica. is_avoided (found_leaves founds) replica ≡ true)
+  pub all_down : AllByRecursion (λ replica. is_avoided (found_leaves named) replica ≡ true)
       (serving (take found (range_history at_exit range)))

@@ -1,5 +1,6 @@
 pub mod Answers
 pub mod Areas
+pub mod AskedPlaces
 pub mod Askings
 pub mod Courses
 pub mod Findings
@@ -9,6 +10,7 @@ pub mod Machine
 pub mod Mixtures
 pub mod Openings
 pub mod Program
+pub mod ReadableSlots
 pub mod Rounds
 pub mod Sessions
 pub mod Settings

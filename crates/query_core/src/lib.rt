@@ -19,5 +19,6 @@ mod visits;
 
 pub use answers::{Answer, Cuts, Flags, Resolved, Resolveds, RoundFault, Trace};
 pub use asks::{Ask, Seen, Told};
-pub use laws::{sessions_answer_rightly, sessions_name_what_they_found};
+pub use laws::{sessions_answer_rightly, sessions_may_go_on};
 pub use machine::QueryMachine;
+pub use openings::is_let_in;

@@ -1,7 +1,8 @@
--- Sights: joined place by place, how far two have seen together, and one history farther.
-use Rattle.std.proofs.Common.{◌≡◌, ℕ, zero, suc, ◌+◌, ◌<◌, ◌≤◌, Bool, true, false, cond, nat_lt, List, [], ◌∷◌, ◌++◌, length, map, get_or, set, take, refl, sym, ap, ◌∙◌, add-one, arith, length-append}
-use Rattle.std.proofs.lemmas.Bool.{cond_above, cond_below}
-use Rattle.std.proofs.lemmas.List.{length-set, map-set, set-get_or}
+-- Sights: how far two have seen together, and one history farther.
+use Rattle.std.proofs.Common.{◌≡◌, ℕ, ◌+◌, ◌<◌, Bool, true, false, cond, nat_lt, List, [], ◌∷◌, ◌++◌, length, map, set, refl, sym, ap, ◌∙◌, arith, length-append}
+use Rattle.std.proofs.lemmas.List.{length-set, map-set}
+use Rattle.mon_topo.specs.Farther.{farther, farther_each}
+use Rattle.mon_topo.proofs.FartherLemmas.{farther_each-length}
 use Rattle.mon_topo.specs.HeldHistories.{Histories, leaf_history, range_history}
 use Rattle.mon_topo.specs.SeenHistories.{joined_histories, longer, longer_each, with_leaf_entry, with_range_entry}
 use Rattle.mon_value.specs.declared.histories.Entry.{Entry}
@@ -10,55 +11,7 @@ use Rattle.mon_value.specs.declared.positions.Leaf.{Leaf}
 use Rattle.mon_value.specs.declared.positions.Range.{Range}
 use Rattle.weave_core.specs.declared.sights.RangeSight.{RangeSight}
 use Rattle.weave_core.specs.declared.sights.Sight.{Sight}
-use Rattle.weave_core.specs.Sights.{AreAlike, farther, farther_each, joined_sight, range_sight, sight_of, with_leaf_sight, with_range_sight}
-
--- ---- place by place
-
-module _ {X : Type 0} (far : X → ℕ) where
-  pub farther_each-nil : (xs : List X) → farther_each far xs [] ≡ xs
-  farther_each-nil [] = refl
-  farther_each-nil (x ∷ xs) = refl
-
-  -- one place more is joined
-  each_more : (xs ys : List X) (i : ℕ) (d : X) → i < length ys → length xs ≡ length ys
-      → farther_each far xs (take (i + 1) ys)
-      ≡ set (farther_each far xs (take i ys)) i
-      (farther far (get_or (farther_each far xs (take i ys)) i d) (get_or ys i d))
-  each_more [] ys i d h e = absurd (omega arith)
-  each_more (x ∷ xs) [] i d h e = absurd (omega arith)
-  each_more (x ∷ xs) (y ∷ ys) zero d h e = ap (λ rest. farther far x y ∷ rest) (farther_each-nil xs)
-  each_more (x ∷ xs) (y ∷ ys) (suc i) d h e =
-      let rest = each_more xs ys i d (omega arith) (omega arith) in
-      rw add-one (ap (λ rest. farther far x y ∷ rest) (rw add-one at rest))
-
-  module _ (xs ys made next : List X) (i : ℕ) (d : X) (here : i < length ys) (alike : length xs ≡ length ys)
-      (so_far : made ≡ farther_each far xs (take i ys)) where
-    placed : next ≡ set made i (farther far (get_or made i d) (get_or ys i d))
-        → next ≡ farther_each far xs (take (i + 1) ys)
-    placed is =
-        is ∙ ap (λ zs. set zs i (farther far (get_or zs i d) (get_or ys i d))) so_far
-        ∙ sym (each_more xs ys i d here alike)
-
-    -- the other one is farther, and is taken
-    pub place_taken : far (get_or made i d) < far (get_or ys i d) → next ≡ set made i (get_or ys i d)
-        → next ≡ farther_each far xs (take (i + 1) ys)
-    place_taken less is =
-        placed (is ∙ ap (set made i)
-        (cond_below (far (get_or made i d)) (far (get_or ys i d)) (get_or ys i d) (get_or made i d) less))
-
-    -- the other one is not farther
-    pub place_kept : far (get_or ys i d) ≤ far (get_or made i d) → next ≡ made
-        → next ≡ farther_each far xs (take (i + 1) ys)
-    place_kept most is =
-        let kept : get_or made i d ≡ farther far (get_or made i d) (get_or ys i d)
-        = cond_above (far (get_or made i d)) (far (get_or ys i d)) (get_or ys i d) (get_or made i d) (get_or made i d)
-        most refl in
-        placed (is ∙ sym (set-get_or made i d) ∙ ap (set made i) kept)
-
-  pub farther_each-length : (xs ys : List X) → length xs ≡ length ys → length (farther_each far xs ys) ≡ length ys
-  farther_each-length [] ys e = refl
-  farther_each-length (x ∷ xs) [] e = e
-  farther_each-length (x ∷ xs) (y ∷ ys) e = ap suc (farther_each-length xs ys (omega arith))
+use Rattle.weave_core.specs.Sights.{AreAlike, joined_sight, range_sight, sight_of, with_leaf_sight, with_range_sight}
 
 -- ---- meetings
 

@@ -1,8 +1,9 @@
 -- How far histories were seen: what of someone's histories is known at run time.
-use Rattle.std.specs.Prelude.{◌≡◌, ℕ, nat_lt, List, [], ◌∷◌, length, map, set, slice_get, if◌then◌else◌}
+use Rattle.std.specs.Prelude.{◌≡◌, ℕ, List, length, map, set, slice_get}
 use Rattle.mon_value.specs.declared.histories.RangeEntry.{RangeEntry}
 use Rattle.mon_value.specs.declared.positions.Leaf.{Leaf}
 use Rattle.mon_value.specs.declared.positions.Range.{Range}
+use Rattle.mon_topo.specs.Farther.{farther_each}
 use Rattle.mon_topo.specs.HeldHistories.{Histories}
 use Rattle.mon_topo.specs.RangeHistories.{serving}
 use Rattle.weave_core.specs.declared.sights.RangeSight.{RangeSight}
@@ -21,16 +22,6 @@ sight_of seen = record { leaves = map length seen.leaves; ranges = map range_sig
 -- both are of the same leaves and ranges
 abbrev pub AreAlike : Sight → Sight → Type 0
 AreAlike a b = (length a.leaves ≡ length b.leaves) × (length a.ranges ≡ length b.ranges)
-
--- of two the farther one, by how far each of them is
-abbrev pub farther : {X : Type 0} → (X → ℕ) → X → X → X
-farther far a b = if nat_lt (far a) (far b) then b else a
-
--- place by place
-abbrev pub farther_each : {X : Type 0} → (X → ℕ) → List X → List X → List X
-farther_each far [] others = others
-farther_each far (x ∷ xs) [] = x ∷ xs
-farther_each far (x ∷ xs) (other ∷ others) = farther far x other ∷ farther_each far xs others
 
 -- of each history how far either was seen
 abbrev pub joined_sight : Sight → Sight → Sight

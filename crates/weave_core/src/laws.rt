@@ -5,7 +5,7 @@ ghost use Rattle.mon_value.specs.declared.positions.FoundDown.{FoundDown as Foun
 ghost use Rattle.mon_value.specs.declared.positions.Range.{Range as RangeOf};
 ghost use Rattle.query_core.specs.Answers.{IsAnsweredRightly, IsStoppedRightly};
 ghost use Rattle.query_core.specs.Askings.{IsAskedOf};
-ghost use Rattle.query_core.specs.Findings.{AreFoundThen, HasNoReplica};
+ghost use Rattle.query_core.specs.Findings.{HasNoReplica};
 ghost use Rattle.query_core.specs.Machine.{new_query};
 ghost use Rattle.query_core.specs.declared.answers.Answer.{Answer as AnswerOf};
 ghost use Rattle.query_core.specs.declared.answers.RoundFault.TheVariants.{NoReplica, StepLimit};
@@ -15,7 +15,7 @@ ghost use Rattle.weave_core.specs.Core.{CanGoOn, Core, CoreEvent, Reader, gone_o
 ghost use Rattle.weave_core.specs.Licensed.{IsNewCore, IsReader, IsWoven};
 ghost use Rattle.write_core.specs.World.{World};
 
-use query_core::{sessions_answer_rightly, sessions_name_what_they_found};
+use query_core::sessions_answer_rightly;
 
 /// Whichever writes, recoveries and queries go on, in whatever order, and whatever they are told of the world as it stands,
 /// each query's session stays licensed, and what its caller has seen and knows stays a sound part of the truth, while the
@@ -26,31 +26,13 @@ pub fn queries_are_licensed()
         → IsWoven store core → IsWoven store (gone_on store core events) }
 {}
 
-/// So the leaves that a query's end names as down were found down by it, at lengths of their histories between those that
-/// its caller had seen as it began and those seen at its end; and where it ends because a range has no replica, each slot
-/// that served at such a length of the range's history is on one of them.
-pub fn queries_name_what_they_found()
-    ensures no_replica { (store : Store) (world : World) (reader : Reader store) (range : RangeOf) (named : List Found)
-        → IsReader store world reader → reader.first ≡ new_query reader.setting
-        → (query_now store reader).stage ≡ Ended (Err (NoReplica range named))
-        → HasNoReplica reader.begin.seen reader.view.seen range named }
-    ensures answered { (store : Store) (world : World) (reader : Reader store) (answer : AnswerOf)
-        → IsReader store world reader → reader.first ≡ new_query reader.setting
-        → (query_now store reader).stage ≡ Ended (Ok answer)
-        → AreFoundThen reader.begin.seen reader.view.seen answer.trace.down }
-    ensures over { (store : Store) (world : World) (reader : Reader store) (limit : ℕ) (trace : TraceOf)
-        → IsReader store world reader → reader.first ≡ new_query reader.setting
-        → (query_now store reader).stage ≡ Ended (Err (StepLimit limit trace))
-        → AreFoundThen reader.begin.seen reader.view.seen trace.down }
-{
-    sessions_name_what_they_found();
-}
-
 /// So each query that is asked of the store ends rightly, whatever else goes on. Its table is what it means, evaluated in one
 /// place, over the rows of its trace: each target's are those of one replica at one cut of its leaf's history. The trace is of
 /// the histories that its caller has seen; it holds each row that had been acknowledged to the caller as the query began; and
 /// a leaf that was not read has no row there that the query wants. It stops for its load only where the load over the rows of
-/// its trace is above the limit.
+/// its trace is above the limit. Where it ends because a range has no replica, each slot that served at a length of the range's
+/// history between those that its caller had seen as it began and those seen at its end is on a leaf of the range's zone that
+/// it found down between them, and all these are named.
 pub fn queries_answer_rightly()
     ensures answered { (store : Store) (world : World) (reader : Reader store) (answer : AnswerOf)
         → IsReader store world reader → reader.first ≡ new_query reader.setting → IsAskedOf store reader.setting
@@ -60,6 +42,10 @@ pub fn queries_answer_rightly()
         → IsReader store world reader → reader.first ≡ new_query reader.setting → IsAskedOf store reader.setting
         → pos 0 ≤ℤ reader.moment → (query_now store reader).stage ≡ Ended (Err (StepLimit limit trace))
         → IsStoppedRightly store reader.setting reader.moment reader.begin.seen reader.view.seen limit trace }
+    ensures no_replica { (store : Store) (world : World) (reader : Reader store) (range : RangeOf) (named : List Found)
+        → IsReader store world reader → reader.first ≡ new_query reader.setting → IsAskedOf store reader.setting
+        → pos 0 ≤ℤ reader.moment → (query_now store reader).stage ≡ Ended (Err (NoReplica range named))
+        → HasNoReplica store.zones reader.begin.seen reader.view.seen range named }
 {
     sessions_answer_rightly();
 }

@@ -12,7 +12,7 @@ pub use kept_laws::{
     locks_tell_the_truth, meetings_see_as_far_as_views, one_bit_is_raised, sights_grow,
     sights_join, stores_begin_held,
 };
-pub use laws::{queries_answer_rightly, queries_are_licensed, queries_name_what_they_found};
+pub use laws::{queries_answer_rightly, queries_are_licensed};
 pub use leaves::LeafSeat;
 pub use ranges::{RangeSeat, RangeState};
 pub use sights::{RangeSight, Sight};

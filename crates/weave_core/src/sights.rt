@@ -1,7 +1,9 @@
 // How far histories were seen.
 ghost use Rattle.std.specs.Prelude.{◌≡◌, ◌<◌, length, set};
-ghost use Rattle.weave_core.specs.Sights.{AreAlike, farther_each, joined_sight, with_leaf_sight, with_range_sight};
+ghost use Rattle.mon_topo.specs.Farther.{farther_each};
+ghost use Rattle.weave_core.specs.Sights.{AreAlike, joined_sight, with_leaf_sight, with_range_sight};
 
+use mon_topo::join_lengths;
 use mon_value::{Leaf, ListOf, Range, SlotLeaf, TryCopy};
 use std::alloc::{AllocError, Global};
 
@@ -88,18 +90,6 @@ fn put_range(sights: &mut [RangeSight], place: usize, sight: RangeSight)
     ensures put { sights.new ≡ set sights.old place sight }
 {
     sights[place] = sight;
-}
-
-// Puts the greater one of two lengths in each place.
-fn join_lengths(mine: &mut [u64], theirs: &[u64])
-    requires alike { length mine.old ≡ length theirs.now }
-    ensures joined { mine.new ≡ farther_each (λ length. length) mine.old theirs.now }
-{
-    for (i, other) in theirs.iter().enumerate() {
-        if mine[i] < *other {
-            mine[i] = *other;
-        }
-    }
 }
 
 // Puts the farther one of two in each place.

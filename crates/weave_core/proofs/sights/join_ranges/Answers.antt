@@ -1,5 +1,5 @@
 use Rattle.std.proofs.Common.{sym}
-use Rattle.weave_core.proofs.SightLemmas.{farther_each-nil, place_kept, place_taken}
+use Rattle.mon_topo.proofs.FartherLemmas.{farther_each-nil, place_kept, place_taken}
 use Rattle.weave_core.proofs.sights.join_ranges.Goals as goal
 use Rattle.weave_core.proofs.sights.join_ranges.Goals.{else-mine-i, then-mine-i}
 

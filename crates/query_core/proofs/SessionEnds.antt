@@ -1,16 +1,14 @@
--- A licensed session ends with what was mixed of its leaves' answers.
-use Rattle.std.proofs.Common.{◌≡◌, ℤ, List, [], ◌∷◌, subst, Result}
+-- What a licensed session keeps up to its last event.
+use Rattle.std.proofs.Common.{◌≡◌, ℤ, List, [], ◌∷◌}
+use Rattle.mon_topo.proofs.HeldLemmas.{seen_within_itself, seen_within_through}
+use Rattle.mon_topo.specs.SeenHistories.{AreWithin}
 use Rattle.mon_topo.specs.Settings.{Setting as Store}
-use Rattle.query_core.specs.declared.answers.Answer.{Answer}
-use Rattle.query_core.specs.declared.answers.RoundFault.{RoundFault}
-use Rattle.query_core.specs.declared.stages.Stage.{Stage}
-use Rattle.query_core.specs.declared.stages.Stage.TheVariants as at
 use Rattle.query_core.specs.Areas.{areas_of}
 use Rattle.query_core.specs.Machine.{Query, new_query}
 use Rattle.query_core.specs.Sessions as session
 use Rattle.query_core.specs.Sessions.{IsSound, View}
 use Rattle.query_core.specs.Settings.{Setting}
-use Rattle.query_core.proofs.PartFacts.{EndParts, StageParts}
+use Rattle.query_core.proofs.PartClaims.{StageParts}
 use Rattle.query_core.proofs.SessionParts.{Keeps, session_parts}
 use Rattle.query_core.proofs.UnreadLeaves.{TellsOf}
 
@@ -23,6 +21,16 @@ module _ (store : Store) (setting : Setting) (moment : ℤ) where
   sound_then (event ∷ events) before query sound licensed =
       sound_then events event.view (session.told_then store setting moment query event) licensed.0.sound licensed.1
 
+  -- and more than at its begin
+  pub seen_since : (events : List (session.Event store setting moment)) (before : View) (query : Query)
+      → session.IsLicensed store setting moment before query events
+      → AreWithin before.seen (session.view_after store setting moment before events).seen
+  seen_since [] before query licensed = seen_within_itself before.seen
+  seen_since (event ∷ events) before query licensed =
+      seen_within_through before.seen event.view.seen (session.view_after store setting moment event.view events).seen
+      licensed.0.grown.seen
+      (seen_since events event.view (session.told_then store setting moment query event) licensed.1)
+
   module _ (areas : setting.areas ≡ areas_of store.zones) (Also : View → Query → Type 0)
       (keeps : Keeps store setting moment (TellsOf setting) areas Also)
       (view : View) (events : List (session.Event store setting moment)) (sound : IsSound store view)
@@ -34,13 +42,7 @@ module _ (store : Store) (setting : Setting) (moment : ℤ) where
     abbrev last : Query
     last = session.query_after store setting moment (new_query setting) events
 
-    stage_last : StageParts store setting moment (TellsOf setting) exit.seen last.stage
+    pub stage_last : StageParts store setting moment (TellsOf setting) exit.seen last.stage
     stage_last =
         session_parts store setting moment (TellsOf setting) areas Also keeps events view (new_query setting) sound also tt
         licensed
-
-    -- how it ends
-    pub ends : (end : Result Answer RoundFault) → last.stage ≡ at.Ended end
-        → EndParts store setting moment (TellsOf setting) exit.seen end
-    ends end ended =
-        subst (λ (stage : Stage). StageParts store setting moment (TellsOf setting) exit.seen stage) ended stage_last
