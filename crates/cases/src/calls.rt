@@ -5,10 +5,49 @@ use crate::files::{name_beside, read_text};
 use crate::settings::Setting;
 use crate::trouble::{Done, Trouble};
 use crate::{
-    configurations, expressions, groups, hints, leaf_growth, leaf_states, meanings, plans, points,
-    queries, ranges, runs, schemas, scripts, series, tables, typing, values, writes,
+    configurations, divided, expressions, groups, hints, leaf_growth, leaf_states, meanings, plans,
+    points, queries, ranges, runs, schemas, scripts, series, tables, typing, values, writes,
 };
 use std::alloc::AllocError;
+
+// The calls whose cases stand under a configuration.
+const UNDER_FILES: &[&str] = &[
+    "leaf_store::LeafState",
+    "leaf_store::LeafState of many puts",
+    "mon_meaning::central",
+    "mon_meaning::central divided",
+    "mon_points::read_rows",
+    "mon_run::run",
+    "mon_topo::range_of",
+    "mql_types::check",
+    "mql_types::op_levels",
+    "plan_split::split",
+];
+
+// The other calls.
+const UNDER_NOTHING: &[&str] = &[
+    "mon_config::read_config",
+    "mon_expr::holds",
+    "mon_expr::matches",
+    "mon_expr::matches on all texts",
+    "mon_fold::align",
+    "mon_fold::group",
+    "mon_hints::excerpts_of",
+    "mon_hints::hints_of",
+    "mon_hints::mask",
+    "mon_schema::Schemas",
+    "mon_script::read_script",
+    "mon_table",
+    "mon_topo::range_of at bounds",
+    "mon_value::compare",
+    "mon_value::compare_targets",
+    "mon_value::read_number",
+    "mon_value::write_text",
+    "mql_parse::parse",
+    "mql_parse::parse at fronts",
+    "plan_split::formula_of",
+    "write_core::WriteMachine",
+];
 
 /// What the cases of a table came to.
 #[derive(Drop)]
@@ -28,26 +67,57 @@ pub(crate) fn check(rt: &HostRuntime, name: &str, table: &CaseTable) -> Result<R
         cases: 0,
         held: 0,
     };
-    for entry in table.entries.as_slice() {
-        check_entry(rt, &mut report, name, table.call.as_str(), entry)?;
-    }
+    report.check_table(rt, name, table)?;
     Ok(report)
 }
 
-fn check_entry(
-    rt: &HostRuntime,
-    report: &mut Report,
-    name: &str,
-    call: &str,
-    entry: &Entry,
-) -> Result<(), AllocError> {
-    match entry {
-        Entry::Under(file) => report.take_file(rt, name, file.as_str()),
-        Entry::Case(case) => report.check_case(name, call, case),
-    }
+fn is_listed(calls: &[&str], call: &str) -> bool {
+    calls.iter().any(|listed| *listed == call)
 }
 
 impl Report {
+    fn check_table(
+        &mut self,
+        rt: &HostRuntime,
+        name: &str,
+        table: &CaseTable,
+    ) -> Result<(), AllocError> {
+        let call = table.call.as_str();
+        if is_listed(UNDER_FILES, call) || is_listed(UNDER_NOTHING, call) {
+            return self.check_all(rt, name, call, table.entries.as_slice());
+        }
+        self.tell_call(name, call)
+    }
+
+    fn check_all(
+        &mut self,
+        rt: &HostRuntime,
+        name: &str,
+        call: &str,
+        entries: &[Entry],
+    ) -> Result<(), AllocError> {
+        for entry in entries {
+            self.check_entry(rt, name, call, entry)?;
+        }
+        Ok(())
+    }
+
+    fn check_entry(
+        &mut self,
+        rt: &HostRuntime,
+        name: &str,
+        call: &str,
+        entry: &Entry,
+    ) -> Result<(), AllocError> {
+        match entry {
+            Entry::Under(file) if is_listed(UNDER_FILES, call) => {
+                self.take_file(rt, name, file.as_str())
+            }
+            Entry::Under(file) => self.tell_file(name, file.as_str()),
+            Entry::Case(case) => self.check_case(name, call, case),
+        }
+    }
+
     // Takes a file of the table's folder.
     fn take_file(&mut self, rt: &HostRuntime, name: &str, file: &str) -> Result<(), AllocError> {
         let path = name_beside(rt.alloc(), name, file)?;
@@ -67,6 +137,10 @@ impl Report {
 
     fn tell_file(&mut self, name: &str, file: &str) -> Result<(), AllocError> {
         writeln!(self.text, "{name}: cannot take {file}")
+    }
+
+    fn tell_call(&mut self, name: &str, call: &str) -> Result<(), AllocError> {
+        writeln!(self.text, "{name}: there is no call {call}")
     }
 
     // Checks a case, and tells where it differs.
@@ -173,7 +247,7 @@ fn write_of_queries(
         "mql_types" => typing::write_answer(text, setting, name, given),
         "plan_split" => plans::write_answer(text, setting, name, given),
         "mon_fold" => write_of_folds(text, setting, name, given),
-        "mon_meaning" => meanings::write_answer(text, setting, given),
+        "mon_meaning" => write_of_meanings(text, setting, name, given),
         _ => Err(Trouble::Misspelled),
     }
 }
@@ -183,6 +257,15 @@ fn write_of_folds(text: &mut String, setting: &Setting, name: &str, given: &str)
     match name {
         "align" => series::write_answer(text, setting.alloc, given),
         "group" => groups::write_answer(text, setting.alloc, given),
+        _ => Err(Trouble::Misspelled),
+    }
+}
+
+// The same of the calls that say what queries mean.
+fn write_of_meanings(text: &mut String, setting: &Setting, name: &str, given: &str) -> Done {
+    match name {
+        "central" => meanings::write_answer(text, setting, given),
+        "central divided" => divided::write_answer(text, setting, given),
         _ => Err(Trouble::Misspelled),
     }
 }

@@ -5,8 +5,10 @@
 mod alignable;
 mod calls;
 mod case_tables;
+mod chances;
 mod configurations;
 mod descriptions;
+mod divided;
 mod escapes;
 mod expressions;
 mod files;
@@ -16,6 +18,7 @@ mod hints;
 mod leaf_growth;
 mod leaf_states;
 mod levels;
+mod made;
 mod meanings;
 mod plans;
 mod points;

@@ -45,8 +45,8 @@ fn asked(when: &str) -> Result<(i64, u64), Trouble> {
     Ok((number_in(moment)?, number_in(limit)?))
 }
 
-// The table that a query's text means over rows.
-fn meant(
+/// The table that a query's text means over rows.
+pub(crate) fn meant(
     setting: &Setting,
     text: &[u8],
     rows: &RowList,
