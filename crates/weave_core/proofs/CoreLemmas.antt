@@ -92,11 +92,11 @@ module _ (store : Store) (setting : Setting) (moment : ℤ) (world : World) (vie
   free_leaf avoided slots leaf (told.Over load cut) h = h.0.free
 
   -- what is left behind, and what the query's caller has seen and knows then
-  record Goes (after : World) (now : View) : Type 0 where
-    kept_then : IsKept store after
-    stays : (other : View) → IsPart store world other → IsPart store after other
-    part_then : IsPart store after now
-    grown : IsWithin view now
+  pub record Goes (after : World) (now : View) : Type 0 where
+    pub kept_then : IsKept store after
+    pub stays : (other : View) → IsPart store world other → IsPart store after other
+    pub part_then : IsPart store after now
+    pub grown : IsWithin view now
 
   more_known : (bits : Bits) → AreBitsWithin bits world.truth.bits
       → Goes world (with_bits store setting moment world view bits)
@@ -129,7 +129,7 @@ module _ (store : Store) (setting : Setting) (moment : ℤ) (world : World) (vie
         grown = joined_first view (world.ranges range.0) world.truth part.within (kept.ranges range).within;
       }
 
-  at_leaf : (leaf : Leaf) → world.leaf_holder leaf.0 ≡ None
+  pub at_leaf : (leaf : Leaf) → world.leaf_holder leaf.0 ≡ None
       → Goes (world_then store setting moment world view (ask.Visit leaf)) (joined view (world.leaves leaf.0))
   at_leaf leaf free =
       let event = Visits leaf view in
@@ -141,7 +141,7 @@ module _ (store : Store) (setting : Setting) (moment : ℤ) (world : World) (vie
         grown = joined_first view (world.leaves leaf.0) world.truth part.within (kept.leaves leaf).within;
       }
 
-  goes : (avoided : List Leaf) (slots : List RangeSlot) (asked : Ask) (answer : Told)
+  pub goes : (avoided : List Leaf) (slots : List RangeSlot) (asked : Ask) (answer : Told)
       → IsTold store setting moment world view avoided slots asked answer
       → Goes (world_then store setting moment world view asked) (view_then store setting moment world view asked)
   goes avoided slots (ask.LoadRoot bucket) answer h = more_known (root_word_bits store setting moment world view bucket) (record {
@@ -200,11 +200,11 @@ module _ (store : Store) (setting : Setting) (moment : ℤ) (world : World) (vie
     cut_is = looked.whole ∙ ap length (sym whole_leaf)
 
     -- all of it is looked at
-    all_looked : take cut (of_leaf after_leaf leaf) ≡ of_leaf world.truth leaf
+    pub all_looked : take cut (of_leaf after_leaf leaf) ≡ of_leaf world.truth leaf
     all_looked =
         ap (λ n. take n (of_leaf after_leaf leaf)) cut_is ∙ take_whole (of_leaf after_leaf leaf) ∙ whole_leaf
 
-    found_so : IsFoundSo (seen_by view) (seen_by after_leaf) leaf cut down
+    pub found_so : IsFoundSo (seen_by view) (seen_by after_leaf) leaf cut down
     found_so =
         let grown = joined_first view (world.leaves leaf.0) world.truth part.within (kept.leaves leaf).within in
         let least = begins_length (of_leaf after_leaf leaf) (of_leaf view leaf) (grown.seen.leaves leaf) in
@@ -221,7 +221,7 @@ module _ (store : Store) (setting : Setting) (moment : ℤ) (world : World) (vie
     on_rows P h = subst P (sym all_looked) h
 
   -- each answer is true of what is seen then
-  true_told : (avoided : List Leaf) (slots : List RangeSlot) (asked : Ask) (answer : Told)
+  pub true_told : (avoided : List Leaf) (slots : List RangeSlot) (asked : Ask) (answer : Told)
       → IsTold store setting moment world view avoided slots asked answer
       → IsTrueAnswer store setting moment (seen_by view) (seen_by (view_then store setting moment world view asked)) avoided
       slots asked answer
@@ -281,7 +281,7 @@ module _ (store : Store) (setting : Setting) (moment : ℤ) (world : World) (vie
 
 -- ---- each reader
 
-sound_so : (store : Store) (world : World) (view : View) → IsPart store world view → session.IsSound store (seen_by view)
+pub sound_so : (store : Store) (world : World) (view : View) → IsPart store world view → session.IsSound store (seen_by view)
 sound_so store world view part = record { held = part.sound.held; covered = λ leaf here. part.sound.covered leaf }
 
 module _ (store : Store) (world : World) (reader : Reader store) (kept : IsKept store world)

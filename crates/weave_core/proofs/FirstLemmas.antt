@@ -30,11 +30,11 @@ use Rattle.weave_core.specs.FirstHistories.{first_histories, first_leaf_history,
 -- ---- a leaf's history
 
 -- a leaf that is up, on which nothing is opened of this range from a slot on, nor of later ranges
-record IsOpen (history : List Entry) (range slot : ℕ) : Type 0 where
-  formed : IsWellFormed history
-  up : is_down history ≡ false
-  here : (s : ℕ) → slot ≤ s → is_opened (range_numbered range) (slot_numbered s) history ≡ false
-  later : (r s : ℕ) → range < r → is_opened (range_numbered r) (slot_numbered s) history ≡ false
+pub record IsOpen (history : List Entry) (range slot : ℕ) : Type 0 where
+  pub formed : IsWellFormed history
+  pub up : is_down history ≡ false
+  pub here : (s : ℕ) → slot ≤ s → is_opened (range_numbered range) (slot_numbered s) history ≡ false
+  pub later : (r s : ℕ) → range < r → is_opened (range_numbered r) (slot_numbered s) history ≡ false
 
 not_opened : (range slot r s : ℕ) (history : List Entry) → same_replica (range_numbered r) (slot_numbered s)
     (range_numbered range) (slot_numbered slot) ≡ false
@@ -79,13 +79,13 @@ skipped_next history range slot still = subst (λ (h : List Entry). IsOpen h ran
       later = still.later;
     })
 
-one_next : (b : Bool) (history : List Entry) (range slot : ℕ) → IsOpen history range slot
+pub one_next : (b : Bool) (history : List Entry) (range slot : ℕ) → IsOpen history range slot
     → IsOpen (history ++ cond b (opening (range_numbered range) slot ∷ []) []) range (slot + 1)
 one_next true history range slot still = opened_next history range slot still
 one_next false history range slot still = skipped_next history range slot still
 
 -- a range's replicas on the leaf
-range_opened : (leaf : Leaf) (range slot : ℕ) (leaves : List Leaf) (history : List Entry) → IsOpen history range slot
+pub range_opened : (leaf : Leaf) (range slot : ℕ) (leaves : List Leaf) (history : List Entry) → IsOpen history range slot
     → (end : ℕ) × IsOpen (history ++ opened_here leaf (range_numbered range) slot leaves) range end
 range_opened leaf range slot [] history still =
     (slot, subst (λ (h : List Entry). IsOpen h range slot) (sym (append-nil history)) still)
@@ -98,7 +98,7 @@ range_opened leaf range slot (other ∷ leaves) history still =
           (append_assoc history one (opened_here leaf (range_numbered range) (slot + 1) leaves)) more.1,
     )
 
-next_range : (history : List Entry) (range slot : ℕ) → IsOpen history range slot → IsOpen history (range + 1) 0
+pub next_range : (history : List Entry) (range slot : ℕ) → IsOpen history range slot → IsOpen history (range + 1) 0
 next_range history range slot still = record {
   formed = still.formed;
   up = still.up;
@@ -122,10 +122,10 @@ first_formed zones n = ranges_opened zones (leaf_numbered n) 0 (length (ranges_i
 
 -- ---- no rows
 
-record HasNoRow (e : Entry) : Type 0 where
-  range : Range
-  slot : ℕ
-  is : e ≡ opening range slot
+pub record HasNoRow (e : Entry) : Type 0 where
+  pub range : Range
+  pub slot : ℕ
+  pub is : e ≡ opening range slot
 
 one_bare : (b : Bool) (range : Range) (slot : ℕ) → All HasNoRow (cond b (opening range slot ∷ []) [])
 one_bare true range slot = (record { range = range; slot = slot; is = refl }, tt)
@@ -160,7 +160,7 @@ bare_rows (e ∷ history) h = ap (λ (x : Entry). leaf_rows (x ∷ history)) h.0
 
 -- ---- a range's history
 
-no_acks : (slot : ℕ) (leaves : List Leaf) → acked (openings_from slot leaves) ≡ []
+pub no_acks : (slot : ℕ) (leaves : List Leaf) → acked (openings_from slot leaves) ≡ []
 no_acks slot [] = refl
 no_acks slot (leaf ∷ leaves) = no_acks (slot + 1) leaves
 
@@ -272,7 +272,7 @@ ranges_contain zones leaf e r from (suc count) least most h = elim (cases_eq fro
       (ranges_contain zones leaf e r (from + 1) count (omega (arith, least, differ)) (omega (arith, most)) h)
 ]
 
-get_contains : {X : Type 0} (xs : List X) (k : ℕ) (x : X) → slice_get xs k ≡ Some x → Contains xs x
+pub get_contains : {X : Type 0} (xs : List X) (k : ℕ) (x : X) → slice_get xs k ≡ Some x → Contains xs x
 get_contains [] k x is = let l = slice_get_within [] k x is in absurd (omega (arith, l))
 get_contains (first ∷ xs) zero x is =
     let same : first ≡ x = cc in
@@ -285,24 +285,24 @@ module _ (zones : List ZoneSpec) where
   abbrev seen : Histories
   seen = first_histories zones
 
-  leaf_count : length seen.leaves ≡ length (leaves_in zones)
+  pub leaf_count : length seen.leaves ≡ length (leaves_in zones)
   leaf_count = length-map-range_with_len (first_leaf_history zones) 0 (length (leaves_in zones))
 
-  range_count : length seen.ranges ≡ length (ranges_in zones)
+  pub range_count : length seen.ranges ≡ length (ranges_in zones)
   range_count = length-map-range_with_len (first_range_history zones) 0 (length (ranges_in zones))
 
-  leaf_is : (leaf : Leaf) → leaf.0 < length (leaves_in zones) → leaf_history seen leaf ≡ first_leaf_history zones leaf.0
+  pub leaf_is : (leaf : Leaf) → leaf.0 < length (leaves_in zones) → leaf_history seen leaf ≡ first_leaf_history zones leaf.0
   leaf_is leaf h =
       get_or-map-range_with_len (first_leaf_history zones) 0 (length (leaves_in zones)) leaf.0 leaf.0 [] h
       (omega arith)
 
-  range_is : (range : Range) → range.0 < length (ranges_in zones)
+  pub range_is : (range : Range) → range.0 < length (ranges_in zones)
       → range_history seen range ≡ first_range_history zones range.0
   range_is range h =
       get_or-map-range_with_len (first_range_history zones) 0 (length (ranges_in zones)) range.0 range.0 [] h
       (omega arith)
 
-  leaf_bare : (leaf : Leaf) → All HasNoRow (leaf_history seen leaf)
+  pub leaf_bare : (leaf : Leaf) → All HasNoRow (leaf_history seen leaf)
   leaf_bare leaf = elim (cases_lt leaf.0 (length (leaves_in zones))) [
     | inl h ↦ subst (All HasNoRow) (sym (leaf_is leaf h))
         (ranges_bare zones (leaf_numbered leaf.0) 0 (length (ranges_in zones)))
@@ -317,7 +317,7 @@ module _ (zones : List ZoneSpec) where
     own = first_range_history zones range.0
 
     -- a replica's leaf has its opening
-    opened_there : (leaf : Leaf) (k : ℕ) → slice_get (first_replicas zones range.0) k ≡ Some leaf
+    pub opened_there : (leaf : Leaf) (k : ℕ) → slice_get (first_replicas zones range.0) k ≡ Some leaf
         → Contains (leaf_history seen leaf) (opening range k)
     opened_there leaf k is =
         let zoned = all_at (spec.IsInZoneOf zones range) (first_replicas zones range.0) leaf has.zoned

@@ -1,5 +1,5 @@
 -- Sights: how far two have seen together, and one history farther.
-use Rattle.std.proofs.Common.{◌≡◌, ℕ, ◌+◌, ◌<◌, Bool, true, false, cond, nat_lt, List, [], ◌∷◌, ◌++◌, length, map, set, refl, sym, ap, ◌∙◌, arith, length-append}
+use Rattle.std.proofs.Common.{◌≡◌, ℕ, zero, suc, ◌+◌, ◌<◌, Bool, true, false, cond, nat_lt, List, [], ◌∷◌, ◌++◌, length, map, set, refl, sym, ap, ◌∙◌, arith, length-append}
 use Rattle.std.proofs.lemmas.List.{length-set, map-set}
 use Rattle.mon_topo.specs.Farther.{farther, farther_each}
 use Rattle.mon_topo.proofs.FartherLemmas.{farther_each-length}
@@ -95,3 +95,31 @@ range_seen range entry seen = λ i. record {
   leaves = map length seen.leaves;
   ranges = map-set range_sight seen.ranges range.0 (range_history seen range ++ entry ∷ []) i;
 }
+
+-- ---- a longer history
+
+set_set : {X : Type 0} (xs : List X) (n : ℕ) (a b : X) → set (set xs n a) n b ≡ set xs n b
+set_set [] n a b = refl
+set_set (x ∷ xs) zero a b = refl
+set_set (x ∷ xs) (suc n) a b = ap (λ rest. x ∷ rest) (set_set xs n a b)
+
+-- who notes a longer history has noted just that, also where a shorter one was noted
+pub noted_over : (leaf : Leaf) (shorter longer : List Entry) (own there now : Sight)
+    → with_leaf_sight leaf (length shorter) (joined_sight own there) ≡ now
+    → with_leaf_sight leaf (length longer) (joined_sight own there) ≡ with_leaf_sight leaf (length longer) now
+noted_over leaf shorter longer own there now e =
+    (λ i. record {
+      leaves = sym (set_set (joined_sight own there).leaves leaf.0 (length shorter) (length longer)) i;
+      ranges = (joined_sight own there).ranges;
+    })
+    ∙ ap (with_leaf_sight leaf (length longer)) e
+
+pub range_noted_over : (range : Range) (shorter longer : RangeSight) (own there now : Sight)
+    → with_range_sight range shorter (joined_sight own there) ≡ now
+    → with_range_sight range longer (joined_sight own there) ≡ with_range_sight range longer now
+range_noted_over range shorter longer own there now e =
+    (λ i. record {
+      leaves = (joined_sight own there).leaves;
+      ranges = sym (set_set (joined_sight own there).ranges range.0 shorter longer) i;
+    })
+    ∙ ap (with_range_sight range longer) e

@@ -1,19 +1,47 @@
 //! The core of the store: writes, recoveries and queries, whose events go one by one in any order, and what they share.
 #![tactic(auto)]
 
+mod actor_steps;
+mod actors;
+mod calls;
+mod events;
 mod kept_laws;
 mod laws;
+mod leaf_looks;
 mod leaves;
+mod limits;
+mod lines;
+mod queries;
+mod query_looks;
+mod query_plans;
 mod ranges;
+mod refusals;
+mod schedule_laws;
+mod schedules;
 mod sights;
+mod store;
+mod texts;
+mod weave;
 mod words;
+mod write_events;
+mod writes;
 
+pub use calls::{Call, ScheduleFault, Stepped, WeaveFault};
+pub use events::Event;
 pub use kept_laws::{
     locks_tell_the_truth, meetings_see_as_far_as_views, one_bit_is_raised, sights_grow,
     sights_join, stores_begin_held,
 };
 pub use laws::{queries_answer_rightly, queries_are_licensed};
 pub use leaves::LeafSeat;
+pub use limits::{LAST_ACTOR, MOST_EVENTS, MOST_LINES};
 pub use ranges::{RangeSeat, RangeState};
+pub use refusals::{limit_refusal, parse_refusal, typing_refusal};
+pub use schedule_laws::schedules_answer_rightly;
+pub use schedules::run_schedule;
 pub use sights::{RangeSight, Sight};
+pub use weave::Weave;
 pub use words::{HintWords, Place};
+
+#[cfg(test)]
+mod tests;

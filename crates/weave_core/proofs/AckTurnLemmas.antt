@@ -1,0 +1,206 @@
+-- A write's turn at its acknowledgement: its range is told what became of the row.
+use Rattle.std.proofs.Common.{◌≡◌, ℕ, ◌<◌, ◌<ℤ◌, ◌≢◌, Bool, true, false, cond, Option, Some, None, List, [], ◌∷◌, ◌++◌, length, refl, sym, ap, subst, ◌∙◌}
+use Rattle.std.specs.Prelude.{IfSome}
+use Rattle.std.specs.List.{flat_map}
+use Rattle.mon_config.specs.declared.config.Config.{Config}
+use Rattle.mon_series.proofs.SourceEnds.{source_later}
+use Rattle.mon_topo.proofs.HeldLemmas.{range_entry_other, range_entry_same}
+use Rattle.mon_topo.specs.HeldHistories.{range_history}
+use Rattle.mon_topo.specs.RangeHistories.{acked}
+use Rattle.mon_topo.specs.Settings.{Setting}
+use Rattle.mon_topo.specs.Zones.{range_numbered}
+use Rattle.mon_value.specs.Sources.{last_end, points_of}
+use Rattle.mon_value.specs.declared.histories.Ack.{Ack}
+use Rattle.mon_value.specs.declared.histories.RangeEntry.{RangeEntry}
+use Rattle.mon_value.specs.declared.histories.RangeEntry.TheVariants as range_entry
+use Rattle.mon_value.specs.declared.positions.FoundDown.{FoundDown}
+use Rattle.mon_value.specs.declared.positions.Leaf.{Leaf}
+use Rattle.mon_value.specs.declared.positions.Range.{Range}
+use Rattle.weave_core.proofs.AtWorkLemmas.{own, range_in_truth}
+use Rattle.weave_core.proofs.MeetingLemmas.{range_met}
+use Rattle.weave_core.proofs.SeatLemmas.{shared_at_range}
+use Rattle.weave_core.proofs.SightLemmas.{range_noted_over, range_seen}
+use Rattle.weave_core.proofs.WriteTurnLemmas.{can_come, step_is}
+use Rattle.weave_core.specs.Agreements.{AreShared, IsRangeSo}
+use Rattle.weave_core.specs.Meetings.{met_at_range}
+use Rattle.weave_core.specs.Sights.{range_sight, sight_of, with_range_sight}
+use Rattle.weave_core.specs.States.{store_of}
+use Rattle.weave_core.specs.WriteEvents.{ChangesRange, IfWritten, LetsGo}
+use Rattle.weave_core.specs.WriteEvents as events
+use Rattle.weave_core.specs.WriteTurns.{IsAtWork, WriteEnded, ended_write}
+use Rattle.weave_core.specs.Writers.{writer_of}
+use Rattle.weave_core.specs.declared.ranges.RangeSeat.{RangeSeat}
+use Rattle.weave_core.specs.declared.sights.Sight.{Sight}
+use Rattle.weave_core.specs.declared.store.Store.{Store}
+use Rattle.weave_core.specs.declared.writes.Writing.{Writing}
+use Rattle.write_core.proofs.KeepsLemmas.{changed_same}
+use Rattle.write_core.proofs.ViewLemmas.{joined_whole_range}
+use Rattle.write_core.specs.Invariant.{IsAcking, IsAt}
+use Rattle.write_core.specs.Marks.{ack_of, found_down, some_took}
+use Rattle.write_core.specs.Program.{Acking, Ended, Marked, Not, Stage, Verdict, end_of_refusal, end_of_verdict}
+use Rattle.write_core.specs.Steps.{acknowledged, step}
+use Rattle.write_core.specs.Views.{View, joined, of_leaf, of_range, with_range_entry}
+use Rattle.write_core.specs.World.{Actor, World, Writer, Writes, at_range, view_of, writes_on}
+use Rattle.write_core.specs.declared.asks.WriteEnd.{WriteEnd}
+use Rattle.write_core.specs.declared.asks.WriteEnd.TheVariants as end
+use Rattle.write_core.specs.declared.asks.WriteTold.TheVariants as told
+use Rattle.write_core.specs.declared.marks.Mark.{Mark}
+use Rattle.write_core.specs.declared.marks.Refused.{Refused}
+use Rattle.write_core.specs.declared.marks.Refused.TheVariants as refused
+
+if_written : (b : Bool) (ack : Ack) (founds : List FoundDown) (P : Type 0) → P
+    → IfWritten (cond b (end.Written ack) (end.Unavailable founds)) P
+if_written true ack founds P p = p
+if_written false ack founds P p = tt
+
+module _ (config : Config) (world : World) (i : ℕ) (store : Store) (writing : Writing) (sight : Sight)
+    (work : IsAtWork config world i store writing sight) (verdict : Verdict) (at : writing.machine.stage ≡ Acking verdict)
+    (seat : RangeSeat) (so : IsRangeSo world writing.range.0 seat) where
+  abbrev setting : Setting
+  setting = store_of config
+
+  abbrev view : View
+  view = view_of (world.actors i)
+
+  abbrev writer : Writer
+  writer = writer_of i writing view
+
+  abbrev range : Range
+  range = writing.range
+
+  abbrev met : View
+  met = joined view (world.ranges range.0)
+
+  acking : IsAcking world i setting writer verdict
+  acking =
+      let own_at : IsAt setting world i writer writing.machine.stage
+      = (own config world i store writing sight work).at in
+      subst (λ (s : Stage). IsAt setting world i writer s) at own_at
+
+  -- ---- its row ends later than those that were acknowledged
+
+  abbrev pub IsLater : List RangeEntry → Type 0
+  IsLater history =
+      IfSome (last_end (points_of writing.row.key (acked history))) (λ last. last <ℤ writing.row.point.end)
+
+  later_by : (one : Verdict) → IsAcking world i setting writer one
+      → IfWritten (end_of_verdict range one) (IsLater (of_range world.truth range))
+  later_by (Not (refused.Old last)) h = tt
+  later_by (Not (refused.Full count)) h = tt
+  later_by (Marked marks) h =
+      if_written (some_took marks) (ack_of range marks) (flat_map found_down marks) (IsLater (of_range world.truth range))
+      (source_later (acked (of_range world.truth range)) writing.row h.going.source)
+
+  pub later : (last : WriteEnd) → last ≡ end_of_verdict range verdict → IfWritten last (IsLater seat.state)
+  later last is =
+      subst (λ (e : WriteEnd). IfWritten e (IsLater seat.state)) (sym is)
+      (subst (λ (history : List RangeEntry). IfWritten (end_of_verdict range verdict) (IsLater history)) (sym so.history)
+      (later_by verdict acking))
+
+  -- ---- what it appends
+
+  -- a change of what is seen is what this end appends
+  record IsChangeSo (change : View → View) (last : WriteEnd) : Type 0 where
+    bits : (change world.truth).bits ≡ world.truth.bits
+    leaves_same : (leaf : Leaf) → of_leaf (change world.truth) leaf ≡ of_leaf world.truth leaf
+    ranges_same : (n : ℕ) → n ≢ range.0
+        → of_range (change world.truth) (range_numbered n) ≡ of_range world.truth (range_numbered n)
+    history : events.acknowledged seat.state writing.number writing.row last ≡ of_range (change world.truth) range
+    seen : met_at_range range (events.acknowledged seat.state writing.number writing.row last) sight seat.sight
+        ≡ sight_of (change met).seen
+
+  met_is : met_at_range range (of_range world.truth range) (sight_of view.seen) (sight_of (world.ranges range.0).seen)
+      ≡ sight_of met.seen
+  met_is = range_met setting world view range work.kept (own config world i store writing sight work).part
+
+  quiet : (last : WriteEnd) → events.acknowledged seat.state writing.number writing.row last ≡ seat.state
+      → IsChangeSo (λ seen. seen) last
+  quiet last same = record {
+    bits = refl;
+    leaves_same = λ leaf. refl;
+    ranges_same = λ n apart. refl;
+    history = same ∙ so.history;
+    seen = (λ k. met_at_range range ((same ∙ so.history) k) (work.writer.seen k) (so.sight k)) ∙ met_is;
+  }
+
+  appends : (ack : Ack) → IsChangeSo (with_range_entry range (range_entry.Acked i writing.row ack)) (end.Written ack)
+  appends ack =
+      let entry : RangeEntry = range_entry.Acked i writing.row ack in
+      let there : range.0 < length world.truth.seen.ranges = range_in_truth config world i store writing sight work in
+      let grown : seat.state ++ range_entry.Acked writing.number writing.row ack ∷ [] ≡ of_range world.truth range ++ entry ∷ []
+      = (λ k. so.history k ++ range_entry.Acked (work.writer.number k) writing.row ack ∷ []) in
+      let whole : of_range met range ≡ of_range world.truth range
+      = joined_whole_range view (world.ranges range.0) world.truth
+      (own config world i store writing sight work).part.within (work.kept.ranges range).within range
+      (work.kept.whole_ranges range) in
+      record {
+        bits = refl;
+        leaves_same = λ leaf. refl;
+        ranges_same = λ n apart. range_entry_other world.truth.seen range entry (range_numbered n) apart;
+        history = grown ∙ sym (range_entry_same world.truth.seen range entry there);
+        seen =
+            (λ k. met_at_range range (grown k) (work.writer.seen k) (so.sight k))
+            ∙ range_noted_over range (range_sight (of_range world.truth range))
+            (range_sight (of_range world.truth range ++ entry ∷ [])) (sight_of view.seen)
+            (sight_of (world.ranges range.0).seen) (sight_of met.seen) met_is
+            ∙ ap (λ (history : List RangeEntry). with_range_sight range (range_sight (history ++ entry ∷ [])) (sight_of met.seen))
+            (sym whole)
+            ∙ sym (range_seen range entry met.seen);
+      }
+
+  change_by : (b : Bool) (ack : Ack) (founds : List FoundDown)
+      → IsChangeSo (λ seen. cond b (with_range_entry range (range_entry.Acked i writing.row ack) seen) seen)
+      (cond b (end.Written ack) (end.Unavailable founds))
+  change_by true ack founds = appends ack
+  change_by false ack founds = quiet (end.Unavailable founds) refl
+
+  change_is : (one : Verdict) → IsChangeSo (acknowledged writer one) (end_of_verdict range one)
+  change_is (Not (refused.Old last)) = quiet (end.Old last) refl
+  change_is (Not (refused.Full count)) = quiet (end.Full count) refl
+  change_is (Marked marks) = change_by (some_took marks) (ack_of range marks) (flat_map found_down marks)
+
+  -- ---- it has ended
+
+  module _ (last : WriteEnd) (last_is : last ≡ end_of_verdict range verdict) (new : Store) (other : RangeSeat) (now : Sight)
+      (changes : ChangesRange range other store new)
+      (goes : LetsGo last writing.number writing.row range seat other sight now) where
+    abbrev change : View → View
+    change = acknowledged writer verdict
+
+    is_change : IsChangeSo change last
+    is_change = subst (λ (e : WriteEnd). IsChangeSo change e) (sym last_is) (change_is verdict)
+
+    abbrev then' : World
+    then' = at_range world i view range change None (writes_on writer (Ended verdict))
+
+    is_then : step setting world i told.Done ≡ then'
+    is_then = step_is config world i store writing sight work (Acking verdict) told.Done at
+
+    seen_is : now ≡ sight_of (change met).seen
+    seen_is =
+        goes.seen ∙ ap (λ (history : List RangeEntry). met_at_range range history sight seat.sight) goes.state ∙ is_change.seen
+
+    doer_is : (step setting world i told.Done).actors i ≡ Writes (ended_write i writing verdict (change met))
+    doer_is =
+        ap (λ (w : World). w.actors i) is_then
+        ∙ changed_same world.actors i (writes_on writer (Ended verdict) (change met))
+
+    view_is : view_of ((step setting world i told.Done).actors i) ≡ change met
+    view_is = ap view_of doer_is
+
+    pub acknowledge_turn : WriteEnded config world i new writing now range last
+    acknowledge_turn = record {
+      answer = told.Done;
+      came = record {
+        can = can_come config world i store writing sight work (Acking verdict) told.Done at refl;
+        shared = subst (λ (w : World). AreShared config w new) (sym is_then)
+            (shared_at_range config world i view range change is_change.bits is_change.leaves_same is_change.ranges_same None
+            (writes_on writer (Ended verdict)) store new other work.shared changes (goes.state ∙ is_change.history) goes.holder
+            (goes.sight_there ∙ seen_is));
+      };
+      verdict = verdict;
+      writer = doer_is ∙ (λ k. Writes (ended_write i writing verdict (sym view_is k)));
+      sight_is = seen_is ∙ ap (λ (seen : View). sight_of seen.seen) (sym view_is);
+      range_is = refl;
+      end_is = last_is;
+    }

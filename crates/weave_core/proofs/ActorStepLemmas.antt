@@ -1,0 +1,188 @@
+-- A step of an actor that has ended, or whose call has no event; and what a step asks of a write or a query.
+use Rattle.std.proofs.Common.{◌≡◌, ℕ, Bool, true, false, not, cond, Option, Some, None, List, refl, sym, ap, subst, ◌∙◌, inl, inr}
+use Rattle.std.specs.Prelude.{is_some}
+use Rattle.mon_config.specs.declared.config.Config.{Config}
+use Rattle.query_core.specs.declared.asks.Ask.{Ask}
+use Rattle.weave_core.proofs.QueryStepLemmas.{at_asking, query_steps}
+use Rattle.weave_core.proofs.WriteStepLemmas.{at_work, write_steps}
+use Rattle.weave_core.specs.ActorAgreements.{IsActorSo, IsCourseSo, IsDismissed}
+use Rattle.weave_core.specs.ActorSteps.{ActorSteps, HadEnded, HasStepped, IsIn, IsSomewhere, QueriedSo, WrittenSo}
+use Rattle.weave_core.specs.Core.{Core, Reader}
+use Rattle.weave_core.specs.EventNames.{event_of_query, event_of_write}
+use Rattle.weave_core.specs.QueryTurns.{IsAskedSomewhere, IsAsking, QueriesSo}
+use Rattle.weave_core.specs.States.{Asking, Dismissed, Eventless, Role, State, Undeclared, Writing, fault_in, step_fault, store_of}
+use Rattle.weave_core.specs.Steps.{StepsIn, with_role}
+use Rattle.weave_core.specs.WriteTurns.{IsAtWork, IsInSomeWorld, WritesSo}
+use Rattle.weave_core.specs.declared.actors.Actor.{Actor}
+use Rattle.weave_core.specs.declared.actors.Course.{Course}
+use Rattle.weave_core.specs.declared.actors.Course.TheVariants as course
+use Rattle.weave_core.specs.declared.calls.Stepped.{Stepped}
+use Rattle.weave_core.specs.declared.calls.Stepped.TheVariants as stepped
+use Rattle.weave_core.specs.declared.calls.WeaveFault.{WeaveFault}
+use Rattle.weave_core.specs.declared.calls.WeaveFault.TheVariants as fault
+use Rattle.weave_core.specs.declared.queries.QueryTurn.{QueryTurn}
+use Rattle.weave_core.specs.declared.queries.QueryTurn.TheVariants as query_turn
+use Rattle.weave_core.specs.declared.queries.Querying.{Querying}
+use Rattle.weave_core.specs.declared.sights.Sight.{Sight}
+use Rattle.weave_core.specs.declared.store.Store.{Store}
+use Rattle.weave_core.specs.declared.writes.WriteTurn.{WriteTurn}
+use Rattle.weave_core.specs.declared.writes.WriteTurn.TheVariants as write_turn
+use Rattle.weave_core.specs.declared.writes.Writing.{Writing as Write}
+use Rattle.write_core.proofs.KeepsLemmas.{changed_same}
+use Rattle.write_core.specs.World.{Actor as Doer, World}
+use Rattle.write_core.specs.declared.asks.WriteAsk.{WriteAsk}
+
+-- ---- an actor that has ended
+
+module _ (config : Config) (state : State (store_of config)) (i : ℕ) where
+  ended_fault : (role : Role) (begun : Bool) (sight : Sight)
+      → IsCourseSo config i (state.core.world.actors i) (state.core.readers i) role course.Ended begun sight
+      → fault_in (store_of config) state i role ≡ Some fault.Finished
+  ended_fault Undeclared begun sight h = absurd h
+  ended_fault (Eventless text) begun sight h = absurd h
+  ended_fault Dismissed begun sight h = refl
+  ended_fault Writing begun sight h =
+      ap (λ (asks : WriteAsk). cond (not (is_some (event_of_write asks))) (Some fault.Finished) None) h.ended
+  ended_fault Asking begun sight h =
+      ap (λ (asks : Ask). cond (not (is_some (event_of_query asks))) (Some fault.Finished) None) h.ended
+
+  pub had_ended : (store : Store) (sight : Sight) (begun : Bool)
+      → IsIn config state i store (record { course = course.Ended; sight = sight; begun = begun })
+      → (own : Actor) → own ≡ record { course = course.Ended; sight = sight; begun = begun }
+      → ActorSteps config state i store (record { course = course.Ended; sight = sight; begun = begun }) own None
+  had_ended store sight begun here own same = record {
+    fault = ended_fault (state.roles i) begun sight here.actor;
+    shared = here.shared;
+    same = same;
+  }
+
+  -- ---- one whose call has no event
+
+  module _ (store : Store) (text : List ℕ) (sight : Sight) (begun : Bool)
+      (here : IsIn config state i store (record { course = course.Refused text; sight = sight; begun = begun })) where
+    abbrev Doer' : Doer
+    Doer' = state.core.world.actors i
+
+    abbrev Reader' : Reader (store_of config)
+    Reader' = state.core.readers i
+
+    refused_by : (role : Role) → state.roles i ≡ role → IsCourseSo config i Doer' Reader' role (course.Refused text) begun sight
+        → HasStepped config state i store (record { course = course.Ended; sight = sight; begun = true }) (stepped.Ended text)
+    refused_by Undeclared e h = absurd h
+    refused_by (Eventless own) e h = record {
+      fault = ap (fault_in (store_of config) state i) e;
+      after = with_role (store_of config) state i Dismissed;
+      steps = subst (λ (role : Role). StepsIn (store_of config) role state i (stepped.Ended text)
+          (with_role (store_of config) state i Dismissed)) (sym e) (ap (λ (t : List ℕ). stepped.Ended t) h.text_is, refl);
+      shared = here.shared;
+      actor = subst (λ (role : Role). IsActorSo config i Doer' Reader' role
+          (Some (record { course = course.Ended; sight = sight; begun = true })))
+          (sym (changed_same state.roles i Dismissed)) (record { stands = h.stands; seen = h.seen });
+    }
+    refused_by Dismissed e h = absurd h
+    refused_by Writing e h = absurd h
+    refused_by Asking e h = absurd h
+
+    pub refused_steps : (own : Actor) → own ≡ record { course = course.Ended; sight = sight; begun = true }
+        → ActorSteps config state i store (record { course = course.Refused text; sight = sight; begun = begun }) own
+        (Some (stepped.Ended text))
+    refused_steps own same = subst (λ (one : Actor). HasStepped config state i store one (stepped.Ended text)) (sym same)
+        (refused_by (state.roles i) refl here.actor)
+
+-- ---- what a step asks for
+
+pub writes_somewhere : (store : Store) (writing : Write) (sight : Sight) (begun : Bool)
+    → IsSomewhere store (record { course = course.Writes writing; sight = sight; begun = begun })
+    → IsInSomeWorld store writing sight
+writes_somewhere store writing sight begun some = record {
+  config = some.config;
+  world = some.state.core.world;
+  i = some.i;
+  at_work = at_work some.config some.state some.i store writing sight begun some.is_in;
+}
+
+pub asks_somewhere : (store : Store) (querying : Querying) (sight : Sight) (begun : Bool)
+    → IsSomewhere store (record { course = course.Queries querying; sight = sight; begun = begun })
+    → IsAskedSomewhere store querying sight
+asks_somewhere store querying sight begun some = record {
+  config = some.config;
+  core = some.state.core;
+  k = some.i;
+  asking = at_asking some.config some.state some.i store querying sight begun some.is_in;
+}
+
+-- ---- the configuration stays
+
+written_config : (config : Config) (world : World) (i : ℕ) (writing : Write) (new : Store) (before now : Sight)
+    (turn : WriteTurn) → WritesSo config world i writing new before now turn → new.config ≡ config
+written_config config world i writing new before now (write_turn.Went next) h = h.came.shared.config_is
+written_config config world i writing new before now (write_turn.Waits next) h = h.shared.config_is
+written_config config world i writing new before now (write_turn.Ended range end) h = h.came.shared.config_is
+
+queried_config : (config : Config) (core : Core (store_of config)) (i : ℕ) (querying : Querying) (new : Store)
+    (before now : Sight) (turn : QueryTurn) → QueriesSo config core i querying new before now turn → new.config ≡ config
+queried_config config core i querying new before now (query_turn.Went next) h = h.shared.config_is
+queried_config config core i querying new before now (query_turn.Waits next) h = h.1.shared.config_is
+queried_config config core i querying new before now (query_turn.Ended end) h = h.shared.config_is
+
+-- ---- by the course of an actor
+
+own_is : (own : Actor) (one : Course) → own.course ≡ one → own ≡ record { course = one; sight = own.sight; begun = own.begun }
+own_is own one e = λ k. record { course = e k; sight = own.sight; begun = own.begun }
+
+pub write_asks_for : (store : Store) (own : Actor) (writing : Write) → own.course ≡ course.Writes writing
+    → IsSomewhere store own → IsInSomeWorld store writing own.sight
+write_asks_for store own writing e some =
+    writes_somewhere store writing own.sight own.begun
+    (subst (λ (one : Actor). IsSomewhere store one) (own_is own (course.Writes writing) e) some)
+
+pub query_asks_for : (store : Store) (own : Actor) (querying : Querying) → own.course ≡ course.Queries querying
+    → IsSomewhere store own → IsAskedSomewhere store querying own.sight
+query_asks_for store own querying e some =
+    asks_somewhere store querying own.sight own.begun
+    (subst (λ (one : Actor). IsSomewhere store one) (own_is own (course.Queries querying) e) some)
+
+module _ (config : Config) (state : State (store_of config)) (i : ℕ) (store : Store) (own : Actor)
+    (here : IsIn config state i store own) where
+  as_course : (one : Course) → own.course ≡ one
+      → IsIn config state i store (record { course = one; sight = own.sight; begun = own.begun })
+  as_course one e = subst (λ (actor : Actor). IsIn config state i store actor) (own_is own one e) here
+
+  pub ended_step : own.course ≡ course.Ended → (next : Actor)
+      → next ≡ record { course = course.Ended; sight = own.sight; begun = own.begun }
+      → ActorSteps config state i store own next None
+  ended_step e next same =
+      subst (λ (one : Actor). ActorSteps config state i store one next None) (sym (own_is own course.Ended e))
+      (had_ended config state i store own.sight own.begun (as_course course.Ended e) next same)
+
+  pub refused_step : (text : List ℕ) → own.course ≡ course.Refused text → (next : Actor)
+      → next ≡ record { course = course.Ended; sight = own.sight; begun = true }
+      → ActorSteps config state i store own next (Some (stepped.Ended text))
+  refused_step text e next same = refused_steps config state i store text own.sight own.begun
+      (as_course (course.Refused text) e) next same
+
+  pub write_step : (writing : Write) → own.course ≡ course.Writes writing → (new : Store) (now : Sight) (turn : WriteTurn)
+      (next : Actor) (how : Option Stepped)
+      → ((at : IsAtWork config state.core.world i store writing own.sight)
+      → WritesSo config state.core.world i writing new own.sight now turn)
+      → WrittenSo new.config.topology turn now own.begun next how → ActorSteps config state i new own next how
+  write_step writing e new now turn next how writes h =
+      let so : WritesSo config state.core.world i writing new own.sight now turn
+      = writes (at_work config state i store writing own.sight own.begun (as_course (course.Writes writing) e)) in
+      subst (λ (one : Actor). ActorSteps config state i new one next how) (sym (own_is own (course.Writes writing) e))
+      (write_steps config state i store writing own.sight own.begun (as_course (course.Writes writing) e) new.config.topology new
+      now turn next how
+      (ap (λ (c : Config). c.topology) (written_config config state.core.world i writing new own.sight now turn so)) so h)
+
+  pub query_step : (querying : Querying) → own.course ≡ course.Queries querying → (new : Store) (now : Sight) (turn : QueryTurn)
+      (next : Actor) (how : Option Stepped)
+      → ((asking : IsAsking config state.core i store querying own.sight)
+      → QueriesSo config state.core i querying new own.sight now turn)
+      → QueriedSo new.config.topology turn now own.begun next how → ActorSteps config state i new own next how
+  query_step querying e new now turn next how queries h =
+      let so : QueriesSo config state.core i querying new own.sight now turn
+      = queries (at_asking config state i store querying own.sight own.begun (as_course (course.Queries querying) e)) in
+      subst (λ (one : Actor). ActorSteps config state i new one next how) (sym (own_is own (course.Queries querying) e))
+      (query_steps config state i store querying own.sight own.begun (as_course (course.Queries querying) e) new.config.topology
+      new now turn next how
+      (ap (λ (c : Config). c.topology) (queried_config config state.core i querying new own.sight now turn so)) so h)

@@ -1,0 +1,227 @@
+-- What an actor tells of itself is so in every state of the core that agrees.
+use Rattle.std.proofs.Common.{◌≡◌, ◌≢◌, ℕ, Bool, true, false, not, Option, Some, None, Bor, refl, sym, ap, subst, ◌∙◌}
+use Rattle.std.specs.Prelude.{◌||◌, is_some}
+use Rattle.std.specs.Option.{option_copied}
+use Rattle.mon_config.specs.declared.config.Config.{Config}
+use Rattle.query_core.specs.Machine.{Query}
+use Rattle.query_core.specs.Program as query
+use Rattle.query_core.specs.Settings.{Setting}
+use Rattle.query_core.specs.declared.asks.Ask.{Ask}
+use Rattle.query_core.specs.declared.asks.Ask.TheVariants as query_ask
+use Rattle.weave_core.specs.ActorAgreements.{Agrees, IsActorSo, IsCourseSo, IsQuerying, IsWriting, actor_numbered}
+use Rattle.weave_core.specs.Core.{Reader, asked_now, query_now}
+use Rattle.weave_core.specs.Courses.{event_of, is_over}
+use Rattle.weave_core.specs.EventNames.{event_of_query, event_of_write}
+use Rattle.weave_core.specs.States as spec
+use Rattle.weave_core.specs.States.{Asking, Dismissed, Eventless, Role, State, Undeclared, Writing, begun_in, declared_in, ended_in, fault_in, next_in, store_of, write_asks}
+use Rattle.weave_core.specs.declared.actors.Actor.{Actor}
+use Rattle.weave_core.specs.declared.actors.Course.{Course}
+use Rattle.weave_core.specs.declared.actors.Course.TheVariants as course
+use Rattle.weave_core.specs.declared.calls.WeaveFault.TheVariants as fault
+use Rattle.weave_core.specs.declared.queries.Querying.{Querying}
+use Rattle.weave_core.specs.declared.sights.Sight.{Sight}
+use Rattle.weave_core.specs.declared.weave.Weave.{Weave}
+use Rattle.weave_core.specs.declared.writes.Writing.{Writing as Write}
+use Rattle.write_core.specs.Program as write
+use Rattle.write_core.specs.World.{Actor as Doer}
+use Rattle.write_core.specs.declared.asks.WriteAsk.{WriteAsk}
+use Rattle.write_core.specs.declared.asks.WriteAsk.TheVariants as write_ask
+
+write_goes : (asks : WriteAsk) → asks ≢ write_ask.Finished → is_some (event_of_write asks) ≡ true
+write_goes write_ask.Lock on = refl
+write_goes (write_ask.Reserve slot leaf) on = refl
+write_goes (write_ask.Enter slot leaf) on = refl
+write_goes (write_ask.RaiseRoot bucket) on = refl
+write_goes (write_ask.RaiseZone bucket) on = refl
+write_goes (write_ask.Put slot leaf) on = refl
+write_goes write_ask.Ack on = refl
+write_goes write_ask.Finished on = absurd (on refl)
+
+query_goes : (asks : Ask) → asks ≢ query_ask.Finished → is_some (event_of_query asks) ≡ true
+query_goes (query_ask.LoadRoot bucket) on = refl
+query_goes (query_ask.LoadZone zone bucket) on = refl
+query_goes (query_ask.Resolve range) on = refl
+query_goes (query_ask.Visit leaf) on = refl
+query_goes query_ask.Finished on = absurd (on refl)
+
+or_false : (b : Bool) → (b || false) ≡ b
+or_false true = refl
+or_false false = refl
+
+or_true : (b : Bool) → (b || true) ≡ true
+or_true true = refl
+or_true false = refl
+
+pub some_copied : {T : Type 0} (found : Option (Bor T)) → is_some found ≡ is_some (option_copied found)
+some_copied None = refl
+some_copied (Some one) = refl
+
+module _ (config : Config) (state : State (store_of config)) (i : ℕ) where
+  abbrev Doer' : Doer
+  Doer' = state.core.world.actors i
+
+  abbrev Reader' : Reader (store_of config)
+  Reader' = state.core.readers i
+
+  write_asks_so : (writing : Write) (begun : Bool) (sight : Sight) → IsWriting config i Doer' Reader' writing begun sight
+      → write.ask_of writing.machine.stage ≡ write_asks Doer'
+  write_asks_so writing begun sight h = sym (ap (λ (who : Doer). write_asks who) h.writer.writer)
+
+  query_asks_so : (querying : Querying) (begun : Bool) (sight : Sight)
+      → IsQuerying config i Doer' Reader' querying begun sight
+      → query.ask_of querying.machine.setting querying.machine.stage ≡ asked_now (store_of config) Reader'
+  query_asks_so querying begun sight h =
+      sym (ap (λ (setting : Setting). query.ask_of setting (query_now (store_of config) Reader').stage) h.reader_so.setting
+      ∙ ap (λ (now : Query). query.ask_of querying.machine.setting now.stage) h.reader_so.now)
+
+  -- ---- its next event
+
+  next_so : (role : Role) (one : Course) (begun : Bool) (sight : Sight) → IsCourseSo config i Doer' Reader' role one begun sight
+      → event_of one ≡ next_in (store_of config) state i role
+  next_so Undeclared one begun sight h = absurd h
+  next_so (Eventless text) (course.Refused own) begun sight h = refl
+  next_so (Eventless text) (course.Writes writing) begun sight h = absurd h
+  next_so (Eventless text) (course.Queries querying) begun sight h = absurd h
+  next_so (Eventless text) course.Ended begun sight h = absurd h
+  next_so Dismissed (course.Refused own) begun sight h = absurd h
+  next_so Dismissed (course.Writes writing) begun sight h = absurd h
+  next_so Dismissed (course.Queries querying) begun sight h = absurd h
+  next_so Dismissed course.Ended begun sight h = refl
+  next_so Writing (course.Refused own) begun sight h = absurd h
+  next_so Writing (course.Writes writing) begun sight h =
+      ap (λ (asks : WriteAsk). event_of_write asks) (write_asks_so writing begun sight h)
+  next_so Writing (course.Queries querying) begun sight h = absurd h
+  next_so Writing course.Ended begun sight h = sym (ap (λ (asks : WriteAsk). event_of_write asks) h.ended)
+  next_so Asking (course.Refused own) begun sight h = absurd h
+  next_so Asking (course.Writes writing) begun sight h = absurd h
+  next_so Asking (course.Queries querying) begun sight h =
+      ap (λ (asks : Ask). event_of_query asks) (query_asks_so querying begun sight h)
+  next_so Asking course.Ended begun sight h = sym (ap (λ (asks : Ask). event_of_query asks) h.ended)
+
+  no_next : (role : Role) → IsActorSo config i Doer' Reader' role None → None ≡ next_in (store_of config) state i role
+  no_next Undeclared h = refl
+  no_next (Eventless text) h = absurd h
+  no_next Dismissed h = absurd h
+  no_next Writing h = absurd h
+  no_next Asking h = absurd h
+
+  -- ---- whether it is declared
+
+  declared_so : (role : Role) (one : Option Actor) → IsActorSo config i Doer' Reader' role one
+      → is_some one ≡ declared_in (store_of config) state i role
+  declared_so Undeclared None h = refl
+  declared_so Undeclared (Some own) h = absurd h
+  declared_so (Eventless text) None h = absurd h
+  declared_so (Eventless text) (Some own) h = refl
+  declared_so Dismissed None h = absurd h
+  declared_so Dismissed (Some own) h = refl
+  declared_so Writing None h = absurd h
+  declared_so Writing (Some own) h = refl
+  declared_so Asking None h = absurd h
+  declared_so Asking (Some own) h = refl
+
+  pub no_actor : (role : Role) → IsActorSo config i Doer' Reader' role None
+      → fault_in (store_of config) state i role ≡ Some fault.NoActor
+  no_actor Undeclared h = refl
+  no_actor (Eventless text) h = absurd h
+  no_actor Dismissed h = absurd h
+  no_actor Writing h = absurd h
+  no_actor Asking h = absurd h
+
+  -- ---- whether it has ended
+
+  over_so : (role : Role) (one : Course) (begun : Bool) (sight : Sight) → IsCourseSo config i Doer' Reader' role one begun sight
+      → is_over one ≡ ended_in (store_of config) state i role
+  over_so Undeclared one begun sight h = absurd h
+  over_so (Eventless text) (course.Refused own) begun sight h = refl
+  over_so (Eventless text) (course.Writes writing) begun sight h = absurd h
+  over_so (Eventless text) (course.Queries querying) begun sight h = absurd h
+  over_so (Eventless text) course.Ended begun sight h = absurd h
+  over_so Dismissed (course.Refused own) begun sight h = absurd h
+  over_so Dismissed (course.Writes writing) begun sight h = absurd h
+  over_so Dismissed (course.Queries querying) begun sight h = absurd h
+  over_so Dismissed course.Ended begun sight h = refl
+  over_so Writing (course.Refused own) begun sight h = absurd h
+  over_so Writing (course.Writes writing) begun sight h =
+      sym (ap (λ (asks : WriteAsk). not (is_some (event_of_write asks))) (sym (write_asks_so writing begun sight h))
+      ∙ ap not (write_goes (write.ask_of writing.machine.stage) h.goes_on))
+  over_so Writing (course.Queries querying) begun sight h = absurd h
+  over_so Writing course.Ended begun sight h = sym (ap (λ (asks : WriteAsk). not (is_some (event_of_write asks))) h.ended)
+  over_so Asking (course.Refused own) begun sight h = absurd h
+  over_so Asking (course.Writes writing) begun sight h = absurd h
+  over_so Asking (course.Queries querying) begun sight h =
+      sym (ap (λ (asks : Ask). not (is_some (event_of_query asks))) (sym (query_asks_so querying begun sight h))
+      ∙ ap not (query_goes (query.ask_of querying.machine.setting querying.machine.stage) h.goes_on))
+  over_so Asking course.Ended begun sight h = sym (ap (λ (asks : Ask). not (is_some (event_of_query asks))) h.ended)
+
+  not_over : (role : Role) → IsActorSo config i Doer' Reader' role None → false ≡ ended_in (store_of config) state i role
+  not_over Undeclared h = refl
+  not_over (Eventless text) h = absurd h
+  not_over Dismissed h = absurd h
+  not_over Writing h = absurd h
+  not_over Asking h = absurd h
+
+  -- ---- whether it has begun
+
+  begun_so : (role : Role) (one : Course) (begun : Bool) (sight : Sight) → IsCourseSo config i Doer' Reader' role one begun sight
+      → (begun || is_over one) ≡ begun_in (store_of config) state i role
+  begun_so Undeclared one begun sight h = absurd h
+  begun_so (Eventless text) (course.Refused own) begun sight h = or_false begun ∙ h.begun_is
+  begun_so (Eventless text) (course.Writes writing) begun sight h = absurd h
+  begun_so (Eventless text) (course.Queries querying) begun sight h = absurd h
+  begun_so (Eventless text) course.Ended begun sight h = absurd h
+  begun_so Dismissed (course.Refused own) begun sight h = absurd h
+  begun_so Dismissed (course.Writes writing) begun sight h = absurd h
+  begun_so Dismissed (course.Queries querying) begun sight h = absurd h
+  begun_so Dismissed course.Ended begun sight h = or_true begun
+  begun_so Writing (course.Refused own) begun sight h = absurd h
+  begun_so Writing (course.Writes writing) begun sight h = or_false begun ∙ h.begun_is
+  begun_so Writing (course.Queries querying) begun sight h = absurd h
+  begun_so Writing course.Ended begun sight h = or_true begun ∙ sym h.begun_is
+  begun_so Asking (course.Refused own) begun sight h = absurd h
+  begun_so Asking (course.Writes writing) begun sight h = absurd h
+  begun_so Asking (course.Queries querying) begun sight h = or_false begun ∙ h.begun_is
+  begun_so Asking course.Ended begun sight h = or_true begun ∙ sym h.begun_is
+
+  not_begun : (role : Role) → IsActorSo config i Doer' Reader' role None → false ≡ begun_in (store_of config) state i role
+  not_begun Undeclared h = refl
+  not_begun (Eventless text) h = absurd h
+  not_begun Dismissed h = absurd h
+  not_begun Writing h = absurd h
+  not_begun Asking h = absurd h
+
+-- ---- of the actor of a number
+
+module _ (weave : Weave) (i : ℕ) (one : Option Actor) (is : one ≡ actor_numbered weave.actors.items i) (config : Config)
+    (state : State (store_of config)) (agrees : Agrees config weave state) where
+  pub here : IsActorSo config i (state.core.world.actors i) (state.core.readers i) (state.roles i) one
+  here = subst (λ (found : Option Actor). IsActorSo config i (state.core.world.actors i) (state.core.readers i) (state.roles i) found)
+      (sym is) (agrees.actors.each i)
+
+  pub is_declared : is_some one ≡ spec.is_declared (store_of config) state i
+  is_declared = declared_so config state i (state.roles i) one here
+
+module _ (weave : Weave) (i : ℕ) (own : Actor) (is : Some own ≡ actor_numbered weave.actors.items i) (config : Config)
+    (state : State (store_of config)) (agrees : Agrees config weave state) where
+  pub next_there : event_of own.course ≡ spec.next_event (store_of config) state i
+  next_there = next_so config state i (state.roles i) own.course own.begun own.sight
+      (here weave i (Some own) is config state agrees)
+
+  pub over_there : is_over own.course ≡ spec.has_ended (store_of config) state i
+  over_there = over_so config state i (state.roles i) own.course own.begun own.sight
+      (here weave i (Some own) is config state agrees)
+
+  pub begun_there : (own.begun || is_over own.course) ≡ spec.has_begun (store_of config) state i
+  begun_there = begun_so config state i (state.roles i) own.course own.begun own.sight
+      (here weave i (Some own) is config state agrees)
+
+module _ (weave : Weave) (i : ℕ) (is : None ≡ actor_numbered weave.actors.items i) (config : Config)
+    (state : State (store_of config)) (agrees : Agrees config weave state) where
+  pub next_nowhere : None ≡ spec.next_event (store_of config) state i
+  next_nowhere = no_next config state i (state.roles i) (here weave i None is config state agrees)
+
+  pub over_nowhere : false ≡ spec.has_ended (store_of config) state i
+  over_nowhere = not_over config state i (state.roles i) (here weave i None is config state agrees)
+
+  pub begun_nowhere : false ≡ spec.has_begun (store_of config) state i
+  begun_nowhere = not_begun config state i (state.roles i) (here weave i None is config state agrees)

@@ -1,0 +1,383 @@
+-- A weave after an actor was declared.
+use Rattle.std.proofs.Common.{◌≡◌, ◌≢◌, ℕ, ℤ, ◌<◌, pos, ◌≤ℤ◌, Bool, true, false, cond, Option, Some, None, Result, List, [], ◌∷◌, length, set, refl, sym, ap, subst, ◌∙◌, arith, ◌≤◌}
+use Rattle.std.proofs.lemmas.List.{length-set}
+use Rattle.std.specs.Prelude.{slice_get}
+use Rattle.mon_config.specs.declared.config.Config.{Config}
+use Rattle.mon_schema.specs.Fits.{fits}
+use Rattle.mon_topo.proofs.HeldLemmas.{seen_within_itself}
+use Rattle.mon_topo.specs.Locations.{range_for}
+use Rattle.mon_topo.specs.SeenHistories.{AreWithin}
+use Rattle.mon_topo.specs.Zones.{ranges_in}
+use Rattle.mon_value.specs.declared.positions.Range.{Range}
+use Rattle.mon_value.specs.declared.rows.Row.{Row}
+use Rattle.mql_types.specs.Nodes.{TypedTree}
+use Rattle.query_core.specs.Machine.{Query, new_query}
+use Rattle.query_core.specs.Program as query
+use Rattle.query_core.specs.Settings.{Setting}
+use Rattle.query_core.specs.declared.asks.Ask.TheVariants as query_ask
+use Rattle.query_core.specs.declared.stages.Stage.{Stage}
+use Rattle.weave_core.proofs.CoreLemmas.{stays_woven}
+use Rattle.weave_core.proofs.HolderLemmas.{holders_changed}
+use Rattle.weave_core.proofs.NumberLemmas.{agrees_at, set_apart, set_at, shared_beside}
+use Rattle.weave_core.proofs.ReachedLemmas.{fresh_reader, part_of}
+use Rattle.weave_core.proofs.StepLemmas.{Leaves}
+use Rattle.weave_core.specs.ActorAgreements.{Agrees, IsActorSo, IsQuerying, IsStander, IsWriting, actor_numbered, flat}
+use Rattle.weave_core.specs.Agreements.{AreShared, IsServed, first_view}
+use Rattle.weave_core.specs.Core.{CanCome, Happens, Reader}
+use Rattle.weave_core.specs.Declarations.{Declares, QueryBegins, WriteBegins, new_reader, with_reader}
+use Rattle.weave_core.specs.EndTexts.{no_zone_text}
+use Rattle.weave_core.specs.FirstHistories.{first_histories}
+use Rattle.weave_core.specs.Holders.{AreHolders, HoldsLeaf, HoldsRange}
+use Rattle.weave_core.specs.Licensed.{IsReader}
+use Rattle.weave_core.specs.NewActors.{BeginsToWrite, IsCourseOf, IsNewActor}
+use Rattle.weave_core.specs.QueryPlans.{BeginsToAsk}
+use Rattle.weave_core.specs.Sights.{sight_of}
+use Rattle.weave_core.specs.States.{Asking, Dismissed, Eventless, Role, State, Undeclared, Writing, declared_in, store_of, writes_begun}
+use Rattle.weave_core.specs.Steps.{with_event, with_role}
+use Rattle.weave_core.specs.WeaveCalls.{DeclaresSo, IsKept, IsLawfulCall, MayDeclare}
+use Rattle.weave_core.specs.declared.actors.Actor.{Actor}
+use Rattle.weave_core.specs.declared.actors.Course.{Course}
+use Rattle.weave_core.specs.declared.actors.Course.TheVariants as course
+use Rattle.weave_core.specs.declared.calls.Call.{Call}
+use Rattle.weave_core.specs.declared.calls.Call.TheVariants as call
+use Rattle.weave_core.specs.declared.calls.WeaveFault.TheVariants as fault
+use Rattle.weave_core.specs.declared.limits.TheConstants.{LAST_ACTOR}
+use Rattle.weave_core.specs.declared.queries.Querying.{Querying}
+use Rattle.weave_core.specs.declared.sights.Sight.{Sight}
+use Rattle.weave_core.specs.declared.store.Store.{Store}
+use Rattle.weave_core.specs.declared.weave.Weave.{Weave}
+use Rattle.weave_core.specs.declared.writes.Writing.{Writing as Write}
+use Rattle.write_core.proofs.KeepsLemmas.{changed_by, changed_other, changed_same}
+use Rattle.write_core.specs.Events.{Begins, CanBegin, new_writer}
+use Rattle.write_core.specs.Program.{Locking, new_write}
+use Rattle.write_core.specs.Views.{View}
+use Rattle.write_core.specs.World.{Actor as Doer, Stands, Writes, changed, view_of}
+use Rattle.write_core.specs.declared.asks.WriteAsk.TheVariants as write_ask
+
+-- ---- who stands by
+
+abbrev pub stander : ℕ → View → Doer
+stander i view = Stands (record { pass = i; view = view })
+
+pub stands_so : (i : ℕ) (view : View) (doer : Doer) → doer ≡ stander i view → doer ≡ stander i (view_of doer)
+stands_so i view doer e = e ∙ ap (λ (v : View). stander i v) (sym (ap (λ (d : Doer). view_of d) e))
+
+-- ---- a write that has not begun
+
+locks_first : write_ask.Lock ≡ write_ask.Finished → ⊥
+locks_first e = cc
+
+abbrev pub at_lock : ℕ → Row → Range → View → Doer
+at_lock i row range view = Writes (record { pass = i; row = row; range = range; stage = Locking; view = view })
+
+abbrev writing_of : ℕ → Row → Range → Write
+writing_of i row range = record { number = i; row = row; range = range; machine = new_write range; inside = None }
+
+new_writing : (config : Config) (i : ℕ) (doer : Doer) (reader : Reader (store_of config)) (row : Row) (range : Range)
+    (view : View) → doer ≡ at_lock i row range view
+    → IsWriting config i doer reader (writing_of i row range) false (sight_of view.seen)
+new_writing config i doer reader row range view e = record {
+  writer = record {
+    number = refl;
+    writer = e ∙ ap (λ (v : View). at_lock i row range v) (sym (ap (λ (d : Doer). view_of d) e));
+    range = refl;
+    looks = tt;
+    below = tt;
+    inside = refl;
+    seen = ap (λ (d : Doer). sight_of (view_of d).seen) (sym e);
+  };
+  goes_on = locks_first;
+  begun_is = ap (λ (d : Doer). writes_begun d) (sym e);
+}
+
+writing_is : (config : Config) (i : ℕ) (row : Row) (writing : Write) → BeginsToWrite config i row writing
+    → writing ≡ writing_of i row writing.range
+writing_is config i row writing h = λ k. record {
+  number = h.number k;
+  row = h.row_is k;
+  range = writing.range;
+  machine = h.machine k;
+  inside = h.inside k;
+}
+
+-- ---- a query that has not begun
+
+loads_first : (setting : Setting) (stage : Stage) → stage ≡ (new_query setting).stage
+    → query.ask_of setting stage ≡ query_ask.Finished → ⊥
+loads_first setting stage e finished =
+    let no : query.ask_of setting (new_query setting).stage ≡ query_ask.Finished
+    = ap (λ (s : Stage). query.ask_of setting s) (sym e) ∙ finished in
+    absurd cc
+
+-- ---- in a state of the core
+
+module _ (config : Config) (state : State (store_of config)) (i : ℕ) where
+  abbrev Doer' : Doer
+  Doer' = state.core.world.actors i
+
+  abbrev Reader' : Reader (store_of config)
+  Reader' = state.core.readers i
+
+  -- who is not declared stands by, and has seen what all have seen at first
+  undeclared_by : (role : Role) (one : Option Actor)
+      → cond (declared_in (store_of config) state i role) (Some fault.BadLine) None ≡ None
+      → IsActorSo config i Doer' Reader' role one → Doer' ≡ stander i (first_view config)
+  undeclared_by Undeclared None e h = h
+  undeclared_by Undeclared (Some own) e h = absurd h
+  undeclared_by (Eventless text) one e h = absurd cc
+  undeclared_by Dismissed one e h = absurd cc
+  undeclared_by Writing one e h = absurd cc
+  undeclared_by Asking one e h = absurd cc
+
+  module _ (weave : Weave) (agrees : Agrees config weave state) (stands : Doer' ≡ stander i (first_view config)) where
+    abbrev First : Sight
+    First = sight_of (first_view config).seen
+
+    -- an actor is declared so, and is as it is kept
+    record IsDeclaredSo (what : Call) (one : Course) (begun : Bool) (sight : Sight) : Type 0 where
+      pub after : State (store_of config)
+      pub declares : Declares config state i what after
+      pub leaves : Leaves (store_of config) state i after
+      pub shared : AreShared config after.core.world weave.store
+      pub actor : IsActorSo config i (after.core.world.actors i) (after.core.readers i) (after.roles i)
+          (Some (record { course = one; sight = sight; begun = begun }))
+
+    stands_now : IsStander config i Doer' Reader'
+    stands_now = stands_so i (first_view config) Doer' stands
+
+    first_seen : First ≡ sight_of (view_of Doer').seen
+    first_seen = ap (λ (d : Doer). sight_of (view_of d).seen) (sym stands)
+
+    -- of an actor that has not begun, and has seen what all have seen at first
+    as_new : (one : Course) (begun : Bool) (sight : Sight) → begun ≡ false → sight ≡ First → (after : State (store_of config))
+        → IsActorSo config i (after.core.world.actors i) (after.core.readers i) (after.roles i)
+        (Some (record { course = one; sight = First; begun = false }))
+        → IsActorSo config i (after.core.world.actors i) (after.core.readers i) (after.roles i)
+        (Some (record { course = one; sight = sight; begun = begun }))
+    as_new one begun sight new seen after h =
+        subst (λ (s : Sight). IsActorSo config i (after.core.world.actors i) (after.core.readers i) (after.roles i)
+        (Some (record { course = one; sight = s; begun = begun }))) (sym seen)
+        (subst (λ (b : Bool). IsActorSo config i (after.core.world.actors i) (after.core.readers i) (after.roles i)
+        (Some (record { course = one; sight = First; begun = b }))) (sym new) h)
+
+    -- a call without an event
+
+    eventless_left : (text : List ℕ) → Leaves (store_of config) state i (with_role (store_of config) state i (Eventless text))
+    eventless_left text = record {
+      woven = agrees.woven;
+      holders = agrees.holders;
+      others = record {
+        actor = λ j apart. refl;
+        reader = λ j apart. refl;
+        role = λ j apart. changed_other state.roles i j (Eventless text) apart;
+      };
+    }
+
+    eventless_so : (text : List ℕ)
+        → IsActorSo config i Doer' Reader' ((with_role (store_of config) state i (Eventless text)).roles i)
+        (Some (record { course = course.Refused text; sight = First; begun = false }))
+    eventless_so text = subst (λ (role : Role). IsActorSo config i Doer' Reader' role
+        (Some (record { course = course.Refused text; sight = First; begun = false })))
+        (sym (changed_same state.roles i (Eventless text)))
+        (record { text_is = refl; stands = stands_now; begun_is = refl; seen = first_seen })
+
+    eventless_declared : (what : Call) (text : List ℕ) (begun : Bool) (sight : Sight) → begun ≡ false → sight ≡ First
+        → Declares config state i what (with_role (store_of config) state i (Eventless text))
+        → IsDeclaredSo what (course.Refused text) begun sight
+    eventless_declared what text begun sight new seen declares = record {
+      after = with_role (store_of config) state i (Eventless text);
+      declares = declares;
+      leaves = eventless_left text;
+      shared = agrees.shared;
+      actor = as_new (course.Refused text) begun sight new seen (with_role (store_of config) state i (Eventless text))
+          (eventless_so text);
+    }
+
+    -- a write
+
+    module _ (row : Row) (range : Range)
+        (home : range_for config.schemas config.topology row.key.target ≡ Some range)
+        (there : range.0 < length (ranges_in config.topology)) (fitting : fits config.schemas row ≡ true) where
+      abbrev Begun : State (store_of config)
+      Begun = with_event (store_of config) state (Happens (Begins i row range))
+
+      abbrev Written : State (store_of config)
+      Written = with_role (store_of config) Begun i Writing
+
+      begins : CanCome (store_of config) state.core (Happens (Begins i row range))
+      begins = subst (λ (doer : Doer). CanBegin (store_of config) state.core.world row range doer) (sym stands)
+          ((fitting, home), subst (λ (n : ℕ). range.0 < n) (sym agrees.woven.world.truth.held.all_ranges) there)
+
+      write_holders : AreHolders Begun.core.world
+      write_holders = holders_changed state.core.world i (Writes (new_writer row range Doer')) agrees.holders
+          (λ r held. absurd (subst (λ (doer : Doer). HoldsRange r doer) stands held))
+          (λ l held. absurd (subst (λ (doer : Doer). HoldsLeaf l doer) stands held))
+
+      write_left : Leaves (store_of config) state i Written
+      write_left = record {
+        woven = stays_woven (store_of config) state.core (Happens (Begins i row range) ∷ []) (begins, tt) agrees.woven;
+        holders = write_holders;
+        others = record {
+          actor = λ j apart. changed_other state.core.world.actors i j (Writes (new_writer row range Doer')) apart;
+          reader = λ j apart. refl;
+          role = λ j apart. changed_other state.roles i j Writing apart;
+        };
+      }
+
+      new_doer : Begun.core.world.actors i ≡ at_lock i row range (first_view config)
+      new_doer = changed_same state.core.world.actors i (Writes (new_writer row range Doer'))
+          ∙ ap (λ (doer : Doer). Writes (new_writer row range doer)) stands
+
+      write_so : IsActorSo config i (Written.core.world.actors i) (Written.core.readers i) (Written.roles i)
+          (Some (record { course = course.Writes (writing_of i row range); sight = First; begun = false }))
+      write_so = subst (λ (role : Role). IsActorSo config i (Begun.core.world.actors i) Reader' role
+          (Some (record { course = course.Writes (writing_of i row range); sight = First; begun = false })))
+          (sym (changed_same state.roles i Writing))
+          (new_writing config i (Begun.core.world.actors i) Reader' row range (first_view config) new_doer)
+
+      write_declared : (begun : Bool) (sight : Sight) → begun ≡ false → sight ≡ First
+          → IsDeclaredSo (call.Write row) (course.Writes (writing_of i row range)) begun sight
+      write_declared begun sight new seen = record {
+        after = Written;
+        declares = subst (λ (found : Option Range). WriteBegins config state i row found Written) (sym home) (begins, refl);
+        leaves = write_left;
+        shared = shared_beside config state.core.world (changed state.core.world.actors i (Writes (new_writer row range Doer')))
+            weave.store agrees.shared;
+        actor = as_new (course.Writes (writing_of i row range)) begun sight new seen Written write_so;
+      }
+
+    -- a query
+
+    module _ (moment : ℤ) (text : List ℕ) (querying : Querying) (asks : BeginsToAsk config moment text querying)
+        (lawful : pos 0 ≤ℤ moment) where
+      abbrev Asked : Setting
+      Asked = querying.machine.setting
+
+      abbrev Fresh : Reader (store_of config)
+      Fresh = new_reader (store_of config) Asked moment (view_of Doer')
+
+      abbrev Read : State (store_of config)
+      Read = with_reader (store_of config) state i Fresh
+
+      query_left : Leaves (store_of config) state i Read
+      query_left = record {
+        woven = record {
+          world = agrees.woven.world;
+          readers = changed_by state.core.readers i Fresh
+              (λ (j : ℕ) (one : Reader (store_of config)). IsReader (store_of config) state.core.world one)
+              (fresh_reader (store_of config) state.core.world Asked moment (view_of Doer')
+              (part_of (store_of config) state.core.world i Doer' (agrees.woven.world.actors i)))
+              (λ j apart. agrees.woven.readers j);
+        };
+        holders = agrees.holders;
+        others = record {
+          actor = λ j apart. refl;
+          reader = λ j apart. changed_other state.core.readers i j Fresh apart;
+          role = λ j apart. changed_other state.roles i j Asking apart;
+        };
+      }
+
+      asking_so : IsQuerying config i Doer' Fresh querying false First
+      asking_so = record {
+        reader_so = record {
+          asked = asks.machine.asked.asked;
+          moment_lawful = subst (λ (m : ℤ). pos 0 ≤ℤ m) (sym asks.moment_is) lawful;
+          setting = refl;
+          moment = sym asks.moment_is;
+          first = refl;
+          now = sym asks.machine.new;
+          since = subst (λ (doer : Doer). AreWithin (first_histories config.topology) (view_of doer).seen) (sym stands)
+              (seen_within_itself (first_histories config.topology));
+          seen = first_seen;
+        };
+        planned = record { limit = asks.machine.asked.limit; buckets = asks.machine.buckets };
+        stands = stands_now;
+        goes_on = loads_first Asked querying.machine.stage (ap (λ (machine : Query). machine.stage) asks.machine.new);
+        begun_is = refl;
+      }
+
+      query_so : IsActorSo config i Doer' (Read.core.readers i) (Read.roles i)
+          (Some (record { course = course.Queries querying; sight = First; begun = false }))
+      query_so = subst (λ (role : Role). IsActorSo config i Doer' (Read.core.readers i) role
+          (Some (record { course = course.Queries querying; sight = First; begun = false })))
+          (sym (changed_same state.roles i Asking))
+          (subst (λ (reader : Reader (store_of config)). IsQuerying config i Doer' reader querying false First)
+          (sym (changed_same state.core.readers i Fresh)) asking_so)
+
+      query_declared : (begun : Bool) (sight : Sight) → begun ≡ false → sight ≡ First
+          → IsDeclaredSo (call.Query moment text) (course.Queries querying) begun sight
+      query_declared begun sight new seen = record {
+        after = Read;
+        declares = subst (λ (typed : Result TypedTree (List ℕ)). QueryBegins config state i moment typed Read)
+            (sym asks.machine.typed_is) (Asked, asks.machine.asked, refl);
+        leaves = query_left;
+        shared = agrees.shared;
+        actor = as_new (course.Queries querying) begun sight new seen Read query_so;
+      }
+
+    -- whatever it is to do
+
+    declared_by : (what : Call) (one : Course) (begun : Bool) (sight : Sight) → begun ≡ false → sight ≡ First
+        → IsLawfulCall config what → IsCourseOf config i what one → IsDeclaredSo what one begun sight
+    declared_by (call.Write row) (course.Refused line) begun sight new seen lawful h =
+        subst (λ (text : List ℕ). IsDeclaredSo (call.Write row) (course.Refused text) begun sight) (sym h.1)
+        (eventless_declared (call.Write row) no_zone_text begun sight new seen
+        (subst (λ (found : Option Range). WriteBegins config state i row found
+        (with_role (store_of config) state i (Eventless no_zone_text))) (sym h.0) refl))
+    declared_by (call.Write row) (course.Writes writing) begun sight new seen lawful h =
+        subst (λ (one : Write). IsDeclaredSo (call.Write row) (course.Writes one) begun sight)
+        (sym (writing_is config i row writing h))
+        (write_declared row writing.range h.range_is h.there lawful begun sight new seen)
+    declared_by (call.Write row) (course.Queries querying) begun sight new seen lawful h = absurd h
+    declared_by (call.Write row) course.Ended begun sight new seen lawful h = absurd h
+    declared_by (call.Query moment text) (course.Refused line) begun sight new seen lawful h =
+        eventless_declared (call.Query moment text) line begun sight new seen
+        (subst (λ (typed : Result TypedTree (List ℕ)). QueryBegins config state i moment typed
+        (with_role (store_of config) state i (Eventless line))) (sym h) refl)
+    declared_by (call.Query moment text) (course.Writes writing) begun sight new seen lawful h = absurd h
+    declared_by (call.Query moment text) (course.Queries querying) begun sight new seen lawful h =
+        query_declared moment text querying h lawful begun sight new seen
+    declared_by (call.Query moment text) course.Ended begun sight new seen lawful h = absurd h
+
+-- ---- a weave in which it stands at its number
+
+module _ (old : Weave) (i : ℕ) (what : Call) (new : Weave) (own : Actor) (last : i ≤ LAST_ACTOR)
+    (store : new.store ≡ old.store) (items : new.actors.items ≡ set old.actors.items i (Some own))
+    (fresh : IsNewActor old.store.config i what old.store.first_sight own) where
+  here : (config : Config) (state : State (store_of config)) → Agrees config old state
+      → actor_numbered new.actors.items i ≡ Some own
+  here config state agrees = ap (λ (all : List (Option Actor)). flat (slice_get all i)) items
+      ∙ ap flat (set_at old.actors.items i (Some own) (let count = agrees.actors.count in omega (arith, count, last)))
+
+  elsewhere : (j : ℕ) → j ≢ i → actor_numbered new.actors.items j ≡ actor_numbered old.actors.items j
+  elsewhere j apart = ap (λ (all : List (Option Actor)). flat (slice_get all j)) items
+      ∙ ap flat (set_apart old.actors.items i j (Some own) apart)
+
+  pub declared : (config : Config) (state : State (store_of config)) → Agrees config old state
+      → MayDeclare config state i what → DeclaresSo config state i what new
+  declared config state agrees may =
+      let stands = undeclared_by config state i (state.roles i) (actor_numbered old.actors.items i) may.fault
+      (agrees.actors.each i) in
+      let so = declared_by config state i old agrees stands what own.course own.begun own.sight fresh.begun_is
+      (fresh.seen ∙ agrees.shared.first) may.lawful
+      (subst (λ (c : Config). IsCourseOf c i what own.course) agrees.shared.config_is fresh.course_is) in
+      record {
+        after = so.after;
+        declares = so.declares;
+        agrees = agrees_at config old new state so.after i own agrees so.leaves
+            (subst (λ (one : Store). AreShared config so.after.core.world one) (sym store) so.shared)
+            (ap length items ∙ length-set old.actors.items i (Some own)) (here config state agrees) elsewhere so.actor;
+      }
+
+  pub declared_kept : IsKept old
+      → ((config : Config) (state : State (store_of config)) → Agrees config old state → MayDeclare config state i what)
+      → IsKept new
+  declared_kept kept may =
+      let so = declared kept.config kept.state kept.agrees (may kept.config kept.state kept.agrees) in
+      record { config = kept.config; state = so.after; agrees = so.agrees }
+
+pub served : (old : Weave) → IsKept old → IsServed old.store.config
+served old kept = subst (λ (config : Config). IsServed config) (sym kept.agrees.shared.config_is) kept.agrees.shared.served
+
+pub actor_there : (old : Weave) (i : ℕ) → i ≤ LAST_ACTOR → IsKept old → i < length old.actors.items
+actor_there old i last kept = let count = kept.agrees.actors.count in omega (arith, count, last)

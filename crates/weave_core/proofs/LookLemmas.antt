@@ -1,0 +1,151 @@
+-- What a leaf's buckets and slots are to a query that looks at it.
+use Rattle.std.proofs.Common.{◌≡◌, ◌∙◌, ◌||◌, ℕ, Bool, true, false, cond, eqb, List, [], ◌∷◌, map, refl, sym, ap, subst, inl, inr}
+use Rattle.std.specs.List.{AllByRecursion as All}
+use Rattle.std.proofs.lemmas.Bool.{and_parts, eqb-true, or_cases, or_left, or_parts, or_right}
+use Rattle.leaf_eval.specs.Replicas as leaf_eval
+use Rattle.leaf_eval.specs.Replicas.{ShareNoSeries, has_series}
+use Rattle.mixer.specs.Divisions.{AreApart, ShareNoTarget, has_target}
+use Rattle.mon_hints.specs.Formulas.{FormulaTrees, all_named, any_holds, formula_tree, formulas}
+use Rattle.mon_hints.specs.Listings.{AreAmong, is_among}
+use Rattle.mon_hints.specs.Words.{buckets_of_child, has_bit}
+use Rattle.mon_value.proofs.SameLemmas.{same_series-Decides}
+use Rattle.mon_value.specs.LeafHistories.{replica_rows}
+use Rattle.mon_value.specs.Same.{same_series, same_target}
+use Rattle.mon_value.specs.declared.histories.Entry.{Entry}
+use Rattle.mon_value.specs.declared.positions.RangeSlot.{RangeSlot}
+use Rattle.mon_value.specs.declared.rows.Row.{Row}
+use Rattle.mon_value.specs.declared.rows.SeriesKey.{SeriesKey}
+use Rattle.mon_value.specs.declared.rows.Target.{Target}
+use Rattle.mql_types.specs.declared.plans.Plan.{Plan}
+use Rattle.query_core.proofs.HintFacts.{any_on}
+use Rattle.query_core.specs.Openings.{is_met, lets_in}
+
+-- ---- a leaf's own words
+
+abbrev pub own_word : List ℕ → ℕ → ℕ
+own_word own bucket = cond (is_among bucket own) 1 0
+
+own_bit : (b : Bool) → has_bit (cond b 1 0) 0 ≡ b
+own_bit true = refl
+own_bit false = refl
+
+module _ (own : List ℕ) where
+  abbrev found : List ℕ → List ℕ
+  found named = buckets_of_child named (map (own_word own) named) 0
+
+  first_found : (bucket : ℕ) (named : List ℕ) → found (bucket ∷ named) ≡ cond (is_among bucket own) (bucket ∷ found named) (found named)
+  first_found bucket named =
+      ap (λ b. cond b (bucket ∷ found named) (found named)) (own_bit (is_among bucket own))
+
+  here_by : (n bucket : ℕ) (rest : List ℕ) (b : Bool) → is_among n (cond b (bucket ∷ rest) rest) ≡ true
+      → (b ≡ true → eqb n bucket ≡ true → is_among n own ≡ true) → (is_among n rest ≡ true → is_among n own ≡ true)
+      → is_among n own ≡ true
+  here_by n bucket rest true here first later = elim (or_cases (eqb n bucket) (is_among n rest) here) [
+    | inl same ↦ first refl same
+    | inr more ↦ later more
+  ]
+  here_by n bucket rest false here first later = later here
+
+  -- what is found is the leaf's
+  found_own : (named : List ℕ) (n : ℕ) → is_among n (found named) ≡ true → is_among n own ≡ true
+  found_own [] n here = absurd cc
+  found_own (bucket ∷ named) n here =
+      here_by n bucket (found named) (is_among bucket own)
+      (sym (ap (is_among n) (first_found bucket named)) ∙ here)
+      (λ is same. subst (λ (m : ℕ). is_among m own ≡ true) (sym (eqb-true n bucket same)) is)
+      (found_own named n)
+
+  there_by : (n bucket : ℕ) (rest : List ℕ) (b : Bool) → (eqb n bucket ≡ true → b ≡ true)
+      → (eqb n bucket || false) ≡ true → is_among n (cond b (bucket ∷ rest) rest) ≡ true
+  there_by n bucket rest true is here =
+      or_left (eqb n bucket) (is_among n rest) (only (eqb n bucket) here)
+    where
+      only : (b : Bool) → (b || false) ≡ true → b ≡ true
+      only true e = refl
+      only false e = e
+  there_by n bucket rest false is here = absurd (clash (eqb n bucket) here is)
+    where
+      clash : (b : Bool) → (b || false) ≡ true → (b ≡ true → false ≡ true) → ⊥
+      clash true e is = let no = is refl in absurd cc
+      clash false e is = absurd cc
+
+  later_by : (n bucket : ℕ) (rest : List ℕ) (b : Bool) → is_among n rest ≡ true
+      → is_among n (cond b (bucket ∷ rest) rest) ≡ true
+  later_by n bucket rest true here = or_right (eqb n bucket) (is_among n rest) here
+  later_by n bucket rest false here = here
+
+  -- and what of the leaf's is named is found
+  own_found : (named : List ℕ) (n : ℕ) → is_among n named ≡ true → is_among n own ≡ true
+      → is_among n (found named) ≡ true
+  own_found [] n here is = absurd cc
+  own_found (bucket ∷ named) n here is =
+      ap (is_among n) (first_found bucket named)
+      ∙ (elim (or_cases (eqb n bucket) (is_among n named) here) [
+        | inl same ↦ there_by n bucket (found named) (is_among bucket own)
+            (λ e. subst (λ (m : ℕ). is_among m own ≡ true) (eqb-true n bucket e) is)
+            (or_left (eqb n bucket) false same)
+        | inr more ↦ later_by n bucket (found named) (is_among bucket own) (own_found named n more is)
+      ])
+
+  same_truth : (a b : Bool) → (a ≡ true → b ≡ true) → (b ≡ true → a ≡ true) → a ≡ b
+  same_truth true true f g = refl
+  same_truth false false f g = refl
+  same_truth true false f g = sym (f refl)
+  same_truth false true f g = g refl
+
+  holds_alike : (trees : FormulaTrees) (named : List ℕ) → AreAmong (all_named trees) named
+      → any_holds trees (found named) ≡ any_holds trees own
+  holds_alike trees named listed =
+      same_truth (any_holds trees (found named)) (any_holds trees own)
+      (any_on trees (found named) own (λ n in_named here. found_own named n here))
+      (any_on trees own (found named) (λ n in_named here. own_found named n (listed n in_named) here))
+
+  -- a plan lets the leaf in by its own words where a formula holds of its buckets
+  pub met_by_words : (plan : Plan) (words : List ℕ)
+      → AreAmong (all_named (formulas (map formula_tree plan.formulas))) plan.buckets
+      → words ≡ map (own_word own) plan.buckets → lets_in plan words 0 ≡ is_met plan own
+  met_by_words plan words listed is =
+      ap (λ (words : List ℕ). lets_in plan words 0) is
+      ∙ holds_alike (formulas (map formula_tree plan.formulas)) plan.buckets listed
+
+-- ---- slots that share no target share no series
+
+itself : (target : Target) → same_target target target ≡ true
+itself target =
+    let key : SeriesKey = record { target = target; metric = []; fields = [] } in
+    (and_parts (same_target target target) true ((same_series-Decides key key).1 refl)).0
+
+series_by : (key other : SeriesKey) (b : Bool) → same_series key other ≡ b
+    → same_target other.target key.target ≡ false → b ≡ false
+series_by key other true e apart =
+    let same : key ≡ other = (same_series-Decides key other).0 e in
+    let clash : same_target other.target key.target ≡ true =
+    ap (λ (one : SeriesKey). same_target one.target key.target) (sym same) ∙ itself key.target in
+    absurd cc
+series_by key other false e apart = refl
+
+no_series : (key : SeriesKey) (others : List Row) → has_target others key.target ≡ false → has_series others key ≡ false
+no_series key [] apart = refl
+no_series key (other ∷ others) apart =
+    let parts = or_parts (same_target other.key.target key.target) (has_target others key.target) apart in
+    ap (λ b. b || has_series others key) (series_by key other.key (same_series key other.key) refl parts.0)
+    ∙ no_series key others parts.1
+
+no_series_of : (rows others : List Row) → ShareNoTarget rows others → ShareNoSeries rows others
+no_series_of [] others apart = tt
+no_series_of (row ∷ rows) others apart = (no_series row.key others apart.0, no_series_of rows others apart.1)
+
+module _ (history : List Entry) where
+  abbrev rows_of : RangeSlot → List Row
+  rows_of one = replica_rows one.range one.slot history
+
+  apart_each : (one : RangeSlot) (slots : List RangeSlot) → All (ShareNoTarget (rows_of one)) (map rows_of slots)
+      → All (λ other. ShareNoSeries (rows_of one) (rows_of other)) slots
+  apart_each one [] apart = tt
+  apart_each one (other ∷ slots) apart =
+      (no_series_of (rows_of one) (rows_of other) apart.0, apart_each one slots apart.1)
+
+  pub apart_series : (slots : List RangeSlot) → AreApart ShareNoTarget (map rows_of slots)
+      → leaf_eval.AreApart history slots
+  apart_series [] apart = tt
+  apart_series (one ∷ slots) apart = (apart_each one slots apart.0, apart_series slots apart.1)

@@ -1,0 +1,42 @@
+use Rattle.std.proofs.Common.{rules, refl, Option}
+use Rattle.weave_core.proofs.ActorStepLemmas.{query_asks_for, query_step, refused_step, write_step}
+use Rattle.weave_core.proofs.QueryTurnLemmas.{if_ok_on}
+use Rattle.weave_core.specs.ActorSteps.{ActorSteps, QueriedSo, WrittenSo}
+use Rattle.weave_core.specs.declared.actors.Actor.{Actor}
+use Rattle.weave_core.specs.declared.calls.Stepped.{Stepped}
+use Rattle.weave_core.proofs.actor_steps.step_actor.Goals as goal
+
+pub query-requires : goal.query-requires
+query-requires c = record {
+  asking = query_asks_for c.args.store.now c.args.own c.in-Queries.querying c.in-Queries.is c.requires.somewhere;
+}
+
+pub returns-in-Refused : goal.returns-in-Refused
+returns-in-Refused c = record {
+  stepped = λ config state i here. refused_step config state i c.args.store.now c.args.own here c.in-Refused.text
+      c.in-Refused.is c.ended-in-Refused.result c.ended-in-Refused.ensures.ended;
+}
+
+pub returns-in_ok-turn-in-Writes : goal.returns-in_ok-turn-in-Writes
+returns-in_ok-turn-in-Writes c = record {
+  stepped = λ config state i here. if_ok_on
+      (λ (pair : Actor × Option Stepped). WrittenSo c.write.new.self.config.topology c.in_ok-turn-in-Writes.turn
+      c.write.new.sight c.args.own.begun pair.0 pair.1)
+      (λ (pair : Actor × Option Stepped). ActorSteps config state i c.write.new.self c.args.own pair.0 pair.1)
+      (λ pair h. write_step config state i c.args.store.now c.args.own here c.in-Writes.writing c.in-Writes.is
+      c.write.new.self c.write.new.sight c.in_ok-turn-in-Writes.turn pair.0 pair.1
+      (λ at. c.in_ok-turn-in-Writes.ensures.turn config state.core.world i at) h)
+      c.written.result c.written.ensures.written;
+}
+
+pub returns-in_ok-turn-in-Queries : goal.returns-in_ok-turn-in-Queries
+returns-in_ok-turn-in-Queries c = record {
+  stepped = λ config state i here. if_ok_on
+      (λ (pair : Actor × Option Stepped). QueriedSo c.query.new.self.config.topology c.in_ok-turn-in-Queries.turn
+      c.query.new.sight c.args.own.begun pair.0 pair.1)
+      (λ (pair : Actor × Option Stepped). ActorSteps config state i c.query.new.self c.args.own pair.0 pair.1)
+      (λ pair h. query_step config state i c.args.store.now c.args.own here c.in-Queries.querying c.in-Queries.is
+      c.query.new.self c.query.new.sight c.in_ok-turn-in-Queries.turn pair.0 pair.1
+      (λ asking. c.in_ok-turn-in-Queries.ensures.turn config state.core i asking) h)
+      c.queried.result c.queried.ensures.queried;
+}

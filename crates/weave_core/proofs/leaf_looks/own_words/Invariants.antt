@@ -1,0 +1,11 @@
+-- the buckets so far
+use Rattle.std.proofs.Common.{◌≡◌, map, take}
+use Rattle.leaf_store.specs.LeafBuckets.{key_buckets}
+use Rattle.mon_hints.specs.HistoryBuckets.{history_buckets}
+use Rattle.weave_core.proofs.LookLemmas.{own_word}
+use Rattle.weave_core.proofs.leaf_looks.own_words.Given as goal
+
+abbrev pub invariant-loop-bucket : goal.invariant-loop-bucket
+invariant-loop-bucket l =
+    l.words ≡ map (own_word (history_buckets (key_buckets l.state.buckets l.state.schemas) l.state.history))
+    (take l.bucket-index l.buckets)

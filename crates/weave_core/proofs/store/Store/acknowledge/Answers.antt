@@ -1,0 +1,46 @@
+use Rattle.std.proofs.Common.{rules, ◌≡◌, ℕ, ◌<◌, Some, slice_get, refl}
+use Rattle.std.specs.Vec.{with_item}
+use Rattle.weave_core.proofs.WriteReturns.{acking_later, acknowledge_returns, lock_alike, lock_there, range_read}
+use Rattle.weave_core.proofs.store.Store.acknowledge.Goals as goal
+
+pub let_go-requires-clause-alike : goal.let_go-requires-clause-alike
+let_go-requires-clause-alike c =
+    let got : slice_get c.args.self.now.ranges.items c.args.writing.range.0 ≡ Some c.index_mut-seat.result.now
+    = range_read c.args.self.now c.args.writing c.args.sight.now c.requires.at_work c.index_mut-seat.result.now
+    c.index_mut-seat.ensures.value in
+    lock_alike c.args.self.now c.args.writing c.args.sight.now c.requires.at_work c.index_mut-seat.result.now got
+
+pub let_go-requires-clause-there : goal.let_go-requires-clause-there
+let_go-requires-clause-there c =
+    let got : slice_get c.args.self.now.ranges.items c.args.writing.range.0 ≡ Some c.index_mut-seat.result.now
+    = range_read c.args.self.now c.args.writing c.args.sight.now c.requires.at_work c.index_mut-seat.result.now
+    c.index_mut-seat.ensures.value in
+    lock_there c.args.self.now c.args.writing c.args.sight.now c.requires.at_work c.index_mut-seat.result.now got
+
+pub let_go-requires-clause-later : goal.let_go-requires-clause-later
+let_go-requires-clause-later c =
+    let got : slice_get c.args.self.now.ranges.items c.args.writing.range.0 ≡ Some c.index_mut-seat.result.now
+    = range_read c.args.self.now c.args.writing c.args.sight.now c.requires.at_work c.index_mut-seat.result.now
+    c.index_mut-seat.ensures.value in
+    acking_later c.args.self.now c.args.writing c.args.sight.now c.requires.at_work c.requires.asks c.told.new.self.range
+    c.told.new.self.stage c.finish-end.result c.in_ok-told.ensures.range c.in_ok-told.ensures.after c.finish-end.ensures.end
+    c.index_mut-seat.result.now got
+
+pub returns : goal.returns
+returns c =
+    let got : slice_get c.args.self.now.ranges.items c.args.writing.range.0 ≡ Some c.index_mut-seat.result.now
+    = range_read c.args.self.now c.args.writing c.args.sight.now c.requires.at_work c.index_mut-seat.result.now
+    c.index_mut-seat.ensures.value in
+    record {
+      turn = λ config world i work. acknowledge_returns config world i c.args.self.now c.args.writing c.args.sight.now work
+          c.requires.asks c.told.new.self.range c.told.new.self.stage c.finish-end.result c.in_ok-told.ensures.range
+          c.in_ok-told.ensures.after c.finish-end.ensures.end c.index_mut-seat.result.now got (record {
+            alloc = c.args.self.now.alloc;
+            config = c.args.self.now.config;
+            words = c.args.self.now.words;
+            leaves = c.args.self.now.leaves;
+            ranges = with_item c.args.self.now.ranges c.args.writing.range.0 c.let_go.new.seat;
+            first_sight = c.args.self.now.first_sight;
+          }) c.let_go.new.seat c.let_go.new.sight
+          (record { config = refl; words = refl; leaves = refl; ranges = refl; first = refl }) c.in_ok-let_go.ensures.lets_go;
+    }

@@ -1,0 +1,14 @@
+use Rattle.std.proofs.Common.{◌∙◌}
+use Rattle.weave_core.proofs.CourseLemmas.{over_nowhere, over_there}
+use Rattle.weave_core.proofs.weave.Weave.has_ended.Goals as goal
+
+pub returns-in-Some : goal.returns-in-Some
+returns-in-Some c = record {
+  ended = λ config state agrees. c.has_ended.ensures.ended
+      ∙ over_there c.args.self.now c.args.actor c.in-Some.own.now c.in-Some.ensures.actor config state agrees;
+}
+
+pub returns-in-None : goal.returns-in-None
+returns-in-None c = record {
+  ended = over_nowhere c.args.self.now c.args.actor c.in-None.ensures.actor;
+}

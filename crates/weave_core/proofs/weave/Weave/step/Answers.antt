@@ -1,0 +1,53 @@
+use Rattle.std.proofs.Common.{◌≡◌, List, None, Option, Some, ap, refl, rules, set}
+use Rattle.std.specs.Vec.{with_item, with_items}
+use Rattle.weave_core.proofs.WeaveStepLemmas.{in_place, is_kept, is_somewhere, is_stepped, nobody_kept, nobody_refused, out_is}
+use Rattle.weave_core.specs.ActorAgreements.{actor_numbered}
+use Rattle.weave_core.specs.declared.actors.Actor.{Actor}
+use Rattle.weave_core.proofs.weave.Weave.step.Goals as goal
+
+pub returns-in_default : goal.returns-in_default
+returns-in_default c =
+    let taken : None ≡ actor_numbered c.args.self.now.actors.items c.args.actor = search rules in
+    let left : c.take_actor.new.actors ≡ set c.args.self.now.actors.items c.args.actor None = search rules in
+    let out : (with_items c.args.self.now.actors c.take_actor.new.actors).items ≡ set c.args.self.now.actors.items c.args.actor None
+    = out_is c.args.self.now.actors c.take_actor.new.actors c.args.actor left in
+    record {
+      kept = nobody_kept c.args.self.now c.args.actor taken (record {
+        store = c.args.self.now.store;
+        actors = with_items c.args.self.now.actors c.take_actor.new.actors;
+      }) refl out c.requires.kept;
+      stepped = nobody_refused c.args.self.now c.args.actor taken (record {
+        store = c.args.self.now.store;
+        actors = with_items c.args.self.now.actors c.take_actor.new.actors;
+      }) refl out;
+    }
+
+pub step_actor-requires : goal.step_actor-requires
+step_actor-requires c =
+    let taken : Some c.in-Some.own ≡ actor_numbered c.args.self.now.actors.items c.args.actor = search rules in
+    record { somewhere = is_somewhere c.args.self.now c.args.actor c.in-Some.own taken c.requires.kept }
+
+pub index_mut-requires : goal.index_mut-requires
+index_mut-requires c =
+    let taken : Some c.in-Some.own ≡ actor_numbered c.args.self.now.actors.items c.args.actor = search rules in
+    in_place c.args.self.now c.args.actor c.in-Some.own taken
+
+pub returns : goal.returns
+returns c =
+    let taken : Some c.in-Some.own ≡ actor_numbered c.args.self.now.actors.items c.args.actor = search rules in
+    let left : c.take_actor.new.actors ≡ set c.args.self.now.actors.items c.args.actor None = search rules in
+    let items : set (with_items c.args.self.now.actors c.take_actor.new.actors).items c.args.actor (Some c.in_ok-own.own)
+    ≡ set (set c.args.self.now.actors.items c.args.actor None) c.args.actor (Some c.in_ok-own.own)
+    = ap (λ (all : List (Option Actor)). set all c.args.actor (Some c.in_ok-own.own))
+    (out_is c.args.self.now.actors c.take_actor.new.actors c.args.actor left) in
+    record {
+      kept = is_kept c.args.self.now c.args.actor c.in-Some.own taken (record {
+        store = c.step_actor.new.store;
+        actors = with_item (with_items c.args.self.now.actors c.take_actor.new.actors) c.args.actor (Some c.in_ok-own.own);
+      }) c.in_ok-own.own items c.in_ok-own.stepped c.in_ok-own.ensures.stepped c.ok_or.result c.ok_or.ensures.value
+          c.requires.kept;
+      stepped = is_stepped c.args.self.now c.args.actor c.in-Some.own taken (record {
+        store = c.step_actor.new.store;
+        actors = with_item (with_items c.args.self.now.actors c.take_actor.new.actors) c.args.actor (Some c.in_ok-own.own);
+      }) c.in_ok-own.own items c.in_ok-own.stepped c.in_ok-own.ensures.stepped c.ok_or.result c.ok_or.ensures.value;
+    }

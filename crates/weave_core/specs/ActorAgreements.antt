@@ -1,0 +1,144 @@
+-- What is kept of actors: how far each of them is in the core, and how far it has seen histories.
+use Rattle.std.specs.Prelude.{ℕ, ◌+◌, pos, ◌≡◌, ◌≢◌, ◌≤ℤ◌, Bool, true, false, List, length, slice_get, Option, Some, None}
+use Rattle.mon_config.specs.declared.config.Config.{Config}
+use Rattle.mon_topo.specs.SeenHistories.{AreWithin}
+use Rattle.mon_topo.specs.Settings.{Setting as Store}
+use Rattle.query_core.specs.Askings.{IsAskedOf}
+use Rattle.query_core.specs.Machine.{new_query}
+use Rattle.query_core.specs.Program as query
+use Rattle.query_core.specs.declared.asks.Ask.TheVariants as query_ask
+use Rattle.weave_core.specs.Agreements.{AreShared, first_view}
+use Rattle.weave_core.specs.Core.{Reader, asked_now, query_now}
+use Rattle.weave_core.specs.FirstHistories.{first_histories}
+use Rattle.weave_core.specs.Holders.{AreHolders}
+use Rattle.weave_core.specs.Licensed.{IsWoven}
+use Rattle.weave_core.specs.PlannedQueries.{IsPlanned}
+use Rattle.weave_core.specs.Sights.{sight_of}
+use Rattle.weave_core.specs.States.{Asking, Dismissed, Eventless, Role, State, Undeclared, Writing, is_any, store_of, write_asks, writes_begun}
+use Rattle.weave_core.specs.Writers.{IsWriterSo}
+use Rattle.weave_core.specs.declared.actors.Actor.{Actor}
+use Rattle.weave_core.specs.declared.actors.Course.{Course}
+use Rattle.weave_core.specs.declared.actors.Course.TheVariants as course
+use Rattle.weave_core.specs.declared.limits.TheConstants.{LAST_ACTOR}
+use Rattle.weave_core.specs.declared.queries.Querying.{Querying}
+use Rattle.weave_core.specs.declared.sights.Sight.{Sight}
+use Rattle.weave_core.specs.declared.weave.Weave.{Weave}
+use Rattle.weave_core.specs.declared.writes.Writing.{Writing as Write}
+use Rattle.write_core.specs.Program as write
+use Rattle.write_core.specs.World.{Actor as Doer, Stands, view_of}
+use Rattle.write_core.specs.declared.asks.WriteAsk.TheVariants as write_ask
+
+-- ---- a query
+
+-- a query of the core is this one, and its caller has seen so much
+pub record IsReaderSo (store : Store) (reader : Reader store) (querying : Querying) (sight : Sight) : Type 0 where
+  pub asked : IsAskedOf store querying.machine.setting
+  pub moment_lawful : pos 0 ≤ℤ querying.moment
+  pub setting : reader.setting ≡ querying.machine.setting
+  pub moment : reader.moment ≡ querying.moment
+  pub first : reader.first ≡ new_query reader.setting
+  pub now : query_now store reader ≡ querying.machine
+  pub since : AreWithin (first_histories store.zones) reader.view.seen
+  pub seen : sight ≡ sight_of reader.view.seen
+
+-- ---- an actor, by the writer or stander and by the reader that the core has under its number
+
+module _ (config : Config) (i : ℕ) (doer : Doer) (reader : Reader (store_of config)) where
+  -- it has written nothing
+  abbrev pub IsStander : Type 0
+  IsStander = doer ≡ Stands (record { pass = i; view = view_of doer })
+
+  -- nothing was said yet of what it is to do, and it has seen what all have seen at first
+  abbrev pub IsUndeclared : Type 0
+  IsUndeclared = doer ≡ Stands (record { pass = i; view = first_view config })
+
+  -- its call has no event, and it ends with this text at its first step
+  pub record IsWithoutEvent (text own : List ℕ) (begun : Bool) (sight : Sight) : Type 0 where
+    pub text_is : own ≡ text
+    pub stands : IsStander
+    pub begun_is : begun ≡ false
+    pub seen : sight ≡ sight_of (view_of doer).seen
+
+  -- which it has done
+  pub record IsDismissed (sight : Sight) : Type 0 where
+    pub stands : IsStander
+    pub seen : sight ≡ sight_of (view_of doer).seen
+
+  -- it writes
+  pub record IsWriting (writing : Write) (begun : Bool) (sight : Sight) : Type 0 where
+    pub writer : IsWriterSo config.buckets i doer writing sight
+    pub goes_on : write.ask_of writing.machine.stage ≢ write_ask.Finished
+    pub begun_is : begun ≡ writes_begun doer
+
+  -- its write has ended
+  pub record HasWritten (sight : Sight) : Type 0 where
+    pub ended : write_asks doer ≡ write_ask.Finished
+    pub begun_is : writes_begun doer ≡ true
+    pub seen : sight ≡ sight_of (view_of doer).seen
+
+  -- it queries
+  pub record IsQuerying (querying : Querying) (begun : Bool) (sight : Sight) : Type 0 where
+    pub reader_so : IsReaderSo (store_of config) reader querying sight
+    pub planned : IsPlanned config querying
+    pub stands : IsStander
+    pub goes_on : query.ask_of querying.machine.setting querying.machine.stage ≢ query_ask.Finished
+    pub begun_is : begun ≡ is_any reader.session
+
+  -- its query has ended
+  pub record HasQueried (sight : Sight) : Type 0 where
+    pub ended : asked_now (store_of config) reader ≡ query_ask.Finished
+    pub begun_is : is_any reader.session ≡ true
+    pub stands : IsStander
+    pub seen : sight ≡ sight_of reader.view.seen
+
+  -- an actor of this role is so far, and has seen so much
+  abbrev pub IsCourseSo : Role → Course → Bool → Sight → Type 0
+  IsCourseSo Undeclared course begun sight = ⊥
+  IsCourseSo (Eventless text) (course.Refused own) begun sight = IsWithoutEvent text own begun sight
+  IsCourseSo (Eventless text) (course.Writes writing) begun sight = ⊥
+  IsCourseSo (Eventless text) (course.Queries querying) begun sight = ⊥
+  IsCourseSo (Eventless text) course.Ended begun sight = ⊥
+  IsCourseSo Dismissed (course.Refused own) begun sight = ⊥
+  IsCourseSo Dismissed (course.Writes writing) begun sight = ⊥
+  IsCourseSo Dismissed (course.Queries querying) begun sight = ⊥
+  IsCourseSo Dismissed course.Ended begun sight = IsDismissed sight
+  IsCourseSo Writing (course.Refused own) begun sight = ⊥
+  IsCourseSo Writing (course.Writes writing) begun sight = IsWriting writing begun sight
+  IsCourseSo Writing (course.Queries querying) begun sight = ⊥
+  IsCourseSo Writing course.Ended begun sight = HasWritten sight
+  IsCourseSo Asking (course.Refused own) begun sight = ⊥
+  IsCourseSo Asking (course.Writes writing) begun sight = ⊥
+  IsCourseSo Asking (course.Queries querying) begun sight = IsQuerying querying begun sight
+  IsCourseSo Asking course.Ended begun sight = HasQueried sight
+
+  abbrev pub IsActorSo : Role → Option Actor → Type 0
+  IsActorSo Undeclared None = IsUndeclared
+  IsActorSo (Eventless text) None = ⊥
+  IsActorSo Dismissed None = ⊥
+  IsActorSo Writing None = ⊥
+  IsActorSo Asking None = ⊥
+  IsActorSo role (Some actor) = IsCourseSo role actor.course actor.begun actor.sight
+
+-- ---- all actors, by their numbers; that at the place 0 is none
+
+abbrev pub flat : {X : Type 0} → Option (Option X) → Option X
+flat None = None
+flat (Some found) = found
+
+-- the actor of a number, if it is declared
+abbrev pub actor_numbered : List (Option Actor) → ℕ → Option Actor
+actor_numbered actors i = flat (slice_get actors i)
+
+pub record AreActors (config : Config) (state : State (store_of config)) (actors : List (Option Actor)) : Type 0 where
+  pub count : length actors ≡ LAST_ACTOR + 1
+  pub each : (i : ℕ)
+      → IsActorSo config i (state.core.world.actors i) (state.core.readers i) (state.roles i) (actor_numbered actors i)
+
+-- ---- the whole
+
+-- all that is kept is as it is in a core of a configuration's store, of which all holds that every interleaving keeps
+pub record Agrees (config : Config) (weave : Weave) (state : State (store_of config)) : Type 0 where
+  pub woven : IsWoven (store_of config) state.core
+  pub holders : AreHolders state.core.world
+  pub shared : AreShared config state.core.world weave.store
+  pub actors : AreActors config state weave.actors.items

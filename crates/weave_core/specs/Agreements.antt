@@ -1,0 +1,100 @@
+-- What a store keeps of all that actors share: each leaf, each range and each hint word as the core has it.
+use Rattle.std.specs.Prelude.{ℕ, ◌≡◌, ◌+◌, ◌*◌, ◌-◌, ◌<◌, ◌≤◌, ◌^◌, false, List, length, slice_get, Some}
+use Rattle.mon_config.specs.declared.config.Config.{Config}
+use Rattle.mon_hints.specs.Covers.{Bits}
+use Rattle.mon_hints.specs.Words.{has_bit}
+use Rattle.mon_hints.specs.declared.fingerprints.TheConstants.{MOST_BUCKETS}
+use Rattle.mon_schema.specs.HeldMetrics.{AreHeld}
+use Rattle.mon_schema.specs.HeldTargets.{AllTellLocations}
+use Rattle.mon_topo.specs.Faults.{IsLawful}
+use Rattle.mon_topo.specs.Replicas.{HasReplicas}
+use Rattle.mon_topo.specs.Settings.{Setting, zone_of_leaf}
+use Rattle.mon_topo.specs.Zones.{first_leaf, leaf_numbered, leaves_in, range_numbered, ranges_in}
+use Rattle.mon_value.specs.declared.limits.TheConstants.{ROW_BITS}
+use Rattle.mon_value.specs.declared.positions.Leaf.{Leaf}
+use Rattle.weave_core.specs.FirstHistories.{first_histories}
+use Rattle.weave_core.specs.HintWords.{HintTable, word_at}
+use Rattle.weave_core.specs.Sights.{sight_of}
+use Rattle.weave_core.specs.States.{store_of}
+use Rattle.weave_core.specs.declared.leaves.LeafSeat.{LeafSeat}
+use Rattle.weave_core.specs.declared.ranges.RangeSeat.{RangeSeat}
+use Rattle.weave_core.specs.declared.store.Store.{Store}
+use Rattle.weave_core.specs.declared.words.Place.TheVariants as at
+use Rattle.write_core.specs.Views.{View, of_leaf, of_range}
+use Rattle.write_core.specs.World.{World}
+
+-- ---- what a store is set up with
+
+-- the numbers of a configuration are such as a store can have
+pub record IsLimited (config : Config) : Type 0 where
+  pub limit : config.limit ≤ 2 ^ ROW_BITS
+  pub some : 0 < config.buckets
+  pub most : config.buckets ≤ MOST_BUCKETS
+
+-- what everyone has seen and knows at first: the first replicas of each range, and no bit
+abbrev pub no_bits : Bits
+no_bits = record { root = λ zone bucket. false; zone = λ leaf bucket. false }
+
+abbrev pub first_view : Config → View
+first_view config = record { seen = first_histories config.topology; bits = no_bits }
+
+-- ---- its parts
+
+-- the place of a leaf in its zone
+abbrev pub place_of_leaf : Setting → Leaf → ℕ
+place_of_leaf store leaf = leaf.0 - first_leaf store.zones (zone_of_leaf store leaf).0
+
+-- a leaf's seat has the leaf's history and who holds it, and tells how far histories were seen there
+pub record IsLeafSo (config : Config) (world : World) (leaf : Leaf) (seat : LeafSeat) : Type 0 where
+  pub schemas : seat.state.schemas ≡ config.schemas
+  pub buckets : seat.state.buckets ≡ config.buckets
+  pub history : seat.state.history ≡ of_leaf world.truth leaf
+  pub promised : seat.state.promised ≡ 0
+  pub holder : seat.holder ≡ world.leaf_holder leaf.0
+  pub sight : seat.sight ≡ sight_of (world.leaves leaf.0).seen
+  pub zone : seat.zone ≡ zone_of_leaf (store_of config) leaf
+  pub place : seat.place ≡ place_of_leaf (store_of config) leaf
+
+pub record AreLeaves (config : Config) (world : World) (seats : List LeafSeat) : Type 0 where
+  pub count : length seats ≡ length (leaves_in config.topology)
+  pub each : (n : ℕ) (seat : LeafSeat) → slice_get seats n ≡ Some seat → IsLeafSo config world (leaf_numbered n) seat
+
+-- so does a range's
+pub record IsRangeSo (world : World) (n : ℕ) (seat : RangeSeat) : Type 0 where
+  pub history : seat.state ≡ of_range world.truth (range_numbered n)
+  pub holder : seat.holder ≡ world.range_holder n
+  pub sight : seat.sight ≡ sight_of (world.ranges n).seen
+
+pub record AreRanges (config : Config) (world : World) (seats : List RangeSeat) : Type 0 where
+  pub count : length seats ≡ length (ranges_in config.topology)
+  pub each : (n : ℕ) (seat : RangeSeat) → slice_get seats n ≡ Some seat → IsRangeSo world n seat
+
+-- each word has the bits that are set, and no other
+pub record AreWords (config : Config) (world : World) (words : HintTable) : Type 0 where
+  pub buckets : words.buckets ≡ config.buckets
+  pub count : length words.words ≡ (length config.topology + 1) * config.buckets
+  pub root : (zone bucket : ℕ) → bucket < config.buckets
+      → has_bit (word_at words at.Root bucket) zone ≡ world.truth.bits.root zone bucket
+  pub zone : (leaf : Leaf) (bucket : ℕ) → leaf.0 < length (leaves_in config.topology) → bucket < config.buckets
+      → has_bit (word_at words (at.Zone (zone_of_leaf (store_of config) leaf)) bucket) (place_of_leaf (store_of config) leaf)
+      ≡ world.truth.bits.zone leaf.0 bucket
+
+-- ---- the whole
+
+-- what is known of a configuration: its zones are lawful and have their replicas, and its schemas are held
+pub record IsServed (config : Config) : Type 0 where
+  pub limited : IsLimited config
+  pub lawful : IsLawful config.topology
+  pub replicas : (range : ℕ) → range < length (ranges_in config.topology)
+      → HasReplicas config.topology (range_numbered range)
+  pub metrics : AreHeld config.schemas.metrics
+  pub targets : AllTellLocations config.schemas.targets
+
+-- a store of a configuration has what actors share in a world
+pub record AreShared (config : Config) (world : World) (store : Store) : Type 0 where
+  pub config_is : store.config ≡ config
+  pub served : IsServed config
+  pub words : AreWords config world store.words
+  pub leaves : AreLeaves config world store.leaves.items
+  pub ranges : AreRanges config world store.ranges.items
+  pub first : store.first_sight ≡ sight_of (first_view config).seen

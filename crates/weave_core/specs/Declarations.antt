@@ -1,0 +1,108 @@
+-- What it takes and what it does to declare an actor, and to let one that has not begun hear from one that has ended.
+use Rattle.std.specs.Prelude.{ℕ, ℤ, ◌≡◌, List, [], map, Option, Some, None, Result, Ok, Err}
+use Rattle.mon_config.specs.declared.config.Config.{Config}
+use Rattle.mon_hints.specs.Formulas.{formula_tree}
+use Rattle.mon_topo.specs.Locations.{range_for}
+use Rattle.mon_topo.specs.Settings.{Setting as Store}
+use Rattle.mon_value.specs.Answers.{◌>>=◌}
+use Rattle.mon_value.specs.declared.positions.Range.{Range}
+use Rattle.mon_value.specs.declared.rows.Row.{Row}
+use Rattle.mql_parse.specs.PipeReading.{text_outcome}
+use Rattle.mql_types.specs.Nodes.{TypedTree}
+use Rattle.mql_types.specs.Typing.{typing}
+use Rattle.plan_split.specs.FetchFormulas.{plan_formulas}
+use Rattle.query_core.specs.Askings.{IsAskedOf}
+use Rattle.query_core.specs.Machine.{new_query}
+use Rattle.query_core.specs.Mixtures.{typed_of}
+use Rattle.query_core.specs.Settings.{Setting}
+use Rattle.weave_core.specs.Core.{CanCome, CoreEvent, Happens, Hears, Reader}
+use Rattle.weave_core.specs.EndTexts.{no_zone_text}
+use Rattle.weave_core.specs.Refusals.{parse_line, typing_line}
+use Rattle.weave_core.specs.States.{Asking, Dismissed, Eventless, Role, State, Undeclared, Writing, actor_at, store_of, view_at}
+use Rattle.weave_core.specs.Steps.{with_event, with_role}
+use Rattle.weave_core.specs.declared.calls.Call.{Call}
+use Rattle.weave_core.specs.declared.calls.Call.TheVariants as call
+use Rattle.write_core.specs.Events.{Begins, Learns}
+use Rattle.write_core.specs.Views.{View}
+use Rattle.write_core.specs.World.{changed, view_of}
+
+-- ---- queries
+
+-- a fault is what it prints
+abbrev pub printed_fault : {X F : Type 0} → (F → List ℕ) → Result X F → Result X (List ℕ)
+printed_fault text (Ok x) = Ok x
+printed_fault text (Err why) = Err (text why)
+
+-- the typed tree of a query's text, or the line that says why it has none
+abbrev pub query_typed : Config → List ℕ → Result TypedTree (List ℕ)
+query_typed config text = do
+  tree ← printed_fault parse_line (text_outcome text)
+  printed_fault typing_line (typing config.schemas tree)
+
+-- a typed query is asked of the store, with the hints that its fetches have, and the limit
+pub record IsAskedSo (config : Config) (typed : TypedTree) (setting : Setting) : Type 0 where
+  pub asked : IsAskedOf (store_of config) setting
+  pub typed_so : typed_of setting ≡ typed
+  pub hints : map formula_tree setting.plan.formulas ≡ plan_formulas config.buckets typed.tree
+  pub limit : setting.limit ≡ config.limit
+
+-- ---- actors that are declared
+
+module _ (store : Store) where
+  -- a query that has not begun, by someone who has seen and knows so much
+  abbrev pub new_reader : Setting → ℤ → View → Reader store
+  new_reader setting moment view = record {
+    setting = setting;
+    moment = moment;
+    first = new_query setting;
+    begin = view;
+    session = [];
+    view = view;
+  }
+
+  abbrev pub with_reader : State store → ℕ → Reader store → State store
+  with_reader state k reader = record {
+    core = record { world = state.core.world; readers = changed state.core.readers k reader };
+    roles = changed state.roles k Asking;
+  }
+
+module _ (config : Config) where
+  -- a write begins, if a zone lists its row's location; else it has no event
+  abbrev pub WriteBegins : State (store_of config) → ℕ → Row → Option Range → State (store_of config) → Type 0
+  WriteBegins state k row None after = after ≡ with_role (store_of config) state k (Eventless no_zone_text)
+  WriteBegins state k row (Some range) after =
+      CanCome (store_of config) state.core (Happens (Begins k row range))
+      × (after ≡ with_role (store_of config) (with_event (store_of config) state (Happens (Begins k row range))) k Writing)
+
+  -- a query is asked of the store, if its text has a typed tree; else it has no event
+  abbrev pub QueryBegins : State (store_of config) → ℕ → ℤ → Result TypedTree (List ℕ) → State (store_of config) → Type 0
+  QueryBegins state k moment (Err line) after = after ≡ with_role (store_of config) state k (Eventless line)
+  QueryBegins state k moment (Ok typed) after =
+      (setting : Setting) × IsAskedSo config typed setting
+      × (after ≡ with_reader (store_of config) state k
+      (new_reader (store_of config) setting moment (view_of (actor_at (store_of config) state k))))
+
+  -- an actor is declared, and this is left
+  abbrev pub Declares : State (store_of config) → ℕ → Call → State (store_of config) → Type 0
+  Declares state k (call.Write row) after =
+      WriteBegins state k row (range_for config.schemas config.topology row.key.target) after
+  Declares state k (call.Query moment text) after = QueryBegins state k moment (query_typed config text) after
+
+-- ---- meetings
+
+module _ (store : Store) where
+  abbrev pub hearing_in : Role → ℕ → View → CoreEvent store
+  hearing_in Undeclared k view = Happens (Learns k view)
+  hearing_in (Eventless text) k view = Happens (Learns k view)
+  hearing_in Dismissed k view = Happens (Learns k view)
+  hearing_in Writing k view = Happens (Learns k view)
+  hearing_in Asking k view = Hears k view
+
+  -- an actor learns what another one has seen and knows
+  abbrev pub hearing : State store → ℕ → ℕ → CoreEvent store
+  hearing state k j = hearing_in (state.roles k) k (view_at store state j)
+
+  -- an actor that has not begun hears from another one, and this is left
+  pub record Meets (state : State store) (k j : ℕ) (after : State store) : Type 0 where
+    pub can : CanCome store state.core (hearing state k j)
+    pub becomes : after ≡ with_event store state (hearing state k j)

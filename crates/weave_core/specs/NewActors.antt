@@ -1,0 +1,48 @@
+-- Actors that have not begun: one that was declared, and one that hears what another one has seen.
+use Rattle.std.specs.Prelude.{ℕ, ◌≡◌, ◌<◌, false, length, Some, None}
+use Rattle.mon_config.specs.declared.config.Config.{Config}
+use Rattle.mon_topo.specs.Locations.{range_for}
+use Rattle.mon_topo.specs.Zones.{ranges_in}
+use Rattle.mon_value.specs.declared.rows.Row.{Row}
+use Rattle.weave_core.specs.EndTexts.{no_zone_text}
+use Rattle.weave_core.specs.QueryPlans.{IsQueryCourse}
+use Rattle.weave_core.specs.Sights.{joined_sight}
+use Rattle.weave_core.specs.declared.actors.Actor.{Actor}
+use Rattle.weave_core.specs.declared.actors.Course.{Course}
+use Rattle.weave_core.specs.declared.actors.Course.TheVariants as course
+use Rattle.weave_core.specs.declared.calls.Call.{Call}
+use Rattle.weave_core.specs.declared.calls.Call.TheVariants as call
+use Rattle.weave_core.specs.declared.sights.Sight.{Sight}
+use Rattle.weave_core.specs.declared.writes.Writing.{Writing}
+use Rattle.write_core.specs.Program.{new_write}
+
+-- a write of a row that has not begun
+pub record BeginsToWrite (config : Config) (i : ℕ) (row : Row) (writing : Writing) : Type 0 where
+  pub number : writing.number ≡ i
+  pub row_is : writing.row ≡ row
+  pub range_is : range_for config.schemas config.topology row.key.target ≡ Some writing.range
+  pub there : writing.range.0 < length (ranges_in config.topology)
+  pub machine : writing.machine ≡ new_write writing.range
+  pub inside : writing.inside ≡ None
+
+-- a row's write begins, or no zone lists its location
+abbrev pub IsWriteCourse : Config → ℕ → Row → Course → Type 0
+IsWriteCourse config i row (course.Writes writing) = BeginsToWrite config i row writing
+IsWriteCourse config i row (course.Refused line) =
+    (range_for config.schemas config.topology row.key.target ≡ None) × (line ≡ no_zone_text)
+IsWriteCourse config i row (course.Queries querying) = ⊥
+IsWriteCourse config i row course.Ended = ⊥
+
+abbrev pub IsCourseOf : Config → ℕ → Call → Course → Type 0
+IsCourseOf config i (call.Write row) one = IsWriteCourse config i row one
+IsCourseOf config i (call.Query moment text) one = IsQueryCourse config moment text one
+
+-- an actor is to do what it was called for, and has seen so much
+pub record IsNewActor (config : Config) (i : ℕ) (what : Call) (first : Sight) (own : Actor) : Type 0 where
+  pub course_is : IsCourseOf config i what own.course
+  pub seen : own.sight ≡ first
+  pub begun_is : own.begun ≡ false
+
+-- an actor that has seen what someone has, too
+abbrev pub hearing_of : Sight → Actor → Actor
+hearing_of seen own = record { course = own.course; sight = joined_sight own.sight seen; begun = own.begun }

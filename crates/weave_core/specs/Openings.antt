@@ -1,0 +1,95 @@
+-- How a store begins: the first replicas as they are opened one by one, and then the seats of its leaves and ranges.
+use Rattle.std.specs.Prelude.{ℕ, ◌≡◌, ◌+◌, ◌-◌, nat_eq, List, [], ◌∷◌, ◌++◌, length, map, take, slice_get, option_map, Some, None, if◌then◌else◌}
+use Rattle.std.specs.List.{flat_map, range_with_len, slice_index_or}
+use Rattle.leaf_store.specs.LeafStates.{LeafView, with_entry, with_promised}
+use Rattle.mon_config.specs.declared.config.Config.{Config}
+use Rattle.mon_topo.specs.Zones.{first_leaf, first_replicas, leaf_numbered, leaf_zones, leaves_in, range_numbered, ranges_in, zone_numbered}
+use Rattle.mon_topo.specs.declared.zones.ZoneSpec.{ZoneSpec}
+use Rattle.mon_value.specs.declared.histories.Entry.{Entry}
+use Rattle.mon_value.specs.declared.histories.RangeEntry.{RangeEntry}
+use Rattle.mon_value.specs.declared.positions.Leaf.{Leaf}
+use Rattle.mon_value.specs.declared.positions.Range.{Range}
+use Rattle.weave_core.specs.Agreements.{first_view}
+use Rattle.weave_core.specs.FirstHistories.{first_range_history, opened_here, opened_of, opening}
+use Rattle.weave_core.specs.Sights.{range_sight}
+use Rattle.weave_core.specs.declared.leaves.LeafSeat.{LeafSeat}
+use Rattle.weave_core.specs.declared.ranges.RangeSeat.{RangeSeat}
+use Rattle.weave_core.specs.declared.sights.Sight.{Sight}
+use Rattle.write_core.specs.World.{Stands, World}
+
+-- ---- the first replicas
+
+-- what is on a leaf once the ranges before one are opened
+abbrev pub opened_before : List ZoneSpec → ℕ → ℕ → List Entry
+opened_before zones range n = flat_map (opened_of zones (leaf_numbered n)) (range_with_len 0 range)
+
+-- and the range's own replicas up to a slot
+abbrev pub opened_up_to : List ZoneSpec → ℕ → ℕ → ℕ → List Entry
+opened_up_to zones range slot n =
+    opened_before zones range n
+    ++ opened_here (leaf_numbered n) (range_numbered range) 0 (take slot (first_replicas zones range))
+
+-- a leaf's state has this history, and room is promised for none
+pub record IsOpenedSo (config : Config) (history : List Entry) (state : LeafView) : Type 0 where
+  pub schemas : state.schemas ≡ config.schemas
+  pub buckets : state.buckets ≡ config.buckets
+  pub entries : state.history ≡ history
+  pub promised : state.promised ≡ 0
+
+pub record AreOpenedSo (config : Config) (so_far : ℕ → List Entry) (states : List LeafView) : Type 0 where
+  pub count : length states ≡ length (leaves_in config.topology)
+  pub each : (n : ℕ) (state : LeafView) → slice_get states n ≡ Some state → IsOpenedSo config (so_far n) state
+
+-- a replica without rows is opened on a leaf
+abbrev pub with_opening : Range → ℕ → LeafView → LeafView
+with_opening range slot state = with_entry (with_promised state (state.promised + 1)) (opening range slot)
+
+-- one of the leaves was changed
+abbrev pub IsChanged : Leaf → (LeafView → LeafView) → List LeafView → List LeafView → Type 0
+IsChanged leaf change old new =
+    (n : ℕ) → slice_get new n ≡ (if nat_eq leaf.0 n then option_map change (slice_get old n) else slice_get old n)
+
+-- the histories of all ranges
+abbrev pub first_range_histories : List ZoneSpec → List (List RangeEntry)
+first_range_histories zones = map (first_range_history zones) (range_with_len 0 (length (ranges_in zones)))
+
+-- ---- seats
+
+-- how far whoever has seen all of these histories has seen them
+abbrev pub sight_of_states : List LeafView → List (List RangeEntry) → Sight
+sight_of_states leaves ranges = record {
+  leaves = map (λ state. length state.history) leaves;
+  ranges = map range_sight ranges;
+}
+
+-- a leaf that nobody holds
+abbrev pub leaf_seat : List ZoneSpec → Sight → ℕ → LeafView → LeafSeat
+leaf_seat zones sight n state = record {
+  state = state;
+  zone = slice_index_or (leaf_zones zones) n (zone_numbered 0);
+  place = n - first_leaf zones (slice_index_or (leaf_zones zones) n (zone_numbered 0)).0;
+  holder = None;
+  sight = sight;
+}
+
+-- leaves that are numbered on from n
+abbrev pub leaf_seats : List ZoneSpec → Sight → ℕ → List LeafView → List LeafSeat
+leaf_seats zones sight n [] = []
+leaf_seats zones sight n (state ∷ states) = leaf_seat zones sight n state ∷ leaf_seats zones sight (n + 1) states
+
+-- a range that nobody holds
+abbrev pub range_seat : Sight → List RangeEntry → RangeSeat
+range_seat sight state = record { state = state; holder = None; sight = sight }
+
+-- ---- the world
+
+-- nobody has begun, and everyone has seen all that there is
+abbrev pub first_world : Config → World
+first_world config = record {
+  truth = first_view config;
+  leaves = λ n. first_view config;
+  ranges = λ n. first_view config;
+  leaf_holder = λ n. None;
+  range_holder = λ n. None;
+  actors = λ i. Stands (record { pass = i; view = first_view config });
+}

@@ -1,0 +1,160 @@
+-- What a look of a query does to the seat that it needs and to how far this has seen, and what it is told.
+use Rattle.std.specs.Prelude.{ℕ, ℤ, ◌≡◌, ◌+◌, ◌<◌, Bool, true, false, is_some, List, [], ◌∷◌, length, slice_get, Option, Some, None}
+use Rattle.leaf_store.specs.LeafBuckets.{key_buckets}
+use Rattle.leaf_store.specs.LeafStates.{LeafView}
+use Rattle.mon_hints.specs.HistoryBuckets.{history_buckets}
+use Rattle.mon_meaning.specs.LeafAnswers.{IsLeafPart, IsOverLeaf}
+use Rattle.mon_topo.specs.Zones.{range_numbered}
+use Rattle.mon_value.specs.LeafHistories.{is_down}
+use Rattle.mon_value.specs.declared.positions.Leaf.{Leaf}
+use Rattle.mon_value.specs.declared.positions.Range.{Range}
+use Rattle.mon_value.specs.declared.positions.RangeSlot.{RangeSlot}
+use Rattle.mon_value.specs.declared.positions.SlotLeaf.{SlotLeaf}
+use Rattle.mon_value.specs.declared.rows.Row.{Row}
+use Rattle.mql_types.specs.Nodes.{TypedTree, typed_tree}
+use Rattle.mql_types.specs.declared.plans.Plan.{Plan}
+use Rattle.query_core.specs.Machine.{slots_of}
+use Rattle.query_core.specs.Openings.{is_met}
+use Rattle.query_core.specs.ReadableSlots.{CanBeRead}
+use Rattle.query_core.specs.Traces.{first_serving, slot_rows}
+use Rattle.query_core.specs.declared.answers.Resolved.{Resolved}
+use Rattle.query_core.specs.declared.asks.Seen.{Seen}
+use Rattle.query_core.specs.declared.asks.Told.{Told}
+use Rattle.query_core.specs.declared.asks.Told.TheVariants as told
+use Rattle.weave_core.specs.Meetings.{met_at_leaf, met_at_range}
+use Rattle.weave_core.specs.Sights.{AreAlike}
+use Rattle.weave_core.specs.WriteEvents.{ChangesLeaf, ChangesRange, StaysThere}
+use Rattle.weave_core.specs.declared.leaves.LeafSeat.{LeafSeat}
+use Rattle.weave_core.specs.declared.queries.Querying.{Querying}
+use Rattle.weave_core.specs.declared.ranges.RangeSeat.{RangeSeat}
+use Rattle.weave_core.specs.declared.sights.RangeSight.{RangeSight}
+use Rattle.weave_core.specs.declared.sights.Sight.{Sight}
+use Rattle.weave_core.specs.declared.store.Store.{Store}
+
+-- someone holds the seat, so nothing changes
+pub record IsHeldFrom {Seat : Type 0} (holder : Option ℕ) (old new : Seat) (sight sight_after : Sight) : Type 0 where
+  pub held : is_some holder ≡ true
+  pub seat : new ≡ old
+  pub seen : sight_after ≡ sight
+
+-- ---- words
+
+-- the first replica of a range, where one was seen to serve
+abbrev pub first_of : ℕ → Option SlotLeaf → List Resolved → List Resolved
+first_of n None rest = rest
+first_of n (Some replica) rest = record { range = range_numbered n; slot = replica.slot; leaf = replica.leaf } ∷ rest
+
+abbrev pub firsts_from : ℕ → List RangeSight → List Resolved
+firsts_from n [] = []
+firsts_from n (one ∷ ranges) = first_of n one.first (firsts_from (n + 1) ranges)
+
+-- what a query is told with a word of how far its caller has seen
+abbrev pub seen_of : Sight → Seen
+seen_of sight = record { cuts = sight.leaves; firsts = firsts_from 0 sight.ranges }
+
+-- ---- at a range
+
+abbrev pub slot_told : Option SlotLeaf → Told
+slot_told None = told.NoSlot
+slot_told (Some replica) = told.Slot replica.slot replica.leaf
+
+-- its first replica that serves on none of these leaves is found
+pub record Finds (range : Range) (avoided : List Leaf) (old new : RangeSeat) (sight sight_after : Sight) (answer : Told)
+    : Type 0 where
+  pub free : old.holder ≡ None
+  pub told_so : answer ≡ slot_told (first_serving avoided old.state)
+  pub state : new.state ≡ old.state
+  pub holder : new.holder ≡ old.holder
+  pub sight_there : new.sight ≡ sight_after
+  pub seen : sight_after ≡ met_at_range range old.state sight old.sight
+
+abbrev pub FindsIf : Range → List Leaf → RangeSeat → RangeSeat → Sight → Sight → Option Told → Type 0
+FindsIf range avoided old new sight sight_after (Some answer) = Finds range avoided old new sight sight_after answer
+FindsIf range avoided old new sight sight_after None = IsHeldFrom old.holder old new sight sight_after
+
+-- ---- at a leaf
+
+-- a leaf that is read tells its part of the query over these rows, or that its load is above the limit, and how long its
+-- history is
+abbrev pub ReadsSo : TypedTree → List Row → ℤ → ℕ → ℕ → Told → Type 0
+ReadsSo typed rows moment limit cut (told.Read found answer) =
+    (found ≡ cut) × IsLeafPart typed rows moment limit answer
+ReadsSo typed rows moment limit cut (told.Over load found) =
+    (found ≡ cut) × IsOverLeaf typed rows moment limit (record { load = load })
+ReadsSo typed rows moment limit cut answer = ⊥
+
+module _ (plan : Plan) (moment : ℤ) (limit : ℕ) (state : LeafView) (slots : List RangeSlot) where
+  abbrev pub is_met_there : Bool
+  is_met_there = is_met plan (history_buckets (key_buckets state.buckets state.schemas) state.history)
+
+  abbrev pub rows_there : List Row
+  rows_there = slot_rows state.history slots
+
+  -- it is looked at at the whole of its history
+  pub record IsFoundThere (cut : ℕ) (down : Bool) : Type 0 where
+    pub whole : cut ≡ length state.history
+    pub is : is_down state.history ≡ down
+
+  -- whether the leaf is down, whether the query reads it, and its part of the query over the rows of these slots
+  abbrev pub TellsSo : Told → Type 0
+  TellsSo (told.Down cut) = IsFoundThere cut true
+  TellsSo (told.Unread cut) = IsFoundThere cut false × (is_met_there ≡ false)
+  TellsSo (told.Read cut answer) = IsFoundThere cut false × (is_met_there ≡ true)
+      × IsLeafPart (typed_tree plan.typed) rows_there moment limit answer
+  TellsSo (told.Over load cut) = IsFoundThere cut false × (is_met_there ≡ true)
+      × IsOverLeaf (typed_tree plan.typed) rows_there moment limit (record { load = load })
+  TellsSo answer = ⊥
+
+module _ (plan : Plan) (moment : ℤ) (limit : ℕ) (slots : List RangeSlot) (leaf : Leaf) where
+  -- it tells so much, and stays as it is
+  pub record Looks (old new : LeafSeat) (sight sight_after : Sight) (answer : Told) : Type 0 where
+    pub free : old.holder ≡ None
+    pub told_so : TellsSo plan moment limit old.state slots answer
+    pub stays : StaysThere old new sight_after
+    pub history : new.state.history ≡ old.state.history
+    pub holder : new.holder ≡ old.holder
+    pub seen : sight_after ≡ met_at_leaf leaf old.state.history sight old.sight
+
+  abbrev pub LooksIf : LeafSeat → LeafSeat → Sight → Sight → Option Told → Type 0
+  LooksIf old new sight sight_after (Some answer) = Looks old new sight sight_after answer
+  LooksIf old new sight sight_after None = IsHeldFrom old.holder old new sight sight_after
+
+-- ---- in a store
+
+-- a word, with how far the query's caller has seen
+abbrev pub word_told : ℕ → Sight → Told
+word_told word sight = told.Word word (seen_of sight)
+
+-- who looks at a range's seat has seen of the same leaves and ranges as were seen there
+abbrev pub IsSeatedForRange : Range → List RangeSeat → Sight → Type 0
+IsSeatedForRange range seats sight = (seat : RangeSeat) → slice_get seats range.0 ≡ Some seat
+    → AreAlike sight seat.sight × (range.0 < length seat.sight.ranges)
+
+-- a range of the store is looked at
+pub record FindsAt (range : Range) (avoided : List Leaf) (old new : Store) (sight sight_after : Sight) (answer : Option Told)
+    : Type 0 where
+  pub before : RangeSeat
+  pub was : slice_get old.ranges.items range.0 ≡ Some before
+  pub seat : RangeSeat
+  pub changes : ChangesRange range seat old new
+  pub finds : FindsIf range avoided before seat sight sight_after answer
+
+module _ (querying : Querying) (leaf : Leaf) where
+  abbrev pub own_slots : List RangeSlot
+  own_slots = slots_of querying.machine.stage leaf
+
+  -- so has who looks at a leaf's, and where nobody holds the leaf, the slots that resolved to it can be read together
+  abbrev pub IsSeatedForLeaf : List LeafSeat → Sight → Type 0
+  IsSeatedForLeaf seats sight = (seat : LeafSeat) → slice_get seats leaf.0 ≡ Some seat
+      → AreAlike sight seat.sight × (leaf.0 < length seat.sight.leaves)
+      × (seat.holder ≡ None
+      → CanBeRead (typed_tree querying.machine.setting.plan.typed) seat.state.history own_slots)
+
+  -- a leaf of the store is looked at
+  pub record LooksAt (old new : Store) (sight sight_after : Sight) (answer : Option Told) : Type 0 where
+    pub before : LeafSeat
+    pub was : slice_get old.leaves.items leaf.0 ≡ Some before
+    pub seat : LeafSeat
+    pub changes : ChangesLeaf leaf seat old new
+    pub looks : LooksIf querying.machine.setting.plan querying.moment old.config.limit own_slots leaf before seat sight
+        sight_after answer

@@ -1,0 +1,43 @@
+-- What lines of a schedule lead to, and what holds of a query there.
+use Rattle.std.specs.Prelude.{ℕ, ◌≡◌, List, [], ◌∷◌, None, Ok, Err}
+use Rattle.mon_config.specs.declared.config.Config.{Config}
+use Rattle.query_core.specs.Answers.{IsAnsweredRightly, IsStoppedRightly}
+use Rattle.query_core.specs.declared.answers.Answer.{Answer}
+use Rattle.query_core.specs.declared.answers.RoundFault.TheVariants as fault
+use Rattle.query_core.specs.declared.answers.Trace.{Trace}
+use Rattle.query_core.specs.declared.stages.Stage.TheVariants as at
+use Rattle.weave_core.specs.Core.{Reader, query_now}
+use Rattle.weave_core.specs.LawfulLines.{IsLawfulForm}
+use Rattle.weave_core.specs.Schedules.{Does, line_fault}
+use Rattle.weave_core.specs.States.{State, store_of}
+use Rattle.weave_core.specs.declared.lines.LineForm.{LineForm}
+
+module _ (config : Config) where
+  -- a line that is not refused leads from one state to another
+  pub record LeadsBy (from : State (store_of config)) (what : LineForm) (to : State (store_of config)) : Type 0 where
+    pub lawful : IsLawfulForm config.schemas what
+    pub fault : line_fault (store_of config) from what ≡ None
+    pub said : List ℕ
+    pub does : Does config from what said to
+
+  -- lines, one after another
+  abbrev pub Leads : State (store_of config) → List LineForm → State (store_of config) → Type 0
+  Leads from [] to = to ≡ from
+  Leads from (what ∷ lines) to = (mid : State (store_of config)) × LeadsBy from what mid × Leads mid lines to
+
+  -- a query that has ended with this table
+  abbrev pub HasAnswered : Reader (store_of config) → Answer → Type 0
+  HasAnswered reader answer = (query_now (store_of config) reader).stage ≡ at.Ended (Ok answer)
+
+  -- its table is what it means over the rows of its trace, which is of the histories that it had seen
+  abbrev pub AnsweredRightly : Reader (store_of config) → Answer → Type 0
+  AnsweredRightly reader answer =
+      IsAnsweredRightly (store_of config) reader.setting reader.moment reader.begin.seen reader.view.seen answer
+
+  -- and one that has stopped for its load
+  abbrev pub HasStoppedSo : Reader (store_of config) → ℕ → Trace → Type 0
+  HasStoppedSo reader limit trace = (query_now (store_of config) reader).stage ≡ at.Ended (Err (fault.StepLimit limit trace))
+
+  abbrev pub StoppedRightly : Reader (store_of config) → ℕ → Trace → Type 0
+  StoppedRightly reader limit trace =
+      IsStoppedRightly (store_of config) reader.setting reader.moment reader.begin.seen reader.view.seen limit trace

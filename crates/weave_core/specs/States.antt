@@ -1,0 +1,175 @@
+-- The core and its actors: what each is to do, and how far it is.
+use Rattle.std.specs.Prelude.{ℕ, Bool, true, false, not, is_some, List, [], ◌∷◌, Option, Some, None, if◌then◌else◌}
+use Rattle.leaf_store.specs.LeafBuckets.{key_buckets}
+use Rattle.mon_config.specs.declared.config.Config.{Config}
+use Rattle.mon_topo.specs.Settings.{Setting as Store}
+use Rattle.query_core.specs.declared.asks.Ask.{Ask}
+use Rattle.query_core.specs.declared.asks.Ask.TheVariants as ask
+use Rattle.weave_core.specs.Core.{Core, Reader, asked_now}
+use Rattle.weave_core.specs.EventNames.{event_of_query, event_of_write}
+use Rattle.weave_core.specs.declared.calls.WeaveFault.{WeaveFault}
+use Rattle.weave_core.specs.declared.calls.WeaveFault.TheVariants as fault
+use Rattle.weave_core.specs.declared.events.Event.{Event}
+use Rattle.write_core.specs.Program.{Acking, Ended, Entering, Inside, Locking, Reserving, Stage}
+use Rattle.write_core.specs.Program as write
+use Rattle.write_core.specs.Views.{View}
+use Rattle.write_core.specs.World.{Actor, Recovers, Stands, World, Writer, Writes, view_of}
+use Rattle.write_core.specs.declared.asks.WriteAsk.{WriteAsk}
+use Rattle.write_core.specs.declared.asks.WriteAsk.TheVariants as write_ask
+
+-- ---- the store of a configuration
+
+abbrev pub store_of : Config → Store
+store_of config = record {
+  held = config.schemas;
+  zones = config.topology;
+  points = config.range_points;
+  buckets_of = key_buckets config.buckets config.schemas;
+}
+
+-- ---- actors
+
+-- what an actor was declared to do: nothing so far; a call that has no event, and ends at its first step with this text,
+-- or has done so; a write, or a query, which the core has under its number
+pub data Role : Type 0 where
+  Undeclared : Role
+  Eventless : List ℕ → Role
+  Dismissed : Role
+  Writing : Role
+  Asking : Role
+
+-- the core, and the role of each actor
+pub record State (store : Store) : Type 0 where
+  pub core : Core store
+  pub roles : ℕ → Role
+
+-- what a write does next; who does not write has nothing left to do
+abbrev pub write_asks : Actor → WriteAsk
+write_asks (Writes writer) = write.ask_of writer.stage
+write_asks (Recovers recovery) = write_ask.Finished
+write_asks (Stands stander) = write_ask.Finished
+
+-- a write that has taken its range's lock
+abbrev pub is_past_lock : Stage → Bool
+is_past_lock Locking = false
+is_past_lock (Reserving round) = true
+is_past_lock (Entering round) = true
+is_past_lock (Inside round at_root in_zone) = true
+is_past_lock (Acking verdict) = true
+is_past_lock (Ended verdict) = true
+
+abbrev pub writes_begun : Actor → Bool
+writes_begun (Writes writer) = is_past_lock writer.stage
+writes_begun (Recovers recovery) = false
+writes_begun (Stands stander) = false
+
+abbrev pub is_any : {X : Type 0} → List X → Bool
+is_any [] = false
+is_any (x ∷ xs) = true
+
+-- who holds what an event of a write needs
+abbrev pub holder_for_write : World → Writer → WriteAsk → Option ℕ
+holder_for_write world writer write_ask.Lock = world.range_holder writer.range.0
+holder_for_write world writer (write_ask.Reserve slot leaf) = world.leaf_holder leaf.0
+holder_for_write world writer (write_ask.Enter slot leaf) = world.leaf_holder leaf.0
+holder_for_write world writer (write_ask.RaiseRoot bucket) = None
+holder_for_write world writer (write_ask.RaiseZone bucket) = None
+holder_for_write world writer (write_ask.Put slot leaf) = None
+holder_for_write world writer write_ask.Ack = None
+holder_for_write world writer write_ask.Finished = None
+
+abbrev pub holder_for_actor : World → Actor → Option ℕ
+holder_for_actor world (Writes writer) = holder_for_write world writer (write.ask_of writer.stage)
+holder_for_actor world (Recovers recovery) = None
+holder_for_actor world (Stands stander) = None
+
+-- and what an event of a query needs
+abbrev pub holder_for_query : World → Ask → Option ℕ
+holder_for_query world (ask.LoadRoot bucket) = None
+holder_for_query world (ask.LoadZone zone bucket) = None
+holder_for_query world (ask.Resolve range) = world.range_holder range.0
+holder_for_query world (ask.Visit leaf) = world.leaf_holder leaf.0
+holder_for_query world ask.Finished = None
+
+module _ (store : Store) (state : State store) (k : ℕ) where
+  abbrev pub actor_at : Actor
+  actor_at = state.core.world.actors k
+
+  abbrev pub reader_at : Reader store
+  reader_at = state.core.readers k
+
+  abbrev pub next_in : Role → Option Event
+  next_in Undeclared = None
+  next_in (Eventless text) = None
+  next_in Dismissed = None
+  next_in Writing = event_of_write (write_asks actor_at)
+  next_in Asking = event_of_query (asked_now store reader_at)
+
+  -- the next event of an actor; there is none where it is not declared, has ended, or has none at all
+  abbrev pub next_event : Option Event
+  next_event = next_in (state.roles k)
+
+  abbrev pub declared_in : Role → Bool
+  declared_in Undeclared = false
+  declared_in (Eventless text) = true
+  declared_in Dismissed = true
+  declared_in Writing = true
+  declared_in Asking = true
+
+  abbrev pub is_declared : Bool
+  is_declared = declared_in (state.roles k)
+
+  abbrev pub ended_in : Role → Bool
+  ended_in Undeclared = false
+  ended_in (Eventless text) = false
+  ended_in Dismissed = true
+  ended_in Writing = not (is_some (next_in Writing))
+  ended_in Asking = not (is_some (next_in Asking))
+
+  -- a write or a query has ended once no event of it is left
+  abbrev pub has_ended : Bool
+  has_ended = ended_in (state.roles k)
+
+  abbrev pub begun_in : Role → Bool
+  begun_in Undeclared = false
+  begun_in (Eventless text) = false
+  begun_in Dismissed = true
+  begun_in Writing = writes_begun actor_at
+  begun_in Asking = is_any reader_at.session
+
+  -- some event of it went, or it has ended
+  abbrev pub has_begun : Bool
+  has_begun = begun_in (state.roles k)
+
+  abbrev pub fault_in : Role → Option WeaveFault
+  fault_in Undeclared = Some fault.NoActor
+  fault_in (Eventless text) = None
+  fault_in Dismissed = Some fault.Finished
+  fault_in Writing = if ended_in Writing then Some fault.Finished else None
+  fault_in Asking = if ended_in Asking then Some fault.Finished else None
+
+  -- why an actor has no next step: it is not declared, or it has ended
+  abbrev pub step_fault : Option WeaveFault
+  step_fault = fault_in (state.roles k)
+
+  abbrev pub view_in : Role → View
+  view_in Undeclared = view_of actor_at
+  view_in (Eventless text) = view_of actor_at
+  view_in Dismissed = view_of actor_at
+  view_in Writing = view_of actor_at
+  view_in Asking = reader_at.view
+
+  -- what it has seen and knows
+  abbrev pub view_at : View
+  view_at = view_in (state.roles k)
+
+  abbrev pub holder_in : Role → Option ℕ
+  holder_in Undeclared = None
+  holder_in (Eventless text) = None
+  holder_in Dismissed = None
+  holder_in Writing = holder_for_actor state.core.world actor_at
+  holder_in Asking = holder_for_query state.core.world (asked_now store reader_at)
+
+  -- who holds what its next event needs
+  abbrev pub holder_at : Option ℕ
+  holder_at = holder_in (state.roles k)

@@ -1,0 +1,72 @@
+-- What the calls of a weave come to, whichever state of the core it agrees with.
+use Rattle.std.specs.Prelude.{ℕ, pos, ◌≡◌, ◌≤ℤ◌, true, Option, Some, None, Result, Ok, Err}
+use Rattle.mon_config.specs.declared.config.Config.{Config}
+use Rattle.mon_schema.specs.Fits.{fits}
+use Rattle.mon_value.specs.declared.refusals.Refusal.{Refusal}
+use Rattle.mon_value.specs.declared.refusals.Refusal.TheVariants as refusal
+use Rattle.weave_core.specs.ActorAgreements.{Agrees}
+use Rattle.weave_core.specs.Declarations.{Declares, Meets}
+use Rattle.weave_core.specs.Schedules.{IsFirst, declare_fault, meet_fault}
+use Rattle.weave_core.specs.States.{State, step_fault, store_of}
+use Rattle.weave_core.specs.Steps.{Steps}
+use Rattle.weave_core.specs.declared.calls.Call.{Call}
+use Rattle.weave_core.specs.declared.calls.Call.TheVariants as call
+use Rattle.weave_core.specs.declared.calls.Stepped.{Stepped}
+use Rattle.weave_core.specs.declared.calls.WeaveFault.{WeaveFault}
+use Rattle.weave_core.specs.declared.weave.Weave.{Weave}
+
+-- there is such a core: what every call asks for that is not the first, and leaves unless memory ran out
+pub record IsKept (weave : Weave) : Type 0 where
+  pub config : Config
+  pub state : State (store_of config)
+  pub agrees : Agrees config weave state
+
+abbrev pub IsKeptUnless : {X : Type 0} → Result X (Refusal WeaveFault) → Weave → Type 0
+IsKeptUnless (Ok x) new = IsKept new
+IsKeptUnless (Err (refusal.Fault why)) new = IsKept new
+IsKeptUnless (Err refusal.OutOfMemory) new = Unit {0}
+
+-- a new weave is as a core in which nobody is declared
+pub record BeginsSo (config : Config) (weave : Weave) : Type 0 where
+  pub state : State (store_of config)
+  pub first : IsFirst config state
+  pub agrees : Agrees config weave state
+
+-- a row fits the schemas, and a moment is not negative
+abbrev pub IsLawfulCall : Config → Call → Type 0
+IsLawfulCall config (call.Write row) = fits config.schemas row ≡ true
+IsLawfulCall config (call.Query moment text) = pos 0 ≤ℤ moment
+
+module _ (config : Config) (state : State (store_of config)) (k : ℕ) where
+  pub record MayDeclare (call : Call) : Type 0 where
+    pub lawful : IsLawfulCall config call
+    pub fault : declare_fault (store_of config) state k ≡ None
+
+  -- an actor is declared, and the weave is as the core then
+  pub record DeclaresSo (call : Call) (new : Weave) : Type 0 where
+    pub after : State (store_of config)
+    pub declares : Declares config state k call after
+    pub agrees : Agrees config new after
+
+  -- an actor has done its step, and the weave is as the core then
+  pub record StepsSo (how : Stepped) (new : Weave) : Type 0 where
+    pub fault : step_fault (store_of config) state k ≡ None
+    pub after : State (store_of config)
+    pub steps : Steps (store_of config) state k how after
+    pub agrees : Agrees config new after
+
+  -- or it has none, and the weave is as it was
+  pub record IsRefusedSo (why : WeaveFault) (new : Weave) : Type 0 where
+    pub fault : step_fault (store_of config) state k ≡ Some why
+    pub agrees : Agrees config new state
+
+  abbrev pub IsStepped : Weave → Result Stepped (Refusal WeaveFault) → Type 0
+  IsStepped new (Ok how) = StepsSo how new
+  IsStepped new (Err (refusal.Fault why)) = IsRefusedSo why new
+  IsStepped new (Err refusal.OutOfMemory) = Unit {0}
+
+  -- an actor has seen and knows what another one does, too
+  pub record MeetsSo (j : ℕ) (new : Weave) : Type 0 where
+    pub after : State (store_of config)
+    pub meets : Meets (store_of config) state k j after
+    pub agrees : Agrees config new after

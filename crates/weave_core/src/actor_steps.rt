@@ -1,0 +1,121 @@
+// Steps of actors.
+ghost use Rattle.std.specs.Prelude.{◌≡◌, ℕ, IfOk};
+ghost use Rattle.mon_config.specs.declared.config.Config.{Config as ConfigOf};
+ghost use Rattle.weave_core.specs.ActorSteps.{ActorSteps, IsIn, IsSomewhere, QueriedSo, WrittenSo};
+ghost use Rattle.weave_core.specs.States.{State, store_of};
+ghost use Rattle.weave_core.specs.declared.actors.Course.TheVariants.{Ended};
+
+use crate::actors::{Actor, Course};
+use crate::calls::Stepped;
+use crate::queries::QueryTurn;
+use crate::sights::Sight;
+use crate::store::Store;
+use crate::texts::{query_text, write_text};
+use crate::writes::WriteTurn;
+use mon_value::OutOfMemory;
+
+/// Does the next event of an actor, unless another one is in its way, and tells how that went; nothing where it has ended.
+pub(crate) fn step_actor(
+    store: &mut Store,
+    own: Actor,
+) -> Result<(Actor, Option<Stepped>), OutOfMemory>
+    requires somewhere { IsSomewhere store.old own }
+    ensures stepped { (config : ConfigOf) (state : State (store_of config)) (i : ℕ) → IsIn config state i store.old own
+        → IfOk result (λ pair. ActorSteps config state i store.new own pair.0 pair.1) }
+{
+    let Actor {
+        course,
+        sight,
+        begun,
+    } = own;
+    let mut sight = sight;
+    match course {
+        Course::Ended => Ok((ended(sight, begun), None)),
+        Course::Refused(text) => Ok((ended(sight, true), Some(Stepped::Ended(text)))),
+        Course::Writes(writing) => {
+            let turn = store.write(writing, &mut sight)?;
+            written(store, turn, sight, begun)
+        }
+        Course::Queries(querying) => {
+            let turn = store.query(querying, &mut sight)?;
+            queried(store, turn, sight, begun)
+        }
+    }
+}
+
+// An actor that has ended.
+fn ended(sight: Sight, begun: bool) -> Actor
+    ensures ended { result ≡ record { course = Ended; sight = sight; begun = begun } }
+{
+    Actor {
+        course: Course::Ended,
+        sight,
+        begun,
+    }
+}
+
+// An actor that took this turn of its write, and what came of it.
+fn written(
+    store: &Store,
+    turn: WriteTurn,
+    sight: Sight,
+    begun: bool,
+) -> Result<(Actor, Option<Stepped>), OutOfMemory>
+    ensures written { IfOk result (λ pair. WrittenSo store.now.config.topology turn sight begun pair.0 pair.1) }
+{
+    match turn {
+        WriteTurn::Went(writing) => Ok((
+            Actor {
+                course: Course::Writes(writing),
+                sight,
+                begun: true,
+            },
+            Some(Stepped::Went),
+        )),
+        WriteTurn::Waits(writing) => Ok((
+            Actor {
+                course: Course::Writes(writing),
+                sight,
+                begun,
+            },
+            Some(Stepped::Waits),
+        )),
+        WriteTurn::Ended(range, end) => {
+            let text = write_text(store.alloc, &store.config.topology, range, &end)?;
+            Ok((ended(sight, true), Some(Stepped::Ended(text))))
+        }
+    }
+}
+
+// An actor that took this turn of its query, and what came of it.
+fn queried(
+    store: &Store,
+    turn: QueryTurn,
+    sight: Sight,
+    begun: bool,
+) -> Result<(Actor, Option<Stepped>), OutOfMemory>
+    ensures queried { IfOk result (λ pair. QueriedSo store.now.config.topology turn sight begun pair.0 pair.1) }
+{
+    match turn {
+        QueryTurn::Went(querying) => Ok((
+            Actor {
+                course: Course::Queries(querying),
+                sight,
+                begun: true,
+            },
+            Some(Stepped::Went),
+        )),
+        QueryTurn::Waits(querying) => Ok((
+            Actor {
+                course: Course::Queries(querying),
+                sight,
+                begun,
+            },
+            Some(Stepped::Waits),
+        )),
+        QueryTurn::Ended(end) => {
+            let text = query_text(store.alloc, &store.config.topology, end)?;
+            Ok((ended(sight, true), Some(Stepped::Ended(text))))
+        }
+    }
+}

@@ -1,0 +1,108 @@
+// Actors: writes and queries on their way.
+ghost use Rattle.std.specs.Prelude.{◌≡◌, ◌||◌, IfOk};
+ghost use Rattle.weave_core.specs.Agreements.{IsServed};
+ghost use Rattle.weave_core.specs.Courses.{event_of, is_over};
+ghost use Rattle.weave_core.specs.NewActors.{IsCourseOf, IsNewActor, IsWriteCourse};
+
+use crate::calls::Call;
+use crate::events::{Event, event_of_query, event_of_write};
+use crate::queries::Querying;
+use crate::query_plans::query_course;
+use crate::sights::Sight;
+use crate::store::Store;
+use crate::texts::no_zone;
+use crate::writes::Writing;
+use mon_value::{OutOfMemory, Row, Text, TryCopy};
+use write_core::WriteMachine;
+
+/// How far an actor is.
+#[derive(Drop)]
+pub(crate) enum Course {
+    /// Its call has no event: it ends at its first step, with this text.
+    Refused(Text),
+    /// It writes.
+    Writes(Writing),
+    /// It queries.
+    Queries(Querying),
+    /// It has ended.
+    Ended,
+}
+
+/// An actor: how far it is, what it has seen, and whether some event of it went.
+#[derive(Drop)]
+pub(crate) struct Actor {
+    pub course: Course,
+    pub sight: Sight,
+    pub begun: bool,
+}
+
+impl Actor {
+    /// An actor of a number that has not begun.
+    pub(crate) fn new(store: &Store, number: u32, call: Call) -> Result<Actor, OutOfMemory>
+        requires served { IsServed store.now.config }
+        ensures new { IfOk result (IsNewActor store.now.config number call store.now.first_sight) }
+    {
+        let course = course_of(store, number, call)?;
+        let sight = store.first_sight.copy(store.alloc)?;
+        Ok(Actor {
+            course,
+            sight,
+            begun: false,
+        })
+    }
+
+    /// Whether it has ended.
+    pub(crate) fn has_ended(&self) -> bool
+        ensures ended { result ≡ is_over self.now.course }
+    {
+        match &self.course {
+            Course::Refused(_) | Course::Writes(_) | Course::Queries(_) => false,
+            Course::Ended => true,
+        }
+    }
+
+    /// Whether some event of it went, or it has ended.
+    pub(crate) fn has_begun(&self) -> bool
+        ensures begun { result ≡ (self.now.begun || is_over self.now.course) }
+    {
+        self.begun || self.has_ended()
+    }
+
+    /// Its next event, if it has one.
+    pub(crate) fn next_event(&self) -> Option<Event>
+        ensures next { result ≡ event_of self.now.course }
+    {
+        match &self.course {
+            Course::Writes(writing) => event_of_write(&writing.machine.next()),
+            Course::Queries(querying) => event_of_query(&querying.machine.next()),
+            Course::Refused(_) | Course::Ended => None,
+        }
+    }
+}
+
+// What a call comes to that has not begun.
+fn course_of(store: &Store, number: u32, call: Call) -> Result<Course, OutOfMemory>
+    requires served { IsServed store.now.config }
+    ensures course { IfOk result (IsCourseOf store.now.config number call) }
+{
+    match call {
+        Call::Write(row) => write_course(store, number, row),
+        Call::Query(moment, text) => query_course(store, moment, &text),
+    }
+}
+
+// A write of a row, or the text that no zone lists its location.
+fn write_course(store: &Store, number: u32, row: Row) -> Result<Course, OutOfMemory>
+    ensures course { IfOk result (IsWriteCourse store.now.config number row) }
+{
+    match store.range_of(&row.key) {
+        Some(range) => Ok(Course::Writes(Writing {
+            number,
+            row,
+            range,
+            machine: WriteMachine::new(store.alloc, range),
+            inside: None,
+        })),
+        None => Ok(Course::Refused(no_zone(store.alloc)?)),
+    }
+}

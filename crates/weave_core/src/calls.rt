@@ -1,0 +1,56 @@
+// What an actor is to do, and how its steps go.
+ghost use Rattle.std.specs.Prelude.{◌≡◌};
+ghost use Rattle.weave_core.specs.Schedules as spec;
+
+use mon_value::{Row, Text};
+
+/// What an actor is to do.
+#[derive(Debug, Drop)]
+pub enum Call {
+    /// Write a row.
+    Write(Row),
+    /// Ask a query's text at a moment, in seconds from the epoch.
+    Query(i64, Text),
+}
+
+/// How a step went.
+#[derive(Debug, PartialEq, Eq, Drop)]
+pub enum Stepped {
+    /// The actor did its next event, and has more of them.
+    Went,
+    /// The next event needs a leaf or a range that another actor holds. Nothing has changed.
+    Waits,
+    /// The actor has ended, with this text.
+    Ended(Text),
+}
+
+/// Why a step, or a line of a schedule, is refused.
+#[derive(Clone, Copy, Debug, PartialEq, Eq)]
+pub enum WeaveFault {
+    /// The actor is not declared.
+    NoActor,
+    /// The actor has ended.
+    Finished,
+    /// The line is of no form, or can't come there.
+    BadLine,
+}
+
+impl WeaveFault {
+    /// Its name.
+    pub fn name(self) -> &'static str
+        ensures name { result.now ≡ spec.fault_name self }
+    {
+        match self {
+            WeaveFault::NoActor => "NoActor",
+            WeaveFault::Finished => "Finished",
+            WeaveFault::BadLine => "BadLine",
+        }
+    }
+}
+
+/// The first line of a schedule that is refused. Lines are numbered from 1.
+#[derive(Clone, Copy, Debug, PartialEq, Eq)]
+pub struct ScheduleFault {
+    pub line: u32,
+    pub fault: WeaveFault,
+}

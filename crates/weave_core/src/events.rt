@@ -1,0 +1,102 @@
+// The events of writes and queries, by their names.
+ghost use Rattle.std.specs.Prelude.{◌≡◌};
+ghost use Rattle.weave_core.specs.EventNames as spec;
+
+use query_core::Ask;
+use write_core::WriteAsk;
+
+/// What an actor does in one step.
+#[derive(Clone, Copy, Debug, PartialEq, Eq)]
+pub enum Event {
+    /// A write takes its range's lock.
+    Lock,
+    /// A write makes room for its row on a leaf, or finds the leaf down.
+    Reserve,
+    /// A write takes a leaf's lock, or finds the leaf down.
+    Enter,
+    /// A write sets a zone's bit in a word of the root.
+    RaiseRoot,
+    /// A write sets a leaf's bit in a word of its zone.
+    RaiseZone,
+    /// A write appends its row to a leaf's history, and lets go of the leaf.
+    Put,
+    /// A write appends its acknowledgement to its range's history, if some replica took the row, and lets go of the range.
+    Ack,
+    /// A query loads a word of the root.
+    LoadRoot,
+    /// A query loads a word of a zone.
+    LoadZone,
+    /// A query finds the replica of a range that it looks at.
+    Resolve,
+    /// A query looks at a leaf.
+    Visit,
+}
+
+/// The event of a name.
+pub(crate) fn event_named(name: &[u8]) -> Option<Event>
+    ensures named { result ≡ spec.event_named name.now }
+{
+    if name == b"lock".as_slice() {
+        Some(Event::Lock)
+    } else if name == b"reserve".as_slice() {
+        Some(Event::Reserve)
+    } else if name == b"enter".as_slice() {
+        Some(Event::Enter)
+    } else if name == b"raise_root".as_slice() {
+        Some(Event::RaiseRoot)
+    } else if name == b"raise_zone".as_slice() {
+        Some(Event::RaiseZone)
+    } else if name == b"put".as_slice() {
+        Some(Event::Put)
+    } else if name == b"ack".as_slice() {
+        Some(Event::Ack)
+    } else {
+        query_event_named(name)
+    }
+}
+
+// The event of a query of a name.
+fn query_event_named(name: &[u8]) -> Option<Event>
+    ensures named { result ≡ spec.query_event_named name.now }
+{
+    if name == b"load_root".as_slice() {
+        Some(Event::LoadRoot)
+    } else if name == b"load_zone".as_slice() {
+        Some(Event::LoadZone)
+    } else if name == b"resolve".as_slice() {
+        Some(Event::Resolve)
+    } else if name == b"visit".as_slice() {
+        Some(Event::Visit)
+    } else {
+        None
+    }
+}
+
+/// The event that a write asks for, unless it has ended.
+pub(crate) fn event_of_write(ask: &WriteAsk) -> Option<Event>
+    ensures event { result ≡ spec.event_of_write ask.now }
+{
+    match ask {
+        WriteAsk::Lock => Some(Event::Lock),
+        WriteAsk::Reserve(_, _) => Some(Event::Reserve),
+        WriteAsk::Enter(_, _) => Some(Event::Enter),
+        WriteAsk::RaiseRoot(_) => Some(Event::RaiseRoot),
+        WriteAsk::RaiseZone(_) => Some(Event::RaiseZone),
+        WriteAsk::Put(_, _) => Some(Event::Put),
+        WriteAsk::Ack => Some(Event::Ack),
+        WriteAsk::Finished => None,
+    }
+}
+
+/// The event that a query asks for, unless it has ended.
+pub(crate) fn event_of_query(ask: &Ask) -> Option<Event>
+    ensures event { result ≡ spec.event_of_query ask.now }
+{
+    match ask {
+        Ask::LoadRoot(_) => Some(Event::LoadRoot),
+        Ask::LoadZone(_, _) => Some(Event::LoadZone),
+        Ask::Resolve(_) => Some(Event::Resolve),
+        Ask::Visit(_) => Some(Event::Visit),
+        Ask::Finished => None,
+    }
+}

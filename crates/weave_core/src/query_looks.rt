@@ -1,0 +1,184 @@
+// The looks of a query, each at the seat that it needs.
+ghost use Rattle.std.specs.Prelude.{◌≡◌, ◌≤◌, ◌≤ℤ◌, ◌<◌, ◌^◌, ◌++◌, [], length, map, pos, IfOk, OnOk, None};
+ghost use Rattle.mon_hints.specs.Formulas.{all_named, formula_tree, formulas};
+ghost use Rattle.mon_hints.specs.Listings.{AreAmong};
+ghost use Rattle.mon_value.specs.declared.limits.TheConstants.{ROW_BITS};
+ghost use Rattle.mql_types.specs.Nodes.{typed_tree};
+ghost use Rattle.query_core.specs.Machine.{slots_of};
+ghost use Rattle.query_core.specs.ReadableSlots.{CanBeRead};
+ghost use Rattle.query_core.specs.Traces.{slot_rows};
+ghost use Rattle.weave_core.specs.QueryLooks as spec;
+ghost use Rattle.weave_core.specs.QueryLooks.{FindsIf, LooksIf, ReadsSo, TellsSo, first_of, firsts_from, seen_of};
+ghost use Rattle.weave_core.specs.Sights.{AreAlike};
+
+use crate::leaf_looks::is_met;
+use crate::leaves::LeafSeat;
+use crate::queries::Querying;
+use crate::ranges::RangeSeat;
+use crate::sights::{RangeSight, Sight};
+use leaf_eval::eval_leaf;
+use leaf_store::LeafState;
+use mon_value::{Leaf, Leaves, ListOf, OutOfMemory, Range, Refusal, SlotLeaf};
+use query_core::{Resolved, Resolveds, Seen, Told};
+use std::alloc::{AllocError, Global};
+
+/// A query finds the first replica of a range that serves on none of these leaves, unless someone holds the range.
+pub(crate) fn find(
+    seat: &mut RangeSeat,
+    range: Range,
+    avoided: &Leaves,
+    sight: &mut Sight,
+) -> Option<Told>
+    requires alike { AreAlike sight.old seat.old.sight }
+    requires there { range.0 < length seat.old.sight.ranges }
+    ensures finds { FindsIf range avoided.now seat.old seat.new sight.old sight.new result }
+{
+    if seat.holder.is_some() {
+        return None;
+    }
+    let told = slot_told(seat.state.resolve(avoided));
+    seat.meet(range, sight);
+    Some(told)
+}
+
+// What a query is told of a range.
+fn slot_told(found: Option<SlotLeaf>) -> Told
+    ensures told { result ≡ spec.slot_told found }
+{
+    match found {
+        Some(replica) => Told::Slot(replica.slot, replica.leaf),
+        None => Told::NoSlot,
+    }
+}
+
+/// A query looks at a leaf, and reads it where a formula of its plan holds of the leaf's buckets, unless someone holds the leaf.
+pub(crate) fn look(
+    alloc: Global,
+    querying: &Querying,
+    limit: u64,
+    seat: &mut LeafSeat,
+    leaf: Leaf,
+    sight: &mut Sight,
+) -> Result<Option<Told>, OutOfMemory>
+    requires alike { AreAlike sight.old seat.old.sight }
+    requires there { leaf.0 < length seat.old.sight.leaves }
+    requires listed { AreAmong (all_named (formulas (map formula_tree querying.now.machine.setting.plan.formulas)))
+        querying.now.machine.setting.plan.buckets }
+    requires moment { pos 0 ≤ℤ querying.now.moment }
+    requires limit { limit ≤ 2 ^ ROW_BITS }
+    requires readable { seat.old.holder ≡ None → CanBeRead (typed_tree querying.now.machine.setting.plan.typed)
+        seat.old.state.history (slots_of querying.now.machine.stage leaf) }
+    ensures looks { IfOk result (LooksIf querying.now.machine.setting.plan querying.now.moment limit
+        (slots_of querying.now.machine.stage leaf) leaf seat.old seat.new sight.old sight.new) }
+{
+    if seat.holder.is_some() {
+        return Ok(None);
+    }
+    let told = tell(alloc, querying, limit, &mut seat.state, leaf)?;
+    seat.meet(leaf, sight);
+    Ok(Some(told))
+}
+
+// What a query is told of a leaf.
+fn tell(
+    alloc: Global,
+    querying: &Querying,
+    limit: u64,
+    state: &mut LeafState,
+    leaf: Leaf,
+) -> Result<Told, OutOfMemory>
+    requires listed { AreAmong (all_named (formulas (map formula_tree querying.now.machine.setting.plan.formulas)))
+        querying.now.machine.setting.plan.buckets }
+    requires moment { pos 0 ≤ℤ querying.now.moment }
+    requires limit { limit ≤ 2 ^ ROW_BITS }
+    requires readable { CanBeRead (typed_tree querying.now.machine.setting.plan.typed) state.old.history
+        (slots_of querying.now.machine.stage leaf) }
+    ensures tells { IfOk result (TellsSo querying.now.machine.setting.plan querying.now.moment limit state.old
+        (slots_of querying.now.machine.stage leaf)) }
+    ensures schemas { state.new.schemas ≡ state.old.schemas }
+    ensures buckets { state.new.buckets ≡ state.old.buckets }
+    ensures promised { state.new.promised ≡ state.old.promised }
+    ensures history { state.new.history ≡ state.old.history }
+{
+    let cut = state.length();
+    if state.down() {
+        return Ok(Told::Down(cut));
+    }
+    if !is_met(alloc, querying.machine.plan(), state)? {
+        return Ok(Told::Unread(cut));
+    }
+    read(alloc, querying, limit, state, leaf, cut)
+}
+
+// What a query is told of a leaf that it reads, whose history is so long.
+fn read(
+    alloc: Global,
+    querying: &Querying,
+    limit: u64,
+    state: &mut LeafState,
+    leaf: Leaf,
+    cut: u64,
+) -> Result<Told, OutOfMemory>
+    requires moment { pos 0 ≤ℤ querying.now.moment }
+    requires limit { limit ≤ 2 ^ ROW_BITS }
+    requires readable { CanBeRead (typed_tree querying.now.machine.setting.plan.typed) state.old.history
+        (slots_of querying.now.machine.stage leaf) }
+    ensures reads { IfOk result (ReadsSo (typed_tree querying.now.machine.setting.plan.typed)
+        (slot_rows state.old.history (slots_of querying.now.machine.stage leaf)) querying.now.moment limit cut) }
+    ensures schemas { state.new.schemas ≡ state.old.schemas }
+    ensures buckets { state.new.buckets ≡ state.old.buckets }
+    ensures promised { state.new.promised ≡ state.old.promised }
+    ensures history { state.new.history ≡ state.old.history }
+{
+    state.settle()?;
+    let machine = &querying.machine;
+    let slots = machine.slots(leaf);
+    match eval_leaf(alloc, machine.plan(), state, slots, querying.moment, limit) {
+        Ok(answer) => Ok(Told::Read(cut, answer)),
+        Err(Refusal::Fault(over)) => Ok(Told::Over(over.load, cut)),
+        Err(Refusal::OutOfMemory) => Err(AllocError),
+    }
+}
+
+/// What a query is told with a word of how far its caller has seen.
+pub(crate) fn seen_so(alloc: Global, sight: &Sight) -> Result<Seen, OutOfMemory>
+    requires few { length sight.now.ranges < 2 ^ 32 }
+    ensures seen { IfOk result (λ seen. seen ≡ seen_of sight.now) }
+{
+    let firsts = firsts_of(alloc, sight.ranges.as_slice())?;
+    let cuts = ListOf::from_vec(sight.leaves.as_slice().to_vec(alloc)?);
+    Ok(Seen { cuts, firsts })
+}
+
+// The first replica of each range, as it was seen.
+fn firsts_of(alloc: Global, ranges: &[RangeSight]) -> Result<Resolveds, OutOfMemory>
+    requires few { length ranges.now < 2 ^ 32 }
+    ensures firsts { IfOk result (λ firsts. firsts ≡ firsts_from 0 ranges.now) }
+{
+    let mut firsts = Resolveds::new(alloc);
+    for (number, range) in ranges.iter().enumerate() {
+        push_first(&mut firsts, Range(number as u32), range.first)?;
+    }
+    Ok(firsts)
+}
+
+// Adds the first replica of a range, where one was seen to serve.
+fn push_first(
+    firsts: &mut Resolveds,
+    range: Range,
+    first: Option<SlotLeaf>,
+) -> Result<(), OutOfMemory>
+    ensures pushed { OnOk result (firsts.new ≡ firsts.old ++ first_of range.0 first []) }
+{
+    match first {
+        Some(replica) => {
+            firsts.push(Resolved {
+                range,
+                slot: replica.slot,
+                leaf: replica.leaf,
+            })?;
+            Ok(())
+        }
+        None => Ok(()),
+    }
+}

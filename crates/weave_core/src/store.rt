@@ -1,0 +1,310 @@
+// What actors share.
+ghost use Rattle.std.specs.Prelude.{◌≡◌, ◌<◌, ◌-◌, ◌+◌, ◌++◌, ◌∷◌, [], length, map, replicate, slice_get, IfOk, IfSome, OnOk};
+ghost use Rattle.std.specs.List.{slice_index_or};
+ghost use Rattle.leaf_store.specs.LeafStates.{new_leaf};
+ghost use Rattle.mon_topo.specs.Locations.{range_for};
+ghost use Rattle.mon_topo.specs.Replicas.{HasReplicas};
+ghost use Rattle.mon_topo.specs.Zones.{first_leaf, leaf_zones, leaves_in, ranges_in, zone_numbered};
+ghost use Rattle.mon_value.specs.LeafHistories.{IsWellFormed};
+ghost use Rattle.weave_core.specs.Agreements.{AreShared, IsLimited, IsServed};
+ghost use Rattle.weave_core.specs.FirstHistories.{first_leaf_history, first_range_history};
+ghost use Rattle.weave_core.specs.Openings as spec;
+ghost use Rattle.weave_core.specs.Openings.{AreOpenedSo, IsChanged, first_range_histories, first_world, opened_before};
+ghost use Rattle.weave_core.specs.Openings.{sight_of_states, with_opening};
+ghost use Rattle.weave_core.specs.Sights.{range_sight};
+
+use crate::leaves::LeafSeat;
+use crate::ranges::{RangeSeat, RangeState};
+use crate::sights::{RangeSight, Sight};
+use crate::words::HintWords;
+use leaf_store::LeafState;
+use mon_config::Config;
+use mon_topo::{Topology, location_of, ranges_have_replicas};
+use mon_value::{Entry, Leaf, ListOf, OutOfMemory, Range, RowList, SeriesKey, Slot, TryCopy, Zone};
+use std::alloc::Global;
+
+/// The hint words, the leaves and the ranges, and what all have seen at first: the first replicas of all ranges.
+#[derive(Drop)]
+pub(crate) struct Store {
+    pub alloc: Global,
+    pub config: Config,
+    pub words: HintWords,
+    pub leaves: Vec<LeafSeat>,
+    pub ranges: Vec<RangeSeat>,
+    pub first_sight: Sight,
+}
+
+impl Store {
+    /// The leaves and ranges of a configuration, without rows.
+    pub(crate) fn new(alloc: Global, config: Config) -> Result<Store, OutOfMemory>
+        requires limited { IsLimited config }
+        ensures shared { IfOk result (AreShared config (first_world config)) }
+    {
+        let mut leaves = new_states(alloc, &config)?;
+        let ranges = open_ranges(alloc, &config, &mut leaves)?;
+        Store::seated(alloc, config, leaves, ranges)
+    }
+
+    // A store of these leaves and ranges, which nobody holds.
+    fn seated(
+        alloc: Global,
+        config: Config,
+        leaf_states: Vec<LeafState>,
+        range_states: Vec<RangeState>,
+    ) -> Result<Store, OutOfMemory>
+        requires limited { IsLimited config }
+        requires opened { AreOpenedSo config (first_leaf_history config.topology) leaf_states.items }
+        requires histories { range_states.items ≡ first_range_histories config.topology }
+        ensures shared { IfOk result (AreShared config (first_world config)) }
+    {
+        note_served(&config);
+        let first_sight = first_sight(alloc, leaf_states.as_slice(), range_states.as_slice())?;
+        let words = HintWords::new(alloc, config.topology.zones(), config.buckets)?;
+        let leaves = leaf_seats(alloc, &config.topology, leaf_states, &first_sight)?;
+        let ranges = range_seats(alloc, range_states, &first_sight)?;
+        Ok(Store {
+            alloc,
+            config,
+            words,
+            leaves,
+            ranges,
+            first_sight,
+        })
+    }
+
+    /// The range that a series' target lies in, where a zone lists its location.
+    pub(crate) fn range_of(&self, key: &SeriesKey) -> Option<Range>
+        ensures range { result ≡ range_for self.now.config.schemas self.now.config.topology key.now.target }
+        ensures there { IfSome result (λ range. range.0 < length (ranges_in self.now.config.topology)) }
+    {
+        let location = location_of(&self.config.schemas, &key.target)?;
+        let zone = self.config.topology.zone_of(location.as_bytes())?;
+        Some(self.config.topology.range_of(zone, &key.target))
+    }
+}
+
+// What is known of each configuration.
+fn note_served(config: &Config)
+    requires limited { IsLimited config.now }
+    ensures served { IsServed config.now }
+{
+    config.schemas.metrics_are_lawful();
+    config.schemas.targets_tell_locations();
+    ranges_have_replicas(&config.topology);
+    let _zones = config.topology.zones();
+}
+
+// The states of a configuration's leaves, which have no history.
+fn new_states(alloc: Global, config: &Config) -> Result<Vec<LeafState>, OutOfMemory>
+    requires limited { IsLimited config.now }
+    ensures new { IfOk result (λ states. states.items
+        ≡ replicate (length (leaves_in config.now.topology)) (new_leaf config.now.schemas config.now.buckets)) }
+{
+    let mut states = Vec::new(alloc);
+    for leaf in 0..config.topology.leaves() {
+        states.push(LeafState::new(alloc, Leaf(leaf), config.buckets, &config.schemas)?)?;
+    }
+    Ok(states)
+}
+
+// Opens the first replicas of all ranges.
+fn open_ranges(
+    alloc: Global,
+    config: &Config,
+    leaves: &mut Vec<LeafState>,
+) -> Result<Vec<RangeState>, OutOfMemory>
+    requires none { AreOpenedSo config.now (opened_before config.now.topology 0) leaves.old.items }
+    ensures opened { OnOk result (AreOpenedSo config.now (first_leaf_history config.now.topology) leaves.new.items) }
+    ensures histories { IfOk result (λ ranges. ranges.items ≡ first_range_histories config.now.topology) }
+{
+    ranges_have_replicas(&config.topology);
+    let mut ranges = Vec::new(alloc);
+    for range in 0..config.topology.ranges() {
+        let state = open_range(alloc, config, leaves, Range(range))?;
+        ranges.push(state)?;
+    }
+    Ok(ranges)
+}
+
+// Opens the first replicas of a range.
+fn open_range(
+    alloc: Global,
+    config: &Config,
+    leaves: &mut Vec<LeafState>,
+    range: Range,
+) -> Result<RangeState, OutOfMemory>
+    requires there { range.0 < length (ranges_in config.now.topology) }
+    requires replicas { HasReplicas config.now.topology range }
+    requires before { AreOpenedSo config.now (opened_before config.now.topology range.0) leaves.old.items }
+    ensures opened { OnOk result
+        (AreOpenedSo config.now (opened_before config.now.topology (range.0 + 1)) leaves.new.items) }
+    ensures history { IfOk result (λ state. state ≡ first_range_history config.now.topology range.0) }
+{
+    let mut state = RangeState::new(alloc);
+    let mut number = 0;
+    for leaf in config.topology.first_replicas(range).as_slice() {
+        open_replica(alloc, leaves, *leaf, range, Slot(number))?;
+        state.open(0, Slot(number), *leaf)?;
+        number += 1;
+    }
+    Ok(state)
+}
+
+// Opens a replica without rows on a leaf.
+fn open_replica(
+    alloc: Global,
+    leaves: &mut Vec<LeafState>,
+    leaf: Leaf,
+    range: Range,
+    slot: Slot,
+) -> Result<(), OutOfMemory>
+    requires there { leaf.0 < length leaves.old.items }
+    requires may { IfSome (slice_get leaves.old.items leaf.0)
+        (λ state. IsWellFormed (state.history ++ Entry.Opened 0 range slot [] ∷ [])) }
+    ensures count { length leaves.new.items ≡ length leaves.old.items }
+    ensures opened { OnOk result (IsChanged leaf (with_opening range slot.0) leaves.old.items leaves.new.items) }
+{
+    open_slot(alloc, &mut leaves[leaf.0 as usize], range, slot)
+}
+
+// Opens a replica without rows.
+fn open_slot(
+    alloc: Global,
+    state: &mut LeafState,
+    range: Range,
+    slot: Slot,
+) -> Result<(), OutOfMemory>
+    requires may { IsWellFormed (state.old.history ++ Entry.Opened 0 range slot [] ∷ []) }
+    ensures opened { OnOk result (state.new ≡ with_opening range slot.0 state.old) }
+{
+    let rows = RowList::new(alloc);
+    state.reserve_opened(&rows)?;
+    state.apply(Entry::Opened {
+        pass: 0,
+        range,
+        slot,
+        rows,
+    });
+    Ok(())
+}
+
+// All of these histories.
+fn first_sight(
+    alloc: Global,
+    leaves: &[LeafState],
+    ranges: &[RangeState],
+) -> Result<Sight, OutOfMemory>
+    ensures sight { IfOk result (λ sight. sight ≡ sight_of_states leaves.now ranges.now) }
+{
+    Ok(Sight {
+        leaves: leaf_lengths(alloc, leaves)?,
+        ranges: range_sights(alloc, ranges)?,
+    })
+}
+
+// The length of each leaf's history.
+fn leaf_lengths(alloc: Global, leaves: &[LeafState]) -> Result<ListOf<u64>, OutOfMemory>
+    ensures lengths { IfOk result (λ lengths. lengths ≡ map (λ state. length state.history) leaves.now) }
+{
+    let mut lengths = ListOf::new(alloc);
+    for state in leaves {
+        lengths.push(state.length())?;
+    }
+    Ok(lengths)
+}
+
+// What who sees all of each range's history sees.
+fn range_sights(alloc: Global, ranges: &[RangeState]) -> Result<ListOf<RangeSight>, OutOfMemory>
+    ensures sights { IfOk result (λ sights. sights ≡ map range_sight ranges.now) }
+{
+    let mut sights = ListOf::new(alloc);
+    for state in ranges {
+        sights.push(state.sight())?;
+    }
+    Ok(sights)
+}
+
+// Each leaf, held by nobody.
+fn leaf_seats(
+    alloc: Global,
+    topology: &Topology,
+    states: Vec<LeafState>,
+    sight: &Sight,
+) -> Result<Vec<LeafSeat>, OutOfMemory>
+    requires count { length states.items ≡ length (leaves_in topology.now) }
+    ensures seats { IfOk result (λ seats. seats.items ≡ spec.leaf_seats topology.now sight.now 0 states.items) }
+{
+    let mut seats = Vec::with_capacity(alloc, states.len())?;
+    for state in states {
+        let seat = leaf_seat(alloc, topology, seats.len(), state, sight)?;
+        seats.push(seat)?;
+    }
+    Ok(seats)
+}
+
+// A leaf, held by nobody.
+fn leaf_seat(
+    alloc: Global,
+    topology: &Topology,
+    leaf: usize,
+    state: LeafState,
+    sight: &Sight,
+) -> Result<LeafSeat, OutOfMemory>
+    requires there { leaf < length (leaves_in topology.now) }
+    ensures seat { IfOk result (λ seat. seat ≡ spec.leaf_seat topology.now sight.now leaf state) }
+{
+    let (zone, place) = place_of(topology, leaf);
+    let copied = sight.copy(alloc)?;
+    Ok(LeafSeat {
+        state,
+        zone,
+        place,
+        holder: None,
+        sight: copied,
+    })
+}
+
+// The zone of a leaf, and its place there.
+fn place_of(topology: &Topology, leaf: usize) -> (Zone, u32)
+    requires there { leaf < length (leaves_in topology.now) }
+    ensures zone { result.0 ≡ slice_index_or (leaf_zones topology.now) leaf (zone_numbered 0) }
+    ensures place { result.1
+        ≡ leaf - first_leaf topology.now (slice_index_or (leaf_zones topology.now) leaf (zone_numbered 0)).0 }
+{
+    for zone in 0..topology.zones() {
+        let (first, count) = topology.leaves_of(Zone(zone));
+        let place = leaf - first.0 as usize;
+        if place < count as usize {
+            return (Zone(zone), place as u32);
+        }
+    }
+    unreachable!();
+}
+
+// Each range, held by nobody.
+fn range_seats(
+    alloc: Global,
+    states: Vec<RangeState>,
+    sight: &Sight,
+) -> Result<Vec<RangeSeat>, OutOfMemory>
+    ensures seats { IfOk result (λ seats. seats.items ≡ map (spec.range_seat sight.now) states.items) }
+{
+    let mut seats = Vec::with_capacity(alloc, states.len())?;
+    for state in states {
+        let seat = range_seat(alloc, state, sight)?;
+        seats.push(seat)?;
+    }
+    Ok(seats)
+}
+
+// A range, held by nobody.
+fn range_seat(alloc: Global, state: RangeState, sight: &Sight) -> Result<RangeSeat, OutOfMemory>
+    ensures seat { IfOk result (λ seat. seat ≡ spec.range_seat sight.now state) }
+{
+    let copied = sight.copy(alloc)?;
+    Ok(RangeSeat {
+        state,
+        holder: None,
+        sight: copied,
+    })
+}
