@@ -42,6 +42,7 @@ causes_earlier before mid after stop.OutOfMemory counts causes = tt
 causes_earlier before mid after stop.Usage counts causes = tt
 causes_earlier before mid after (stop.Config fault) counts causes = tt
 causes_earlier before mid after (stop.Script fault) counts causes = tt
+causes_earlier before mid after (stop.Schedule fault) counts causes = tt
 causes_earlier before mid after (stop.TooLong name) counts causes = tt
 
 -- a configuration or a script that is refused is a cause of its own
@@ -151,6 +152,7 @@ run_ended p before mid after (Ok refused) status done stops causes counts later 
 run_ended p before mid after (Err stop.Usage) status done stops causes counts later same closes = ends_before p before mid after 1 _ status stops counts.writes closes
 run_ended p before mid after (Err (stop.Config fault)) status done stops causes counts later same closes = ends_before p before mid after 2 _ status stops counts.writes closes
 run_ended p before mid after (Err (stop.Script fault)) status done stops causes counts later same closes = ends_before p before mid after 3 _ status stops counts.writes closes
+run_ended p before mid after (Err (stop.Schedule fault)) status done stops causes counts later same closes = ends_before p before mid after 3 _ status stops counts.writes closes
 run_ended p before mid after (Err (stop.TooLong name)) status done stops causes counts later same closes = ends_before p before mid after 8 _ status stops counts.writes closes
 run_ended p before mid after (Err (stop.CannotRead name)) status done stops causes counts later same closes = ends_at_read p before mid after name status stops counts causes same closes
 run_ended p before mid after (Err stop.WriteFailed) status done stops causes counts later same closes = ends_cut p before mid after status stops causes later.writes closes
@@ -173,6 +175,7 @@ unread_last before mid after (Err stop.OutOfMemory) status causes same closes fo
 unread_last before mid after (Err stop.Usage) status causes same closes four = let e = says_four mid after 1 _ status closes four in absurd (omega arith)
 unread_last before mid after (Err (stop.Config fault)) status causes same closes four = let e = says_four mid after 2 _ status closes four in absurd (omega arith)
 unread_last before mid after (Err (stop.Script fault)) status causes same closes four = let e = says_four mid after 3 _ status closes four in absurd (omega arith)
+unread_last before mid after (Err (stop.Schedule fault)) status causes same closes four = let e = says_four mid after 3 _ status closes four in absurd (omega arith)
 unread_last before mid after (Err (stop.TooLong name)) status causes same closes four = let e = says_four mid after 8 _ status closes four in absurd (omega arith)
 
 says_rose : (before after : Progress) (code : ℕ) (text : List ℕ) (status : ℕ) → SaysText code text status before after → status ≡ 5 → (code ≡ 5 → ⊥) → Rose before.sink.faults after.sink.faults
@@ -193,6 +196,8 @@ unwritten_rose before mid after (Err (stop.Config fault)) status causes counts l
     rose_earlier before.sink.faults mid.sink.faults after.sink.faults counts.writes (says_rose mid after 2 _ status closes five (λ e. omega arith))
 unwritten_rose before mid after (Err (stop.Script fault)) status causes counts later closes five =
     rose_earlier before.sink.faults mid.sink.faults after.sink.faults counts.writes (says_rose mid after 3 _ status closes five (λ e. omega arith))
+unwritten_rose before mid after (Err (stop.Schedule fault)) status causes counts later closes five =
+    rose_earlier before.sink.faults mid.sink.faults after.sink.faults counts.writes (says_rose mid after 3 _ status closes five (λ e. omega arith))
 unwritten_rose before mid after (Err (stop.TooLong name)) status causes counts later closes five =
     rose_earlier before.sink.faults mid.sink.faults after.sink.faults counts.writes (says_rose mid after 8 _ status closes five (λ e. omega arith))
 
@@ -209,6 +214,7 @@ ended_status before after (Err stop.OutOfMemory) status closes = ap is_status cl
 ended_status before after (Err stop.Usage) status closes = says_status before after 1 _ status refl closes
 ended_status before after (Err (stop.Config fault)) status closes = says_status before after 2 _ status refl closes
 ended_status before after (Err (stop.Script fault)) status closes = says_status before after 3 _ status refl closes
+ended_status before after (Err (stop.Schedule fault)) status closes = says_status before after 3 _ status refl closes
 ended_status before after (Err (stop.CannotRead name)) status closes = says_status before after 4 _ status refl closes
 ended_status before after (Err (stop.TooLong name)) status closes = says_status before after 8 _ status refl closes
 
@@ -220,6 +226,7 @@ closes_silent before after stop.OutOfMemory status silent is did = (is, did)
 closes_silent before after stop.Usage status silent is did = absurd cc
 closes_silent before after (stop.Config fault) status silent is did = absurd cc
 closes_silent before after (stop.Script fault) status silent is did = absurd cc
+closes_silent before after (stop.Schedule fault) status silent is did = absurd cc
 closes_silent before after (stop.CannotRead name) status silent is did = absurd cc
 closes_silent before after (stop.TooLong name) status silent is did = absurd cc
 
@@ -229,5 +236,6 @@ closes_says before after stop.OutOfMemory status silent says = absurd cc
 closes_says before after stop.Usage status silent says = says
 closes_says before after (stop.Config fault) status silent says = says
 closes_says before after (stop.Script fault) status silent says = says
+closes_says before after (stop.Schedule fault) status silent says = says
 closes_says before after (stop.CannotRead name) status silent says = says
 closes_says before after (stop.TooLong name) status silent says = says

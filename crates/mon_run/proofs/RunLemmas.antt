@@ -1,5 +1,5 @@
--- The parts of a run: a file, a line, the lines of a script, a script, a configuration.
-use Rattle.std.proofs.Common.{◌≡◌, ◌∙◌, ◌⊎◌, inl, inr, ℕ, ℤ, ◌||◌, Bool, false, cond, List, [], ◌∷◌, ◌++◌, map, length, Result, Ok, Err, IfOk, IfErr, refl, sym, ap, subst, append_assoc, append-nil}
+-- The parts of a run: a file, a line, the lines of a script, a script, a schedule, a configuration, a command.
+use Rattle.std.proofs.Common.{◌≡◌, ◌∙◌, ◌⊎◌, inl, inr, ℕ, ℤ, ◌||◌, Bool, false, cond, List, [], ◌∷◌, ◌++◌, map, length, Option, Some, None, IfSome, Result, Ok, Err, IfOk, IfErr, refl, sym, ap, subst, append_assoc, append-nil}
 use Rattle.std.specs.Bool.{⊤}
 use Rattle.std.specs.List.{flat_map}
 use Rattle.mon_value.specs.Answers.{Withholds}
@@ -18,7 +18,7 @@ use Rattle.mon_run.specs.Feeds.{Fed, fed}
 use Rattle.mon_run.specs.Faults.{Rose}
 use Rattle.mon_run.specs.Folders.{Files, FolderState, content_of}
 use Rattle.mon_run.specs.Sinks.{SinkState, written_then}
-use Rattle.mon_run.specs.Plans.{Accept, Ask, End, Plan, Step, Write, config_plan, end_status, ending, feed_steps, is_refused, is_too_long, line_plan, line_rows, lines_plan, plan, plan_behind, query_steps, read_plan, reply_steps, script_plan}
+use Rattle.mon_run.specs.Plans.{Accept, Ask, Command, End, IsWoven, IsWovenBy, Plan, Step, Write, command_of, command_plan, config_plan, end_status, ending, feed_steps, file_plan, is_refused, is_too_long, line_plan, line_rows, lines_plan, plan, plan_behind, query_steps, read_plan, reply_steps, schedule_end, schedule_plan, script_plan}
 use Rattle.mon_run.specs.Queries.{query_answer, reply_of}
 use Rattle.mon_run.specs.Texts.{feed_text, too_long_text}
 use Rattle.mon_run.specs.declared.outcome.LineEnd.{LineEnd}
@@ -28,8 +28,11 @@ use Rattle.mon_run.specs.declared.outside.folder.Asked.{Asked}
 use Rattle.mon_run.specs.declared.queries.Reply.{Reply}
 use Rattle.mon_run.specs.declared.stop.Stop.{Stop}
 use Rattle.mon_run.specs.declared.stop.Stop.TheVariants as stop
-use Rattle.mon_run.specs.within.Stops.{Done, HasRead, Ran, Stops, WriteStops, WroteFront, config_stop, files_plan, named_plan, script_stop}
+use Rattle.mon_run.specs.within.Stops.{Completes, Counts, Done, Ends, Halts, HasRead, Ran, Stops, Weaves, WriteStops, WroteFront, config_stop, files_plan, script_stop, words_plan}
 use Rattle.mon_run.specs.within.Takings.{FedAs, Front, Took}
+use Rattle.weave_core.specs.Schedules.{IsPrinted, Printed}
+use Rattle.weave_core.specs.declared.calls.ScheduleFault.{ScheduleFault}
+use Rattle.mon_run.proofs.EndLemmas.{causes_earlier}
 use Rattle.mon_run.proofs.SinkLemmas.{nothing_written}
 use Rattle.mon_run.proofs.StepLemmas.{did_by, did_none, did_then, done_behind, not_long, plan_twice, stops_behind}
 
@@ -208,70 +211,153 @@ reached_stops {config} {files} {lines} {left} {line} {refused} {before} {now} af
     subst (λ (p : Plan). Stops p stopped before after) (sym reached.split)
     (stops_behind (line_plan config files now.rows line.what rest) after stopped reached.did (stops rest))
 
+-- ---- ends of parts
+
+-- a part stopped, and the stop was handed on
+pub ends_stopped : (plan : Files → Plan) (ended : Result Bool Stop) (stopped : Stop) {before after : Progress} → (s : Stop) × (ended ≡ Err s) × (s ≡ stopped) → Halts plan stopped before after → Ends plan ended before after
+ends_stopped plan ended stopped {before} {after} (s, is, same) halts = record {
+  completes = subst (λ (r : Result Bool Stop). IfOk r (λ refused. Completes plan refused before after)) (sym (is ∙ ap Err same)) tt;
+  halts = subst (λ (r : Result Bool Stop). IfErr r (λ (t : Stop). Halts plan t before after)) (sym (is ∙ ap Err same)) halts;
+}
+
+-- so did one that had not come to a schedule's end
+pub weaves_stopped : (plan : Option Printed → Files → Plan) (may : Files → Printed → Type 0) (ended : Result Bool Stop) (stopped : Stop) {before after : Progress} → (s : Stop) × (ended ≡ Err s) × (s ≡ stopped) → Halts (plan None) stopped before after →
+    Weaves plan may ended before after
+weaves_stopped plan may ended stopped came halts = record { woven = None; printed = λ files told. tt; ends = ends_stopped (plan None) ended stopped came halts }
+
+-- a part ends as another one does behind steps
+pub ends_behind : (steps : List Step) (part whole : Files → Plan) (ended : Result Bool Stop) {before mid : Progress} (after : Progress) → ((files : Files) → before.folder.files ≡ Some files → whole files ≡ plan_behind steps (part files)) → Did steps before mid → Counts before mid →
+    Ends part ended mid after → Ends whole ended before after
+ends_behind steps part whole (Ok refused) {before} after is did counts ends = record {
+  completes = λ files told. subst (λ (p : Plan). Done p refused before after) (sym (is files told)) (done_behind did (ends.completes files (did.files ∙ told)));
+  halts = tt;
+}
+ends_behind steps part whole (Err stopped) {before} {mid} after is did counts ends = record {
+  completes = tt;
+  halts = record {
+    told = λ files told. subst (λ (p : Plan). Stops p stopped before after) (sym (is files told)) (stops_behind (part files) after stopped did (ends.halts.told files (did.files ∙ told)));
+    causes = causes_earlier before mid after stopped counts ends.halts.causes;
+  };
+}
+
 -- ---- scripts
 
-named_is : (config : Config) (files : Files) (name content : List ℕ) → HasRead files name content → named_plan config name files ≡ plan_behind (Ask name ∷ []) (script_plan config files (script_in content))
-named_is config files name content has =
-    not_long files name (script_plan config files (script_in (content_of files name))) has.short
-    ∙ ap (λ (text : List ℕ). plan_behind (Ask name ∷ []) (script_plan config files (script_in text))) (sym has.whole)
+pub script_refused : (config : Config) (files : Files) (content : List ℕ) (fault : Refusal ScriptFault) (p : Progress) → Withholds fault (script_in content) → Stops (script_plan config files (script_in content)) (script_stop fault) p p
+script_refused config files content (refusal.Fault fault) p is = record { done = []; split = ap (script_plan config files) is; did = did_none p }
+script_refused config files content refusal.OutOfMemory p is = record { done = []; left = (script_plan config files (script_in content)).steps; split = refl; did = did_none p }
 
-pub script_done : (config : Config) {files : Files} {name content : List ℕ} {lines : List ScriptLine} {refused : Bool} {before mid after : Progress} → HasRead files name content → script_in content ≡ Ok lines → Did (Ask name ∷ []) before mid →
-    Done (lines_plan config files false [] lines) refused mid after → Done (named_plan config name files) refused before after
-script_done config {files} {name} {content} {lines} {refused} {before} {mid} {after} has is did done =
-    subst (λ (p : Plan). Done p refused before after)
-    (sym (named_is config files name content has ∙ ap (λ answer. plan_behind (Ask name ∷ []) (script_plan config files answer)) is))
-    (done_behind did done)
+pub script_starved : (config : Config) (files : Files) (content : List ℕ) (p : Progress) → Starved (script_plan config files (script_in content)).steps p p
+script_starved config files content p = record { done = []; left = (script_plan config files (script_in content)).steps; split = refl; did = did_none p }
 
-pub script_halts : (config : Config) {files : Files} {name content : List ℕ} {lines : List ScriptLine} {before mid : Progress} (after : Progress) (stopped : Stop) → HasRead files name content → script_in content ≡ Ok lines → Did (Ask name ∷ []) before mid →
-    Stops (lines_plan config files false [] lines) stopped mid after → Stops (named_plan config name files) stopped before after
-script_halts config {files} {name} {content} {lines} {before} {mid} after stopped has is did stops =
-    subst (λ (p : Plan). Stops p stopped before after)
-    (sym (named_is config files name content has ∙ ap (λ answer. plan_behind (Ask name ∷ []) (script_plan config files answer)) is))
-    (stops_behind (lines_plan config files false [] lines) after stopped did stops)
+-- a script's lines ran over a store without rows
+pub script_ends : (config : Config) (content : List ℕ) (lines : List ScriptLine) (rows : List Row) (ended : Result Bool Stop) {before opened after : Progress} → script_in content ≡ Ok lines → rows ≡ [] → opened ≡ before →
+    Ends (λ files. lines_plan config files false rows lines) ended opened after → Ends (λ files. script_plan config files (script_in content)) ended before after
+script_ends config content lines rows ended {before} {opened} {after} spelled none same ends =
+    let is : (files : Files) → lines_plan config files false rows lines ≡ script_plan config files (script_in content) =
+    λ files. ap (λ (rs : List Row). lines_plan config files false rs lines) none ∙ ap (script_plan config files) (sym spelled) in
+    subst (λ (part : Files → Plan). Ends part ended before after) (λ i files. is files i)
+    (subst (λ (p : Progress). Ends (λ files. lines_plan config files false rows lines) ended p after) same ends)
 
-pub script_refused : (config : Config) {files : Files} {name content : List ℕ} {before after : Progress} (fault : Refusal ScriptFault) → HasRead files name content → Withholds fault (script_in content) → Did (Ask name ∷ []) before after →
-    Stops (named_plan config name files) (script_stop fault) before after
-script_refused config {files} {name} {content} (refusal.Fault fault) has is did = record {
-  done = Ask name ∷ [];
-  split = named_is config files name content has ∙ ap (λ answer. plan_behind (Ask name ∷ []) (script_plan config files answer)) is;
+-- ---- schedules
+
+-- a schedule's text was cut
+pub schedule_cut : (woven : Printed) (text : List ℕ) (stopped : Stop) {before after : Progress} → text ≡ woven.text → WriteStops text stopped before after → Halts (λ files. schedule_plan (Some woven)) stopped before after
+schedule_cut woven text stopped {before} {after} same stops =
+    let cut : WroteFront woven.text before after = subst (λ (t : List ℕ). WroteFront t before after) same stops.front in
+    subst (λ (s : Stop). Halts (λ files. schedule_plan (Some woven)) s before after) (sym stops.failed)
+    (record { told = λ files told. cut_at [] woven.text (schedule_end woven.fault) refl (did_none before) cut; causes = stops.rose })
+
+-- it was written, and a line is refused
+pub schedule_refused : (woven : Printed) (text : List ℕ) (fault : ScheduleFault) {before after : Progress} → text ≡ woven.text → woven.fault ≡ Some fault → Did (Write text ∷ []) before after → Halts (λ files. schedule_plan (Some woven)) (stop.Schedule fault) before after
+schedule_refused woven text fault {before} {after} same is did = record {
+  told = λ files told. record {
+    done = Write woven.text ∷ [];
+    split = ap (λ (f : Option ScheduleFault). plan_behind (Write woven.text ∷ []) (schedule_end f)) is;
+    did = subst (λ (t : List ℕ). Did (Write t ∷ []) before after) same did;
+  };
+  causes = tt;
+}
+
+-- it was written, and no line is refused
+pub schedule_done : (woven : Printed) (text : List ℕ) {before after : Progress} → text ≡ woven.text → woven.fault ≡ None → Did (Write text ∷ []) before after → Completes (λ files. schedule_plan (Some woven)) false before after
+schedule_done woven text {before} {after} same is did = λ files told.
+    subst (λ (f : Option ScheduleFault). Done (plan_behind (Write woven.text ∷ []) (schedule_end f)) false before after) (sym is)
+    (record { status = refl; did = subst (λ (t : List ℕ). Did (Write t ∷ []) before after) same did })
+
+-- ---- configurations, and the files behind them
+
+files_are : (woven : Option Printed) (what : Command) {files : Files} {content : List ℕ} → HasRead files what.config content → files_plan what woven files ≡ plan_behind (Ask what.config ∷ []) (config_plan woven files what (config_in content))
+files_are woven what {files} {content} has =
+    not_long files what.config (config_plan woven files what (config_in (content_of files what.config))) has.short
+    ∙ ap (λ (text : List ℕ). plan_behind (Ask what.config ∷ []) (config_plan woven files what (config_in text))) (sym has.whole)
+
+-- behind a configuration, the second file
+files_second : (woven : Option Printed) (what : Command) {files : Files} {content : List ℕ} {read : Config} → HasRead files what.config content → config_in content ≡ Ok read →
+    files_plan what woven files ≡ plan_behind (Ask what.config ∷ []) (read_plan files what.file (file_plan woven read files what.verb (content_of files what.file)))
+files_second woven what {files} has is = files_are woven what has ∙ ap (λ answer. plan_behind (Ask what.config ∷ []) (config_plan woven files what answer)) is
+
+-- behind both files, what is done with the second
+pub files_both : (woven : Option Printed) (what : Command) {files : Files} {content text : List ℕ} {read : Config} → HasRead files what.config content → config_in content ≡ Ok read → HasRead files what.file text →
+    files_plan what woven files ≡ plan_behind (Ask what.config ∷ Ask what.file ∷ []) (file_plan woven read files what.verb text)
+files_both woven what {files} {content} {text} {read} has is file =
+    let rest : Plan = file_plan woven read files what.verb (content_of files what.file) in
+    files_second woven what has is
+    ∙ ap (plan_behind (Ask what.config ∷ [])) (not_long files what.file rest file.short ∙ ap (λ (t : List ℕ). plan_behind (Ask what.file ∷ []) (file_plan woven read files what.verb t)) (sym file.whole))
+    ∙ plan_twice (Ask what.config ∷ []) (Ask what.file ∷ []) (file_plan woven read files what.verb text)
+
+-- a configuration is refused, or wants memory
+pub files_refused : (what : Command) {files : Files} {content : List ℕ} {before after : Progress} (fault : Refusal ConfigFault) → HasRead files what.config content → Withholds fault (config_in content) → Did (Ask what.config ∷ []) before after →
+    Stops (files_plan what None files) (config_stop fault) before after
+files_refused what {files} {content} (refusal.Fault fault) has is did = record {
+  done = Ask what.config ∷ [];
+  split = files_are None what has ∙ ap (λ answer. plan_behind (Ask what.config ∷ []) (config_plan None files what answer)) is;
   did = did;
 }
-script_refused config {files} {name} {content} refusal.OutOfMemory has is did =
-    starved_at (Ask name ∷ []) [] (script_plan config files (script_in content)) (named_is config files name content has) did
+files_refused what {files} {content} refusal.OutOfMemory has is did =
+    starved_at (Ask what.config ∷ []) [] (config_plan None files what (config_in content)) (files_are None what has) did
 
-pub script_starved : (config : Config) {files : Files} {name content : List ℕ} {before after : Progress} → HasRead files name content → Did (Ask name ∷ []) before after → Starved (named_plan config name files).steps before after
-script_starved config {files} {name} {content} has did = starved_at (Ask name ∷ []) [] (script_plan config files (script_in content)) (named_is config files name content has) did
+-- the second file stops the run
+pub files_unread : (what : Command) {files : Files} {content : List ℕ} {read : Config} {before mid : Progress} (after : Progress) (stopped : Stop) → HasRead files what.config content → config_in content ≡ Ok read → Did (Ask what.config ∷ []) before mid →
+    ((rest : Plan) → Stops (read_plan files what.file rest) stopped mid after) → Stops (files_plan what None files) stopped before after
+files_unread what {files} {content} {read} {before} {mid} after stopped has is did stops =
+    let rest : Plan = file_plan None read files what.verb (content_of files what.file) in
+    subst (λ (p : Plan). Stops p stopped before after) (sym (files_second None what has is)) (stops_behind (read_plan files what.file rest) after stopped did (stops rest))
 
--- ---- configurations
+-- what a schedule printed by its content, it printed by its name
+pub woven_by : (woven : Option Printed) (what : Command) {files : Files} {content text : List ℕ} {read : Config} → HasRead files what.config content → config_in content ≡ Ok read → HasRead files what.file text → IfSome woven (IsPrinted read text) → IfSome woven (IsWovenBy what files)
+woven_by None what has is file printed = tt
+woven_by (Some woven) what {files} {content} {text} {read} has is file printed = λ config answer.
+    let both : Ok read ≡ Ok config = sym is ∙ ap config_in has.whole ∙ answer in
+    let same : read ≡ config = cc in
+    subst (λ (c : Config). IsPrinted c (content_of files what.file) woven) same (subst (λ (t : List ℕ). IsPrinted read t woven) file.whole printed)
 
-files_are : (files : Files) (config script content : List ℕ) → HasRead files config content → files_plan config script files ≡ plan_behind (Ask config ∷ []) (config_plan files script (config_in content))
-files_are files config script content has =
-    not_long files config (config_plan files script (config_in (content_of files config))) has.short
-    ∙ ap (λ (text : List ℕ). plan_behind (Ask config ∷ []) (config_plan files script (config_in text))) (sym has.whole)
+-- ---- words
 
-pub files_done : (script : List ℕ) {files : Files} {config content : List ℕ} {read : Config} {refused : Bool} {before mid after : Progress} → HasRead files config content → config_in content ≡ Ok read → Did (Ask config ∷ []) before mid →
-    Done (named_plan read script files) refused mid after → Done (files_plan config script files) refused before after
-files_done script {files} {config} {content} {read} {refused} {before} {mid} {after} has is did done =
-    subst (λ (p : Plan). Done p refused before after)
-    (sym (files_are files config script content has ∙ ap (λ answer. plan_behind (Ask config ∷ []) (config_plan files script answer)) is))
-    (done_behind did done)
-
-pub files_halt : (script : List ℕ) {files : Files} {config content : List ℕ} {read : Config} {before mid : Progress} (after : Progress) (stopped : Stop) → HasRead files config content → config_in content ≡ Ok read → Did (Ask config ∷ []) before mid →
-    Stops (named_plan read script files) stopped mid after → Stops (files_plan config script files) stopped before after
-files_halt script {files} {config} {content} {read} {before} {mid} after stopped has is did stops =
-    subst (λ (p : Plan). Stops p stopped before after)
-    (sym (files_are files config script content has ∙ ap (λ answer. plan_behind (Ask config ∷ []) (config_plan files script answer)) is))
-    (stops_behind (named_plan read script files) after stopped did stops)
-
-pub files_refused : (script : List ℕ) {files : Files} {config content : List ℕ} {before after : Progress} (fault : Refusal ConfigFault) → HasRead files config content → Withholds fault (config_in content) → Did (Ask config ∷ []) before after →
-    Stops (files_plan config script files) (config_stop fault) before after
-files_refused script {files} {config} {content} (refusal.Fault fault) has is did = record {
-  done = Ask config ∷ [];
-  split = files_are files config script content has ∙ ap (λ answer. plan_behind (Ask config ∷ []) (config_plan files script answer)) is;
-  did = did;
+-- the words are a command, which ended
+pub words_weave : (words : List (List ℕ)) (what : Command) (ended : Result Bool Stop) {before after : Progress} → Some what ≡ command_of words → Weaves (files_plan what) (IsWovenBy what) ended before after → Weaves (words_plan words) (IsWoven words) ended before after
+words_weave words what ended {before} {after} is weaves = record {
+  woven = weaves.woven;
+  printed = λ files told. by weaves.woven files (weaves.printed files told);
+  ends = subst (λ (c : Option Command). Ends (λ files. command_plan weaves.woven files c) ended before after) is weaves.ends;
 }
-files_refused script {files} {config} {content} refusal.OutOfMemory has is did =
-    starved_at (Ask config ∷ []) [] (config_plan files script (config_in content)) (files_are files config script content has) did
+  where
+    by : (woven : Option Printed) (files : Files) → IfSome woven (IsWovenBy what files) → IfSome woven (IsWoven words files)
+    by None files printed = tt
+    by (Some woven) files printed = λ other same.
+        let both : Some what ≡ Some other = is ∙ same in
+        let e : what ≡ other = cc in
+        subst (λ (c : Command). IsWovenBy c files woven) e printed
+
+-- the words are none
+pub words_refused : (words : List (List ℕ)) (p : Progress) → command_of words ≡ None → Weaves (words_plan words) (IsWoven words) (Err stop.Usage) p p
+words_refused words p none = record {
+  woven = None;
+  printed = λ files told. tt;
+  ends = record {
+    completes = tt;
+    halts = record { told = λ files told. record { done = []; split = ap (command_plan None files) none; did = did_none p }; causes = tt };
+  };
+}
 
 -- ---- a read
 

@@ -126,6 +126,7 @@ pub stops_behind : {xs : List Step} (p : Plan) {before mid : Progress} (after : 
 stops_behind p after stop.Usage did stops = before_behind 1 _ did stops
 stops_behind p after (stop.Config fault) did stops = before_behind 2 _ did stops
 stops_behind p after (stop.Script fault) did stops = before_behind 3 _ did stops
+stops_behind p after (stop.Schedule fault) did stops = before_behind 3 _ did stops
 stops_behind p after (stop.CannotRead name) did stops = read_behind p name did stops
 stops_behind p after stop.WriteFailed did stops = cut_behind p did stops
 stops_behind p after stop.OutOfMemory did stops = starved_behind p did stops

@@ -1,14 +1,15 @@
 -- How far a run comes in its plan, and how it ends.
-use Rattle.std.specs.Prelude.{◌≡◌, ◌<◌, ◌==◌, ◌||◌, ◌⊎◌, ℕ, Bool, true, false, List, [], ◌∷◌, ◌++◌, length}
+use Rattle.std.specs.Prelude.{◌≡◌, ◌<◌, ◌==◌, ◌||◌, ◌⊎◌, ℕ, Bool, true, false, List, [], ◌∷◌, ◌++◌, length, Option, IfSome}
 use Rattle.std.specs.List.{flat_map}
 use Rattle.mon_value.specs.declared.rows.Row.{Row}
 use Rattle.mon_run.specs.Faults.{Rose}
-use Rattle.mon_run.specs.Folders.{FolderState, asking}
+use Rattle.mon_run.specs.Folders.{Files, FolderState, asking}
 use Rattle.mon_run.specs.Sinks.{SinkState, written_then}
-use Rattle.mon_run.specs.Plans.{Accept, Ask, End, Miss, Plan, Step, Write, plan}
+use Rattle.mon_run.specs.Plans.{Accept, Ask, End, IsWoven, Miss, Plan, Step, Write, plan, run_plan}
 use Rattle.mon_run.specs.Texts.{read_text}
 use Rattle.mon_run.specs.declared.outcome.LineEnd.{LineEnd}
 use Rattle.mon_run.specs.declared.outside.folder.Asked.{Asked}
+use Rattle.weave_core.specs.Schedules.{Printed}
 
 -- ---- what was done
 
@@ -102,6 +103,13 @@ pub record Misses (p : Plan) (status : ℕ) (before after : Progress) : Type 0 w
 -- a run is what its plan says, as far as its folder, its sink and memory let it come
 abbrev pub RunIs : Plan → ℕ → Progress → Progress → Type 0
 RunIs p status before after = Follows p status before after ⊎ Misses p status before after
+
+-- A run of these words on these files is what their plan says. Where it came to the end of a schedule, `woven` is what
+-- that printed; without it, the plan of a schedule ends for want of memory before anything is written.
+pub record Runs (files : Files) (words : List (List ℕ)) (status : ℕ) (before after : Progress) : Type 0 where
+  pub woven : Option Printed
+  pub printed : IfSome woven (IsWoven words files)
+  pub is : RunIs (run_plan woven files words) status before after
 
 -- ---- causes, over any folder and sink
 

@@ -5,7 +5,6 @@ pub mod Folders
 pub mod Plans
 pub mod Queries
 pub mod QueryTexts
-pub mod Refusals
 pub mod Sinks
 pub mod Texts
 pub mod within

@@ -1,5 +1,5 @@
 -- What a run does, step by step, where no read and no write fails and memory is there.
-use Rattle.std.specs.Prelude.{ℕ, ℤ, nat_lt, ◌||◌, Bool, true, false, List, [], ◌∷◌, ◌++◌, map, length, codes, Option, Some, None, Result, Ok, Err, if◌then◌else◌}
+use Rattle.std.specs.Prelude.{◌≡◌, ℕ, ℤ, nat_lt, ◌||◌, Bool, true, false, List, [], ◌∷◌, ◌++◌, map, length, codes, Option, Some, None, option_map, Result, Ok, Err, if◌then◌else◌}
 use Rattle.mon_value.specs.declared.limits.TheConstants.{LONGEST_FILE}
 use Rattle.mon_value.specs.Same.{same_text}
 use Rattle.mon_value.specs.declared.rows.Row.{Row}
@@ -14,10 +14,14 @@ use Rattle.mon_script.specs.declared.script.ScriptLine.{ScriptLine}
 use Rattle.mon_run.specs.Feeds.{Fed, fed}
 use Rattle.mon_run.specs.Folders.{Files, content_of}
 use Rattle.mon_run.specs.Queries.{query_answer, refuses, reply_of}
-use Rattle.mon_run.specs.Texts.{config_text, feed_text, script_text, too_long_text, usage_text}
+use Rattle.mon_run.specs.Texts.{config_text, feed_text, schedule_text, script_text, too_long_text, usage_text}
 use Rattle.mon_run.specs.declared.outcome.LineEnd.{LineEnd}
 use Rattle.mon_run.specs.declared.outcome.LineEnd.TheVariants as end
 use Rattle.mon_run.specs.declared.queries.Reply.{Reply}
+use Rattle.mon_run.specs.declared.words.Verb.{Verb}
+use Rattle.mon_run.specs.declared.words.Verb.TheVariants as verb
+use Rattle.weave_core.specs.Schedules.{IsPrinted, Printed}
+use Rattle.weave_core.specs.declared.calls.ScheduleFault.{ScheduleFault}
 
 -- ---- steps
 
@@ -47,17 +51,23 @@ ending status text = plan (Write text ∷ []) status
 
 -- ---- words
 
--- `run`, a configuration's file and a script's
+-- a command: what it does with its second file, and the names of its configuration and of that file
 pub record Command : Type 0 where
+  pub verb : Verb
   pub config : List ℕ
-  pub script : List ℕ
+  pub file : List ℕ
 
-abbrev pub run_command : List ℕ → List ℕ → Command
-run_command config script = record { config = config; script = script }
+abbrev pub command : Verb → List ℕ → List ℕ → Command
+command what config file = record { verb = what; config = config; file = file }
 
+abbrev pub verb_named : List ℕ → Option Verb
+verb_named word =
+    if same_text word (codes "run") then Some verb.Run
+    else if same_text word (codes "weave") then Some verb.Weave else None
+
+-- `run`, a configuration's file and a script's; or `weave`, a configuration's and a schedule's
 abbrev pub command_of : List (List ℕ) → Option Command
-command_of (verb ∷ config ∷ script ∷ []) =
-    if same_text verb (codes "run") then Some (run_command config script) else None
+command_of (word ∷ config ∷ file ∷ []) = option_map (λ what. command what config file) (verb_named word)
 command_of words = None
 
 -- ---- lines
@@ -113,23 +123,48 @@ lines_plan config files refused rows (line ∷ lines) =
     (lines_plan config files (is_refused config rows line.what || refused)
     (rows ++ line_rows config files rows line.what) lines)
 
--- ---- the whole run
+-- ---- schedules
+
+-- a schedule runs to its end, or a line of it is refused, and the run says so
+abbrev pub schedule_end : Option ScheduleFault → Plan
+schedule_end None = plan [] (end_status false)
+schedule_end (Some fault) = ending 3 (schedule_text fault)
+
+-- what a schedule printed is written; where memory ran out before its end, nothing of it is
+abbrev pub schedule_plan : Option Printed → Plan
+schedule_plan None = plan [] 6
+schedule_plan (Some woven) = plan_behind (Write woven.text ∷ []) (schedule_end woven.fault)
+
+-- a command's schedule printed this, under its configuration
+abbrev pub IsWovenBy : Command → Files → Printed → Type 0
+IsWovenBy what files woven =
+    (config : Config) → config_in (content_of files what.config) ≡ Ok config
+    → IsPrinted config (content_of files what.file) woven
+
+abbrev pub IsWoven : List (List ℕ) → Files → Printed → Type 0
+IsWoven words files woven = (what : Command) → command_of words ≡ Some what → IsWovenBy what files woven
+
+-- ---- the whole run, where its schedule, if it has one, printed this
 
 abbrev pub script_plan : Config → Files → Result (List ScriptLine) ScriptFault → Plan
 script_plan config files (Err fault) = ending 3 (script_text fault)
 script_plan config files (Ok script) = lines_plan config files false [] script
 
--- the script's file, under a configuration
-abbrev pub config_plan : Files → List ℕ → Result Config ConfigFault → Plan
-config_plan files script (Err fault) = ending 2 (config_text fault)
-config_plan files script (Ok config) =
-    read_plan files script (script_plan config files (script_in (content_of files script)))
+-- the second file, under a configuration
+abbrev pub file_plan : Option Printed → Config → Files → Verb → List ℕ → Plan
+file_plan woven config files verb.Run content = script_plan config files (script_in content)
+file_plan woven config files verb.Weave content = schedule_plan woven
 
-abbrev pub command_plan : Files → Option Command → Plan
-command_plan files None = ending 1 usage_text
-command_plan files (Some command) =
-    read_plan files command.config (config_plan files command.script (config_in (content_of files command.config)))
+abbrev pub config_plan : Option Printed → Files → Command → Result Config ConfigFault → Plan
+config_plan woven files what (Err fault) = ending 2 (config_text fault)
+config_plan woven files what (Ok config) =
+    read_plan files what.file (file_plan woven config files what.verb (content_of files what.file))
+
+abbrev pub command_plan : Option Printed → Files → Option Command → Plan
+command_plan woven files None = ending 1 usage_text
+command_plan woven files (Some what) =
+    read_plan files what.config (config_plan woven files what (config_in (content_of files what.config)))
 
 -- what a run of these words on these files does
-abbrev pub run_plan : Files → List (List ℕ) → Plan
-run_plan files words = command_plan files (command_of words)
+abbrev pub run_plan : Option Printed → Files → List (List ℕ) → Plan
+run_plan woven files words = command_plan woven files (command_of words)

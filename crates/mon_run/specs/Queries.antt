@@ -10,12 +10,12 @@ use Rattle.mql_types.specs.Loads.{load}
 use Rattle.mql_types.specs.Meaning.{meaning}
 use Rattle.mql_types.specs.Nodes.{TypedTree, columns_of}
 use Rattle.mql_types.specs.Typing.{typing}
-use Rattle.mon_run.specs.Refusals.{refused_line}
 use Rattle.mon_run.specs.declared.outcome.LineEnd.{LineEnd}
 use Rattle.mon_run.specs.declared.outcome.LineEnd.TheVariants as end
 use Rattle.mon_run.specs.declared.outcome.LineFault.{LineFault}
 use Rattle.mon_run.specs.declared.outcome.LineFault.TheVariants as fault
 use Rattle.mon_run.specs.declared.queries.Reply.{Reply}
+use Rattle.weave_core.specs.Refusals.{limit_line, parse_line, typing_line}
 
 -- a fault is a refusal of its kind
 abbrev pub refused_as : {T F : Type 0} → (F → LineFault) → Result T F → Result T LineFault
@@ -44,6 +44,12 @@ abbrev pub refuses : LineEnd → Bool
 refuses (end.Fed accepted refused) = false
 refuses (end.Asked moment) = false
 refuses (end.Refused why) = true
+
+-- the line of a refusal
+abbrev pub refused_line : LineFault → List ℕ
+refused_line (fault.Parse why) = parse_line why
+refused_line (fault.Typing why) = typing_line why
+refused_line (fault.StepLimit limit) = limit_line limit
 
 -- how a query's line ends, and what it prints
 abbrev pub reply_of : ℤ → Result (List ℕ) LineFault → Reply

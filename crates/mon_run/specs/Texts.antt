@@ -1,4 +1,4 @@
--- Every text that a run prints, but for those of its queries.
+-- Every text that a run prints, but for those of its queries and its schedule.
 use Rattle.std.specs.Prelude.{ℕ, List, ◌++◌, length, codes}
 use Rattle.std.specs.Fmt.{decimal, signed_decimal}
 use Rattle.std.specs.List.{flat_map}
@@ -12,6 +12,8 @@ use Rattle.mon_table.specs.Tables.{newline}
 use Rattle.mon_run.specs.declared.outcome.RowRefused.{RowRefused}
 use Rattle.mon_run.specs.declared.outcome.RowRefused.TheVariants as refused
 use Rattle.mon_run.specs.declared.outcome.RowRefusal.{RowRefusal}
+use Rattle.weave_core.specs.Schedules.{fault_name}
+use Rattle.weave_core.specs.declared.calls.ScheduleFault.{ScheduleFault}
 
 -- ---- lines
 
@@ -47,6 +49,9 @@ config_text fault = codes "config: " ++ (config_fault_text fault ++ newline)
 
 abbrev pub script_text : ScriptFault → List ℕ
 script_text fault = codes "script line " ++ (decimal fault.line ++ (codes ": NotBuilt" ++ newline))
+
+abbrev pub schedule_text : ScheduleFault → List ℕ
+schedule_text fault = codes "line " ++ (decimal fault.line ++ (codes ": " ++ (fault_name fault.fault ++ newline)))
 
 abbrev pub read_text : List ℕ → List ℕ
 read_text name = codes "cannot read " ++ (name ++ newline)

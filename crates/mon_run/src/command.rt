@@ -1,9 +1,8 @@
-// The run of a command: a configuration, a script, and files of points.
+// The run of a command: a configuration, and a script with its files of points, or a schedule.
 ghost use Rattle.std.specs.Prelude.{◌≡◌, true, [], map, string_bytes};
-ghost use Rattle.mon_run.specs.Endings.{LastFailed, RunIs, is_status, progress};
+ghost use Rattle.mon_run.specs.Endings.{LastFailed, Runs, is_status, progress};
 ghost use Rattle.mon_run.specs.Faults.{Rose};
 ghost use Rattle.mon_run.specs.Folders.{Told};
-ghost use Rattle.mon_run.specs.Plans.{run_plan};
 
 use crate::accepted::Accepted;
 use crate::outcome::Outcome;
@@ -11,16 +10,16 @@ use crate::outside::{Folder, Sink};
 use crate::runs::{Log, Run};
 use std::alloc::Global;
 
-/// Runs a command: `run`, the name of a configuration and the name of a script. The lines of the
-/// script run in order, and each one's text goes to the sink before the next one begins. A run that
-/// ends before its last line says why in a line of its own.
+/// Runs a command: `run` or `weave`, the name of a configuration, and the name of a script or of a schedule. The lines of
+/// a script run in order, and each one's text goes to the sink before the next one begins; the text of a schedule goes
+/// there as one. A run that ends before its last line says why in a line of its own.
 pub fn run<F: Folder, O: Sink>(
     alloc: Global,
     words: &[String],
     folder: &mut F,
     out: &mut O,
 ) -> Outcome
-    ensures told { Told (F.state folder.old) (λ files. RunIs (run_plan files (map string_bytes words.now)) result.status
+    ensures told { Told (F.state folder.old) (λ files. Runs files (map string_bytes words.now) result.status
         (progress (F.state folder.old) (O.state out.old) [] [])
         (progress (F.state folder.new) (O.state out.new) result.lines result.accepted)) }
     ensures cannot_read { result.status ≡ 4 → LastFailed (F.state folder.old) (F.state folder.new) }

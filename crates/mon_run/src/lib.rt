@@ -1,4 +1,4 @@
-//! The run of a script: feeds of points, and queries over what was accepted.
+//! The run of a command: a script of feeds and queries, or a schedule of writes and queries side by side.
 #![tactic(auto)]
 
 mod accepted;
@@ -7,10 +7,11 @@ mod feeds;
 mod outcome;
 mod outside;
 mod queries;
-mod refusals;
 mod runs;
+mod schedules;
 mod stop;
 mod texts;
+mod words;
 
 pub use accepted::Accepted;
 pub use command::run;

@@ -13,7 +13,6 @@ ghost use Rattle.mon_store.specs.Stores.{AreSound, accepted_rows};
 ghost use Rattle.mon_table.specs.Tables.{printed_table};
 
 use crate::outcome::{LineEnd, LineFault};
-use crate::refusals::refused_line;
 use mon_config::Config;
 use mon_schema::Schemas;
 use mon_store::Store;
@@ -24,6 +23,7 @@ use mql_parse::parse;
 use mql_types::{Plan, Typed, check};
 use plan_split::split;
 use std::alloc::{AllocError, Global};
+use weave_core::{limit_refusal, parse_refusal, typing_refusal};
 
 /// How a query's line ends, and what it prints.
 #[derive(Drop)]
@@ -64,6 +64,17 @@ pub(crate) fn reply_to(
             text: refused_line(alloc, fault)?,
         }),
         Err(Refusal::OutOfMemory) => Err(AllocError),
+    }
+}
+
+// The line of a refusal.
+fn refused_line(alloc: Global, fault: LineFault) -> Result<Text, OutOfMemory>
+    ensures line { IfOk result (λ line. line ≡ spec.refused_line fault) }
+{
+    match fault {
+        LineFault::Parse(fault) => parse_refusal(alloc, fault),
+        LineFault::Typing(fault) => typing_refusal(alloc, fault),
+        LineFault::StepLimit(limit) => limit_refusal(alloc, limit),
     }
 }
 

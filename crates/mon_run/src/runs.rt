@@ -1,23 +1,28 @@
 // A run: where it reads and writes, and what it has come to.
-ghost use Rattle.std.specs.Prelude.{◌≡◌, ◌≤◌, ◌∷◌, ◌||◌, [], false, length, map, option_map, IfErr, IfOk, OnErr, OnOk, string_bytes};
+ghost use Rattle.std.specs.Prelude.{◌≡◌, ◌≤◌, ◌∷◌, ◌||◌, [], false, length, map, IfErr, IfOk, OnErr, OnOk, string_bytes};
 ghost use Rattle.std.specs.List.{AllByRecursion};
+ghost use Rattle.mon_config.specs.Numbers.{AreLawful};
 ghost use Rattle.mon_run.specs.Folders.{Told};
 ghost use Rattle.mon_script.specs.Lawful.{IsLawful, IsLawfulLine};
+ghost use Rattle.mon_script.specs.Scripts.{script_in};
 ghost use Rattle.mon_run.specs.Endings.{Did};
 ghost use Rattle.mon_run.specs.Plans as plan;
 ghost use Rattle.mon_run.specs.Plans.{Ask, End, Write};
 ghost use Rattle.mon_store.specs.Stores.{AreSound, IsLimited, accepted_rows};
 ghost use Rattle.mon_run.specs.within.Takings.{FileTaken, TakeStops};
-ghost use Rattle.mon_run.specs.within.Stops.{Between, Closes, Completes, Continues, Halts, HasRead, LineRuns, LineStops, PutStops};
-ghost use Rattle.mon_run.specs.within.Stops.{ReadStops, StopsBetween, WriteStops, files_plan, named_plan};
+ghost use Rattle.mon_run.specs.within.Stops.{Between, Closes, Continues, Ends, HasRead, LineRuns, LineStops, PutStops};
+ghost use Rattle.mon_run.specs.within.Stops.{ReadStops, StopsBetween, Weaves, WriteStops, files_plan, words_plan};
 ghost use Rattle.mon_run.specs.within.Stops.{is_silent as silent, status_of as code};
+ghost use Rattle.weave_core.specs.Schedules.{IsPrinted};
 
 use crate::feeds::{Fed, feed};
 use crate::outcome::{LineEnd, LineEnds};
 use crate::outside::{Folder, FolderFault, Sink, write_all};
 use crate::queries::reply_to;
+use crate::schedules::weave;
 use crate::stop::Stop;
 use crate::texts::{feed_text, own_text};
+use crate::words::{Verb, command_in};
 use mon_config::{Config, read_config};
 use mon_points::KeyCache;
 use mon_script::{LineForm, ScriptLine, read_script};
@@ -58,47 +63,60 @@ pub(crate) struct Run<'f, 'o, 'l, F: Folder, O: Sink> {
 }
 
 impl<'f, 'o, 'l, F: Folder, O: Sink> Run<'f, 'o, 'l, F, O> {
-    /// Runs the command that the words say, and says whether a line was refused.
+    /// Runs the command that the words say, and says whether a line of a script was refused.
     pub fn command(&mut self, words: &[String]) -> Result<bool, Stop>
         requires fresh { accepted_rows self.old.log.now.store ≡ [] }
         ensures continues { Continues F.state O.state self.old self.new }
-        ensures completes { IfOk result (λ refused. Between F.state O.state
-            (Completes (λ files. plan.run_plan files (map string_bytes words.now)) refused) self.old self.new) }
-        ensures halts { IfErr result (StopsBetween F.state O.state
-            (Halts (λ files. plan.run_plan files (map string_bytes words.now))) self.old self.new) }
+        ensures ended { Between F.state O.state (Weaves (words_plan (map string_bytes words.now))
+            (plan.IsWoven (map string_bytes words.now)) result) self.old self.new }
     {
         match command_in(words) {
-            Some((config, script)) => self.files(config, script),
+            Some((verb, config, file)) => self.files(verb, config, file),
             None => Err(Stop::Usage),
         }
     }
 
-    // Runs a script under a configuration.
-    fn files(&mut self, config: &str, script: &str) -> Result<bool, Stop>
+    // Runs a script or a schedule under a configuration, by the names of their files.
+    fn files(&mut self, verb: Verb, config: &str, file: &str) -> Result<bool, Stop>
         requires fresh { accepted_rows self.old.log.now.store ≡ [] }
         ensures continues { Continues F.state O.state self.old self.new }
-        ensures completes { IfOk result (λ refused. Between F.state O.state
-            (Completes (files_plan config.now script.now) refused) self.old self.new) }
-        ensures halts { IfErr result (StopsBetween F.state O.state
-            (Halts (files_plan config.now script.now)) self.old self.new) }
+        ensures ended { Between F.state O.state (Weaves (files_plan (plan.command verb config.now file.now))
+            (plan.IsWovenBy (plan.command verb config.now file.now)) result) self.old self.new }
     {
         let text = self.read(config)?;
         let config = read_config(self.alloc, text.as_slice())?;
-        self.script(&config, script)
+        let content = self.read(file)?;
+        match verb {
+            Verb::Run => self.script(&config, content.as_slice()),
+            Verb::Weave => self.schedule(config, content.as_slice()),
+        }
     }
 
-    // Runs a script's file under a configuration.
-    fn script(&mut self, config: &Config, name: &str) -> Result<bool, Stop>
+    // Runs a schedule under a configuration. Its text is written as one.
+    fn schedule(&mut self, config: Config, text: &[u8]) -> Result<bool, Stop>
+        requires lawful { AreLawful config.buckets config.limit config.range_points }
+        ensures continues { Continues F.state O.state self.old self.new }
+        ensures ended { Between F.state O.state (Weaves (λ woven files. plan.schedule_plan woven)
+            (λ files. IsPrinted config text.now) result) self.old self.new }
+    {
+        let woven = weave(self.alloc, config, text)?;
+        self.write(woven.text.as_bytes())?;
+        match woven.fault {
+            Some(fault) => Err(Stop::Schedule(fault)),
+            None => Ok(false),
+        }
+    }
+
+    // Runs a script under a configuration.
+    fn script(&mut self, config: &Config, text: &[u8]) -> Result<bool, Stop>
+        requires short { length text.now ≤ LONGEST_FILE }
         requires limited { IsLimited config.now }
         requires fresh { accepted_rows self.old.log.now.store ≡ [] }
         ensures continues { Continues F.state O.state self.old self.new }
-        ensures completes { IfOk result (λ refused. Between F.state O.state
-            (Completes (named_plan config.now name.now) refused) self.old self.new) }
-        ensures halts { IfErr result (StopsBetween F.state O.state
-            (Halts (named_plan config.now name.now)) self.old self.new) }
+        ensures ended { Between F.state O.state
+            (Ends (λ files. plan.script_plan config.now files (script_in text.now)) result) self.old self.new }
     {
-        let text = self.read(name)?;
-        let script = read_script(self.alloc, text.as_slice())?;
+        let script = read_script(self.alloc, text)?;
         let store = Store::open(self.alloc, config)?;
         self.log.store = store;
         self.lines(config, script.as_slice())
@@ -109,12 +127,8 @@ impl<'f, 'o, 'l, F: Folder, O: Sink> Run<'f, 'o, 'l, F, O> {
         requires lawful { AllByRecursion IsLawfulLine lines.now }
         requires sound { AreSound config.now self.old.log.now.store }
         ensures continues { Continues F.state O.state self.old self.new }
-        ensures completes { IfOk result (λ refused. Between F.state O.state
-            (Completes (λ files. plan.lines_plan config.now files false (accepted_rows self.old.log.now.store) lines.now)
-            refused) self.old self.new) }
-        ensures halts { IfErr result (StopsBetween F.state O.state
-            (Halts (λ files. plan.lines_plan config.now files false (accepted_rows self.old.log.now.store) lines.now))
-            self.old self.new) }
+        ensures ended { Between F.state O.state (Ends (λ files. plan.lines_plan config.now files false
+            (accepted_rows self.old.log.now.store) lines.now) result) self.old self.new }
     {
         let mut refused = false;
         for line in lines {
@@ -289,19 +303,6 @@ impl<'f, 'o, 'l, F: Folder, O: Sink> Run<'f, 'o, 'l, F, O> {
     }
 }
 
-// The names of the configuration and of the script, where the words are a command.
-fn command_in(words: &[String]) -> Option<(&str, &str)>
-    ensures command { option_map (λ names. plan.run_command names.0.now names.1.now) result
-        ≡ plan.command_of (map string_bytes words.now) }
-{
-    match words {
-        [verb, config, script] if verb.as_str() == "run" => {
-            Some((config.as_str(), script.as_str()))
-        }
-        _ => None,
-    }
-}
-
 // Whether one of the two was refused.
 fn is_either(first: bool, second: bool) -> bool
     ensures either { result ≡ (first || second) }
@@ -330,7 +331,7 @@ fn status_of(stop: &Stop) -> u8
     match stop {
         Stop::Usage => 1,
         Stop::Config(_) => 2,
-        Stop::Script(_) => 3,
+        Stop::Script(_) | Stop::Schedule(_) => 3,
         Stop::CannotRead(_) => 4,
         Stop::WriteFailed => 5,
         Stop::OutOfMemory => 6,

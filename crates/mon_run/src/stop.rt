@@ -3,6 +3,7 @@ use mon_config::ConfigFault;
 use mon_script::ScriptFault;
 use mon_value::{Refusal, Text};
 use std::alloc::AllocError;
+use weave_core::ScheduleFault;
 
 /// Why a run stops.
 #[derive(Debug, Drop)]
@@ -13,6 +14,8 @@ pub(crate) enum Stop {
     Config(ConfigFault),
     /// The script is refused.
     Script(ScriptFault),
+    /// A line of the schedule is refused.
+    Schedule(ScheduleFault),
     /// The folder could not read a file.
     CannotRead(Text),
     /// The sink did not take the text.

@@ -1,5 +1,5 @@
 -- How a part of a run leaves it: it did its steps, or it stopped.
-use Rattle.std.specs.Prelude.{◌≡◌, ◌≤◌, ◌<◌, ◌⊎◌, ℕ, Bool, true, false, List, [], ◌∷◌, ◌++◌, length, Some, Result, Ok, Err}
+use Rattle.std.specs.Prelude.{◌≡◌, ◌≤◌, ◌<◌, ◌⊎◌, ℕ, Bool, true, false, List, [], ◌∷◌, ◌++◌, length, Option, Some, IfSome, Result, Ok, Err, IfOk, IfErr}
 use Rattle.std.specs.Bool.{⊤}
 use Rattle.mon_value.specs.declared.refusals.Refusal.{Refusal}
 use Rattle.mon_value.specs.declared.refusals.Refusal.TheVariants as refusal
@@ -12,13 +12,15 @@ use Rattle.mon_run.specs.Endings.{CutShort, Did, LastFailed, Progress, Starved, 
 use Rattle.mon_run.specs.Faults.{Rose}
 use Rattle.mon_run.specs.Folders.{Files, FolderState, Told, content_of}
 use Rattle.mon_run.specs.Sinks.{SinkState}
-use Rattle.mon_run.specs.Plans.{Ask, End, Miss, Plan, Step, Write, command_plan, config_plan, end_status, ending, is_too_long, line_plan, line_rows, plan_behind, read_plan, run_command}
-use Rattle.mon_run.specs.Texts.{config_text, read_text, script_text, too_long_text, usage_text}
+use Rattle.mon_run.specs.Plans.{Ask, Command, End, Miss, Plan, Step, Write, command_plan, end_status, ending, is_too_long, line_plan, line_rows, plan_behind, read_plan, run_plan}
+use Rattle.mon_run.specs.Texts.{config_text, read_text, schedule_text, script_text, too_long_text, usage_text}
 use Rattle.mon_run.specs.declared.outcome.LineEnd.{LineEnd}
 use Rattle.mon_store.specs.Stores.{accepted_rows}
 use Rattle.mon_run.specs.declared.runs.Run.{Run}
+use Rattle.mon_run.specs.declared.schedules.Woven.{Woven}
 use Rattle.mon_run.specs.declared.stop.Stop.{Stop}
 use Rattle.mon_run.specs.declared.stop.Stop.TheVariants as stop
+use Rattle.weave_core.specs.Schedules.{Printed}
 
 -- ---- runs
 
@@ -53,6 +55,7 @@ abbrev pub status_of : Stop → ℕ
 status_of stop.Usage = 1
 status_of (stop.Config fault) = 2
 status_of (stop.Script fault) = 3
+status_of (stop.Schedule fault) = 3
 status_of (stop.CannotRead name) = 4
 status_of stop.WriteFailed = 5
 status_of stop.OutOfMemory = 6
@@ -63,6 +66,7 @@ abbrev pub own_text : Stop → List ℕ
 own_text stop.Usage = usage_text
 own_text (stop.Config fault) = config_text fault
 own_text (stop.Script fault) = script_text fault
+own_text (stop.Schedule fault) = schedule_text fault
 own_text (stop.CannotRead name) = read_text name
 own_text stop.WriteFailed = []
 own_text stop.OutOfMemory = []
@@ -73,6 +77,7 @@ abbrev pub is_silent : Stop → Bool
 is_silent stop.Usage = false
 is_silent (stop.Config fault) = false
 is_silent (stop.Script fault) = false
+is_silent (stop.Schedule fault) = false
 is_silent (stop.CannotRead name) = false
 is_silent stop.WriteFailed = true
 is_silent stop.OutOfMemory = true
@@ -109,6 +114,7 @@ Stops plan stop.OutOfMemory before after = Starved plan.steps before after
 Stops plan stop.Usage before after = StopsBefore plan 1 usage_text before after
 Stops plan (stop.Config fault) before after = StopsBefore plan 2 (config_text fault) before after
 Stops plan (stop.Script fault) before after = StopsBefore plan 3 (script_text fault) before after
+Stops plan (stop.Schedule fault) before after = StopsBefore plan 3 (schedule_text fault) before after
 Stops plan (stop.TooLong name) before after = StopsBefore plan 8 (too_long_text name) before after
 
 -- why, over any folder and sink: the last read failed, or a write did
@@ -119,6 +125,7 @@ Causes stop.OutOfMemory before after = ⊤
 Causes stop.Usage before after = ⊤
 Causes (stop.Config fault) before after = ⊤
 Causes (stop.Script fault) before after = ⊤
+Causes (stop.Schedule fault) before after = ⊤
 Causes (stop.TooLong name) before after = ⊤
 
 -- ---- parts of a run
@@ -169,12 +176,27 @@ pub record Halts (plan : Files → Plan) (stopped : Stop) (before after : Progre
   pub told : Told before.folder (λ files. Stops (plan files) stopped before after)
   pub causes : Causes stopped before after
 
--- the plan of a script's file under a configuration
-abbrev pub named_plan : Config → List ℕ → Files → Plan
-named_plan config name files = config_plan files name (Ok config)
+-- a part of a run did all that the files say, or stops in it
+pub record Ends (plan : Files → Plan) (ended : Result Bool Stop) (before after : Progress) : Type 0 where
+  pub completes : IfOk ended (λ refused. Completes plan refused before after)
+  pub halts : IfErr ended (λ stopped. Halts plan stopped before after)
 
-abbrev pub files_plan : List ℕ → List ℕ → Files → Plan
-files_plan config script files = command_plan files (Some (run_command config script))
+-- the same, where a schedule printed something that it may
+pub record Weaves (plan : Option Printed → Files → Plan) (may : Files → Printed → Type 0) (ended : Result Bool Stop)
+    (before after : Progress) : Type 0 where
+  pub woven : Option Printed
+  pub printed : Told before.folder (λ files. IfSome woven (may files))
+  pub ends : Ends (plan woven) ended before after
+
+-- what a schedule printed, and the first of its lines that is refused
+abbrev pub printed_by : Woven → Printed
+printed_by woven = record { text = woven.text; fault = woven.fault }
+
+abbrev pub files_plan : Command → Option Printed → Files → Plan
+files_plan what woven files = command_plan woven files (Some what)
+
+abbrev pub words_plan : List (List ℕ) → Option Printed → Files → Plan
+words_plan words woven files = run_plan woven files words
 
 -- a line's end was noted and its text written, or the run stopped at it, before any rest
 abbrev pub PutStops : LineEnd → List ℕ → Stop → Progress → Progress → Type 0
@@ -216,5 +238,6 @@ Closes (Err stop.OutOfMemory) status before after = (status ≡ 6) × Did [] bef
 Closes (Err stop.Usage) status before after = Says stop.Usage status before after
 Closes (Err (stop.Config fault)) status before after = Says (stop.Config fault) status before after
 Closes (Err (stop.Script fault)) status before after = Says (stop.Script fault) status before after
+Closes (Err (stop.Schedule fault)) status before after = Says (stop.Schedule fault) status before after
 Closes (Err (stop.CannotRead name)) status before after = Says (stop.CannotRead name) status before after
 Closes (Err (stop.TooLong name)) status before after = Says (stop.TooLong name) status before after

@@ -1,4 +1,4 @@
-// A run of four feeds and four queries in which each read and each byte of its text fails in turn.
+// A run of four feeds and four queries in which each read and each byte of its text fails in turn, and runs of schedules.
 use crate::{MemoryFile, MemoryFiles, MemoryFolder, MemorySink, Outcome, run};
 use mon_value::{LONGEST_FILE, OutOfMemory, Text};
 use std::alloc::Global;
@@ -50,6 +50,20 @@ const LINES: [(&str, usize); 8] = [
     ("time,u,z,v\n20,a,e,1\n20,b,e,9\n2 rows\n", 3),
 ];
 
+// Schedules, with what each prints and its status: one that ends, and one that is refused at its third line.
+const SCHEDULES: [(&str, &str, u8); 2] = [
+    (
+        "write 1 T,/m,10,10,7,a,e\nfinish 1\n",
+        "actor 1\nwritten: took 1, missed 0\n",
+        0,
+    ),
+    (
+        "write 1 T,/m,10,10,7,a,e\nfinish 1\nstep 1\n",
+        "actor 1\nwritten: took 1, missed 0\nline 3: Finished\n",
+        3,
+    ),
+];
+
 fn file(alloc: Global, name: &str, content: &[u8]) -> Result<MemoryFile, OutOfMemory> {
     Ok(MemoryFile {
         name: Text::from_str(alloc, name)?,
@@ -68,14 +82,15 @@ fn files(alloc: Global) -> Result<MemoryFiles, OutOfMemory> {
     Ok(files)
 }
 
-// The run over a folder and a sink.
-fn run_script(
+// The run of a command's two files over a folder and a sink.
+fn run_files(
     alloc: Global,
+    verb: &str,
     folder: &mut MemoryFolder,
     sink: &mut MemorySink,
 ) -> Result<Outcome, OutOfMemory> {
     let mut words = Vec::new(alloc);
-    for word in ["run", "c.json", "s.txt"] {
+    for word in [verb, "c.json", "s.txt"] {
         words.push(String::from_str(alloc, word)?)?;
     }
     Ok(run(alloc, words.as_slice(), folder, sink))
@@ -143,7 +158,7 @@ fn each_read_fails(rt: HostRuntime) -> Result<(), Fail> {
         let reads = number.saturating_add(1);
         let mut folder = MemoryFolder::new(alloc, files(alloc)?, vec![in alloc; reads as u64]?);
         let mut sink = MemorySink::new(alloc, 1000);
-        let outcome = run_script(alloc, &mut folder, &mut sink)?;
+        let outcome = run_files(alloc, "run", &mut folder, &mut sink)?;
         let wanted = Wanted {
             status: 4,
             text: text.as_str(),
@@ -167,7 +182,7 @@ fn each_byte_fails(rt: HostRuntime) -> Result<(), Fail> {
         for room in before..text.len() {
             let mut folder = MemoryFolder::new(alloc, files(alloc)?, Vec::new(alloc));
             let mut sink = MemorySink::new(alloc, room);
-            let outcome = run_script(alloc, &mut folder, &mut sink)?;
+            let outcome = run_files(alloc, "run", &mut folder, &mut sink)?;
             let wanted = Wanted {
                 status: 5,
                 text: text.as_str().get(..room).unwrap_or("no text"),
@@ -180,7 +195,7 @@ fn each_byte_fails(rt: HostRuntime) -> Result<(), Fail> {
     }
     let mut folder = MemoryFolder::new(alloc, files(alloc)?, Vec::new(alloc));
     let mut sink = MemorySink::new(alloc, text.len());
-    let outcome = run_script(alloc, &mut folder, &mut sink)?;
+    let outcome = run_files(alloc, "run", &mut folder, &mut sink)?;
     let wanted = Wanted {
         status: 0,
         text: text.as_str(),
@@ -202,7 +217,7 @@ fn a_file_that_is_too_long(rt: HostRuntime) -> Result<(), Fail> {
     })?;
     let mut folder = MemoryFolder::new(alloc, files, Vec::new(alloc));
     let mut sink = MemorySink::new(alloc, 1000);
-    let outcome = run_script(alloc, &mut folder, &mut sink)?;
+    let outcome = run_files(alloc, "run", &mut folder, &mut sink)?;
     let wanted = Wanted {
         status: 8,
         text: "too long: a.csv\n",
@@ -210,4 +225,25 @@ fn a_file_that_is_too_long(rt: HostRuntime) -> Result<(), Fail> {
         lines: 0,
     };
     check(alloc, &wanted, &outcome, &folder, &sink)
+}
+
+#[test]
+fn schedules_end_or_are_refused(rt: HostRuntime) -> Result<(), Fail> {
+    let alloc = rt.alloc();
+    for (schedule, text, status) in SCHEDULES {
+        let mut files = MemoryFiles::new(alloc);
+        files.push(file(alloc, "c.json", CONFIG.as_bytes())?)?;
+        files.push(file(alloc, "s.txt", schedule.as_bytes())?)?;
+        let mut folder = MemoryFolder::new(alloc, files, Vec::new(alloc));
+        let mut sink = MemorySink::new(alloc, 1000);
+        let outcome = run_files(alloc, "weave", &mut folder, &mut sink)?;
+        let wanted = Wanted {
+            status,
+            text,
+            reads: 2,
+            lines: 0,
+        };
+        check(alloc, &wanted, &outcome, &folder, &sink)?;
+    }
+    Ok(())
 }

@@ -1,4 +1,4 @@
-use Rattle.std.proofs.Common.{◌≡◌, ◌∙◌, ◌++◌, List, sym, ap, subst, append-nil}
+use Rattle.std.proofs.Common.{◌∙◌, ◌++◌, List, sym, ap, subst, append-nil}
 use Rattle.mon_value.specs.Answers.{RefusesBy}
 use Rattle.mon_value.specs.declared.refusals.Refusal.{Refusal}
 use Rattle.mon_store.specs.Writes.{write_fault}

@@ -1,0 +1,47 @@
+use Rattle.std.proofs.Common.{[], Some, None, refl}
+use Rattle.mon_run.specs.Endings.{Progress}
+use Rattle.mon_run.specs.Plans.{schedule_plan}
+use Rattle.mon_run.specs.declared.stop.Stop.TheVariants as stop
+use Rattle.mon_run.specs.within.Stops.{Halts, printed_by, seen}
+use Rattle.weave_core.specs.Schedules.{IsPrinted, Printed}
+use Rattle.std.proofs.lemmas.Result.{err_from_is_err_and}
+use Rattle.mon_run.proofs.RunLemmas.{ends_stopped, schedule_cut, schedule_done, schedule_refused, weaves_stopped}
+use Rattle.mon_run.proofs.StepLemmas.{did_none}
+use Rattle.mon_run.proofs.runs.Run.schedule.Goals as goal
+
+pub returns-in_err-woven-clause-ended : goal.returns-in_err-woven-clause-ended
+returns-in_err-woven-clause-ended g c =
+    let before : Progress = seen g.F.Folder.state g.O.Sink.state c.args.self.now in
+    let fact : Halts (λ files. schedule_plan None) stop.OutOfMemory before before = record {
+      told = λ files told. record { done = []; left = []; split = refl; did = did_none before };
+      causes = tt;
+    } in
+    weaves_stopped (λ woven files. schedule_plan woven) (λ files. IsPrinted c.args.config c.args.text.now) c.from_residual.result stop.OutOfMemory (err_from_is_err_and c.from_residual.result c.from_residual.ensures.1) fact
+
+pub returns-in_err-write-clause-ended : goal.returns-in_err-write-clause-ended
+returns-in_err-write-clause-ended g c =
+    let woven : Printed = printed_by c.in_ok-woven.woven in
+    record {
+      woven = Some woven;
+      printed = λ files told. c.in_ok-woven.ensures.printed;
+      ends = ends_stopped (λ files. schedule_plan (Some woven)) c.from_residual-in_err-write.result c.in_err-write.field-0.0 (err_from_is_err_and c.from_residual-in_err-write.result c.from_residual-in_err-write.ensures.1)
+          (schedule_cut woven c.as_bytes.result.now c.in_err-write.field-0.0 c.as_bytes.ensures.bytes c.in_err-write.ensures.stops);
+    }
+
+pub returns-in-Some-clause-ended : goal.returns-in-Some-clause-ended
+returns-in-Some-clause-ended g c =
+    let woven : Printed = printed_by c.in_ok-woven.woven in
+    record {
+      woven = Some woven;
+      printed = λ files told. c.in_ok-woven.ensures.printed;
+      ends = record { completes = tt; halts = schedule_refused woven c.as_bytes.result.now c.in-Some.fault c.as_bytes.ensures.bytes c.in-Some.is c.in_ok-write.ensures.wrote };
+    }
+
+pub returns-clause-ended : goal.returns-clause-ended
+returns-clause-ended g c =
+    let woven : Printed = printed_by c.in_ok-woven.woven in
+    record {
+      woven = Some woven;
+      printed = λ files told. c.in_ok-woven.ensures.printed;
+      ends = record { completes = schedule_done woven c.as_bytes.result.now c.as_bytes.ensures.bytes c.in-None.is c.in_ok-write.ensures.wrote; halts = tt };
+    }
