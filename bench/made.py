@@ -76,11 +76,11 @@ def write_input(folder):
         (folder / f"script{count}.txt").write_text("".join(lines) + "query 1000 fetch Task::/work\n")
 
 
-def timed_run(program, folder, script):
+def timed_run(program, folder, script, command="run"):
     """Seconds, peak memory in MiB and status of a run of a script, which prints to the folder's out.txt."""
     start = time.perf_counter()
     with open(folder / "out.txt", "w", encoding="utf-8") as out:
-        child = subprocess.Popen([program, "run", "config.json", script], cwd=folder, stdout=out)
+        child = subprocess.Popen([program, command, "config.json", script], cwd=folder, stdout=out)
         _, status, usage = os.wait4(child.pid, 0)
     return time.perf_counter() - start, usage.ru_maxrss / 1024, os.waitstatus_to_exitcode(status)
 

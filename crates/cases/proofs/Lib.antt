@@ -1,1 +1,5 @@
+mod AmongLemmas
 mod CaseConditions
+mod PlaceLemmas
+mod ReadingLemmas
+mod SessionLemmas

@@ -6,7 +6,8 @@ use crate::settings::Setting;
 use crate::trouble::{Done, Trouble};
 use crate::{
     configurations, divided, expressions, groups, hints, leaf_growth, leaf_states, meanings, plans,
-    points, queries, ranges, runs, schemas, scripts, series, tables, typing, values, writes,
+    points, queries, ranges, runs, schedules, schemas, scripts, series, sessions, tables, typing,
+    values, writes,
 };
 use std::alloc::AllocError;
 
@@ -22,6 +23,8 @@ const UNDER_FILES: &[&str] = &[
     "mql_types::check",
     "mql_types::op_levels",
     "plan_split::split",
+    "query_core::QueryMachine",
+    "weave_core::run_schedule",
 ];
 
 // The other calls.
@@ -246,8 +249,10 @@ fn write_of_queries(
         "mql_parse" => queries::write_answer(text, setting.alloc, name, given),
         "mql_types" => typing::write_answer(text, setting, name, given),
         "plan_split" => plans::write_answer(text, setting, name, given),
+        "query_core" => sessions::write_answer(text, setting, given),
         "mon_fold" => write_of_folds(text, setting, name, given),
         "mon_meaning" => write_of_meanings(text, setting, name, given),
+        "weave_core" => schedules::write_answer(text, setting, given),
         _ => Err(Trouble::Misspelled),
     }
 }

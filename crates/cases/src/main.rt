@@ -3,6 +3,7 @@
 #![tactic(auto)]
 
 mod alignable;
+mod apartness;
 mod calls;
 mod case_tables;
 mod chances;
@@ -26,9 +27,13 @@ mod queries;
 mod ranges;
 mod records;
 mod runs;
+mod schedules;
 mod schemas;
 mod scripts;
 mod series;
+mod session_reads;
+mod session_texts;
+mod sessions;
 mod settings;
 mod sizes;
 mod tables;

@@ -3,6 +3,7 @@ ghost use Rattle.std.specs.Prelude.{◌≡◌, IfOk, IsTrue, true};
 ghost use Rattle.std.specs.List.{AllByRecursion};
 ghost use Rattle.mon_schema.specs.Fits.{fits};
 ghost use Rattle.mon_value.specs.Sources.{EndsBefore, IsSource};
+ghost use Rattle.cases.specs.Readings.{IsInBounds};
 
 use crate::descriptions::{first_word, number_in};
 use crate::escapes::bytes_of;
@@ -21,6 +22,13 @@ use std::alloc::Global;
 // The most that a limit may be.
 const MOST: u64 = 1 << 24;
 
+/// When a query is asked, with the limit of its load.
+#[derive(Clone, Copy)]
+pub(crate) struct Asked {
+    pub(crate) moment: i64,
+    pub(crate) limit: u64,
+}
+
 /// A case is a paragraph: a line `at MOMENT within LIMIT: QUERY`, and a text of points. Its answer is the table that is
 /// printed, or `over`. The schemas are those of the configuration that the cases stand under.
 pub(crate) fn write_answer(text: &mut String, setting: &Setting, given: &str) -> Done {
@@ -28,21 +36,33 @@ pub(crate) fn write_answer(text: &mut String, setting: &Setting, given: &str) ->
     let Some((when, query)) = head.split_once(": ") else {
         return Err(Trouble::Misspelled);
     };
-    let (moment, limit) = asked(when)?;
+    let asked = asked_of(when)?;
     let points = bytes_of(setting.alloc, points)?;
     let rows = rows_of(setting.alloc, &setting.schemas, points.as_slice())?;
     let query = bytes_of(setting.alloc, query)?;
-    let table = meant(setting, query.as_slice(), &rows, moment, limit)?;
+    let table = meant(setting, query.as_slice(), &rows, asked.moment, asked.limit)?;
     put(text, table.as_str())
 }
 
-// The moment, and the limit.
-fn asked(when: &str) -> Result<(i64, u64), Trouble> {
+/// The moment and the limit of `at MOMENT within LIMIT`.
+pub(crate) fn asked_of(when: &str) -> Result<Asked, Trouble>
+    ensures bounds { IfOk result IsInBounds }
+{
     let (moment, limit) = when.strip_prefix("at ").map(first_word).unwrap_or(("", ""));
     let Some(limit) = limit.strip_prefix("within ") else {
         return Err(Trouble::Misspelled);
     };
-    Ok((number_in(moment)?, number_in(limit)?))
+    in_bounds(number_in(moment)?, number_in(limit)?)
+}
+
+fn in_bounds(moment: i64, limit: u64) -> Result<Asked, Trouble>
+    ensures bounds { IfOk result IsInBounds }
+{
+    if 0 <= moment && limit <= MOST {
+        Ok(Asked { moment, limit })
+    } else {
+        Err(Trouble::Misspelled)
+    }
 }
 
 /// The table that a query's text means over rows.

@@ -1,4 +1,8 @@
 // Formulas of predicates, and plans of queries.
+ghost use Rattle.std.specs.Prelude.{IfOk};
+ghost use Rattle.mql_types.specs.Nodes.{typed_tree};
+ghost use Rattle.cases.specs.Readings.{IsAskedOver};
+
 use crate::descriptions::first_word;
 use crate::expressions::{DescribedRow, filter_of, filtering};
 use crate::hints::Described;
@@ -90,8 +94,13 @@ fn write_plan(text: &mut String, setting: &Setting, given: &str) -> Done {
     put_list(text, plan.buckets.as_slice())
 }
 
-fn plan_of(setting: &Setting, given: &str) -> Result<Plan, Trouble> {
+/// The plan of the query that a case writes.
+pub(crate) fn plan_of(setting: &Setting, given: &str) -> Result<Plan, Trouble>
+    ensures asked { IfOk result (λ plan. IsAskedOver setting.now.schemas (typed_tree plan.typed)) }
+{
     let query = query_in(setting.alloc, given)?;
     let typed = typed_over(setting.alloc, &query, &setting.schemas)?;
+    setting.schemas.metrics_are_lawful();
+    setting.schemas.targets_tell_locations();
     Ok(split(setting.alloc, typed, BUCKETS)?)
 }

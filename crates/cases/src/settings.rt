@@ -1,4 +1,7 @@
 // What cases stand under.
+ghost use Rattle.std.specs.Prelude.{IfOk};
+ghost use Rattle.mon_config.specs.Numbers.{AreLawful};
+
 use crate::trouble::{Done, Trouble};
 use mon_config::{Config, read_config};
 use mon_schema::Schemas;
@@ -38,7 +41,9 @@ impl Setting {
 }
 
 /// The configuration that a text is.
-pub(crate) fn config_of(alloc: Global, content: &str) -> Result<Config, Trouble> {
+pub(crate) fn config_of(alloc: Global, content: &str) -> Result<Config, Trouble>
+    ensures lawful { IfOk result (λ config. AreLawful config.buckets config.limit config.range_points) }
+{
     match read_config(alloc, content.as_bytes()) {
         Ok(config) => Ok(config),
         Err(Refusal::Fault(_fault)) => Err(Trouble::Misspelled),

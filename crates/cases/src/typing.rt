@@ -1,7 +1,9 @@
 // Query texts, and what each is typed as.
 ghost use Rattle.std.specs.Prelude.{◌≡◌, IfOk, Ok};
 ghost use Rattle.mql_ast.specs.Trees.{query_tree};
+ghost use Rattle.mql_types.specs.Durations.{HasDurations};
 ghost use Rattle.mql_types.specs.Nodes.{typed_tree};
+ghost use Rattle.mql_types.specs.Soundness.{IsPipeSpelled};
 ghost use Rattle.mql_types.specs.Typing.{typing};
 
 use crate::escapes::bytes_of;
@@ -28,7 +30,10 @@ pub(crate) fn write_answer(text: &mut String, setting: &Setting, call: &str, giv
 }
 
 /// The query that a case writes.
-pub(crate) fn query_in(alloc: Global, given: &str) -> Result<Query, Trouble> {
+pub(crate) fn query_in(alloc: Global, given: &str) -> Result<Query, Trouble>
+    ensures spelled { IfOk result (λ query. IsPipeSpelled (query_tree query)) }
+    ensures durations { IfOk result (λ query. HasDurations (query_tree query)) }
+{
     let text = bytes_of(alloc, given)?;
     query_of(alloc, text.as_slice())
 }

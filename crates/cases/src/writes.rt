@@ -69,7 +69,8 @@ fn replicas_of(alloc: Global, words: &str) -> Result<SlotLeaves, Trouble> {
     Ok(replicas)
 }
 
-fn replica_of(word: &str) -> Result<SlotLeaf, Trouble> {
+/// A replica of a range, as SLOT@LEAF.
+pub(crate) fn replica_of(word: &str) -> Result<SlotLeaf, Trouble> {
     let Some((slot, leaf)) = word.split_once('@') else {
         return Err(Trouble::Misspelled);
     };
@@ -94,13 +95,14 @@ fn add_end(text: &mut String, end: &WriteEnd) -> Done {
     match end {
         WriteEnd::Old(last) => Ok(write!(text, "old {last}")?),
         WriteEnd::Full(count) => Ok(write!(text, "full {count}")?),
-        WriteEnd::Unavailable(founds) => add_founds(text, founds),
+        WriteEnd::Unavailable(founds) => add_founds(text, "unavailable", founds),
         WriteEnd::Written(ack) => add_ack(text, ack),
     }
 }
 
-fn add_founds(text: &mut String, founds: &Founds) -> Done {
-    put(text, "unavailable")?;
+/// Adds leaves that were found down, as LEAF@CUT, behind a word.
+pub(crate) fn add_founds(text: &mut String, word: &str, founds: &Founds) -> Done {
+    put(text, word)?;
     for found in founds.as_slice() {
         write!(text, " {}@{}", found.leaf.0, found.cut)?;
     }
