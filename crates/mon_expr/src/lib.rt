@@ -15,6 +15,3 @@ pub use condition_lists::BoundPredicate;
 pub use patterns::matches;
 pub use predicates::holds;
 pub use sums::value_of;
-
-#[cfg(test)]
-mod tests;

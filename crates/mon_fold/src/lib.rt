@@ -16,8 +16,6 @@ mod numbers;
 mod pieces;
 mod sliding;
 mod sums;
-#[cfg(test)]
-mod tests;
 
 pub use aggregate_parts::{AggregatePart, AggregateParts};
 pub use alignment::align;

@@ -14,6 +14,3 @@ pub use mon_value::{Table, TimedRow, TimedRows};
 pub use pairs::{OverRoom, join};
 pub use printing::print;
 pub use tables::{sorted, union};
-
-#[cfg(test)]
-mod tests;

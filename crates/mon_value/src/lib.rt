@@ -53,6 +53,3 @@ pub use texts::{Text, Texts};
 pub use values::{
     Bounds, Counts, FieldType, FieldValue, FieldValues, Value, ValueType, write_text,
 };
-
-#[cfg(test)]
-mod tests;

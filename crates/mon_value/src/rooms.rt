@@ -2,7 +2,6 @@
 ghost use Rattle.std.specs.Prelude.{◌≡◌, ◌+◌, ◌<◌, ◌≤◌, ◌++◌, ◌∷◌, [], length, slice_get, Some, IfOk, OnOk};
 
 use crate::copying::{TryCopy, copied_items};
-use crate::lists::ListOf;
 use std::alloc::{AllocError, Global};
 use std::marker::Model;
 
@@ -30,20 +29,6 @@ impl<T> RoomListOf<T> {
         RoomListOf {
             items: Vec::new(alloc),
         }
-    }
-
-    /// The list with what room its memory has. No memory is taken.
-    pub fn from_list(list: ListOf<T>) -> Self
-        ensures items { result.items ≡ list }
-    {
-        RoomListOf { items: list.items }
-    }
-
-    /// The list without its room. No memory is taken.
-    pub fn into_list(self) -> ListOf<T>
-        ensures items { result ≡ self.items }
-    {
-        ListOf { items: self.items }
     }
 
     /// How many items there are.

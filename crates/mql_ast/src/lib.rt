@@ -15,6 +15,3 @@ pub use operations::{Aggregate, Aggregates, FoldWord, Item, Items, Op, OpKind, O
 pub use pipes::{How, Pipe, Query, Source};
 pub use predicates::{Comparison, Literal, Pattern, Pieces, Predicate};
 pub use printing::print_query;
-
-#[cfg(test)]
-mod tests;

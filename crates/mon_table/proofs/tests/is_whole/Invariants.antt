@@ -1,9 +1,0 @@
--- the rows behind the loop have a cell for each column
-use Rattle.std.proofs.Common.{◌≡◌, length}
-use Rattle.std.specs.Slice.Iter.{iter_rest}
-use Rattle.std.specs.List.{AllByRecursion}
-use Rattle.mon_value.specs.declared.tables.TimedRow.{TimedRow}
-use Rattle.mon_table.proofs.tests.is_whole.Given as goal
-
-abbrev pub invariant-loop-row : goal.invariant-loop-row
-invariant-loop-row l = AllByRecursion (λ (row : TimedRow). length row.cells ≡ length l.table.columns) (iter_rest l.row-iterator) → AllByRecursion (λ (row : TimedRow). length row.cells ≡ length l.table.columns) l.table.rows
