@@ -12,7 +12,6 @@ use Rattle.mon_topo.specs.Settings.{Setting, zone_of_leaf}
 use Rattle.mon_topo.specs.Zones.{leaves_in, ranges_in}
 use Rattle.history_book.specs.Histories.{empty_histories}
 use Rattle.raise_table.specs.declared.views.Hints.{Hints}
-use Rattle.know.specs.Reaches.{no_reach, range_reach, reach_of}
 use Rattle.know.specs.Sound.{IsSound, histories, known_bits}
 
 abbrev nothing : (X : Type 0) → List X
@@ -30,12 +29,6 @@ count_of (suc n) x = ap suc (count_of n x)
 each_of : {X Y : Type 0} (f : X → Y) (n : ℕ) (x : X) → map f (replicate n x) ≡ replicate n (f x)
 each_of f zero x = refl
 each_of f (suc n) x = ap (λ rest. f x ∷ rest) (each_of f n x)
-
-pub nothing_reached : (leaves ranges : ℕ) → no_reach leaves ranges ≡ reach_of (empty_histories leaves ranges)
-nothing_reached leaves ranges = λ i. record {
-  leaves = sym (each_of length leaves (nothing Entry)) i;
-  ranges = sym (each_of range_reach ranges (nothing RangeEntry)) i;
-}
 
 none_there : {X : Type 0} (x : X) → Contains [] x → ⊥
 none_there x there = let l : there.0 < 0 = there.1 in absurd (omega arith)

@@ -15,9 +15,9 @@ use mon_value::{OutOfMemory, RangeSlot, RangeSlots, Refusal};
 use mql_types::Plan;
 use std::alloc::Global;
 
-/// A leaf's part of a plan that is asked at a moment, over the rows of some of the replicas that the leaf holds, none of
-/// which is copied. A series has its rows in one of them: the points of a series in two replicas would be aligned as those of
-/// two series. It is refused exactly where the load is above the limit.
+/// A leaf's part of a plan that is asked at a moment, over the rows of some of the replicas that the leaf holds, none
+/// of which is copied. A series has its rows in one of them: the points of a series in two replicas would be aligned
+/// as those of two series. It is refused exactly where the load is above the limit.
 pub fn eval_leaf(
     alloc: Global,
     plan: &Plan,
@@ -32,7 +32,8 @@ pub fn eval_leaf(
     requires typed { IsTyped (typed_tree plan.now.typed) (replicas_rows leaf.now.history slots.now) }
     requires moment { pos 0 ≤ℤ moment }
     requires limit { limit ≤ 2 ^ ROW_BITS }
-    ensures answer { IsLeafAnswer (typed_tree plan.now.typed) (replicas_rows leaf.now.history slots.now) moment limit result }
+    ensures answer { IsLeafAnswer (typed_tree plan.now.typed) (replicas_rows leaf.now.history slots.now) moment limit
+        result }
 {
     let kept = kept_rows(alloc, leaf, slots.as_slice())?;
     answer_by_series(alloc, plan, kept.as_slice(), moment, limit)

@@ -1,13 +1,10 @@
 -- Buckets of a series are below their number, and sets of them grow.
-use Rattle.std.proofs.Common.{◌≡◌, ◌∙◌, ℕ, ◌+◌, ◌<◌, ◌≤◌, ◌==◌, nat_lt, Bool, true, false, ◌&&◌, ◌||◌, Option, Some, None, IfSome, List, [], ◌∷◌, ◌++◌, map, take, length, get_or, refl, sym, ap, subst, append-nil, arith}
+use Rattle.std.proofs.Common.{◌≡◌, ◌∙◌, ℕ, ◌+◌, ◌<◌, ◌≤◌, ◌==◌, nat_lt, Bool, true, false, ◌&&◌, ◌||◌, Option, Some, None, IfSome, List, [], ◌∷◌, ◌++◌, map, refl, sym, ap, append-nil, arith}
 use Rattle.std.specs.List.{AllByRecursion, flat_map, zip}
 use Rattle.std.proofs.lemmas.Bool.Decides.{nat_tests}
-use Rattle.std.proofs.lemmas.List.{take_more}
 use Rattle.std.proofs.lemmas.List.Concat.{flat_map-append}
-use Rattle.std.proofs.lemmas.List.Folds.{list_any-append}
 use Rattle.std.proofs.lemmas.Nat.{mod_below}
-use Rattle.mon_hints.proofs.TruthLemmas.{or_turned, or_false}
-use Rattle.mon_hints.specs.BucketSets.{HasNone, IsNext}
+use Rattle.mon_hints.specs.BucketSets.{IsNext}
 use Rattle.mon_hints.specs.Excerpts.{value_excerpts}
 use Rattle.mon_hints.specs.Fingerprints.{bucket_of, fingerprint_of}
 use Rattle.mon_hints.specs.Hints.{field_buckets, series_buckets, value_buckets}
@@ -24,11 +21,11 @@ use Rattle.mon_value.specs.declared.values.FieldValue.{FieldValue}
 use Rattle.mon_hints.specs.HistoryBuckets.{history_buckets, rows_buckets}
 use Rattle.mon_value.specs.LeafHistories.{brought_rows, leaf_rows}
 use Rattle.leaf_store.specs.LeafBuckets.{key_buckets}
-use Rattle.leaf_store.specs.within.Raises.{Adds}
 
 -- ---- below their number
 
-abbrev AllBelow : ℕ → List ℕ → Type 0
+-- numbers that all are below a bound
+abbrev pub AllBelow : ℕ → List ℕ → Type 0
 AllBelow bound numbers = AllByRecursion (λ n. n < bound) numbers
 
 both_below : (bound : ℕ) (xs ys : List ℕ) → AllBelow bound xs → AllBelow bound ys → AllBelow bound (xs ++ ys)
@@ -74,23 +71,9 @@ next_below (Some next) buckets from target metric key some most least =
 
 -- ---- sets that grow
 
-pub adds_none : (set : ℕ → Bool) → Adds set set []
-adds_none set bucket = sym (or_false (set bucket))
-
-pub adds_more : (first middle last : ℕ → Bool) (xs ys : List ℕ) → Adds first middle xs → Adds middle last ys → Adds first last (xs ++ ys)
-adds_more first middle last xs ys some more bucket =
-    more bucket ∙ ap (λ b. b || is_among bucket ys) (some bucket)
-    ∙ or_turned (first bucket) (is_among bucket xs) (is_among bucket ys)
-    ∙ ap (λ b. first bucket || b) (sym (list_any-append (λ other. bucket == other) xs ys))
-
 -- the buckets of a series below a number are in the set
 abbrev pub AddsBelow : (ℕ → Bool) → (ℕ → Bool) → List ℕ → ℕ → Type 0
 AddsBelow old new buckets from = (bucket : ℕ) → new bucket ≡ (old bucket || (nat_lt bucket from && is_among bucket buckets))
-
-pub adds_from_none : (set : ℕ → Bool) (buckets : List ℕ) → AddsBelow set set buckets 0
-adds_from_none set buckets bucket =
-    let none : nat_lt bucket 0 ≡ false = grind (arith, nat_tests) in
-    sym (ap (λ b. set bucket || (b && is_among bucket buckets)) none ∙ or_false (set bucket))
 
 one_more : (bucket next from : ℕ) (old among : Bool) (t1 t2 t3 : Bool) → nat_lt bucket from ≡ t1 → (bucket == next) ≡ t2 → nat_lt bucket (next + 1) ≡ t3 →
     from ≤ next → (bucket ≡ next → among ≡ true) → (from ≤ bucket → bucket < next → among ≡ false) → (t2 || (old || (t1 && among))) ≡ (old || (t3 && among))
@@ -115,9 +98,6 @@ all_below : (bucket from : ℕ) (old among : Bool) (t : Bool) → nat_lt bucket 
 all_below bucket from old among true below none = refl
 all_below bucket from old among false below none = ap (λ b. old || b) (sym (none (grind (arith, nat_tests))))
 
-pub adds_all : (old set : ℕ → Bool) (buckets : List ℕ) (from : ℕ) → AddsBelow old set buckets from → HasNone (λ bucket. is_among bucket buckets) from → Adds old set buckets
-adds_all old set buckets from adds none bucket = adds bucket ∙ all_below bucket from (old bucket) (is_among bucket buckets) (nat_lt bucket from) refl (none bucket)
-
 -- ---- buckets of rows
 
 pub rows_more : (buckets : ℕ) (held : SchemaLists) (rows : List Row) (row : Row) → rows_buckets (key_buckets buckets held) (rows ++ row ∷ []) ≡ rows_buckets (key_buckets buckets held) rows ++ key_buckets buckets held row.key
@@ -129,11 +109,3 @@ pub history_more : (buckets : ℕ) (held : SchemaLists) (history : List Entry) (
 history_more buckets held history last =
     ap (rows_buckets (key_buckets buckets held)) (flat_map-append brought_rows history (last ∷ []) ∙ ap (λ more. leaf_rows history ++ more) (append-nil (brought_rows last)))
     ∙ flat_map-append (λ (row : Row). key_buckets buckets held row.key) (leaf_rows history) (brought_rows last)
-
-pub rows_next : (old set new : ℕ → Bool) (buckets : ℕ) (held : SchemaLists) (rows : List Row) (i : ℕ) (row : Row) → i < length rows → row ≡ get_or rows i row
-    → Adds old set (rows_buckets (key_buckets buckets held) (take i rows)) → Adds set new (key_buckets buckets held row.key) → Adds old new (rows_buckets (key_buckets buckets held) (take (i + 1) rows))
-rows_next old set new buckets held rows i row below is so_far adds =
-    subst (λ (all : List Row). Adds old new (rows_buckets (key_buckets buckets held) all))
-    (sym (take_more rows i row below ∙ ap (λ (r : Row). take i rows ++ r ∷ []) (sym is)))
-    (subst (Adds old new) (sym (rows_more buckets held (take i rows) row))
-    (adds_more old set new (rows_buckets (key_buckets buckets held) (take i rows)) (key_buckets buckets held row.key) so_far adds))

@@ -1,4 +1,4 @@
-mod BucketLemmas
+pub mod BucketLemmas
 mod EntryLemmas
 pub mod FollowLemmas
 mod KeptEntryLemmas

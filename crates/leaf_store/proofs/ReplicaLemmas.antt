@@ -86,14 +86,6 @@ is_put replicas replica row n place number rows new at found count pushed same =
       grown = (λ i. set_value_at replicas (sym same i) (pushed i));
     }
 
--- the rows of the replica that a look-up finds
-pub held_rows : (replicas : Replicas) (replica : Replica) (n : ℕ) (rows : List Row) → position (derived.eq-value.it replica) (keys_of replicas) ≡ Some n
-    → Some rows ≡ slice_get (map (λ e. e.1) replicas) n → rows_held replicas replica.range replica.slot ≡ Some rows
-held_rows replicas replica n rows at found =
-    let there = get_there replicas n rows found in
-    (first_found (own replica) replicas n there.0 rows
-    (first_position (own replica) replicas n (ap (λ test. position test (keys_of replicas)) (sym (same_test replica)) ∙ at)) there.1).1
-
 -- ---- a replica more
 
 taken_by : (b : Bool) (rows own : List Row) (rest new : Option (List Row)) (same : Bool) → (b ≡ true → same ≡ false) → new ≡ cond same (Some rows) rest

@@ -23,4 +23,5 @@ key_buckets buckets held key =
 -- whether a series has a bucket that no series of a history has
 abbrev pub is_unraised : ℕ → SchemaLists → List Entry → SeriesKey → ℕ → Bool
 is_unraised buckets held history key bucket =
-    is_among bucket (key_buckets buckets held key) && not (is_among bucket (history_buckets (key_buckets buckets held) history))
+    is_among bucket (key_buckets buckets held key)
+    && not (is_among bucket (history_buckets (key_buckets buckets held) history))

@@ -23,12 +23,24 @@ new_leaf schemas buckets = record { schemas = schemas; buckets = buckets; histor
 -- a leaf with another number of promised entries
 abbrev pub with_promised : LeafView → ℕ → LeafView
 with_promised leaf promised =
-    record { schemas = leaf.schemas; buckets = leaf.buckets; history = leaf.history; promised = promised; settled = leaf.settled }
+    record {
+      schemas = leaf.schemas;
+      buckets = leaf.buckets;
+      history = leaf.history;
+      promised = promised;
+      settled = leaf.settled;
+    }
 
 -- a leaf whose rows all are in their series
 abbrev pub with_settled : LeafView → LeafView
 with_settled leaf =
-    record { schemas = leaf.schemas; buckets = leaf.buckets; history = leaf.history; promised = leaf.promised; settled = true }
+    record {
+      schemas = leaf.schemas;
+      buckets = leaf.buckets;
+      history = leaf.history;
+      promised = leaf.promised;
+      settled = true;
+    }
 
 -- a leaf to which an entry came: one with rows spends a promise, and waits to be settled
 abbrev pub with_entry : LeafView → Entry → LeafView

@@ -1,6 +1,8 @@
 // The state of a leaf.
-ghost use Rattle.std.specs.Prelude.{◌≡◌, ◌++◌, ◌∷◌, ◌-◌, ◌<◌, ◌≤◌, ◌+◌, ◌^◌, ◌==◌, Bool, is_some, [], length, take, drop, false};
-ghost use Rattle.std.specs.Prelude.{true, not, nat_lt, IfOk, IfSome, IfNone, OnOk, OnErr, IsTrue, vec_capacity, if◌then◌else◌};
+ghost use Rattle.std.specs.Prelude.{◌≡◌, ◌++◌, ◌∷◌, ◌-◌, ◌<◌, ◌≤◌, ◌+◌, ◌^◌, ◌==◌, Bool, is_some, [], length, take};
+ghost use Rattle.std.specs.Prelude.{drop, false};
+ghost use Rattle.std.specs.Prelude.{true, not, nat_lt, IfOk, IfSome, IfNone, OnOk, OnErr, IsTrue, vec_capacity};
+ghost use Rattle.std.specs.Prelude.{if◌then◌else◌};
 ghost use Rattle.std.specs.List.{count_by};
 ghost use Rattle.std.specs.Option.{option_copied};
 ghost use Rattle.mon_hints.specs.BucketSets.{HasNone, IsNext};
@@ -137,7 +139,8 @@ impl LeafState {
 
     /// Whether a series of the history has a bucket.
     pub fn has(&self, bucket: u32) -> bool
-        ensures has { result ≡ is_among bucket (history_buckets (key_buckets self.now.buckets self.now.schemas) self.now.history) }
+        ensures has { result ≡ is_among bucket
+            (history_buckets (key_buckets self.now.buckets self.now.schemas) self.now.history) }
     {
         self.raised.has(bucket)
     }
@@ -222,8 +225,8 @@ impl LeafState {
         0 < self.switches_left
     }
 
-    /// Appends an entry. One with rows takes the place that was promised; a switch has its place since `new`. No memory is
-    /// taken.
+    /// Appends an entry. One with rows takes the place that was promised; a switch has its place since `new`. No
+    /// memory is taken.
     pub fn apply(&mut self, entry: Entry)
         requires follows { IsWellFormed (self.old.history ++ entry ∷ []) }
         requires promised { is_switch entry ≡ false → 1 ≤ self.old.promised }
@@ -250,8 +253,8 @@ impl LeafState {
         }
     }
 
-    /// Moves the rows of every entry that was applied into the series of their replicas. Where memory runs out the state is
-    /// as before.
+    /// Moves the rows of every entry that was applied into the series of their replicas. Where memory runs out the
+    /// state is as before.
     pub fn settle(&mut self) -> Result<(), OutOfMemory>
         ensures settled { OnOk result (self.new ≡ with_settled self.old) }
         ensures kept { OnErr result (self.new ≡ self.old) }

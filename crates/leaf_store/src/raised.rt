@@ -63,7 +63,8 @@ impl Raised {
     fn add_rows(&mut self, schemas: &Schemas, buckets: u32, rows: &[Row])
         requires some { 0 < buckets }
         requires most { buckets ≤ MOST_BUCKETS }
-        ensures added { Adds (is_set self.old.words) (is_set self.new.words) (rows_buckets (key_buckets buckets schemas.now) rows.now) }
+        ensures added { Adds (is_set self.old.words) (is_set self.new.words)
+            (rows_buckets (key_buckets buckets schemas.now) rows.now) }
     {
         for row in rows {
             self.add_key(schemas, buckets, &row.key);
@@ -95,7 +96,8 @@ impl Raised {
     )
         requires some { 0 < buckets }
         requires most { buckets ≤ MOST_BUCKETS }
-        ensures added { Adds (is_set self.old.words) (is_set self.new.words) (series_buckets buckets target.now metric.now key.now) }
+        ensures added { Adds (is_set self.old.words) (is_set self.new.words)
+            (series_buckets buckets target.now metric.now key.now) }
     {
         let mut from = 0;
         while let Some(bucket) = next_below(key, target, metric, buckets, from) {

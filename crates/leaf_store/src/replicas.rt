@@ -1,5 +1,6 @@
 // The replicas that a leaf keeps, and entries whose rows go to them.
-ghost use Rattle.std.specs.Prelude.{◌≡◌, ◌++◌, ◌∷◌, [], true, false, is_some, length, slice_get, IfOk, IsTrue, OnErr, OnOk};
+ghost use Rattle.std.specs.Prelude.{◌≡◌, ◌++◌, ◌∷◌, [], true, false, is_some, length, slice_get, IfOk, IsTrue, OnErr};
+ghost use Rattle.std.specs.Prelude.{OnOk};
 ghost use Rattle.std.specs.Option.{option_copied};
 ghost use Rattle.mon_value.specs.LeafHistories.{same_replica};
 ghost use Rattle.mon_value.specs.Sources.{IsSource, last_end, points_of};

@@ -1,5 +1,5 @@
 -- The rows of a tree made from its first piece up.
-use Rattle.std.proofs.Common.{◌≡◌, ◌∙◌, ◌≤◌, ℕ, ◌+◌, Bool, true, false, List, [], ◌∷◌, ◌++◌, drop, sym, ap, subst, arith}
+use Rattle.std.proofs.Common.{◌≡◌, ◌∙◌, ◌≤◌, ℕ, ◌+◌, Bool, false, List, [], ◌∷◌, ◌++◌, drop, sym, ap, subst, arith}
 use Rattle.std.specs.List.{AllByRecursion}
 use Rattle.mon_value.specs.declared.refusals.Refusal.{Refusal}
 use Rattle.mon_value.specs.declared.refusals.Refusal.TheVariants as refusal
@@ -51,11 +51,6 @@ module _ (here : Level → Bool) where
     leads = subst (λ tree. Leads (above ++ end ∷ []) top tree) (sym step.first) (Leads-push above top end down.leads);
     passed = all_push IsPassed above end down.passed step.above;
   }
-
-  pub way_found : (above : List NodeTree) (top end : NodeTree) → Down above top end → is_piece here end ≡ true
-      → IsWayDown here above top
-  way_found above top end down ends =
-      record { end = end; leads = down.leads; passed = down.passed; ends = ends }
 
   -- ---- up
 
@@ -159,11 +154,6 @@ module _ (here : Level → Bool) where
     pub rows_done : (rows : List TimedRow) (left : List Piece) (start load : ℕ) → Walk [] rows left start load
         → rows ≡ rows_from here top all
     rows_done rows left start load walk = walk.made ∙ ap (λ tree. rows_from here tree all) (sym walk.leads)
-
-    pub left_done : (rows : List TimedRow) (left : List Piece) (start load : ℕ) → Walk [] rows left start load
-        → left ≡ drop (part_count here top) all
-    left_done rows left start load walk =
-        walk.behind ∙ ap (λ tree. drop (part_count here tree) all) (sym walk.leads)
 
     pub load_done : (rows : List TimedRow) (left : List Piece) (start load : ℕ) → Walk [] rows left start load
         → load ≡ start + joins_from here top all

@@ -51,9 +51,6 @@ pub all_given : {A : Type 0} (P Q : A → Type 0) (xs : List A) → AllByRecursi
 all_given P Q [] lead all = tt
 all_given P Q (x ∷ xs) lead all = (lead.0 all.0, all_given P Q xs lead.1 all.1)
 
-rest_long : (front rest more all : ℕ) → front + rest ≡ all → front + more ≡ all → rest ≡ more
-rest_long front rest more all e f = omega (arith, e, f)
-
 -- the cells of a pair agree in the columns of one name
 pub pair_agrees : (lefts rights : List Column) (left right : TimedRow) → is_pair lefts rights left right ≡ true
     → list_all (λ cell. list_all (λ (o : Named). cells_agree cell o) (zip rights right.cells)) (zip lefts left.cells)

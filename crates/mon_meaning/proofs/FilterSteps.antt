@@ -10,11 +10,10 @@ use Rattle.mon_value.specs.declared.values.Value.{Value}
 use Rattle.mql_ast.specs.Trees.{PredicateTree}
 use Rattle.mql_ast.specs.Truths.{predicate_truth}
 use Rattle.mql_types.specs.Loads.{meets, names_keys, series_cells}
-use Rattle.mql_types.specs.Meaning.{is_fetched}
 use Rattle.mql_types.specs.Nodes as node
 use Rattle.mql_types.specs.Nodes.{NodeTree}
 use Rattle.mql_types.specs.declared.nodes.NodeInfo.{NodeInfo}
-use Rattle.mon_meaning.specs.within.FetchViews.{FetchesNothing, IsFetchOf, all_hold}
+use Rattle.mon_meaning.specs.within.FetchViews.{all_hold}
 use Rattle.mon_meaning.specs.within.KeyFilters.{KeysDecide}
 use Rattle.mon_meaning.specs.within.SeriesMeaning.{flows}
 
@@ -116,30 +115,9 @@ turned true false = refl
 turned false true = refl
 turned false false = refl
 
-pub fetch_found : (input : NodeTree) (info : NodeInfo) (schema metric : _) (of_series of_points : List BoundPredicate)
-    → Remains input (node.Fetch info schema metric) of_series of_points
-    → IsFetchOf input (record { schema = schema; metric = metric; of_series = of_series; of_points = of_points })
-fetch_found input info schema metric of_series of_points remains = record {
-  met = λ key. turned (is_fetched schema metric key) (all_hold of_series (series_cells key)) ∙ remains.met key;
-  flowing = λ key value.
-      turned (is_fetched schema metric key) (all_hold of_series (cells_of key value) && all_hold of_points (cells_of key value))
-      ∙ remains.flowing key value;
-  decided = λ key value decide. (remains.decided key value decide).0;
-}
-
 none_left : (b c : Bool) → c ≡ false → (b && c) ≡ false
 none_left true c e = e
 none_left false c e = refl
-
--- no points flow from a table
-pub nothing_found : (input rest : NodeTree) (of_series of_points : List BoundPredicate) → Remains input rest of_series of_points
-    → FetchesNothing rest → FetchesNothing input
-nothing_found input rest of_series of_points remains nothing = record {
-  unmet = λ key. sym (remains.met key) ∙ none_left (all_hold of_series (series_cells key)) (meets rest key) (nothing.unmet key);
-  dry = λ key value. sym (remains.flowing key value)
-      ∙ none_left (all_hold of_series (cells_of key value) && all_hold of_points (cells_of key value)) (flows rest key value)
-      (nothing.dry key value);
-}
 
 -- the same by equal parts
 pub moved : (input rest next : NodeTree) (ss qs ps rs : List BoundPredicate) → next ≡ rest → qs ≡ ss → rs ≡ ps

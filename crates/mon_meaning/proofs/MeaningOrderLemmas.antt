@@ -7,7 +7,7 @@ use Rattle.mon_value.proofs.PermutationLemmas.{filter-permutation, flat_map-perm
 use Rattle.mon_value.proofs.SameLemmas.{same_series-Decides}
 use Rattle.mon_value.proofs.SourceLemmas.{has_series}
 use Rattle.mon_value.specs.Same.{same_series}
-use Rattle.mon_value.specs.Sources.{key_of_row, points_by_series, points_of, rows_of, series_of}
+use Rattle.mon_value.specs.Sources.{points_by_series, points_of, rows_of}
 use Rattle.mon_value.specs.declared.grids.Grid.{Grid}
 use Rattle.mon_value.specs.declared.refusals.Refusal.{Refusal}
 use Rattle.mon_value.specs.declared.refusals.Refusal.TheVariants as refusal
@@ -21,13 +21,10 @@ use Rattle.mql_types.specs.Loads.{load}
 use Rattle.mql_types.specs.Meaning.{grid_of, meaning, value_row}
 use Rattle.mql_types.specs.Nodes as node
 use Rattle.mql_types.specs.Nodes.{NodeTree, TypedTree, columns_of}
-use Rattle.mql_types.specs.Soundness.{IsTyped}
-use Rattle.mon_schema.specs.Fits.{fits}
 use Rattle.mon_meaning.specs.Central.{IsAnswer, IsRefusedBy}
 use Rattle.mon_meaning.specs.declared.meter.OverLimit.{OverLimit}
 use Rattle.mon_meaning.specs.within.SeriesMeaning.{SeriesGroup, load_by_series, reach_count, rows_by_series, series_rows}
-use Rattle.mon_meaning.proofs.FilterLemmas.{all-permutation, filter_map-permutation}
-use Rattle.mon_meaning.proofs.KeyOrders.{keys_there}
+use Rattle.mon_meaning.proofs.FilterLemmas.{filter_map-permutation}
 use Rattle.mon_meaning.proofs.OperationOrders.{group_rows-permutation, pairs-permutation, top_rows-permutation}
 use Rattle.mon_meaning.proofs.PartLemmas.{part_load, part_rows}
 
@@ -195,24 +192,3 @@ module _ (P : Row → Type 0) where
         own.0,
         from_series keys rows there.1 (λ key has. less key row rows (all key has)),
       )
-
-  pub rows_in_series : (some others : List Row) → IsPermutation (points_by_series some) (points_by_series others)
-      → AllByRecursion P some → AllByRecursion P others
-  rows_in_series some others same all =
-      let each : AllByRecursion OfSeries (points_by_series others) =
-      all-permutation OfSeries _ _ same (all_series some (series_of some) all) in
-      from_series (series_of others) others (keys_there same_series same_series-Decides key_of_row others)
-      (λ key there. at_key key others (series_of others) there each)
-
--- a query that is typed for rows is typed for those of their series in another order
-pub typed_in_order : (typed : TypedTree) (some others : List Row)
-    → IsPermutation (points_by_series some) (points_by_series others) → IsTyped typed some → IsTyped typed others
-typed_in_order typed some others same of = record {
-  held = of.held;
-  query = of.query;
-  metrics = of.metrics;
-  spelled = of.spelled;
-  durations = of.durations;
-  is = of.is;
-  fit = rows_in_series (λ row. fits of.held row ≡ true) some others same of.fit;
-}

@@ -1,5 +1,5 @@
 -- The series of a metric, one number after another: those that are counted are all that are counted.
-use Rattle.std.proofs.Common.{◌≡◌, ◌∙◌, ◌&&◌, ◌==◌, ◌<◌, ◌+◌, ℕ, zero, suc, Bool, true, false, not, cond, Option, Some, List, [], ◌∷◌, ◌++◌, length, map, refl, sym, ap, subst, slice_get, append_assoc, append-nil, arith}
+use Rattle.std.proofs.Common.{◌≡◌, ◌∙◌, ◌&&◌, ◌==◌, ◌<◌, ◌+◌, ℕ, zero, suc, Bool, true, false, not, cond, Option, Some, List, [], ◌∷◌, ◌++◌, length, map, refl, sym, ap, subst, slice_get, append_assoc, arith}
 use Rattle.std.specs.List.{AllByRecursion, cons_option, filter, filter_map, sum_by}
 use Rattle.std.proofs.lemmas.List.{length-append, length-map}
 use Rattle.std.proofs.lemmas.List.Elements.{filter_agree}
@@ -9,18 +9,14 @@ use Rattle.mon_value.specs.Same.{same_text}
 use Rattle.mon_value.specs.Sources.{points_by_series, points_of, series_of}
 use Rattle.mon_value.specs.declared.aligners.Aligner.{Aligner}
 use Rattle.mon_value.specs.declared.grids.Grid.{Grid}
-use Rattle.mon_value.specs.declared.refusals.Refusal.{Refusal}
 use Rattle.mon_value.specs.declared.rows.Point.{Point}
 use Rattle.mon_value.specs.declared.rows.Row.{Row}
 use Rattle.mon_value.specs.declared.rows.SeriesKey.{SeriesKey}
-use Rattle.mon_meaning.specs.Counts.{TellsOver}
-use Rattle.mon_meaning.specs.declared.meter.OverLimit.{OverLimit}
 use Rattle.mon_meaning.specs.within.FetchViews.{FetchView, is_met}
 use Rattle.mon_meaning.specs.within.MetSeries.{is_counted, met_count}
 use Rattle.mon_meaning.specs.within.Reach.{reached}
 use Rattle.mon_meaning.specs.within.SeriesMeaning.{SeriesGroup}
 use Rattle.mon_meaning.proofs.FilterLemmas.{filter_twice}
-use Rattle.mon_meaning.proofs.WalkLemmas.{tells_more}
 
 -- ---- the series of numbers
 
@@ -197,20 +193,3 @@ module _ (grid : Grid) (by : Aligner) (fetch : FetchView) where
               ∙ ap (λ (gs : List SeriesGroup). met ++ gs) (sym (next_filter ∙ ap (λ b. cond b (group ∷ left) left) in_reach)) ∙ so_far.met_is;
           load_is = omega (arith, next_sum, counted, so_far.load_is);
         }
-
-    -- what is above the limit with one more is so with all
-    pub one_over : (limit most : ℕ) (r : Refusal OverLimit) → limit ≡ most → TellsOver limit (load + count_of group) r
-        → TellsOver most (start_load + sum_by count_of groups) r
-    one_over limit most r same tells =
-        subst (λ (l : ℕ). TellsOver l (start_load + sum_by count_of groups) r) same
-        (tells_more limit (load + count_of group) _ r (omega (arith, next_sum, so_far.load_is)) tells)
-
-  pub all_met : (groups : List SeriesGroup) (numbers : List ℕ) (start met : List SeriesGroup) (start_load load : ℕ)
-      → MetSoFar groups numbers start met start_load load → numbers ≡ [] → met ≡ start ++ filter counts groups
-  all_met groups numbers start met start_load load so_far none =
-      sym (append-nil met) ∙ ap (λ (ns : List ℕ). met ++ filter counts (numbered groups ns)) (sym none) ∙ so_far.met_is
-
-  pub all_counted : (groups : List SeriesGroup) (numbers : List ℕ) (start met : List SeriesGroup) (start_load load : ℕ)
-      → MetSoFar groups numbers start met start_load load → numbers ≡ [] → load ≡ start_load + sum_by count_of groups
-  all_counted groups numbers start met start_load load so_far none =
-      omega (arith, ap (λ (ns : List ℕ). sum_by count_of (numbered groups ns)) none, so_far.load_is)

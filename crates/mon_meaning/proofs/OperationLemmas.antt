@@ -1,11 +1,11 @@
 -- What an operation makes of what flows into it, in a tree over series.
-use Rattle.std.proofs.Common.{◌≡◌, ◌+◌, List, refl, arith}
+use Rattle.std.proofs.Common.{◌≡◌, List, refl}
 use Rattle.mon_value.specs.declared.grids.Grid.{Grid}
 use Rattle.mql_types.specs.Nodes as node
 use Rattle.mql_types.specs.Nodes.{NodeTree}
 use Rattle.mql_types.specs.Soundness.{IsWithinRows}
-use Rattle.mon_meaning.specs.Operations.{CanOperate, operation_load, operation_rows}
-use Rattle.mon_meaning.specs.within.Paths.{first_input, other_load, other_rows, own_load}
+use Rattle.mon_meaning.specs.Operations.{CanOperate, operation_rows}
+use Rattle.mon_meaning.specs.within.Paths.{first_input, other_load, other_rows}
 use Rattle.mon_meaning.specs.within.Readiness.{IsReady}
 use Rattle.mon_meaning.specs.within.SeriesMeaning.{SeriesGroup, load_by_series, rows_by_series}
 
@@ -20,18 +20,6 @@ module _ (grid : Grid) (series : List SeriesGroup) where
   rows_made (node.Top info most column input) = refl
   rows_made (node.Join info left right) = refl
   rows_made (node.Union info left right) = refl
-
-  pub load_made : (tree : NodeTree)
-      → own_load grid tree series
-      ≡ other_load grid tree series + operation_load tree (rows_by_series grid (first_input tree) series) (other_rows grid tree series)
-  load_made (node.Fetch info schema metric) = refl
-  load_made (node.Filter info by input) = refl
-  load_made (node.Align info by input) = refl
-  load_made (node.GroupBy info by with input) = refl
-  load_made (node.Value info items input) = refl
-  load_made (node.Top info most column input) = refl
-  load_made (node.Join info left right) = refl
-  load_made (node.Union info left right) = omega arith
 
   pub can_operate : (tree : NodeTree) → IsReady grid tree series → IsWithinRows (load_by_series grid (first_input tree) series)
       → IsWithinRows (other_load grid tree series)

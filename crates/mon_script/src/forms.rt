@@ -1,5 +1,5 @@
 // What a line says.
-ghost use Rattle.std.specs.Prelude.{◌≡◌, IfOk};
+ghost use Rattle.std.specs.Prelude.{◌≡◌, ◌≤ℤ◌, pos, IfOk, IfSome};
 ghost use Rattle.mon_script.specs.Scripts as spec;
 
 use crate::lines::cut_at;
@@ -49,9 +49,10 @@ fn query_form(alloc: Global, text: &[u8]) -> Result<Option<LineForm>, OutOfMemor
     }
 }
 
-// The moment that a word spells.
-fn moment_of(word: &[u8]) -> Option<i64>
+/// The moment that a word spells, in seconds from the epoch.
+pub fn moment_of(word: &[u8]) -> Option<i64>
     ensures moment { result ≡ spec.moment_of word.now }
+    ensures lawful { IfSome result (λ moment. pos 0 ≤ℤ moment) }
 {
     let number = read_number(word)?;
     if number < 0 || number > i128::from(i64::MAX) {

@@ -4,7 +4,6 @@ use Rattle.std.specs.List.{AllByRecursion}
 use Rattle.mon_value.specs.declared.positions.Leaf.{Leaf}
 use Rattle.mon_value.specs.declared.positions.Range.{Range}
 use Rattle.mon_value.specs.declared.positions.RangeSlot.{RangeSlot}
-use Rattle.mon_topo.specs.Zones.{leaves_in}
 use Rattle.mon_topo.specs.declared.zones.ZoneSpec.{ZoneSpec}
 use Rattle.mon_store.proofs.ListedLemmas.{all_push}
 use Rattle.mon_store.specs.within.Leaves.{AreBare, HasFirsts, IsPushed, first_slot, first_slots, is_at, leaf_of}
@@ -20,12 +19,6 @@ all_at : {X : Type 0} (P : X → Type 0) (xs : List X) (i : ℕ) (x : X) → sli
 all_at P [] i x e all = absurd cc
 all_at P (y ∷ xs) zero x e all = let same : y ≡ x = cc in subst P same all.0
 all_at P (y ∷ xs) (suc i) x e all = all_at P xs i x e all.1
-
-pub firsts_none : (zones : List ZoneSpec) (count : ℕ) (firsts : List (List RangeSlot)) → count ≡ length (leaves_in zones) → AreBare count firsts → HasFirsts zones 0 firsts
-firsts_none zones count firsts many bare = record {
-  count = bare.0 ∙ many;
-  each = λ n slots at. all_at (λ s. s ≡ []) firsts n slots at bare.1;
-}
 
 record WasPushed (own : RangeSlot) (old : Option (List RangeSlot)) (slots : List RangeSlot) : Type 0 where
   before : List RangeSlot

@@ -2,12 +2,11 @@
 use Rattle.std.proofs.Common.{◌≡◌, ◌∙◌, ◌<◌, ◌≤◌, ◌+◌, ℕ, suc, zero, Bool, true, false, cond, Option, Some, None, IfSome, List, [], ◌∷◌, nat_eq, slice_get, get_or, length, take, refl, sym, ap, subst, arith, option_map}
 use Rattle.std.specs.List.{AllByRecursion}
 use Rattle.std.proofs.lemmas.Bool.Decides.{nat_tests}
-use Rattle.std.proofs.lemmas.Option.{slice_get_within}
 use Rattle.mon_value.specs.declared.positions.Leaf.{Leaf}
 use Rattle.mon_topo.specs.Zones.{leaf_numbered}
 use Rattle.leaf_store.specs.LeafStates.{LeafView, with_settled}
 use Rattle.mon_store.proofs.OpenLemmas.{histories_kept}
-use Rattle.mon_store.specs.within.Leaves.{AreSettled, IsChanged, IsSettled, histories}
+use Rattle.mon_store.specs.within.Leaves.{IsChanged, IsSettled, histories}
 
 pub settle_keeps : (leaf : Leaf) (old new : List LeafView) → IsChanged leaf with_settled old new → histories new ≡ histories old
 settle_keeps leaf old new changed = histories_kept leaf with_settled old new changed (λ state. refl)
@@ -82,7 +81,3 @@ pub below_more : (at : ℕ) (old new : List LeafView) → SettledBelow at old �
 below_more at old new below changed n state before there =
     settled_change (nat_eq at n) (slice_get old n) state (sym (changed n) ∙ there)
     (λ apart was is. below n was (apart_less at n apart before) is)
-
-pub below_all : (at : ℕ) (leaves : List LeafView) → length leaves ≤ at → SettledBelow at leaves → AreSettled leaves
-below_all at leaves past below n state there =
-    let within = slice_get_within leaves n state there in below n state (omega arith) there

@@ -1,5 +1,6 @@
 -- Which rows a store takes, behind those that it has taken, and why it refuses one.
-use Rattle.std.specs.Prelude.{ℕ, ℤ, int_le, Bool, false, nat_eq, nat_le, length, List, Option, Some, None, if◌then◌else◌}
+use Rattle.std.specs.Prelude.{ℕ, ℤ, int_le, Bool, false, nat_eq, nat_le, length, List, Option, Some, None}
+use Rattle.std.specs.Prelude.{if◌then◌else◌}
 use Rattle.std.specs.List.{count_by}
 use Rattle.std.specs.Option.{option_or}
 use Rattle.mon_value.specs.Sources.{last_end, points_of}

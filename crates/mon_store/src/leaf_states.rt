@@ -1,5 +1,6 @@
 // The states of all leaves.
-ghost use Rattle.std.specs.Prelude.{◌≡◌, ◌<◌, ◌≤◌, ◌++◌, ◌+◌, ◌∷◌, [], ℕ, true, drop, length, slice_get, Some, IfOk, IfSome, OnErr, OnOk};
+ghost use Rattle.std.specs.Prelude.{◌≡◌, ◌<◌, ◌≤◌, ◌++◌, ◌+◌, ◌∷◌, [], ℕ, true, drop, length, slice_get, Some, IfOk};
+ghost use Rattle.std.specs.Prelude.{IfSome, OnErr, OnOk};
 ghost use Rattle.mon_value.specs.LeafHistories.{IsWellFormed, is_opened, replica_rows};
 ghost use Rattle.mon_value.specs.Sources.{IsSource};
 ghost use Rattle.mon_topo.specs.Replicas.{HasReplicas};
@@ -8,7 +9,9 @@ ghost use Rattle.std.specs.List.{AllByRecursion};
 ghost use Rattle.mon_store.specs.Writes as writes;
 ghost use Rattle.mon_store.specs.Writes.{fault_behind};
 ghost use Rattle.mon_store.specs.within.Leaves as spec;
-ghost use Rattle.mon_store.specs.within.Leaves.{AllKeep, AreAlike, AreOpened, HasEntry, IsChanged, IsSettled, AreSettled, MayCome, first_rows, first_slot, histories, leaf_of, with_row_from};
+ghost use Rattle.mon_store.specs.within.Leaves.{AllKeep, AreAlike, AreOpened, HasEntry, IsChanged, IsSettled};
+ghost use Rattle.mon_store.specs.within.Leaves.{AreSettled, MayCome, first_rows, first_slot, histories, leaf_of};
+ghost use Rattle.mon_store.specs.within.Leaves.{with_row_from};
 ghost use Rattle.leaf_store.specs.LeafStates.{with_entry, with_settled};
 
 use crate::faults::WriteFault;

@@ -71,8 +71,8 @@ impl Store {
         &self.firsts[leaf.0 as usize]
     }
 
-    /// Writes a row to each first replica of its range, behind the rows that are there, or says why it is refused. Where
-    /// memory runs out the rows stay.
+    /// Writes a row to each first replica of its range, behind the rows that are there, or says why it is refused.
+    /// Where memory runs out the rows stay.
     pub fn write(&mut self, config: &Config, row: &Row) -> Result<(), Refusal<WriteFault>>
         requires kept { IsKept config.now self.old }
         ensures kept { IsKept config.now self.new }

@@ -23,9 +23,9 @@ use mon_value::{Leaf, Refusal, Table, Zone};
 use mql_types::Plan;
 
 impl Store {
-    /// The table of a plan that is asked at a moment: each leaf gives its part over the first replicas that are on it, its
-    /// zone mixes the parts of its leaves, and the root those of the zones. Where a part's own load is above the limit
-    /// the others are not looked at.
+    /// The table of a plan that is asked at a moment: each leaf gives its part over the first replicas that are on
+    /// it, its zone mixes the parts of its leaves, and the root those of the zones. Where a part's own load is above
+    /// the limit the others are not looked at.
     pub fn table(
         &self,
         config: &Config,

@@ -1,6 +1,6 @@
 -- Zones that are begun one after another, and visits.
-use Rattle.std.proofs.Common.{◌≡◌, ℕ, zero, suc, ◌+◌, ◌<◌, ◌≤◌, Bool, true, false, List, [], ◌∷◌, cond, drop, get_or, length, refl, sym, ap, ◌∙◌, arith, None, slice_get, subst, Result, Ok, Err, IfOk}
-use Rattle.std.proofs.lemmas.List.{drop_more, drop_all}
+use Rattle.std.proofs.Common.{◌≡◌, ℕ, zero, suc, ◌+◌, ◌≤◌, Bool, true, List, [], ◌∷◌, cond, drop, length, refl, sym, ap, ◌∙◌, arith, None, slice_get, subst, Result, Ok, Err, IfOk}
+use Rattle.std.proofs.lemmas.List.{drop_all}
 use Rattle.mon_value.specs.declared.positions.Leaf.{Leaf}
 use Rattle.query_core.specs.declared.areas.Area.{Area}
 use Rattle.query_core.specs.declared.courses.Course.{Course}
@@ -28,29 +28,6 @@ next_by : (course : Course) (area : Area) (areas : List Area) (enter : Bool) →
 next_by course area areas enter e =
     ap (λ b. cond b (turn.Goes (at.Entering (begun course) (round_of area) no_word))
     (next_zone areas (left (begun course) area course.seen))) e
-
--- a zone that the root words leave out is passed
-pub zone_passed : (areas : List Area) (course : Course) (area d : Area) → course.begun < length areas
-    → get_or areas course.begun d ≡ area → is_entered course ≡ false
-    → next_zone (drop course.begun areas) course
-    ≡ next_zone (drop (course.begun + 1) areas) (left (begun course) area course.seen)
-zone_passed areas course area d there is out =
-    ap (λ some. next_zone some course) (drop_more areas course.begun d there)
-    ∙ ap (λ one. next_zone (one ∷ drop (course.begun + 1) areas) course) is
-    ∙ next_by course area (drop (course.begun + 1) areas) false out
-
--- one that they let in is entered
-pub zone_entered : (areas : List Area) (course : Course) (area d : Area) → course.begun < length areas
-    → get_or areas course.begun d ≡ area → is_entered course ≡ true
-    → next_zone (drop course.begun areas) course ≡ turn.Goes (at.Entering (begun course) (round_of area) no_word)
-zone_entered areas course area d there is enter =
-    ap (λ some. next_zone some course) (drop_more areas course.begun d there)
-    ∙ ap (λ one. next_zone (one ∷ drop (course.begun + 1) areas) course) is
-    ∙ next_by course area (drop (course.begun + 1) areas) true enter
-
-pub zones_done : (areas : List Area) (course : Course) → length areas ≤ course.begun
-    → next_zone (drop course.begun areas) course ≡ turn.Through course
-zones_done areas course done = ap (λ some. next_zone some course) (drop_all course.begun areas done)
 
 -- ---- the next leaf of several
 

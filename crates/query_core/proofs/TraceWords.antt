@@ -65,12 +65,6 @@ module _ (store : Store) (setting : Setting) (at_entry : Histories) where
   loading_from now known_of count Also [] seen is = record {}
   loading_from now known_of count Also (word ∷ words) seen is = is
 
-  pub loaded_from : (now : View) (known_of : KnownOf) (count : ℕ) (Also : Histories → Type 0) (words : List ℕ) (seen : Seen)
-      → 0 < length words → LoadingSo store setting at_entry now known_of count Also words seen
-      → LoadedSo store setting at_entry now known_of count Also words seen
-  loaded_from now known_of count Also [] seen some is = absurd (omega (arith, some))
-  loaded_from now known_of count Also (word ∷ words) seen some is = is
-
   module _ (before after : View) (grown : IsGrown before after) (since : AreWithin at_entry before.seen)
       (sound : IsSound store before) (known_of : KnownOf)
       (stays : (some others : Bits) → AreBitsWithin some others → (child bucket : ℕ) → known_of some child bucket ≡ true

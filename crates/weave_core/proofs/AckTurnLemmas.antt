@@ -1,11 +1,10 @@
 -- A write's turn at its acknowledgement: its range is told what became of the row.
-use Rattle.std.proofs.Common.{◌≡◌, ℕ, ◌<◌, ◌<ℤ◌, ◌≢◌, Bool, true, false, cond, Option, Some, None, List, [], ◌∷◌, ◌++◌, length, refl, sym, ap, subst, ◌∙◌}
+use Rattle.std.proofs.Common.{◌≡◌, ℕ, ◌<◌, ◌<ℤ◌, ◌≢◌, Bool, true, false, cond, None, List, [], ◌∷◌, ◌++◌, length, refl, sym, ap, subst, ◌∙◌}
 use Rattle.std.specs.Prelude.{IfSome}
 use Rattle.std.specs.List.{flat_map}
 use Rattle.mon_config.specs.declared.config.Config.{Config}
 use Rattle.mon_series.proofs.SourceEnds.{source_later}
 use Rattle.mon_topo.proofs.HeldLemmas.{range_entry_other, range_entry_same}
-use Rattle.mon_topo.specs.HeldHistories.{range_history}
 use Rattle.mon_topo.specs.RangeHistories.{acked}
 use Rattle.mon_topo.specs.Settings.{Setting}
 use Rattle.mon_topo.specs.Zones.{range_numbered}
@@ -37,15 +36,13 @@ use Rattle.write_core.proofs.KeepsLemmas.{changed_same}
 use Rattle.write_core.proofs.ViewLemmas.{joined_whole_range}
 use Rattle.write_core.specs.Invariant.{IsAcking, IsAt}
 use Rattle.write_core.specs.Marks.{ack_of, found_down, some_took}
-use Rattle.write_core.specs.Program.{Acking, Ended, Marked, Not, Stage, Verdict, end_of_refusal, end_of_verdict}
+use Rattle.write_core.specs.Program.{Acking, Ended, Marked, Not, Stage, Verdict, end_of_verdict}
 use Rattle.write_core.specs.Steps.{acknowledged, step}
 use Rattle.write_core.specs.Views.{View, joined, of_leaf, of_range, with_range_entry}
-use Rattle.write_core.specs.World.{Actor, World, Writer, Writes, at_range, view_of, writes_on}
+use Rattle.write_core.specs.World.{World, Writer, Writes, at_range, view_of, writes_on}
 use Rattle.write_core.specs.declared.asks.WriteEnd.{WriteEnd}
 use Rattle.write_core.specs.declared.asks.WriteEnd.TheVariants as end
 use Rattle.write_core.specs.declared.asks.WriteTold.TheVariants as told
-use Rattle.write_core.specs.declared.marks.Mark.{Mark}
-use Rattle.write_core.specs.declared.marks.Refused.{Refused}
 use Rattle.write_core.specs.declared.marks.Refused.TheVariants as refused
 
 if_written : (b : Bool) (ack : Ack) (founds : List FoundDown) (P : Type 0) → P

@@ -1,25 +1,20 @@
 -- A step of an actor that has ended, or whose call has no event; and what a step asks of a write or a query.
-use Rattle.std.proofs.Common.{◌≡◌, ℕ, Bool, true, false, not, cond, Option, Some, None, List, refl, sym, ap, subst, ◌∙◌, inl, inr}
-use Rattle.std.specs.Prelude.{is_some}
+use Rattle.std.proofs.Common.{◌≡◌, ℕ, Bool, true, Option, Some, List, refl, sym, ap, subst}
 use Rattle.mon_config.specs.declared.config.Config.{Config}
-use Rattle.query_core.specs.declared.asks.Ask.{Ask}
 use Rattle.weave_core.proofs.QueryStepLemmas.{at_asking, query_steps}
 use Rattle.weave_core.proofs.WriteStepLemmas.{at_work, write_steps}
-use Rattle.weave_core.specs.ActorAgreements.{IsActorSo, IsCourseSo, IsDismissed}
-use Rattle.weave_core.specs.ActorSteps.{ActorSteps, HadEnded, HasStepped, IsIn, IsSomewhere, QueriedSo, WrittenSo}
+use Rattle.weave_core.specs.ActorAgreements.{IsActorSo, IsCourseSo}
+use Rattle.weave_core.specs.ActorSteps.{ActorSteps, HasStepped, IsIn, IsSomewhere, QueriedSo, WrittenSo}
 use Rattle.weave_core.specs.Core.{Core, Reader}
-use Rattle.weave_core.specs.EventNames.{event_of_query, event_of_write}
 use Rattle.weave_core.specs.QueryTurns.{IsAskedSomewhere, IsAsking, QueriesSo}
-use Rattle.weave_core.specs.States.{Asking, Dismissed, Eventless, Role, State, Undeclared, Writing, fault_in, step_fault, store_of}
+use Rattle.weave_core.specs.States.{Asking, Dismissed, Eventless, Role, State, Undeclared, Writing, fault_in, store_of}
 use Rattle.weave_core.specs.Steps.{StepsIn, with_role}
-use Rattle.weave_core.specs.WriteTurns.{IsAtWork, IsInSomeWorld, WritesSo}
+use Rattle.weave_core.specs.WriteTurns.{IsAtWork, WritesSo}
 use Rattle.weave_core.specs.declared.actors.Actor.{Actor}
 use Rattle.weave_core.specs.declared.actors.Course.{Course}
 use Rattle.weave_core.specs.declared.actors.Course.TheVariants as course
 use Rattle.weave_core.specs.declared.calls.Stepped.{Stepped}
 use Rattle.weave_core.specs.declared.calls.Stepped.TheVariants as stepped
-use Rattle.weave_core.specs.declared.calls.WeaveFault.{WeaveFault}
-use Rattle.weave_core.specs.declared.calls.WeaveFault.TheVariants as fault
 use Rattle.weave_core.specs.declared.queries.QueryTurn.{QueryTurn}
 use Rattle.weave_core.specs.declared.queries.QueryTurn.TheVariants as query_turn
 use Rattle.weave_core.specs.declared.queries.Querying.{Querying}
@@ -30,32 +25,10 @@ use Rattle.weave_core.specs.declared.writes.WriteTurn.TheVariants as write_turn
 use Rattle.weave_core.specs.declared.writes.Writing.{Writing as Write}
 use Rattle.write_core.proofs.KeepsLemmas.{changed_same}
 use Rattle.write_core.specs.World.{Actor as Doer, World}
-use Rattle.write_core.specs.declared.asks.WriteAsk.{WriteAsk}
 
 -- ---- an actor that has ended
 
 module _ (config : Config) (state : State (store_of config)) (i : ℕ) where
-  ended_fault : (role : Role) (begun : Bool) (sight : Sight)
-      → IsCourseSo config i (state.core.world.actors i) (state.core.readers i) role course.Ended begun sight
-      → fault_in (store_of config) state i role ≡ Some fault.Finished
-  ended_fault Undeclared begun sight h = absurd h
-  ended_fault (Eventless text) begun sight h = absurd h
-  ended_fault Dismissed begun sight h = refl
-  ended_fault Writing begun sight h =
-      ap (λ (asks : WriteAsk). cond (not (is_some (event_of_write asks))) (Some fault.Finished) None) h.ended
-  ended_fault Asking begun sight h =
-      ap (λ (asks : Ask). cond (not (is_some (event_of_query asks))) (Some fault.Finished) None) h.ended
-
-  pub had_ended : (store : Store) (sight : Sight) (begun : Bool)
-      → IsIn config state i store (record { course = course.Ended; sight = sight; begun = begun })
-      → (own : Actor) → own ≡ record { course = course.Ended; sight = sight; begun = begun }
-      → ActorSteps config state i store (record { course = course.Ended; sight = sight; begun = begun }) own None
-  had_ended store sight begun here own same = record {
-    fault = ended_fault (state.roles i) begun sight here.actor;
-    shared = here.shared;
-    same = same;
-  }
-
   -- ---- one whose call has no event
 
   module _ (store : Store) (text : List ℕ) (sight : Sight) (begun : Bool)
@@ -91,16 +64,6 @@ module _ (config : Config) (state : State (store_of config)) (i : ℕ) where
 
 -- ---- what a step asks for
 
-pub writes_somewhere : (store : Store) (writing : Write) (sight : Sight) (begun : Bool)
-    → IsSomewhere store (record { course = course.Writes writing; sight = sight; begun = begun })
-    → IsInSomeWorld store writing sight
-writes_somewhere store writing sight begun some = record {
-  config = some.config;
-  world = some.state.core.world;
-  i = some.i;
-  at_work = at_work some.config some.state some.i store writing sight begun some.is_in;
-}
-
 pub asks_somewhere : (store : Store) (querying : Querying) (sight : Sight) (begun : Bool)
     → IsSomewhere store (record { course = course.Queries querying; sight = sight; begun = begun })
     → IsAskedSomewhere store querying sight
@@ -130,12 +93,6 @@ queried_config config core i querying new before now (query_turn.Ended end) h = 
 own_is : (own : Actor) (one : Course) → own.course ≡ one → own ≡ record { course = one; sight = own.sight; begun = own.begun }
 own_is own one e = λ k. record { course = e k; sight = own.sight; begun = own.begun }
 
-pub write_asks_for : (store : Store) (own : Actor) (writing : Write) → own.course ≡ course.Writes writing
-    → IsSomewhere store own → IsInSomeWorld store writing own.sight
-write_asks_for store own writing e some =
-    writes_somewhere store writing own.sight own.begun
-    (subst (λ (one : Actor). IsSomewhere store one) (own_is own (course.Writes writing) e) some)
-
 pub query_asks_for : (store : Store) (own : Actor) (querying : Querying) → own.course ≡ course.Queries querying
     → IsSomewhere store own → IsAskedSomewhere store querying own.sight
 query_asks_for store own querying e some =
@@ -147,13 +104,6 @@ module _ (config : Config) (state : State (store_of config)) (i : ℕ) (store : 
   as_course : (one : Course) → own.course ≡ one
       → IsIn config state i store (record { course = one; sight = own.sight; begun = own.begun })
   as_course one e = subst (λ (actor : Actor). IsIn config state i store actor) (own_is own one e) here
-
-  pub ended_step : own.course ≡ course.Ended → (next : Actor)
-      → next ≡ record { course = course.Ended; sight = own.sight; begun = own.begun }
-      → ActorSteps config state i store own next None
-  ended_step e next same =
-      subst (λ (one : Actor). ActorSteps config state i store one next None) (sym (own_is own course.Ended e))
-      (had_ended config state i store own.sight own.begun (as_course course.Ended e) next same)
 
   pub refused_step : (text : List ℕ) → own.course ≡ course.Refused text → (next : Actor)
       → next ≡ record { course = course.Ended; sight = own.sight; begun = true }

@@ -1,11 +1,10 @@
 -- A write at work: at which replica it is, and what is known of the seat that its next event needs.
-use Rattle.std.proofs.Common.{◌≡◌, ℕ, ◌<◌, Bool, true, false, cond, Option, Some, None, List, [], ◌∷◌, ◌++◌, length, map, get_or, refl, sym, ap, subst, ◌∙◌, inl, inr, arith}
-use Rattle.std.specs.Prelude.{slice_get, ◌≢◌, is_some, option_map}
+use Rattle.std.proofs.Common.{◌≡◌, ℕ, ◌<◌, Bool, true, false, cond, None, List, [], ◌∷◌, ◌++◌, length, map, get_or, refl, sym, ap, subst, ◌∙◌, inl, inr, arith}
+use Rattle.std.specs.Prelude.{◌≢◌}
 use Rattle.std.proofs.lemmas.Bool.{cases_lt}
 use Rattle.std.proofs.lemmas.List.{get_or_past, length-map}
 use Rattle.mon_config.specs.declared.config.Config.{Config}
 use Rattle.mon_topo.proofs.RangeHistoryLemmas.{all_back}
-use Rattle.mon_topo.specs.Settings.{Setting}
 use Rattle.mon_topo.specs.Zones.{leaves_in, ranges_in}
 use Rattle.mon_value.specs.LeafHistories.{is_opened}
 use Rattle.mon_value.specs.declared.histories.Entry.{Entry}
@@ -13,8 +12,8 @@ use Rattle.mon_value.specs.declared.positions.Leaf.{Leaf}
 use Rattle.mon_value.specs.declared.positions.Range.{Range}
 use Rattle.mon_value.specs.declared.positions.Slot.{Slot}
 use Rattle.weave_core.proofs.SeatLemmas.{parts_alike}
-use Rattle.weave_core.specs.Writers.{IsWriterSo, LooksAtOne, RaisesBelow, writer_of}
-use Rattle.weave_core.specs.Agreements.{AreShared, IsLeafSo, IsRangeSo}
+use Rattle.weave_core.specs.Writers.{LooksAtOne, RaisesBelow, writer_of}
+use Rattle.weave_core.specs.Agreements.{IsLeafSo, IsRangeSo}
 use Rattle.weave_core.specs.Holders.{leaf_inside}
 use Rattle.weave_core.specs.Sights.{AreAlike, range_sight, sight_of}
 use Rattle.weave_core.specs.States.{store_of}
@@ -25,12 +24,12 @@ use Rattle.weave_core.specs.declared.sights.Sight.{Sight}
 use Rattle.weave_core.specs.declared.store.Store.{Store}
 use Rattle.weave_core.specs.declared.writes.Writing.{Writing}
 use Rattle.write_core.proofs.StepLemmas.{writer_of as kept_writer}
-use Rattle.write_core.specs.Invariant.{IsAt, IsGoing, IsKept, IsMark, IsWriter}
+use Rattle.write_core.specs.Invariant.{IsGoing, IsMark, IsWriter}
 use Rattle.write_core.specs.Marks.{waiting}
 use Rattle.write_core.specs.Program.{Acking, Ended, Entering, Inside, Locking, Marked, Not, Reserving, Stage, Verdict, after, ask_of, done_inside, enter, entering, inside, reserve, reserving}
 use Rattle.write_core.specs.Rounds.{Round, again, is_none_left, is_through, looked, marks_of, round_of, skipped}
-use Rattle.write_core.specs.Views.{View, of_leaf}
-use Rattle.write_core.specs.World.{World, Writer, Writes, view_of}
+use Rattle.write_core.specs.Views.{View}
+use Rattle.write_core.specs.World.{World, Writer, view_of}
 use Rattle.write_core.specs.declared.asks.WriteAsk.{WriteAsk}
 use Rattle.write_core.specs.declared.asks.WriteAsk.TheVariants as ask
 use Rattle.write_core.specs.declared.asks.WriteTold.{WriteTold}

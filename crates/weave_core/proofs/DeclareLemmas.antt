@@ -28,13 +28,14 @@ use Rattle.weave_core.specs.Declarations.{Declares, QueryBegins, WriteBegins, ne
 use Rattle.weave_core.specs.EndTexts.{no_zone_text}
 use Rattle.weave_core.specs.FirstHistories.{first_histories}
 use Rattle.weave_core.specs.Holders.{AreHolders, HoldsLeaf, HoldsRange}
+use Rattle.weave_core.specs.LawfulLines.{IsLawfulCall}
 use Rattle.weave_core.specs.Licensed.{IsReader}
 use Rattle.weave_core.specs.NewActors.{BeginsToWrite, IsCourseOf, IsNewActor}
 use Rattle.weave_core.specs.QueryPlans.{BeginsToAsk}
 use Rattle.weave_core.specs.Sights.{sight_of}
 use Rattle.weave_core.specs.States.{Asking, Dismissed, Eventless, Role, State, Undeclared, Writing, declared_in, store_of, writes_begun}
 use Rattle.weave_core.specs.Steps.{with_event, with_role}
-use Rattle.weave_core.specs.WeaveCalls.{DeclaresSo, IsKept, IsLawfulCall, MayDeclare}
+use Rattle.weave_core.specs.WeaveCalls.{DeclaresSo, IsKept, MayDeclare}
 use Rattle.weave_core.specs.declared.actors.Actor.{Actor}
 use Rattle.weave_core.specs.declared.actors.Course.{Course}
 use Rattle.weave_core.specs.declared.actors.Course.TheVariants as course
@@ -318,7 +319,7 @@ module _ (config : Config) (state : State (store_of config)) (i : ℕ) where
     -- whatever it is to do
 
     declared_by : (what : Call) (one : Course) (begun : Bool) (sight : Sight) → begun ≡ false → sight ≡ First
-        → IsLawfulCall config what → IsCourseOf config i what one → IsDeclaredSo what one begun sight
+        → IsLawfulCall config.schemas what → IsCourseOf config i what one → IsDeclaredSo what one begun sight
     declared_by (call.Write row) (course.Refused line) begun sight new seen lawful h =
         subst (λ (text : List ℕ). IsDeclaredSo (call.Write row) (course.Refused text) begun sight) (sym h.1)
         (eventless_declared (call.Write row) no_zone_text begun sight new seen

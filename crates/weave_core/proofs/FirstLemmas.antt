@@ -21,7 +21,7 @@ use Rattle.mon_topo.proofs.PartLemmas.{length-zones_of}
 use Rattle.mon_topo.proofs.RangeHistoryLemmas.{all_at}
 use Rattle.mon_topo.specs.HeldHistories.{AreAtHome, AreHeld, BeginsWith, Histories, IsBorneOut, IsHeldBy, leaf_history, range_history}
 use Rattle.mon_topo.specs.RangeHistories as spec
-use Rattle.mon_topo.specs.RangeHistories.{acked, opened, serving}
+use Rattle.mon_topo.specs.RangeHistories.{acked, opened}
 use Rattle.mon_topo.specs.Replicas.{HasReplicas, same_leaf}
 use Rattle.mon_topo.specs.Zones.{first_replicas, leaf_numbered, leaves_in, range_numbered, ranges_in}
 use Rattle.mon_topo.specs.declared.zones.ZoneSpec.{ZoneSpec}

@@ -1,10 +1,9 @@
 -- A weave after an actor that has not begun heard from one that has ended.
-use Rattle.std.proofs.Common.{◌≡◌, ◌≢◌, ℕ, zero, suc, ◌<◌, Bool, true, false, not, cond, Option, Some, None, List, [], ◌∷◌, Vec, get_or, length, set, refl, sym, ap, subst, ◌∙◌, inl, inr, arith}
+use Rattle.std.proofs.Common.{◌≡◌, ◌≢◌, ℕ, zero, suc, ◌<◌, Bool, true, false, not, cond, Option, Some, None, List, [], ◌∷◌, get_or, length, set, refl, sym, ap, subst, ◌∙◌, inl, inr, arith}
 use Rattle.std.specs.Prelude.{◌||◌, IfSome, option_map, slice_get}
 use Rattle.std.proofs.lemmas.Bool.{cases_eq}
-use Rattle.std.proofs.lemmas.List.{length-set, with_items_is}
+use Rattle.std.proofs.lemmas.List.{length-set}
 use Rattle.std.proofs.lemmas.Option.{slice_get_read}
-use Rattle.std.specs.Vec.{with_items}
 use Rattle.mon_config.specs.declared.config.Config.{Config}
 use Rattle.mon_topo.proofs.HeldLemmas.{seen_within_through}
 use Rattle.mon_topo.specs.HeldHistories.{Histories}
@@ -312,12 +311,6 @@ got_there : {X : Type 0} (xs : List X) (n : ℕ) (x : X) → slice_get xs n ≡ 
 got_there [] n x e = absurd cc
 got_there (y ∷ xs) zero x e = omega arith
 got_there (y ∷ xs) (suc n) x e = let later = got_there xs n x e in omega (arith, later)
-
--- the actors when one of them was taken out
-pub out_is : {Z : Type 0} (actors : Vec (Option Actor) Z) (left : List (Option Actor)) (j : ℕ)
-    → left ≡ set actors.items j None → (with_items actors left).items ≡ set actors.items j None
-out_is actors left j is =
-    with_items_is actors left (ap length is ∙ length-set actors.items j None ∙ sym actors.ok.0) ∙ is
 
 pub out_there : (actors left : List (Option Actor)) (j n : ℕ) → left ≡ set actors j None → n < length actors → n < length left
 out_there actors left j n is there =

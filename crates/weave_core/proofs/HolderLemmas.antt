@@ -1,14 +1,11 @@
 -- Who holds ranges and leaves, event by event.
-use Rattle.std.proofs.Common.{◌≡◌, ◌≢◌, ℕ, Bool, true, false, cond, Option, Some, None, List, [], ◌∷◌, map, refl, sym, ap, subst, ◌∙◌, inl, inr}
+use Rattle.std.proofs.Common.{◌≡◌, ◌≢◌, ℕ, Bool, true, false, cond, Option, Some, None, List, [], ◌∷◌, map, refl, sym, ap, subst, ◌∙◌}
 use Rattle.std.specs.Prelude.{option_map}
-use Rattle.std.proofs.lemmas.Bool.{cases_eq}
 use Rattle.std.proofs.lemmas.Option.{none-some, same_Some}
 use Rattle.mon_topo.specs.Settings.{Setting, zone_of_leaf}
 use Rattle.mon_value.specs.declared.positions.Leaf.{Leaf}
-use Rattle.mon_value.specs.declared.positions.Range.{Range}
-use Rattle.weave_core.proofs.AtWorkLemmas.{none_entering, none_reserving}
 use Rattle.weave_core.specs.Holders.{AreHolders, HoldsLeaf, HoldsRange, IsHolding, leaf_inside}
-use Rattle.write_core.proofs.KeepsLemmas.{changed_by, changed_other, changed_same}
+use Rattle.write_core.proofs.KeepsLemmas.{changed_by, changed_same}
 use Rattle.write_core.specs.Program.{Acking, Ended, Entering, Inside, Locking, Marked, Reserving, Stage, Verdict, after, entering, reserving}
 use Rattle.write_core.specs.Rounds.{Round, again, is_through, looked, marks_of, round_of, skipped}
 use Rattle.write_core.specs.Marks.{waiting}

@@ -1,6 +1,6 @@
 -- A write's turn at a leaf: it asks for room there, or enters it.
-use Rattle.std.proofs.Common.{◌≡◌, ℕ, ◌<◌, Bool, true, false, cond, Option, Some, None, List, [], ◌∷◌, length, refl, sym, ap, subst, ◌∙◌}
-use Rattle.std.specs.Prelude.{◌≢◌, option_map}
+use Rattle.std.proofs.Common.{◌≡◌, ℕ, Bool, true, false, cond, Option, Some, None, List, [], ◌∷◌, length, refl, sym, ap, subst, ◌∙◌}
+use Rattle.std.specs.Prelude.{option_map}
 use Rattle.std.proofs.lemmas.Option.{none-some}
 use Rattle.mon_config.specs.declared.config.Config.{Config}
 use Rattle.mon_topo.specs.Settings.{Setting}
@@ -12,14 +12,15 @@ use Rattle.leaf_store.specs.LeafBuckets.{is_unraised}
 use Rattle.weave_core.proofs.AtWorkLemmas.{IsGoingOn, StandsBefore, below_entering, below_reserving, going_entering, going_inside, going_reserving, none_entering, none_reserving, own}
 use Rattle.weave_core.proofs.MeetingLemmas.{leaf_met}
 use Rattle.weave_core.proofs.SeatLemmas.{leaf_so_then, same_at_leaf, shared_at_leaf}
-use Rattle.weave_core.proofs.RaiseLemmas.{AllBelow, all_below}
+use Rattle.leaf_store.proofs.BucketLemmas.{AllBelow}
+use Rattle.weave_core.proofs.RaiseLemmas.{all_below}
 use Rattle.weave_core.proofs.WriteTurnLemmas.{can_come, not_mine_leaf, step_is, waits_so, went_so, writer_then}
 use Rattle.weave_core.specs.Agreements.{IsLeafSo}
-use Rattle.weave_core.specs.Holders.{HoldsLeaf, leaf_inside}
+use Rattle.weave_core.specs.Holders.{leaf_inside}
 use Rattle.weave_core.specs.Meetings.{met_at_leaf}
 use Rattle.weave_core.specs.Sights.{sight_of}
 use Rattle.weave_core.specs.States.{holder_for_actor, holder_for_write, store_of}
-use Rattle.weave_core.specs.WriteEvents.{AreToRaise, ChangesLeaf, Enters, EntersIf, IsHeldUp, Reserves, ReservesIf, up_or_down}
+use Rattle.weave_core.specs.WriteEvents.{ChangesLeaf, Enters, EntersIf, IsHeldUp, Reserves, ReservesIf, up_or_down}
 use Rattle.weave_core.specs.WriteTurns.{IsAtWork, WentSo, WriteWaits, WriteWent}
 use Rattle.weave_core.specs.Writers.{RaisesBelow, writer_of}
 use Rattle.weave_core.specs.declared.leaves.LeafSeat.{LeafSeat}
@@ -27,12 +28,11 @@ use Rattle.weave_core.specs.declared.sights.Sight.{Sight}
 use Rattle.weave_core.specs.declared.store.Store.{Store}
 use Rattle.weave_core.specs.declared.writes.Writing.{Writing}
 use Rattle.write_core.proofs.KeepsLemmas.{changed_same}
-use Rattle.write_core.specs.Program.{Entering, Inside, Reserving, Stage, after, ask_of}
+use Rattle.write_core.specs.Program.{Entering, Reserving, Stage, after, ask_of}
 use Rattle.write_core.specs.Rounds.{Round, looked}
 use Rattle.write_core.specs.Steps.{AreUnraised, IsToldAtEntry, IsToldByLeaf, entrant, unchanged}
 use Rattle.write_core.specs.Views.{View, joined, of_leaf}
-use Rattle.write_core.specs.World.{Actor, World, Writer, Writes, at_leaf, view_of, writes_on}
-use Rattle.write_core.specs.declared.asks.WriteAsk.TheVariants as ask
+use Rattle.write_core.specs.World.{Actor, World, Writer, at_leaf, view_of, writes_on}
 use Rattle.write_core.specs.declared.asks.WriteTold.{WriteTold}
 use Rattle.write_core.specs.declared.asks.WriteTold.TheVariants as told
 use Rattle.write_core.specs.declared.marks.Fate.TheVariants as fate

@@ -1,5 +1,6 @@
 pub mod AckTurnLemmas
 pub mod ActorStepLemmas
+pub mod AskingLemmas
 pub mod AtWorkLemmas
 pub mod CoreLemmas
 pub mod CourseLemmas
@@ -8,6 +9,7 @@ pub mod EndTextLemmas
 pub mod FirstLemmas
 pub mod HearingLemmas
 pub mod HolderLemmas
+pub mod LeafAnswers
 pub mod LeafTurnLemmas
 pub mod LineRunLemmas
 pub mod LockLemmas
@@ -22,13 +24,13 @@ pub mod BeginLemmas
 pub mod PlaceLemmas
 pub mod PlanBuckets
 pub mod PutTurnLemmas
-pub mod QueryAnswers
 pub mod QueryPlanLemmas
 pub mod QuerySeats
 pub mod QueryStepLemmas
 pub mod QueryTurnLemmas
 pub mod RaiseLemmas
 pub mod RaiseTurnLemmas
+pub mod RangeAnswers
 pub mod RangeLemmas
 pub mod ReachedLemmas
 pub mod ReaderAnswers
@@ -41,6 +43,7 @@ pub mod StepLemmas
 pub mod TurnLemmas
 pub mod WeaveLemmas
 pub mod WeaveStepLemmas
+pub mod WordAnswers
 pub mod WordLemmas
 pub mod WriteReturns
 pub mod WriteStepLemmas

@@ -27,16 +27,7 @@ module _ (config : Config) (number : ℕ) where
       → Numbered config number Runs (nat_lt MOST_LINES number) printed
   within_most Runs printed e runs = subst (λ (b : Bool). Numbered config number Runs b printed) (sym e) runs
 
-  -- one that may not be
-  past_most : (Runs : Type 0) → nat_lt MOST_LINES number ≡ true
-      → Numbered config number Runs (nat_lt MOST_LINES number) (refused_at number fault.BadLine)
-  past_most Runs e = subst (λ (b : Bool). Numbered config number Runs b (refused_at number fault.BadLine)) (sym e) refl
-
   module _ (state : State (store_of config)) (line : List ℕ) where
-    pub stopped_past : (before : List ℕ) → nat_lt MOST_LINES number ≡ true
-        → HasStopped config state number line (record { line = number; fault = fault.BadLine }) before before
-    stopped_past before e = record { runs = λ lines. past_most _ e; prints = refl }
-
     pub remark_runs : (weave : Weave) (before : List ℕ) → nat_lt MOST_LINES number ≡ false → is_remark line ≡ true
         → Agrees config weave state → HasRun config state number line weave before before
     remark_runs weave before few remark agrees = record {

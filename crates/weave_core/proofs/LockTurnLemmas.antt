@@ -1,24 +1,23 @@
 -- A write's turn at its range's lock.
-use Rattle.std.proofs.Common.{◌≡◌, ℕ, Bool, true, false, Option, Some, None, List, length, refl, sym, ap, subst, ◌∙◌}
-use Rattle.std.specs.Prelude.{◌≢◌, is_some, option_map, slice_get}
+use Rattle.std.proofs.Common.{◌≡◌, ℕ, Bool, true, false, Some, List, refl, sym, ap, subst, ◌∙◌}
+use Rattle.std.specs.Prelude.{◌≢◌}
 use Rattle.mon_config.specs.declared.config.Config.{Config}
 use Rattle.mon_topo.specs.Settings.{Setting}
 use Rattle.mon_value.specs.declared.histories.RangeEntry.{RangeEntry}
-use Rattle.mon_value.specs.declared.positions.Leaf.{Leaf}
 use Rattle.mon_value.specs.declared.positions.Range.{Range}
 use Rattle.weave_core.proofs.AtWorkLemmas.{below_locked, going_locked, none_locked, own, range_in_truth}
 use Rattle.weave_core.proofs.LockLemmas.{lock_true}
 use Rattle.weave_core.proofs.MeetingLemmas.{range_met}
 use Rattle.weave_core.proofs.SeatLemmas.{same_at_range, shared_at_range}
 use Rattle.weave_core.proofs.WriteTurnLemmas.{can_come, not_mine_range, step_is, waits_so, went_so, writer_then}
-use Rattle.weave_core.specs.Writers.{IsWriterSo, writer_of}
-use Rattle.weave_core.specs.Agreements.{AreShared, IsRangeSo}
+use Rattle.weave_core.specs.Writers.{writer_of}
+use Rattle.weave_core.specs.Agreements.{IsRangeSo}
 use Rattle.weave_core.specs.Holders.{HoldsRange, IsHolding, leaf_inside}
 use Rattle.weave_core.specs.Meetings.{met_at_range}
 use Rattle.weave_core.specs.RangeAnswers.{lock_answer}
 use Rattle.weave_core.specs.Sights.{sight_of}
 use Rattle.weave_core.specs.States.{holder_for_actor, holder_for_write, store_of}
-use Rattle.weave_core.specs.WriteEvents.{ChangesRange, IsHeldUp, IsToldSo, Locks, LocksIf}
+use Rattle.weave_core.specs.WriteEvents.{ChangesRange, IsHeldUp, Locks, LocksIf}
 use Rattle.weave_core.specs.WriteTurns.{IsAtWork, WentSo, WriteWaits, WriteWent}
 use Rattle.weave_core.specs.declared.ranges.RangeSeat.{RangeSeat}
 use Rattle.weave_core.specs.declared.sights.Sight.{Sight}

@@ -1,5 +1,5 @@
 -- A write's turn inside a leaf: its row is put.
-use Rattle.std.proofs.Common.{◌≡◌, ℕ, ◌+◌, ◌<◌, Bool, true, false, Option, Some, None, List, [], ◌∷◌, ◌++◌, length, refl, sym, ap, subst, ◌∙◌, length-append}
+use Rattle.std.proofs.Common.{◌≡◌, ℕ, ◌+◌, ◌<◌, None, List, [], ◌∷◌, ◌++◌, length, refl, sym, ap, subst, ◌∙◌, length-append}
 use Rattle.mon_config.specs.declared.config.Config.{Config}
 use Rattle.mon_topo.proofs.HeldLemmas.{leaf_entry_other, leaf_entry_same}
 use Rattle.mon_topo.specs.HeldHistories.{leaf_history}
@@ -17,7 +17,7 @@ use Rattle.weave_core.proofs.SightLemmas.{leaf_seen, noted_over}
 use Rattle.weave_core.proofs.WriteTurnLemmas.{can_come, step_is, went_so, writer_then}
 use Rattle.weave_core.specs.Agreements.{IsLeafSo}
 use Rattle.weave_core.specs.Meetings.{met_at_leaf}
-use Rattle.weave_core.specs.Sights.{joined_sight, sight_of, with_leaf_sight}
+use Rattle.weave_core.specs.Sights.{sight_of, with_leaf_sight}
 use Rattle.weave_core.specs.States.{store_of}
 use Rattle.weave_core.specs.WriteEvents.{ChangesLeaf, Puts}
 use Rattle.weave_core.specs.WriteTurns.{IsAtWork, WriteWent}
@@ -155,10 +155,6 @@ module _ (config : Config) (world : World) (i : ℕ) (store : Store) (writing : 
 module _ (config : Config) (world : World) (i : ℕ) (store : Store) (writing : Writing) (sight : Sight)
     (work : IsAtWork config world i store writing sight) (slot : Slot) (leaf : Leaf)
     (at : StandsBefore (λ round. Inside round [] []) writing.machine.stage slot leaf) (seat : LeafSeat) where
-  pub put_leaf_there : leaf.0 < length world.truth.seen.leaves
-  put_leaf_there = subst (λ (l : Leaf). l.0 < length world.truth.seen.leaves) at.leaf_is
-      (leaf_here config world i store writing sight work at.done at.left at.mark at.is)
-
   pub follows : IsLeafSo config world leaf seat
       → IsWellFormed (seat.state.history ++ entry.Put writing.number writing.range slot writing.row ∷ [])
   follows so =

@@ -1,5 +1,5 @@
 -- A step of an actor that queries.
-use Rattle.std.proofs.Common.{◌≡◌, ◌≢◌, ℕ, ℤ, Bool, true, false, not, cond, Option, Some, None, List, [], ◌∷◌, ◌++◌, refl, sym, ap, subst, ◌∙◌, inl, inr}
+use Rattle.std.proofs.Common.{◌≡◌, ◌≢◌, ℕ, ℤ, Bool, true, not, cond, Option, Some, None, List, [], ◌∷◌, ◌++◌, refl, sym, ap, subst, ◌∙◌, inl, inr}
 use Rattle.std.specs.Prelude.{is_some}
 use Rattle.mon_config.specs.declared.config.Config.{Config}
 use Rattle.mon_topo.specs.Settings.{Setting as Store'}
@@ -12,12 +12,12 @@ use Rattle.query_core.specs.declared.asks.Ask.TheVariants as ask
 use Rattle.query_core.specs.declared.asks.Told.{Told}
 use Rattle.query_core.specs.declared.stages.Stage.{Stage}
 use Rattle.query_core.specs.declared.stages.Stage.TheVariants as at
-use Rattle.weave_core.specs.ActorAgreements.{HasQueried, IsActorSo, IsCourseSo, IsQuerying}
-use Rattle.weave_core.specs.ActorSteps.{ActorSteps, HasStepped, IsIn, QueriedSo}
-use Rattle.weave_core.specs.Core.{Core, Happens, Reader, Tells, asked_now, came, query_now, told_on, view_told, world_then, world_told}
+use Rattle.weave_core.specs.ActorAgreements.{IsActorSo, IsCourseSo, IsQuerying}
+use Rattle.weave_core.specs.ActorSteps.{ActorSteps, IsIn, QueriedSo}
+use Rattle.weave_core.specs.Core.{Reader, Tells, asked_now, told_on, view_told, world_then}
 use Rattle.weave_core.specs.EndTexts.{query_text}
 use Rattle.weave_core.specs.EventNames.{event_of_query}
-use Rattle.weave_core.specs.QueryTurns.{IsAsking, QueriesSo, QueryEnded, QueryWaits, QueryWent}
+use Rattle.weave_core.specs.QueryTurns.{IsAsking, QueriesSo}
 use Rattle.weave_core.specs.States.{Asking, Dismissed, Eventless, Role, State, Undeclared, Writing, fault_in, holder_in, is_any, step_fault, store_of}
 use Rattle.weave_core.specs.Steps.{StepsIn, query_stepped, with_event}
 use Rattle.weave_core.specs.declared.actors.Actor.{Actor}

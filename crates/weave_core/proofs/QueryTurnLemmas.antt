@@ -1,6 +1,6 @@
 -- A query that was told what the core tells it is as in the core after its event.
 use Rattle.std.proofs.Common.{◌≡◌, ◌∙◌, ◌≤ℤ◌, ◌<◌, ℕ, ℤ, pos, List, [], ◌∷◌, ◌++◌, Result, refl, sym, ap, subst}
-use Rattle.std.specs.Prelude.{Option, Some, None, IfOk, Ok, Err}
+use Rattle.std.specs.Prelude.{Option, Some, IfOk, Ok, Err}
 use Rattle.std.specs.List.{AllByRecursion}
 use Rattle.mon_config.specs.declared.config.Config.{Config}
 use Rattle.mon_topo.proofs.HeldLemmas.{seen_within_through}
@@ -129,7 +129,3 @@ module _ (config : Config) (core : Core (store_of config)) (k : ℕ) (store : St
       → (some : QueryTurn) → TurnsBy querying answer some → QueriesSo config core k querying new sight now some
   answered_turns found answer e is some by =
       turns answer (subst (AnswersSo config core k new sight now) e is) some by
-
-  pub waiting_turn : (found : Option Told) → found ≡ None → AnswersSo config core k new sight now found
-      → QueriesSo config core k querying new sight now (turn.Waits querying)
-  waiting_turn found e is = (refl, subst (AnswersSo config core k new sight now) e is)

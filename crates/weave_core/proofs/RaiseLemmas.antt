@@ -1,15 +1,9 @@
 -- Buckets that are to be raised are below the number of buckets.
-use Rattle.std.proofs.Common.{◌≡◌, ℕ, ◌+◌, ◌-◌, ◌^◌, ◌<◌, ◌≤◌, ◌&&◌, ◌||◌, ◌==◌, Bool, true, false, not, Option, Some, None, List, [], ◌∷◌, ◌++◌, map, refl, sym, ap, subst, ◌∙◌, arith}
-use Rattle.std.specs.List.{AllByRecursion, flat_map, zip}
+use Rattle.std.proofs.Common.{◌≡◌, ℕ, ◌+◌, ◌-◌, ◌^◌, ◌<◌, ◌≤◌, ◌&&◌, ◌||◌, ◌==◌, Bool, true, false, not, Option, Some, None, List, [], ◌∷◌, refl, sym, subst, ◌∙◌, arith}
 use Rattle.std.proofs.lemmas.Bool.Decides.{nat_tests}
-use Rattle.std.proofs.lemmas.Nat.{mod_below}
-use Rattle.mon_hints.specs.Excerpts.{value_excerpts}
-use Rattle.mon_hints.specs.Fingerprints.{bucket_of, fingerprint_of}
 use Rattle.mon_hints.specs.HistoryBuckets.{history_buckets}
-use Rattle.mon_hints.specs.Hints.{field_buckets, series_buckets, value_buckets}
+use Rattle.leaf_store.proofs.BucketLemmas.{AllBelow, bucket_below}
 use Rattle.mon_schema.specs.SchemaLists.{SchemaLists}
-use Rattle.mon_value.specs.declared.schemas.Field.{Field}
-use Rattle.mon_value.specs.declared.values.FieldValue.{FieldValue}
 use Rattle.leaf_store.specs.LeafBuckets.{buckets_by, is_unraised, key_buckets}
 use Rattle.leaf_store.specs.LeafStates.{LeafView}
 use Rattle.mon_hints.specs.BucketSets.{IsNext}
@@ -23,51 +17,6 @@ use Rattle.mon_value.specs.declared.schemas.TargetSchema.{TargetSchema}
 use Rattle.weave_core.specs.Agreements.{IsServed}
 use Rattle.weave_core.specs.WriteEvents.{AreToRaise}
 use Rattle.weave_core.specs.declared.leaves.LeafSeat.{LeafSeat}
-
-abbrev pub AllBelow : ℕ → List ℕ → Type 0
-AllBelow count = AllByRecursion (λ bucket. bucket < count)
-
-both_below : (bound : ℕ) (xs ys : List ℕ) → AllBelow bound xs → AllBelow bound ys → AllBelow bound (xs ++ ys)
-both_below bound [] ys first second = second
-both_below bound (x ∷ xs) ys first second = (first.0, both_below bound xs ys first.1 second)
-
-excerpts_below : (buckets : ℕ) (schema field : List ℕ) (excerpts : List (List ℕ)) → 0 < buckets
-    → AllBelow buckets (map (bucket_of buckets schema field) excerpts)
-excerpts_below buckets schema field [] some = tt
-excerpts_below buckets schema field (excerpt ∷ excerpts) some =
-    (mod_below (fingerprint_of schema field excerpt) buckets some, excerpts_below buckets schema field excerpts some)
-
-pairs_below : (buckets : ℕ) (schema : List ℕ) (pairs : List (Field × FieldValue)) → 0 < buckets →
-    AllBelow buckets (flat_map (λ (pair : Field × FieldValue). value_buckets buckets schema pair.0.name pair.1) pairs)
-pairs_below buckets schema [] some = tt
-pairs_below buckets schema (pair ∷ pairs) some =
-    both_below buckets (value_buckets buckets schema pair.0.name pair.1) _
-    (excerpts_below buckets schema pair.0.name (value_excerpts pair.1) some) (pairs_below buckets schema pairs some)
-
-series_below : (buckets : ℕ) (target : TargetSchema) (metric : MetricSchema) (key : SeriesKey) → 0 < buckets
-    → AllBelow buckets (series_buckets buckets target metric key)
-series_below buckets target metric key some = (
-  mod_below (fingerprint_of key.target.schema [] key.metric) buckets some,
-  both_below buckets (field_buckets buckets key.target.schema target.fields key.target.fields) _
-      (pairs_below buckets key.target.schema (zip target.fields key.target.fields) some)
-      (pairs_below buckets key.target.schema (zip metric.fields key.fields) some),
-)
-
-below_at : (bound n first : ℕ) (rest : Bool) (b : Bool) → (n == first) ≡ b → first < bound → (rest ≡ true → n < bound)
-    → (b || rest) ≡ true → n < bound
-below_at bound n first rest true same here more found =
-    let is : n ≡ first = grind (arith, nat_tests) in omega (arith, is, here)
-below_at bound n first rest false same here more found = more found
-
-among_below : (bound n : ℕ) (numbers : List ℕ) → AllBelow bound numbers → is_among n numbers ≡ true → n < bound
-among_below bound n [] all found = absurd cc
-among_below bound n (first ∷ numbers) all found =
-    below_at bound n first (is_among n numbers) (n == first) refl all.0 (among_below bound n numbers all.1) found
-
-bucket_below : (buckets bucket : ℕ) (target : TargetSchema) (metric : MetricSchema) (key : SeriesKey) → 0 < buckets
-    → is_among bucket (series_buckets buckets target metric key) ≡ true → bucket < buckets
-bucket_below buckets bucket target metric key some found =
-    among_below buckets bucket (series_buckets buckets target metric key) (series_below buckets target metric key some) found
 
 both_first : (a b : Bool) → (a && b) ≡ true → a ≡ true
 both_first true b e = refl

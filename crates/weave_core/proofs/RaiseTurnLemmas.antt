@@ -1,6 +1,5 @@
 -- A write's turn inside a leaf: a bit is set in a word.
-use Rattle.std.proofs.Common.{◌≡◌, ℕ, ◌+◌, ◌<◌, ◌≤◌, ◌≢◌, ◌&&◌, ◌||◌, Bool, true, false, nat_eq, Option, Some, None, List, [], ◌∷◌, length, refl, sym, ap, subst, ◌∙◌, inl, inr, arith}
-use Rattle.std.specs.List.{AllByRecursion}
+use Rattle.std.proofs.Common.{◌≡◌, ℕ, ◌+◌, ◌<◌, ◌≤◌, ◌&&◌, ◌||◌, Bool, true, false, nat_eq, Some, List, [], ◌∷◌, length, refl, sym, ap, subst, ◌∙◌, inl, inr, arith}
 use Rattle.std.proofs.lemmas.List.{length-set}
 use Rattle.std.proofs.lemmas.Bool.{cases_eq, eq-eqb, ne_eqb}
 use Rattle.mon_config.specs.declared.config.Config.{Config}
@@ -14,11 +13,10 @@ use Rattle.mon_value.specs.declared.positions.Zone.{Zone}
 use Rattle.weave_core.proofs.AtWorkLemmas.{IsGoingOn, StandsInside, going_inside, leaf_in_truth, own}
 use Rattle.weave_core.proofs.MeetingLemmas.{leaf_met}
 use Rattle.weave_core.proofs.PlaceLemmas.{few, one_leaf, place_below, root_there, zone_there, zone_word_there}
-use Rattle.weave_core.proofs.RaiseLemmas.{AllBelow}
 use Rattle.weave_core.proofs.SeatLemmas.{leaf_so_then, leaves_at_leaf, ranges_at_leaf}
 use Rattle.weave_core.proofs.WriteTurnLemmas.{can_come, step_is, went_so, writer_then}
 use Rattle.weave_core.proofs.WordLemmas.{one_raised}
-use Rattle.weave_core.specs.Agreements.{AreShared, AreWords, IsLeafSo, place_of_leaf}
+use Rattle.weave_core.specs.Agreements.{AreWords, IsLeafSo, place_of_leaf}
 use Rattle.weave_core.specs.HintWords.{HasWord, HintTable, RaisesOne, raised, same_place, word_at}
 use Rattle.weave_core.specs.Holders.{leaf_inside}
 use Rattle.weave_core.specs.Meetings.{met_at_leaf}
@@ -34,11 +32,11 @@ use Rattle.weave_core.specs.declared.words.Place.{Place}
 use Rattle.weave_core.specs.declared.words.Place.TheVariants as word
 use Rattle.weave_core.specs.declared.writes.Writing.{Writing}
 use Rattle.write_core.proofs.KeepsLemmas.{changed_same}
-use Rattle.write_core.specs.Invariant.{IsAt, IsEntering, IsInside}
+use Rattle.write_core.specs.Invariant.{IsAt, IsInside}
 use Rattle.write_core.specs.Program.{Inside, Stage, after}
 use Rattle.write_core.specs.Rounds.{Round}
-use Rattle.write_core.specs.Views.{View, joined, of_leaf, of_range, with_root_bit, with_zone_bit}
-use Rattle.write_core.specs.World.{Actor, World, Writer, at_leaf, view_of, writes_on}
+use Rattle.write_core.specs.Views.{View, joined, with_root_bit, with_zone_bit}
+use Rattle.write_core.specs.World.{World, Writer, at_leaf, view_of, writes_on}
 use Rattle.write_core.specs.declared.asks.WriteTold.TheVariants as told
 use Rattle.write_core.specs.declared.marks.Mark.{Mark}
 

@@ -1,12 +1,12 @@
 -- Seats of a store: what is said of each of them stays where one is changed, and what is known of the one that a write needs.
-use Rattle.std.proofs.Common.{◌≡◌, ℕ, zero, suc, ◌+◌, ◌<◌, List, [], ◌∷◌, length, map, set, refl, sym, ap, subst, ◌∙◌, inl, inr, arith}
-use Rattle.std.specs.Prelude.{Option, Some, None, slice_get, ◌≢◌}
+use Rattle.std.proofs.Common.{◌≡◌, ℕ, zero, suc, List, [], ◌∷◌, length, set, refl, sym, ap, subst, ◌∙◌, arith}
+use Rattle.std.specs.Prelude.{Option, Some, slice_get, ◌≢◌}
 use Rattle.std.proofs.Math.Nat.{suc_inj}
 use Rattle.std.proofs.lemmas.List.{length-set, length-map}
 use Rattle.std.proofs.lemmas.Option.{none-some, same_Some}
 use Rattle.mon_config.specs.declared.config.Config.{Config}
 use Rattle.mon_topo.specs.Settings.{Setting}
-use Rattle.mon_topo.specs.Zones.{leaf_numbered, leaves_in, range_numbered, ranges_in}
+use Rattle.mon_topo.specs.Zones.{leaf_numbered, range_numbered}
 use Rattle.mon_value.specs.declared.positions.Leaf.{Leaf}
 use Rattle.mon_value.specs.declared.positions.Range.{Range}
 use Rattle.weave_core.specs.Agreements.{AreLeaves, AreRanges, AreShared, AreWords, IsLeafSo, IsRangeSo}
@@ -23,10 +23,9 @@ use Rattle.mon_hints.specs.Covers.{Bits}
 use Rattle.mon_hints.specs.Words.{has_bit}
 use Rattle.mon_topo.specs.Settings.{zone_of_leaf}
 use Rattle.weave_core.specs.Agreements.{place_of_leaf}
-use Rattle.write_core.proofs.KeepsLemmas.{changed_by, changed_other, changed_same}
-use Rattle.write_core.specs.Invariant.{IsKept}
+use Rattle.write_core.proofs.KeepsLemmas.{changed_other, changed_same}
 use Rattle.write_core.specs.Views.{View, of_leaf, of_range}
-use Rattle.write_core.specs.World.{Actor, IsPart, World, at_leaf, at_range, changed, met_at_leaf, met_at_range}
+use Rattle.write_core.specs.World.{Actor, IsPart, World, at_leaf, at_range, met_at_leaf, met_at_range}
 
 -- ---- lists with one item changed
 

@@ -1,7 +1,5 @@
 -- What a step leaves: the core stays woven, its holders stay true, and all other actors stay as they were.
-use Rattle.std.proofs.Common.{◌≡◌, ◌≢◌, ℕ, ℤ, ◌<◌, Bool, true, false, Option, Some, None, List, [], ◌∷◌, length, set, refl, sym, ap, subst, ◌∙◌, inl, inr, ◌⊎◌, arith, zero, suc}
-use Rattle.std.specs.Prelude.{slice_get}
-use Rattle.std.proofs.Math.Nat.{suc_inj}
+use Rattle.std.proofs.Common.{◌≡◌, ◌≢◌, ℕ, ℤ, List, [], ◌∷◌, refl, sym, subst, inl, inr}
 use Rattle.mon_topo.specs.Settings.{Setting as Store}
 use Rattle.query_core.specs.Settings.{Setting}
 use Rattle.query_core.specs.declared.asks.Ask.{Ask}
@@ -15,7 +13,7 @@ use Rattle.weave_core.specs.Core.{CanCome, Happens, Tells, asked_now, world_then
 use Rattle.weave_core.specs.Holders.{AreHolders}
 use Rattle.weave_core.specs.Licensed.{IsWoven}
 use Rattle.weave_core.specs.States.{Asking, Dismissed, Eventless, Role, State, Undeclared, Writing}
-use Rattle.weave_core.specs.Steps.{QueryGoes, Steps, StepsIn, Waits, WriteGoes, with_event, with_role}
+use Rattle.weave_core.specs.Steps.{Steps, StepsIn, with_event, with_role}
 use Rattle.weave_core.specs.declared.calls.Stepped.{Stepped}
 use Rattle.write_core.proofs.KeepsLemmas.{changed_other}
 use Rattle.write_core.specs.Events.{Goes}

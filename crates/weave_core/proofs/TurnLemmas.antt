@@ -1,5 +1,5 @@
 -- That an actor whose step went has a next one, and actors that go on.
-use Rattle.std.proofs.Common.{◌≡◌, ◌∙◌, ◌⊎◌, inl, inr, ℕ, zero, suc, ◌+◌, ◌<◌, Bool, true, false, not, is_some, cond, List, [], ◌∷◌, Option, Some, None, Result, Err, refl, sym, ap, subst, arith}
+use Rattle.std.proofs.Common.{◌≡◌, ◌∙◌, inl, inr, ℕ, zero, suc, ◌+◌, ◌<◌, Bool, true, not, is_some, cond, List, [], ◌∷◌, Option, Some, None, Err, refl, sym, ap, subst, arith}
 use Rattle.mon_config.specs.declared.config.Config.{Config}
 use Rattle.mon_topo.specs.Settings.{Setting as Store}
 use Rattle.mon_topo.specs.declared.zones.ZoneSpec.{ZoneSpec}
@@ -13,9 +13,9 @@ use Rattle.weave_core.specs.ActorAgreements.{Agrees}
 use Rattle.weave_core.specs.Core.{query_now}
 use Rattle.weave_core.specs.EventNames.{event_of_query, event_of_write}
 use Rattle.weave_core.specs.ScheduleTurns.{GoesSo, HasGone}
-use Rattle.weave_core.specs.Schedules.{GoesOn, IsNext, Went}
-use Rattle.weave_core.specs.States.{Asking, Dismissed, Eventless, Role, State, Undeclared, Writing, fault_in, next_event, next_in, step_fault, store_of, write_asks}
-use Rattle.weave_core.specs.Steps.{QueryGoes, Steps, StepsIn, Waits, WriteGoes, query_stepped, write_stepped, writer_stepped}
+use Rattle.weave_core.specs.Schedules.{IsNext, Went}
+use Rattle.weave_core.specs.States.{Asking, Dismissed, Eventless, Role, State, Undeclared, Writing, fault_in, next_in, step_fault, store_of, write_asks}
+use Rattle.weave_core.specs.Steps.{Steps, StepsIn, query_stepped, write_stepped, writer_stepped}
 use Rattle.weave_core.specs.WeaveCalls as call
 use Rattle.weave_core.specs.declared.calls.Stepped.{Stepped}
 use Rattle.weave_core.specs.declared.calls.Stepped.TheVariants as stepped
@@ -142,9 +142,6 @@ module _ (config : Config) (start : State (store_of config)) (k : ℕ) (goal : O
   fault_at zero state why went free e = subst (λ (s : State Store'). step_fault Store' s k ≡ Some why) went e
   fault_at (suc count) state why went free e =
       let none : None ≡ Some why = sym (free (omega arith)).1 ∙ e in absurd cc
-
-  pub going_begins : (weave : Weave) → Agrees config weave start → Going config start k goal 0 weave
-  going_begins weave agrees = record { state = start; went = refl; agrees = agrees; free = λ some. absurd (omega (arith, some)) }
 
   one_more : (count : ℕ) (before state : State Store') → Went Store' k goal start count before
       → (IsNext Store' before k goal → ⊥) → Steps Store' before k stepped.Went state → Went Store' k goal start (count + 1) state

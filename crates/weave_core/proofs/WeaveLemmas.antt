@@ -1,18 +1,16 @@
 -- A weave after a step of one of its actors.
-use Rattle.std.proofs.Common.{◌≡◌, ◌≢◌, ℕ, zero, suc, ◌+◌, ◌<◌, Option, Some, None, List, [], ◌∷◌, length, set, refl, sym, ap, subst, ◌∙◌, inl, inr, arith}
+use Rattle.std.proofs.Common.{◌≡◌, ◌≢◌, ℕ, zero, suc, ◌<◌, Option, Some, None, List, [], ◌∷◌, length, set, refl, sym, ap, subst, ◌∙◌, inl, inr, arith}
 use Rattle.std.specs.Prelude.{slice_get}
-use Rattle.std.proofs.Math.Nat.{suc_inj}
 use Rattle.std.proofs.lemmas.Bool.{cases_eq}
 use Rattle.std.proofs.lemmas.List.{length-set}
 use Rattle.mon_config.specs.declared.config.Config.{Config}
-use Rattle.weave_core.proofs.StepLemmas.{Leaves, OthersStay, steps_leave}
+use Rattle.weave_core.proofs.StepLemmas.{steps_leave}
 use Rattle.weave_core.specs.ActorAgreements.{Agrees, IsActorSo, actor_numbered, flat}
-use Rattle.weave_core.specs.ActorSteps.{HadEnded, HasStepped, IsIn}
+use Rattle.weave_core.specs.ActorSteps.{HasStepped, IsIn}
 use Rattle.weave_core.specs.Core.{Reader}
 use Rattle.weave_core.specs.States.{Role, State, store_of}
 use Rattle.weave_core.specs.declared.actors.Actor.{Actor}
 use Rattle.weave_core.specs.declared.calls.Stepped.{Stepped}
-use Rattle.weave_core.specs.declared.store.Store.{Store}
 use Rattle.weave_core.specs.declared.weave.Weave.{Weave}
 use Rattle.write_core.specs.World.{Actor as Doer}
 

@@ -34,11 +34,21 @@ put_back [] n own e = absurd cc
 put_back (one ∷ actors) zero own e = ap (λ (first : Option Actor). first ∷ actors) e
 put_back (one ∷ actors) (suc n) own e = ap (λ (rest : List (Option Actor)). one ∷ rest) (put_back actors n own e)
 
--- the actors when one place was emptied
-pub out_is : {Z : Type 0} (actors : Vec (Option Actor) Z) (left : List (Option Actor)) (n : ℕ)
-    → left ≡ set actors.items n None → (with_items actors left).items ≡ set actors.items n None
-out_is actors left n is =
-    with_items_is actors left (ap length is ∙ length-set actors.items n None ∙ sym actors.ok.0) ∙ is
+-- the actors when one place was changed
+pub set_is : {Z : Type 0} (actors : Vec (Option Actor) Z) (changed : List (Option Actor)) (n : ℕ) (one : Option Actor)
+    → changed ≡ set actors.items n one → (with_items actors changed).items ≡ set actors.items n one
+set_is actors changed n one is =
+    with_items_is actors changed (ap length is ∙ length-set actors.items n one ∙ sym actors.ok.0) ∙ is
+
+-- all places are there still
+pub set_there : (actors : List (Option Actor)) (i n : ℕ) (one : Option Actor) → n < length actors → n < length (set actors i one)
+set_there actors i n one there = subst (λ (count : ℕ). n < count) (sym (length-set actors i one)) there
+
+pub changed_there : {Z : Type 0} (actors : Vec (Option Actor) Z) (changed : List (Option Actor)) (i n : ℕ) (one : Option Actor)
+    → changed ≡ set actors.items i one → n < length actors.items → n < length (with_items actors changed).items
+changed_there actors changed i n one is there =
+    subst (λ (all : List (Option Actor)). n < length all) (sym (set_is actors changed i one is))
+    (set_there actors.items i n one there)
 
 -- ---- nothing has changed
 
@@ -75,8 +85,8 @@ module _ (old : Weave) (i : ℕ) (is : None ≡ actor_numbered old.actors.items 
 -- ---- an actor steps
 
 module _ (old : Weave) (i : ℕ) (own : Actor) (is : Some own ≡ actor_numbered old.actors.items i) where
-  pub in_place : i < old.actors.len
-  in_place = subst (λ (count : ℕ). i < count) (sym old.actors.ok.0) (numbered_there old.actors.items i own (sym is))
+  pub in_place : i < length old.actors.items
+  in_place = numbered_there old.actors.items i own (sym is)
 
   pub is_somewhere : IsKept old → IsSomewhere old.store own
   is_somewhere kept = record {

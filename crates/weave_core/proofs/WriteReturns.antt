@@ -1,11 +1,10 @@
 -- What the calls of a store for a write's events ask for, and what they come to, by what the events do to the seats.
-use Rattle.std.proofs.Common.{◌≡◌, ℕ, ◌+◌, ◌<◌, ◌≤◌, ◌<ℤ◌, Bool, true, false, List, [], ◌∷◌, ◌++◌, Option, Some, None, length, get_or, set, refl, sym, ap, subst, ◌∙◌, arith}
+use Rattle.std.proofs.Common.{◌≡◌, ℕ, ◌<◌, ◌≤◌, ◌<ℤ◌, Bool, true, false, List, [], ◌∷◌, ◌++◌, Some, length, get_or, refl, sym, ap, subst, ◌∙◌}
 use Rattle.std.specs.Prelude.{IfSome, slice_get}
 use Rattle.std.proofs.lemmas.Option.{same_Some, slice_get_read}
 use Rattle.mon_config.specs.declared.config.Config.{Config}
 use Rattle.mon_hints.specs.declared.fingerprints.TheConstants.{MOST_BUCKETS}
 use Rattle.mon_topo.specs.Settings.{zone_of_leaf}
-use Rattle.mon_topo.specs.Zones.{leaves_in}
 use Rattle.mon_topo.specs.RangeHistories.{acked}
 use Rattle.mon_value.specs.LeafHistories.{IsWellFormed}
 use Rattle.mon_value.specs.Sources.{last_end, points_of}
@@ -19,10 +18,10 @@ use Rattle.weave_core.proofs.AtWorkLemmas.{StandsAt, StandsBefore, StandsInside,
 use Rattle.weave_core.proofs.LeafTurnLemmas.{enter_turn, reserve_turn}
 use Rattle.weave_core.proofs.LockTurnLemmas.{lock_turn}
 use Rattle.weave_core.proofs.PlaceLemmas.{root_there, zone_there, zone_word_there}
-use Rattle.weave_core.proofs.PutTurnLemmas.{follows, put_leaf_there, put_turn}
+use Rattle.weave_core.proofs.PutTurnLemmas.{follows, put_turn}
 use Rattle.weave_core.proofs.RaiseTurnLemmas.{buckets_below, inside_listed, inside_there, leaf_kept, place_small, root_turn, zone_small, zone_turn}
 use Rattle.weave_core.specs.Agreements.{IsLeafSo, IsRangeSo, place_of_leaf}
-use Rattle.weave_core.specs.HintWords.{HasWord, raised}
+use Rattle.weave_core.specs.HintWords.{HasWord}
 use Rattle.weave_core.specs.Sights.{AreAlike}
 use Rattle.weave_core.specs.States.{store_of}
 use Rattle.weave_core.specs.WriteEvents.{ChangesLeaf, ChangesRange, EntersIf, IfWritten, LetsGo, LocksIf, Puts, Raises, RaisesWord, ReservesIf}
@@ -37,7 +36,7 @@ use Rattle.weave_core.specs.declared.writes.WriteTurn.{WriteTurn}
 use Rattle.weave_core.specs.declared.writes.Writing.{Writing}
 use Rattle.write_core.specs.Invariant.{IsAt}
 use Rattle.write_core.specs.Program.{Acking, Ended, Entering, Inside, Reserving, Stage, Verdict, after, ask_of, end_of_verdict, EndsSo}
-use Rattle.write_core.specs.World.{World, Writer, view_of}
+use Rattle.write_core.specs.World.{World, view_of}
 use Rattle.write_core.specs.declared.asks.WriteAsk.{WriteAsk}
 use Rattle.write_core.specs.declared.asks.WriteAsk.TheVariants as ask
 use Rattle.write_core.specs.declared.asks.WriteEnd.{WriteEnd}

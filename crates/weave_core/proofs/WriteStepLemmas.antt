@@ -1,23 +1,20 @@
 -- A step of an actor that writes.
 use Rattle.std.proofs.Common.{◌≡◌, ◌≢◌, ℕ, Bool, true, false, not, cond, Option, Some, None, List, [], ◌∷◌, map, refl, sym, ap, subst, ◌∙◌, inl, inr}
 use Rattle.std.specs.Prelude.{is_some}
-use Rattle.std.proofs.lemmas.Option.{same_Some}
 use Rattle.mon_config.specs.declared.config.Config.{Config}
 use Rattle.mon_topo.specs.Settings.{Setting}
 use Rattle.mon_topo.specs.declared.zones.ZoneSpec.{ZoneSpec}
 use Rattle.mon_value.specs.declared.positions.Range.{Range}
-use Rattle.weave_core.specs.ActorAgreements.{HasWritten, IsActorSo, IsCourseSo, IsWriting}
-use Rattle.weave_core.specs.ActorSteps.{ActorSteps, HasStepped, IsIn, WrittenSo}
-use Rattle.weave_core.specs.Agreements.{AreShared}
-use Rattle.weave_core.specs.Core.{CoreEvent, Happens}
+use Rattle.weave_core.specs.ActorAgreements.{IsActorSo, IsCourseSo, IsWriting}
+use Rattle.weave_core.specs.ActorSteps.{ActorSteps, IsIn, WrittenSo}
+use Rattle.weave_core.specs.Core.{Happens}
 use Rattle.weave_core.specs.EndTexts.{write_text}
 use Rattle.weave_core.specs.EventNames.{event_of_write}
-use Rattle.weave_core.specs.States.{Asking, Dismissed, Eventless, Role, State, Undeclared, Writing, ended_in, fault_in, holder_in, is_past_lock, step_fault, store_of, write_asks, writes_begun}
-use Rattle.weave_core.specs.Steps.{StepsIn, WriteGoes, with_event, write_stepped, writer_stepped}
-use Rattle.weave_core.specs.WriteTurns.{IsAtWork, WriteEnded, WriteWaits, WriteWent, WritesSo, ended_write}
-use Rattle.weave_core.specs.Writers.{IsWriterSo, writer_of}
+use Rattle.weave_core.specs.States.{Asking, Dismissed, Eventless, Role, State, Undeclared, Writing, fault_in, holder_in, is_past_lock, step_fault, store_of, write_asks, writes_begun}
+use Rattle.weave_core.specs.Steps.{StepsIn, with_event, write_stepped, writer_stepped}
+use Rattle.weave_core.specs.WriteTurns.{IsAtWork, WritesSo}
+use Rattle.weave_core.specs.Writers.{writer_of}
 use Rattle.weave_core.specs.declared.actors.Actor.{Actor}
-use Rattle.weave_core.specs.declared.actors.Course.{Course}
 use Rattle.weave_core.specs.declared.actors.Course.TheVariants as course
 use Rattle.weave_core.specs.declared.calls.Stepped.{Stepped}
 use Rattle.weave_core.specs.declared.calls.Stepped.TheVariants as stepped
@@ -28,13 +25,12 @@ use Rattle.weave_core.specs.declared.writes.WriteTurn.{WriteTurn}
 use Rattle.weave_core.specs.declared.writes.WriteTurn.TheVariants as turn
 use Rattle.weave_core.specs.declared.writes.Writing.{Writing as Write}
 use Rattle.write_core.specs.Events.{Goes}
-use Rattle.write_core.specs.Program.{Acking, Ended, Entering, Inside, Locking, Marked, Reserving, Stage, Verdict, after, ask_of, end_of_verdict, entering, reserving}
+use Rattle.write_core.specs.Program.{Acking, Ended, Entering, Inside, Locking, Marked, Reserving, Stage, after, ask_of, end_of_verdict, entering, reserving}
 use Rattle.write_core.specs.Program as write
 use Rattle.write_core.specs.Marks.{waiting}
 use Rattle.write_core.specs.Rounds.{Round, again, is_through, looked, marks_of, round_of, skipped}
 use Rattle.write_core.specs.Steps.{CanComeAt, CanGo}
-use Rattle.write_core.specs.Views.{View}
-use Rattle.write_core.specs.World.{Actor as Doer, World, Writer, Writes, view_of}
+use Rattle.write_core.specs.World.{Actor as Doer, World, Writer, view_of}
 use Rattle.write_core.specs.declared.asks.WriteAsk.{WriteAsk}
 use Rattle.write_core.specs.declared.asks.WriteAsk.TheVariants as ask
 use Rattle.write_core.specs.declared.asks.WriteTold.{WriteTold}

@@ -1,6 +1,6 @@
 -- A write's turn: it has gone on in the core as what is kept of it, or another one is in its way.
-use Rattle.std.proofs.Common.{◌≡◌, ℕ, Bool, true, false, Option, Some, None, refl, sym, ap, subst, ◌∙◌}
-use Rattle.std.specs.Prelude.{◌≢◌, is_some, option_map}
+use Rattle.std.proofs.Common.{◌≡◌, ℕ, true, Option, Some, None, refl, sym, ap, subst, ◌∙◌}
+use Rattle.std.specs.Prelude.{◌≢◌, is_some}
 use Rattle.mon_config.specs.declared.config.Config.{Config}
 use Rattle.mon_value.specs.declared.positions.Leaf.{Leaf}
 use Rattle.weave_core.proofs.AtWorkLemmas.{looks_after}
@@ -9,7 +9,7 @@ use Rattle.weave_core.specs.Agreements.{AreShared}
 use Rattle.weave_core.specs.Holders.{HoldsLeaf, HoldsRange, leaf_inside}
 use Rattle.weave_core.specs.Sights.{sight_of}
 use Rattle.weave_core.specs.States.{holder_for_actor, store_of}
-use Rattle.weave_core.specs.WriteEvents.{IsHeldUp, IsToldSo}
+use Rattle.weave_core.specs.WriteEvents.{IsToldSo}
 use Rattle.weave_core.specs.WriteTurns.{IsAtWork, WriteWaits, WriteWent}
 use Rattle.weave_core.specs.declared.sights.Sight.{Sight}
 use Rattle.weave_core.specs.declared.store.Store.{Store}

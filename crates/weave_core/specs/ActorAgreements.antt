@@ -1,5 +1,6 @@
 -- What is kept of actors: how far each of them is in the core, and how far it has seen histories.
-use Rattle.std.specs.Prelude.{ℕ, ◌+◌, pos, ◌≡◌, ◌≢◌, ◌≤ℤ◌, Bool, true, false, List, length, slice_get, Option, Some, None}
+use Rattle.std.specs.Prelude.{ℕ, ◌+◌, pos, ◌≡◌, ◌≢◌, ◌≤ℤ◌, Bool, true, false, List, length, slice_get, Option, Some}
+use Rattle.std.specs.Prelude.{None}
 use Rattle.mon_config.specs.declared.config.Config.{Config}
 use Rattle.mon_topo.specs.SeenHistories.{AreWithin}
 use Rattle.mon_topo.specs.Settings.{Setting as Store}
@@ -14,7 +15,8 @@ use Rattle.weave_core.specs.Holders.{AreHolders}
 use Rattle.weave_core.specs.Licensed.{IsWoven}
 use Rattle.weave_core.specs.PlannedQueries.{IsPlanned}
 use Rattle.weave_core.specs.Sights.{sight_of}
-use Rattle.weave_core.specs.States.{Asking, Dismissed, Eventless, Role, State, Undeclared, Writing, is_any, store_of, write_asks, writes_begun}
+use Rattle.weave_core.specs.States.{Asking, Dismissed, Eventless, Role, State, Undeclared, Writing, is_any, store_of}
+use Rattle.weave_core.specs.States.{write_asks, writes_begun}
 use Rattle.weave_core.specs.Writers.{IsWriterSo}
 use Rattle.weave_core.specs.declared.actors.Actor.{Actor}
 use Rattle.weave_core.specs.declared.actors.Course.{Course}

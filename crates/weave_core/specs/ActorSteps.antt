@@ -1,5 +1,5 @@
 -- What a step does to the actor that is asked, whichever state of the core agrees with it.
-use Rattle.std.specs.Prelude.{ℕ, ◌≡◌, true, false, Bool, List, Option, Some, None}
+use Rattle.std.specs.Prelude.{ℕ, ◌≡◌, true, Bool, List, Option, Some, None}
 use Rattle.mon_config.specs.declared.config.Config.{Config}
 use Rattle.mon_topo.specs.declared.zones.ZoneSpec.{ZoneSpec}
 use Rattle.weave_core.specs.ActorAgreements.{IsActorSo}

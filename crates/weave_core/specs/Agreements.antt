@@ -76,7 +76,8 @@ pub record AreWords (config : Config) (world : World) (words : HintTable) : Type
   pub root : (zone bucket : ℕ) → bucket < config.buckets
       → has_bit (word_at words at.Root bucket) zone ≡ world.truth.bits.root zone bucket
   pub zone : (leaf : Leaf) (bucket : ℕ) → leaf.0 < length (leaves_in config.topology) → bucket < config.buckets
-      → has_bit (word_at words (at.Zone (zone_of_leaf (store_of config) leaf)) bucket) (place_of_leaf (store_of config) leaf)
+      → has_bit (word_at words (at.Zone (zone_of_leaf (store_of config) leaf)) bucket)
+      (place_of_leaf (store_of config) leaf)
       ≡ world.truth.bits.zone leaf.0 bucket
 
 -- ---- the whole

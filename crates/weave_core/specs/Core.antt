@@ -1,5 +1,6 @@
 -- The core: writes, recoveries and queries, one event after another, in any order.
-use Rattle.std.specs.Prelude.{ℕ, ℤ, ◌≡◌, ◌-◌, ◌&&◌, nat_eq, Bool, true, false, List, [], ◌∷◌, ◌++◌, length, slice_get, Some, None}
+use Rattle.std.specs.Prelude.{ℕ, ℤ, ◌≡◌, ◌-◌, ◌&&◌, nat_eq, Bool, true, false, List, [], ◌∷◌, ◌++◌, length, slice_get}
+use Rattle.std.specs.Prelude.{Some, None}
 use Rattle.mon_hints.specs.Covers.{Bits, joined_bits}
 use Rattle.mon_hints.specs.HistoryBuckets.{history_buckets}
 use Rattle.mon_hints.specs.Words.{has_bit}
@@ -59,9 +60,9 @@ module _ (store : Store) (setting : Setting) (moment : ℤ) (world : World) (vie
   abbrev pub rows_on : Leaf → List RangeSlot → List Row
   rows_on leaf slots = slot_rows (of_leaf world.truth leaf) slots
 
-  -- a query that avoids these leaves, and to which these slots of the leaf that it visits resolved, does an event and is
-  -- told so: a word as it stands; the first replica that serves, of a range that nobody holds; of a leaf that nobody holds
-  -- whether it is up, whether the query reads it, and its part of the query
+  -- a query that avoids these leaves, and to which these slots of the leaf that it visits resolved, does an event and
+  -- is told so: a word as it stands; the first replica that serves, of a range that nobody holds; of a leaf that
+  -- nobody holds whether it is up, whether the query reads it, and its part of the query
   abbrev pub IsTold : List Leaf → List RangeSlot → Ask → Told → Type 0
   IsTold avoided slots (ask.LoadRoot bucket) (told.Word word seen) =
       IsWordOfRoot world bucket word × IsSeenSo view.seen seen
@@ -121,8 +122,8 @@ module _ (store : Store) (setting : Setting) (moment : ℤ) (world : World) (vie
 -- ---- queries side by side with writes and recoveries
 
 module _ (store : Store) where
-  -- a query: how it began, what its caller had seen and knew then, what it was told so far, and what its caller has seen
-  -- and knows now
+  -- a query: how it began, what its caller had seen and knew then, what it was told so far, and what its caller has
+  -- seen and knows now
   pub record Reader : Type 0 where
     pub setting : Setting
     pub moment : ℤ

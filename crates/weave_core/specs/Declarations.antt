@@ -18,7 +18,8 @@ use Rattle.query_core.specs.Settings.{Setting}
 use Rattle.weave_core.specs.Core.{CanCome, CoreEvent, Happens, Hears, Reader}
 use Rattle.weave_core.specs.EndTexts.{no_zone_text}
 use Rattle.weave_core.specs.Refusals.{parse_line, typing_line}
-use Rattle.weave_core.specs.States.{Asking, Dismissed, Eventless, Role, State, Undeclared, Writing, actor_at, store_of, view_at}
+use Rattle.weave_core.specs.States.{Asking, Dismissed, Eventless, Role, State, Undeclared, Writing, actor_at, store_of}
+use Rattle.weave_core.specs.States.{view_at}
 use Rattle.weave_core.specs.Steps.{with_event, with_role}
 use Rattle.weave_core.specs.declared.calls.Call.{Call}
 use Rattle.weave_core.specs.declared.calls.Call.TheVariants as call

@@ -1,5 +1,6 @@
 -- The hint words: a word for each place and bucket, the root's words first and then those of each zone.
-use Rattle.std.specs.Prelude.{◌≡◌, ℕ, ◌+◌, ◌*◌, ◌%◌, ◌^◌, ◌<◌, ◌||◌, ◌&&◌, Bool, nat_eq, List, length, get_or, set, replicate, bit_or}
+use Rattle.std.specs.Prelude.{◌≡◌, ℕ, ◌+◌, ◌*◌, ◌%◌, ◌^◌, ◌<◌, ◌||◌, ◌&&◌, Bool, nat_eq, List, length, get_or, set}
+use Rattle.std.specs.Prelude.{replicate, bit_or}
 use Rattle.mon_hints.specs.Words.{has_bit}
 use Rattle.weave_core.specs.declared.words.Place.{Place}
 use Rattle.weave_core.specs.declared.words.Place.TheVariants as at

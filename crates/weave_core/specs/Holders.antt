@@ -1,5 +1,5 @@
--- Who holds ranges and leaves: only writes do, each its own range, from its lock to its acknowledgement, and the leaf that it
--- is inside of.
+-- Who holds ranges and leaves: only writes do, each its own range, from its lock to its acknowledgement, and the leaf
+-- that it is inside of.
 use Rattle.std.specs.Prelude.{ℕ, ◌≡◌, option_map, Option, Some, None}
 use Rattle.mon_value.specs.declared.positions.Leaf.{Leaf}
 use Rattle.write_core.specs.Program.{Acking, Ended, Entering, Inside, Locking, Reserving, Stage}

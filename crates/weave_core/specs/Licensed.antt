@@ -6,8 +6,8 @@ use Rattle.write_core.specs.Invariant.{IsKept, IsNew}
 use Rattle.write_core.specs.World.{IsPart, World}
 use Rattle.weave_core.specs.Core.{Core, Reader, seen_by}
 
--- what a query's caller has seen and knows is a sound part of the truth, as it was when the query began; and its session is
--- licensed
+-- what a query's caller has seen and knows is a sound part of the truth, as it was when the query began; and its
+-- session is licensed
 pub record IsReader (store : Store) (world : World) (reader : Reader store) : Type 0 where
   pub part : IsPart store world reader.view
   pub sound : IsSound store (seen_by reader.begin)

@@ -1,4 +1,5 @@
--- Someone looks at a leaf or at a range: both have then seen what either had, and all of that leaf's or that range's history.
+-- Someone looks at a leaf or at a range: both have then seen what either had, and all of that leaf's or that range's
+-- history.
 use Rattle.std.specs.Prelude.{List, length}
 use Rattle.mon_value.specs.declared.histories.Entry.{Entry}
 use Rattle.mon_value.specs.declared.histories.RangeEntry.{RangeEntry}

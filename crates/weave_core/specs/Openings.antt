@@ -1,9 +1,11 @@
 -- How a store begins: the first replicas as they are opened one by one, and then the seats of its leaves and ranges.
-use Rattle.std.specs.Prelude.{ℕ, ◌≡◌, ◌+◌, ◌-◌, nat_eq, List, [], ◌∷◌, ◌++◌, length, map, take, slice_get, option_map, Some, None, if◌then◌else◌}
+use Rattle.std.specs.Prelude.{ℕ, ◌≡◌, ◌+◌, ◌-◌, nat_eq, List, [], ◌∷◌, ◌++◌, length, map, take, slice_get, option_map}
+use Rattle.std.specs.Prelude.{Some, None, if◌then◌else◌}
 use Rattle.std.specs.List.{flat_map, range_with_len, slice_index_or}
 use Rattle.leaf_store.specs.LeafStates.{LeafView, with_entry, with_promised}
 use Rattle.mon_config.specs.declared.config.Config.{Config}
-use Rattle.mon_topo.specs.Zones.{first_leaf, first_replicas, leaf_numbered, leaf_zones, leaves_in, range_numbered, ranges_in, zone_numbered}
+use Rattle.mon_topo.specs.Zones.{first_leaf, first_replicas, leaf_numbered, leaf_zones, leaves_in, range_numbered}
+use Rattle.mon_topo.specs.Zones.{ranges_in, zone_numbered}
 use Rattle.mon_topo.specs.declared.zones.ZoneSpec.{ZoneSpec}
 use Rattle.mon_value.specs.declared.histories.Entry.{Entry}
 use Rattle.mon_value.specs.declared.histories.RangeEntry.{RangeEntry}

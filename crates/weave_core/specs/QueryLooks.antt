@@ -1,5 +1,6 @@
 -- What a look of a query does to the seat that it needs and to how far this has seen, and what it is told.
-use Rattle.std.specs.Prelude.{ℕ, ℤ, ◌≡◌, ◌+◌, ◌<◌, Bool, true, false, is_some, List, [], ◌∷◌, length, slice_get, Option, Some, None}
+use Rattle.std.specs.Prelude.{ℕ, ℤ, ◌≡◌, ◌+◌, ◌<◌, Bool, true, false, is_some, List, [], ◌∷◌, length, slice_get, Option}
+use Rattle.std.specs.Prelude.{Some, None}
 use Rattle.leaf_store.specs.LeafBuckets.{key_buckets}
 use Rattle.leaf_store.specs.LeafStates.{LeafView}
 use Rattle.mon_hints.specs.HistoryBuckets.{history_buckets}
@@ -74,8 +75,8 @@ FindsIf range avoided old new sight sight_after None = IsHeldFrom old.holder old
 
 -- ---- at a leaf
 
--- a leaf that is read tells its part of the query over these rows, or that its load is above the limit, and how long its
--- history is
+-- a leaf that is read tells its part of the query over these rows, or that its load is above the limit, and how long
+-- its history is
 abbrev pub ReadsSo : TypedTree → List Row → ℤ → ℕ → ℕ → Told → Type 0
 ReadsSo typed rows moment limit cut (told.Read found answer) =
     (found ≡ cut) × IsLeafPart typed rows moment limit answer
@@ -131,8 +132,8 @@ IsSeatedForRange range seats sight = (seat : RangeSeat) → slice_get seats rang
     → AreAlike sight seat.sight × (range.0 < length seat.sight.ranges)
 
 -- a range of the store is looked at
-pub record FindsAt (range : Range) (avoided : List Leaf) (old new : Store) (sight sight_after : Sight) (answer : Option Told)
-    : Type 0 where
+pub record FindsAt (range : Range) (avoided : List Leaf) (old new : Store) (sight sight_after : Sight)
+    (answer : Option Told) : Type 0 where
   pub before : RangeSeat
   pub was : slice_get old.ranges.items range.0 ≡ Some before
   pub seat : RangeSeat

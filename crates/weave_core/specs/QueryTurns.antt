@@ -12,7 +12,8 @@ use Rattle.query_core.specs.declared.stages.Stage.{Stage}
 use Rattle.query_core.specs.declared.stages.Stage.TheVariants as at
 use Rattle.weave_core.specs.ActorAgreements.{IsReaderSo}
 use Rattle.weave_core.specs.Agreements.{AreShared}
-use Rattle.weave_core.specs.Core.{CanCome, Core, IsTold, Reader, Tells, asked_now, came, query_now, view_told, world_told}
+use Rattle.weave_core.specs.Core.{CanCome, Core, IsTold, Reader, Tells, asked_now, came, query_now, view_told}
+use Rattle.weave_core.specs.Core.{world_told}
 use Rattle.weave_core.specs.Holders.{AreHolders}
 use Rattle.weave_core.specs.Licensed.{IsWoven}
 use Rattle.weave_core.specs.PlannedQueries.{IsPlanned}
@@ -80,8 +81,8 @@ module _ (config : Config) (core : Core (store_of config)) (k : ℕ) where
 
   -- the answer that its next event has; the store and its caller's sight are as they are then
   pub record IsAnswered (store : Store) (sight : Sight) (answer : Told) : Type 0 where
-    pub told : IsTold (store_of config) asker.setting asker.moment core.world asker.view asker_now.avoided (slots_at asker_now)
-        (asked_now (store_of config) asker) answer
+    pub told : IsTold (store_of config) asker.setting asker.moment core.world asker.view asker_now.avoided
+        (slots_at asker_now) (asked_now (store_of config) asker) answer
     pub shared : AreShared config (world_told (store_of config) core.world asker) store
     pub sight_is : sight ≡ sight_of (view_told (store_of config) core.world asker).seen
 
@@ -103,7 +104,8 @@ module _ (config : Config) (core : Core (store_of config)) (k : ℕ) where
     pub stage : Stage
     pub can : CanCome (store_of config) core (Tells k answer stage)
     pub shared : AreShared config (came (store_of config) core (Tells k answer stage)).world store
-    pub reader : IsReaderSo (store_of config) ((came (store_of config) core (Tells k answer stage)).readers k) querying sight
+    pub reader : IsReaderSo (store_of config) ((came (store_of config) core (Tells k answer stage)).readers k) querying
+        sight
     pub planned : IsPlanned config querying
     pub goes_on : ask_of querying.machine.setting querying.machine.stage ≢ Finished
 
@@ -112,7 +114,8 @@ module _ (config : Config) (core : Core (store_of config)) (k : ℕ) where
     pub answer : Told
     pub can : CanCome (store_of config) core (Tells k answer (at.Ended end))
     pub shared : AreShared config (came (store_of config) core (Tells k answer (at.Ended end))).world store
-    pub stage_is : (query_now (store_of config) ((came (store_of config) core (Tells k answer (at.Ended end))).readers k)).stage
+    pub stage_is :
+        (query_now (store_of config) ((came (store_of config) core (Tells k answer (at.Ended end))).readers k)).stage
         ≡ at.Ended end
     pub sight_is : sight ≡ sight_of ((came (store_of config) core (Tells k answer (at.Ended end))).readers k).view.seen
 

@@ -36,7 +36,8 @@ module _ (config : Config) where
 
   -- and one that has stopped for its load
   abbrev pub HasStoppedSo : Reader (store_of config) → ℕ → Trace → Type 0
-  HasStoppedSo reader limit trace = (query_now (store_of config) reader).stage ≡ at.Ended (Err (fault.StepLimit limit trace))
+  HasStoppedSo reader limit trace =
+      (query_now (store_of config) reader).stage ≡ at.Ended (Err (fault.StepLimit limit trace))
 
   abbrev pub StoppedRightly : Reader (store_of config) → ℕ → Trace → Type 0
   StoppedRightly reader limit trace =

@@ -1,5 +1,6 @@
 -- What a schedule prints: a run of the core, line by line.
-use Rattle.std.specs.Prelude.{ℕ, zero, suc, ◌+◌, ◌≡◌, ◌⊎◌, ◌&&◌, ◌||◌, nat_lt, Bool, true, false, not, List, [], ◌∷◌, ◌++◌, codes, Option, Some, None, Result, Ok, Err, if◌then◌else◌}
+use Rattle.std.specs.Prelude.{ℕ, zero, suc, ◌+◌, ◌≡◌, ◌⊎◌, ◌&&◌, ◌||◌, nat_lt, Bool, true, false, not, List, [], ◌∷◌}
+use Rattle.std.specs.Prelude.{◌++◌, codes, Option, Some, None, Result, Ok, Err, if◌then◌else◌}
 use Rattle.std.specs.Fmt.{decimal}
 use Rattle.std.specs.List.{flat_map, range_with_len}
 use Rattle.mon_config.specs.declared.config.Config.{Config}
@@ -12,7 +13,8 @@ use Rattle.weave_core.specs.Declarations.{Declares, Meets}
 use Rattle.weave_core.specs.FirstHistories.{first_histories}
 use Rattle.weave_core.specs.Licensed.{IsNewCore}
 use Rattle.weave_core.specs.ScheduleLines.{form_of}
-use Rattle.weave_core.specs.States.{State, Undeclared, has_begun, has_ended, is_declared, next_event, step_fault, store_of}
+use Rattle.weave_core.specs.States.{State, Undeclared, has_begun, has_ended, is_declared, next_event, step_fault}
+use Rattle.weave_core.specs.States.{store_of}
 use Rattle.weave_core.specs.Steps.{Steps}
 use Rattle.weave_core.specs.declared.calls.ScheduleFault.{ScheduleFault}
 use Rattle.weave_core.specs.declared.calls.Stepped.{Stepped}
@@ -59,7 +61,8 @@ module _ (store : Store) where
   abbrev pub Went : ℕ → Option Event → State store → ℕ → State store → Type 0
   Went k goal from zero state = state ≡ from
   Went k goal from (suc count) state =
-      (before : State store) × Went k goal from count before × (IsNext before k goal → ⊥) × Steps store before k stepped.Went state
+      (before : State store) × Went k goal from count before × (IsNext before k goal → ⊥)
+      × Steps store before k stepped.Went state
 
   -- the actor stops before the event that was given
   abbrev pub StopsBefore : ℕ → Option Event → State store → Stepped → State store → Type 0
@@ -104,14 +107,15 @@ module _ (store : Store) where
 
 module _ (config : Config) where
   -- an actor steps, and what this prints
-  pub record StepsSo (state : State (store_of config)) (k : ℕ) (said : List ℕ) (after : State (store_of config)) : Type 0 where
+  pub record StepsSo (state : State (store_of config)) (k : ℕ) (said : List ℕ) (after : State (store_of config))
+      : Type 0 where
     pub how : Stepped
     pub steps : Steps (store_of config) state k how after
     pub says : said ≡ stepped_text k how
 
   -- an actor goes on, and what this prints
-  pub record GoesSo (state : State (store_of config)) (k : ℕ) (goal : Option Event) (said : List ℕ) (after : State (store_of config))
-      : Type 0 where
+  pub record GoesSo (state : State (store_of config)) (k : ℕ) (goal : Option Event) (said : List ℕ)
+      (after : State (store_of config)) : Type 0 where
     pub how : Stepped
     pub goes : GoesOn (store_of config) k goal state how after
     pub says : said ≡ stepped_text k how
@@ -140,9 +144,12 @@ abbrev pub said_before : List ℕ → Printed → Printed
 said_before said more = record { text = said ++ more.text; fault = more.fault }
 
 module _ (config : Config) where
+  -- what the rest of a schedule prints from a state on
+  abbrev pub Onward : Type 1
+  Onward = State (store_of config) → Printed → Type 0
+
   -- a line is done, and then the rest
-  pub record DoneThen (Rest : State (store_of config) → Printed → Type 0) (state : State (store_of config)) (what : LineForm) (printed : Printed)
-      : Type 0 where
+  pub record DoneThen (Rest : Onward) (state : State (store_of config)) (what : LineForm) (printed : Printed) : Type 0 where
     pub said : List ℕ
     pub after : State (store_of config)
     pub more : Printed
@@ -151,18 +158,18 @@ module _ (config : Config) where
     pub prints : printed ≡ said_before said more
 
   -- unless it is refused
-  abbrev pub DoneUnless : ℕ → (State (store_of config) → Printed → Type 0) → State (store_of config) → LineForm → Option WeaveFault → Printed → Type 0
+  abbrev pub DoneUnless : ℕ → Onward → State (store_of config) → LineForm → Option WeaveFault → Printed → Type 0
   DoneUnless number Rest state what (Some why) printed = printed ≡ refused_at number why
   DoneUnless number Rest state what None printed = DoneThen Rest state what printed
 
   -- a line of no form is refused
-  abbrev pub LineRuns : ℕ → (State (store_of config) → Printed → Type 0) → State (store_of config) → Option LineForm → Printed → Type 0
+  abbrev pub LineRuns : ℕ → Onward → State (store_of config) → Option LineForm → Printed → Type 0
   LineRuns number Rest state None printed = printed ≡ refused_at number fault.BadLine
   LineRuns number Rest state (Some what) printed =
       DoneUnless number Rest state what (line_fault (store_of config) state what) printed
 
   -- an empty line and a remark do nothing
-  abbrev pub RunsUnless : ℕ → (State (store_of config) → Printed → Type 0) → State (store_of config) → List ℕ → Bool → Printed → Type 0
+  abbrev pub RunsUnless : ℕ → Onward → State (store_of config) → List ℕ → Bool → Printed → Type 0
   RunsUnless number Rest state line true printed = Rest state printed
   RunsUnless number Rest state line false printed =
       LineRuns number Rest state (form_of config.schemas line) printed
@@ -172,7 +179,8 @@ module _ (config : Config) where
   Numbered number Runs true printed = printed ≡ refused_at number fault.BadLine
   Numbered number Runs false printed = Runs
 
-  -- the lines that are numbered on from one, in a state, print this; at the end the actors that have not ended are named
+  -- the lines that are numbered on from one, in a state, print this; at the end the actors that have not ended are
+  -- named
   abbrev pub RunsFrom : ℕ → List (List ℕ) → State (store_of config) → Printed → Type 0
   RunsFrom number [] state printed = printed ≡ record { text = unfinished_text (store_of config) state; fault = None }
   RunsFrom number (line ∷ lines) state printed =

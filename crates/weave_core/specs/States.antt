@@ -29,8 +29,8 @@ store_of config = record {
 
 -- ---- actors
 
--- what an actor was declared to do: nothing so far; a call that has no event, and ends at its first step with this text,
--- or has done so; a write, or a query, which the core has under its number
+-- what an actor was declared to do: nothing so far; a call that has no event, and ends at its first step with this
+-- text, or has done so; a write, or a query, which the core has under its number
 pub data Role : Type 0 where
   Undeclared : Role
   Eventless : List ℕ → Role

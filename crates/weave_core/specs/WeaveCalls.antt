@@ -1,16 +1,15 @@
 -- What the calls of a weave come to, whichever state of the core it agrees with.
-use Rattle.std.specs.Prelude.{ℕ, pos, ◌≡◌, ◌≤ℤ◌, true, Option, Some, None, Result, Ok, Err}
+use Rattle.std.specs.Prelude.{ℕ, ◌≡◌, Some, None, Result, Ok, Err}
 use Rattle.mon_config.specs.declared.config.Config.{Config}
-use Rattle.mon_schema.specs.Fits.{fits}
 use Rattle.mon_value.specs.declared.refusals.Refusal.{Refusal}
 use Rattle.mon_value.specs.declared.refusals.Refusal.TheVariants as refusal
 use Rattle.weave_core.specs.ActorAgreements.{Agrees}
 use Rattle.weave_core.specs.Declarations.{Declares, Meets}
-use Rattle.weave_core.specs.Schedules.{IsFirst, declare_fault, meet_fault}
+use Rattle.weave_core.specs.LawfulLines.{IsLawfulCall}
+use Rattle.weave_core.specs.Schedules.{IsFirst, declare_fault}
 use Rattle.weave_core.specs.States.{State, step_fault, store_of}
 use Rattle.weave_core.specs.Steps.{Steps}
 use Rattle.weave_core.specs.declared.calls.Call.{Call}
-use Rattle.weave_core.specs.declared.calls.Call.TheVariants as call
 use Rattle.weave_core.specs.declared.calls.Stepped.{Stepped}
 use Rattle.weave_core.specs.declared.calls.WeaveFault.{WeaveFault}
 use Rattle.weave_core.specs.declared.weave.Weave.{Weave}
@@ -32,14 +31,9 @@ pub record BeginsSo (config : Config) (weave : Weave) : Type 0 where
   pub first : IsFirst config state
   pub agrees : Agrees config weave state
 
--- a row fits the schemas, and a moment is not negative
-abbrev pub IsLawfulCall : Config → Call → Type 0
-IsLawfulCall config (call.Write row) = fits config.schemas row ≡ true
-IsLawfulCall config (call.Query moment text) = pos 0 ≤ℤ moment
-
 module _ (config : Config) (state : State (store_of config)) (k : ℕ) where
   pub record MayDeclare (call : Call) : Type 0 where
-    pub lawful : IsLawfulCall config call
+    pub lawful : IsLawfulCall config.schemas call
     pub fault : declare_fault (store_of config) state k ≡ None
 
   -- an actor is declared, and the weave is as the core then

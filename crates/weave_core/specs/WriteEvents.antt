@@ -1,10 +1,10 @@
 -- What an event of a write does to the seat that it needs, to the write, and to how far this has seen.
-use Rattle.std.specs.Prelude.{ℕ, ◌≡◌, ◌&&◌, Bool, true, false, is_some, List, [], ◌∷◌, ◌++◌, length, Option, Some, None, set, if◌then◌else◌}
+use Rattle.std.specs.Prelude.{ℕ, ◌≡◌, Bool, true, false, is_some, List, [], ◌∷◌, ◌++◌, length, Option, Some, None}
+use Rattle.std.specs.Prelude.{set, if◌then◌else◌}
 use Rattle.std.specs.List.Sorted.{IsStrictlyIncreasing}
 use Rattle.leaf_store.specs.LeafBuckets.{is_unraised}
 use Rattle.mon_hints.specs.Listings.{is_among}
 use Rattle.mon_value.specs.LeafHistories.{is_down}
-use Rattle.mon_value.specs.declared.histories.Ack.{Ack}
 use Rattle.mon_value.specs.declared.histories.Entry.{Entry}
 use Rattle.mon_value.specs.declared.histories.Entry.TheVariants as entry
 use Rattle.mon_value.specs.declared.histories.RangeEntry.{RangeEntry}
@@ -42,7 +42,8 @@ pub record IsToldSo (answer : WriteTold) (inside : Option Leaf) (old new : Writi
   pub inside_of : new.inside ≡ inside
 
 -- someone holds the seat, so nothing changes
-pub record IsHeldUp {Seat : Type 0} (holder : Option ℕ) (old new : Seat) (before after : Writing) (sight sight_after : Sight) : Type 0 where
+pub record IsHeldUp {Seat : Type 0} (holder : Option ℕ) (old new : Seat) (before after : Writing)
+    (sight sight_after : Sight) : Type 0 where
   pub held : is_some holder ≡ true
   pub seat : new ≡ old
   pub writing : after ≡ before
@@ -77,7 +78,8 @@ IfWritten (end.Full count) fact = Unit {0}
 IfWritten (end.Unavailable founds) fact = Unit {0}
 
 -- it lets go of the range
-pub record LetsGo (end : WriteEnd) (number : ℕ) (row : Row) (range : Range) (old new : RangeSeat) (sight sight_after : Sight) : Type 0 where
+pub record LetsGo (end : WriteEnd) (number : ℕ) (row : Row) (range : Range) (old new : RangeSeat)
+    (sight sight_after : Sight) : Type 0 where
   pub state : new.state ≡ acknowledged old.state number row end
   pub holder : new.holder ≡ None
   pub sight_there : new.sight ≡ sight_after
@@ -125,8 +127,8 @@ pub record Enters (leaf : Leaf) (old new : LeafSeat) (before after : Writing) (s
   pub buckets : List ℕ
   pub to_raise : is_down old.state.history ≡ false → AreToRaise old.state before.row.key buckets
   pub holder : new.holder ≡ (if is_down old.state.history then None else Some before.number)
-  pub told_so : IsToldSo (up_or_down old.state.history buckets) (if is_down old.state.history then before.inside else Some leaf)
-      before after
+  pub told_so : IsToldSo (up_or_down old.state.history buckets)
+      (if is_down old.state.history then before.inside else Some leaf) before after
 
 abbrev pub EntersIf : Leaf → LeafSeat → LeafSeat → Writing → Writing → Sight → Sight → Bool → Type 0
 EntersIf leaf old new before after sight sight_after true = Enters leaf old new before after sight sight_after
@@ -141,7 +143,8 @@ pub record Raises (leaf : Leaf) (old new : LeafSeat) (before after : Writing) (s
   pub told_so : IsToldSo told.Done before.inside before after
 
 -- its row is put, and it lets go of the leaf
-pub record Puts (slot : Slot) (leaf : Leaf) (old new : LeafSeat) (before after : Writing) (sight sight_after : Sight) : Type 0 where
+pub record Puts (slot : Slot) (leaf : Leaf) (old new : LeafSeat) (before after : Writing) (sight sight_after : Sight)
+    : Type 0 where
   pub stays : StaysThere old new sight_after
   pub history : new.state.history ≡ old.state.history ++ entry.Put before.number before.range slot before.row ∷ []
   pub holder : new.holder ≡ None

@@ -26,7 +26,8 @@ abbrev pub turn_of : Bool → Writing → WriteTurn
 turn_of went writing = if went then turn.Went writing else turn.Waits writing
 
 -- a store and a write that goes on are as in a world of which all holds that every interleaving keeps
-pub record IsAtWork (config : Config) (world : World) (i : ℕ) (store : Store) (writing : Writing) (sight : Sight) : Type 0 where
+pub record IsAtWork (config : Config) (world : World) (i : ℕ) (store : Store) (writing : Writing) (sight : Sight)
+    : Type 0 where
   pub kept : IsKept (store_of config) world
   pub holders : AreHolders world
   pub shared : AreShared config world store
@@ -67,7 +68,8 @@ module _ (config : Config) (world : World) (i : ℕ) where
     pub answer : WriteTold
     pub came : HasCome store answer
     pub verdict : Verdict
-    pub writer : (world_then answer).actors i ≡ Writes (ended_write i before verdict (view_of ((world_then answer).actors i)))
+    pub writer : (world_then answer).actors i
+        ≡ Writes (ended_write i before verdict (view_of ((world_then answer).actors i)))
     pub sight_is : sight ≡ sight_of (view_of ((world_then answer).actors i)).seen
     pub range_is : range ≡ before.range
     pub end_is : end ≡ end_of_verdict range verdict

@@ -14,7 +14,8 @@ use crate::texts::{query_text, write_text};
 use crate::writes::WriteTurn;
 use mon_value::OutOfMemory;
 
-/// Does the next event of an actor, unless another one is in its way, and tells how that went; nothing where it has ended.
+/// Does the next event of an actor, unless another one is in its way, and tells how that went; nothing where it has
+/// ended.
 pub(crate) fn step_actor(
     store: &mut Store,
     own: Actor,

@@ -20,7 +20,8 @@ pub enum Event {
     RaiseZone,
     /// A write appends its row to a leaf's history, and lets go of the leaf.
     Put,
-    /// A write appends its acknowledgement to its range's history, if some replica took the row, and lets go of the range.
+    /// A write appends its acknowledgement to its range's history, if some replica took the row, and lets go of the
+    /// range.
     Ack,
     /// A query loads a word of the root.
     LoadRoot,

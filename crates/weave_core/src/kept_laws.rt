@@ -46,17 +46,18 @@ pub fn one_bit_is_raised()
         → HasWord hints place bucket → RaisesOne hints place child bucket }
 {}
 
-/// A store begins with its ranges opened on their first replicas: these histories are held together, whatever the schemas,
-/// and no leaf has a row.
+/// A store begins with its ranges opened on their first replicas: these histories are held together, whatever the
+/// schemas, and no leaf has a row.
 pub fn stores_begin_held()
     ensures held { (held : SchemaLists) (zones : List ZoneSpec) (points : ℕ)
         → ((range : RangeNumber) → range.0 < length (ranges_in zones) → HasReplicas zones range)
         → AreHeld held zones points (first_histories zones) }
-    ensures bare { (zones : List ZoneSpec) (leaf : LeafNumber) → leaf_rows (leaf_history (first_histories zones) leaf) ≡ [] }
+    ensures bare { (zones : List ZoneSpec) (leaf : LeafNumber)
+        → leaf_rows (leaf_history (first_histories zones) leaf) ≡ [] }
 {}
 
-/// Who has seen a part of the truth, and keeps how far, sees by a meeting at a leaf or at a range just as far as what it has
-/// seen then, together with what was seen there.
+/// Who has seen a part of the truth, and keeps how far, sees by a meeting at a leaf or at a range just as far as what
+/// it has seen then, together with what was seen there.
 pub fn meetings_see_as_far_as_views()
     ensures leaf { (store : Store) (world : World) (view : View) (leaf : LeafNumber) → IsKept store world
         → IsPart store world view
@@ -68,8 +69,8 @@ pub fn meetings_see_as_far_as_views()
         ≡ sight_of (joined view (world.ranges range.0)).seen }
 {}
 
-/// Of a history that a range can have, what a write is told by the lock is what it may be told: that its row is old, that the
-/// range is full, or the replicas that serve, and then its row can be acknowledged next.
+/// Of a history that a range can have, what a write is told by the lock is what it may be told: that its row is old,
+/// that the range is full, or the replicas that serve, and then its row can be acknowledged next.
 pub fn locks_tell_the_truth()
     ensures told { (store : Store) (range : RangeNumber) (history : List RangeEntry) (row : RowOf)
         → IsLegal store.held store.zones store.points range history

@@ -17,22 +17,23 @@ ghost use Rattle.write_core.specs.World.{World};
 
 use query_core::sessions_answer_rightly;
 
-/// Whichever writes, recoveries and queries go on, in whatever order, and whatever they are told of the world as it stands,
-/// each query's session stays licensed, and what its caller has seen and knows stays a sound part of the truth, while the
-/// writes and recoveries keep their invariant; all this holds before any of them has begun.
+/// Whichever writes, recoveries and queries go on, in whatever order, and whatever they are told of the world as it
+/// stands, each query's session stays licensed, and what its caller has seen and knows stays a sound part of the
+/// truth, while the writes and recoveries keep their invariant; all this holds before any of them has begun.
 pub fn queries_are_licensed()
     ensures begins { (store : Store) (core : Core store) → IsNewCore store core → IsWoven store core }
     ensures stays { (store : Store) (core : Core store) (events : List (CoreEvent store)) → CanGoOn store core events
         → IsWoven store core → IsWoven store (gone_on store core events) }
 {}
 
-/// So each query that is asked of the store ends rightly, whatever else goes on. Its table is what it means, evaluated in one
-/// place, over the rows of its trace: each target's are those of one replica at one cut of its leaf's history. The trace is of
-/// the histories that its caller has seen; it holds each row that had been acknowledged to the caller as the query began; and
-/// a leaf that was not read has no row there that the query wants. It stops for its load only where the load over the rows of
-/// its trace is above the limit. Where it ends because a range has no replica, each slot that served at a length of the range's
-/// history between those that its caller had seen as it began and those seen at its end is on a leaf of the range's zone that
-/// it found down between them, and all these are named.
+/// So each query that is asked of the store ends rightly, whatever else goes on. Its table is what it means,
+/// evaluated in one place, over the rows of its trace: each target's are those of one replica at one cut of its
+/// leaf's history. The trace is of the histories that its caller has seen; it holds each row that had been
+/// acknowledged to the caller as the query began; and a leaf that was not read has no row there that the query wants.
+/// It stops for its load only where the load over the rows of its trace is above the limit. Where it ends because a
+/// range has no replica, each slot that served at a length of the range's history between those that its caller had
+/// seen as it began and those seen at its end is on a leaf of the range's zone that it found down between them, and
+/// all these are named.
 pub fn queries_answer_rightly()
     ensures answered { (store : Store) (world : World) (reader : Reader store) (answer : AnswerOf)
         → IsReader store world reader → reader.first ≡ new_query reader.setting → IsAskedOf store reader.setting

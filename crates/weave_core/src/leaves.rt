@@ -20,7 +20,8 @@ pub struct LeafSeat {
 }
 
 impl LeafSeat {
-    /// Someone who has seen so much looks at the leaf: both have then seen what either had, and all of the leaf's history.
+    /// Someone who has seen so much looks at the leaf: both have then seen what either had, and all of the leaf's
+    /// history.
     pub fn meet(&mut self, leaf: Leaf, sight: &mut Sight)
         requires alike { AreAlike sight.old self.old.sight }
         requires there { leaf.0 < length self.old.sight.leaves }

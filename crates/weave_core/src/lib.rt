@@ -42,6 +42,3 @@ pub use schedules::run_schedule;
 pub use sights::{RangeSight, Sight};
 pub use weave::Weave;
 pub use words::{HintWords, Place};
-
-#[cfg(test)]
-mod tests;

@@ -2,7 +2,6 @@
 ghost use Rattle.std.specs.Prelude.{◌≡◌, true, option_map, IfOk, IfSome};
 ghost use Rattle.mon_schema.specs.Fits.{fits};
 ghost use Rattle.mon_schema.specs.SchemaLists.{SchemaLists};
-ghost use Rattle.mon_script.specs.Scripts.{moment_of as moment_in};
 ghost use Rattle.std.specs.List.{AllByRecursion};
 ghost use Rattle.mon_points.specs.Fitting.{ReadFits};
 ghost use Rattle.weave_core.specs.LawfulLines.{IsActor, IsLawfulForm, IsMoment};
@@ -13,7 +12,7 @@ use crate::events::{Event, event_named};
 use crate::limits::LAST_ACTOR;
 use mon_points::{RowRead, RowReads, read_rows};
 use mon_schema::Schemas;
-use mon_script::cut_at;
+use mon_script::{cut_at, moment_of};
 use mon_value::{OutOfMemory, Row, Text, read_number};
 use std::alloc::Global;
 
@@ -74,7 +73,8 @@ fn write_form(
 // The one row that was read, where nothing else was.
 fn only_row(reads: RowReads) -> Option<Row>
     ensures row { result ≡ spec.only_row reads }
-    ensures fits { (held : SchemaLists) → AllByRecursion (ReadFits held) reads → IfSome result (λ row. fits held row ≡ true) }
+    ensures fits { (held : SchemaLists) → AllByRecursion (ReadFits held) reads
+        → IfSome result (λ row. fits held row ≡ true) }
 {
     let mut reads = reads.into_vec();
     let last = reads.pop()?;
@@ -157,18 +157,6 @@ fn moment_and_rest(text: &[u8]) -> Option<(i64, &[u8])>
 {
     let (word, rest) = cut_at(text, b' ')?;
     Some((moment_of(word)?, rest))
-}
-
-// The moment that a word spells.
-fn moment_of(word: &[u8]) -> Option<i64>
-    ensures moment { result ≡ moment_in word.now }
-    ensures lawful { IfSome result IsMoment }
-{
-    let number = read_number(word)?;
-    if number < 0 || number > i128::from(i64::MAX) {
-        return None;
-    }
-    Some(number as i64)
 }
 
 // The actor that a word names.

@@ -1,5 +1,6 @@
 // The events of a query.
-ghost use Rattle.std.specs.Prelude.{◌≡◌, ◌≢◌, ◌<◌, ◌≤◌, ◌≤ℤ◌, ◌^◌, ℕ, length, map, pos, slice_get, IfOk, IsTrue, None, Some, false};
+ghost use Rattle.std.specs.Prelude.{◌≡◌, ◌≢◌, ◌<◌, ◌≤◌, ◌≤ℤ◌, ◌^◌, ℕ, length, map, pos, slice_get, IfOk, IsTrue, None};
+ghost use Rattle.std.specs.Prelude.{Some, false};
 ghost use Rattle.mon_config.specs.declared.config.Config.{Config as ConfigOf};
 ghost use Rattle.mon_hints.specs.Formulas.{all_named, formula_tree, formulas};
 ghost use Rattle.mon_hints.specs.Listings.{AreAmong};

@@ -51,7 +51,8 @@ fn slot_told(found: Option<SlotLeaf>) -> Told
     }
 }
 
-/// A query looks at a leaf, and reads it where a formula of its plan holds of the leaf's buckets, unless someone holds the leaf.
+/// A query looks at a leaf, and reads it where a formula of its plan holds of the leaf's buckets, unless someone
+/// holds the leaf.
 pub(crate) fn look(
     alloc: Global,
     querying: &Querying,

@@ -1,5 +1,6 @@
 // What is kept of a range.
-ghost use Rattle.std.specs.Prelude.{◌≡◌, ◌<◌, ◌<ℤ◌, ◌++◌, ◌∷◌, [], filter, length, not, slice_get, IfOk, IfSome, OnErr, OnOk};
+ghost use Rattle.std.specs.Prelude.{◌≡◌, ◌<◌, ◌<ℤ◌, ◌++◌, ◌∷◌, [], filter, length, not, slice_get, IfOk, IfSome, OnErr};
+ghost use Rattle.std.specs.Prelude.{OnOk};
 ghost use Rattle.std.specs.List.{list_any};
 ghost use Rattle.mon_topo.specs.RangeHistories.{acked, is_missed};
 ghost use Rattle.mon_topo.specs.Replicas.{same_leaf};
@@ -19,7 +20,8 @@ use std::alloc::{AllocError, Global};
 use std::marker::Model;
 use write_core::WriteTold;
 
-/// The replay of a range's history: the replicas that serve, and the rows that were acknowledged. Contracts see the history.
+/// The replay of a range's history: the replicas that serve, and the rows that were acknowledged. Contracts see the
+/// history.
 #[derive(Drop)]
 pub struct RangeState {
     alloc: Global,
@@ -94,8 +96,8 @@ impl RangeState {
         first_off(self.serving.as_slice(), avoided.as_slice())
     }
 
-    /// A row is acknowledged, which ends after those of its series. The replicas that missed it serve no more. Where memory
-    /// runs out nothing changes.
+    /// A row is acknowledged, which ends after those of its series. The replicas that missed it serve no more. Where
+    /// memory runs out nothing changes.
     #[tactic(auto, using(crate::proofs::RangeLemmas::ranges))]
     pub fn acknowledge(&mut self, pass: u64, row: Row, ack: Ack) -> Result<(), OutOfMemory>
         requires later { IfSome (last_end (points_of row.key (acked self.old))) (λ last. last <ℤ row.point.end) }
@@ -136,7 +138,8 @@ impl RangeState {
 }
 
 impl RangeSeat {
-    /// Someone who has seen so much looks at the range: both have then seen what either had, and all of the range's history.
+    /// Someone who has seen so much looks at the range: both have then seen what either had, and all of the range's
+    /// history.
     pub fn meet(&mut self, range: Range, sight: &mut Sight)
         requires alike { AreAlike sight.old self.old.sight }
         requires there { range.0 < length self.old.sight.ranges }

@@ -11,17 +11,18 @@ ghost use Rattle.weave_core.specs.declared.lines.LineForm.{LineForm as Form};
 
 use crate::laws::queries_answer_rightly;
 
-/// Wherever the lines of a schedule lead to, the histories are held, what each actor knows leads to all that it has seen, and
-/// each query's session is licensed. So each query that ended has answered rightly.
+/// Wherever the lines of a schedule lead to, the histories are held, what each actor knows leads to all that it has
+/// seen, and each query's session is licensed. So each query that ended has answered rightly.
 pub fn schedules_answer_rightly()
-    ensures woven { (config : ConfigOf) (first state : State (store_of config)) (lines : List Form) → IsFirst config first
-        → Leads config first lines state → IsWoven (store_of config) state.core }
-    ensures answered { (config : ConfigOf) (first state : State (store_of config)) (lines : List Form) (k : ℕ) (answer : AnswerOf)
-        → IsFirst config first → Leads config first lines state → state.roles k ≡ Asking
+    ensures woven { (config : ConfigOf) (first state : State (store_of config)) (lines : List Form)
+        → IsFirst config first → Leads config first lines state → IsWoven (store_of config) state.core }
+    ensures answered { (config : ConfigOf) (first state : State (store_of config)) (lines : List Form) (k : ℕ)
+        (answer : AnswerOf) → IsFirst config first → Leads config first lines state → state.roles k ≡ Asking
         → HasAnswered config (state.core.readers k) answer → AnsweredRightly config (state.core.readers k) answer }
-    ensures stopped { (config : ConfigOf) (first state : State (store_of config)) (lines : List Form) (k limit : ℕ) (trace : TraceOf)
-        → IsFirst config first → Leads config first lines state → state.roles k ≡ Asking
-        → HasStoppedSo config (state.core.readers k) limit trace → StoppedRightly config (state.core.readers k) limit trace }
+    ensures stopped { (config : ConfigOf) (first state : State (store_of config)) (lines : List Form) (k limit : ℕ)
+        (trace : TraceOf) → IsFirst config first → Leads config first lines state → state.roles k ≡ Asking
+        → HasStoppedSo config (state.core.readers k) limit trace
+        → StoppedRightly config (state.core.readers k) limit trace }
 {
     queries_answer_rightly();
 }

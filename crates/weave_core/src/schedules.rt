@@ -19,8 +19,8 @@ use mon_script::{is_remark, next_line};
 use mon_value::{OutOfMemory, Refusal};
 use std::alloc::Global;
 
-/// Runs the lines of a schedule over the store of a configuration, and adds what they print. The first line that is refused
-/// ends the run; what the lines before it printed stays.
+/// Runs the lines of a schedule over the store of a configuration, and adds what they print. The first line that is
+/// refused ends the run; what the lines before it printed stays.
 pub fn run_schedule(
     alloc: Global,
     config: Config,

@@ -1,5 +1,6 @@
 // What actors share.
-ghost use Rattle.std.specs.Prelude.{◌≡◌, ◌<◌, ◌-◌, ◌+◌, ◌++◌, ◌∷◌, [], length, map, replicate, slice_get, IfOk, IfSome, OnOk};
+ghost use Rattle.std.specs.Prelude.{◌≡◌, ◌<◌, ◌-◌, ◌+◌, ◌++◌, ◌∷◌, [], length, map, replicate, slice_get, IfOk, IfSome};
+ghost use Rattle.std.specs.Prelude.{OnOk};
 ghost use Rattle.std.specs.List.{slice_index_or};
 ghost use Rattle.leaf_store.specs.LeafStates.{new_leaf};
 ghost use Rattle.mon_topo.specs.Locations.{range_for};

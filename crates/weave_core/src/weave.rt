@@ -1,5 +1,6 @@
 // The core: its store and its actors.
-ghost use Rattle.std.specs.Prelude.{◌≡◌, ◌≤◌, ◌+◌, None, option_map, replicate, set, IfOk, IfSome, OnOk};
+ghost use Rattle.std.specs.Prelude.{◌≡◌, ◌<◌, ◌≤◌, ◌+◌, None, Some, length, option_map, replicate, set};
+ghost use Rattle.std.specs.Prelude.{IfOk, IfSome, OnOk};
 ghost use Rattle.std.specs.Option.{option_copied};
 ghost use Rattle.mon_config.specs.declared.config.Config.{Config as ConfigOf};
 ghost use Rattle.weave_core.specs.ActorAgreements.{Agrees, actor_numbered};
@@ -9,7 +10,8 @@ ghost use Rattle.weave_core.specs.Schedules.{meet_fault};
 ghost use Rattle.weave_core.specs.Sights.{AreAlike};
 ghost use Rattle.weave_core.specs.States as spec;
 ghost use Rattle.weave_core.specs.States.{State, store_of};
-ghost use Rattle.weave_core.specs.WeaveCalls.{BeginsSo, DeclaresSo, IsKept, IsKeptUnless, IsStepped, MayDeclare, MeetsSo};
+ghost use Rattle.weave_core.specs.WeaveCalls.{BeginsSo, DeclaresSo, IsKept, IsKeptUnless, IsStepped, MayDeclare};
+ghost use Rattle.weave_core.specs.WeaveCalls.{MeetsSo};
 
 use crate::actor_steps::step_actor;
 use crate::actors::Actor;
@@ -22,9 +24,10 @@ use mon_config::Config;
 use mon_value::{OutOfMemory, Refusal};
 use std::alloc::Global;
 
-/// A store whose writes and queries go one event at a time, whichever is asked to go next. No event waits in it: an actor
-/// that is in another one's way stays where it is. Contracts speak of the states of the core that it agrees with. Once a call
-/// was refused for want of memory, it is to be dropped. Each actor stands at its number, and none at the place 0.
+/// A store whose writes and queries go one event at a time, whichever is asked to go next. No event waits in it: an
+/// actor that is in another one's way stays where it is. Contracts speak of the states of the core that it agrees
+/// with. Once a call was refused for want of memory, it is to be dropped. Each actor stands at its number, and none
+/// at the place 0.
 #[derive(Drop)]
 pub struct Weave {
     store: Store,
@@ -54,7 +57,7 @@ impl Weave {
             → OnOk result (DeclaresSo config state actor call self.new) }
     {
         let own = Actor::new(&self.store, actor, call)?;
-        self.actors[actor as usize] = Some(own);
+        put_actor(self.actors.as_mut_slice(), actor, own);
         Ok(())
     }
 
@@ -69,7 +72,7 @@ impl Weave {
             return Err(Refusal::Fault(WeaveFault::NoActor));
         };
         let (own, stepped) = step_actor(&mut self.store, own)?;
-        self.actors[actor as usize] = Some(own);
+        put_actor(self.actors.as_mut_slice(), actor, own);
         stepped.ok_or(Refusal::Fault(WeaveFault::Finished))
     }
 
@@ -87,7 +90,7 @@ impl Weave {
         };
         let place = &mut self.actors[actor as usize];
         hear(place, &ended.sight);
-        self.actors[other as usize] = Some(ended);
+        put_actor(self.actors.as_mut_slice(), other, ended);
     }
 
     /// The next event of an actor: none where it is not declared, has ended, or has none at all.
@@ -181,6 +184,14 @@ fn take_actor(actors: &mut [Option<Actor>], number: u32) -> Option<Actor>
     } else {
         None
     }
+}
+
+// Puts an actor at its place. Who stood there is let go of by one call, which is proved apart.
+fn put_actor(actors: &mut [Option<Actor>], number: u32, own: Actor)
+    requires there { number < length actors.old }
+    ensures put { actors.new ≡ set actors.old number (Some own) }
+{
+    drop(actors[number as usize].replace(own));
 }
 
 // Lets an actor, if there is one, see what was seen.

@@ -5,7 +5,8 @@ ghost use Rattle.mon_topo.specs.RangeHistories.{acked};
 ghost use Rattle.mon_value.specs.LeafHistories.{IsWellFormed};
 ghost use Rattle.mon_value.specs.Sources.{last_end, points_of};
 ghost use Rattle.weave_core.specs.Sights.{AreAlike};
-ghost use Rattle.weave_core.specs.WriteEvents.{AreToRaise, EntersIf, IfWritten, LetsGo, LocksIf, Puts, Raises, ReservesIf};
+ghost use Rattle.weave_core.specs.WriteEvents.{AreToRaise, EntersIf, IfWritten, LetsGo, LocksIf, Puts, Raises};
+ghost use Rattle.weave_core.specs.WriteEvents.{ReservesIf};
 
 use crate::leaves::LeafSeat;
 use crate::ranges::RangeSeat;
@@ -148,7 +149,8 @@ pub(crate) fn let_go(
 ) -> Result<(), OutOfMemory>
     requires alike { AreAlike sight.old seat.old.sight }
     requires there { range.0 < length seat.old.sight.ranges }
-    requires later { IfWritten end.now (IfSome (last_end (points_of row.key (acked seat.old.state))) (λ last. last <ℤ row.point.end)) }
+    requires later { IfWritten end.now
+        (IfSome (last_end (points_of row.key (acked seat.old.state))) (λ last. last <ℤ row.point.end)) }
     ensures lets_go { OnOk result (LetsGo end.now number row range seat.old seat.new sight.old sight.new) }
 {
     if let WriteEnd::Written(ack) = end {

@@ -27,7 +27,8 @@ is_left set buckets bucket = is_among bucket buckets && not (set bucket)
 
 -- the buckets of the replicas' rows are in a set
 abbrev pub HoldsBuckets : Replicas → (SeriesKey → List ℕ) → (ℕ → Bool) → Type 0
-HoldsBuckets replicas buckets_of set = (range : Range) → (slot : Slot) → (rows : List Row) → rows_held replicas range slot ≡ Some rows
+HoldsBuckets replicas buckets_of set = (range : Range) → (slot : Slot) → (rows : List Row)
+    → rows_held replicas range slot ≡ Some rows
     → (bucket : ℕ) → is_among bucket (rows_buckets buckets_of rows) ≡ true → set bucket ≡ true
 
 -- an entry's row is of a series that its replica has

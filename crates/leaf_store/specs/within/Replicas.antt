@@ -1,5 +1,7 @@
--- How replicas are kept: each under its range and slot, with the rows that it has; and entries whose rows are with them.
-use Rattle.std.specs.Prelude.{◌≡◌, ◌<ℤ◌, ℕ, true, List, [], ◌∷◌, ◌++◌, length, take, nat_lt, is_some, slice_get, Option, Some, None, option_map, IfSome, if◌then◌else◌}
+-- How replicas are kept: each under its range and slot, with the rows that it has; and entries whose rows are with
+-- them.
+use Rattle.std.specs.Prelude.{◌≡◌, ◌<ℤ◌, ℕ, true, List, [], ◌∷◌, ◌++◌, length, take, nat_lt, is_some, slice_get, Option}
+use Rattle.std.specs.Prelude.{Some, None, option_map, IfSome, if◌then◌else◌}
 use Rattle.std.specs.List.{AllByRecursion}
 use Rattle.std.specs.Map.{lookup}
 use Rattle.indexmap.specs.Layout.{set_value_at}
@@ -36,7 +38,8 @@ rows_if range slot (Some held) = if same_replica range slot held.0.range held.0.
 
 -- just the replicas that a history opened are kept, with their rows
 abbrev pub HoldsHistory : Replicas → List Entry → Type 0
-HoldsHistory replicas history = (range : Range) → (slot : Slot) → rows_held replicas range slot ≡ opened_rows range slot history
+HoldsHistory replicas history = (range : Range) → (slot : Slot)
+    → rows_held replicas range slot ≡ opened_rows range slot history
 
 -- ---- entries that are kept
 
@@ -80,7 +83,8 @@ IsLater row rows = IfSome (last_end (points_of row.key rows)) (λ last. last <�
 
 -- a replica is kept, and takes a row that ends later than those of its series
 abbrev pub CanPut : Replicas → Replica → Row → Type 0
-CanPut replicas replica row = (rows : List Row) × (rows_held replicas replica.range replica.slot ≡ Some rows) × IsLater row rows
+CanPut replicas replica row =
+    (rows : List Row) × (rows_held replicas replica.range replica.slot ≡ Some rows) × IsLater row rows
 
 -- a replica has a row of a series
 abbrev pub HasSeries : Replicas → Replica → SeriesKey → Type 0

@@ -34,8 +34,8 @@ abbrev pub AllSwitches : List Entry → Type 0
 AllSwitches entries = AllByRecursion (λ entry. is_switch entry ≡ true) entries
 
 -- the rows of what is kept are with the replicas; the set has the history's buckets; whether the leaf is down and how
--- many switches it may still have are those of the history; a settled leaf has only switches left; and there is room for
--- what is promised and for the switches to come
+-- many switches it may still have are those of the history; a settled leaf has only switches left; and there is room
+-- for what is promised and for the switches to come
 pub record IsKept (leaf : Inside) : Type 0 where
   pub within : leaf.moved ≤ length leaf.fresh.items
   pub holds : Holds leaf.replicas.entries leaf.kept.items (left_of leaf)

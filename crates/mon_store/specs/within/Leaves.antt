@@ -1,5 +1,7 @@
 -- What a store keeps of the rows that it has taken: the history of each leaf, and the range of each row in order.
-use Rattle.std.specs.Prelude.{◌≡◌, ℕ, nat_eq, Bool, true, false, List, [], ◌∷◌, ◌++◌, ◌+◌, ◌≤◌, ◌&&◌, ◌||◌, nat_lt, nat_le, suc, zero, length, filter, map, option_map, pos, drop, slice_get, Option, Some, None, IfSome, if◌then◌else◌}
+use Rattle.std.specs.Prelude.{◌≡◌, ℕ, nat_eq, Bool, true, false, List, [], ◌∷◌, ◌++◌, ◌+◌, ◌≤◌, ◌&&◌, ◌||◌, nat_lt}
+use Rattle.std.specs.Prelude.{nat_le, suc, zero, length, filter, map, option_map, pos, drop, slice_get, Option, Some}
+use Rattle.std.specs.Prelude.{None, IfSome, if◌then◌else◌}
 use Rattle.std.specs.List.{AllByRecursion, flat_map, list_any}
 use Rattle.mon_value.specs.LeafHistories.{IsWellFormed, is_down, is_opened, is_switch, replica_rows, same_replica}
 use Rattle.mon_value.specs.declared.histories.Entry.{Entry}
@@ -144,8 +146,8 @@ abbrev pub first_slots : List ZoneSpec → ℕ → ℕ → List RangeSlot
 first_slots zones n zero = []
 first_slots zones n (suc range) =
     first_slots zones n range
-    ++ (if is_at n (leaf_of zones (range_numbered range) first_slot) then record { range = range_numbered range; slot = first_slot } ∷ []
-    else [])
+    ++ (if is_at n (leaf_of zones (range_numbered range) first_slot)
+    then record { range = range_numbered range; slot = first_slot } ∷ [] else [])
 
 -- none is listed for any of so many leaves
 abbrev pub AreBare : ℕ → List (List RangeSlot) → Type 0

@@ -1,4 +1,4 @@
-use Rattle.std.proofs.Common.{rules, refl, Option}
+use Rattle.std.proofs.Common.{Option}
 use Rattle.weave_core.proofs.ActorStepLemmas.{query_asks_for, query_step, refused_step, write_step}
 use Rattle.weave_core.proofs.QueryTurnLemmas.{if_ok_on}
 use Rattle.weave_core.specs.ActorSteps.{ActorSteps, QueriedSo, WrittenSo}

@@ -1,6 +1,4 @@
-use Rattle.std.proofs.Common.{◌≡◌, ◌∙◌, Bool, Some, None, [], cond, refl, sym, ap}
-use Rattle.weave_core.specs.Schedules.{declare_fault}
-use Rattle.weave_core.specs.States.{store_of}
+use Rattle.std.proofs.Common.{◌∙◌, Bool, Some, None, [], cond, refl, sym, ap}
 use Rattle.weave_core.specs.declared.calls.WeaveFault.TheVariants as fault
 use Rattle.weave_core.proofs.schedules.declare.Goals as goal
 

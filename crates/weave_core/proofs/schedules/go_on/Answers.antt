@@ -2,7 +2,7 @@ use Rattle.std.proofs.Common.{rules, Result, subst, arith}
 use Rattle.std.proofs.lemmas.Result.{err_from_is_err_and}
 use Rattle.mon_value.specs.declared.refusals.Refusal.{Refusal}
 use Rattle.weave_core.proofs.PassedLemmas.{passed_on}
-use Rattle.weave_core.proofs.TurnLemmas.{goes_refused, going_begins, going_more, gone_before, gone_by, gone_rests}
+use Rattle.weave_core.proofs.TurnLemmas.{goes_refused, going_more, gone_before, gone_by, gone_rests}
 use Rattle.weave_core.specs.ScheduleTurns.{GoesSo}
 use Rattle.weave_core.specs.WeaveCalls.{StepsSo}
 use Rattle.weave_core.specs.declared.calls.Stepped.{Stepped}

@@ -1,4 +1,4 @@
-use Rattle.std.proofs.Common.{◌∙◌, Option, Some, sym, subst}
+use Rattle.std.proofs.Common.{◌∙◌, Option, sym, subst}
 use Rattle.weave_core.specs.Schedules as spec
 use Rattle.weave_core.specs.States.{store_of}
 use Rattle.weave_core.specs.declared.events.Event.{Event}

@@ -1,4 +1,4 @@
-use Rattle.std.proofs.Common.{List, ℕ, [], Result, string_bytes, subst, arith}
+use Rattle.std.proofs.Common.{List, ℕ, Result, string_bytes, subst, arith}
 use Rattle.std.proofs.lemmas.Result.{err_from_is_err_and}
 use Rattle.mon_script.specs.Lines.{lines_of}
 use Rattle.mon_value.specs.declared.refusals.Refusal.{Refusal}

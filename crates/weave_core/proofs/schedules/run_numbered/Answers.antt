@@ -1,5 +1,5 @@
-use Rattle.std.proofs.Common.{rules, ◌≡◌, Bool, true, false, nat_lt, Err, string_bytes, refl, sym, subst}
-use Rattle.weave_core.proofs.LineRunLemmas.{line_ran, line_stopped, remark_runs, stopped_past}
+use Rattle.std.proofs.Common.{rules, ◌≡◌, true, false, nat_lt, Err, string_bytes, refl, sym, subst}
+use Rattle.weave_core.proofs.LineRunLemmas.{line_ran, line_stopped, remark_runs}
 use Rattle.mon_value.specs.declared.refusals.Refusal.{Refusal}
 use Rattle.weave_core.specs.ScheduleLines.{form_of}
 use Rattle.weave_core.specs.ScheduleTurns.{LineSo, NumberedSo}

@@ -1,4 +1,4 @@
-use Rattle.std.proofs.Common.{◌≡◌, ◌∙◌, ◌++◌, ℕ, List, string_bytes, ap, arith}
+use Rattle.std.proofs.Common.{◌≡◌, ◌∙◌, ◌++◌, ℕ, string_bytes, ap, arith}
 use Rattle.std.specs.List.{flat_map, range_with_len}
 use Rattle.weave_core.proofs.LineRunLemmas.{unfinished_more}
 use Rattle.weave_core.specs.Schedules.{unfinished_line}

@@ -1,4 +1,4 @@
-use Rattle.std.proofs.Common.{Option, Some, None, Result, string_bytes, refl}
+use Rattle.std.proofs.Common.{Some, Result, string_bytes, refl}
 use Rattle.std.proofs.lemmas.Result.{err_from_is_err_and}
 use Rattle.mon_value.specs.declared.refusals.Refusal.{Refusal}
 use Rattle.weave_core.proofs.PassedLemmas.{passed_on, turn_refused}

@@ -1,4 +1,4 @@
-use Rattle.std.proofs.Common.{◌≡◌, ◌∙◌, ◌+◌, ◌++◌, ◌∷◌, [], List, ap, length, sym, arith, rules}
+use Rattle.std.proofs.Common.{◌≡◌, ◌∙◌, ◌++◌, ◌∷◌, [], List, ap, length, sym, arith, rules}
 use Rattle.std.specs.Vec.Iter.{into_iter_items}
 use Rattle.leaf_store.specs.LeafStates.{LeafView}
 use Rattle.weave_core.specs.Openings.{leaf_seat, leaf_seats}

@@ -1,4 +1,4 @@
-use Rattle.std.proofs.Common.{rules, List, ◌≤◌, ◌<◌, ◌≡◌, ℕ, ◌+◌, ◌-◌, ◌∷◌, [], ◌++◌, Fits, w32, subst, sym, arith}
+use Rattle.std.proofs.Common.{rules, List, ℕ, ◌+◌, subst, sym}
 use Rattle.leaf_store.specs.LeafBuckets.{is_unraised}
 use Rattle.mon_hints.proofs.ListingLemmas.{ListsBelow, pushed_below}
 use Rattle.weave_core.proofs.RaiseLemmas.{next_fits, next_nearer, next_small}

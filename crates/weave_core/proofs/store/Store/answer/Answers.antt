@@ -1,5 +1,7 @@
 use Rattle.std.proofs.Common.{sym, subst}
-use Rattle.weave_core.proofs.QueryAnswers.{leaf_answers, leaf_seated, leaf_there, range_answers, range_seated, range_there, root_answered, zone_answered, zone_there}
+use Rattle.weave_core.proofs.LeafAnswers.{leaf_answers, leaf_seated, leaf_there}
+use Rattle.weave_core.proofs.RangeAnswers.{range_answers, range_seated, range_there}
+use Rattle.weave_core.proofs.WordAnswers.{root_answered, zone_answered, zone_there}
 use Rattle.weave_core.proofs.QueryTurnLemmas.{if_ok_on}
 use Rattle.weave_core.specs.QueryTurns.{AnswersSo}
 use Rattle.weave_core.proofs.store.Store.answer.Goals as goal

@@ -1,4 +1,4 @@
-use Rattle.std.proofs.Common.{rules, ◌≡◌, ℕ, ◌<◌, Some, slice_get, refl}
+use Rattle.std.proofs.Common.{rules, ◌≡◌, Some, slice_get, refl}
 use Rattle.std.specs.Vec.{with_item}
 use Rattle.weave_core.proofs.WriteReturns.{leaf_read, enter_returns, entering_leaf, seat_alike, seat_in_sight, seat_most, seat_some, seat_there}
 use Rattle.weave_core.proofs.store.Store.enter.Goals as goal

@@ -1,4 +1,4 @@
-use Rattle.std.proofs.Common.{rules, ◌≡◌, ℕ, ◌<◌, Some, slice_get, refl}
+use Rattle.std.proofs.Common.{◌≡◌, Some, slice_get, refl}
 use Rattle.std.specs.Vec.{with_item}
 use Rattle.weave_core.proofs.WriteReturns.{lock_alike, lock_returns, lock_there, range_read}
 use Rattle.weave_core.proofs.store.Store.lock.Goals as goal

@@ -1,5 +1,5 @@
 use Rattle.std.proofs.Common.{subst}
-use Rattle.weave_core.proofs.QueryAnswers.{may_tell}
+use Rattle.weave_core.proofs.AskingLemmas.{may_tell}
 use Rattle.weave_core.proofs.QueryTurnLemmas.{answered_turns, if_ok_on}
 use Rattle.weave_core.specs.QueryTurns.{AnswersSo}
 use Rattle.weave_core.proofs.store.Store.query.Goals as goal

@@ -1,4 +1,4 @@
-use Rattle.std.proofs.Common.{rules, ◌≡◌, ℕ, ◌<◌, Some, slice_get, refl}
+use Rattle.std.proofs.Common.{rules, ◌≡◌, Some, slice_get, refl}
 use Rattle.std.specs.Vec.{with_item}
 use Rattle.weave_core.proofs.WriteReturns.{leaf_read, raising_zone_child, raising_zone_leaf, raising_zone_word, zone_returns, seat_alike, seat_in_sight, seat_there}
 use Rattle.weave_core.proofs.store.Store.raise_zone.Goals as goal

@@ -1,7 +1,7 @@
-use Rattle.std.proofs.Common.{rules, ◌≡◌, ◌<◌, List, Option, None, Some, ap, length, refl, set, slice_get}
+use Rattle.std.proofs.Common.{rules, ◌≡◌, ◌∙◌, ◌<◌, List, Option, None, Some, ap, length, refl, set, slice_get, subst, sym}
 use Rattle.std.specs.Vec.{with_item, with_items}
-use Rattle.weave_core.proofs.HearingLemmas.{alike, met, met_kept, nobody_meets, other_there, out_is, out_there, place_got, place_there}
-use Rattle.weave_core.proofs.WeaveStepLemmas.{nobody_kept}
+use Rattle.weave_core.proofs.HearingLemmas.{alike, met, met_kept, nobody_meets, other_there, out_there, place_got, place_there}
+use Rattle.weave_core.proofs.WeaveStepLemmas.{changed_there, nobody_kept, set_is, set_there}
 use Rattle.weave_core.specs.ActorAgreements.{actor_numbered}
 use Rattle.weave_core.specs.declared.actors.Actor.{Actor}
 use Rattle.weave_core.proofs.weave.Weave.meet.Goals as goal
@@ -14,7 +14,7 @@ returns-in_default c =
       kept = nobody_kept c.args.self.now c.args.other taken (record {
         store = c.args.self.now.store;
         actors = with_items c.args.self.now.actors c.take_actor.new.actors;
-      }) refl (out_is c.args.self.now.actors c.take_actor.new.actors c.args.other left) c.requires.kept;
+      }) refl (set_is c.args.self.now.actors c.take_actor.new.actors c.args.other None left) c.requires.kept;
       met = λ config state agrees. absurd (nobody_meets c.args.self.now c.args.actor c.args.other taken config state agrees
           (c.requires.may config state agrees));
     }
@@ -36,22 +36,26 @@ hear-requires c =
     let got : slice_get (set c.args.self.now.actors.items c.args.other None) c.args.actor ≡ Some c.index_mut-place.result.now
     = place_got c.args.self.now c.args.actor c.args.other c.in-Some.ended taken c.requires.kept c.requires.may
     (with_items c.args.self.now.actors c.take_actor.new.actors).items
-    (out_is c.args.self.now.actors c.take_actor.new.actors c.args.other left) c.index_mut-place.result.now
+    (set_is c.args.self.now.actors c.take_actor.new.actors c.args.other None left) c.index_mut-place.result.now
     c.index_mut-place.ensures.value in
     record {
       alike = alike c.args.self.now c.args.actor c.args.other c.in-Some.ended taken c.requires.kept c.requires.may
           c.index_mut-place.result.now got;
     }
 
-pub index_mut-requires : goal.index_mut-requires
-index_mut-requires c =
+pub put_actor-requires : goal.put_actor-requires
+put_actor-requires c =
     let taken : Some c.in-Some.ended ≡ actor_numbered c.args.self.now.actors.items c.args.other = search rules in
     let left : c.take_actor.new.actors ≡ set c.args.self.now.actors.items c.args.other None = search rules in
-    let there : c.args.other < length c.args.self.now.actors.items
-    = other_there c.args.self.now c.args.actor c.args.other c.in-Some.ended taken in
-    let here : c.args.other < length c.take_actor.new.actors = out_there c.args.self.now.actors.items c.take_actor.new.actors
-    c.args.other c.args.other left there in
-    search rules
+    let same : c.as_mut_slice-2.result.now
+    ≡ set (with_items c.args.self.now.actors c.take_actor.new.actors).items c.args.actor c.hear.new.place = search rules in
+    record {
+      there = subst (λ (all : List (Option Actor)). c.args.other < length all) (sym same)
+          (set_there (with_items c.args.self.now.actors c.take_actor.new.actors).items c.args.actor c.args.other
+          c.hear.new.place
+          (changed_there c.args.self.now.actors c.take_actor.new.actors c.args.other c.args.other None left
+          (other_there c.args.self.now c.args.actor c.args.other c.in-Some.ended taken)));
+    }
 
 pub returns : goal.returns
 returns c =
@@ -59,28 +63,33 @@ returns c =
     let left : c.take_actor.new.actors ≡ set c.args.self.now.actors.items c.args.other None = search rules in
     let out : (with_items c.args.self.now.actors c.take_actor.new.actors).items
     ≡ set c.args.self.now.actors.items c.args.other None
-    = out_is c.args.self.now.actors c.take_actor.new.actors c.args.other left in
+    = set_is c.args.self.now.actors c.take_actor.new.actors c.args.other None left in
     let got : slice_get (set c.args.self.now.actors.items c.args.other None) c.args.actor ≡ Some c.index_mut-place.result.now
     = place_got c.args.self.now c.args.actor c.args.other c.in-Some.ended taken c.requires.kept c.requires.may
     (with_items c.args.self.now.actors c.take_actor.new.actors).items out c.index_mut-place.result.now
     c.index_mut-place.ensures.value in
-    let items : set (set (with_items c.args.self.now.actors c.take_actor.new.actors).items c.args.actor c.hear.new.place)
-    c.args.other (Some c.in-Some.ended)
+    let put : c.put_actor.new.actors
+    ≡ set (set (with_items c.args.self.now.actors c.take_actor.new.actors).items c.args.actor c.hear.new.place) c.args.other
+    (Some c.in-Some.ended) = search rules in
+    let items : (with_items (with_item (with_items c.args.self.now.actors c.take_actor.new.actors) c.args.actor
+    c.hear.new.place) c.put_actor.new.actors).items
     ≡ set (set (set c.args.self.now.actors.items c.args.other None) c.args.actor c.hear.new.place) c.args.other
     (Some c.in-Some.ended)
-    = ap (λ (all : List (Option Actor)).
+    = set_is (with_item (with_items c.args.self.now.actors c.take_actor.new.actors) c.args.actor c.hear.new.place)
+    c.put_actor.new.actors c.args.other (Some c.in-Some.ended) put
+    ∙ ap (λ (all : List (Option Actor)).
     set (set all c.args.actor c.hear.new.place) c.args.other (Some c.in-Some.ended)) out in
     record {
       kept = met_kept c.args.self.now c.args.actor c.args.other c.in-Some.ended taken c.requires.kept c.requires.may
           c.index_mut-place.result.now got c.hear.new.place c.hear.ensures.heard (record {
             store = c.args.self.now.store;
-            actors = with_item (with_item (with_items c.args.self.now.actors c.take_actor.new.actors) c.args.actor
-                c.hear.new.place) c.args.other (Some c.in-Some.ended);
+            actors = with_items (with_item (with_items c.args.self.now.actors c.take_actor.new.actors) c.args.actor
+                c.hear.new.place) c.put_actor.new.actors;
           }) refl items;
       met = met c.args.self.now c.args.actor c.args.other c.in-Some.ended taken c.requires.kept c.requires.may
           c.index_mut-place.result.now got c.hear.new.place c.hear.ensures.heard (record {
             store = c.args.self.now.store;
-            actors = with_item (with_item (with_items c.args.self.now.actors c.take_actor.new.actors) c.args.actor
-                c.hear.new.place) c.args.other (Some c.in-Some.ended);
+            actors = with_items (with_item (with_items c.args.self.now.actors c.take_actor.new.actors) c.args.actor
+                c.hear.new.place) c.put_actor.new.actors;
           }) refl items;
     }

@@ -1,0 +1,237 @@
+-- What a query is told of a leaf is what the core tells it.
+use Rattle.std.proofs.Common.{◌≡◌, ◌∙◌, ◌<◌, ℕ, ℤ, Bool, true, false, List, length, sym, ap, subst, arith}
+use Rattle.std.specs.Prelude.{slice_get, Option, Some, None}
+use Rattle.std.proofs.lemmas.List.{length-map}
+use Rattle.leaf_store.specs.LeafBuckets.{key_buckets}
+use Rattle.leaf_store.specs.LeafStates.{LeafView}
+use Rattle.mon_config.specs.declared.config.Config.{Config}
+use Rattle.mon_hints.specs.HistoryBuckets.{history_buckets}
+use Rattle.mon_meaning.specs.LeafAnswers.{IsLeafPart, IsOverLeaf}
+use Rattle.mon_schema.specs.SchemaLists.{SchemaLists}
+use Rattle.mon_value.specs.LeafHistories.{is_down}
+use Rattle.mon_value.specs.declared.histories.Entry.{Entry}
+use Rattle.mon_value.specs.declared.positions.Leaf.{Leaf}
+use Rattle.mon_value.specs.declared.positions.RangeSlot.{RangeSlot}
+use Rattle.mon_value.specs.declared.rows.SeriesKey.{SeriesKey}
+use Rattle.mql_types.specs.Nodes.{typed_tree}
+use Rattle.mql_types.specs.declared.plans.Plan.{Plan}
+use Rattle.query_core.specs.Machine.{Query, slots_at, slots_of, slots_visited}
+use Rattle.query_core.specs.Mixtures.{typed_of}
+use Rattle.query_core.specs.Openings.{is_met}
+use Rattle.query_core.specs.Program.{ask_of}
+use Rattle.query_core.specs.ReadableSlots.{CanBeRead}
+use Rattle.query_core.specs.Settings.{Setting as Asked}
+use Rattle.query_core.specs.Traces.{slot_rows}
+use Rattle.query_core.specs.declared.asks.Ask.{Ask}
+use Rattle.query_core.specs.declared.asks.Ask.TheVariants as ask
+use Rattle.query_core.specs.declared.asks.Told.{Told}
+use Rattle.query_core.specs.declared.asks.Told.TheVariants as told
+use Rattle.query_core.specs.declared.stages.Stage.{Stage}
+use Rattle.query_core.specs.declared.stages.Stage.TheVariants as at
+use Rattle.weave_core.proofs.MeetingLemmas.{leaf_met}
+use Rattle.weave_core.proofs.QuerySeats.{same_world, shared_leaf, visited_same}
+use Rattle.weave_core.proofs.ReaderAnswers.{reader_reads}
+use Rattle.weave_core.proofs.SeatLemmas.{parts_alike}
+use Rattle.weave_core.specs.Agreements.{IsLeafSo}
+use Rattle.weave_core.specs.Core.{Core, IsLookedAt, IsTold, Reader, query_now}
+use Rattle.weave_core.specs.Holders.{HoldsLeaf}
+use Rattle.weave_core.specs.Meetings.{met_at_leaf}
+use Rattle.weave_core.specs.QueryLooks.{IsHeldFrom, IsSeatedForLeaf, Looks, LooksAt, TellsSo}
+use Rattle.weave_core.specs.QueryTurns.{AnswersSo, IsAnswered, IsAsking, QueryWaits}
+use Rattle.weave_core.specs.Sights.{AreAlike, sight_of}
+use Rattle.weave_core.specs.States.{store_of}
+use Rattle.weave_core.specs.WriteEvents.{ChangesLeaf}
+use Rattle.weave_core.specs.declared.leaves.LeafSeat.{LeafSeat}
+use Rattle.weave_core.specs.declared.queries.Querying.{Querying}
+use Rattle.weave_core.specs.declared.sights.Sight.{Sight}
+use Rattle.weave_core.specs.declared.store.Store.{Store}
+use Rattle.write_core.proofs.KeepsLemmas.{changed_same}
+use Rattle.write_core.specs.Views.{View, joined, of_leaf}
+use Rattle.write_core.specs.World.{World}
+use Rattle.weave_core.proofs.AskingLemmas.{answered, asked_of, asks_then, from, not_mine, some_holder, there_at, waits}
+
+-- the slots of a leaf that is asked of are those of the visit
+slots_same : (asked : Asked) (stage : Stage) (leaf : Leaf) → ask_of asked stage ≡ ask.Visit leaf
+    → slots_of stage leaf ≡ slots_visited stage
+slots_same asked (at.Rooting loading) leaf e = absurd cc
+slots_same asked (at.Entering course round loading) leaf e = absurd cc
+slots_same asked (at.Resolving course round range) leaf e = absurd cc
+slots_same asked (at.Reloading course round loading) leaf e = absurd cc
+slots_same asked (at.Visiting course round visits other) leaf e =
+    let same : leaf ≡ other = cc in ap (slots_of (at.Visiting course round visits other)) same
+slots_same asked (at.Ended end) leaf e = absurd cc
+
+-- what a leaf tells, by its history
+abbrev TellsOf : Plan → ℤ → ℕ → List Entry → (SeriesKey → List ℕ) → List RangeSlot → Told → Type 0
+TellsOf plan moment limit history buckets_of slots (told.Down cut) =
+    (cut ≡ length history) × (is_down history ≡ true)
+TellsOf plan moment limit history buckets_of slots (told.Unread cut) =
+    ((cut ≡ length history) × (is_down history ≡ false)) × (is_met plan (history_buckets buckets_of history) ≡ false)
+TellsOf plan moment limit history buckets_of slots (told.Read cut answer) =
+    ((cut ≡ length history) × (is_down history ≡ false)) × (is_met plan (history_buckets buckets_of history) ≡ true)
+    × IsLeafPart (typed_tree plan.typed) (slot_rows history slots) moment limit answer
+TellsOf plan moment limit history buckets_of slots (told.Over load cut) =
+    ((cut ≡ length history) × (is_down history ≡ false)) × (is_met plan (history_buckets buckets_of history) ≡ true)
+    × IsOverLeaf (typed_tree plan.typed) (slot_rows history slots) moment limit (record { load = load })
+TellsOf plan moment limit history buckets_of slots answer = ⊥
+
+tells_of : (plan : Plan) (moment : ℤ) (limit : ℕ) (state : LeafView) (slots : List RangeSlot) (answer : Told)
+    → TellsSo plan moment limit state slots answer
+    → TellsOf plan moment limit state.history (key_buckets state.buckets state.schemas) slots answer
+tells_of plan moment limit state slots (told.Down cut) tells = (tells.whole, tells.is)
+tells_of plan moment limit state slots (told.Unread cut) tells = ((tells.0.whole, tells.0.is), tells.1)
+tells_of plan moment limit state slots (told.Read cut answer) tells = ((tells.0.whole, tells.0.is), tells.1, tells.2)
+tells_of plan moment limit state slots (told.Over load cut) tells = ((tells.0.whole, tells.0.is), tells.1, tells.2)
+tells_of plan moment limit state slots (told.Word word seen) tells = absurd tells
+tells_of plan moment limit state slots (told.Slot slot leaf) tells = absurd tells
+tells_of plan moment limit state slots told.NoSlot tells = absurd tells
+
+module _ (config : Config) (core : Core (store_of config)) (k : ℕ) (store : Store) (querying : Querying) (sight : Sight)
+    (asking : IsAsking config core k store querying sight) where
+  abbrev reader : Reader (store_of config)
+  reader = core.readers k
+
+  abbrev world : World
+  world = core.world
+
+  abbrev query : Query
+  query = query_now (store_of config) reader
+
+  abbrev asked : Asked
+  asked = querying.machine.setting
+
+  abbrev asks : Ask
+  asks = ask_of querying.machine.setting querying.machine.stage
+
+  module _ (leaf : Leaf) (e : asks ≡ ask.Visit leaf) where
+    pub leaf_there : leaf.0 < length store.leaves.items
+    leaf_there = omega (arith, there_at config core k store querying sight asking (ask.Visit leaf) e, asking.shared.leaves.count)
+
+    leaf_so : (seat : LeafSeat) → slice_get store.leaves.items leaf.0 ≡ Some seat → IsLeafSo config world leaf seat
+    leaf_so seat was = asking.shared.leaves.each leaf.0 seat was
+
+    own_slots : slots_of querying.machine.stage leaf ≡ slots_at query
+    own_slots =
+        slots_same asked querying.machine.stage leaf e
+        ∙ ap (λ (one : Query). slots_at one) (sym asking.reader.now)
+
+    readable : (seat : LeafSeat) → slice_get store.leaves.items leaf.0 ≡ Some seat → seat.holder ≡ None
+        → CanBeRead (typed_of asked) seat.state.history (slots_of querying.machine.stage leaf)
+    readable seat was free =
+        let so = leaf_so seat was in
+        let all = reader_reads (store_of config) world reader asking.woven.world (asking.woven.readers k)
+        asking.reader.first (asked_of config core k store querying sight asking)
+        (from config core k store querying sight asking) leaf
+        (asks_then config core k store querying sight asking (ask.Visit leaf) e) (sym so.holder ∙ free) in
+        subst (λ (slots : List RangeSlot). CanBeRead (typed_of asked) seat.state.history slots) (sym own_slots)
+        (subst (λ (history : List Entry). CanBeRead (typed_of asked) history (slots_at query)) (sym so.history)
+        (subst (λ (some : Asked). CanBeRead (typed_of some) (of_leaf world.truth leaf) (slots_at query))
+        asking.reader.setting all))
+
+    pub leaf_seated : IsSeatedForLeaf querying leaf store.leaves.items sight
+    leaf_seated seat was =
+        let so = leaf_so seat was in
+        let parts = parts_alike (store_of config) world reader.view (world.leaves leaf.0) (asking.woven.readers k).part
+        (asking.woven.world.leaves leaf) in (
+          subst (λ (s : Sight). AreAlike s seat.sight) (sym asking.reader.seen)
+              (subst (λ (s : Sight). AreAlike (sight_of reader.view.seen) s) (sym so.sight) parts),
+          omega (
+            arith,
+            there_at config core k store querying sight asking (ask.Visit leaf) e,
+            ap (λ (s : Sight). length s.leaves) so.sight,
+            length-map (world.leaves leaf.0).seen.leaves length,
+            (asking.woven.world.leaves leaf).sound.held.all_leaves,
+          ),
+          readable seat was,
+        )
+
+    module _ (new : Store) (now : Sight) (seat left : LeafSeat) (was : slice_get store.leaves.items leaf.0 ≡ Some seat)
+        (changes : ChangesLeaf leaf left store new) where
+      so : IsLeafSo config world leaf seat
+      so = leaf_so seat was
+
+      limit_is : store.config.limit ≡ reader.setting.limit
+      limit_is =
+          ap (λ (c : Config). c.limit) asking.shared.config_is ∙ sym asking.planned.limit
+          ∙ ap (λ (some : Asked). some.limit) (sym asking.reader.setting)
+
+      -- what the leaf tells, of the world and of the query in the core
+      abbrev Then : Told → Type 0
+      Then = TellsOf reader.setting.plan reader.moment reader.setting.limit (of_leaf world.truth leaf)
+          (key_buckets config.buckets config.schemas) (slots_at query)
+
+      tells_there : (some : Told) → TellsSo asked.plan querying.moment store.config.limit seat.state
+          (slots_of querying.machine.stage leaf) some → Then some
+      tells_there some tells =
+          let own_buckets = key_buckets config.buckets config.schemas in
+          let slots = slots_of querying.machine.stage leaf in
+          subst (λ (a : Asked). TellsOf a.plan reader.moment reader.setting.limit (of_leaf world.truth leaf)
+          own_buckets (slots_at query) some) (sym asking.reader.setting)
+          (subst (λ (slots : List RangeSlot). TellsOf asked.plan reader.moment reader.setting.limit
+          (of_leaf world.truth leaf) own_buckets slots some) own_slots
+          (subst (λ (limit : ℕ). TellsOf asked.plan reader.moment limit (of_leaf world.truth leaf) own_buckets slots
+          some) limit_is
+          (subst (λ (moment : ℤ). TellsOf asked.plan moment store.config.limit (of_leaf world.truth leaf) own_buckets
+          slots some) (sym asking.reader.moment)
+          (subst (λ (history : List Entry). TellsOf asked.plan querying.moment store.config.limit history own_buckets
+          slots some) so.history
+          (subst (λ (held : SchemaLists). TellsOf asked.plan querying.moment store.config.limit seat.state.history
+          (key_buckets config.buckets held) slots some) so.schemas
+          (subst (λ (count : ℕ). TellsOf asked.plan querying.moment store.config.limit seat.state.history
+          (key_buckets count seat.state.schemas) slots some) so.buckets
+          (tells_of asked.plan querying.moment store.config.limit seat.state slots some tells)))))))
+
+      looked_at : (down : Bool) (cut : ℕ) → world.leaf_holder leaf.0 ≡ None
+          → (cut ≡ length (of_leaf world.truth leaf)) × (is_down (of_leaf world.truth leaf) ≡ down)
+          → IsLookedAt world leaf cut down
+      looked_at down cut free found = record { free = free; whole = found.0; is = found.1 }
+
+      visit_told : world.leaf_holder leaf.0 ≡ None → (some : Told) → Then some
+          → IsTold (store_of config) reader.setting reader.moment world reader.view query.avoided (slots_at query)
+          (ask.Visit leaf) some
+      visit_told free (told.Down cut) then = looked_at true cut free then
+      visit_told free (told.Unread cut) then = (looked_at false cut free then.0, then.1)
+      visit_told free (told.Read cut part) then = (looked_at false cut free then.0, then.1, then.2)
+      visit_told free (told.Over load cut) then = (looked_at false cut free then.0, then.1, then.2)
+      visit_told free (told.Word word seen) then = absurd then
+      visit_told free (told.Slot slot other) then = absurd then
+      visit_told free told.NoSlot then = absurd then
+
+      pub leaf_looked : (answer : Told) → Looks asked.plan querying.moment store.config.limit
+          (slots_of querying.machine.stage leaf) leaf seat left sight now answer → IsAnswered config core k new now answer
+      leaf_looked answer looks =
+          let seen_then : now ≡ sight_of (joined reader.view (world.leaves leaf.0)).seen =
+          looks.seen
+          ∙ (λ i. met_at_leaf leaf (so.history i) (asking.reader.seen i) (so.sight i))
+          ∙ leaf_met (store_of config) world reader.view leaf asking.woven.world (asking.woven.readers k).part in
+          answered config core k store querying sight asking (ask.Visit leaf) e new now answer (record {
+            told = visit_told (sym so.holder ∙ looks.free) answer (tells_there answer looks.told_so);
+            shared = shared_leaf config world _ leaf store new left (visited_same world leaf reader.view) asking.shared changes
+                (record {
+                  schemas = looks.stays.schemas ∙ so.schemas;
+                  buckets = looks.stays.buckets ∙ so.buckets;
+                  history = looks.history ∙ so.history;
+                  promised = looks.stays.promised ∙ so.promised;
+                  holder = looks.holder ∙ so.holder;
+                  sight = looks.stays.sight_there ∙ seen_then
+                      ∙ ap (λ (view : View). sight_of view.seen)
+                      (sym (changed_same world.leaves leaf.0 (joined reader.view (world.leaves leaf.0))));
+                  zone = looks.stays.zone ∙ so.zone;
+                  place = looks.stays.place ∙ so.place;
+                });
+            sight_is = seen_then;
+          })
+
+      pub leaf_held : IsHeldFrom seat.holder seat left sight now → QueryWaits config core k new sight now
+      leaf_held held =
+          let other = some_holder seat.holder held.held in
+          waits config core k store querying sight asking (ask.Visit leaf) e new now other.0 (sym so.holder ∙ other.1)
+          (not_mine config core k store querying sight asking (λ actor. HoldsLeaf leaf.0 actor) (λ stander h. h) other.0
+          (asking.holders.leaf leaf.0 other.0 (sym so.holder ∙ other.1)))
+          (shared_leaf config world world leaf store new left (same_world world _ _) asking.shared changes
+          (subst (λ (some : LeafSeat). IsLeafSo config world leaf some) (sym held.seat) so)) held.seen
+
+    pub leaf_answers : (new : Store) (now : Sight) (told_then : Option Told) → LooksAt querying leaf store new sight now told_then
+        → AnswersSo config core k new sight now told_then
+    leaf_answers new now (Some answer) done = leaf_looked new now done.before done.seat done.was done.changes answer done.looks
+    leaf_answers new now None done = leaf_held new now done.before done.seat done.was done.changes done.looks
