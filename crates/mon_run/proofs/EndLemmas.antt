@@ -1,6 +1,6 @@
 -- How a run ends: as its plan says, or where it could not go on.
-use Rattle.std.proofs.Common.{◌≡◌, ◌∙◌, ◌≤◌, inl, inr, ℕ, true, false, List, [], ◌∷◌, ◌++◌, Bool, Result, Ok, Err, IfOk, IfErr, refl, sym, ap, subst, append_assoc, append-nil, arith}
-use Rattle.mon_run.specs.Endings.{CutShort, Did, Follows, LastFailed, Progress, RunIs, Starved, is_status}
+use Rattle.std.proofs.Common.{◌≡◌, ◌∙◌, ◌≤◌, inl, inr, ℕ, true, false, List, [], ◌∷◌, ◌++◌, Bool, Result, Ok, Err, IfOk, IfErr, sym, ap, subst, append_assoc, append-nil, arith}
+use Rattle.mon_run.specs.Endings.{CutShort, Did, Follows, LastFailed, Progress, RunIs, Starved}
 use Rattle.mon_run.specs.Faults.{Rose}
 use Rattle.mon_run.specs.Sinks.{SinkState}
 use Rattle.mon_run.specs.Folders.{FolderState, asking}
@@ -13,7 +13,7 @@ use Rattle.mon_script.specs.declared.script.ScriptFault.{ScriptFault}
 use Rattle.mon_run.specs.declared.runs.Run.{Run}
 use Rattle.mon_run.specs.declared.stop.Stop.{Stop}
 use Rattle.mon_run.specs.declared.stop.Stop.TheVariants as stop
-use Rattle.mon_run.specs.within.Stops.{Causes, Closes, Continues, Counts, Done, Says, SaysText, Stops, StopsAtRead, StopsBefore, config_stop, is_silent, script_stop, status_of}
+use Rattle.mon_run.specs.within.Stops.{Causes, Closes, Continues, Counts, Done, Says, SaysText, Stops, StopsAtRead, StopsBefore, config_stop, is_silent, script_stop}
 use Rattle.mon_run.proofs.StepLemmas.{did_by, did_then}
 
 -- ---- counts of faults
@@ -28,9 +28,6 @@ rose_earlier x y z le (inr last) = inr last
 
 pub last_earlier : (before mid after : FolderState) → before.faults ≤ mid.faults → LastFailed mid after → LastFailed before after
 last_earlier before mid after le failed = record { earlier = failed.earlier; asked = failed.asked; rose = rose_earlier before.faults mid.faults after.faults le failed.rose }
-
-pub last_later : (before mid after : FolderState) → after ≡ mid → LastFailed before mid → LastFailed before after
-last_later before mid after same failed = subst (LastFailed before) (sym same) failed
 
 pub counts_then : {before mid after : Progress} → Counts before mid → Counts mid after → Counts before after
 counts_then first second = record { reads = let a = first.reads in let b = second.reads in omega arith; writes = let a = first.writes in let b = second.writes in omega arith }
@@ -158,77 +155,7 @@ run_ended p before mid after (Err (stop.CannotRead name)) status done stops caus
 run_ended p before mid after (Err stop.WriteFailed) status done stops causes counts later same closes = ends_cut p before mid after status stops causes later.writes closes
 run_ended p before mid after (Err stop.OutOfMemory) status done stops causes counts later same closes = ends_starved p before mid after status stops closes
 
--- ---- causes of the statuses, over any folder and sink
-
--- where status 4 is that of a text, it is the text's own
-says_four : (before after : Progress) (code : ℕ) (text : List ℕ) (status : ℕ) → SaysText code text status before after → status ≡ 4 → code ≡ 4
-says_four before after code text status (inl said) four = sym said.0 ∙ four
-says_four before after code text status (inr (inl cut)) four = let e = cut.0 in omega arith
-says_four before after code text status (inr (inr starved)) four = let e = starved.0 in omega arith
-
-pub unread_last : (before mid after : Progress) (ended : Result Bool Stop) (status : ℕ) → IfErr ended (λ stopped. Causes stopped before mid) → after.folder ≡ mid.folder → Closes ended status mid after → status ≡ 4 → LastFailed before.folder after.folder
-unread_last before mid after (Ok true) status causes same closes four = let e = closes.0 in absurd (omega arith)
-unread_last before mid after (Ok false) status causes same closes four = let e = closes.0 in absurd (omega arith)
-unread_last before mid after (Err (stop.CannotRead name)) status causes same closes four = last_later before.folder mid.folder after.folder same causes.1
-unread_last before mid after (Err stop.WriteFailed) status causes same closes four = let e = closes.0 in absurd (omega arith)
-unread_last before mid after (Err stop.OutOfMemory) status causes same closes four = let e = closes.0 in absurd (omega arith)
-unread_last before mid after (Err stop.Usage) status causes same closes four = let e = says_four mid after 1 _ status closes four in absurd (omega arith)
-unread_last before mid after (Err (stop.Config fault)) status causes same closes four = let e = says_four mid after 2 _ status closes four in absurd (omega arith)
-unread_last before mid after (Err (stop.Script fault)) status causes same closes four = let e = says_four mid after 3 _ status closes four in absurd (omega arith)
-unread_last before mid after (Err (stop.Schedule fault)) status causes same closes four = let e = says_four mid after 3 _ status closes four in absurd (omega arith)
-unread_last before mid after (Err (stop.TooLong name)) status causes same closes four = let e = says_four mid after 8 _ status closes four in absurd (omega arith)
-
-says_rose : (before after : Progress) (code : ℕ) (text : List ℕ) (status : ℕ) → SaysText code text status before after → status ≡ 5 → (code ≡ 5 → ⊥) → Rose before.sink.faults after.sink.faults
-says_rose before after code text status (inl said) five other = absurd (other (sym said.0 ∙ five))
-says_rose before after code text status (inr (inl cut)) five other = cut.2
-says_rose before after code text status (inr (inr starved)) five other = let e = starved.0 in absurd (omega arith)
-
-pub unwritten_rose : (before mid after : Progress) (ended : Result Bool Stop) (status : ℕ) → IfErr ended (λ stopped. Causes stopped before mid) → Counts before mid → Counts mid after → Closes ended status mid after → status ≡ 5 → Rose before.sink.faults after.sink.faults
-unwritten_rose before mid after (Ok true) status causes counts later closes five = let e = closes.0 in absurd (omega arith)
-unwritten_rose before mid after (Ok false) status causes counts later closes five = let e = closes.0 in absurd (omega arith)
-unwritten_rose before mid after (Err stop.WriteFailed) status causes counts later closes five = rose_later before.sink.faults mid.sink.faults after.sink.faults causes later.writes
-unwritten_rose before mid after (Err stop.OutOfMemory) status causes counts later closes five = let e = closes.0 in absurd (omega arith)
-unwritten_rose before mid after (Err (stop.CannotRead name)) status causes counts later closes five =
-    rose_earlier before.sink.faults mid.sink.faults after.sink.faults counts.writes (says_rose mid after 4 _ status closes five (λ e. omega arith))
-unwritten_rose before mid after (Err stop.Usage) status causes counts later closes five =
-    rose_earlier before.sink.faults mid.sink.faults after.sink.faults counts.writes (says_rose mid after 1 _ status closes five (λ e. omega arith))
-unwritten_rose before mid after (Err (stop.Config fault)) status causes counts later closes five =
-    rose_earlier before.sink.faults mid.sink.faults after.sink.faults counts.writes (says_rose mid after 2 _ status closes five (λ e. omega arith))
-unwritten_rose before mid after (Err (stop.Script fault)) status causes counts later closes five =
-    rose_earlier before.sink.faults mid.sink.faults after.sink.faults counts.writes (says_rose mid after 3 _ status closes five (λ e. omega arith))
-unwritten_rose before mid after (Err (stop.Schedule fault)) status causes counts later closes five =
-    rose_earlier before.sink.faults mid.sink.faults after.sink.faults counts.writes (says_rose mid after 3 _ status closes five (λ e. omega arith))
-unwritten_rose before mid after (Err (stop.TooLong name)) status causes counts later closes five =
-    rose_earlier before.sink.faults mid.sink.faults after.sink.faults counts.writes (says_rose mid after 8 _ status closes five (λ e. omega arith))
-
-says_status : (before after : Progress) (code : ℕ) (text : List ℕ) (status : ℕ) → is_status code ≡ true → SaysText code text status before after → is_status status ≡ true
-says_status before after code text status fine (inl said) = ap is_status said.0 ∙ fine
-says_status before after code text status fine (inr (inl cut)) = ap is_status cut.0
-says_status before after code text status fine (inr (inr starved)) = ap is_status starved.0
-
-pub ended_status : (before after : Progress) (ended : Result Bool Stop) (status : ℕ) → Closes ended status before after → is_status status ≡ true
-ended_status before after (Ok true) status closes = ap is_status closes.0
-ended_status before after (Ok false) status closes = ap is_status closes.0
-ended_status before after (Err stop.WriteFailed) status closes = ap is_status closes.0
-ended_status before after (Err stop.OutOfMemory) status closes = ap is_status closes.0
-ended_status before after (Err stop.Usage) status closes = says_status before after 1 _ status refl closes
-ended_status before after (Err (stop.Config fault)) status closes = says_status before after 2 _ status refl closes
-ended_status before after (Err (stop.Script fault)) status closes = says_status before after 3 _ status refl closes
-ended_status before after (Err (stop.Schedule fault)) status closes = says_status before after 3 _ status refl closes
-ended_status before after (Err (stop.CannotRead name)) status closes = says_status before after 4 _ status refl closes
-ended_status before after (Err (stop.TooLong name)) status closes = says_status before after 8 _ status refl closes
-
 -- ---- closing
-
-pub closes_silent : (before after : Progress) (stopped : Stop) (status : ℕ) → is_silent stopped ≡ true → status ≡ status_of stopped → Did [] before after → Closes (Err stopped) status before after
-closes_silent before after stop.WriteFailed status silent is did = (is, did)
-closes_silent before after stop.OutOfMemory status silent is did = (is, did)
-closes_silent before after stop.Usage status silent is did = absurd cc
-closes_silent before after (stop.Config fault) status silent is did = absurd cc
-closes_silent before after (stop.Script fault) status silent is did = absurd cc
-closes_silent before after (stop.Schedule fault) status silent is did = absurd cc
-closes_silent before after (stop.CannotRead name) status silent is did = absurd cc
-closes_silent before after (stop.TooLong name) status silent is did = absurd cc
 
 pub closes_says : (before after : Progress) (stopped : Stop) (status : ℕ) → is_silent stopped ≡ false → Says stopped status before after → Closes (Err stopped) status before after
 closes_says before after stop.WriteFailed status silent says = absurd cc

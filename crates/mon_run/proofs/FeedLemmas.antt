@@ -6,14 +6,13 @@ use Rattle.mon_config.specs.declared.config.Config.{Config}
 use Rattle.mon_points.specs.Fitting.{ReadFits}
 use Rattle.mon_points.specs.declared.records.RowRead.{RowRead}
 use Rattle.mon_points.specs.declared.records.RowRead.TheVariants as read
-use Rattle.mon_run.specs.Feeds.{Verdict, fault_in, fed_by, refusal_of, refusals, row_verdict, taken, unless, verdict, verdicts}
+use Rattle.mon_run.specs.Feeds.{Verdict, fault_in, refusal_of, refusals, row_verdict, taken, unless, verdict, verdicts}
 use Rattle.mon_store.specs.Writes.{write_fault}
 use Rattle.mon_store.specs.declared.faults.WriteFault.{WriteFault}
 use Rattle.mon_run.specs.declared.outcome.RowRefused.TheVariants as refused
 use Rattle.mon_run.specs.declared.outcome.RowRefusal.{RowRefusal}
 use Rattle.mon_run.specs.declared.outcome.RowRefused.{RowRefused}
 use Rattle.mon_store.specs.Stores.{AllFit}
-use Rattle.mon_run.specs.within.Takings.{Front}
 
 -- ---- records so far and records that are left
 
@@ -50,21 +49,6 @@ feeding_more {config} {first} {rows} {all} {refusing} {number} left reads read r
           ∙ ap (λ (l : List RowRead). refusing ++ refusals (number + 1) (verdicts config rows l)) (sym next)
           ∙ f.refusing_all;
     }
-
--- no record is left
-pub feeding_last : {config : Config} {first rows : List Row} {all : List RowRead} {refusing : List RowRefusal} {number : ℕ} (left : List RowRead) → left ≡ [] → Feeding config first all rows left refusing number →
-    (rows ≡ first ++ (fed_by (verdicts config first all)).accepted) × (refusing ≡ (fed_by (verdicts config first all)).refused)
-feeding_last {config} {first} {rows} {all} {refusing} {number} left none f =
-    let accepted : f.front ≡ flat_map taken (verdicts config first all) =
-    sym (append-nil f.front) ∙ ap (λ (l : List RowRead). f.front ++ flat_map taken (verdicts config rows l)) (sym none) ∙ f.accepted in (
-      f.came ∙ ap (λ (r : List Row). first ++ r) accepted,
-      sym (append-nil refusing) ∙ ap (λ (l : List RowRead). refusing ++ refusals (number + 1) (verdicts config rows l)) (sym none) ∙ f.refusing_all,
-    )
-
--- where memory runs out, a front of the rows came
-pub feeding_front : {config : Config} {first rows : List Row} {all left : List RowRead} {refusing : List RowRefusal} {number : ℕ} (rows' : List Row) → rows' ≡ rows → Feeding config first all rows left refusing number →
-    Front (fed_by (verdicts config first all)).accepted first rows'
-feeding_front {config} {first} {rows} {all} {left} rows' same f = record { front = f.front; left = flat_map taken (verdicts config rows left); split = sym f.accepted; taken = same ∙ f.came }
 
 -- ---- what is accepted fits
 

@@ -1,6 +1,6 @@
 -- A query's reply: it is read, typed, evaluated and printed.
-use Rattle.std.proofs.Common.{◌≡◌, ◌∙◌, ◌++◌, ℕ, ℤ, true, false, cond, nat_lt, List, Result, Ok, Err, sym, ap, arith}
-use Rattle.std.proofs.lemmas.Bool.{le-ltb, lt-ltb}
+use Rattle.std.proofs.Common.{◌≡◌, ◌∙◌, ◌++◌, ℕ, ℤ, false, cond, nat_lt, List, Result, Ok, Err, sym, ap}
+use Rattle.std.proofs.lemmas.Bool.{le-ltb}
 use Rattle.std.proofs.lemmas.List.Sorted.{length_permutation}
 use Rattle.std.specs.Fmt.{decimal}
 use Rattle.std.specs.List.Sorted.{IsPermutation}
@@ -11,8 +11,7 @@ use Rattle.mon_value.specs.declared.refusals.Refusal.TheVariants as refusal
 use Rattle.mon_value.specs.declared.rows.Row.{Row}
 use Rattle.mon_value.specs.declared.tables.Table.{Table}
 use Rattle.mon_value.specs.declared.tables.TimedRow.{TimedRow}
-use Rattle.mon_meaning.specs.Central.{IsMeant, IsOver}
-use Rattle.mon_meaning.specs.declared.meter.OverLimit.{OverLimit}
+use Rattle.mon_meaning.specs.Central.{IsMeant}
 use Rattle.mon_table.specs.Tables.{codes, column_names, lines_of_rows, newline, printed_table, table_text}
 use Rattle.mon_schema.specs.HeldMetrics.{AreHeld}
 use Rattle.mon_schema.specs.HeldTargets.{AllTellLocations}
@@ -46,12 +45,6 @@ meant_within limit typed rows moment table meant =
     let text : table_text (column_names (columns_of typed.tree)) (meaning typed rows moment) ≡ printed_table table =
     print_alike (column_names (columns_of typed.tree)) (meaning typed rows moment) table.rows meant.rows ∙ ap (λ columns. table_text (column_names columns) table.rows) (sym meant.columns) in
     ap (λ b. cond b (Err (fault.StepLimit limit)) (Ok (table_text (column_names (columns_of typed.tree)) (meaning typed rows moment)))) within ∙ ap Ok text
-
--- a load above the limit is refused
-pub over_within : (limit : ℕ) (typed : TypedTree) (rows : List Row) (moment : ℤ) (over : OverLimit) → IsOver typed rows moment limit over → table_within limit typed rows moment ≡ Err (fault.StepLimit limit)
-over_within limit typed rows moment over above =
-    let more : nat_lt limit (load typed rows moment) ≡ true = lt-ltb limit (load typed rows moment) (omega (arith, above.above, above.most)) in
-    ap (λ b. cond b (Err (fault.StepLimit limit)) (Ok (table_text (column_names (columns_of typed.tree)) (meaning typed rows moment)))) more
 
 -- ---- answers, step by step
 

@@ -154,12 +154,6 @@ front_starved config files name rest {before} {mid} {after} short did folder sin
 
 -- ---- queries
 
-pub query_ran : (config : Config) (files : Files) (text : List ℕ) (moment : ℤ) (reply : Reply) {before after : Progress} → reply ≡ reply_of moment (query_answer config before.rows moment text) → Did (reply_steps reply) before after →
-    Ran (line_plan config files before.rows (form.Query moment text)) [] before after
-query_ran config files text moment reply is did =
-    let steps = did_by (ap reply_steps is) did in
-    record { steps = query_steps config _ moment text; same = λ rest. refl; did = steps; accepted = steps.rows }
-
 pub query_stops : (config : Config) (files : Files) (text : List ℕ) (moment : ℤ) (reply : Reply) (rest : Plan) (stopped : Stop) (before after : Progress) → reply ≡ reply_of moment (query_answer config before.rows moment text) →
     Stops (plan_behind (reply_steps reply) rest) stopped before after → Stops (line_plan config files before.rows (form.Query moment text) rest) stopped before after
 query_stops config files text moment reply rest stopped before after is stops = subst (λ (r : Reply). Stops (plan_behind (reply_steps r) rest) stopped before after) is stops
@@ -182,9 +176,6 @@ pub record Reached (config : Config) (files : Files) (lines left : List ScriptLi
   pub steps : List Step
   pub split : lines_plan config files false before.rows lines ≡ plan_behind steps (lines_plan config files refused now.rows left)
   pub did : Did steps before now
-
-pub reached_first : (config : Config) (files : Files) (lines : List ScriptLine) (p : Progress) → Reached config files lines lines false p p
-reached_first config files lines p = record { steps = []; split = refl; did = did_none p }
 
 pub reached_more : {config : Config} {files : Files} {lines left : List ScriptLine} {line : ScriptLine} {refused : Bool} (refused' : Bool) {before now after : Progress} → refused' ≡ (is_refused config now.rows line.what || refused) → Reached config files lines (line ∷ left) refused before now →
     Ran (line_plan config files now.rows line.what) (line_rows config files now.rows line.what) now after → Reached config files lines left refused' before after

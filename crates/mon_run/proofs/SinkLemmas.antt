@@ -1,7 +1,7 @@
 -- What a sink took, text behind text.
-use Rattle.std.proofs.Common.{◌≡◌, ◌∙◌, ◌<◌, ℕ, List, [], ◌++◌, Option, Some, None, length, take, drop, refl, sym, ap, append_assoc, append-nil}
+use Rattle.std.proofs.Common.{◌≡◌, ◌∙◌, ℕ, List, [], ◌++◌, Option, Some, None, take, drop, refl, sym, ap, append_assoc, append-nil}
 use Rattle.std.proofs.lemmas.List.{take-append-drop}
-use Rattle.mon_run.specs.Sinks.{SinkState, Takes, TakesFront, written_then}
+use Rattle.mon_run.specs.Sinks.{SinkState, Takes, written_then}
 
 -- ---- texts behind texts
 
@@ -33,12 +33,3 @@ took_more text rest left n before mid after took more is = record {
       ∙ ap (λ (r : List ℕ). (took.front ++ take n rest) ++ r) (sym is);
   takes = more ∙ ap (written_then (take n rest)) took.takes ∙ written_both took.front (take n rest) before.written;
 }
-
--- with nothing left the whole text was taken
-pub took_all : (text rest : List ℕ) (before after : SinkState) → TookTo text rest before after → rest ≡ [] → Takes text before after
-took_all text rest before after took none =
-    took.takes ∙ ap (λ (front : List ℕ). written_then front before.written) (sym (took.split ∙ ap (λ (r : List ℕ). took.front ++ r) none ∙ append-nil took.front))
-
--- where a write fails, a front was taken
-pub took_front : (text rest : List ℕ) (before mid after : SinkState) → TookTo text rest before mid → after.written ≡ mid.written → 0 < length rest → TakesFront text before after
-took_front text rest before mid after took same some = record { front = took.front; rest = rest; split = took.split; some = some; takes = same ∙ took.takes }

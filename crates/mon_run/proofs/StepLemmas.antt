@@ -52,10 +52,6 @@ did_by {xs} {ys} {before} {after} same did = subst (λ (steps : List Step). Did 
 pub did_front : {xs : List Step} (done : List Step) (step : Step) {before mid after : Progress} → Did xs before mid → Did (done ++ step ∷ []) mid after → Did ((xs ++ done) ++ step ∷ []) before after
 did_front {xs} done step first second = did_by (sym (append_assoc xs done (step ∷ []))) (did_then first second)
 
--- an empty text more is nothing more
-pub did_nothing : {before after : Progress} → Did (Write [] ∷ []) before after → Did [] before after
-did_nothing did = record { files = did.files; asked = did.asked; rows = did.rows; ends = did.ends; wrote = did.wrote }
-
 -- ---- one step
 
 -- only a read was added

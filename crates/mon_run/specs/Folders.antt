@@ -1,5 +1,6 @@
 -- Folders as contracts see them, and what is read of them.
-use Rattle.std.specs.Prelude.{◌≡◌, ◌⊎◌, ℕ, ◌+◌, Bool, true, false, List, [], ◌∷◌, ◌++◌, map, Option, Some, None, unwrap_or, Result, Ok, Err, if◌then◌else◌}
+use Rattle.std.specs.Prelude.{◌≡◌, ◌⊎◌, ℕ, ◌+◌, Bool, true, false, List, [], ◌∷◌, ◌++◌, map, Option, Some, None}
+use Rattle.std.specs.Prelude.{unwrap_or, Result, Ok, Err, if◌then◌else◌}
 use Rattle.mon_value.specs.Same.{same_text}
 use Rattle.mon_run.specs.declared.outside.folder.Asked.{Asked}
 use Rattle.mon_run.specs.declared.outside.folder.FolderFault.{FolderFault}

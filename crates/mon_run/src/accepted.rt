@@ -5,7 +5,8 @@ ghost use Rattle.mon_store.specs.Stores.{accepted_rows};
 use mon_store::Store;
 use std::marker::Model;
 
-/// The rows that a run accepted, as its leaves keep them. Contracts see them as one list, in the order in which they came.
+/// The rows that a run accepted, as its leaves keep them. Contracts see them as one list, in the order in which they
+/// came.
 #[derive(Drop)]
 pub struct Accepted {
     store: Store,

@@ -1,5 +1,6 @@
 // A run: where it reads and writes, and what it has come to.
-ghost use Rattle.std.specs.Prelude.{◌≡◌, ◌≤◌, ◌∷◌, ◌||◌, [], false, length, map, IfErr, IfOk, OnErr, OnOk, string_bytes};
+ghost use Rattle.std.specs.Prelude.{◌≡◌, ◌≤◌, ◌∷◌, ◌||◌, [], false, length, map, IfErr, IfOk, OnErr, OnOk};
+ghost use Rattle.std.specs.Prelude.{string_bytes};
 ghost use Rattle.std.specs.List.{AllByRecursion};
 ghost use Rattle.mon_config.specs.Numbers.{AreLawful};
 ghost use Rattle.mon_run.specs.Folders.{Told};
@@ -30,8 +31,8 @@ use mon_store::Store;
 use mon_value::{LONGEST_FILE, Text};
 use std::alloc::Global;
 
-/// What a run has come to: the rows that it accepted, as its leaves keep them, and the ends of its lines. Beside them it
-/// keeps the keys of the series that it read.
+/// What a run has come to: the rows that it accepted, as its leaves keep them, and the ends of its lines. Beside them
+/// it keeps the keys of the series that it read.
 #[derive(Drop)]
 pub(crate) struct Log {
     pub store: Store,

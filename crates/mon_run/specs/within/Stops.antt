@@ -1,5 +1,6 @@
 -- How a part of a run leaves it: it did its steps, or it stopped.
-use Rattle.std.specs.Prelude.{◌≡◌, ◌≤◌, ◌<◌, ◌⊎◌, ℕ, Bool, true, false, List, [], ◌∷◌, ◌++◌, length, Option, Some, IfSome, Result, Ok, Err, IfOk, IfErr}
+use Rattle.std.specs.Prelude.{◌≡◌, ◌≤◌, ◌<◌, ◌⊎◌, ℕ, Bool, true, false, List, [], ◌∷◌, ◌++◌, length, Option, Some}
+use Rattle.std.specs.Prelude.{IfSome, Result, Ok, Err, IfOk, IfErr}
 use Rattle.std.specs.Bool.{⊤}
 use Rattle.mon_value.specs.declared.refusals.Refusal.{Refusal}
 use Rattle.mon_value.specs.declared.refusals.Refusal.TheVariants as refusal
@@ -12,7 +13,8 @@ use Rattle.mon_run.specs.Endings.{CutShort, Did, LastFailed, Progress, Starved, 
 use Rattle.mon_run.specs.Faults.{Rose}
 use Rattle.mon_run.specs.Folders.{Files, FolderState, Told, content_of}
 use Rattle.mon_run.specs.Sinks.{SinkState}
-use Rattle.mon_run.specs.Plans.{Ask, Command, End, Miss, Plan, Step, Write, command_plan, end_status, ending, is_too_long, line_plan, line_rows, plan_behind, read_plan, run_plan}
+use Rattle.mon_run.specs.Plans.{Ask, Command, End, Miss, Plan, Step, Write, command_plan, end_status, ending}
+use Rattle.mon_run.specs.Plans.{is_too_long, line_plan, line_rows, plan_behind, read_plan, run_plan}
 use Rattle.mon_run.specs.Texts.{config_text, read_text, schedule_text, script_text, too_long_text, usage_text}
 use Rattle.mon_run.specs.declared.outcome.LineEnd.{LineEnd}
 use Rattle.mon_store.specs.Stores.{accepted_rows}

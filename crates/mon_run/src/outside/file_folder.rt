@@ -65,12 +65,9 @@ fn read_file<R: Files>(alloc: Global, files: &R, name: &str, most: u64) -> io::R
     read_front(alloc, fs::open(files, name)?, most)
 }
 
-/// What a reader gives up to its end, and no more than `most` bytes of it.
-pub(crate) fn read_front<R: Read + Drop>(
-    alloc: Global,
-    reader: R,
-    most: u64,
-) -> io::Result<Vec<u8>> {
+/// What a reader gives up to its end, and no more than `most` bytes of it. A reader that gives less than
+/// was asked for is asked again.
+pub fn read_front<R: Read + Drop>(alloc: Global, reader: R, most: u64) -> io::Result<Vec<u8>> {
     let mut content = Vec::new(alloc);
     reader.take(most).read_to_end(&mut content)?;
     Ok(content)

@@ -1,36 +1,14 @@
-// The folders and the sinks at the edge.
-use crate::outside::read_front;
-use crate::{
-    CalmFolder, Failed, FileFolder, Folder, FolderFault, MemoryFile, MemoryFiles, OutSink, Sink,
-};
-use mon_value::Text;
+// The folder and the sink that the program runs over, and what they stand on.
+use mon_run::{Failed, FileFolder, Folder, FolderFault, OutSink, Sink, read_front};
 use std::fmt::Display;
 use std::io::{ErrorKind, Print, Read};
 use std::test::Fail;
 use std::{env, fs, io};
 
 #[test]
-fn a_calm_folder_reads_every_name(rt: HostRuntime) -> Result<(), Fail> {
-    let alloc = rt.alloc();
-    let mut files = MemoryFiles::new(alloc);
-    let file = MemoryFile {
-        name: Text::from_str(alloc, "p.csv")?,
-        content: b"text".to_vec(alloc)?,
-    };
-    files.push(file.copy(alloc)?)?;
-    let mut folder = CalmFolder::new(alloc, files);
-    let read = folder.read(alloc, "p.csv", 4).unwrap_or(Vec::new(alloc));
-    assert_eq!(rt; read.as_slice(), b"text".as_slice());
-    let missing = folder.read(alloc, "q.csv", 4).unwrap_or(read);
-    assert_eq!(rt; missing.len(), 0);
-    assert!(rt; matches!(folder.read(alloc, "p.csv", 3), Err(FolderFault::TooLong)));
-    Ok(())
-}
-
-#[test]
 fn a_folder_of_files(rt: HostRuntime) -> Result<(), Fail> {
     let alloc = rt.alloc();
-    let path = env::temp_dir(&rt)?.join(alloc, "mon_run_a_folder_of_files.csv")?;
+    let path = env::temp_dir(&rt)?.join(alloc, "mon_a_folder_of_files.csv")?;
     let Some(name) = path.as_path().to_str() else {
         return Err(Fail::from("no name"));
     };

@@ -1,3 +1,0 @@
-// Runs over fake folders and sinks.
-mod failing;
-mod outside;
