@@ -5,9 +5,9 @@ use crate::files::{name_beside, read_text};
 use crate::settings::Setting;
 use crate::trouble::{Done, Trouble};
 use crate::{
-    configurations, divided, expressions, groups, hints, leaf_growth, leaf_states, meanings, plans,
-    points, queries, ranges, runs, schedules, schemas, scripts, series, sessions, tables, typing,
-    values, writes,
+    configurations, divided, expressions, groups, hints, leaf_growth, leaf_states, meanings,
+    pieces, plans, points, queries, ranges, runs, schedules, schemas, scripts, series, sessions,
+    tables, typing, values, writes,
 };
 use std::alloc::AllocError;
 
@@ -34,6 +34,7 @@ const UNDER_NOTHING: &[&str] = &[
     "mon_expr::matches",
     "mon_expr::matches on all texts",
     "mon_fold::align",
+    "mon_fold::fold_pieces",
     "mon_fold::group",
     "mon_hints::excerpts_of",
     "mon_hints::hints_of",
@@ -257,10 +258,11 @@ fn write_of_queries(
     }
 }
 
-// The same of the calls that align and group.
+// The same of the calls that align, fold and group.
 fn write_of_folds(text: &mut String, setting: &Setting, name: &str, given: &str) -> Done {
     match name {
         "align" => series::write_answer(text, setting.alloc, given),
+        "fold_pieces" => pieces::write_answer(text, setting.alloc, given),
         "group" => groups::write_answer(text, setting.alloc, given),
         _ => Err(Trouble::Misspelled),
     }

@@ -40,8 +40,8 @@ pub(crate) fn value_of(alloc: Global, word: &str) -> Result<Value, Trouble> {
     }
 }
 
-// Counts with `;` between.
-fn counts_of(alloc: Global, words: &str) -> Result<Counts, Trouble> {
+/// Counts with `;` between.
+pub(crate) fn counts_of(alloc: Global, words: &str) -> Result<Counts, Trouble> {
     let mut counts = Counts::new(alloc);
     if words.is_empty() {
         return Ok(counts);

@@ -3,16 +3,20 @@
 #![tactic(auto)]
 
 mod alignable;
+mod alike_runs;
 mod apartness;
 mod calls;
 mod case_tables;
 mod chances;
 mod configurations;
+mod described_runs;
 mod descriptions;
 mod divided;
+mod ended_runs;
 mod escapes;
 mod expressions;
 mod files;
+mod foldable;
 mod groupable;
 mod groups;
 mod hints;
@@ -21,6 +25,7 @@ mod leaf_states;
 mod levels;
 mod made;
 mod meanings;
+mod pieces;
 mod plans;
 mod points;
 mod queries;

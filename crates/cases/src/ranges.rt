@@ -100,7 +100,10 @@ fn numbered_config(alloc: Global, count: u32) -> Result<Config, Trouble> {
 fn numbered_zone(alloc: Global, count: u32) -> Result<String, Trouble> {
     let mut text = String::from_str(
         alloc,
-        r#"{"targets":[{"name":"T","fields":[{"name":"n","type":"int"},{"name":"z","type":"text","location":true}]}],"metrics":[],"#,
+        concat!(
+            r#"{"targets":[{"name":"T","fields":[{"name":"n","type":"int"},"#,
+            r#"{"name":"z","type":"text","location":true}]}],"metrics":[],"#,
+        ),
     )?;
     text.push_str(
         r#""zones":[{"name":"east","locations":["e"],"leaves":["e1"],"ranges":[{"from":[],"leaves":["e1"]}"#,

@@ -20,8 +20,8 @@ use query_core::{QueryMachine, Told};
 /// The rows of each leaf that was read, one reading after another.
 pub(crate) type Reads = ListOf<RowList>;
 
-/// Tells a query that a leaf was read, at a length of its history, over the rows of some points. Each row has a location,
-/// at which no row of an earlier reading lies, those of rounds that were dropped among them.
+/// Tells a query that a leaf was read, at a length of its history, over the rows of some points. Each row has a
+/// location, at which no row of an earlier reading lies, those of rounds that were dropped among them.
 pub(crate) fn take_read(
     setting: &Setting,
     asked: Asked,

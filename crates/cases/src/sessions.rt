@@ -19,9 +19,9 @@ use query_core::{Ask, Cuts, QueryMachine, Resolved, Resolveds, Seen, Told};
 use std::alloc::Global;
 
 /// A case is a line `at MOMENT within LIMIT: QUERY`, and a line for each thing that the query is told: `word CHILD ..`,
-/// `slot SLOT@LEAF`, `none`, `down CUT`, `unread CUT`, or `read CUT POINT ..`. A line `seen CUT .. with SLOT@LEAF ..` says
-/// what the query's caller has seen from there on, of each leaf and of each range. Its answer has the events in order with
-/// ` > ` between, and how the query ended.
+/// `slot SLOT@LEAF`, `none`, `down CUT`, `unread CUT`, or `read CUT POINT ..`. A line `seen CUT .. with SLOT@LEAF ..`
+/// says what the query's caller has seen from there on, of each leaf and of each range. Its answer has the events in
+/// order with ` > ` between, and how the query ended.
 pub(crate) fn write_answer(text: &mut String, setting: &Setting, given: &str) -> Done {
     let Some((head, lines)) = given.split_once('\n') else {
         return Err(Trouble::Misspelled);
@@ -54,6 +54,7 @@ fn told_all(
     match take_all(text, setting, asked, &mut machine, lines) {
         Ok(()) => Ok(machine),
         Err(trouble) => {
+            // Spelled out, so that all that a machine holds is let go of by one call, which is proved apart.
             drop(machine);
             Err(trouble)
         }

@@ -16,8 +16,8 @@ pub(crate) fn room_behind(room: u128, value: &Value) -> Option<u128>
     }
 }
 
-// The same behind counts.
-fn room_behind_counts(room: u128, counts: &[u128]) -> Option<u128>
+/// The same behind counts.
+pub(crate) fn room_behind_counts(room: u128, counts: &[u128]) -> Option<u128>
     ensures left { IfSome result (λ left. left + sum counts.now ≡ room) }
 {
     let mut left = room;
