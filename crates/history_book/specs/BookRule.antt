@@ -1,6 +1,6 @@
--- The book rule: what holds of the words of a book and of all its seats, whenever no step is under way.
--- There is one whole history for each leaf and each range. Its owner has seen it all, every seat a beginning of it, and its
--- word is its length.
+-- The book rule: what holds of the words of a book and of all its seats, whenever no step is under way. There is one
+-- whole history for each leaf and each range. Its owner has seen it all, every seat a beginning of it, and its word
+-- is its length.
 use Rattle.std.specs.Prelude.{◌≡◌, ℕ, ◌+◌, ◌<◌, List, [], length, filter, slice_index, Option, Some, None, IfSome}
 use Rattle.std.specs.List.{Contains, count_by, sum_by}
 use mathlib.Core.List.{IsPrefix}
@@ -18,7 +18,8 @@ use Rattle.history_book.specs.declared.views.Kept.{Kept}
 use Rattle.history_book.specs.declared.views.Purse.{Purse}
 use Rattle.history_book.specs.declared.views.SeatView.{SeatView}
 use Rattle.history_book.specs.Books.{word_count, word_of}
-use Rattle.history_book.specs.Histories.{entries, history_numbered, is_about, is_under, leaf_numbered, pass_of, range_numbered, same_history}
+use Rattle.history_book.specs.Histories.{entries, history_numbered, is_about, is_under, leaf_numbered, pass_of}
+use Rattle.history_book.specs.Histories.{range_numbered, same_history}
 use Rattle.history_book.specs.Seats.{kept_in, times_number, times_range, times_room}
 
 -- ---- what a seat has
@@ -49,8 +50,8 @@ kept_in_purse (Some purse) = kept_in purse
 
 -- ---- what holds of one seat, where the whole histories are known
 
--- What two seats had seen is seen by the one that they became. Of its own history that is what it had seen before; and of the
--- ranges that the second brought, it had seen every entry
+-- What two seats had seen is seen by the one that they became. Of its own history that is what it had seen before;
+-- and of the ranges that the second brought, it had seen every entry
 pub record IsJoined (whole : Histories) (seat : SeatView) (joined : Joined) : Type 0 where
   pub mine : (history : History) → IsPrefix (entries joined.mine history) (entries seat.seen history)
   pub theirs : (history : History) → IsPrefix (entries joined.theirs history) (entries seat.seen history)
@@ -84,7 +85,8 @@ pub record IsKept (seats : List SeatView) (e : BookEntry) : Type 0 where
 pub record KeepsBookRule (leaves ranges : ℕ) (whole : Histories) (words : List ℕ) (seats : List SeatView) : Type 0 where
   -- each history has a word, which is its length
   pub sized : length words ≡ word_count leaves ranges
-  pub lengths : (n : ℕ) → n < leaves + ranges → slice_index words (word_of n) ≡ length (entries whole (history_numbered leaves n))
+  pub lengths : (n : ℕ) → n < leaves + ranges
+      → slice_index words (word_of n) ≡ length (entries whole (history_numbered leaves n))
   pub seats_true : (seat : SeatView) → HasSeat seats seat → IsTrue whole seat
   -- each history has one owner
   pub owned : (n : ℕ) → n < leaves + ranges → sum_by (owns (history_numbered leaves n)) seats ≡ 1

@@ -1,5 +1,6 @@
 -- Histories of leaves and of ranges, by number or by whose they are, and what becomes of copies of them.
-use Rattle.std.specs.Prelude.{◌≡◌, ℕ, zero, suc, ◌+◌, ◌-◌, nat_eq, nat_lt, Bool, true, false, List, [], ◌∷◌, ◌++◌, length, map, replicate, if◌then◌else◌}
+use Rattle.std.specs.Prelude.{◌≡◌, ℕ, zero, suc, ◌+◌, ◌-◌, nat_eq, nat_lt, Bool, true, false, List, [], ◌∷◌, ◌++◌}
+use Rattle.std.specs.Prelude.{length, map, replicate, if◌then◌else◌}
 use Rattle.std.specs.List.{slice_index_or}
 use mathlib.Core.List.{IsPrefix}
 use Rattle.mon_value.specs.declared.histories.Entry.{Entry}
@@ -149,4 +150,5 @@ with_entry (of.Range range) (one.Range e) seen = record { leaves = seen.leaves; 
 
 -- of each history the longer copy
 abbrev pub longer_of : Histories → Histories → Histories
-longer_of seen other = record { leaves = longer_each seen.leaves other.leaves; ranges = longer_each seen.ranges other.ranges }
+longer_of seen other =
+    record { leaves = longer_each seen.leaves other.leaves; ranges = longer_each seen.ranges other.ranges }

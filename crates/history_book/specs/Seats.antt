@@ -1,5 +1,6 @@
 -- What callers see of a seat and of an owner, and what calls make of that.
-use Rattle.std.specs.Prelude.{◌≡◌, ℕ, ◌+◌, ◌-◌, ◌<◌, nat_eq, Bool, true, false, not, List, [], ◌∷◌, ◌++◌, filter, Option, Some, None, if◌then◌else◌}
+use Rattle.std.specs.Prelude.{◌≡◌, ℕ, ◌+◌, ◌-◌, ◌<◌, nat_eq, Bool, true, false, not, List, [], ◌∷◌, ◌++◌, filter}
+use Rattle.std.specs.Prelude.{Option, Some, None, if◌then◌else◌}
 use Rattle.std.specs.List.{Contains, count_by, sum_by}
 use mathlib.Core.List.{IsPrefix}
 use Rattle.mon_value.specs.declared.positions.Leaf.{Leaf}
@@ -15,7 +16,8 @@ use Rattle.history_book.specs.declared.views.History.TheVariants as of
 use Rattle.history_book.specs.declared.views.Kept.{Kept}
 use Rattle.history_book.specs.declared.views.LengthNote.{LengthNote}
 use Rattle.history_book.specs.declared.views.Purse.{Purse}
-use Rattle.history_book.specs.Histories.{empty_histories, entries, is_under, longer_of, pass_of, same_leaf, same_range, with_entry}
+use Rattle.history_book.specs.Histories.{empty_histories, entries, is_under, longer_of, pass_of, same_leaf, same_range}
+use Rattle.history_book.specs.Histories.{with_entry}
 use Rattle.history_book.specs.Numbers.{after_handing, handed, numbers_between, times_among}
 
 -- A seat: what it has seen, and what it has beside that
@@ -23,8 +25,8 @@ pub record Seat : Type 0 where
   pub seen : Histories
   pub purse : Purse
 
--- An owner's seat: whose history it is, what it has seen (of its own history all), how many rooms it promised, the range
--- that it holds, what it noted itself, and what its guest brought
+-- An owner's seat: whose history it is, what it has seen (of its own history all), how many rooms it promised, the
+-- range that it holds, what it noted itself, and what its guest brought
 pub record Owner : Type 0 where
   pub history : History
   pub seen : Histories
@@ -239,7 +241,8 @@ HasRoom owner = (leaf : Leaf) × (owner.history ≡ of.Leaf leaf) × (0 < times_
 -- the owner is a range's, and it or its guest holds that range
 abbrev pub HoldsOwn : Owner → Type 0
 HoldsOwn owner =
-    (range : Range) × (owner.history ≡ of.Range range) × (0 < times_range range (owner.held ++ (guest_purse owner.guest).holds))
+    (range : Range) × (owner.history ≡ of.Range range)
+    × (0 < times_range range (owner.held ++ (guest_purse owner.guest).holds))
 
 -- ---- seats
 

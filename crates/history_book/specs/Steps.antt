@@ -1,5 +1,6 @@
 -- What the kinds of step make of a seat's view, and what they tell.
-use Rattle.std.specs.Prelude.{◌≡◌, ℕ, ◌+◌, ◌-◌, ◌<◌, ◌≤◌, Bool, List, [], ◌∷◌, drop, take, length, filter, map, Option, Some, None, IfSome}
+use Rattle.std.specs.Prelude.{◌≡◌, ℕ, ◌+◌, ◌-◌, ◌<◌, ◌≤◌, Bool, List, [], ◌∷◌, drop, take, length, filter, map, Option}
+use Rattle.std.specs.Prelude.{Some, None, IfSome}
 use Rattle.atomic_table.specs.Table.{Me, Step}
 use Rattle.mon_value.specs.declared.positions.Leaf.{Leaf}
 use Rattle.mon_value.specs.declared.positions.Range.{Range}
@@ -13,8 +14,11 @@ use Rattle.history_book.specs.declared.views.History.TheVariants as of
 use Rattle.history_book.specs.declared.views.Joined.{Joined}
 use Rattle.history_book.specs.declared.views.Purse.{Purse}
 use Rattle.history_book.specs.declared.views.SeatView.{SeatView}
-use Rattle.history_book.specs.Histories.{AreFronts, empty_histories, entries, histories_in, history_numbered, is_about, leaf_numbered, longer_of, numbers_on, range_numbered, with_entry}
-use Rattle.history_book.specs.Seats.{IsBorneOut, Owner, Seat, first_handed, guest_purse, held_after, mapped, met_purse, no_purse, noted, numbered_purse, own_notes_after, own_ranges, parted_purse, promised_after, purse_with, times_range, times_room, with_stock_handed}
+use Rattle.history_book.specs.Histories.{AreFronts, empty_histories, entries, histories_in, history_numbered, is_about}
+use Rattle.history_book.specs.Histories.{leaf_numbered, longer_of, numbers_on, range_numbered, with_entry}
+use Rattle.history_book.specs.Seats.{IsBorneOut, Owner, Seat, first_handed, guest_purse, held_after, mapped, met_purse}
+use Rattle.history_book.specs.Seats.{no_purse, noted, numbered_purse, own_notes_after, own_ranges, parted_purse}
+use Rattle.history_book.specs.Seats.{promised_after, purse_with, times_range, times_room, with_stock_handed}
 use Rattle.history_book.specs.BookRule.{has_room, holds, owns}
 
 abbrev pub Seated : Type 0
@@ -220,12 +224,14 @@ pub record IsUnited (v : SeatView) (joined : Joined) : Type 0 where
   pub mine : AreFronts joined.mine v.seen
   pub theirs : AreFronts joined.theirs v.seen
   pub own : (history : History) → 0 < owns history v → entries joined.mine history ≡ entries v.seen history
-  pub lent : (range : Range) (history : History) → 0 < owns history v → 0 < times_range range joined.lent → 0 < holds range v
+  pub lent : (range : Range) (history : History) → 0 < owns history v → 0 < times_range range joined.lent
+      → 0 < holds range v
       → filter (is_about range) (entries v.seen history) ≡ filter (is_about range) (entries joined.theirs history)
 
 -- who owns a leaf's history promised as many rooms as its purse has there
 abbrev pub IsPromised : ℕ → SeatView → Type 0
-IsPromised leaves v = (n : ℕ) → n < leaves → 0 < owns (of.Leaf (leaf_numbered n)) v → has_room (leaf_numbered n) v ≤ v.promised
+IsPromised leaves v = (n : ℕ) → n < leaves → 0 < owns (of.Leaf (leaf_numbered n)) v
+    → has_room (leaf_numbered n) v ≤ v.promised
 
 -- nothing changes, and what the rule says of the seat is told
 abbrev pub Confirms : ℕ → Step (Unit {0}) → Seated → ℕ → Seated → Type 0

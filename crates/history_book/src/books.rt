@@ -1,11 +1,17 @@
 // The book that threads share.
-ghost use Rattle.std.specs.Prelude.{◌≡◌, ◌≤◌, ◌<◌, ◌+◌, ◌^◌, [], ◌∷◌, ◌++◌, map, length, filter, true, Some, None, IfOk, IfSome, IfNone, IsTrue};
+ghost use Rattle.std.specs.Prelude.{◌≡◌, ◌≤◌, ◌<◌, ◌+◌, ◌^◌, [], ◌∷◌, ◌++◌, map, length, filter, true, Some, None};
+ghost use Rattle.std.specs.Prelude.{IfOk, IfSome, IfNone, IsTrue};
 ghost use Rattle.history_book.specs.declared.rooms.RoomMove.TheVariants as the_move;
 ghost use Rattle.history_book.specs.Books.{HasHistory, IsShaped};
-ghost use Rattle.history_book.specs.Histories.{AreFronts, IsFor, IsOfLeaf, entries, histories_in, history_numbered, is_about, number_of, pass_of};
+ghost use Rattle.history_book.specs.Histories.{AreFronts, IsFor, IsOfLeaf, entries, histories_in, history_numbered};
+ghost use Rattle.history_book.specs.Histories.{is_about, number_of, pass_of};
 ghost use Rattle.history_book.specs.Numbers.{is_spent};
-ghost use Rattle.history_book.specs.Seats.{HasRoom, HoldsOwn, IsBorneOut, after_append, after_learn, after_meet, after_own_learn, after_parting, after_split_numbered, first_seat, guest_purse, hand_of, new_owner, numbered, parted, times_range, times_room, with_guest, without_purse};
-ghost use Rattle.history_book.specs.Steps.{CanGiveBack, IsPlain, IsPromised, IsUnited, after_part, dealing, meeting, own_history, owner_view, part};
+ghost use Rattle.history_book.specs.Seats.{HasRoom, HoldsOwn, IsBorneOut, after_append, after_learn, after_meet};
+ghost use Rattle.history_book.specs.Seats.{after_own_learn, after_parting, after_split_numbered, first_seat};
+ghost use Rattle.history_book.specs.Seats.{guest_purse, hand_of, new_owner, numbered, parted, times_range, times_room};
+ghost use Rattle.history_book.specs.Seats.{with_guest, without_purse};
+ghost use Rattle.history_book.specs.Steps.{CanGiveBack, IsPlain, IsPromised, IsUnited, after_part, dealing, meeting};
+ghost use Rattle.history_book.specs.Steps.{own_history, owner_view, part};
 ghost use Rattle.history_book.specs.declared.views.History.TheVariants as of;
 ghost use Rattle.mon_value.specs.declared.positions.Leaf as a_leaf;
 ghost use Rattle.mon_value.specs.declared.positions.Range as a_range;
@@ -39,8 +45,8 @@ pub struct Book<N: BookName> {
 }
 
 impl<N: BookName> Book<N> {
-    /// Opens a book under a name that means it: with a seat that has the number 0 and all others to hand out, and the owners
-    /// of the histories, in order. Where memory runs out the book is gone.
+    /// Opens a book under a name that means it: with a seat that has the number 0 and all others to hand out, and the
+    /// owners of the histories, in order. Where memory runs out the book is gone.
     pub fn open(
         alloc: Global,
         blank: BookBlank,
@@ -82,8 +88,10 @@ impl<N: BookName> Book<N> {
     // Splits the owner of the next history off the first seat.
     fn deal(&self, first: &mut Seat<(), SeatView>, number: usize) -> BookOwner<N>
         requires exists { HasHistory N.book number × (number < 2 ^ 33) }
-        requires next { (first.old.table_id ≡ N.book.id) × (first.old.me ≡ (dealing N.book.leaves N.book.ranges number, [])) }
-        ensures next { (first.new.table_id ≡ N.book.id) × (first.new.me ≡ (dealing N.book.leaves N.book.ranges (number + 1), [])) }
+        requires next { (first.old.table_id ≡ N.book.id)
+            × (first.old.me ≡ (dealing N.book.leaves N.book.ranges number, [])) }
+        ensures next { (first.new.table_id ≡ N.book.id)
+            × (first.new.me ≡ (dealing N.book.leaves N.book.ranges (number + 1), [])) }
         ensures owner { result ≡ new_owner N.book.leaves N.book.ranges (history_numbered N.book.leaves number) }
     {
         BookOwner {
@@ -96,9 +104,12 @@ impl<N: BookName> Book<N> {
 
     fn deal_seat(&self, first: &mut Seat<(), SeatView>, number: usize) -> Seat<(), SeatView>
         requires exists { HasHistory N.book number }
-        requires next { (first.old.table_id ≡ N.book.id) × (first.old.me ≡ (dealing N.book.leaves N.book.ranges number, [])) }
-        ensures next { (first.new.table_id ≡ N.book.id) × (first.new.me ≡ (dealing N.book.leaves N.book.ranges (number + 1), [])) }
-        ensures owner { (result.table_id ≡ N.book.id) × (result.me ≡ (owner_view N.book.leaves N.book.ranges number, [])) }
+        requires next { (first.old.table_id ≡ N.book.id)
+            × (first.old.me ≡ (dealing N.book.leaves N.book.ranges number, [])) }
+        ensures next { (first.new.table_id ≡ N.book.id)
+            × (first.new.me ≡ (dealing N.book.leaves N.book.ranges (number + 1), [])) }
+        ensures owner { (result.table_id ≡ N.book.id)
+            × (result.me ≡ (owner_view N.book.leaves N.book.ranges number, [])) }
     {
         if number < self.size.leaves as usize {
             self.table.shared.split_seat::<DealLeaf>(first)
@@ -107,8 +118,8 @@ impl<N: BookName> Book<N> {
         }
     }
 
-    /// The length of a history, which is at least that of what the seat has seen of it. The seat notes it, and has seen no
-    /// more than before. One step.
+    /// The length of a history, which is at least that of what the seat has seen of it. The seat notes it, and has
+    /// seen no more than before. One step.
     pub fn learn(&self, seat: &mut BookSeat<N>, history: u32) -> u64
         requires exists { HasHistory N.book history }
         ensures longer { length (entries seat.old.seen (history_numbered N.book.leaves history)) ≤ result }
@@ -119,8 +130,8 @@ impl<N: BookName> Book<N> {
             .load::<Learn<N>>(&mut seat.seat, history as usize + 1)
     }
 
-    /// The length of the owner's history, which is just that of what it has seen of it. Its guest notes it, if there is one,
-    /// and else the owner. One step.
+    /// The length of the owner's history, which is just that of what it has seen of it. Its guest notes it, if there
+    /// is one, and else the owner. One step.
     pub fn learn_owner(&self, owner: &mut BookOwner<N>) -> u64
         ensures exact { result ≡ length (entries owner.old.seen owner.old.history) }
         ensures noted { owner.new ≡ after_own_learn (number_of N.book.leaves owner.old.history) result owner.old }
@@ -156,11 +167,12 @@ impl<N: BookName> Book<N> {
         }
     }
 
-    /// A seat that has seen what this one has seen, with the first number of its stock. It is none exactly where the stock is
-    /// spent. One step.
+    /// A seat that has seen what this one has seen, with the first number of its stock. It is none exactly where the
+    /// stock is spent. One step.
     pub fn split_numbered(&self, seat: &mut BookSeat<N>) -> Option<BookSeat<N>>
         ensures spent { IfNone result ((is_spent seat.old.purse.stock ≡ true) × (seat.new ≡ seat.old)) }
-        ensures handed { IfSome result (λ new. (seat.old.purse.stock.from < seat.old.purse.stock.to) × (new ≡ numbered seat.old)) }
+        ensures handed { IfSome result (λ new.
+            (seat.old.purse.stock.from < seat.old.purse.stock.to) × (new ≡ numbered seat.old)) }
         ensures left { IfSome result (λ new. seat.new ≡ after_split_numbered seat.old) }
     {
         let stock = seat.hand.stock;
@@ -189,9 +201,9 @@ impl<N: BookName> Book<N> {
         self.unite(&mut seat.seat, met);
     }
 
-    /// Changes nothing, and tells what holds of what the seat has: no number stands there twice, the entries of a number that
-    /// were seen are the first of those that are kept, and where every number stands there, each entry that was seen is
-    /// kept. One step.
+    /// Changes nothing, and tells what holds of what the seat has: no number stands there twice, the entries of a
+    /// number that were seen are the first of those that are kept, and where every number stands there, each entry
+    /// that was seen is kept. One step.
     pub fn confirm(&self, seat: &mut BookSeat<N>)
         ensures kept { seat.new ≡ seat.old }
         ensures borne_out { IsBorneOut seat.old.seen seat.old.purse }
@@ -199,8 +211,9 @@ impl<N: BookName> Book<N> {
         self.table.shared.load::<Confirm<N>>(&mut seat.seat, 0);
     }
 
-    /// The owner takes a guest. It has seen what either had, and of its own history just what it had; every entry in it about
-    /// a range that the guest holds was seen by the guest. It promised the rooms that the guest has there. Two steps.
+    /// The owner takes a guest. It has seen what either had, and of its own history just what it had; every entry in
+    /// it about a range that the guest holds was seen by the guest. It promised the rooms that the guest has there.
+    /// Two steps.
     pub fn meet_owner(&self, owner: &mut BookOwner<N>, other: BookSeat<N>)
         requires free { owner.old.guest ≡ None }
         ensures met { owner.new ≡ with_guest other owner.old }
@@ -226,15 +239,16 @@ impl<N: BookName> Book<N> {
         ensures met { seat.new.me ≡ (meeting seat.old.me.0 other.me.0, seat.old.me.1) }
         ensures united { IsUnited (meeting seat.old.me.0 other.me.0)
             (record { mine = seat.old.me.0.seen; theirs = other.me.0.seen; lent = (guest_purse other.me.0.purse).holds }) }
-        ensures borne_out { IfSome (meeting seat.old.me.0 other.me.0).purse (IsBorneOut (meeting seat.old.me.0 other.me.0).seen) }
+        ensures borne_out { IfSome (meeting seat.old.me.0 other.me.0).purse
+            (IsBorneOut (meeting seat.old.me.0 other.me.0).seen) }
         ensures promised { IsPromised N.book.leaves (meeting seat.old.me.0 other.me.0) }
     {
         self.table.shared.join_seat::<Meet>(seat, other);
         self.table.shared.load::<Confirm<N>>(seat, 0);
     }
 
-    /// The owner's guest goes with what it brought, as a seat that has seen what the owner has seen. It may get a room more in
-    /// the owner's history or give one back, and hold the owner's range. One step.
+    /// The owner's guest goes with what it brought, as a seat that has seen what the owner has seen. It may get a
+    /// room more in the owner's history or give one back, and hold the owner's range. One step.
     pub fn split_owner(&self, owner: &mut BookOwner<N>, rooms: RoomMove, hold: bool) -> BookSeat<N>
         requires make { rooms ≡ the_move.Make → IsOfLeaf owner.old.history }
         requires take_back { rooms ≡ the_move.TakeBack → HasRoom owner.old }

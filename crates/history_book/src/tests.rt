@@ -29,7 +29,8 @@ fn append_down<N: BookName, E: NewEntry>(book: &Book<N>, owner: &mut BookOwner<N
 fn last_owner<N: BookName>(owners: BookOwners<N>) -> Option<BookOwner<N>>
     requires new { owners ≡ map (new_owner N.book.leaves N.book.ranges) (histories_in N.book.leaves N.book.ranges) }
     requires no_range { N.book.ranges ≡ 0 }
-    ensures new { IfSome result (λ owner. (owner.guest ≡ None) × (entries owner.seen owner.history ≡ []) × IsOfLeaf owner.history) }
+    ensures new { IfSome result (λ owner.
+        (owner.guest ≡ None) × (entries owner.seen owner.history ≡ []) × IsOfLeaf owner.history) }
 {
     owners.into_vec().pop()
 }
@@ -202,7 +203,8 @@ fn append_as_guest<N: BookName, E: NewEntry>(
     requires number { (hand_of seat.purse).own ≡ Some pass }
     ensures free { owner.new.guest ≡ None }
     ensures leaf { IsOfLeaf owner.new.history }
-    ensures grown { length (entries owner.new.seen owner.new.history) ≡ length (entries owner.old.seen owner.old.history) + 1 }
+    ensures grown { length (entries owner.new.seen owner.new.history)
+        ≡ length (entries owner.old.seen owner.old.history) + 1 }
 {
     book.meet_owner(owner, seat);
     append_down::<N, E>(book, owner, pass);

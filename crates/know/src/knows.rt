@@ -8,7 +8,8 @@ ghost use Rattle.history_book.specs.Histories.{AreFronts, leaf_history, range_hi
 ghost use Rattle.history_book.specs.Seats.{IsBorneOut, hand_of};
 ghost use Rattle.raise_table.specs.Seats.{HasKnown, KnowsAll, KnowsAsMuch};
 ghost use Rattle.raise_table.specs.Tables.{HasWord};
-ghost use Rattle.know.specs.Knowledge.{after_handing, after_load, after_numbering, from_seats, meeting, numbered, numbers_fault, split_off};
+ghost use Rattle.know.specs.Knowledge.{after_handing, after_load, after_numbering, from_seats, meeting, numbered};
+ghost use Rattle.know.specs.Knowledge.{numbers_fault, split_off};
 ghost use Rattle.know.specs.Reaches.{reach_of};
 ghost use Rattle.know.specs.Sound.{IsSound, histories};
 

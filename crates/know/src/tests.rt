@@ -1,8 +1,10 @@
 ghost use Rattle.std.specs.Prelude.{◌≡◌, ◌<◌, ◌^◌, false, [], ◌∷◌, ◌++◌, length, map, Some, None, IfOk, IfSome, IsTrue};
 ghost use Rattle.history_book.specs.declared.rooms.RoomMove.TheVariants as the_move;
 ghost use Rattle.history_book.specs.declared.views.History.TheVariants as of;
-ghost use Rattle.history_book.specs.Histories.{IsFor, empty_histories, entries, histories_in, is_about, leaf_numbered, pass_of, range_numbered};
-ghost use Rattle.history_book.specs.Seats.{after_append, after_parting, first_seat, hand_of, new_owner, parted, times_range, with_guest};
+ghost use Rattle.history_book.specs.Histories.{IsFor, empty_histories, entries, histories_in, is_about, leaf_numbered};
+ghost use Rattle.history_book.specs.Histories.{pass_of, range_numbered};
+ghost use Rattle.history_book.specs.Seats.{after_append, after_parting, first_seat, hand_of, new_owner, parted};
+ghost use Rattle.history_book.specs.Seats.{times_range, with_guest};
 ghost use Rattle.mon_value.specs.declared.histories.Entry.TheVariants as entry;
 ghost use Rattle.mon_value.specs.declared.histories.RangeEntry.TheVariants as range_entry;
 ghost use Rattle.mon_value.specs.declared.positions.Range as a_range;

@@ -18,7 +18,8 @@ note place bucket bits = record { place = place; bucket = bucket; bits = bits }
 -- the bit is known to be in the word of a place and a bucket
 abbrev pub Knows : Hints → Place → ℕ → ℕ → Type 0
 Knows hints place bucket bit =
-    (known : Note) × Contains hints.known known × (known.place ≡ place) × (known.bucket ≡ bucket) × (bit_at known.bits bit ≡ 1)
+    (known : Note) × Contains hints.known known
+    × (known.place ≡ place) × (known.bucket ≡ bucket) × (bit_at known.bits bit ≡ 1)
 
 -- a number has every bit that is known of the word of a place and a bucket
 abbrev pub HasKnown : Hints → Place → ℕ → ℕ → Type 0

@@ -16,7 +16,8 @@ abbrev pub first_seat : List ℕ → SeatView
 first_seat zones = record { hints = no_hints; leaves = leaves_in zones; raised = [] }
 
 abbrev pub loaded : Place → ℕ → ℕ → SeatView → SeatView
-loaded place bucket found seat = record { hints = after_load place bucket found seat.hints; leaves = seat.leaves; raised = seat.raised }
+loaded place bucket found seat =
+    record { hints = after_load place bucket found seat.hints; leaves = seat.leaves; raised = seat.raised }
 
 abbrev pub raising : Place → ℕ → ℕ → SeatView → SeatView
 raising place bucket bits seat = record {

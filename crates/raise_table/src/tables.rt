@@ -2,7 +2,8 @@
 ghost use Rattle.std.specs.Prelude.{◌≡◌, ◌≤◌, ◌<◌, [], ◌∷◌, length, drop, map, IfOk};
 ghost use Rattle.std.specs.List.{Contains};
 ghost use Rattle.raise_table.specs.Places.{bit_of, leaves_in};
-ghost use Rattle.raise_table.specs.Seats.{HasKnown, Knows, KnowsAll, KnowsAsMuch, MayRaise, after_load, after_meet, after_raise, met, new_owner, no_hints, without_notes};
+ghost use Rattle.raise_table.specs.Seats.{HasKnown, Knows, KnowsAll, KnowsAsMuch, MayRaise, after_load, after_meet};
+ghost use Rattle.raise_table.specs.Seats.{after_raise, met, new_owner, no_hints, without_notes};
 ghost use Rattle.raise_table.specs.Tables.{AreFew, HasWord, IsShaped};
 
 use crate::names::RaiseName;
@@ -71,8 +72,8 @@ pub struct RaiseTable<N: RaiseName> {
 }
 
 impl<N: RaiseName> RaiseTable<N> {
-    /// Opens a table under a name that means it: with a seat that knows nothing, and the seats of the leaves' owners, leaves
-    /// in order. Where memory runs out the table is gone.
+    /// Opens a table under a name that means it: with a seat that knows nothing, and the seats of the leaves' owners,
+    /// leaves in order. Where memory runs out the table is gone.
     pub fn open(
         alloc: Global,
         blank: RaiseBlank,
@@ -120,8 +121,8 @@ impl<N: RaiseName> RaiseTable<N> {
         }
     }
 
-    /// Sets the bit of the owner's leaf, in one step: at the root that of its zone, in its zone its own. In the zone it is set
-    /// for a bucket that the owner raised at the root. No memory is taken.
+    /// Sets the bit of the owner's leaf, in one step: at the root that of its zone, in its zone its own. In the zone
+    /// it is set for a bucket that the owner raised at the root. No memory is taken.
     pub fn raise(&self, seat: &mut OwnerSeat<N>, place: Place, bucket: u32)
         requires exists { bucket < N.raise.buckets }
         requires allowed { MayRaise seat.old.leaf seat.old.raised place bucket }
@@ -181,8 +182,8 @@ impl<N: RaiseName> RaiseTable<N> {
         self.table.shared.join_seat::<Meet>(&mut seat.seat, met);
     }
 
-    /// An owner learns what a seat knew and has its notes too, in one step. Its leaf and what it raised stay. No memory is
-    /// taken.
+    /// An owner learns what a seat knew and has its notes too, in one step. Its leaf and what it raised stay. No
+    /// memory is taken.
     pub fn meet_owner(&self, seat: &mut OwnerSeat<N>, other: HintSeat<N>)
         ensures met { seat.new ≡ after_meet other seat.old }
         ensures knows { KnowsAsMuch seat.old.hints seat.new.hints × KnowsAsMuch other seat.new.hints }
