@@ -3,17 +3,14 @@ ghost use Rattle.std.specs.Prelude.{◌≡◌, ◌+◌, ◌≤◌, All, IfSome, 
 ghost use Rattle.std.specs.List.{flat_map};
 ghost use Rattle.mon_value.specs.Limits.{greatest_sum};
 
-use crate::sizes::room_behind_counts;
+use crate::sizes::{GREATEST_SUM, room_behind_counts};
 use mon_value::{Counts, ListOf};
-
-// The most that the items of all pieces count in all.
-const MOST_COUNTED: u128 = 1 << 126;
 
 /// Whether the numbers in all pieces sum up within their bound.
 pub(crate) fn can_sum(pieces: &[ListOf<i128>]) -> bool
     ensures small { IsTrue result → sum_by unsigned_abs (flat_map (λ piece. piece) pieces.now) ≤ greatest_sum }
 {
-    let mut room = MOST_COUNTED;
+    let mut room = GREATEST_SUM;
     for piece in pieces {
         match room_behind_numbers(room, piece.as_slice()) {
             Some(left) => room = left,
@@ -27,7 +24,7 @@ pub(crate) fn can_sum(pieces: &[ListOf<i128>]) -> bool
 pub(crate) fn can_count<T>(pieces: &[ListOf<T>]) -> bool
     ensures few { IsTrue result → length (flat_map (λ piece. piece) pieces.now) ≤ greatest_sum }
 {
-    let mut room = MOST_COUNTED;
+    let mut room = GREATEST_SUM;
     for piece in pieces {
         match room.checked_sub(piece.len() as u128) {
             Some(left) => room = left,
@@ -66,7 +63,7 @@ fn all_have(counts: usize, items: &[Counts]) -> bool
 fn are_small(pieces: &[ListOf<Counts>]) -> bool
     ensures small { IsTrue result → sum_by sum (flat_map (λ piece. piece) pieces.now) ≤ greatest_sum }
 {
-    let mut room = MOST_COUNTED;
+    let mut room = GREATEST_SUM;
     for piece in pieces {
         match room_behind_distributions(room, piece.as_slice()) {
             Some(left) => room = left,

@@ -8,11 +8,8 @@ ghost use Rattle.mon_value.specs.Groups.{column_of};
 ghost use Rattle.mon_value.specs.Limits.{greatest_sum};
 ghost use Rattle.mon_value.specs.Values.{magnitude};
 
-use crate::sizes::room_behind;
+use crate::sizes::{GREATEST_SUM, room_behind};
 use mon_value::{Aggregate, AggregateKind, Column, Table, TimedRow, Value, ValueType};
-
-// The most that the cells of a column count in all, so that those at each time do.
-const MOST_COUNTED: u128 = 1 << 126;
 
 /// Whether `group` can be called: cells of their columns' types, columns that are there and that the
 /// aggregates take, and sums within their bound.
@@ -152,7 +149,7 @@ fn is_column_small(rows: &[TimedRow], column: u32) -> bool
 fn is_total_small(rows: &[TimedRow], column: u32) -> bool
     ensures small { IsTrue result → sum_by magnitude (column_of column rows.now) ≤ greatest_sum }
 {
-    let mut room = MOST_COUNTED;
+    let mut room = GREATEST_SUM;
     for row in rows {
         match room_behind_cell(room, row, column) {
             Some(left) => room = left,

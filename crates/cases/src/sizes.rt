@@ -2,7 +2,10 @@
 ghost use Rattle.std.specs.Prelude.{◌≡◌, ◌+◌, IfSome, sum};
 ghost use Rattle.mon_value.specs.Values.{magnitude};
 
-use mon_value::Value;
+use mon_value::{Value, WIDEST_SUM};
+
+/// The most that the values of one sum count in all.
+pub(crate) const GREATEST_SUM: u128 = 1 << WIDEST_SUM;
 
 /// What is left of a room behind a value, or none where the value counts more.
 pub(crate) fn room_behind(room: u128, value: &Value) -> Option<u128>
