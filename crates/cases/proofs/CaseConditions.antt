@@ -1,5 +1,6 @@
 -- What is bounded of all points and rows is so of those that are seen for one time.
-use Rattle.std.proofs.Common.{◌≡◌, ◌≤◌, ◌+◌, ℕ, ℤ, Bool, true, false, cond, List, [], ◌∷◌, Option, Some, None, Result, Ok, Err, IfOk, IsTrue, option_to_list, slice_get, sum_by, arith}
+use Rattle.std.proofs.Common.{◌≡◌, ◌≤◌, ◌+◌, ℕ, ℤ, Bool, true, false, cond, List, [], ◌∷◌, Option, Some, None, Result}
+use Rattle.std.proofs.Common.{Ok, Err, IfOk, IsTrue, option_to_list, slice_get, sum_by, arith}
 use Rattle.std.specs.List.{AllByRecursion, cons_option}
 use Rattle.std.proofs.lemmas.List.Sums.{sum_by-cons}
 use Rattle.mon_fold.proofs.GroupBounds.{total_at}
@@ -49,7 +50,8 @@ delta_aligns seconds grid points looks lawful alike small =
     }
 
 -- a test that ran, which tells two things
-pub both_told : {E : Type 0} (P Q R : Type 0) (told : Result Bool E) → IfOk told (λ holds. IsTrue holds → P) → IfOk told (λ holds. IsTrue holds → Q)
+pub both_told : {E : Type 0} (P Q R : Type 0) (told : Result Bool E) → IfOk told (λ holds. IsTrue holds → P)
+    → IfOk told (λ holds. IsTrue holds → Q)
     → (P → Q → R) → IfOk told (λ holds. IsTrue holds → R)
 both_told P Q R (Ok holds) first second both = λ true. both (first true) (second true)
 both_told P Q R (Err error) first second both = tt

@@ -1,5 +1,6 @@
 -- Rows that lie at other places share no location with others, and no target.
-use Rattle.std.proofs.Common.{◌≡◌, ℕ, Bool, false, true, ◌&&◌, ◌||◌, List, [], ◌∷◌, refl, sym, ap, ◌∙◌, Option, Some, None}
+use Rattle.std.proofs.Common.{◌≡◌, ℕ, Bool, false, true, ◌&&◌, ◌||◌, List, [], ◌∷◌, refl, sym, ap, ◌∙◌, Option, Some}
+use Rattle.std.proofs.Common.{None}
 use Rattle.std.specs.Option.{option_map_or}
 use Rattle.mixer.specs.Divisions.{ShareNoLocation, ShareNoTarget, has_location, has_target, lies_at}
 use Rattle.mon_schema.specs.SchemaLists.{SchemaLists}
@@ -62,7 +63,8 @@ module _ (held : SchemaLists) (place : List ℕ) (target : Target) (at : locatio
   no_target [] apart = refl
   no_target (row ∷ others) apart =
       let parts = neither (lies_at held place row) (has_location held others place) apart in
-      nor (same_target row.key.target target) (has_target others target) (is_other row parts.0) (no_target others parts.1)
+      nor (same_target row.key.target target) (has_target others target) (is_other row parts.0)
+      (no_target others parts.1)
 
 -- ---- rows
 

@@ -3,15 +3,17 @@ use Rattle.std.proofs.Common.{◌≡◌, ℕ, Bool, false, true, ◌||◌, List,
 use Rattle.std.specs.List.{AllByRecursion}
 use Rattle.std.specs.Option.{option_map_or}
 use Rattle.std.proofs.lemmas.List.Folds.{list_any-append}
-use Rattle.mixer.specs.Divisions.{AreApart, IsDivided, ShareNoLocation, ShareNoTarget, all_rows, has_location, lies_at, together}
+use Rattle.mixer.specs.Divisions.{AreApart, IsDivided, ShareNoLocation, ShareNoTarget, all_rows, has_location, lies_at}
+use Rattle.mixer.specs.Divisions.{together}
 use Rattle.mon_schema.specs.Fits.{fits}
 use Rattle.mon_schema.specs.SchemaLists.{SchemaLists}
 use Rattle.mon_topo.specs.Locations.{location_of}
 use Rattle.mon_value.specs.declared.rows.Row.{Row}
 use Rattle.mql_types.specs.Nodes.{TypedTree}
-use Rattle.mql_types.specs.Soundness.{IsTyped}
-use Rattle.cases.specs.Readings.{Among, AreReads, IsAskedOver, ShareNoPlace, leaves_of}
-use Rattle.cases.proofs.AmongLemmas.{all_among, all_back, all_both, all_front, all_on, apart_across, apart_among, apart_back, apart_front, apart_on}
+use Rattle.mql_types.specs.Soundness.{IsQueryType, IsTyped}
+use Rattle.cases.specs.Readings.{Among, AreReads, ShareNoPlace, leaves_of}
+use Rattle.cases.proofs.AmongLemmas.{all_among, all_back, all_both, all_front, all_on, apart_across, apart_among}
+use Rattle.cases.proofs.AmongLemmas.{apart_back, apart_front, apart_on}
 use Rattle.cases.proofs.PlaceLemmas.{share_no_location, share_no_target}
 
 -- ---- rows that are put together
@@ -90,7 +92,8 @@ module _ (held : SchemaLists) where
     all_together (LiesElsewhere (together other)) zone
         (all_on (λ rows. AllByRecursion (ShareNoLocation held rows) (other ++ leaves_of zones))
         (λ rows. ShareNoLocation held rows (together other)) zone
-        (λ rows apart. share_with_all rows other (all_front (ShareNoLocation held rows) other (leaves_of zones) apart)) all),
+        (λ rows apart. share_with_all rows other (all_front (ShareNoLocation held rows) other (leaves_of zones) apart))
+        all),
     zone_apart zone zones
         (all_on (λ rows. AllByRecursion (ShareNoLocation held rows) (other ++ leaves_of zones))
         (λ rows. AllByRecursion (ShareNoLocation held rows) (leaves_of zones)) zone
@@ -107,7 +110,7 @@ module _ (held : SchemaLists) where
 
 -- ---- the whole
 
-module _ (held : SchemaLists) (typed : TypedTree) (over : IsAskedOver held typed) where
+module _ (held : SchemaLists) (typed : TypedTree) (over : IsQueryType held typed) where
   -- a type over the schemas is one over any rows that fit them
   abbrev typed_over : (rows : List Row) → AllByRecursion (λ row. fits held row ≡ true) rows → IsTyped typed rows
   typed_over rows fit = record {
@@ -132,7 +135,7 @@ module _ (held : SchemaLists) (typed : TypedTree) (over : IsAskedOver held typed
       of = typed_over (all_rows zones)
           (all_in_zones (λ row. fits held row ≡ true) zones
           (all_among (AllByRecursion (λ row. fits held row ≡ true)) among are.fit));
-      located = over.located;
+      located = over.targets;
       leaves_apart = leaves_apart zones (apart_among ShareNoTarget among no_targets);
       zones_apart = zones_apart held zones (apart_among (ShareNoLocation held) among no_locations);
     }

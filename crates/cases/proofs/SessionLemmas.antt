@@ -1,5 +1,6 @@
 -- A query that is told readings which share nothing: what it keeps are answers over some of them, which can be mixed.
-use Rattle.std.proofs.Common.{◌≡◌, ◌≤ℤ◌, ℕ, ℤ, pos, Bool, true, false, cond, List, [], ◌∷◌, ◌++◌, drop, refl, sym, ap, subst, ◌∙◌, Option, Some, None, Result, Ok, Err, append_assoc, append-nil}
+use Rattle.std.proofs.Common.{◌≡◌, ◌≤ℤ◌, ℕ, ℤ, pos, Bool, true, false, cond, List, [], ◌∷◌, ◌++◌, drop, refl, sym, ap}
+use Rattle.std.proofs.Common.{subst, ◌∙◌, Option, Some, None, Result, Ok, Err, append_assoc, append-nil}
 use Rattle.std.specs.List.{AllByRecursion}
 use Rattle.mon_fold.specs.declared.answers.LeafAnswer.{LeafAnswer}
 use Rattle.mon_meaning.specs.LeafAnswers.{IsLeafPart}
@@ -28,22 +29,25 @@ use Rattle.query_core.specs.Courses.{begun, course_of, is_entered, left, with_fo
 use Rattle.query_core.specs.Courses as courses
 use Rattle.query_core.specs.Loadings.{is_whole, no_word, with_word}
 use Rattle.query_core.specs.Looks.{read_at, unread}
-use Rattle.query_core.specs.Mixtures.{LeadsTo, MayBeTold, MayMix, MayMixRoot, Settles, TurnSettles, ZoneMixes, root_stage, typed_of, zone_turn}
+use Rattle.query_core.specs.Mixtures.{LeadsTo, MayBeTold, MayMix, MayMixRoot, Settles, TurnSettles, ZoneMixes}
+use Rattle.query_core.specs.Mixtures.{root_stage, typed_of, zone_turn}
 use Rattle.query_core.specs.Program as spec
 use Rattle.query_core.specs.Program.{after, begin_visits, let_some_in, next_zone, resolving, visiting}
 use Rattle.query_core.specs.Rounds.{Round, next_range, round_of, with_slot}
 use Rattle.query_core.specs.Settings.{Setting}
 use Rattle.query_core.specs.Visits as visit
 use Rattle.query_core.specs.Visits.{Visits, gone_on, looked, next_leaf}
+use Rattle.mql_types.specs.Soundness.{IsQueryType}
 use Rattle.cases.specs.declared.meanings.Asked.{Asked}
-use Rattle.cases.specs.Readings.{Among, AreReads, IsAskedOver, IsInBounds, ShareNoPlace, leaves_of}
+use Rattle.cases.specs.Readings.{Among, AreReads, IsInBounds, ShareNoPlace, leaves_of}
 use Rattle.cases.specs.Sessions.{AreLeavesOf, AreZonesOf, IsGoingSo, IsPlain, IsRead, IsToldOver, StageIsOf}
 use Rattle.cases.proofs.AmongLemmas.{all_last, apart_last, front_among, last_passed, last_taken, none_among}
 use Rattle.cases.proofs.ReadingLemmas.{divided_of, leaves_share_none, leaves_typed}
 
 -- ---- leaves and zones more
 
-leaves_more : {X : Type 0} (zones : List (List X)) (zone : List X) → leaves_of (zones ++ zone ∷ []) ≡ leaves_of zones ++ zone
+leaves_more : {X : Type 0} (zones : List (List X)) (zone : List X) → leaves_of (zones ++ zone ∷ []) ≡ leaves_of zones
+    ++ zone
 leaves_more [] zone = append-nil zone
 leaves_more (first ∷ zones) zone =
     ap (λ rest. first ++ rest) (leaves_more zones zone) ∙ sym (append_assoc first (leaves_of zones) zone)
@@ -58,7 +62,8 @@ leaf_parts_more typed moment limit (leaf ∷ leaves) [] rows part all one = absu
 leaf_parts_more typed moment limit (leaf ∷ leaves) (p ∷ parts) rows part all one =
     (all.0, leaf_parts_more typed moment limit leaves parts rows part all.1 one)
 
-zone_parts_more : (typed : TypedTree) (moment : ℤ) (limit : ℕ) (zones : List (List (List Row))) (parts : List ZoneAnswer)
+zone_parts_more : (typed : TypedTree) (moment : ℤ) (limit : ℕ) (zones : List (List (List Row)))
+    (parts : List ZoneAnswer)
     (zone : List (List Row)) (part : ZoneAnswer) → AllZoneParts typed zones moment limit parts
     → IsZonePart typed zone moment limit part
     → AllZoneParts typed (zones ++ zone ∷ []) moment limit (parts ++ part ∷ [])
@@ -126,7 +131,7 @@ module _ (setting : Setting) (moment : ℤ) (reads : List (List Row)) where
   root_mixed course (Ok table) = tt
   root_mixed course (Err over) = tt
 
-  module _ (held : SchemaLists) (over : IsAskedOver held (typed_of setting)) (are : AreReads held reads)
+  module _ (held : SchemaLists) (over : IsQueryType held (typed_of setting)) (are : AreReads held reads)
       (from : pos 0 ≤ℤ moment) where
     -- ---- where a query goes on
 
@@ -238,7 +243,8 @@ module _ (setting : Setting) (moment : ℤ) (reads : List (List Row)) where
     word_told : (stage : Stage) (word : ℕ) (seen : Seen) → StageIs stage
         → Leads (MayMix setting) (Settles setting) (spec.told_word setting stage word seen)
     word_told (at.Rooting loading) word seen is = root_loaded (with_word loading word seen)
-    word_told (at.Entering course round loading) word seen is = zone_loaded course round (with_word loading word seen) is
+    word_told (at.Entering course round loading) word seen is = zone_loaded course round (with_word loading word seen)
+        is
     word_told (at.Resolving course round range) word seen is = stays (at.Resolving course round range) is
     word_told (at.Reloading course round loading) word seen is =
         zone_reloaded course round (with_word loading word seen) is
@@ -311,7 +317,8 @@ module _ (setting : Setting) (moment : ℤ) (reads : List (List Row)) (rows : Li
   abbrev more : List (List Row)
   more = reads ++ rows ∷ []
 
-  zones_grown : (answers : List ZoneAnswer) → ZonesAre setting moment reads answers → ZonesAre setting moment more answers
+  zones_grown : (answers : List ZoneAnswer) → ZonesAre setting moment reads answers → ZonesAre setting moment more
+      answers
   zones_grown answers are = record { zones = are.zones; among = last_passed rows are.among; parts = are.parts }
 
   leaves_grown : (answers : List ZoneAnswer) (parts : List LeafAnswer) → LeavesAre setting moment reads answers parts
@@ -345,7 +352,7 @@ module _ (setting : Setting) (moment : ℤ) (reads : List (List Row)) (rows : Li
     of_leaves = leaf_parts_more (typed_of setting) moment setting.limit are.leaves parts rows part are.of_leaves one;
   }
 
-  module _ (held : SchemaLists) (over : IsAskedOver held (typed_of setting)) (are : AreReads held more)
+  module _ (held : SchemaLists) (over : IsQueryType held (typed_of setting)) (are : AreReads held more)
       (from : pos 0 ≤ℤ moment) where
     abbrev GoesOn : Stage → Told → Type 0
     GoesOn stage answer = Leads setting moment more (MayMix setting) (Settles setting) (after setting stage answer)
@@ -419,28 +426,32 @@ module _ (held : SchemaLists) (asked : Asked) (reads : List (List Row)) (setting
     plain_goes_on = goes_by reads going.reads_are answer plain_goes
 
   -- what a leaf answers over rows that share no place with those before
-  module _ (more : List (List Row)) (answer : Told) (read : IsRead held (typed_of setting) asked reads more answer) where
-    reads_grown : AreReads held (reads ++ read.rows ∷ [])
-    reads_grown = record {
-      fit = all_last (AllByRecursion (λ row. fits held row ≡ true)) reads read.rows going.reads_are.fit read.reading.fit;
-      apart = apart_last (ShareNoPlace held) reads read.rows going.reads_are.apart read.apart;
-    }
+  module _ (more : List (List Row)) (answer : Told) (read : IsRead held (typed_of setting) asked reads more answer)
+    where
+      reads_grown : AreReads held (reads ++ read.rows ∷ [])
+      reads_grown = record {
+        fit = all_last (AllByRecursion (λ row. fits held row ≡ true)) reads read.rows going.reads_are.fit
+            read.reading.fit;
+        apart = apart_last (ShareNoPlace held) reads read.rows going.reads_are.apart read.apart;
+      }
 
-    are_more : AreReads held more
-    are_more = subst (λ (some : List (List Row)). AreReads held some) (sym read.is) reads_grown
+      are_more : AreReads held more
+      are_more = subst (λ (some : List (List Row)). AreReads held some) (sym read.is) reads_grown
 
-    read_goes : GoesOver more answer
-    read_goes =
-        subst (λ (some : List (List Row)). GoesOver some answer) (sym read.is)
-        (told_over setting asked.moment reads read.rows held going.over reads_grown going.bounds.from asked going.limit refl
-        stage answer going.stage_is read.answers)
+      read_goes : GoesOver more answer
+      read_goes =
+          subst (λ (some : List (List Row)). GoesOver some answer) (sym read.is)
+          (told_over setting asked.moment reads read.rows held going.over reads_grown going.bounds.from asked
+          going.limit
+          refl
+          stage answer going.stage_is read.answers)
 
-    pub read_may_be_told : MayBeTold setting stage answer
-    read_may_be_told = record { may_mix = read_goes.0 }
+      pub read_may_be_told : MayBeTold setting stage answer
+      read_may_be_told = record { may_mix = read_goes.0 }
 
-    pub read_goes_on : (next : Setting) (new : Stage) → next ≡ setting → LeadsTo setting stage answer new
-        → IsGoingSo held asked more next new
-    read_goes_on = goes_by more are_more answer read_goes
+      pub read_goes_on : (next : Setting) (new : Stage) → next ≡ setting → LeadsTo setting stage answer new
+          → IsGoingSo held asked more next new
+      read_goes_on = goes_by more are_more answer read_goes
 
 -- a plan's answers are those of the query that has it
 pub read_by_plan : (held : SchemaLists) (asked : Asked) (reads more : List (List Row)) (answer : Told) (plan : Plan)
@@ -451,7 +462,7 @@ read_by_plan held asked reads more answer plan setting same read =
 
 -- before its first event a query was told nothing
 pub goes_at_first : (held : SchemaLists) (asked : Asked) (setting : Setting) → IsInBounds asked
-    → setting.limit ≡ asked.limit → IsAskedOver held (typed_of setting)
+    → setting.limit ≡ asked.limit → IsQueryType held (typed_of setting)
     → IsGoingSo held asked [] setting (at.Rooting no_word)
 goes_at_first held asked setting bounds limit over = record {
   bounds = bounds;

@@ -1,33 +1,17 @@
 -- Rows of several leaves that were read, which share nothing.
-use Rattle.std.specs.Prelude.{◌≡◌, ◌≤◌, ◌≤ℤ◌, ◌^◌, pos, false, true, List, [], ◌∷◌, ◌++◌, Ok}
+use Rattle.std.specs.Prelude.{◌≡◌, ◌≤◌, ◌≤ℤ◌, ◌^◌, pos, false, true, List, [], ◌∷◌, ◌++◌}
 use Rattle.std.specs.List.{AllByRecursion}
 use Rattle.std.specs.Option.{option_map_or}
 use Rattle.mixer.specs.Divisions.{AreApart, has_location}
 use Rattle.mon_schema.specs.Fits.{fits}
-use Rattle.mon_schema.specs.HeldMetrics.{AreHeld}
-use Rattle.mon_schema.specs.HeldTargets.{AllTellLocations}
 use Rattle.mon_schema.specs.SchemaLists.{SchemaLists}
 use Rattle.mon_topo.specs.Locations.{location_of}
 use Rattle.mon_value.specs.Sources.{IsSource}
 use Rattle.mon_value.specs.declared.limits.TheConstants.{ROW_BITS}
 use Rattle.mon_value.specs.declared.rows.Row.{Row}
-use Rattle.mql_ast.specs.Trees.{PipeTree}
-use Rattle.mql_types.specs.Durations.{HasDurations}
-use Rattle.mql_types.specs.Nodes.{TypedTree}
-use Rattle.mql_types.specs.Soundness.{IsPipeSpelled}
-use Rattle.mql_types.specs.Typing.{typing}
 use Rattle.cases.specs.declared.meanings.Asked.{Asked}
 
 -- ---- what is asked
-
--- the type of some query over schemas
-pub record IsAskedOver (held : SchemaLists) (typed : TypedTree) : Type 0 where
-  pub query : PipeTree
-  pub spelled : IsPipeSpelled query
-  pub durations : HasDurations query
-  pub is : typing held query ≡ Ok typed
-  pub metrics : AreHeld held.metrics
-  pub located : AllTellLocations held.targets
 
 -- a query is asked at no moment before the first one, with no greater limit than a table may have rows
 pub record IsInBounds (asked : Asked) : Type 0 where

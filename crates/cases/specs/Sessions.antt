@@ -15,8 +15,9 @@ use Rattle.query_core.specs.declared.stages.Stage.TheVariants as at
 use Rattle.query_core.specs.Machine.{Query}
 use Rattle.query_core.specs.Mixtures.{typed_of}
 use Rattle.query_core.specs.Settings.{Setting}
+use Rattle.mql_types.specs.Soundness.{IsQueryType}
 use Rattle.cases.specs.declared.meanings.Asked.{Asked}
-use Rattle.cases.specs.Readings.{Among, AreReads, IsAskedOver, IsInBounds, IsReading, ShareNoPlace, leaves_of}
+use Rattle.cases.specs.Readings.{Among, AreReads, IsInBounds, IsReading, ShareNoPlace, leaves_of}
 
 -- ---- what a query is told
 
@@ -31,7 +32,8 @@ IsToldOver typed asked rows (told.Read cut answer) = IsLeafPart typed rows asked
 IsToldOver typed asked rows answer = Unit {0}
 
 -- what a leaf answers over one reading more
-pub record IsRead (held : SchemaLists) (typed : TypedTree) (asked : Asked) (reads more : List (List Row)) (answer : Told)
+pub record IsRead (held : SchemaLists) (typed : TypedTree) (asked : Asked) (reads more : List (List Row))
+    (answer : Told)
     : Type 0 where
   pub rows : List Row
   pub is : more ≡ reads ++ rows ∷ []
@@ -70,7 +72,7 @@ pub record IsGoingSo (held : SchemaLists) (asked : Asked) (reads : List (List Ro
     : Type 0 where
   pub bounds : IsInBounds asked
   pub limit : setting.limit ≡ asked.limit
-  pub over : IsAskedOver held (typed_of setting)
+  pub over : IsQueryType held (typed_of setting)
   pub reads_are : AreReads held reads
   pub stage_is : StageIsOf (typed_of setting) asked.moment setting.limit reads stage
 

@@ -16,11 +16,11 @@ const MOST: u64 = 1 << 8;
 
 const HALVINGS: u32 = 9;
 
-/// A case is `COUNT queries of seed SEED`: so many queries that are made by chance, each over points that are made and
-/// divided into zones and leaves by chance as well. The load of each over all rows is found, and a run over the zones is
-/// asked within it, where it prints the table of all rows, and within one less, where it refuses. The answer is how
-/// many of the queries have a type, how many of these a table with rows, and their loads together; or the first of which
-/// a run differs.
+/// A case is `COUNT queries of seed SEED`: so many queries that are made by chance, each over points that are made
+/// and divided into zones and leaves by chance as well. The load of each over all rows is found, and a run over the
+/// zones is asked within it, where it prints the table of all rows, and within one less, where it refuses. The answer
+/// is how many of the queries have a type, how many of these a table with rows, and their loads together; or the
+/// first of which a run differs.
 pub(crate) fn write_answer(text: &mut String, setting: &Setting, given: &str) -> Done {
     let Some((count, seed)) = given.split_once(" queries of seed ") else {
         return Err(Trouble::Misspelled);

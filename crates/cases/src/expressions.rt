@@ -14,11 +14,12 @@ use mql_parse::parse;
 use std::alloc::{AllocError, Global};
 use std::str::Split;
 
-/// A case of `matches` is `[PATTERN] [TEXT]`; its answer is whether the whole text matches, by the call and by all cuts.
+/// A case of `matches` is `[PATTERN] [TEXT]`; its answer is whether the whole text matches, by the call and by all
+/// cuts.
 ///
-/// A case of `matches on all texts` is `LETTERS, at most SIGNS on at most LETTERS`: all patterns of so many signs, which
-/// are the letters and `.*`, on all texts of so many letters. Its answer is how many of each there are, and how many
-/// pairs match, by the call and by all cuts.
+/// A case of `matches on all texts` is `LETTERS, at most SIGNS on at most LETTERS`: all patterns of so many signs,
+/// which are the letters and `.*`, on all texts of so many letters. Its answer is how many of each there are, and how
+/// many pairs match, by the call and by all cuts.
 ///
 /// A case of `holds` is `NAME=VALUE NAME=VALUE .. ? PREDICATE`; its answer is whether the predicate holds of the row
 /// with these cells, by name and bound to its columns.

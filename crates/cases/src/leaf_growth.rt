@@ -21,7 +21,8 @@ const SLOT: Slot = Slot(0);
 const WINDOW: i64 = 10;
 
 /// A case is `COUNT puts of COUNT series`, of whole numbers to each series in turn, each settled before the next. Its
-/// answer is the length of the history, and how many points are seen by a window of each series, of the last ten seconds.
+/// answer is the length of the history, and how many points are seen by a window of each series, of the last ten
+/// seconds.
 pub(crate) fn write_answer(text: &mut String, setting: &Setting, given: &str) -> Done {
     let Some((puts, series)) = given.split_once(" puts of ") else {
         return Err(Trouble::Misspelled);

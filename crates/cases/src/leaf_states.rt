@@ -15,10 +15,11 @@ use mon_series::KeptPoint;
 use mon_value::{Leaf, OutOfMemory, Range, Row, RowList, SeriesKey, Slot, TryCopy};
 use std::alloc::Global;
 
-/// A case is a line `BUCKETS buckets of RANGE/SLOT ..`, and lines of what happens to a leaf: `open RANGE/SLOT POINT ..`,
-/// `put RANGE/SLOT POINT`, `down`, `up`, `settle`, or `left POINT`, which asks for the buckets that the point's series
-/// would raise. Its answer has a line for each entry, with the length of the history, whether the leaf is down, and its
-/// buckets, or `no` where it may not follow; and then a line of each replica's rows at each cut, and one of its series.
+/// A case is a line `BUCKETS buckets of RANGE/SLOT ..`, and lines of what happens to a leaf: `open RANGE/SLOT POINT
+/// ..`, `put RANGE/SLOT POINT`, `down`, `up`, `settle`, or `left POINT`, which asks for the buckets that the point's
+/// series would raise. Its answer has a line for each entry, with the length of the history, whether the leaf is
+/// down, and its buckets, or `no` where it may not follow; and then a line of each replica's rows at each cut, and
+/// one of its series.
 pub(crate) fn write_answer(text: &mut String, setting: &Setting, given: &str) -> Done {
     let (head, lines) = given.split_once('\n').unwrap_or((given, ""));
     let Some((buckets, replicas)) = head.split_once(" buckets of ") else {

@@ -1,7 +1,7 @@
 // Formulas of predicates, and plans of queries.
 ghost use Rattle.std.specs.Prelude.{IfOk};
 ghost use Rattle.mql_types.specs.Nodes.{typed_tree};
-ghost use Rattle.cases.specs.Readings.{IsAskedOver};
+ghost use Rattle.mql_types.specs.Soundness.{IsQueryType};
 
 use crate::descriptions::first_word;
 use crate::expressions::{DescribedRow, filter_of, filtering};
@@ -19,9 +19,9 @@ use std::alloc::Global;
 // How many buckets there are.
 const BUCKETS: u32 = 1_024;
 
-/// A case of `formula_of` is `FIELD=VALUE,.. FIELD=VALUE,.. ? PREDICATE`, with the fields of the target and those of the
-/// metric. Its answer is whether the predicate holds of the series, and whether the predicate's formula lets the series
-/// in, or is `All`.
+/// A case of `formula_of` is `FIELD=VALUE,.. FIELD=VALUE,.. ? PREDICATE`, with the fields of the target and those of
+/// the metric. Its answer is whether the predicate holds of the series, and whether the predicate's formula lets the
+/// series in, or is `All`.
 ///
 /// A case of `split` is a query text; its answer is the buckets of the formula of each fetch, with a `|` between, and
 /// those of the plan. The schemas are those of the configuration that the cases stand under.
@@ -96,7 +96,7 @@ fn write_plan(text: &mut String, setting: &Setting, given: &str) -> Done {
 
 /// The plan of the query that a case writes.
 pub(crate) fn plan_of(setting: &Setting, given: &str) -> Result<Plan, Trouble>
-    ensures asked { IfOk result (λ plan. IsAskedOver setting.now.schemas (typed_tree plan.typed)) }
+    ensures asked { IfOk result (λ plan. IsQueryType setting.now.schemas (typed_tree plan.typed)) }
 {
     let query = query_in(setting.alloc, given)?;
     let typed = typed_over(setting.alloc, &query, &setting.schemas)?;

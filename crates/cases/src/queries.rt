@@ -13,8 +13,8 @@ const REPLACEMENTS: &[u8] = b"a_0x/.:{}(),;|&!=\" \x01";
 
 /// A case of `parse` is a query text; its answer is the canonical text of its tree, or its fault.
 ///
-/// A case of `parse at fronts` is a query; its answer is how many of its fronts are queries. Each other front goes wrong
-/// at its end, and no text with one byte replaced goes wrong in front of that byte.
+/// A case of `parse at fronts` is a query; its answer is how many of its fronts are queries. Each other front goes
+/// wrong at its end, and no text with one byte replaced goes wrong in front of that byte.
 pub(crate) fn write_answer(text: &mut String, alloc: Global, call: &str, given: &str) -> Done {
     let mut query = bytes_of(alloc, given)?;
     match call {

@@ -11,8 +11,8 @@ use std::alloc::Global;
 /// A case of `range_of` is a target `SCHEMA FIELD,FIELD` under a configuration; its answer is the name of its range, or
 /// `none` where no zone lists its location.
 ///
-/// A case of `range_of at bounds` is `COUNT ranges`, of a zone whose bounds are 10, 20 and so on; its answer says at how
-/// many bounds, and just below and just above how many, a target lies in the range of its number.
+/// A case of `range_of at bounds` is `COUNT ranges`, of a zone whose bounds are 10, 20 and so on; its answer says at
+/// how many bounds, and just below and just above how many, a target lies in the range of its number.
 pub(crate) fn write_answer(text: &mut String, setting: &Setting, call: &str, given: &str) -> Done {
     match call {
         "range_of" => write_range(text, setting, given),

@@ -2,7 +2,8 @@
 ghost use Rattle.std.specs.Prelude.{◌≡◌, ◌++◌, ◌∷◌, [], IfOk, OnOk};
 ghost use Rattle.std.specs.List.{AllByRecursion};
 ghost use Rattle.mql_types.specs.Nodes.{typed_tree};
-ghost use Rattle.cases.specs.Readings.{IsAskedOver, IsInBounds, IsReading, ShareNoPlace};
+ghost use Rattle.mql_types.specs.Soundness.{IsQueryType};
+ghost use Rattle.cases.specs.Readings.{IsInBounds, IsReading, ShareNoPlace};
 ghost use Rattle.cases.specs.Sessions.{IsGoing, IsRead, IsToldOver};
 
 use crate::apartness::lie_apart;
@@ -45,7 +46,7 @@ fn read_in(
     words: &str,
 ) -> Result<Told, Trouble>
     requires bounds { IsInBounds asked }
-    requires over { IsAskedOver setting.now.schemas (typed_tree plan.now.typed) }
+    requires over { IsQueryType setting.now.schemas (typed_tree plan.now.typed) }
     ensures read { IfOk result
         (IsRead setting.now.schemas (typed_tree plan.now.typed) asked reads.old reads.new) }
 {
@@ -78,7 +79,7 @@ fn answered(
     rows: &RowList,
 ) -> Result<Told, Trouble>
     requires bounds { IsInBounds asked }
-    requires over { IsAskedOver setting.now.schemas (typed_tree plan.now.typed) }
+    requires over { IsQueryType setting.now.schemas (typed_tree plan.now.typed) }
     requires reading { IsReading setting.now.schemas rows.now }
     ensures over { IfOk result (IsToldOver (typed_tree plan.now.typed) asked rows.now) }
 {

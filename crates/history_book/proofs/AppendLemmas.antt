@@ -1,5 +1,6 @@
 -- An owner appends an entry: the book rule is kept.
-use Rattle.std.proofs.Common.{◌≡◌, ℕ, ◌+◌, ◌<◌, ◌≤◌, ◌≢◌, ◌⊎◌, inl, inr, Bool, true, false, List, [], ◌∷◌, ◌++◌, length, filter, get_or, set, refl, sym, ap, ◌∙◌, subst, arith, nat_eq, cond}
+use Rattle.std.proofs.Common.{◌≡◌, ℕ, ◌+◌, ◌<◌, ◌≤◌, ◌≢◌, ◌⊎◌, inl, inr, Bool, true, false, List, [], ◌∷◌, ◌++◌}
+use Rattle.std.proofs.Common.{length, filter, get_or, set, refl, sym, ap, ◌∙◌, subst, arith, nat_eq, cond}
 use Rattle.std.specs.Prelude.{Option, Some, None, IfSome}
 use Rattle.std.specs.List.{Contains, sum_by}
 use mathlib.Core.List.{IsPrefix}
@@ -10,7 +11,8 @@ use lib.ListN.{get_elem?}
 use Rattle.std.proofs.Math.Decide.{dec_lt}
 use Rattle.std.proofs.lemmas.Bool.Decides.{nat_tests}
 use Rattle.std.proofs.lemmas.List.{append-nil, get_or-set_other, get_or-set_same, length-set, length_push}
-use Rattle.std.proofs.lemmas.List.Elements.{Contains-append_cases, Contains-append_left, Contains-append_right, Contains-push, Contains-push_cases, filter-append}
+use Rattle.std.proofs.lemmas.List.Elements.{Contains-append_cases, Contains-append_left, Contains-append_right}
+use Rattle.std.proofs.lemmas.List.Elements.{Contains-push, Contains-push_cases, filter-append}
 use Rattle.std.proofs.lemmas.List.Sums.{sum_by-cons}
 use Rattle.mon_value.specs.declared.positions.Leaf.{Leaf}
 use Rattle.mon_value.specs.declared.positions.Range.{Range}
@@ -22,9 +24,12 @@ use Rattle.history_book.specs.declared.views.Joined.{Joined}
 use Rattle.history_book.specs.declared.views.Kept.{Kept}
 use Rattle.history_book.specs.declared.views.Purse.{Purse}
 use Rattle.history_book.specs.declared.views.SeatView.{SeatView}
-use Rattle.history_book.specs.Histories.{IsFor, entries, history_numbered, is_about, is_under, leaf_numbered, pass_of, range_numbered, same_history, with_entry}
-use Rattle.history_book.specs.Seats.{kept_in, kept_with, listed, mapped, purse_with, times_number, times_range, times_room}
-use Rattle.history_book.specs.BookRule.{IsJoined, IsKept, IsTrue, KeepsBookRule, has_number, has_room, holds, in_purse, kept_in_purse, owns}
+use Rattle.history_book.specs.Histories.{IsFor, entries, history_numbered, is_about, is_under, leaf_numbered, pass_of}
+use Rattle.history_book.specs.Histories.{range_numbered, same_history, with_entry}
+use Rattle.history_book.specs.Seats.{kept_in, kept_with, listed, mapped, purse_with, times_number, times_range}
+use Rattle.history_book.specs.Seats.{times_room}
+use Rattle.history_book.specs.BookRule.{IsJoined, IsKept, IsTrue, KeepsBookRule, has_number, has_room, holds, in_purse}
+use Rattle.history_book.specs.BookRule.{kept_in_purse, owns}
 use Rattle.history_book.specs.Steps.{appended, own_history}
 use Rattle.history_book.proofs.ListLemmas.{prefix_push, prefix_refl}
 use Rattle.history_book.proofs.HistoryLemmas.{entries_added, entries_else, numbered_once, same_cases, same_history_refl}
@@ -34,9 +39,11 @@ use Rattle.history_book.proofs.RuleLemmas.{no_other_owner}
 use Rattle.history_book.proofs.KeepLemmas.{at_most_once}
 
 filter_out : {X : Type 0} (p : X → Bool) (xs : List X) (x : X) → p x ≡ false → filter p (xs ++ x ∷ []) ≡ filter p xs
-filter_out p xs x e = filter-append p xs (x ∷ []) ∙ ap (λ b. filter p xs ++ cond b (x ∷ []) []) e ∙ append-nil (filter p xs)
+filter_out p xs x e = filter-append p xs (x ∷ []) ∙ ap (λ b. filter p xs ++ cond b (x ∷ []) []) e
+    ∙ append-nil (filter p xs)
 
-filter_in : {X : Type 0} (p : X → Bool) (xs : List X) (x : X) → p x ≡ true → filter p (xs ++ x ∷ []) ≡ filter p xs ++ x ∷ []
+filter_in : {X : Type 0} (p : X → Bool) (xs : List X) (x : X) → p x ≡ true → filter p (xs ++ x ∷ []) ≡ filter p xs
+    ++ x ∷ []
 filter_in p xs x e = filter-append p xs (x ∷ []) ∙ ap (λ b. filter p xs ++ cond b (x ∷ []) []) e
 
 kept_number : (n : ℕ) (h : History) (e : BookEntry) (o : Option Kept) (met : List Kept) → times_kept n
@@ -52,7 +59,8 @@ module _ (leaves ranges : ℕ) (whole : Histories) (words : List ℕ) (seats : L
     (rule : KeepsBookRule leaves ranges whole words seats) (id : ℕ) (v : SeatView) (is : get_elem? seats id ≡ some v)
     (n : ℕ) (low : n < leaves + ranges) (e : BookEntry) (fits : IsFor (history_numbered leaves n) e) (owns_is : v.owns
     ≡ history_numbered leaves n ∷ [])
-    (p : Purse) (purse_is : v.purse ≡ Some p) (mine : Kept) (mine_is : p.own ≡ Some mine) (under : mine.number ≡ pass_of e)
+    (p : Purse) (purse_is : v.purse ≡ Some p) (mine : Kept) (mine_is : p.own ≡ Some mine) (under : mine.number
+    ≡ pass_of e)
     (about : (r : Range) → is_about r e ≡ true → 0 < holds r v) where
   abbrev h : History
   h = history_numbered leaves n
@@ -101,7 +109,8 @@ module _ (leaves ranges : ℕ) (whole : Histories) (words : List ℕ) (seats : L
   -- ---- other seats
 
   no_owner : (at : ℕ) (u : SeatView) → at ≢ id → get_elem? seats at ≡ some u → 0 < owns h u → ⊥
-  no_owner at u apart there o = no_other_owner leaves ranges whole words seats rule id v is n at u low apart there owns_own o
+  no_owner at u apart there o = no_other_owner leaves ranges whole words seats rule id v is n at u low apart there
+      owns_own o
 
   has_mine : Contains (kept_in_purse v.purse) mine
   has_mine = subst (λ o. Contains (kept_in_purse o) mine) (sym purse_is) (subst
@@ -120,7 +129,8 @@ module _ (leaves ranges : ℕ) (whole : Histories) (words : List ℕ) (seats : L
       let ours = has_pass in
       omega arith
 
-  no_holder : (at : ℕ) (u : SeatView) (r : Range) → at ≢ id → get_elem? seats at ≡ some u → 0 < holds r u → is_about r e ≡ false
+  no_holder : (at : ℕ) (u : SeatView) (r : Range) → at ≢ id → get_elem? seats at ≡ some u → 0 < holds r u
+      → is_about r e ≡ false
   no_holder at u r apart there o = elim (is_or_not (is_about r e)) [
     | inl yes' ↦
         let two = parts_of_sum (holds r) seats at id u v apart there is in
@@ -188,11 +198,13 @@ module _ (leaves ranges : ℕ) (whole : Histories) (words : List ℕ) (seats : L
       let m : ℕ = pass_of e in
       let all : times_kept m (mine ∷ p.met) ≡ cond (nat_eq mine.number m) 1 0 + times_kept m p.met
       = sum_by-cons (λ k. cond (nat_eq k.number m) 1 0) mine p.met in
-      let first : (let k : ℕ = cond (nat_eq mine.number m) 1 0 in k ≡ 1) = let a : ℕ = mine.number in let u : a ≡ m = under in
+      let first : (let k : ℕ = cond (nat_eq mine.number m) 1 0 in k ≡ 1) = let a : ℕ = mine.number in let u : a ≡ m =
+      under in
       let b : nat_eq a m ≡ true = grind (arith, nat_tests) in ap (λ c. cond c 1 0) b in
       let other : cond (nat_eq kept.number m) 1 0 ≤ times_kept m p.met
       = counted (λ k. cond (nat_eq k.number m) 1 0) p.met kept has in
-      let second : (let k : ℕ = cond (nat_eq kept.number m) 1 0 in k ≡ 1) = let a : ℕ = kept.number in let u : a ≡ m = same in
+      let second : (let k : ℕ = cond (nat_eq kept.number m) 1 0 in k ≡ 1) = let a : ℕ = kept.number in let u : a ≡ m =
+      same in
       let b : nat_eq a m ≡ true = grind (arith, nat_tests) in ap (λ c. cond c 1 0) b in
       let kept_all : times_kept m (kept_in p) ≡ times_kept m (mine ∷ p.met) = ap
       (λ o. times_kept m (listed o ++ p.met)) mine_is in
@@ -203,7 +215,8 @@ module _ (leaves ranges : ℕ) (whole : Histories) (words : List ℕ) (seats : L
 
   exact_mine : (g : History) → filter (is_under mine.number) (entries whole' g) ≡ entries (with_entry h e mine.own) g
   exact_mine g = elim (same_cases h g) [
-    | inl same ↦ subst (λ x. filter (is_under mine.number) (entries whole' x) ≡ entries (with_entry h e mine.own) x) same (
+    | inl same ↦ subst (λ x. filter (is_under mine.number) (entries whole' x) ≡ entries (with_entry h e mine.own) x)
+        same (
         ap (filter (is_under mine.number)) (here whole)
         ∙ filter_in (is_under mine.number) (entries whole h) e
         (let a : ℕ = mine.number in let b : ℕ = pass_of e in let u : a ≡ b = under in
@@ -220,7 +233,8 @@ module _ (leaves ranges : ℕ) (whole : Histories) (words : List ℕ) (seats : L
       elim (Contains-append_cases (kept_with h e mine ∷ []) p.met kept (subst (λ k. Contains k kept) kept_now has)) [
         | inl own ↦ elim (Contains-push_cases [] (kept_with h e mine) kept own) [
           | inl none ↦ absurd (contains_none kept none)
-          | inr same ↦ subst (λ (k : Kept). filter (is_under k.number) (entries whole' g) ≡ entries k.own g) same (exact_mine g)
+          | inr same ↦ subst (λ (k : Kept). filter (is_under k.number) (entries whole' g) ≡ entries k.own g) same
+              (exact_mine g)
         ]
         | inr met ↦ filter_later (is_under kept.number) g (other_number kept (met_apart kept met)) ∙ was.exact kept g
             (subst (λ k. Contains k kept) (sym kept_was) (Contains-append_right (mine ∷ []) p.met kept met))
@@ -232,7 +246,8 @@ module _ (leaves ranges : ℕ) (whole : Histories) (words : List ℕ) (seats : L
       | inl same ↦ subst (λ x. IsPrefix (entries w.seen x) (entries whole' x)) same
           (subst (IsPrefix (entries w.seen h)) own_later (prefix_refl (entries w.seen h)))
       | inr apart ↦ subst
-          (λ xs. IsPrefix xs (entries whole' g)) (sym (entries_else h g e v.seen apart)) (front_later (entries v.seen g) g
+          (λ xs. IsPrefix xs (entries whole' g)) (sym (entries_else h g e v.seen apart))
+          (front_later (entries v.seen g) g
           (was.seen g))
     ];
     own = λ g o. elim (same_cases h g) [
@@ -252,7 +267,8 @@ module _ (leaves ranges : ℕ) (whole : Histories) (words : List ℕ) (seats : L
   -- ---- whose entry each is
 
   has_new : Contains (kept_in_purse w.purse) (kept_with h e mine)
-  has_new = subst (λ k. Contains k (kept_with h e mine)) (sym kept_now) (Contains-append_left (kept_with h e mine ∷ []) p.met
+  has_new = subst (λ k. Contains k (kept_with h e mine)) (sym kept_now) (Contains-append_left (kept_with h e mine ∷ [])
+      p.met
       (kept_with h e mine) (Contains-push [] (kept_with h e mine)))
 
   kept_still : (kept : Kept) → Contains (kept_in_purse v.purse) kept
@@ -271,13 +287,21 @@ module _ (leaves ranges : ℕ) (whole : Histories) (words : List ℕ) (seats : L
 
   still_kept : (x : BookEntry) → IsKept seats x → IsKept (set seats id w) x
   still_kept x k = elim (seat_stays seats id v w k.seat is k.there) [
-    | inl same ↦ let s = kept_still k.kept (subst (λ (y : SeatView). Contains (kept_in_purse y.purse) k.kept) (sym same) k.has) in
+    | inl same ↦ let s = kept_still k.kept (subst (λ (y : SeatView). Contains (kept_in_purse y.purse) k.kept)
+        (sym same) k.has) in
         record { seat = w; there = seat_changed seats id v w is; kept = s.0; has = s.1; under = s.2 ∙ k.under }
     | inr there ↦ record { seat = k.seat; there = there; kept = k.kept; has = k.has; under = k.under }
   ]
 
   new_kept : IsKept (set seats id w) e
-  new_kept = record { seat = w; there = seat_changed seats id v w is; kept = kept_with h e mine; has = has_new; under = under }
+  new_kept = record {
+    seat = w;
+    there = seat_changed seats id v w is;
+    kept = kept_with h e mine;
+    has = has_new;
+    under =
+        under;
+  }
 
   -- ---- the whole
 
@@ -307,13 +331,16 @@ module _ (leaves ranges : ℕ) (whole : Histories) (words : List ℕ) (seats : L
         ];
     owned = λ m low'.
         (let s = sum_changed (owns (history_numbered leaves m)) seats id v w is in
-        let same : owns (history_numbered leaves m) w ≡ owns (history_numbered leaves m) v = refl in let o = rule.owned m low' in
+        let same : owns (history_numbered leaves m) w ≡ owns (history_numbered leaves m) v = refl in
+        let o = rule.owned m low' in
         omega arith);
     numbered = λ m low'.
-        (let s = sum_changed (has_number m) seats id v w is in let same = number_later m in let o = rule.numbered m low' in
+        (let s = sum_changed (has_number m) seats id v w is in let same = number_later m in
+        let o = rule.numbered m low' in
         omega arith);
     bounded = λ m high.
-        (let s = sum_changed (has_number m) seats id v w is in let same = number_later m in let o = rule.bounded m high in
+        (let s = sum_changed (has_number m) seats id v w is in let same = number_later m in
+        let o = rule.bounded m high in
         omega arith);
     kept = λ g y has. elim (same_cases h g) [
       | inl same ↦ elim

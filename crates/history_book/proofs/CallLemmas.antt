@@ -1,5 +1,6 @@
 -- What calls ask for and tell, put together for the bodies.
-use Rattle.std.proofs.Common.{◌≡◌, ℕ, ◌+◌, ◌^◌, ◌%◌, ◌<◌, ◌≤◌, Bool, true, false, [], ◌∷◌, ◌++◌, length, refl, sym, ap, subst, arith, nat_lt, not, cond}
+use Rattle.std.proofs.Common.{◌≡◌, ℕ, ◌+◌, ◌^◌, ◌%◌, ◌<◌, ◌≤◌, Bool, true, false, [], ◌∷◌, ◌++◌, length, refl, sym, ap}
+use Rattle.std.proofs.Common.{subst, arith, nat_lt, not, cond}
 use Rattle.std.specs.Prelude.{Some}
 use mathlib.Core.Option.{none}
 use Rattle.std.proofs.lemmas.Bool.Decides.{nat_tests}
@@ -27,10 +28,12 @@ pub word_within : (words leaves ranges n : ℕ) → words ≡ leaves + ranges + 
 word_within words leaves ranges n e low = omega arith
 
 -- the book's name and what the book was told are the same shape
-pub learn_with : (leaves ranges l r : ℕ) → l ≡ leaves → r ≡ ranges → (slots id : ℕ) (me : Seated) (n : ℕ) → n < leaves + ranges
+pub learn_with : (leaves ranges l r : ℕ) → l ≡ leaves → r ≡ ranges → (slots id : ℕ) (me : Seated) (n : ℕ) → n < leaves
+    + ranges
     → Allows (holds_of l r) slots id me (n + 1) (λ m. m) (Learns leaves (step slots (n + 1) 0 0 none) me)
 learn_with leaves ranges l r same_leaves same_ranges slots id me n low =
-    subst (λ (z : ℕ × ℕ). Allows (holds_of z.0 z.1) slots id me (n + 1) (λ m. m) (Learns leaves (step slots (n + 1) 0 0 none) me))
+    subst (λ (z : ℕ × ℕ). Allows (holds_of z.0 z.1) slots id me (n + 1) (λ m. m)
+    (Learns leaves (step slots (n + 1) 0 0 none) me))
     (λ i. (sym same_leaves i, sym same_ranges i)) (allows_learn leaves ranges slots id me n low)
 
 pub confirm_with : (leaves ranges l r : ℕ) → l ≡ leaves → r ≡ ranges → (slots id : ℕ) (me : Seated)
@@ -49,7 +52,8 @@ pub append_with : (leaves ranges l r : ℕ) → l ≡ leaves → r ≡ ranges
 append_with leaves ranges l r same_leaves same_ranges slots id me n e low fits owns_is room number about =
     subst (λ (z : ℕ × ℕ). Allows (holds_of z.0 z.1) slots id me
     (n + 1) (λ m. (m + 1) % 2 ^ 64) (Appends e (step slots (n + 1) 1 0 none) me))
-    (λ i. (sym same_leaves i, sym same_ranges i)) (allows_append leaves ranges slots id me n e low fits owns_is room number about)
+    (λ i. (sym same_leaves i, sym same_ranges i)) (allows_append leaves ranges slots id me n e low fits owns_is room
+    number about)
 
 -- what an owner or its guest holds
 pub holds_guests : (range : Range) (v : SeatView) → 0 < times_range range
@@ -67,12 +71,14 @@ less_by n m false e no_end = absurd (grind (arith, nat_tests))
 
 pub more_left : (numbers stock : Numbers) → is_spent numbers ≡ false → numbers ≡ stock → stock.from < stock.to
 more_left numbers stock no_end e =
-    subst (λ (s : Numbers). s.from < s.to) e (less_by numbers.from numbers.to (nat_lt numbers.from numbers.to) refl no_end)
+    subst (λ (s : Numbers). s.from < s.to) e (less_by numbers.from numbers.to (nat_lt numbers.from numbers.to) refl
+    no_end)
 
 -- what a guest brought is held by who met it
 pub lent_is_held : (range : Range) (v u : SeatView) → 0 < times_range range (guest_purse u.purse).holds
     → 0 < holds range (meeting v u)
-lent_is_held range v u lent = let a = guest_ranges range u.purse in let b = ranges_both range v.purse u.purse in omega arith
+lent_is_held range v u lent = let a = guest_ranges range u.purse in let b = ranges_both range v.purse u.purse in
+    omega arith
 
 abbrev number_in : History → ℕ → ℕ
 number_in (of.Leaf leaf) d = leaf.0
@@ -82,7 +88,8 @@ abbrev is_range : History → Type 0
 is_range (of.Leaf leaf) = ⊥
 is_range (of.Range range) = Unit {0}
 
-below_by : (leaves n : ℕ) (leaf : Leaf) (b : Bool) → nat_lt n leaves ≡ b → numbered_as b leaves n ≡ of.Leaf leaf → leaf.0 < leaves
+below_by : (leaves n : ℕ) (leaf : Leaf) (b : Bool) → nat_lt n leaves ≡ b → numbered_as b leaves n ≡ of.Leaf leaf
+    → leaf.0 < leaves
 below_by leaves n leaf true e is = let same : n ≡ leaf.0 = ap (λ h. number_in h n) is in
     let low : n < leaves = grind (arith, nat_tests) in omega arith
 below_by leaves n leaf false e is = absurd (subst is_range is tt)

@@ -1,12 +1,14 @@
 -- What the first seat has while the owners of the histories are split off it.
-use Rattle.std.proofs.Common.{◌≡◌, ℕ, suc, ◌+◌, ◌-◌, ◌<◌, ◌≤◌, List, [], ◌∷◌, ◌++◌, drop, map, take, sym, ap, ◌∙◌, arith, nat_lt, true, false}
+use Rattle.std.proofs.Common.{◌≡◌, ℕ, suc, ◌+◌, ◌-◌, ◌<◌, ◌≤◌, List, [], ◌∷◌, ◌++◌, drop, map, take, sym, ap, ◌∙◌}
+use Rattle.std.proofs.Common.{arith, nat_lt, true, false}
 use Rattle.std.specs.Prelude.{Some, None}
 use Rattle.std.proofs.lemmas.Bool.Decides.{nat_tests}
 use Rattle.mon_value.specs.declared.positions.Range.{Range}
 use Rattle.history_book.specs.declared.views.History.{History}
 use Rattle.history_book.specs.declared.views.SeatView.{SeatView}
 use Rattle.history_book.specs.declared.numbers.TheConstants.{NUMBER_END}
-use Rattle.history_book.specs.Histories.{empty_histories, histories_in, history_numbered, numbered_as, numbers_on, range_numbered}
+use Rattle.history_book.specs.Histories.{empty_histories, histories_in, history_numbered, numbered_as, numbers_on}
+use Rattle.history_book.specs.Histories.{range_numbered}
 use Rattle.std.proofs.lemmas.List.{append_assoc}
 use Rattle.history_book.specs.Seats.{Owner, new_owner, numbered_purse, own_ranges}
 use Rattle.history_book.specs.Steps.{Seated, after_deal, dealing, dealt, first_view, owner_view, ranges_on}
@@ -51,13 +53,15 @@ first_is leaves ranges =
     let d : ranges ≡ ranges - (0 - leaves) = omega arith in
     λ i. view_with leaves ranges (map (history_numbered leaves) (numbers_on 0 (a i))) (ranges_on (b i) (d i))
 
-owned_on : (leaves ranges n : ℕ) → n < leaves + ranges → map (history_numbered leaves) (numbers_on n (leaves + ranges - n))
+owned_on : (leaves ranges n : ℕ) → n < leaves + ranges → map (history_numbered leaves)
+    (numbers_on n (leaves + ranges - n))
     ≡ history_numbered leaves n ∷ map (history_numbered leaves) (numbers_on (n + 1) (leaves + ranges - (n + 1)))
 owned_on leaves ranges n low = ap (map (history_numbered leaves)) (first_on n (leaves + ranges) low)
 
 -- ---- of a leaf
 
-pub leaf_left : (leaves ranges n : ℕ) → n < leaves → after_deal 0 (dealing leaves ranges n) ≡ dealing leaves ranges (n + 1)
+pub leaf_left : (leaves ranges n : ℕ) → n < leaves → after_deal 0 (dealing leaves ranges n) ≡ dealing leaves ranges
+    (n + 1)
 leaf_left leaves ranges n low =
     let a = owned_on leaves ranges n (omega arith) in
     let b : n - leaves ≡ n + 1 - leaves = omega arith in
@@ -103,25 +107,18 @@ range_dealt leaves ranges n high low =
 
 -- ---- at the end
 
-pub all_dealt : (leaves ranges : ℕ) → dealing leaves ranges (leaves + ranges) ≡ view_with leaves ranges [] []
-all_dealt leaves ranges =
-    let a : leaves + ranges - (leaves + ranges) ≡ 0 = omega arith in
-    let b : leaves + ranges - leaves ≡ ranges = omega arith in
-    let d : ranges - ranges ≡ 0 = omega arith in
-    (λ i. view_with leaves ranges
-    (map (history_numbered leaves) (numbers_on (leaves + ranges) (a i))) (ranges_on (b i) (ranges - b i)))
-    ∙ (λ i. view_with leaves ranges [] (ranges_on ranges (d i)))
-
 -- ---- the loop
 
 pub owners_rest : (leaves ranges n : ℕ) (made new : List Owner) (next : Owner) → n < leaves + ranges
     → next ≡ new_owner leaves ranges (history_numbered leaves n) → new ≡ made ++ next ∷ []
     → made ++ map (new_owner leaves ranges) (map (history_numbered leaves) (numbers_on n (leaves + ranges - n))) ≡ map
     (new_owner leaves ranges) (histories_in leaves ranges)
-    → new ++ map (new_owner leaves ranges) (map (history_numbered leaves) (numbers_on (n + 1) (leaves + ranges - (n + 1)))) ≡ map
+    → new ++ map (new_owner leaves ranges)
+    (map (history_numbered leaves) (numbers_on (n + 1) (leaves + ranges - (n + 1)))) ≡ map
     (new_owner leaves ranges) (histories_in leaves ranges)
 owners_rest leaves ranges n made new next low is pushed before =
-    let rest = map (new_owner leaves ranges) (map (history_numbered leaves) (numbers_on (n + 1) (leaves + ranges - (n + 1)))) in
+    let rest = map (new_owner leaves ranges)
+    (map (history_numbered leaves) (numbers_on (n + 1) (leaves + ranges - (n + 1)))) in
     ap (λ w. w ++ rest) pushed ∙ append_assoc made (next ∷ []) rest
     ∙ ap (λ o. made ++ (o ∷ rest)) is
     ∙ ap (λ w. made ++ w) (sym (ap (map (new_owner leaves ranges)) (owned_on leaves ranges n low)))

@@ -1,5 +1,6 @@
 -- A new book keeps the book rule, and its owners are dealt out in order.
-use Rattle.std.proofs.Common.{◌≡◌, ℕ, zero, suc, ◌+◌, ◌<◌, ◌≤◌, ◌≢◌, List, [], ◌∷◌, length, filter, map, get_or, replicate, refl, sym, ap, ◌∙◌, subst, arith, nat_eq, true, false, cond, inl, inr}
+use Rattle.std.proofs.Common.{◌≡◌, ℕ, zero, suc, ◌+◌, ◌<◌, ◌≤◌, ◌≢◌, List, [], ◌∷◌, length, filter, map, get_or}
+use Rattle.std.proofs.Common.{replicate, refl, sym, ap, ◌∙◌, subst, arith, nat_eq, true, false, cond, inl, inr}
 use Rattle.std.specs.List.{Contains, sum_by}
 use mathlib.Core.Logic.{dite}
 use native.Mathlib.Decide.{ℕ_discrete}
@@ -13,7 +14,8 @@ use Rattle.history_book.specs.declared.views.Histories.{Histories}
 use Rattle.history_book.specs.declared.views.Kept.{Kept}
 use Rattle.history_book.specs.declared.views.SeatView.{SeatView}
 use Rattle.history_book.specs.Books.{word_count}
-use Rattle.history_book.specs.Histories.{empty_histories, entries, histories_in, history_numbered, is_under, numbers_on, range_numbered, same_history, same_range}
+use Rattle.history_book.specs.Histories.{empty_histories, entries, histories_in, history_numbered, is_under}
+use Rattle.history_book.specs.Histories.{numbers_on, range_numbered, same_history, same_range}
 use Rattle.history_book.specs.Numbers.{numbers_between, times_among}
 use Rattle.history_book.specs.Seats.{new_number, times_range}
 use Rattle.history_book.specs.BookRule.{BookHolds, IsTrue, has_number, holds, owns}
@@ -21,7 +23,8 @@ use Rattle.history_book.specs.Steps.{first_view, ranges_on}
 use Rattle.history_book.proofs.ListLemmas.{prefix_refl}
 use Rattle.history_book.proofs.HistoryLemmas.{no_entries_at, numbered_once}
 use Rattle.history_book.proofs.SumLemmas.{seat_alone}
-use Rattle.history_book.proofs.PurseLemmas.{among_high, among_yes, contains_none, cut_among, none_among, one_if_same, sum_one}
+use Rattle.history_book.proofs.PurseLemmas.{among_high, among_yes, contains_none, cut_among, none_among, one_if_same}
+use Rattle.history_book.proofs.PurseLemmas.{sum_one}
 use Rattle.history_book.proofs.KeepLemmas.{no_entries_in}
 
 -- ---- how often a number stands in a row of numbers
@@ -40,8 +43,10 @@ past_all n first zero low = refl
 past_all n first (suc count) low =
     let all : sum_by (one_if_same n) (numbers_on first (suc count)) ≡ one_if_same n first + sum_by
     (one_if_same n) (numbers_on (first + 1) count) = sum_by-cons (one_if_same n) first (numbers_on (first + 1) count) in
-    let later : sum_by (one_if_same n) (numbers_on (first + 1) count) ≡ 0 = past_all n (first + 1) count (omega arith) in
-    let here : one_if_same n first ≡ 0 = let b : nat_eq n first ≡ false = grind (arith, nat_tests) in ap (λ c. cond c 1 0) b in
+    let later : sum_by (one_if_same n) (numbers_on (first + 1) count) ≡ 0 = past_all n (first + 1) count
+    (omega arith) in
+    let here : one_if_same n first ≡ 0 = let b : nat_eq n first ≡ false = grind (arith, nat_tests) in
+    ap (λ c. cond c 1 0) b in
     omega arith
 
 behind_all : (n first count : ℕ) → first + count ≤ n → sum_by (one_if_same n) (numbers_on first count) ≡ 0
@@ -49,8 +54,10 @@ behind_all n first zero high = refl
 behind_all n first (suc count) high =
     let all : sum_by (one_if_same n) (numbers_on first (suc count)) ≡ one_if_same n first + sum_by
     (one_if_same n) (numbers_on (first + 1) count) = sum_by-cons (one_if_same n) first (numbers_on (first + 1) count) in
-    let later : sum_by (one_if_same n) (numbers_on (first + 1) count) ≡ 0 = behind_all n (first + 1) count (omega arith) in
-    let here : one_if_same n first ≡ 0 = let b : nat_eq n first ≡ false = grind (arith, nat_tests) in ap (λ c. cond c 1 0) b in
+    let later : sum_by (one_if_same n) (numbers_on (first + 1) count) ≡ 0 = behind_all n (first + 1) count
+    (omega arith) in
+    let here : one_if_same n first ≡ 0 = let b : nat_eq n first ≡ false = grind (arith, nat_tests) in
+    ap (λ c. cond c 1 0) b in
     omega arith
 
 beyond : (a n : ℕ) → a ≤ n → n ≢ a → a + 1 ≤ n
@@ -63,13 +70,16 @@ once_among n first (suc count) low high =
     (one_if_same n) (numbers_on (first + 1) count) = sum_by-cons (one_if_same n) first (numbers_on (first + 1) count) in
     dite (ℕ_discrete n first)
     (λ e.
-    let later : sum_by (one_if_same n) (numbers_on (first + 1) count) ≡ 0 = past_all n (first + 1) count (omega arith) in
-    let here : one_if_same n first ≡ 1 = let b : nat_eq n first ≡ true = grind (arith, nat_tests) in ap (λ c. cond c 1 0) b in
+    let later : sum_by (one_if_same n) (numbers_on (first + 1) count) ≡ 0 = past_all n (first + 1) count
+    (omega arith) in
+    let here : one_if_same n first ≡ 1 = let b : nat_eq n first ≡ true = grind (arith, nat_tests) in
+    ap (λ c. cond c 1 0) b in
     omega arith)
     (λ apart.
     let later : sum_by (one_if_same n) (numbers_on (first + 1) count) ≡ 1
     = once_among n (first + 1) count (beyond first n low apart) (omega arith) in
-    let here : one_if_same n first ≡ 0 = let b : nat_eq n first ≡ false = grind (arith, nat_tests) in ap (λ c. cond c 1 0) b in
+    let here : one_if_same n first ≡ 0 = let b : nat_eq n first ≡ false = grind (arith, nat_tests) in
+    ap (λ c. cond c 1 0) b in
     omega arith)
 
 histories_once : (leaves ranges n : ℕ) → n < leaves + ranges
@@ -77,13 +87,15 @@ histories_once : (leaves ranges n : ℕ) → n < leaves + ranges
 histories_once leaves ranges n low =
     sum_mapped (λ g. cond (same_history (history_numbered leaves n) g) 1 0) (history_numbered leaves) (numbers_on 0
     (leaves + ranges))
-    ∙ sum_alike (λ m. cond (same_history (history_numbered leaves n) (history_numbered leaves m)) 1 0) (one_if_same n) (λ m. ap
+    ∙ sum_alike (λ m. cond (same_history (history_numbered leaves n) (history_numbered leaves m)) 1 0) (one_if_same n)
+    (λ m. ap
     (λ c. cond c 1 0) (numbered_once leaves n m)) (numbers_on 0 (leaves + ranges))
     ∙ once_among n 0 (leaves + ranges) (omega arith) (omega arith)
 
 ranges_counted : (ranges n : ℕ) → times_range (range_numbered n) (ranges_on 0 ranges) ≡ sum_by
     (one_if_same n) (numbers_on 0 ranges)
-ranges_counted ranges n = sum_mapped (λ r. cond (same_range (range_numbered n) r) 1 0) range_numbered (numbers_on 0 ranges)
+ranges_counted ranges n = sum_mapped (λ r. cond (same_range (range_numbered n) r) 1 0) range_numbered
+    (numbers_on 0 ranges)
 
 -- ---- a new book
 
@@ -92,7 +104,8 @@ zeros_read zero i = refl
 zeros_read (suc n) zero = refl
 zeros_read (suc n) (suc i) = zeros_read n i
 
-first_numbers : (n leaves ranges : ℕ) → has_number n (first_view leaves ranges) ≡ times_among n (numbers_between 0 NUMBER_END)
+first_numbers : (n leaves ranges : ℕ) → has_number n (first_view leaves ranges) ≡ times_among n
+    (numbers_between 0 NUMBER_END)
 first_numbers n leaves ranges =
     let all = cut_among n 0 1 NUMBER_END
     (let m : ℕ = NUMBER_END in omega arith) (omega arith) (let m : ℕ = NUMBER_END in omega arith) in
@@ -131,10 +144,12 @@ module _ (leaves ranges : ℕ) where
     whole,
     record {
       sized = length-replicate count 0 ∙ e;
-      lengths = λ n low. zeros_read count (n + 1) ∙ sym (ap length (no_entries_at leaves ranges (history_numbered leaves n)));
+      lengths = λ n low. zeros_read count (n + 1)
+          ∙ sym (ap length (no_entries_at leaves ranges (history_numbered leaves n)));
       seats_true = λ seat has. subst (IsTrue whole) (seat_alone v seat has) first_true;
       owned = λ n low. alone (owns (history_numbered leaves n)) ∙ histories_once leaves ranges n low;
-      numbered = λ n low. alone (has_number n) ∙ first_numbers n leaves ranges ∙ among_yes n 0 NUMBER_END (omega arith) low;
+      numbered = λ n low. alone (has_number n) ∙ first_numbers n leaves ranges ∙ among_yes n 0 NUMBER_END (omega arith)
+          low;
       bounded = λ n high. alone (has_number n) ∙ first_numbers n leaves ranges
           ∙ among_high n 0 NUMBER_END (let m : ℕ = NUMBER_END in omega arith);
       kept = λ h x has. absurd (contains_none x (subst (λ xs. Contains xs x) (no_entries_at leaves ranges h) has));

@@ -1,17 +1,22 @@
 -- Histories by number, and what changed copies of them have.
-use Rattle.std.proofs.Common.{◌≡◌, ℕ, zero, suc, ◌≤◌, ◌⊎◌, inl, inr, Bool, true, false, List, [], ◌∷◌, ◌++◌, map, get_or, replicate, refl, sym, ap, ◌∙◌, arith, nat_eq, nat_lt}
+use Rattle.std.proofs.Common.{◌≡◌, ℕ, zero, suc, ◌≤◌, ◌⊎◌, inl, inr, Bool, true, false, List, [], ◌∷◌, ◌++◌, map}
+use Rattle.std.proofs.Common.{get_or, replicate, refl, sym, ap, ◌∙◌, arith, nat_eq, nat_lt}
 use mathlib.Core.List.{IsPrefix}
 use Rattle.std.proofs.lemmas.Bool.Decides.{nat_tests}
 use Rattle.std.proofs.lemmas.List.{map-append}
 use Rattle.mon_value.specs.declared.histories.Entry.{Entry}
 use Rattle.mon_value.specs.declared.histories.RangeEntry.{RangeEntry}
+use Rattle.mon_value.specs.Farther.{longer}
+use Rattle.mon_value.proofs.FartherLemmas.{longer_each-get}
 use Rattle.history_book.specs.declared.views.BookEntry.{BookEntry}
 use Rattle.history_book.specs.declared.views.BookEntry.TheVariants as one
 use Rattle.history_book.specs.declared.views.Histories.{Histories}
 use Rattle.history_book.specs.declared.views.History.{History}
 use Rattle.history_book.specs.declared.views.History.TheVariants as of
-use Rattle.history_book.specs.Histories.{AreFronts, IsFor, empty_histories, entries, history_numbered, leaf_history, longer, longer_of, number_of, numbered_as, range_history, same_history, with_entry}
-use Rattle.history_book.proofs.ListLemmas.{added_else, added_here, longer_at, map_longer, prefix_unmapped}
+use Rattle.history_book.specs.Histories.{AreFronts, IsFor, empty_histories, entries, history_numbered, leaf_history}
+use Rattle.history_book.specs.Histories.{longer_of, number_of, numbered_as, range_history, same_history}
+use Rattle.history_book.specs.Histories.{with_entry}
+use Rattle.history_book.proofs.ListLemmas.{added_else, added_here, map_longer, prefix_unmapped}
 
 -- ---- which history
 
@@ -58,10 +63,10 @@ numbered_back leaves n = back_by leaves n (nat_lt n leaves) refl
 
 pub entries_longer : (a b : Histories) (h : History) → entries (longer_of a b) h ≡ longer (entries a h) (entries b h)
 entries_longer a b (of.Leaf leaf) =
-    ap (map (λ e. one.Leaf e)) (longer_at a.leaves b.leaves leaf.0) ∙ map_longer
+    ap (map (λ e. one.Leaf e)) (longer_each-get a.leaves b.leaves leaf.0) ∙ map_longer
     (λ e. one.Leaf e) (leaf_history a leaf) (leaf_history b leaf)
 entries_longer a b (of.Range range) =
-    ap (map (λ e. one.Range e)) (longer_at a.ranges b.ranges range.0) ∙ map_longer
+    ap (map (λ e. one.Range e)) (longer_each-get a.ranges b.ranges range.0) ∙ map_longer
     (λ e. one.Range e) (range_history a range) (range_history b range)
 
 -- ---- an entry more
@@ -69,11 +74,13 @@ entries_longer a b (of.Range range) =
 pub entries_added : (h : History) (e : BookEntry) (a : Histories) → IsFor h e
     → entries (with_entry h e a) h ≡ entries a h ++ e ∷ []
 entries_added (of.Leaf leaf) (one.Leaf e) a fits =
-    ap (map (λ x. one.Leaf x)) (added_here leaf.0 e a.leaves) ∙ map-append (λ x. one.Leaf x) (leaf_history a leaf) (e ∷ [])
+    ap (map (λ x. one.Leaf x)) (added_here leaf.0 e a.leaves) ∙ map-append (λ x. one.Leaf x) (leaf_history a leaf)
+    (e ∷ [])
 entries_added (of.Leaf leaf) (one.Range e) a fits = absurd fits
 entries_added (of.Range range) (one.Leaf e) a fits = absurd fits
 entries_added (of.Range range) (one.Range e) a fits =
-    ap (map (λ x. one.Range x)) (added_here range.0 e a.ranges) ∙ map-append (λ x. one.Range x) (range_history a range) (e ∷ [])
+    ap (map (λ x. one.Range x)) (added_here range.0 e a.ranges) ∙ map-append (λ x. one.Range x) (range_history a range)
+    (e ∷ [])
 
 other_number : (n m : ℕ) → nat_eq n m ≡ false → m ≡ n → ⊥
 other_number n m e f = grind (arith, nat_tests)

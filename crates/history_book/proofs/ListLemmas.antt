@@ -1,11 +1,13 @@
 -- Beginnings of lists, what a filter keeps of them, and the longer of two.
-use Rattle.std.proofs.Common.{◌≡◌, ℕ, zero, suc, ◌+◌, ◌<◌, ◌≤◌, Bool, true, false, List, [], ◌∷◌, ◌++◌, length, map, filter, get_or, refl, sym, ap, ◌∙◌, subst, arith, nat_lt, cond}
+use Rattle.std.proofs.Common.{◌≡◌, ℕ, zero, suc, ◌+◌, ◌<◌, ◌≤◌, Bool, true, false, List, [], ◌∷◌, ◌++◌, length, map}
+use Rattle.std.proofs.Common.{filter, get_or, refl, sym, ap, ◌∙◌, subst, arith, nat_lt, cond}
 use Rattle.std.specs.List.{Contains}
 use mathlib.Core.List.{IsPrefix}
 use Rattle.std.proofs.lemmas.Bool.Decides.{nat_tests}
 use Rattle.std.proofs.lemmas.List.{append-nil, append_assoc, length-append, length-map, nil_from_length}
 use Rattle.std.proofs.lemmas.List.Elements.{Contains-append_left, filter-append}
-use Rattle.history_book.specs.Histories.{added_at, longer, longer_each}
+use Rattle.mon_value.specs.Farther.{longer}
+use Rattle.history_book.specs.Histories.{added_at}
 
 module _ {X : Type 0} where
   pub prefix_refl : (xs : List X) → IsPrefix xs xs
@@ -21,7 +23,8 @@ module _ {X : Type 0} where
   prefix_push xs ys y p = prefix_trans xs ys (ys ++ y ∷ []) p (y ∷ [], refl)
 
   pub prefix_length : (xs ys : List X) → IsPrefix xs ys → length xs ≤ length ys
-  prefix_length xs ys p = let e : length xs + length p.0 ≡ length ys = sym (length-append xs p.0) ∙ ap length p.1 in omega arith
+  prefix_length xs ys p = let e : length xs + length p.0 ≡ length ys = sym (length-append xs p.0) ∙ ap length p.1 in
+      omega arith
 
   pub prefix_contains : (xs ys : List X) (x : X) → IsPrefix xs ys → Contains xs x → Contains ys x
   prefix_contains xs ys x p has = subst (λ w. Contains w x) p.1 (Contains-append_left xs p.0 x has)
@@ -70,7 +73,8 @@ module _ {X : Type 0} where
   longer_by xs ys false e P more less = subst (λ c. P (cond c ys xs)) (sym e) (less refl)
 
   -- one of the two, and not the shorter
-  pub longer_cases : (xs ys : List X) (P : List X → Type 0) → (length xs < length ys → P ys) → (length ys ≤ length xs → P xs) → P
+  pub longer_cases : (xs ys : List X) (P : List X → Type 0) → (length xs < length ys → P ys)
+      → (length ys ≤ length xs → P xs) → P
       (longer xs ys)
   longer_cases xs ys P more less =
       longer_by xs ys (nat_lt (length xs) (length ys)) refl P
@@ -80,28 +84,16 @@ module _ {X : Type 0} where
   longer_within xs ys zs p q = longer_cases xs ys (λ w. IsPrefix w zs) (λ _. q) (λ _. p)
 
   pub longer_first : (xs ys zs : List X) → IsPrefix xs zs → IsPrefix ys zs → IsPrefix xs (longer xs ys)
-  longer_first xs ys zs p q = longer_cases xs ys (IsPrefix xs) (λ l. prefix_both xs ys zs p q (omega arith)) (λ _. prefix_refl xs)
+  longer_first xs ys zs p q = longer_cases xs ys (IsPrefix xs) (λ l. prefix_both xs ys zs p q (omega arith))
+      (λ _. prefix_refl xs)
 
   pub longer_second : (xs ys zs : List X) → IsPrefix xs zs → IsPrefix ys zs → IsPrefix ys (longer xs ys)
   longer_second xs ys zs p q = longer_cases xs ys (IsPrefix ys) (λ _. prefix_refl ys) (λ l. prefix_both ys xs zs q p l)
 
   -- the whole is no shorter than a beginning
   pub longer_whole : (xs ys : List X) → IsPrefix ys xs → longer xs ys ≡ xs
-  longer_whole xs ys p = longer_cases xs ys (λ w. w ≡ xs) (λ l. absurd (let n = prefix_length ys xs p in omega arith)) (λ _. refl)
-
-  longer_none : (xs : List X) → longer [] xs ≡ xs
-  longer_none [] = refl
-  longer_none (x ∷ xs) = longer_cases [] (x ∷ xs) (λ w. w ≡ x ∷ xs) (λ _. refl) (λ l. absurd (omega arith))
-
-  longer_nil : (xs : List X) → longer xs [] ≡ xs
-  longer_nil xs = longer_cases xs [] (λ w. w ≡ xs) (λ l. absurd (omega arith)) (λ _. refl)
-
-  pub longer_at : (xss yss : List (List X)) (i : ℕ) → get_or (longer_each xss yss) i [] ≡ longer
-      (get_or xss i []) (get_or yss i [])
-  longer_at [] yss i = sym (longer_none (get_or yss i []))
-  longer_at (xs ∷ xss) [] i = sym (longer_nil (get_or (xs ∷ xss) i []))
-  longer_at (xs ∷ xss) (ys ∷ yss) zero = refl
-  longer_at (xs ∷ xss) (ys ∷ yss) (suc i) = longer_at xss yss i
+  longer_whole xs ys p = longer_cases xs ys (λ w. w ≡ xs) (λ l. absurd (let n = prefix_length ys xs p in omega arith))
+      (λ _. refl)
 
   -- ---- an item more at one place
 
@@ -111,7 +103,8 @@ module _ {X : Type 0} where
   added_here (suc n) x [] = added_here n x []
   added_here (suc n) x (xs ∷ xss) = added_here n x xss
 
-  pub added_else : (n m : ℕ) (x : X) (xss : List (List X)) → (m ≡ n → ⊥) → get_or (added_at n x xss) m [] ≡ get_or xss m []
+  pub added_else : (n m : ℕ) (x : X) (xss : List (List X)) → (m ≡ n → ⊥) → get_or (added_at n x xss) m []
+      ≡ get_or xss m []
   added_else zero zero x [] apart = absurd (apart refl)
   added_else zero (suc m) x [] apart = refl
   added_else zero zero x (xs ∷ xss) apart = absurd (apart refl)
@@ -123,7 +116,8 @@ module _ {X : Type 0} where
 
 -- ---- lists under a constructor
 
-map_longer_by : {X Y : Type 0} (f : X → Y) (xs ys : List X) (b : Bool) → map f (cond b ys xs) ≡ cond b (map f ys) (map f xs)
+map_longer_by : {X Y : Type 0} (f : X → Y) (xs ys : List X) (b : Bool) → map f (cond b ys xs) ≡ cond b (map f ys)
+    (map f xs)
 map_longer_by f xs ys true = refl
 map_longer_by f xs ys false = refl
 
@@ -134,7 +128,8 @@ map_longer f xs ys =
     map_longer_by f xs ys (nat_lt (length xs) (length ys)) ∙ ap (λ b. cond b (map f ys) (map f xs)) (sym e)
 
 -- a beginning under a constructor that can be undone is one without it
-pub prefix_unmapped : {X Y : Type 0} (f : X → Y) (undo : Y → X → X) → ((x d : X) → undo (f x) d ≡ x) → (xs ys : List X) → IsPrefix
+pub prefix_unmapped : {X Y : Type 0} (f : X → Y) (undo : Y → X → X) → ((x d : X) → undo (f x) d ≡ x) → (xs ys : List X)
+    → IsPrefix
     (map f xs) (map f ys) → IsPrefix xs ys
 prefix_unmapped f undo back [] ys p = prefix_nil ys
 prefix_unmapped f undo back (x ∷ xs) [] p = absurd (let n = prefix_length (f x ∷ map f xs) [] p in omega arith)

@@ -1,5 +1,6 @@
 -- How often numbers, rooms and ranges stand in purses, and what becomes of that as purses are cut and put together.
-use Rattle.std.proofs.Common.{◌≡◌, ℕ, ◌+◌, ◌-◌, ◌<◌, ◌≤◌, ◌≢◌, Bool, true, false, not, ◌&&◌, List, [], ◌∷◌, ◌++◌, filter, refl, sym, ap, ◌∙◌, subst, arith, nat_eq, nat_lt, cond}
+use Rattle.std.proofs.Common.{◌≡◌, ℕ, ◌+◌, ◌-◌, ◌<◌, ◌≤◌, ◌≢◌, Bool, true, false, not, ◌&&◌, List, [], ◌∷◌, ◌++◌}
+use Rattle.std.proofs.Common.{filter, refl, sym, ap, ◌∙◌, subst, arith, nat_eq, nat_lt, cond}
 use Rattle.std.specs.Prelude.{Option, Some, None}
 use Rattle.std.specs.List.{Contains, count_by, sum_by}
 use mathlib.Core.Logic.{dite}
@@ -17,7 +18,9 @@ use Rattle.history_book.specs.declared.views.Kept.{Kept}
 use Rattle.history_book.specs.declared.views.Purse.{Purse}
 use Rattle.history_book.specs.Histories.{same_leaf, same_range}
 use Rattle.history_book.specs.Numbers.{are_many, numbers_between, times_among}
-use Rattle.history_book.specs.Seats.{first_handed, guest_purse, held_after, holds_after, is_own_range, kept_in, listed, mapped, met_purse, new_number, no_purse, times_number, times_range, times_room, with_stock_handed, without_one}
+use Rattle.history_book.specs.Seats.{first_handed, guest_purse, held_after, holds_after, is_own_range, kept_in, listed}
+use Rattle.history_book.specs.Seats.{mapped, met_purse, new_number, no_purse, times_number, times_range, times_room}
+use Rattle.history_book.specs.Seats.{with_stock_handed, without_one}
 use Rattle.history_book.specs.BookRule.{in_purse, kept_in_purse}
 use Rattle.history_book.specs.Steps.{both_purses}
 
@@ -39,7 +42,8 @@ among_yes n from to low high = let a : nat_lt n from ≡ false = grind (arith, n
     let b : nat_lt n to ≡ true = grind (arith, nat_tests) in λ i. cond (not (a i) && b i) 1 0
 
 among_low : (n from to : ℕ) → n < from → times_among n (numbers_between from to) ≡ 0
-among_low n from to low = let a : nat_lt n from ≡ true = grind (arith, nat_tests) in λ i. cond (not (a i) && nat_lt n to) 1 0
+among_low n from to low = let a : nat_lt n from ≡ true = grind (arith, nat_tests) in
+    λ i. cond (not (a i) && nat_lt n to) 1 0
 
 among_none : (a b : Bool) → b ≡ false → (let n : ℕ = cond (a && b) 1 0 in n ≡ 0)
 among_none true b e = ap (λ c. cond c 1 0) e
@@ -66,7 +70,8 @@ past a n l apart = dite (dec_lt a n) (λ h. omega arith) (λ h. absurd (apart (o
 
 -- the first of some numbers goes with some of the last ones
 pub cut_among : (n a m b : ℕ) → a < b → a + 1 ≤ m → m ≤ b
-    → times_among n (numbers_between (a + 1) m) + (one_if_same a n + times_among n (numbers_between m b)) ≡ times_among n
+    → times_among n (numbers_between (a + 1) m) + (one_if_same a n + times_among n (numbers_between m b)) ≡ times_among
+    n
     (numbers_between a b)
 cut_among n a m b some low high =
     dite (dec_lt n a)
@@ -98,7 +103,8 @@ no_number n = let none = none_among n 0 in let a : count_by (λ (kept : Kept). n
 abbrev pub times_kept : ℕ → List Kept → ℕ
 times_kept n kept = count_by (λ k. nat_eq k.number n) kept
 
-pub kept_counts : (o : Option Purse) (kept : Kept) → Contains (kept_in_purse o) kept → 0 < in_purse (times_number kept.number) o
+pub kept_counts : (o : Option Purse) (kept : Kept) → Contains (kept_in_purse o) kept
+    → 0 < in_purse (times_number kept.number) o
 kept_counts None kept has = absurd (contains_none kept has)
 kept_counts (Some p) kept has =
     let a : one_if_same kept.number kept.number ≤ times_kept kept.number (kept_in p) = counted
@@ -107,7 +113,8 @@ kept_counts (Some p) kept has =
     omega arith
 
 -- a number that stands in the stock is not kept beside it, or stands twice
-pub stock_counts : (o : Option Purse) (n : ℕ) → 0 < times_among n (guest_purse o).stock → 0 < in_purse (times_number n) o
+pub stock_counts : (o : Option Purse) (n : ℕ) → 0 < times_among n (guest_purse o).stock → 0 < in_purse (times_number n)
+    o
 stock_counts None n has = absurd (let none = none_among n 0 in omega arith)
 stock_counts (Some p) n has = omega arith
 
@@ -131,7 +138,8 @@ handed_by n p true e some = cut_among n p.stock.from (p.stock.to - SHARE) p.stoc
 handed_by n p false e some = cut_among n p.stock.from p.stock.to p.stock.to some (omega arith) (omega arith)
 
 pub number_handed : (n : ℕ) (o : Option Purse) → (guest_purse o).stock.from < (guest_purse o).stock.to
-    → in_purse (times_number n) (mapped with_stock_handed o) + in_purse (times_number n) (mapped first_handed o) ≡ in_purse
+    → in_purse (times_number n) (mapped with_stock_handed o) + in_purse (times_number n) (mapped first_handed o)
+    ≡ in_purse
     (times_number n) o
 number_handed n None some = refl
 number_handed n (Some p) some =
@@ -171,7 +179,8 @@ number_both n None m = let k : ℕ = in_purse (times_number n) m in let e : k �
 number_both n (Some p) None = let k : ℕ = times_number n p in let e : k ≡ k + 0 = omega arith in e
 number_both n (Some p) (Some q) = number_met n p q
 
-pub rooms_both : (leaf : Leaf) (o m : Option Purse) → in_purse (λ p. times_room leaf p.rooms) (both_purses o m) ≡ in_purse
+pub rooms_both : (leaf : Leaf) (o m : Option Purse) → in_purse (λ p. times_room leaf p.rooms) (both_purses o m)
+    ≡ in_purse
     (λ p. times_room leaf p.rooms) o + in_purse (λ p. times_room leaf p.rooms) m
 rooms_both leaf None m = let k : ℕ = in_purse (λ p. times_room leaf p.rooms) m in let e : k ≡ 0 + k = omega arith in e
 rooms_both leaf (Some p) None = let k : ℕ = times_room leaf p.rooms in let e : k ≡ k + 0 = omega arith in e
@@ -193,7 +202,8 @@ pub guest_kept : (o : Option Purse) → kept_in (guest_purse o) ≡ kept_in_purs
 guest_kept None = refl
 guest_kept (Some p) = refl
 
-pub guest_ranges : (r : Range) (o : Option Purse) → times_range r (guest_purse o).holds ≡ in_purse (λ p. times_range r p.holds) o
+pub guest_ranges : (r : Range) (o : Option Purse) → times_range r (guest_purse o).holds
+    ≡ in_purse (λ p. times_range r p.holds) o
 guest_ranges r None = refl
 guest_ranges r (Some p) = refl
 
@@ -220,7 +230,8 @@ ranges_parted r false h held holds =
     (is_own_range h) (λ range. not (is_own_range h range)) (λ x. refl) (λ other. cond (same_range r other) 1 0) holds in
     omega arith
 
-pub room_made : (leaf own : Leaf) (rooms : List Leaf) → times_room leaf (rooms ++ own ∷ []) ≡ times_room leaf rooms + cond
+pub room_made : (leaf own : Leaf) (rooms : List Leaf) → times_room leaf (rooms ++ own ∷ []) ≡ times_room leaf rooms
+    + cond
     (same_leaf leaf own) 1 0
 room_made leaf own rooms =
     sum_by-append (λ room. cond (same_leaf leaf room) 1 0) rooms (own ∷ []) ∙ ap
@@ -231,7 +242,8 @@ same_to_both leaf own room e = let n : ℕ = own.0 in let m : ℕ = room.0 in le
     ap (nat_eq leaf.0) (sym s)
 
 taken_by : (leaf own room : Leaf) (rooms : List Leaf) (b : Bool) → same_leaf own room ≡ b
-    → (0 < times_room own rooms → times_room leaf (without_one own rooms) + cond (same_leaf leaf own) 1 0 ≡ times_room leaf rooms)
+    → (0 < times_room own rooms → times_room leaf (without_one own rooms) + cond (same_leaf leaf own) 1 0
+    ≡ times_room leaf rooms)
     → 0 < times_room own (room ∷ rooms)
     → times_room leaf (cond b rooms (room ∷ without_one own rooms)) + cond (same_leaf leaf own) 1 0
     ≡ times_room leaf (room ∷ rooms)
@@ -245,7 +257,8 @@ taken_by leaf own room rooms true e later some =
 taken_by leaf own room rooms false e later some =
     let here : times_room own (room ∷ rooms) ≡ cond (same_leaf own room) 1 0 + times_room own rooms
     = sum_by-cons (λ x. cond (same_leaf own x) 1 0) room rooms in
-    let none : times_room own (room ∷ rooms) ≡ 0 + times_room own rooms = here ∙ ap (λ b. cond b 1 0 + times_room own rooms) e in
+    let none : times_room own (room ∷ rooms) ≡ 0 + times_room own rooms = here
+    ∙ ap (λ b. cond b 1 0 + times_room own rooms) e in
     let r = later (omega arith) in
     let all : times_room leaf (room ∷ rooms) ≡ cond (same_leaf leaf room) 1 0 + times_room leaf rooms
     = sum_by-cons (λ x. cond (same_leaf leaf x) 1 0) room rooms in
@@ -258,4 +271,5 @@ taken_by leaf own room rooms false e later some =
 pub room_taken : (leaf own : Leaf) (rooms : List Leaf) → 0 < times_room own rooms
     → times_room leaf (without_one own rooms) + cond (same_leaf leaf own) 1 0 ≡ times_room leaf rooms
 room_taken leaf own [] some = absurd (let none : times_room own [] ≡ 0 = refl in omega arith)
-room_taken leaf own (room ∷ rooms) some = taken_by leaf own room rooms (same_leaf own room) refl (room_taken leaf own rooms) some
+room_taken leaf own (room ∷ rooms) some = taken_by leaf own room rooms (same_leaf own room) refl
+    (room_taken leaf own rooms) some

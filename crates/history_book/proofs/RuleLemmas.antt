@@ -1,5 +1,6 @@
 -- What keeps the book rule where no history grows: a seat that changes, one that is cut in two, two that become one.
-use Rattle.std.proofs.Common.{◌≡◌, ℕ, ◌+◌, ◌<◌, ◌≢◌, ◌⊎◌, inl, inr, List, [], ◌∷◌, ◌++◌, set, sym, ap, ◌∙◌, subst, arith}
+use Rattle.std.proofs.Common.{◌≡◌, ℕ, ◌+◌, ◌<◌, ◌≢◌, ◌⊎◌, inl, inr, List, [], ◌∷◌, ◌++◌, set, sym, ap, ◌∙◌, subst}
+use Rattle.std.proofs.Common.{arith}
 use Rattle.std.specs.List.{Contains, sum_by}
 use mathlib.Core.Option.{some}
 use lib.ListN.{get_elem?}
@@ -11,23 +12,28 @@ use Rattle.history_book.specs.declared.views.SeatView.{SeatView}
 use Rattle.mon_value.specs.declared.positions.Leaf.{Leaf}
 use Rattle.mon_value.specs.declared.positions.Range.{Range}
 use Rattle.history_book.specs.Histories.{history_numbered, leaf_numbered, numbered_as, range_numbered}
-use Rattle.history_book.specs.BookRule.{HasSeat, IsTrue, KeepsBookRule, has_number, has_room, holds, kept_in_purse, owns}
+use Rattle.history_book.specs.BookRule.{HasSeat, IsTrue, KeepsBookRule, has_number, has_room, holds, kept_in_purse}
+use Rattle.history_book.specs.BookRule.{owns}
 use Rattle.atomic_table.proofs.Lists.{set_else}
 use Rattle.std.proofs.lemmas.Bool.Decides.{nat_tests}
 use Rattle.std.proofs.Common.{nat_lt, true}
-use Rattle.history_book.proofs.SumLemmas.{parts_of_sum, seat_before, seat_came_cases, seat_cases, seat_changed, seat_last, seat_stands, seat_stays, sum_changed, sum_joined, sum_split}
+use Rattle.history_book.proofs.SumLemmas.{parts_of_sum, seat_before, seat_came_cases, seat_cases, seat_changed}
+use Rattle.history_book.proofs.SumLemmas.{seat_last, seat_stands, seat_stays, sum_changed, sum_joined, sum_split}
 
 -- the number of a leaf's history is the leaf's
 pub leaf_is_numbered : (leaves n : ℕ) → n < leaves → history_numbered leaves n ≡ of.Leaf (leaf_numbered n)
-leaf_is_numbered leaves n low = let e : nat_lt n leaves ≡ true = grind (arith, nat_tests) in ap (λ b. numbered_as b leaves n) e
+leaf_is_numbered leaves n low = let e : nat_lt n leaves ≡ true = grind (arith, nat_tests) in
+    ap (λ b. numbered_as b leaves n) e
 
 -- the entries of kept numbers are still kept
 abbrev KeepsNumbers : List SeatView → List SeatView → Type 0
-KeepsNumbers seats seats' = (seat : SeatView) (kept : Kept) → HasSeat seats seat → Contains (kept_in_purse seat.purse) kept
+KeepsNumbers seats seats' = (seat : SeatView) (kept : Kept) → HasSeat seats seat → Contains (kept_in_purse seat.purse)
+    kept
     → (seat' : SeatView) × HasSeat seats' seat' × Contains (kept_in_purse seat'.purse) kept
 
 abbrev Promises : ℕ → List SeatView → Type 0
-Promises leaves seats = (seat : SeatView) (n : ℕ) → n < leaves → HasSeat seats seat → 0 < owns (of.Leaf (leaf_numbered n)) seat
+Promises leaves seats = (seat : SeatView) (n : ℕ) → n < leaves → HasSeat seats seat
+    → 0 < owns (of.Leaf (leaf_numbered n)) seat
     → seat.promised ≡ sum_by (has_room (leaf_numbered n)) seats
 
 module _ (leaves ranges : ℕ) (whole : Histories) (words : List ℕ) (seats : List SeatView)
@@ -156,7 +162,8 @@ module _ (leaves ranges : ℕ) (whole : Histories) (words : List ℕ) (seats : L
         elim (seat_came_cases (set seats id left) right seat has) [
           | inl here ↦ elim (seat_cases seats id left seat here) [
             | inl same ↦
-                let own' : 0 < owns (of.Leaf leaf) left = subst (λ (x : SeatView). 0 < owns (of.Leaf leaf) x) (sym same) own in
+                let own' : 0 < owns (of.Leaf leaf) left = subst (λ (x : SeatView). 0 < owns (of.Leaf leaf) x)
+                (sym same) own in
                 let was : 0 < owns (of.Leaf leaf) v = omega arith in
                 let p = rule.promised v n low (id, is) was in
                 let q : seat.promised ≡ left.promised = sym (ap (λ (x : SeatView). x.promised) same) in
@@ -172,7 +179,8 @@ module _ (leaves ranges : ℕ) (whole : Histories) (words : List ℕ) (seats : L
                 omega arith
           ]
           | inr same ↦
-              let own' : 0 < owns (of.Leaf leaf) right = subst (λ (x : SeatView). 0 < owns (of.Leaf leaf) x) (sym same) own in
+              let own' : 0 < owns (of.Leaf leaf) right = subst (λ (x : SeatView). 0 < owns (of.Leaf leaf) x) (sym same)
+              own in
               let was : 0 < owns (of.Leaf leaf) v = omega arith in
               let p = rule.promised v n low (id, is) was in
               let q : seat.promised ≡ right.promised = sym (ap (λ (x : SeatView). x.promised) same) in
@@ -214,8 +222,10 @@ module _ (leaves ranges : ℕ) (whole : Histories) (words : List ℕ) (seats : L
         ])
         (λ h. let s = sum_joined (owns h) seats id other v both u gone is is' in let a = union.owned h in
         let b = union.landless h in let c = union.gone_landless h in omega arith)
-        (λ n. let s = sum_joined (has_number n) seats id other v both u gone is is' in let e = union.numbers n in omega arith)
-        (λ r. let s = sum_joined (holds r) seats id other v both u gone is is' in let e = union.ranges_held r in omega arith)
+        (λ n. let s = sum_joined (has_number n) seats id other v both u gone is is' in let e = union.numbers n in
+        omega arith)
+        (λ r. let s = sum_joined (holds r) seats id other v both u gone is is' in let e = union.ranges_held r in
+        omega arith)
         (λ seat kept has k. elim (seat_stays seats id v both seat is has) [
           | inl e ↦ (
             both,
@@ -238,11 +248,13 @@ module _ (leaves ranges : ℕ) (whole : Histories) (words : List ℕ) (seats : L
         elim (seat_cases first other gone seat has) [
           | inl same ↦
               let none = union.gone_landless (of.Leaf leaf) in
-              let own' : 0 < owns (of.Leaf leaf) gone = subst (λ (x : SeatView). 0 < owns (of.Leaf leaf) x) (sym same) own in
+              let own' : 0 < owns (of.Leaf leaf) gone = subst (λ (x : SeatView). 0 < owns (of.Leaf leaf) x) (sym same)
+              own in
               absurd (omega arith)
           | inr here ↦ elim (seat_cases seats id both seat (here.0, here.2)) [
             | inl same ↦
-                let own' : 0 < owns (of.Leaf leaf) both = subst (λ (x : SeatView). 0 < owns (of.Leaf leaf) x) (sym same) own in
+                let own' : 0 < owns (of.Leaf leaf) both = subst (λ (x : SeatView). 0 < owns (of.Leaf leaf) x)
+                (sym same) own in
                 let o = union.owned (of.Leaf leaf) in
                 let p = rule.promised v n low (id, is) (omega arith) in
                 let q : seat.promised ≡ both.promised = sym (ap (λ (x : SeatView). x.promised) same) in

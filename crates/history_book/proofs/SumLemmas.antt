@@ -1,5 +1,6 @@
 -- What is counted over all seats, where one changes, comes or goes.
-use Rattle.std.proofs.Common.{◌≡◌, ℕ, zero, suc, ◌+◌, ◌<◌, ◌≤◌, ◌≢◌, ◌⊎◌, inl, inr, List, [], ◌∷◌, ◌++◌, length, get_or, set, refl, sym, ap, ◌∙◌, arith}
+use Rattle.std.proofs.Common.{◌≡◌, ℕ, zero, suc, ◌+◌, ◌<◌, ◌≤◌, ◌≢◌, ◌⊎◌, inl, inr, List, [], ◌∷◌, ◌++◌, length}
+use Rattle.std.proofs.Common.{get_or, set, refl, sym, ap, ◌∙◌, arith}
 use Rattle.std.specs.List.{sum_by}
 use mathlib.Core.Option.{some, some-injective, some-ne-none}
 use mathlib.Core.Logic.{dite}
@@ -29,7 +30,8 @@ sum_changed f seats id v w is =
     (at_within seats id v is)
 
 -- a seat is cut in two
-pub sum_split : (f : SeatView → ℕ) (seats : List SeatView) (id : ℕ) (v left right : SeatView) → get_elem? seats id ≡ some v
+pub sum_split : (f : SeatView → ℕ) (seats : List SeatView) (id : ℕ) (v left right : SeatView) → get_elem? seats id
+    ≡ some v
     → sum_by f (set seats id left ++ right ∷ []) + f v ≡ sum_by f seats + (f left + f right)
 sum_split f seats id v left right is =
     let a : sum_by f (set seats id left ++ right ∷ []) ≡ sum_by f (set seats id left) + f right
@@ -38,7 +40,8 @@ sum_split f seats id v left right is =
     omega arith
 
 -- two seats become one, and the other is spent
-pub sum_joined : (f : SeatView → ℕ) (seats : List SeatView) (id other : ℕ) (v both u spent : SeatView) → get_elem? seats id
+pub sum_joined : (f : SeatView → ℕ) (seats : List SeatView) (id other : ℕ) (v both u spent : SeatView)
+    → get_elem? seats id
     ≡ some v → get_elem? (set seats id both) other ≡ some u
     → sum_by f (set (set seats id both) other spent) + (f v + f u) ≡ sum_by f seats + (f both + f spent)
 sum_joined f seats id other v both u spent is is' =
@@ -50,20 +53,25 @@ sum_joined f seats id other v both u spent is is' =
 pub part_of_sum : (f : SeatView → ℕ) (seats : List SeatView) (id : ℕ) (v : SeatView) → get_elem? seats id ≡ some v
     → f v ≤ sum_by f seats
 part_of_sum f [] id v e = absurd (some-ne-none v (sym e))
-part_of_sum f (s ∷ seats) zero v e = let h : f s ≡ f v = ap f (some-injective s v e) in let all = sum_by-cons f s seats in
+part_of_sum f (s ∷ seats) zero v e = let h : f s ≡ f v = ap f (some-injective s v e) in
+    let all = sum_by-cons f s seats in
     omega arith
-part_of_sum f (s ∷ seats) (suc id) v e = let r = part_of_sum f seats id v e in let all = sum_by-cons f s seats in omega arith
+part_of_sum f (s ∷ seats) (suc id) v e = let r = part_of_sum f seats id v e in let all = sum_by-cons f s seats in
+    omega arith
 
 -- nor are two seats' parts
-pub parts_of_sum : (f : SeatView → ℕ) (seats : List SeatView) (i j : ℕ) (v u : SeatView) → i ≢ j → get_elem? seats i ≡ some v
+pub parts_of_sum : (f : SeatView → ℕ) (seats : List SeatView) (i j : ℕ) (v u : SeatView) → i ≢ j → get_elem? seats i
+    ≡ some v
     → get_elem? seats j ≡ some u → f v + f u ≤ sum_by f seats
 parts_of_sum f [] i j v u apart e g = absurd (some-ne-none v (sym e))
 parts_of_sum f (s ∷ seats) zero zero v u apart e g = absurd (apart refl)
 parts_of_sum f (s ∷ seats) zero (suc j) v u apart e g =
-    let h : f s ≡ f v = ap f (some-injective s v e) in let r = part_of_sum f seats j u g in let all = sum_by-cons f s seats in
+    let h : f s ≡ f v = ap f (some-injective s v e) in let r = part_of_sum f seats j u g in
+    let all = sum_by-cons f s seats in
     omega arith
 parts_of_sum f (s ∷ seats) (suc i) zero v u apart e g =
-    let h : f s ≡ f u = ap f (some-injective s u g) in let r = part_of_sum f seats i v e in let all = sum_by-cons f s seats in
+    let h : f s ≡ f u = ap f (some-injective s u g) in let r = part_of_sum f seats i v e in
+    let all = sum_by-cons f s seats in
     omega arith
 parts_of_sum f (s ∷ seats) (suc i) (suc j) v u apart e g =
     let r = parts_of_sum f seats i j v u (λ n. apart (ap suc n)) e g in let all = sum_by-cons f s seats in omega arith
@@ -82,7 +90,8 @@ seat_stays seats id v w u is has = dite (ℕ_discrete has.0 id)
     (λ e. inl (some-injective v u (sym is ∙ ap (get_elem? seats) (sym e) ∙ has.1)))
     (λ apart. inr (has.0, set_else seats id has.0 w apart ∙ has.1))
 
-pub seat_changed : (seats : List SeatView) (id : ℕ) (v w : SeatView) → get_elem? seats id ≡ some v → HasSeat (set seats id w) w
+pub seat_changed : (seats : List SeatView) (id : ℕ) (v w : SeatView) → get_elem? seats id ≡ some v
+    → HasSeat (set seats id w) w
 seat_changed seats id v w is = (id, set_here seats id w (at_within seats id v is))
 
 pub seat_stands : (seats : List SeatView) (id : ℕ) (v w : SeatView) → get_elem? seats id ≡ some v
@@ -90,7 +99,11 @@ pub seat_stands : (seats : List SeatView) (id : ℕ) (v w : SeatView) → get_el
 seat_stands seats id v w is = set_here seats id w (at_within seats id v is)
 
 pub seat_came_cases : (seats : List SeatView) (w u : SeatView) → HasSeat (seats ++ w ∷ []) u → HasSeat seats u ⊎ (w ≡ u)
-seat_came_cases seats w u has = elim (at_snoc seats w u has.0 has.1) [ inl before ↦ inl (has.0, before) | inr last ↦ inr last ]
+seat_came_cases seats w u has = elim (at_snoc seats w u has.0 has.1) [
+  | inl before ↦ inl (has.0, before)
+  | inr last ↦
+      inr last
+]
 
 pub seat_before : (seats : List SeatView) (w u : SeatView) → HasSeat seats u → HasSeat (seats ++ w ∷ []) u
 seat_before seats w u has = (has.0, at_longer seats (w ∷ []) has.0 u has.1)

@@ -1,5 +1,6 @@
 -- What the tests know of new owners, and of a history that has grown by an entry.
-use Rattle.std.proofs.Common.{◌≡◌, ℕ, zero, suc, ◌+◌, ◌<◌, ◌≤◌, Bool, true, false, not, List, [], ◌∷◌, ◌++◌, length, map, filter, refl, sym, ap, ◌∙◌, subst, arith, nat_eq, nat_lt, cond}
+use Rattle.std.proofs.Common.{◌≡◌, ℕ, zero, suc, ◌+◌, ◌<◌, ◌≤◌, Bool, true, false, not, List, [], ◌∷◌, ◌++◌, length}
+use Rattle.std.proofs.Common.{map, filter, refl, sym, ap, ◌∙◌, subst, arith, nat_eq, nat_lt, cond}
 use Rattle.std.specs.Prelude.{None, All}
 use Rattle.std.proofs.lemmas.Bool.Decides.{nat_tests}
 use Rattle.std.proofs.lemmas.List.{length_push, same_from_push}
@@ -13,8 +14,11 @@ use Rattle.history_book.specs.declared.views.History.TheVariants as of
 use Rattle.mon_value.specs.declared.histories.Entry.{Entry}
 use Rattle.mon_value.specs.declared.positions.Leaf.{Leaf}
 use Rattle.mon_value.specs.declared.positions.Range.{Range}
-use Rattle.history_book.specs.Histories.{IsFor, IsOfLeaf, entries, histories_in, history_numbered, leaf_numbered, numbered_as, numbers_on, range_numbered, same_leaf, same_range}
-use Rattle.history_book.specs.Seats.{HasRoom, HoldsOwn, Owner, Seat, after_append, after_parting, guest_purse, holds_after, is_own_range, mapped, new_owner, parted, purse_with, rooms_after, times_range, times_room, with_guest}
+use Rattle.history_book.specs.Histories.{IsFor, IsOfLeaf, entries, histories_in, history_numbered, leaf_numbered}
+use Rattle.history_book.specs.Histories.{numbered_as, numbers_on, range_numbered, same_leaf, same_range}
+use Rattle.history_book.specs.Seats.{HasRoom, HoldsOwn, Owner, Seat, after_append, after_parting, guest_purse}
+use Rattle.history_book.specs.Seats.{holds_after, is_own_range, mapped, new_owner, parted, purse_with, rooms_after}
+use Rattle.history_book.specs.Seats.{times_range, times_room, with_guest}
 use Rattle.history_book.proofs.HistoryLemmas.{entries_added, no_entries_at}
 use Rattle.history_book.proofs.PurseLemmas.{room_made}
 
@@ -31,7 +35,8 @@ leaf_below : (leaves n : ℕ) → n < leaves → IsOfLeaf (history_numbered leav
 leaf_below leaves n low = let e : nat_lt n leaves ≡ true = grind (arith, nat_tests) in
     subst (λ b. IsOfLeaf (numbered_as b leaves n)) (sym e) refl
 
-pub owners_are_new : (leaves ranges : ℕ) → ranges ≡ 0 → All IsNew (map (new_owner leaves ranges) (histories_in leaves ranges))
+pub owners_are_new : (leaves ranges : ℕ) → ranges ≡ 0
+    → All IsNew (map (new_owner leaves ranges) (histories_in leaves ranges))
 owners_are_new leaves ranges none =
     All-map IsNew (new_owner leaves ranges) (histories_in leaves ranges)
     (All-map (λ h. IsNew (new_owner leaves ranges h)) (history_numbered leaves) (numbers_on 0 (leaves + ranges))
@@ -55,7 +60,8 @@ grown_by_one before met after parted other e met_is whole after_is parted_is fit
     let seen : entries parted.seen parted.history ≡ entries (after_append e met).seen met.history
     = ap (λ o. entries o.seen o.history) last in
     let fits' : IsFor met.history e = subst (λ g. IsFor g e) (sym same) fits in
-    ap length seen ∙ ap length (entries_added met.history e met.seen fits') ∙ length_push (entries met.seen met.history) e
+    ap length seen ∙ ap length (entries_added met.history e met.seen fits')
+    ∙ length_push (entries met.seen met.history) e
     ∙ ap (λ g. length (entries met.seen g) + 1) same ∙ ap (λ xs. length xs + 1) whole
 
 -- ---- one leaf and one range
@@ -71,7 +77,8 @@ holds_first range holds =
     = all ∙ ap (λ b. cond b 1 0 + times_range range holds) same in
     omega arith
 
-pub holds_own : (owner : Owner) (range : Range) → owner.history ≡ of.Range range → owner.held ≡ range ∷ [] → HoldsOwn owner
+pub holds_own : (owner : Owner) (range : Range) → owner.history ≡ of.Range range → owner.held ≡ range ∷ []
+    → HoldsOwn owner
 holds_own owner range is held = (
   range,
   is,
@@ -81,12 +88,14 @@ holds_own owner range is held = (
 )
 
 -- a leaf's owner takes no range from its guest
-pub leaf_keeps_none : (leaf : Leaf) (holds : List Range) → filter (λ range. not (is_own_range (of.Leaf leaf) range)) holds ≡ holds
+pub leaf_keeps_none : (leaf : Leaf) (holds : List Range) → filter (λ range. not (is_own_range (of.Leaf leaf) range))
+    holds ≡ holds
 leaf_keeps_none leaf [] = refl
 leaf_keeps_none leaf (range ∷ holds) = ap (λ xs. range ∷ xs) (leaf_keeps_none leaf holds)
 
 -- what an owner or its guest holds, once the guest came that holds a range
-pub guest_holds : (range : Range) (held holds : List Range) → 0 < times_range range holds → 0 < times_range range (held ++ holds)
+pub guest_holds : (range : Range) (held holds : List Range) → 0 < times_range range holds → 0 < times_range range
+    (held ++ holds)
 guest_holds range held holds has =
     let all : times_range range (held ++ holds) ≡ times_range range held + times_range range holds
     = sum_by-append (λ other. cond (same_range range other) 1 0) held holds in
@@ -102,7 +111,8 @@ has_made_room leaf rooms =
 
 -- the last two owners of a new book of one leaf and one range
 pub two_popped : (leaves ranges : ℕ) (all rest first : List Owner) (leaf range : Owner) → leaves ≡ 1 → ranges ≡ 1
-    → all ≡ map (new_owner leaves ranges) (histories_in leaves ranges) → all ≡ rest ++ range ∷ [] → rest ≡ first ++ leaf ∷ []
+    → all ≡ map (new_owner leaves ranges) (histories_in leaves ranges) → all ≡ rest ++ range ∷ [] → rest ≡ first
+    ++ leaf ∷ []
     → (leaf ≡ new_owner 1 1 (of.Leaf (leaf_numbered 0))) × (range ≡ new_owner 1 1 (of.Range (range_numbered 0)))
 two_popped leaves ranges all rest first leaf range one_leaf one_range new last before =
     let a = new_owner 1 1 (of.Leaf (leaf_numbered 0)) in
@@ -114,7 +124,8 @@ two_popped leaves ranges all rest first leaf range one_leaf one_range new last b
     (sym one.1, sym two.1)
 
 -- a guest that holds a range and goes with a room from a leaf's owner still holds it, and has the room
-module _ (before met gone_owner again : Owner) (seat gone : Seat) (leaf : Leaf) (is : before.history ≡ of.Leaf leaf) (met_is : met
+module _ (before met gone_owner again : Owner) (seat gone : Seat) (leaf : Leaf) (is : before.history ≡ of.Leaf leaf)
+    (met_is : met
     ≡ with_guest seat before)
     (gone_is : gone ≡ parted move.Make false met) (again_is : again ≡ with_guest gone gone_owner) where
   pub still_held : (range : Range) → 0 < times_range range seat.purse.holds
@@ -124,13 +135,15 @@ module _ (before met gone_owner again : Owner) (seat gone : Seat) (leaf : Leaf) 
       = ap (λ o. (guest_purse o.guest).holds) again_is ∙ ap (λ s. s.purse.holds) gone_is
       ∙ ap (λ o. holds_after false o.history o.held (guest_purse o.guest).holds) met_is
       ∙ ap (λ h. holds_after false h before.held seat.purse.holds) is ∙ leaf_keeps_none leaf seat.purse.holds in
-      guest_holds range again.held (guest_purse again.guest).holds (subst (λ holds. 0 < times_range range holds) (sym same) has)
+      guest_holds range again.held (guest_purse again.guest).holds (subst (λ holds. 0 < times_range range holds)
+      (sym same) has)
 
   pub still_has_room : (after : Owner) (e : BookEntry) → gone_owner ≡ after_parting move.Make false met
       → after ≡ after_append e again → HasRoom after
   still_has_room after e owner_is after_is =
       let history : after.history ≡ of.Leaf leaf
-      = ap (λ o. o.history) after_is ∙ ap (λ o. o.history) again_is ∙ ap (λ o. o.history) owner_is ∙ ap (λ o. o.history) met_is
+      = ap (λ o. o.history) after_is ∙ ap (λ o. o.history) again_is ∙ ap (λ o. o.history) owner_is
+      ∙ ap (λ o. o.history) met_is
       ∙ is in
       let rooms : (guest_purse after.guest).rooms ≡ seat.purse.rooms ++ leaf ∷ []
       = ap (λ o. (guest_purse o.guest).rooms) after_is

@@ -1,8 +1,9 @@
 -- Histories of leaves and of ranges, by number or by whose they are, and what becomes of copies of them.
 use Rattle.std.specs.Prelude.{◌≡◌, ℕ, zero, suc, ◌+◌, ◌-◌, nat_eq, nat_lt, Bool, true, false, List, [], ◌∷◌, ◌++◌}
-use Rattle.std.specs.Prelude.{length, map, replicate, if◌then◌else◌}
+use Rattle.std.specs.Prelude.{map, replicate}
 use Rattle.std.specs.List.{slice_index_or}
 use mathlib.Core.List.{IsPrefix}
+use Rattle.mon_value.specs.Farther.{longer_each}
 use Rattle.mon_value.specs.declared.histories.Entry.{Entry}
 use Rattle.mon_value.specs.declared.histories.Entry.TheVariants as entry
 use Rattle.mon_value.specs.declared.histories.RangeEntry.{RangeEntry}
@@ -132,21 +133,15 @@ module _ {X : Type 0} where
   added_at (suc n) x [] = [] ∷ added_at n x []
   added_at (suc n) x (xs ∷ xss) = xs ∷ added_at n x xss
 
-  abbrev pub longer : List X → List X → List X
-  longer xs ys = if nat_lt (length xs) (length ys) then ys else xs
-
-  -- of each two lists the longer one
-  abbrev pub longer_each : List (List X) → List (List X) → List (List X)
-  longer_each [] yss = yss
-  longer_each (xs ∷ xss) [] = xs ∷ xss
-  longer_each (xs ∷ xss) (ys ∷ yss) = longer xs ys ∷ longer_each xss yss
-
 -- a history has an entry more
 abbrev pub with_entry : History → BookEntry → Histories → Histories
 with_entry (of.Leaf leaf) (one.Leaf e) seen = record { leaves = added_at leaf.0 e seen.leaves; ranges = seen.ranges }
 with_entry (of.Leaf leaf) (one.Range e) seen = seen
 with_entry (of.Range range) (one.Leaf e) seen = seen
-with_entry (of.Range range) (one.Range e) seen = record { leaves = seen.leaves; ranges = added_at range.0 e seen.ranges }
+with_entry (of.Range range) (one.Range e) seen = record {
+  leaves = seen.leaves;
+  ranges = added_at range.0 e seen.ranges;
+}
 
 -- of each history the longer copy
 abbrev pub longer_of : Histories → Histories → Histories

@@ -76,7 +76,8 @@ kept_in purse = listed purse.own ++ purse.met
 -- how often a number stands in a purse
 abbrev pub times_number : ℕ → Purse → ℕ
 times_number n purse =
-    count_by (λ kept. nat_eq kept.number n) (kept_in purse) + times_among n purse.stock + sum_by (times_among n) purse.lost
+    count_by (λ kept. nat_eq kept.number n) (kept_in purse) + times_among n purse.stock + sum_by (times_among n)
+    purse.lost
 
 abbrev pub times_room : Leaf → List Leaf → ℕ
 times_room leaf rooms = count_by (same_leaf leaf) rooms

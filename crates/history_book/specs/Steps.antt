@@ -109,7 +109,16 @@ after_deal count v =
 
 -- a seat without an owner's part
 abbrev pub plain_view : Histories → Option Purse → SeatView
-plain_view seen purse = record { seen = seen; joined = None; purse = purse; owns = []; promised = 0; held = []; notes = [] }
+plain_view seen purse = record {
+  seen = seen;
+  joined = None;
+  purse = purse;
+  owns = [];
+  promised = 0;
+  held = [];
+  notes =
+      [];
+}
 
 abbrev pub with_purse : Option Purse → SeatView → SeatView
 with_purse purse v =

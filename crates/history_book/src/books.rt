@@ -238,7 +238,11 @@ impl<N: BookName> Book<N> {
         ensures table { (seat.new.table_id ≡ N.book.id) × (seat.new.id ≡ seat.old.id) }
         ensures met { seat.new.me ≡ (meeting seat.old.me.0 other.me.0, seat.old.me.1) }
         ensures united { IsUnited (meeting seat.old.me.0 other.me.0)
-            (record { mine = seat.old.me.0.seen; theirs = other.me.0.seen; lent = (guest_purse other.me.0.purse).holds }) }
+            (record {
+              mine = seat.old.me.0.seen;
+              theirs = other.me.0.seen;
+              lent = (guest_purse other.me.0.purse).holds;
+            }) }
         ensures borne_out { IfSome (meeting seat.old.me.0 other.me.0).purse
             (IsBorneOut (meeting seat.old.me.0 other.me.0).seen) }
         ensures promised { IsPromised N.book.leaves (meeting seat.old.me.0 other.me.0) }

@@ -1,5 +1,6 @@
--- Who has seen nothing: that is held and covered, whatever bits are known, and its reach is that of nothing.
-use Rattle.std.proofs.Common.{◌≡◌, ℕ, zero, suc, ◌<◌, List, [], ◌∷◌, length, map, get_or, replicate, refl, sym, ap, subst, ◌∙◌, arith}
+-- Who has seen nothing: that is held and covered, whatever bits are known.
+use Rattle.std.proofs.Common.{◌≡◌, ℕ, zero, suc, ◌<◌, List, [], ◌∷◌, length, map, get_or, replicate, refl, sym, ap}
+use Rattle.std.proofs.Common.{subst, ◌∙◌, arith}
 use Rattle.std.specs.Prelude.{Contains}
 use Rattle.mon_value.specs.LeafHistories.{IsWellFormed}
 use Rattle.mon_value.specs.declared.histories.Entry.{Entry}
@@ -33,7 +34,8 @@ each_of f (suc n) x = ap (λ rest. f x ∷ rest) (each_of f n x)
 none_there : {X : Type 0} (x : X) → Contains [] x → ⊥
 none_there x there = let l : there.0 < 0 = there.1 in absurd (omega arith)
 
-pub nothing_is_sound : (setting : Setting) (hints : Hints) (leaves ranges : ℕ) → leaves ≡ length (leaves_in setting.zones)
+pub nothing_is_sound : (setting : Setting) (hints : Hints) (leaves ranges : ℕ) → leaves
+    ≡ length (leaves_in setting.zones)
     → ranges ≡ length (ranges_in setting.zones) → IsSound setting hints (empty_histories leaves ranges)
 nothing_is_sound setting hints leaves ranges all_leaves all_ranges =
     let seen = histories (empty_histories leaves ranges) in

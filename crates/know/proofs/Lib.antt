@@ -1,4 +1,3 @@
 pub mod FirstLemmas
-pub mod ReachLemmas
 pub mod SoundLemmas
 mod TestLemmas

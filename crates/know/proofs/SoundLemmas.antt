@@ -1,5 +1,5 @@
 -- What someone knows stays sound as bits are learned, and what two know of one truth is sound together.
-use Rattle.std.proofs.Common.{◌≡◌, ℕ, true, List, [], ◌∷◌, ◌++◌, refl, sym, ap, subst, ◌∙◌}
+use Rattle.std.proofs.Common.{◌≡◌, ℕ, true, List, ◌++◌, refl, sym, ap, subst, ◌∙◌}
 use Rattle.std.specs.List.{list_any}
 use Rattle.std.proofs.lemmas.Bool.{or_left, or_right}
 use Rattle.std.proofs.lemmas.List.Folds.{list_any-append}
@@ -10,14 +10,13 @@ use Rattle.mon_hints.specs.HistoryBuckets.{history_buckets}
 use Rattle.mon_hints.proofs.CoverLemmas.{covers_more}
 use Rattle.mon_topo.specs.HeldHistories as topo
 use Rattle.mon_topo.specs.HeldHistories.{AreHeld}
-use Rattle.mon_topo.specs.SeenHistories as topo_seen
 use Rattle.mon_topo.specs.SeenHistories.{AreWithin, joined_histories}
 use Rattle.mon_topo.specs.Settings.{Setting, zone_of_leaf}
 use Rattle.mon_topo.specs.Zones.{leaf_numbered}
 use Rattle.mon_topo.proofs.FrontLemmas.{begins_from}
 use Rattle.mon_topo.proofs.HeldLemmas.{joined_seen_held, joined_seen_leaf_by}
 use Rattle.history_book.specs.declared.views.Histories.{Histories}
-use Rattle.history_book.specs.Histories.{AreFronts, leaf_history, longer_each, longer_of, range_history}
+use Rattle.history_book.specs.Histories.{AreFronts, leaf_history, longer_of, range_history}
 use Rattle.raise_table.specs.declared.places.Place.{Place}
 use Rattle.raise_table.specs.declared.places.Place.TheVariants as at
 use Rattle.raise_table.specs.declared.views.Hints.{Hints}
@@ -28,12 +27,14 @@ use Rattle.know.specs.Sound.{IsSound, bit_of_leaf, has_bit, histories, known_bit
 -- ---- known bits
 
 module _ (place : Place) (bucket bit : ℕ) (some others : List Note) where
-  known_in_first : list_any (has_bit place bucket bit) some ≡ true → list_any (has_bit place bucket bit) (some ++ others) ≡ true
+  known_in_first : list_any (has_bit place bucket bit) some ≡ true → list_any (has_bit place bucket bit)
+      (some ++ others) ≡ true
   known_in_first there =
       list_any-append (has_bit place bucket bit) some others
       ∙ or_left (list_any (has_bit place bucket bit) some) (list_any (has_bit place bucket bit) others) there
 
-  known_in_second : list_any (has_bit place bucket bit) others ≡ true → list_any (has_bit place bucket bit) (some ++ others) ≡ true
+  known_in_second : list_any (has_bit place bucket bit) others ≡ true → list_any (has_bit place bucket bit)
+      (some ++ others) ≡ true
   known_in_second there =
       list_any-append (has_bit place bucket bit) some others
       ∙ or_right (list_any (has_bit place bucket bit) some) (list_any (has_bit place bucket bit) others) there
@@ -44,11 +45,13 @@ KnowsOn before after = (place : Place) (bucket bit : ℕ) → list_any (has_bit 
     → list_any (has_bit place bucket bit) after.known ≡ true
 
 module _ (setting : Setting) where
-  bits_on : (before after : Hints) → KnowsOn before after → AreBitsWithin (known_bits setting before) (known_bits setting after)
+  bits_on : (before after : Hints) → KnowsOn before after → AreBitsWithin (known_bits setting before)
+      (known_bits setting after)
   bits_on before after on = record {
     root = λ zone bucket there. on at.Root bucket zone there;
     zone = λ leaf bucket there.
-        on (at.Zone (zone_of_leaf setting (leaf_numbered leaf))) bucket (bit_of_leaf setting (leaf_numbered leaf)) there;
+        on (at.Zone (zone_of_leaf setting (leaf_numbered leaf))) bucket (bit_of_leaf setting (leaf_numbered leaf))
+        there;
   }
 
   sound_on : (before after : Hints) (seen : Histories) → KnowsOn before after → IsSound setting before seen
@@ -78,17 +81,13 @@ module _ (setting : Setting) where
 
 -- ---- two together
 
-each_alike : {X : Type 0} (xss yss : List (List X)) → topo_seen.longer_each xss yss ≡ longer_each xss yss
-each_alike [] yss = refl
-each_alike (xs ∷ xss) [] = refl
-each_alike (xs ∷ xss) (ys ∷ yss) = ap (λ rest. topo_seen.longer xs ys ∷ rest) (each_alike xss yss)
-
 joined_alike : (a b : Histories) → joined_histories (histories a) (histories b) ≡ histories (longer_of a b)
-joined_alike a b = λ i. record { leaves = each_alike a.leaves b.leaves i; ranges = each_alike a.ranges b.ranges i }
+joined_alike a b = refl
 
 within : (front all : Histories) → AreFronts front all → AreWithin (histories front) (histories all)
 within front all fronts = record {
-  leaves = λ leaf. begins_from (leaf_history all leaf) (leaf_history front leaf) (fronts.0 leaf).0 (sym (fronts.0 leaf).1);
+  leaves = λ leaf. begins_from (leaf_history all leaf) (leaf_history front leaf) (fronts.0 leaf).0
+      (sym (fronts.0 leaf).1);
   ranges = λ range. begins_from (range_history all range) (range_history front range) (fronts.1 range).0
       (sym (fronts.1 range).1);
 }
@@ -119,7 +118,8 @@ module _ (setting : Setting) (mine theirs both : Hints) (seen other all : Histor
   pub sound_together : IsSound setting both all
   sound_together = record {
     held = subst (λ (s : topo.Histories). AreHeld setting.held setting.zones setting.points s) all_is
-        (joined_seen_held (histories seen) (histories other) (histories all) (within seen all first) (within other all second)
+        (joined_seen_held (histories seen) (histories other) (histories all) (within seen all first)
+        (within other all second)
         setting.held setting.zones setting.points h.held k.held);
     covered = λ leaf. subst (λ (s : topo.Histories). IsCovered leaf (topo.leaf_history s leaf)) all_is
         (joined_seen_leaf_by (histories seen) (histories other) leaf (IsCovered leaf)

@@ -1,5 +1,6 @@
 -- What the tests know of their callers: what these have seen is held and covered.
-use Rattle.std.proofs.Common.{◌≡◌, ℕ, zero, suc, ◌+◌, ◌<◌, ◌≤◌, Bool, true, false, cond, nat_lt, List, [], ◌∷◌, ◌++◌, length, get_or, refl, sym, ap, subst, ◌∙◌, nat_eq, arith}
+use Rattle.std.proofs.Common.{◌≡◌, ℕ, zero, suc, ◌+◌, ◌<◌, ◌≤◌, Bool, true, false, cond, nat_lt, List, [], ◌∷◌, ◌++◌}
+use Rattle.std.proofs.Common.{length, get_or, refl, sym, ap, subst, ◌∙◌, nat_eq, arith}
 use Rattle.std.specs.Prelude.{Contains, slice_get, Some}
 use Rattle.std.proofs.lemmas.Bool.Decides.{nat_tests}
 use Rattle.std.proofs.lemmas.List.Sums.{sum_by-cons}
@@ -18,7 +19,8 @@ use Rattle.mon_topo.specs.RangeHistories.{IsLegal}
 use Rattle.mon_topo.specs.Settings.{Setting, zone_of_leaf}
 use Rattle.mon_topo.specs.Zones.{first_replicas, leaf_numbered, leaves_in, range_numbered, ranges_in}
 use Rattle.history_book.specs.declared.views.Histories.{Histories}
-use Rattle.history_book.specs.Histories.{longer_each, longer_of, same_range}
+use Rattle.mon_value.specs.Farther.{longer_each}
+use Rattle.history_book.specs.Histories.{longer_of, same_range}
 use Rattle.history_book.specs.Seats.{times_range}
 use Rattle.raise_table.specs.declared.views.Hints.{Hints}
 use Rattle.know.specs.Sound.{IsSound, histories, known_bits}
@@ -112,7 +114,8 @@ module _ (setting : Setting) (hints : Hints) (leaves : length (leaves_in setting
           (λ e there. subst (λ (x : Entry). AreAtHome setting.held setting.zones x) (only (entry.Down 1) e there) tt)
           none_home leaf.0;
       legal = λ range here.
-          first_range (λ n. IsLegal setting.held setting.zones setting.points (range_numbered n) (get_or ([] ∷ []) n []))
+          first_range (λ n. IsLegal setting.held setting.zones setting.points (range_numbered n)
+          (get_or ([] ∷ []) n []))
           range.0 here tt;
       borne_out = λ range here.
           first_range (λ n. IsHeldBy (histories with_leaf_down) (range_numbered n) (get_or ([] ∷ []) n []))

@@ -9,6 +9,8 @@ use Rattle.mon_hints.specs.HistoryBuckets.{history_buckets}
 use Rattle.mon_topo.specs.HeldHistories as topo
 use Rattle.mon_topo.specs.HeldHistories.{AreHeld}
 use Rattle.mon_topo.specs.Settings.{Setting, zone_of_leaf}
+use Rattle.mon_topo.specs.Sights.{sight_of}
+use Rattle.mon_topo.specs.declared.sights.Sight.{Sight}
 use Rattle.mon_topo.specs.Zones.{first_leaf, leaf_numbered}
 use Rattle.history_book.specs.declared.views.Histories.{Histories}
 use Rattle.history_book.specs.Histories.{leaf_history}
@@ -20,6 +22,10 @@ use Rattle.raise_table.specs.declared.views.Note.{Note}
 -- the histories that a seat of the book has seen, as histories of leaves and ranges
 abbrev pub histories : Histories → topo.Histories
 histories seen = record { leaves = seen.leaves; ranges = seen.ranges }
+
+-- how far it has seen them
+abbrev pub seat_sight : Histories → Sight
+seat_sight seen = sight_of (histories seen)
 
 -- ---- known bits
 

@@ -26,7 +26,7 @@ impl Model for Ended {
 }
 
 impl Ended {
-    // What is left of a seat of the book.
+    /// What is left of a seat of the book.
     pub(crate) fn new(number: Option<u64>, book: EndedSeat) -> Ended
         requires number { number ≡ (hand_of book.purse).own }
         ensures number { result.number ≡ number }

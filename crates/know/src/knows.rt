@@ -10,15 +10,14 @@ ghost use Rattle.raise_table.specs.Seats.{HasKnown, KnowsAll, KnowsAsMuch};
 ghost use Rattle.raise_table.specs.Tables.{HasWord};
 ghost use Rattle.know.specs.Knowledge.{after_handing, after_load, after_numbering, from_seats, meeting, numbered};
 ghost use Rattle.know.specs.Knowledge.{numbers_fault, split_off};
-ghost use Rattle.know.specs.Reaches.{reach_of};
-ghost use Rattle.know.specs.Sound.{IsSound, histories};
+ghost use Rattle.know.specs.Sound.{IsSound, histories, seat_sight};
 
 use crate::answers::NumbersSpent;
 use crate::ends::Ended;
 use crate::names::Names;
-use crate::reaches::Reach;
 use crate::tables::Tables;
 use history_book::BookSeat;
+use mon_topo::Sight;
 use mon_value::{Leaf, OutOfMemory, Range, Refusal, Slot, TryCopy};
 use raise_table::{HintSeat, Place};
 use std::alloc::Global;
@@ -30,35 +29,34 @@ use std::marker::Model;
 pub struct Know<N: Names> {
     hints: HintSeat<N>,
     book: BookSeat<N>,
-    reach: Reach,
+    sight: Sight,
     handed: u64,
 }
 
 impl<N: Names> Model for Know<N> {
     ghost use Rattle.std.specs.Prelude.{◌≡◌};
     ghost use Rattle.know.specs.Knowledge.{Knowledge};
-    ghost use Rattle.know.specs.Reaches.{reach_of};
-    ghost use Rattle.know.specs.Sound.{IsSound};
+    ghost use Rattle.know.specs.Sound.{IsSound, seat_sight};
 
     ghost Value = { Knowledge };
 
     ghost view = { λ k. record { hints = k.hints; seen = k.book.seen; purse = k.book.purse; handed = k.handed } };
 
-    ghost invariant = { λ k. (k.reach ≡ reach_of k.book.seen)
+    ghost invariant = { λ k. (k.sight ≡ seat_sight k.book.seen)
         × IsSound N.setting k.hints k.book.seen };
 }
 
 impl<N: Names> Know<N> {
     /// What two seats know, where what the book's has seen is held and the known bits lead to it. No memory is taken.
-    pub fn new(hints: HintSeat<N>, book: BookSeat<N>, reach: Reach) -> Know<N>
+    pub fn new(hints: HintSeat<N>, book: BookSeat<N>, sight: Sight) -> Know<N>
         requires sound { IsSound N.setting hints book.seen }
-        requires reach { reach ≡ reach_of book.seen }
+        requires sight { sight ≡ seat_sight book.seen }
         ensures new { result ≡ from_seats hints book }
     {
         Know {
             hints,
             book,
-            reach,
+            sight,
             handed: 0,
         }
     }
@@ -76,7 +74,7 @@ impl<N: Names> Know<N> {
         ensures length { result ≡ length (leaf_history self.now.seen leaf) }
         ensures sound { IsSound N.setting self.now.hints self.now.seen }
     {
-        *self.reach.leaves.get(leaf.0 as usize)
+        *self.sight.leaves.get(leaf.0 as usize)
     }
 
     /// The first replica that serves in a range's history as it was seen. No memory is taken.
@@ -86,7 +84,7 @@ impl<N: Names> Know<N> {
         ensures first { slice_get (serving (range_history self.now.seen range)) 0
             ≡ Some (record { slot = result.0; leaf = result.1 }) }
     {
-        match self.reach.ranges.get(range.0 as usize).first {
+        match self.sight.ranges.get(range.0 as usize).first {
             Some(replica) => (replica.slot, replica.leaf),
             None => unreachable!(),
         }
@@ -110,13 +108,13 @@ impl<N: Names> Know<N> {
         ensures kept { self.new ≡ self.old }
         ensures sound { IfOk result (λ new. IsSound N.setting new.hints new.seen) }
     {
-        let reach = self.reach.copy(alloc)?;
+        let sight = self.sight.copy(alloc)?;
         let hints = tables.raise.split(&mut self.hints);
         let book = tables.book.split(&mut self.book);
         Ok(Know {
             hints,
             book,
-            reach,
+            sight,
             handed: 0,
         })
     }
@@ -134,14 +132,14 @@ impl<N: Names> Know<N> {
         ensures kept { OnErr result (self.new ≡ self.old) }
         ensures sound { IfOk result (λ new. IsSound N.setting new.hints new.seen) }
     {
-        let reach = self.reach.copy(alloc)?;
+        let sight = self.sight.copy(alloc)?;
         let Some(book) = tables.book.split_numbered(&mut self.book) else {
             return Err(Refusal::Fault(NumbersSpent));
         };
         Ok(Know {
             hints: tables.raise.split(&mut self.hints),
             book,
-            reach,
+            sight,
             handed: 0,
         })
     }
@@ -158,12 +156,12 @@ impl<N: Names> Know<N> {
         let Know {
             hints,
             book,
-            reach,
+            sight,
             handed,
         } = other;
         tables.raise.meet(&mut self.hints, hints);
         tables.book.meet(&mut self.book, book);
-        self.reach.join(&reach);
+        self.sight.join(&sight);
         self.handed = self.handed.saturating_add(handed);
     }
 

@@ -5,14 +5,12 @@ mod answers;
 mod ends;
 mod knows;
 mod names;
-mod reaches;
 mod tables;
 
 pub use answers::{Copied, Found, NumbersSpent};
 pub use ends::Ended;
 pub use knows::Know;
 pub use names::Names;
-pub use reaches::{RangeReach, Reach};
 pub use tables::Tables;
 
 #[cfg(test)]

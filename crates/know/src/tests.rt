@@ -16,6 +16,7 @@ ghost use Rattle.know.specs.Tables.{AreTablesOf};
 
 use super::*;
 use history_book::{Book, BookBlank, BookOwner, BookOwners, BookSeat, NewEntry, RoomMove};
+use mon_topo::{RangeSight, Sight};
 use mon_value::{Leaf, LeafCounts, ListOf, OutOfMemory, Range, Refusal, Slot, SlotLeaf};
 use raise_table::{HintSeat, OwnerSeat, OwnerSeats, Place, RaiseBlank, RaiseTable};
 use std::alloc::Global;
@@ -129,15 +130,15 @@ fn first_caller<N: Names>(
         slot: Slot(0),
         leaf: Leaf(0),
     };
-    let range = RangeReach {
+    let range = RangeSight {
         length: 1,
         first: Some(replica),
     };
-    let reach = Reach {
+    let sight = Sight {
         leaves: ListOf::from_vec(vec![in alloc; 1, 0]?),
         ranges: ListOf::from_vec(vec![in alloc; range]?),
     };
-    Ok(Know::new(hints, seat, reach))
+    Ok(Know::new(hints, seat, sight))
 }
 
 // Who has seen that the second leaf went down.
@@ -150,9 +151,9 @@ fn second_caller<N: Names>(
     requires seen { seat.seen ≡ record { leaves = [] ∷ (entry.Down 1 ∷ []) ∷ []; ranges = [] ∷ [] } }
     ensures known { IfOk result (λ know. know ≡ from_seats hints seat) }
 {
-    let mut reach = Reach::none(alloc, 0, 1)?;
-    reach.leaves = ListOf::from_vec(vec![in alloc; 0, 1]?);
-    Ok(Know::new(hints, seat, reach))
+    let mut sight = Sight::none(alloc, 0, 1)?;
+    sight.leaves = ListOf::from_vec(vec![in alloc; 0, 1]?);
+    Ok(Know::new(hints, seat, sight))
 }
 
 // The owners of a new book of two leaves and one range.
@@ -442,7 +443,7 @@ fn new_caller<N: Names>(
     requires sized { (2 ≡ length (leaves_in N.setting.zones)) × (1 ≡ length (ranges_in N.setting.zones)) }
     requires seat { seat ≡ first_seat 2 1 }
 {
-    Ok(Know::new(hints, seat, Reach::none(alloc, 2, 1)?))
+    Ok(Know::new(hints, seat, Sight::none(alloc, 2, 1)?))
 }
 
 // A number is handed out where the stock has one. What is left has the number that there was.

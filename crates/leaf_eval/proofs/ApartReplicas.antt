@@ -24,7 +24,8 @@ or_true : (b : Bool) → (b || true) ≡ true
 or_true true = refl
 or_true false = refl
 
-weaker : (P Q : Row → Type 0) (rows : List Row) → ((row : Row) → P row → Q row) → AllByRecursion P rows → AllByRecursion Q rows
+weaker : (P Q : Row → Type 0) (rows : List Row) → ((row : Row) → P row → Q row) → AllByRecursion P rows
+    → AllByRecursion Q rows
 weaker P Q [] more all = tt
 weaker P Q (row ∷ rows) more all = (more row all.0, weaker P Q rows more all.1)
 
@@ -33,7 +34,8 @@ own_series [] = tt
 own_series (row ∷ rows) = (
   ap (λ b. b || has_series rows row.key) ((same_series-Decides row.key row.key).1 refl),
   weaker (λ other. has_series rows other.key ≡ true) (λ other. has_series (row ∷ rows) other.key ≡ true) rows
-      (λ other has. ap (λ b. same_series other.key row.key || b) has ∙ or_true (same_series other.key row.key)) (own_series rows),
+      (λ other has. ap (λ b. same_series other.key row.key || b) has ∙ or_true (same_series other.key row.key))
+      (own_series rows),
 )
 
 -- ---- two sides that share none
@@ -56,7 +58,8 @@ none_of_none : (rows : List Row) → ShareNoSeries rows []
 none_of_none [] = tt
 none_of_none (row ∷ rows) = (refl, none_of_none rows)
 
-none_of_both : (rows others more : List Row) → ShareNoSeries rows others → ShareNoSeries rows more → ShareNoSeries rows (others ++ more)
+none_of_both : (rows others more : List Row) → ShareNoSeries rows others → ShareNoSeries rows more → ShareNoSeries rows
+    (others ++ more)
 none_of_both [] others more none left = tt
 none_of_both (row ∷ rows) others more none left = (
   list_any-append (λ (other : Row). same_series row.key other.key) others more
@@ -67,17 +70,21 @@ none_of_both (row ∷ rows) others more none left = (
 -- ---- replicas
 
 module _ (history : List Entry) where
-  none_of_all : (rows : List Row) (replicas : List RangeSlot) → AllByRecursion (λ other. ShareNoSeries rows (replica_rows_of history other)) replicas
+  none_of_all : (rows : List Row) (replicas : List RangeSlot)
+      → AllByRecursion (λ other. ShareNoSeries rows (replica_rows_of history other)) replicas
       → ShareNoSeries rows (replicas_rows history replicas)
   none_of_all rows [] all = none_of_none rows
   none_of_all rows (other ∷ replicas) all =
-      none_of_both rows (replica_rows_of history other) (replicas_rows history replicas) all.0 (none_of_all rows replicas all.1)
+      none_of_both rows (replica_rows_of history other) (replicas_rows history replicas) all.0
+      (none_of_all rows replicas all.1)
 
   by_replicas : (replicas : List RangeSlot) → AreApart history replicas
-      → flat_map points_by_series (map (replica_rows_of history) replicas) ≡ points_by_series (replicas_rows history replicas)
+      → flat_map points_by_series (map (replica_rows_of history) replicas) ≡ points_by_series
+      (replicas_rows history replicas)
   by_replicas [] apart = refl
   by_replicas (own ∷ replicas) apart =
-      ap (λ (rest : List SeriesGroup). points_by_series (replica_rows_of history own) ++ rest) (by_replicas replicas apart.1)
+      ap (λ (rest : List SeriesGroup). points_by_series (replica_rows_of history own) ++ rest)
+      (by_replicas replicas apart.1)
       ∙ sym (two_apart (replica_rows_of history own) (replicas_rows history replicas)
       (none_of_all (replica_rows_of history own) replicas apart.0))
 
@@ -87,5 +94,7 @@ module _ (history : List Entry) where
 
   -- the series that are kept for replicas are those of all their rows
   pub replicas_held : (kept : List (Bor (List Row))) (replicas : List RangeSlot) → AreApart history replicas
-      → map (λ rows. rows.now) kept ≡ map (replica_rows_of history) replicas → all_held kept ≡ points_by_series (replicas_rows history replicas)
-  replicas_held kept replicas apart same = held_by kept ∙ ap (flat_map points_by_series) same ∙ by_replicas replicas apart
+      → map (λ rows. rows.now) kept ≡ map (replica_rows_of history) replicas → all_held kept ≡ points_by_series
+      (replicas_rows history replicas)
+  replicas_held kept replicas apart same = held_by kept ∙ ap (flat_map points_by_series) same ∙ by_replicas replicas
+      apart

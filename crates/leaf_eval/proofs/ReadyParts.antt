@@ -38,17 +38,21 @@ all_second : {A : Type 0} (P : A → Type 0) (xs ys : List A) → AllByRecursion
 all_second P [] ys all = all
 all_second P (x ∷ xs) ys all = all_second P xs ys all.1
 
-all_both : {A : Type 0} (P : A → Type 0) (xs ys : List A) → AllByRecursion P xs → AllByRecursion P ys → AllByRecursion P (xs ++ ys)
+all_both : {A : Type 0} (P : A → Type 0) (xs ys : List A) → AllByRecursion P xs → AllByRecursion P ys
+    → AllByRecursion P (xs ++ ys)
 all_both P [] ys all more = more
 all_both P (x ∷ xs) ys all more = (all.0, all_both P xs ys all.1 more)
 
-part_or-all : (P : TopPart → Type 0) (b : Bool) (use_of : PartUse) (part : NodeTree) (below : List TopPart) → P (use_of, part)
+part_or-all : (P : TopPart → Type 0) (b : Bool) (use_of : PartUse) (part : NodeTree) (below : List TopPart)
+    → P (use_of, part)
     → AllByRecursion P below → AllByRecursion P (part_or b use_of part below)
 part_or-all P true use_of part below own all = (own, tt)
 part_or-all P false use_of part below own all = all
 
-module _ (here : Level → Bool) (held : SchemaLists) (grid : Grid) (source : List Row) (series : List (SeriesKey × List Point))
-    (kept : series ≡ points_by_series source) (fit : AllByRecursion (λ (row : Row). fits held row ≡ true) source) (lawful : IsLawful grid) where
+module _ (here : Level → Bool) (held : SchemaLists) (grid : Grid) (source : List Row)
+    (series : List (SeriesKey × List Point))
+    (kept : series ≡ points_by_series source) (fit : AllByRecursion (λ (row : Row). fits held row ≡ true) source)
+    (lawful : IsLawful grid) where
   abbrev Has : NodeTree → Type 0
   Has tree = AllByRecursion (HasFetchColumns held) (fetches tree)
 
@@ -69,36 +73,46 @@ module _ (here : Level → Bool) (held : SchemaLists) (grid : Grid) (source : Li
   as_rows : (tree : NodeTree) → IsEvaluable grid tree source → Has tree → Ready (up.AsRows, tree)
   as_rows tree can has = record { asked = asked_part tree can has; can = λ few. tt }
 
-  pub all_ready : (tree : NodeTree) → IsEvaluable grid tree source → Has tree → AllByRecursion Ready (top_parts here tree)
+  pub all_ready : (tree : NodeTree) → IsEvaluable grid tree source → Has tree → AllByRecursion Ready
+      (top_parts here tree)
   all_ready (node.Fetch info schema metric) can has = (as_rows (node.Fetch info schema metric) can has, tt)
   all_ready (node.Filter info by input) can has =
-      part_or-all Ready (here info.level) up.AsRows (node.Filter info by input) _ (as_rows (node.Filter info by input) can has)
+      part_or-all Ready (here info.level) up.AsRows (node.Filter info by input) _ (as_rows (node.Filter info by input)
+      can has)
       (all_ready input can has)
   all_ready (node.Align info by input) can has = (as_rows (node.Align info by input) can has, tt)
   all_ready (node.GroupBy info by with input) can has =
-      part_or-all Ready (here info.level) up.AsRows (node.GroupBy info by with input) _ (as_rows (node.GroupBy info by with input) can has)
+      part_or-all Ready (here info.level) up.AsRows (node.GroupBy info by with input)
+      _ (as_rows (node.GroupBy info by with input) can has)
       (part_or-all Ready (here (level_of input)) (up.ToGroup by with) input _
       (record { asked = asked_part input can.1 has; can = can.0 }) (all_ready input can.1 has))
   all_ready (node.Value info items input) can has =
-      part_or-all Ready (here info.level) up.AsRows (node.Value info items input) _ (as_rows (node.Value info items input) can has)
+      part_or-all Ready (here info.level) up.AsRows (node.Value info items input)
+      _ (as_rows (node.Value info items input) can has)
       (all_ready input can.1.1 has)
   all_ready (node.Top info most column input) can has =
-      part_or-all Ready (here info.level) up.AsRows (node.Top info most column input) _ (as_rows (node.Top info most column input) can has)
+      part_or-all Ready (here info.level) up.AsRows (node.Top info most column input)
+      _ (as_rows (node.Top info most column input) can has)
       (part_or-all Ready (here (level_of input)) (up.ToCut most column) input _
       (record { asked = asked_part input can has; can = λ few. tt }) (all_ready input can has))
   all_ready (node.Join info left right) can has =
       let first = all_first (HasFetchColumns held) (fetches left) (fetches right) has in
       let second = all_second (HasFetchColumns held) (fetches left) (fetches right) has in
-      part_or-all Ready (here info.level) up.AsRows (node.Join info left right) _ (as_rows (node.Join info left right) can has)
-      (all_both Ready (top_parts here left) (top_parts here right) (all_ready left can.1.1.0 first) (all_ready right can.1.1.1 second))
+      part_or-all Ready (here info.level) up.AsRows (node.Join info left right) _ (as_rows (node.Join info left right)
+      can has)
+      (all_both Ready (top_parts here left) (top_parts here right) (all_ready left can.1.1.0 first)
+      (all_ready right can.1.1.1 second))
   all_ready (node.Union info left right) can has =
       let first = all_first (HasFetchColumns held) (fetches left) (fetches right) has in
       let second = all_second (HasFetchColumns held) (fetches left) (fetches right) has in
-      part_or-all Ready (here info.level) up.AsRows (node.Union info left right) _ (as_rows (node.Union info left right) can has)
-      (all_both Ready (top_parts here left) (top_parts here right) (all_ready left can.0 first) (all_ready right can.1 second))
+      part_or-all Ready (here info.level) up.AsRows (node.Union info left right)
+      _ (as_rows (node.Union info left right) can has)
+      (all_both Ready (top_parts here left) (top_parts here right) (all_ready left can.0 first)
+      (all_ready right can.1 second))
 
 -- a query that is asked over a leaf's series is ready in each of its parts
-pub asked_ready : (here : Level → Bool) (typed : TypedTree) (series : List (SeriesKey × List Point)) (moment : ℤ) → IsAsked typed series
+pub asked_ready : (here : Level → Bool) (typed : TypedTree) (series : List (SeriesKey × List Point)) (moment : ℤ)
+    → IsAsked typed series
     → pos 0 ≤ℤ moment → AllByRecursion (IsPartReady (grid_of typed moment) series) (top_parts here typed.tree)
 asked_ready here typed series moment asked from =
     let of = asked.fits in

@@ -3,16 +3,15 @@ ghost use Rattle.std.specs.Prelude.{◌≡◌, ◌≤◌, ◌^◌, ◌≤ℤ◌,
 ghost use Rattle.mon_value.specs.Sources.{points_by_series};
 ghost use Rattle.mon_value.specs.declared.limits.TheConstants.{ROW_BITS};
 ghost use Rattle.mon_value.specs.declared.rows.Row.{Row};
-ghost use Rattle.mql_types.specs.Meaning as meant;
 ghost use Rattle.mql_types.specs.Nodes.{typed_tree};
 ghost use Rattle.mon_meaning.specs.Central.{IsAsked, all_held};
 ghost use Rattle.mon_meaning.specs.LeafAnswers.{IsLeafAnswer};
 
 use crate::sent::sent_of;
 use mon_fold::{LeafAnswer, Pieces};
-use mon_meaning::{Meter, OverLimit, part_by_series, piece_of, top_parts};
+use mon_meaning::{Meter, OverLimit, grid_of, part_by_series, piece_of, top_parts};
 use mon_series::KeptRows;
-use mon_value::{Grid, Refusal};
+use mon_value::Refusal;
 use mql_types::{Level, Plan, Typed};
 use std::alloc::Global;
 
@@ -47,15 +46,4 @@ pub fn answer_by_series(
         load: limit - meter.room(),
         sent,
     })
-}
-
-// The times of a query that is asked at a moment.
-fn grid_of(typed: &Typed, moment: i64) -> Grid
-    ensures grid { result ≡ meant.grid_of (typed_tree typed.now) moment }
-{
-    Grid {
-        moment,
-        every: typed.every,
-        within: typed.within,
-    }
 }

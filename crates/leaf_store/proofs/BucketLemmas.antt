@@ -1,5 +1,6 @@
 -- Buckets of a series are below their number, and sets of them grow.
-use Rattle.std.proofs.Common.{◌≡◌, ◌∙◌, ℕ, ◌+◌, ◌<◌, ◌≤◌, ◌==◌, nat_lt, Bool, true, false, ◌&&◌, ◌||◌, Option, Some, None, IfSome, List, [], ◌∷◌, ◌++◌, map, refl, sym, ap, append-nil, arith}
+use Rattle.std.proofs.Common.{◌≡◌, ◌∙◌, ℕ, ◌+◌, ◌<◌, ◌≤◌, ◌==◌, nat_lt, Bool, true, false, ◌&&◌, ◌||◌, Option, Some}
+use Rattle.std.proofs.Common.{None, IfSome, List, [], ◌∷◌, ◌++◌, map, refl, sym, ap, append-nil, arith}
 use Rattle.std.specs.List.{AllByRecursion, flat_map, zip}
 use Rattle.std.proofs.lemmas.Bool.Decides.{nat_tests}
 use Rattle.std.proofs.lemmas.List.Concat.{flat_map-append}
@@ -32,7 +33,8 @@ both_below : (bound : ℕ) (xs ys : List ℕ) → AllBelow bound xs → AllBelow
 both_below bound [] ys first second = second
 both_below bound (x ∷ xs) ys first second = (first.0, both_below bound xs ys first.1 second)
 
-excerpts_below : (buckets : ℕ) (schema field : List ℕ) (excerpts : List (List ℕ)) → 0 < buckets → AllBelow buckets (map (bucket_of buckets schema field) excerpts)
+excerpts_below : (buckets : ℕ) (schema field : List ℕ) (excerpts : List (List ℕ)) → 0 < buckets → AllBelow buckets
+    (map (bucket_of buckets schema field) excerpts)
 excerpts_below buckets schema field [] some = tt
 excerpts_below buckets schema field (excerpt ∷ excerpts) some =
     (mod_below (fingerprint_of schema field excerpt) buckets some, excerpts_below buckets schema field excerpts some)
@@ -41,9 +43,11 @@ pairs_below : (buckets : ℕ) (schema : List ℕ) (pairs : List (Field × FieldV
     AllBelow buckets (flat_map (λ (pair : Field × FieldValue). value_buckets buckets schema pair.0.name pair.1) pairs)
 pairs_below buckets schema [] some = tt
 pairs_below buckets schema (pair ∷ pairs) some =
-    both_below buckets (value_buckets buckets schema pair.0.name pair.1) _ (excerpts_below buckets schema pair.0.name (value_excerpts pair.1) some) (pairs_below buckets schema pairs some)
+    both_below buckets (value_buckets buckets schema pair.0.name pair.1) _ (excerpts_below buckets schema pair.0.name
+    (value_excerpts pair.1) some) (pairs_below buckets schema pairs some)
 
-series_below : (buckets : ℕ) (target : TargetSchema) (metric : MetricSchema) (key : SeriesKey) → 0 < buckets → AllBelow buckets (series_buckets buckets target metric key)
+series_below : (buckets : ℕ) (target : TargetSchema) (metric : MetricSchema) (key : SeriesKey) → 0 < buckets
+    → AllBelow buckets (series_buckets buckets target metric key)
 series_below buckets target metric key some = (
   mod_below (fingerprint_of key.target.schema [] key.metric) buckets some,
   both_below buckets (field_buckets buckets key.target.schema target.fields key.target.fields) _
@@ -51,20 +55,27 @@ series_below buckets target metric key some = (
       (pairs_below buckets key.target.schema (zip metric.fields key.fields) some),
 )
 
-below_at : (bound n first : ℕ) (rest : Bool) (b : Bool) → (n == first) ≡ b → first < bound → (rest ≡ true → n < bound) → (b || rest) ≡ true → n < bound
-below_at bound n first rest true same here more found = let is : n ≡ first = grind (arith, nat_tests) in omega (arith, is, here)
+below_at : (bound n first : ℕ) (rest : Bool) (b : Bool) → (n == first) ≡ b → first < bound → (rest ≡ true → n < bound)
+    → (b || rest) ≡ true → n < bound
+below_at bound n first rest true same here more found = let is : n ≡ first = grind (arith, nat_tests) in
+    omega (arith, is, here)
 below_at bound n first rest false same here more found = more found
 
 among_below : (bound n : ℕ) (numbers : List ℕ) → AllBelow bound numbers → is_among n numbers ≡ true → n < bound
 among_below bound n [] all found = absurd cc
-among_below bound n (first ∷ numbers) all found = below_at bound n first (is_among n numbers) (n == first) refl all.0 (among_below bound n numbers all.1) found
+among_below bound n (first ∷ numbers) all found = below_at bound n first (is_among n numbers) (n == first) refl all.0
+    (among_below bound n numbers all.1) found
 
-pub bucket_below : (buckets bucket : ℕ) (target : TargetSchema) (metric : MetricSchema) (key : SeriesKey) → 0 < buckets →
+pub bucket_below : (buckets bucket : ℕ) (target : TargetSchema) (metric : MetricSchema) (key : SeriesKey) → 0 < buckets
+    →
     is_among bucket (series_buckets buckets target metric key) ≡ true → bucket < buckets
-bucket_below buckets bucket target metric key some found = among_below buckets bucket (series_buckets buckets target metric key) (series_below buckets target metric key some) found
+bucket_below buckets bucket target metric key some found = among_below buckets bucket
+    (series_buckets buckets target metric key) (series_below buckets target metric key some) found
 
-pub next_below : (found : Option ℕ) (buckets from : ℕ) (target : TargetSchema) (metric : MetricSchema) (key : SeriesKey) → 0 < buckets → buckets ≤ MOST_BUCKETS
-    → IfSome found (λ next. IsNext (λ bucket. is_among bucket (series_buckets buckets target metric key)) from next) → IfSome found (λ bucket. bucket < MOST_BUCKETS)
+pub next_below : (found : Option ℕ) (buckets from : ℕ) (target : TargetSchema) (metric : MetricSchema)
+    (key : SeriesKey) → 0 < buckets → buckets ≤ MOST_BUCKETS
+    → IfSome found (λ next. IsNext (λ bucket. is_among bucket (series_buckets buckets target metric key)) from next)
+    → IfSome found (λ bucket. bucket < MOST_BUCKETS)
 next_below None buckets from target metric key some most least = tt
 next_below (Some next) buckets from target metric key some most least =
     let below = bucket_below buckets next target metric key some least.among in omega (arith, below, most)
@@ -73,39 +84,55 @@ next_below (Some next) buckets from target metric key some most least =
 
 -- the buckets of a series below a number are in the set
 abbrev pub AddsBelow : (ℕ → Bool) → (ℕ → Bool) → List ℕ → ℕ → Type 0
-AddsBelow old new buckets from = (bucket : ℕ) → new bucket ≡ (old bucket || (nat_lt bucket from && is_among bucket buckets))
+AddsBelow old new buckets from = (bucket : ℕ) → new bucket
+    ≡ (old bucket || (nat_lt bucket from && is_among bucket buckets))
 
-one_more : (bucket next from : ℕ) (old among : Bool) (t1 t2 t3 : Bool) → nat_lt bucket from ≡ t1 → (bucket == next) ≡ t2 → nat_lt bucket (next + 1) ≡ t3 →
-    from ≤ next → (bucket ≡ next → among ≡ true) → (from ≤ bucket → bucket < next → among ≡ false) → (t2 || (old || (t1 && among))) ≡ (old || (t3 && among))
+one_more : (bucket next from : ℕ) (old among : Bool) (t1 t2 t3 : Bool) → nat_lt bucket from ≡ t1 → (bucket == next)
+    ≡ t2 → nat_lt bucket (next + 1) ≡ t3 →
+    from ≤ next → (bucket ≡ next → among ≡ true) → (from ≤ bucket → bucket < next → among ≡ false)
+    → (t2 || (old || (t1 && among))) ≡ (old || (t3 && among))
 one_more bucket next from old among true true t3 low same high reached here between = absurd (grind (arith, nat_tests))
 one_more bucket next from old among true false true low same high reached here between = refl
-one_more bucket next from old among true false false low same high reached here between = absurd (grind (arith, nat_tests))
+one_more bucket next from old among true false false low same high reached here between =
+    absurd (grind (arith, nat_tests))
 one_more bucket next from true among false true true low same high reached here between = refl
-one_more bucket next from false among false true true low same high reached here between = sym (here (grind (arith, nat_tests)))
-one_more bucket next from old among false true false low same high reached here between = absurd (grind (arith, nat_tests))
+one_more bucket next from false among false true true low same high reached here between =
+    sym (here (grind (arith, nat_tests)))
+one_more bucket next from old among false true false low same high reached here between =
+    absurd (grind (arith, nat_tests))
 one_more bucket next from old among false false true low same high reached here between =
-    let none : among ≡ false = between (grind (arith, nat_tests)) (grind (arith, nat_tests)) in ap (λ b. old || b) (sym none)
+    let none : among ≡ false = between (grind (arith, nat_tests)) (grind (arith, nat_tests)) in
+    ap (λ b. old || b) (sym none)
 one_more bucket next from old among false false false low same high reached here between = refl
 
-pub adds_next : (old set new : ℕ → Bool) (buckets : List ℕ) (from next : ℕ) → AddsBelow old set buckets from → IsNext (λ bucket. is_among bucket buckets) from next →
+pub adds_next : (old set new : ℕ → Bool) (buckets : List ℕ) (from next : ℕ) → AddsBelow old set buckets from
+    → IsNext (λ bucket. is_among bucket buckets) from next →
     new ≡ (λ bucket. (bucket == next) || set bucket) → AddsBelow old new buckets (next + 1)
 adds_next old set new buckets from next adds is added bucket =
     ap (λ (f : ℕ → Bool). f bucket) added ∙ ap (λ b. (bucket == next) || b) (adds bucket)
-    ∙ one_more bucket next from (old bucket) (is_among bucket buckets) (nat_lt bucket from) (bucket == next) (nat_lt bucket (next + 1)) refl refl refl is.reached
+    ∙ one_more bucket next from (old bucket) (is_among bucket buckets) (nat_lt bucket from) (bucket == next)
+    (nat_lt bucket (next + 1)) refl refl refl is.reached
     (λ same. ap (λ n. is_among n buckets) same ∙ is.among) (is.least bucket)
 
-all_below : (bucket from : ℕ) (old among : Bool) (t : Bool) → nat_lt bucket from ≡ t → (from ≤ bucket → among ≡ false) → (old || (t && among)) ≡ (old || among)
+all_below : (bucket from : ℕ) (old among : Bool) (t : Bool) → nat_lt bucket from ≡ t → (from ≤ bucket → among ≡ false)
+    → (old || (t && among)) ≡ (old || among)
 all_below bucket from old among true below none = refl
 all_below bucket from old among false below none = ap (λ b. old || b) (sym (none (grind (arith, nat_tests))))
 
 -- ---- buckets of rows
 
-pub rows_more : (buckets : ℕ) (held : SchemaLists) (rows : List Row) (row : Row) → rows_buckets (key_buckets buckets held) (rows ++ row ∷ []) ≡ rows_buckets (key_buckets buckets held) rows ++ key_buckets buckets held row.key
+pub rows_more : (buckets : ℕ) (held : SchemaLists) (rows : List Row) (row : Row)
+    → rows_buckets (key_buckets buckets held) (rows ++ row ∷ []) ≡ rows_buckets (key_buckets buckets held) rows
+    ++ key_buckets buckets held row.key
 rows_more buckets held rows row =
-    flat_map-append (λ (row : Row). key_buckets buckets held row.key) rows (row ∷ []) ∙ ap (λ more. rows_buckets (key_buckets buckets held) rows ++ more) (append-nil (key_buckets buckets held row.key))
+    flat_map-append (λ (row : Row). key_buckets buckets held row.key) rows (row ∷ [])
+    ∙ ap (λ more. rows_buckets (key_buckets buckets held) rows ++ more)
+    (append-nil (key_buckets buckets held row.key))
 
 pub history_more : (buckets : ℕ) (held : SchemaLists) (history : List Entry) (last : Entry) →
-    history_buckets (key_buckets buckets held) (history ++ last ∷ []) ≡ history_buckets (key_buckets buckets held) history ++ rows_buckets (key_buckets buckets held) (brought_rows last)
+    history_buckets (key_buckets buckets held) (history ++ last ∷ []) ≡ history_buckets (key_buckets buckets held)
+    history ++ rows_buckets (key_buckets buckets held) (brought_rows last)
 history_more buckets held history last =
-    ap (rows_buckets (key_buckets buckets held)) (flat_map-append brought_rows history (last ∷ []) ∙ ap (λ more. leaf_rows history ++ more) (append-nil (brought_rows last)))
+    ap (rows_buckets (key_buckets buckets held)) (flat_map-append brought_rows history (last ∷ [])
+    ∙ ap (λ more. leaf_rows history ++ more) (append-nil (brought_rows last)))
     ∙ flat_map-append (λ (row : Row). key_buckets buckets held row.key) (leaf_rows history) (brought_rows last)

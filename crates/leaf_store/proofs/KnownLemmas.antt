@@ -1,5 +1,6 @@
 -- A series that a replica has brings no bucket more.
-use Rattle.std.proofs.Common.{◌≡◌, ◌∙◌, ℕ, Bool, true, false, cond, ◌||◌, ◌==◌, Some, None, List, [], ◌∷◌, ◌++◌, map, refl, sym, ap, subst, inl, inr}
+use Rattle.std.proofs.Common.{◌≡◌, ◌∙◌, ℕ, Bool, true, false, cond, ◌||◌, ◌==◌, Some, None, List, [], ◌∷◌, ◌++◌, map}
+use Rattle.std.proofs.Common.{refl, sym, ap, subst, inl, inr}
 use Rattle.std.specs.Prelude.{is_some}
 use Rattle.std.proofs.lemmas.Bool.{or_left, or_right, or_cases}
 use Rattle.std.proofs.lemmas.List.Concat.{flat_map-append}
@@ -24,13 +25,15 @@ among_both : (bucket : ℕ) (xs ys : List ℕ) → is_among bucket (xs ++ ys) �
 among_both bucket xs ys = list_any-append (λ other. bucket == other) xs ys
 
 module _ (buckets_of : SeriesKey → List ℕ) where
-  rows_both : (xs ys : List Row) → rows_buckets buckets_of (xs ++ ys) ≡ rows_buckets buckets_of xs ++ rows_buckets buckets_of ys
+  rows_both : (xs ys : List Row) → rows_buckets buckets_of (xs ++ ys) ≡ rows_buckets buckets_of xs
+      ++ rows_buckets buckets_of ys
   rows_both xs ys = flat_map-append (λ (row : Row). buckets_of row.key) xs ys
 
   either_among : (bucket : ℕ) (xs ys : List Row) → is_among bucket (rows_buckets buckets_of (xs ++ ys))
       ≡ (is_among bucket (rows_buckets buckets_of xs) || is_among bucket (rows_buckets buckets_of ys))
   either_among bucket xs ys =
-      ap (is_among bucket) (rows_both xs ys) ∙ among_both bucket (rows_buckets buckets_of xs) (rows_buckets buckets_of ys)
+      ap (is_among bucket) (rows_both xs ys) ∙ among_both bucket (rows_buckets buckets_of xs)
+      (rows_buckets buckets_of ys)
 
   -- ---- the buckets of a series that has a row are those of its row
 
@@ -42,7 +45,8 @@ module _ (buckets_of : SeriesKey → List ℕ) where
   series_at key row rows bucket true same some among rest =
       among_both bucket (buckets_of row.key) (rows_buckets buckets_of rows)
       ∙ or_left (is_among bucket (buckets_of row.key)) (is_among bucket (rows_buckets buckets_of rows))
-      (subst (λ (k : SeriesKey). is_among bucket (buckets_of k) ≡ true) ((same_series-Decides key row.key).0 same) among)
+      (subst (λ (k : SeriesKey). is_among bucket (buckets_of k) ≡ true) ((same_series-Decides key row.key).0 same)
+      among)
   series_at key row rows bucket false same some among rest =
       among_both bucket (buckets_of row.key) (rows_buckets buckets_of rows)
       ∙ or_right (is_among bucket (buckets_of row.key)) (is_among bucket (rows_buckets buckets_of rows)) (rest some)
@@ -51,33 +55,41 @@ module _ (buckets_of : SeriesKey → List ℕ) where
       → is_among bucket (buckets_of key) ≡ true → is_among bucket (rows_buckets buckets_of rows) ≡ true
   series_among key [] bucket some among = absurd cc
   series_among key (row ∷ rows) bucket some among =
-      series_at key row rows bucket (same_series key row.key) refl some among (λ there. series_among key rows bucket there among)
+      series_at key row rows bucket (same_series key row.key) refl some among (λ there. series_among key rows bucket
+      there among)
 
   -- ---- the buckets of a replica's rows are those of its history
 
-  some_among : (b : Bool) (rows : List Row) (bucket : ℕ) → is_among bucket (rows_buckets buckets_of (cond b rows [])) ≡ true
+  some_among : (b : Bool) (rows : List Row) (bucket : ℕ) → is_among bucket (rows_buckets buckets_of (cond b rows []))
+      ≡ true
       → is_among bucket (rows_buckets buckets_of rows) ≡ true
   some_among true rows bucket among = among
   some_among false rows bucket among = absurd cc
 
-  entry_among : (range : Range) (slot : Slot) (e : Entry) (bucket : ℕ) → is_among bucket (rows_buckets buckets_of (entry_rows range slot e)) ≡ true
+  entry_among : (range : Range) (slot : Slot) (e : Entry) (bucket : ℕ) → is_among bucket
+      (rows_buckets buckets_of (entry_rows range slot e)) ≡ true
       → is_among bucket (rows_buckets buckets_of (brought_rows e)) ≡ true
-  entry_among range slot (entry.Opened pass other place rows) bucket among = some_among (same_replica range slot other place) rows bucket among
-  entry_among range slot (entry.Put pass other place row) bucket among = some_among (same_replica range slot other place) (row ∷ []) bucket among
+  entry_among range slot (entry.Opened pass other place rows) bucket among =
+      some_among (same_replica range slot other place) rows bucket among
+  entry_among range slot (entry.Put pass other place row) bucket among =
+      some_among (same_replica range slot other place) (row ∷ []) bucket among
   entry_among range slot (entry.Down pass) bucket among = absurd cc
   entry_among range slot (entry.Up pass) bucket among = absurd cc
 
   replica_among : (range : Range) (slot : Slot) (history : List Entry) (bucket : ℕ)
-      → is_among bucket (rows_buckets buckets_of (replica_rows range slot history)) ≡ true → is_among bucket (history_buckets buckets_of history) ≡ true
+      → is_among bucket (rows_buckets buckets_of (replica_rows range slot history)) ≡ true → is_among bucket
+      (history_buckets buckets_of history) ≡ true
   replica_among range slot [] bucket among = absurd cc
   replica_among range slot (e ∷ history) bucket among =
       either_among bucket (brought_rows e) (leaf_rows history)
       ∙ elim (or_cases (is_among bucket (rows_buckets buckets_of (entry_rows range slot e)))
       (is_among bucket (rows_buckets buckets_of (replica_rows range slot history)))
       (sym (either_among bucket (entry_rows range slot e) (replica_rows range slot history)) ∙ among)) [
-        | inl here ↦ or_left (is_among bucket (rows_buckets buckets_of (brought_rows e))) (is_among bucket (history_buckets buckets_of history))
+        | inl here ↦ or_left (is_among bucket (rows_buckets buckets_of (brought_rows e)))
+            (is_among bucket (history_buckets buckets_of history))
             (entry_among range slot e bucket here)
-        | inr there ↦ or_right (is_among bucket (rows_buckets buckets_of (brought_rows e))) (is_among bucket (history_buckets buckets_of history))
+        | inr there ↦ or_right (is_among bucket (rows_buckets buckets_of (brought_rows e)))
+            (is_among bucket (history_buckets buckets_of history))
             (replica_among range slot history bucket there)
       ]
 
@@ -87,15 +99,18 @@ module _ (buckets_of : SeriesKey → List ℕ) where
 
   -- a set that has the buckets of a history has those of the replicas' rows
   pub holds_buckets : (replicas : Replicas) (set : ℕ → Bool) (first left : List Entry) → HoldsHistory replicas first
-      → ((bucket : ℕ) → set bucket ≡ is_among bucket (history_buckets buckets_of (first ++ left))) → HoldsBuckets replicas buckets_of set
+      → ((bucket : ℕ) → set bucket ≡ is_among bucket (history_buckets buckets_of (first ++ left)))
+      → HoldsBuckets replicas buckets_of set
   holds_buckets replicas set first left holds has range slot rows held bucket among =
-      let own = held_is (is_opened range slot first) (replica_rows range slot first) rows (sym (holds range slot) ∙ held) in
+      let own = held_is (is_opened range slot first) (replica_rows range slot first) rows (sym (holds range slot)
+      ∙ held) in
       let here = replica_among range slot first bucket
       (subst (λ (all : List Row). is_among bucket (rows_buckets buckets_of all) ≡ true) (sym own) among) in
       has bucket
       ∙ ap (λ (all : List Row). is_among bucket (rows_buckets buckets_of all)) (flat_map-append brought_rows first left)
       ∙ either_among bucket (leaf_rows first) (leaf_rows left)
-      ∙ or_left (is_among bucket (history_buckets buckets_of first)) (is_among bucket (history_buckets buckets_of left)) here
+      ∙ or_left (is_among bucket (history_buckets buckets_of first))
+      (is_among bucket (history_buckets buckets_of left)) here
 
   in_set : (old : Bool) (more : Bool) → (more ≡ true → old ≡ true) → old ≡ (old || more)
   in_set true more have = refl
@@ -103,7 +118,8 @@ module _ (buckets_of : SeriesKey → List ℕ) where
   in_set false false have = refl
 
   -- an entry of a known series adds none
-  pub known_adds : (replicas : Replicas) (set : ℕ → Bool) (e : Entry) → HoldsBuckets replicas buckets_of set → IsKnown replicas e
+  pub known_adds : (replicas : Replicas) (set : ℕ → Bool) (e : Entry) → HoldsBuckets replicas buckets_of set
+      → IsKnown replicas e
       → Adds set set (rows_buckets buckets_of (brought_rows e))
   known_adds replicas set (entry.Opened pass range slot rows) holds known bucket = absurd known
   known_adds replicas set (entry.Put pass range slot row) holds known bucket =

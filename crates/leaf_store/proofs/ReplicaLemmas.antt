@@ -1,5 +1,6 @@
 -- How the replicas that are kept grow, and follow a history.
-use Rattle.std.proofs.Common.{◌≡◌, ◌∙◌, ℕ, zero, suc, Bool, true, false, cond, ◌||◌, Option, Some, None, option_map, List, [], ◌∷◌, ◌++◌, map, length, position, slice_get, refl, sym, ap, append-nil}
+use Rattle.std.proofs.Common.{◌≡◌, ◌∙◌, ℕ, zero, suc, Bool, true, false, cond, ◌||◌, Option, Some, None, option_map}
+use Rattle.std.proofs.Common.{List, [], ◌∷◌, ◌++◌, map, length, position, slice_get, refl, sym, ap, append-nil}
 use Rattle.std.specs.Map.{keys_of}
 use Rattle.indexmap.specs.Layout.{set_value_at}
 use Rattle.mon_hints.proofs.TruthLemmas.{or_false}
@@ -14,7 +15,8 @@ use Rattle.leaf_store.specs.contracts.replicas.ReplicaPartialEq.TheImpl as deriv
 use Rattle.leaf_store.specs.declared.replicas.Replica.{Replica}
 use Rattle.leaf_store.specs.within.Replicas.{HoldsHistory, IsPut, Replicas, rows_held}
 use Rattle.mon_series.proofs.FirstLemmas.{IsFirst, first_found, first_position, get_there}
-use Rattle.mon_value.proofs.LeafHistoryLemmas.{no_rows, opened_more, opened_same, parts_same, replica_rows-push, same_tests}
+use Rattle.mon_value.proofs.LeafHistoryLemmas.{no_rows, opened_more, opened_same, parts_same, replica_rows-push}
+use Rattle.mon_value.proofs.LeafHistoryLemmas.{same_tests}
 
 -- ---- the test of a replica
 
@@ -36,26 +38,31 @@ own_same replica other same =
 abbrev at_place : Range → Slot → Replica → Bool
 at_place range slot replica = same_replica range slot replica.range replica.slot
 
-grown_here : (b : Bool) (rows more : List Row) (rest : Option (List Row)) → cond b (Some (rows ++ more)) rest ≡ option_map (λ held. held ++ cond b more []) (cond b (Some rows) rest)
+grown_here : (b : Bool) (rows more : List Row) (rest : Option (List Row)) → cond b (Some (rows ++ more)) rest
+    ≡ option_map (λ held. held ++ cond b more []) (cond b (Some rows) rest)
 grown_here true rows more rest = refl
 grown_here false rows more None = refl
 grown_here false rows more (Some held) = ap Some (sym (append-nil held))
 
-grown_behind : (b same : Bool) (rows more : List Row) (rest new : Option (List Row)) → (b ≡ true → same ≡ false) → new ≡ option_map (λ held. held ++ cond same more []) rest
+grown_behind : (b same : Bool) (rows more : List Row) (rest new : Option (List Row)) → (b ≡ true → same ≡ false) → new
+    ≡ option_map (λ held. held ++ cond same more []) rest
     → cond b (Some rows) new ≡ option_map (λ held. held ++ cond same more []) (cond b (Some rows) rest)
 grown_behind true same rows more rest new apart e =
     ap Some (sym (append-nil rows)) ∙ ap (λ c. Some (rows ++ cond c more [])) (sym (apart refl))
 grown_behind false same rows more rest new apart e = e
 
 -- two replicas that are at one place are the same
-apart_at : (range : Range) (slot : Slot) (replica other : Replica) (b : Bool) → own replica other ≡ false → at_place range slot replica ≡ b
+apart_at : (range : Range) (slot : Slot) (replica other : Replica) (b : Bool) → own replica other ≡ false
+    → at_place range slot replica ≡ b
     → at_place range slot other ≡ true → b ≡ false
 apart_at range slot replica other true apart here there =
-    let same : own replica other ≡ true = sym (same_tests range replica.range slot replica.slot here other.range other.slot) ∙ there in
+    let same : own replica other ≡ true = sym (same_tests range replica.range slot replica.slot here other.range
+    other.slot) ∙ there in
     absurd cc
 apart_at range slot replica other false apart here there = refl
 
-grown_rows : (replica : Replica) (replicas : Replicas) (n : ℕ) (rows more : List Row) → IsFirst (own replica) replicas n → slice_get replicas n ≡ Some (replica, rows)
+grown_rows : (replica : Replica) (replicas : Replicas) (n : ℕ) (rows more : List Row) → IsFirst (own replica) replicas
+    n → slice_get replicas n ≡ Some (replica, rows)
     → (range : Range) (slot : Slot) → rows_held (set_value_at replicas n (rows ++ more)) range slot
     ≡ option_map (λ held. held ++ cond (at_place range slot replica) more []) (rows_held replicas range slot)
 grown_rows replica [] n rows more first there range slot = absurd first
@@ -63,17 +70,21 @@ grown_rows replica (e ∷ es) zero rows more first there range slot =
     let same : e ≡ (replica, rows) = cc in
     ap (λ (e : Replica × List Row). cond (at_place range slot e.0) (Some (rows ++ more)) (rows_held es range slot)) same
     ∙ grown_here (at_place range slot replica) rows more (rows_held es range slot)
-    ∙ ap (λ (e : Replica × List Row). option_map (λ held. held ++ cond (at_place range slot replica) more []) (cond (at_place range slot e.0) (Some e.1) (rows_held es range slot))) (sym same)
+    ∙ ap (λ (e : Replica × List Row). option_map (λ held. held ++ cond (at_place range slot replica) more [])
+    (cond (at_place range slot e.0) (Some e.1) (rows_held es range slot))) (sym same)
 grown_rows replica (e ∷ es) (suc n) rows more first there range slot =
-    grown_behind (at_place range slot e.0) (at_place range slot replica) e.1 more (rows_held es range slot) (rows_held (set_value_at es n (rows ++ more)) range slot)
+    grown_behind (at_place range slot e.0) (at_place range slot replica) e.1 more (rows_held es range slot)
+    (rows_held (set_value_at es n (rows ++ more)) range slot)
     (λ is. apart_at range slot replica e.0 (at_place range slot replica) first.0 refl is)
     (grown_rows replica es n rows more first.1 there range slot)
 
-pub is_put : (replicas : Replicas) (replica : Replica) (row : Row) (n place number : ℕ) (rows new : List Row) → position (derived.eq-value.it replica) (keys_of replicas) ≡ Some n
+pub is_put : (replicas : Replicas) (replica : Replica) (row : Row) (n place number : ℕ) (rows new : List Row)
+    → position (derived.eq-value.it replica) (keys_of replicas) ≡ Some n
     → Some rows ≡ slice_get (map (λ e. e.1) replicas) n → place ≡ length rows → new ≡ rows ++ row ∷ [] → number ≡ n
     → IsPut replicas (set_value_at replicas n new) replica row number place
 is_put replicas replica row n place number rows new at found count pushed same =
-    let first : IsFirst (own replica) replicas n = first_position (own replica) replicas n (ap (λ test. position test (keys_of replicas)) (sym (same_test replica)) ∙ at) in
+    let first : IsFirst (own replica) replicas n = first_position (own replica) replicas n
+    (ap (λ test. position test (keys_of replicas)) (sym (same_test replica)) ∙ at) in
     let there = get_there replicas n rows found in
     let key = own_same replica there.0 (first_found (own replica) replicas n there.0 rows first there.1).0 in
     let listed : slice_get replicas n ≡ Some (replica, rows) = there.1 ∙ ap (λ (r : Replica). Some (r, rows)) key in
@@ -88,51 +99,62 @@ is_put replicas replica row n place number rows new at found count pushed same =
 
 -- ---- a replica more
 
-taken_by : (b : Bool) (rows own : List Row) (rest new : Option (List Row)) (same : Bool) → (b ≡ true → same ≡ false) → new ≡ cond same (Some rows) rest
+taken_by : (b : Bool) (rows own : List Row) (rest new : Option (List Row)) (same : Bool) → (b ≡ true → same ≡ false)
+    → new ≡ cond same (Some rows) rest
     → cond b (Some own) new ≡ cond same (Some rows) (cond b (Some own) rest)
 taken_by true rows own rest new true apart e = absurd (let clash = apart refl in cc)
 taken_by true rows own rest new false apart e = refl
 taken_by false rows own rest new same apart e = e
 
-absent_by : (first : Option (List Row)) (b : Bool) (rest : Option (List Row)) → cond b first rest ≡ None → (first ≡ None → ⊥) → (b ≡ false) × (rest ≡ None)
+absent_by : (first : Option (List Row)) (b : Bool) (rest : Option (List Row)) → cond b first rest ≡ None
+    → (first ≡ None → ⊥) → (b ≡ false) × (rest ≡ None)
 absent_by first true rest none some = absurd (some none)
 absent_by first false rest none some = (refl, none)
 
-pub taken_rows : (replicas : Replicas) (replica : Replica) (rows : List Row) → rows_held replicas replica.range replica.slot ≡ None
+pub taken_rows : (replicas : Replicas) (replica : Replica) (rows : List Row) → rows_held replicas replica.range
+    replica.slot ≡ None
     → (range : Range) (slot : Slot) → rows_held (replicas ++ (replica, rows) ∷ []) range slot
     ≡ cond (at_place range slot replica) (Some rows) (rows_held replicas range slot)
 taken_rows [] replica rows fresh range slot = refl
 taken_rows (e ∷ es) replica rows fresh range slot =
     let parts = absent_by (Some e.1) (own replica e.0) (rows_held es replica.range replica.slot) fresh (λ h. cc) in
-    taken_by (at_place range slot e.0) rows e.1 (rows_held es range slot) (rows_held (es ++ (replica, rows) ∷ []) range slot) (at_place range slot replica)
+    taken_by (at_place range slot e.0) rows e.1 (rows_held es range slot) (rows_held (es ++ (replica, rows) ∷ []) range
+    slot) (at_place range slot replica)
     (λ is. apart_at range slot replica e.0 (at_place range slot replica) parts.0 refl is)
     (taken_rows es replica rows parts.1 range slot)
 
 -- ---- a history with one entry more
 
-kept_rows : (b : Bool) (rows more : List Row) → option_map (λ held. held ++ more) (cond b (Some rows) None) ≡ cond b (Some (rows ++ more)) None
+kept_rows : (b : Bool) (rows more : List Row) → option_map (λ held. held ++ more) (cond b (Some rows) None)
+    ≡ cond b (Some (rows ++ more)) None
 kept_rows true rows more = refl
 kept_rows false rows more = refl
 
 -- an entry that opens nothing
-opened_as_before : (range : Range) (slot : Slot) (history : List Entry) (last : Entry) → is_opened range slot (last ∷ []) ≡ false
-    → opened_rows range slot (history ++ last ∷ []) ≡ cond (is_opened range slot history) (Some (replica_rows range slot history ++ entry_rows range slot last)) None
+opened_as_before : (range : Range) (slot : Slot) (history : List Entry) (last : Entry) → is_opened range slot
+    (last ∷ []) ≡ false
+    → opened_rows range slot (history ++ last ∷ []) ≡ cond (is_opened range slot history)
+    (Some (replica_rows range slot history ++ entry_rows range slot last)) None
 opened_as_before range slot history last none =
     let opened : is_opened range slot (history ++ last ∷ []) ≡ is_opened range slot history =
-    opened_more range slot history (last ∷ []) ∙ ap (λ b. is_opened range slot history || b) none ∙ or_false (is_opened range slot history) in
+    opened_more range slot history (last ∷ []) ∙ ap (λ b. is_opened range slot history || b) none
+    ∙ or_false (is_opened range slot history) in
     let rows = replica_rows-push range slot history last in
     λ i. cond (opened i) (Some (rows i)) None
 
 pub holds_put : (old new : Replicas) (history : List Entry) (pass : ℕ) (range : Range) (slot : Slot) (row : Row)
-    → ((other : Range) → (place : Slot) → rows_held new other place ≡ option_map (λ held. held ++ cond (same_replica other place range slot) (row ∷ []) []) (rows_held old other place))
+    → ((other : Range) → (place : Slot) → rows_held new other place ≡ option_map (λ held. held
+    ++ cond (same_replica other place range slot) (row ∷ []) []) (rows_held old other place))
     → HoldsHistory old history → HoldsHistory new (history ++ entry.Put pass range slot row ∷ [])
 holds_put old new history pass range slot row grows held = λ other place.
     grows other place
     ∙ ap (option_map (λ rows. rows ++ entry_rows other place (entry.Put pass range slot row))) (held other place)
-    ∙ kept_rows (is_opened other place history) (replica_rows other place history) (entry_rows other place (entry.Put pass range slot row))
+    ∙ kept_rows (is_opened other place history) (replica_rows other place history)
+    (entry_rows other place (entry.Put pass range slot row))
     ∙ sym (opened_as_before other place history (entry.Put pass range slot row) refl)
 
-pub switch_rows : (range : Range) (slot : Slot) (history : List Entry) (last : Entry) → is_opened range slot (last ∷ []) ≡ false → entry_rows range slot last ≡ []
+pub switch_rows : (range : Range) (slot : Slot) (history : List Entry) (last : Entry) → is_opened range slot
+    (last ∷ []) ≡ false → entry_rows range slot last ≡ []
     → opened_rows range slot (history ++ last ∷ []) ≡ opened_rows range slot history
 switch_rows range slot history last none rows =
     opened_as_before range slot history last none
@@ -141,15 +163,18 @@ switch_rows range slot history last none rows =
 
 -- a replica that is opened had no rows, and another has those that it had
 opened_by : (same opened : Bool) (had rows : List Row) → (same ≡ true → (opened ≡ false) × (had ≡ []))
-    → cond same (Some rows) (cond opened (Some had) None) ≡ cond (opened || (same || false)) (Some (had ++ cond same rows [])) None
+    → cond same (Some rows) (cond opened (Some had) None) ≡ cond (opened || (same || false))
+    (Some (had ++ cond same rows [])) None
 opened_by true true had rows fresh = absurd (let wrong = (fresh refl).0 in cc)
 opened_by true false had rows fresh = ap (λ (front : List Row). Some (front ++ rows)) (sym (fresh refl).1)
 opened_by false true had rows fresh = ap Some (sym (append-nil had))
 opened_by false false had rows fresh = refl
 
-pub holds_opened : (old new : Replicas) (history : List Entry) (pass : ℕ) (range : Range) (slot : Slot) (rows : List Row) → IsWellFormed history
+pub holds_opened : (old new : Replicas) (history : List Entry) (pass : ℕ) (range : Range) (slot : Slot)
+    (rows : List Row) → IsWellFormed history
     → is_opened range slot history ≡ false → HoldsHistory old history
-    → ((other : Range) → (place : Slot) → rows_held new other place ≡ cond (same_replica other place range slot) (Some rows) (rows_held old other place))
+    → ((other : Range) → (place : Slot) → rows_held new other place ≡ cond (same_replica other place range slot)
+    (Some rows) (rows_held old other place))
     → HoldsHistory new (history ++ entry.Opened pass range slot rows ∷ [])
 holds_opened old new history pass range slot rows formed fresh held takes = λ other place.
     let same = same_replica other place range slot in
@@ -159,5 +184,6 @@ holds_opened old new history pass range slot rows formed fresh held takes = λ o
     takes other place
     ∙ ap (cond same (Some rows)) (held other place)
     ∙ opened_by same (is_opened other place history) (replica_rows other place history) rows
-    (λ is. let never : is_opened other place history ≡ false = opened_same other range place slot history is ∙ fresh in (never, no_rows other place history formed never))
+    (λ is. let never : is_opened other place history ≡ false = opened_same other range place slot history is ∙ fresh in
+    (never, no_rows other place history formed never))
     ∙ sym (λ i. cond (opened i) (Some (all i)) None)

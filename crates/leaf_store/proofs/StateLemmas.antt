@@ -1,5 +1,6 @@
 -- A leaf's state after an entry more.
-use Rattle.std.proofs.Common.{◌≡◌, ◌∙◌, ◌≤◌, ◌<◌, ◌+◌, ◌-◌, ℕ, zero, suc, Bool, true, false, cond, ◌||◌, ◌==◌, List, [], ◌∷◌, ◌++◌, length, drop, refl, sym, ap, subst, append_assoc, arith}
+use Rattle.std.proofs.Common.{◌≡◌, ◌∙◌, ◌≤◌, ◌<◌, ◌+◌, ◌-◌, ℕ, zero, suc, Bool, true, false, cond, ◌||◌, ◌==◌, List}
+use Rattle.std.proofs.Common.{[], ◌∷◌, ◌++◌, length, drop, refl, sym, ap, subst, append_assoc, arith}
 use Rattle.std.specs.List.{count_by}
 use Rattle.std.proofs.lemmas.List.{drop-append-le, length-append, length-drop}
 use Rattle.std.proofs.lemmas.List.Folds.{list_any-append}
@@ -26,10 +27,13 @@ use Rattle.mon_value.proofs.LeafHistoryLemmas.{down_push, follows}
 pub history_push : (first fresh : List Entry) (moved : ℕ) (last : Entry) → moved ≤ length fresh
     → first ++ drop moved (fresh ++ last ∷ []) ≡ (first ++ drop moved fresh) ++ last ∷ []
 history_push first fresh moved last within =
-    ap (λ (left : List Entry). first ++ left) (drop-append-le moved fresh (last ∷ []) within) ∙ sym (append_assoc first (drop moved fresh) (last ∷ []))
+    ap (λ (left : List Entry). first ++ left) (drop-append-le moved fresh (last ∷ []) within)
+    ∙ sym (append_assoc first (drop moved fresh) (last ∷ []))
 
-pub holds_push : (replicas : Replicas) (ks : List Kept) (fresh : List Entry) (moved : ℕ) (last : Entry) → moved ≤ length fresh → Holds replicas ks (drop moved fresh)
-    → IsWellFormed ((shown replicas ks ++ drop moved fresh) ++ last ∷ []) → Holds replicas ks (drop moved (fresh ++ last ∷ []))
+pub holds_push : (replicas : Replicas) (ks : List Kept) (fresh : List Entry) (moved : ℕ) (last : Entry) → moved
+    ≤ length fresh → Holds replicas ks (drop moved fresh)
+    → IsWellFormed ((shown replicas ks ++ drop moved fresh) ++ last ∷ []) → Holds replicas ks
+    (drop moved (fresh ++ last ∷ []))
 holds_push replicas ks fresh moved last within holds formed = record {
   there = holds.there;
   formed = subst IsWellFormed (sym (history_push (shown replicas ks) fresh moved last within)) formed;
@@ -38,7 +42,8 @@ holds_push replicas ks fresh moved last within holds formed = record {
 
 -- ---- switches
 
-pub down_switch : (history : List Entry) (last : Entry) (down : Bool) → ((before : Bool) → is_down_after before (last ∷ []) ≡ down) → down ≡ is_down (history ++ last ∷ [])
+pub down_switch : (history : List Entry) (last : Entry) (down : Bool)
+    → ((before : Bool) → is_down_after before (last ∷ []) ≡ down) → down ≡ is_down (history ++ last ∷ [])
 down_switch history last down says = sym (down_push false history last ∙ says (is_down history))
 
 plain_down : (last : Entry) (before : Bool) → is_switch last ≡ false → is_down_after before (last ∷ []) ≡ before
@@ -47,10 +52,12 @@ plain_down (entry.Put pass range slot row) before is = refl
 plain_down (entry.Down pass) before is = absurd cc
 plain_down (entry.Up pass) before is = absurd cc
 
-pub down_plain : (history : List Entry) (last : Entry) (down : Bool) → is_switch last ≡ false → down ≡ is_down history → down ≡ is_down (history ++ last ∷ [])
+pub down_plain : (history : List Entry) (last : Entry) (down : Bool) → is_switch last ≡ false → down ≡ is_down history
+    → down ≡ is_down (history ++ last ∷ [])
 down_plain history last down is same = same ∙ sym (down_push false history last ∙ plain_down last (is_down history) is)
 
-pub count_push : (history : List Entry) (last : Entry) → count_by is_switch (history ++ last ∷ []) ≡ count_by is_switch history + count_by is_switch (last ∷ [])
+pub count_push : (history : List Entry) (last : Entry) → count_by is_switch (history ++ last ∷ []) ≡ count_by is_switch
+    history + count_by is_switch (last ∷ [])
 count_push history last = sum_by-append (λ e. cond (is_switch e) 1 0) history (last ∷ [])
 
 one_switch : (last : Entry) (b : Bool) → is_switch last ≡ b → count_by is_switch (last ∷ []) ≡ cond b 1 0
@@ -59,15 +66,19 @@ one_switch (entry.Put pass range slot row) b is = ap (λ c. cond c 1 0) is
 one_switch (entry.Down pass) b is = ap (λ c. cond c 1 0) is
 one_switch (entry.Up pass) b is = ap (λ c. cond c 1 0) is
 
-pub count_switch : (history : List Entry) (last : Entry) → is_switch last ≡ true → count_by is_switch (history ++ last ∷ []) ≡ count_by is_switch history + 1
-count_switch history last is = count_push history last ∙ ap (λ n. count_by is_switch history + n) (one_switch last true is)
+pub count_switch : (history : List Entry) (last : Entry) → is_switch last ≡ true → count_by is_switch
+    (history ++ last ∷ []) ≡ count_by is_switch history + 1
+count_switch history last is = count_push history last ∙ ap (λ n. count_by is_switch history + n)
+    (one_switch last true is)
 
-pub count_plain : (history : List Entry) (last : Entry) → is_switch last ≡ false → count_by is_switch (history ++ last ∷ []) ≡ count_by is_switch history
+pub count_plain : (history : List Entry) (last : Entry) → is_switch last ≡ false → count_by is_switch
+    (history ++ last ∷ []) ≡ count_by is_switch history
 count_plain history last is =
     let one = count_push history last ∙ ap (λ n. count_by is_switch history + n) (one_switch last false is) in
     let none : count_by is_switch history + 0 ≡ count_by is_switch history = omega arith in one ∙ none
 
-pub waits_push : (left : List Entry) (last : Entry) → is_switch last ≡ true → AllSwitches left → AllSwitches (left ++ last ∷ [])
+pub waits_push : (left : List Entry) (last : Entry) → is_switch last ≡ true → AllSwitches left
+    → AllSwitches (left ++ last ∷ [])
 waits_push [] last is all = (is, tt)
 waits_push (e ∷ left) last is all = (all.0, waits_push left last is all.1)
 
@@ -75,49 +86,62 @@ waits_push (e ∷ left) last is all = (all.0, waits_push left last is all.1)
 
 -- the set of a history's buckets
 abbrev pub HasBuckets : (ℕ → Bool) → ℕ → SchemaLists → List Entry → Type 0
-HasBuckets set buckets held history = (bucket : ℕ) → set bucket ≡ is_among bucket (history_buckets (key_buckets buckets held) history)
+HasBuckets set buckets held history = (bucket : ℕ) → set bucket ≡ is_among bucket
+    (history_buckets (key_buckets buckets held) history)
 
-no_rows : (buckets : ℕ) (held : SchemaLists) (last : Entry) → is_switch last ≡ true → rows_buckets (key_buckets buckets held) (brought_rows last) ≡ []
+no_rows : (buckets : ℕ) (held : SchemaLists) (last : Entry) → is_switch last ≡ true
+    → rows_buckets (key_buckets buckets held) (brought_rows last) ≡ []
 no_rows buckets held (entry.Opened pass range slot rows) is = absurd cc
 no_rows buckets held (entry.Put pass range slot row) is = absurd cc
 no_rows buckets held (entry.Down pass) is = refl
 no_rows buckets held (entry.Up pass) is = refl
 
-pub raised_push : (old new : ℕ → Bool) (buckets : ℕ) (held : SchemaLists) (history : List Entry) (last : Entry) → HasBuckets old buckets held history
-    → Adds old new (rows_buckets (key_buckets buckets held) (brought_rows last)) → HasBuckets new buckets held (history ++ last ∷ [])
+pub raised_push : (old new : ℕ → Bool) (buckets : ℕ) (held : SchemaLists) (history : List Entry) (last : Entry)
+    → HasBuckets old buckets held history
+    → Adds old new (rows_buckets (key_buckets buckets held) (brought_rows last)) → HasBuckets new buckets held
+    (history ++ last ∷ [])
 raised_push old new buckets held history last has adds bucket =
     let own = rows_buckets (key_buckets buckets held) (brought_rows last) in
     adds bucket ∙ ap (λ b. b || is_among bucket own) (has bucket)
-    ∙ sym (ap (is_among bucket) (history_more buckets held history last) ∙ list_any-append (λ other. bucket == other) (history_buckets (key_buckets buckets held) history) own)
+    ∙ sym (ap (is_among bucket) (history_more buckets held history last) ∙ list_any-append (λ other. bucket == other)
+    (history_buckets (key_buckets buckets held) history) own)
 
-pub raised_switch : (set : ℕ → Bool) (buckets : ℕ) (held : SchemaLists) (history : List Entry) (last : Entry) → is_switch last ≡ true
+pub raised_switch : (set : ℕ → Bool) (buckets : ℕ) (held : SchemaLists) (history : List Entry) (last : Entry)
+    → is_switch last ≡ true
     → HasBuckets set buckets held history → HasBuckets set buckets held (history ++ last ∷ [])
 raised_switch set buckets held history last is has =
     raised_push set set buckets held history last has
-    (λ bucket. sym (ap (λ (own : List ℕ). set bucket || is_among bucket own) (no_rows buckets held last is) ∙ or_false (set bucket)))
+    (λ bucket. sym (ap (λ (own : List ℕ). set bucket || is_among bucket own) (no_rows buckets held last is)
+    ∙ or_false (set bucket)))
 
 -- ---- the length of a history
 
-pub history_count : (replicas : Replicas) (ks : List Kept) (fresh : List Entry) (moved : ℕ) → AllThere replicas ks → moved ≤ length fresh
+pub history_count : (replicas : Replicas) (ks : List Kept) (fresh : List Entry) (moved : ℕ) → AllThere replicas ks
+    → moved ≤ length fresh
     → length ks + (length fresh - moved) ≡ length (shown replicas ks ++ drop moved fresh)
 history_count replicas ks fresh moved there within =
-    (λ i. sym (shown_count replicas ks there) i + sym (length-drop moved fresh) i) ∙ sym (length-append (shown replicas ks) (drop moved fresh))
+    (λ i. sym (shown_count replicas ks there) i + sym (length-drop moved fresh) i)
+    ∙ sym (length-append (shown replicas ks) (drop moved fresh))
 
 -- ---- a leaf to which nothing happened
 
-pub nothing_holds : (replicas : Replicas) (ks : List Kept) (fresh : List Entry) → replicas ≡ [] → ks ≡ [] → fresh ≡ [] → Holds replicas ks (drop 0 fresh)
+pub nothing_holds : (replicas : Replicas) (ks : List Kept) (fresh : List Entry) → replicas ≡ [] → ks ≡ [] → fresh ≡ []
+    → Holds replicas ks (drop 0 fresh)
 nothing_holds replicas ks fresh none kept left =
     subst (λ (rs : Replicas). Holds rs ks (drop 0 fresh)) (sym none)
     (subst (λ (all : List Kept). Holds [] all (drop 0 fresh)) (sym kept)
-    (subst (λ (es : List Entry). Holds [] [] (drop 0 es)) (sym left) (record { there = tt; formed = tt; holds = λ range slot. refl })))
+    (subst (λ (es : List Entry). Holds [] [] (drop 0 es)) (sym left)
+    (record { there = tt; formed = tt; holds = λ range slot. refl })))
 
-pub no_history : (replicas : Replicas) (ks : List Kept) (fresh : List Entry) → replicas ≡ [] → ks ≡ [] → fresh ≡ [] → shown replicas ks ++ drop 0 fresh ≡ []
+pub no_history : (replicas : Replicas) (ks : List Kept) (fresh : List Entry) → replicas ≡ [] → ks ≡ [] → fresh ≡ []
+    → shown replicas ks ++ drop 0 fresh ≡ []
 no_history replicas ks fresh none kept left = λ i. shown (none i) (kept i) ++ drop 0 (left i)
 
 -- ---- entries that were brought
 
 -- fewer entries are switches too
-pub later_switches : (entries : List Entry) (m n : ℕ) → m ≤ n → AllSwitches (drop m entries) → AllSwitches (drop n entries)
+pub later_switches : (entries : List Entry) (m n : ℕ) → m ≤ n → AllSwitches (drop m entries)
+    → AllSwitches (drop n entries)
 later_switches [] zero zero below all = tt
 later_switches [] zero (suc n) below all = tt
 later_switches [] (suc m) zero below all = tt
@@ -129,11 +153,13 @@ later_switches (e ∷ entries) (suc m) (suc n) below all = later_switches entrie
 
 -- ---- a switch may come only so often
 
-may_switch : (history : List Entry) (last : Entry) → is_switch last ≡ true → MayFollow history last → count_by is_switch history < MOST_SWITCHES
+may_switch : (history : List Entry) (last : Entry) → is_switch last ≡ true → MayFollow history last
+    → count_by is_switch history < MOST_SWITCHES
 may_switch history (entry.Opened pass range slot rows) is may = absurd cc
 may_switch history (entry.Put pass range slot row) is may = absurd cc
 may_switch history (entry.Down pass) is may = may.1
 may_switch history (entry.Up pass) is may = may.1
 
-pub switch_room : (history : List Entry) (last : Entry) → is_switch last ≡ true → IsWellFormed (history ++ last ∷ []) → count_by is_switch history < MOST_SWITCHES
+pub switch_room : (history : List Entry) (last : Entry) → is_switch last ≡ true → IsWellFormed (history ++ last ∷ [])
+    → count_by is_switch history < MOST_SWITCHES
 switch_room history last is formed = may_switch history last is (follows history last [] formed)

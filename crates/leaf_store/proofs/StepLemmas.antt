@@ -1,5 +1,7 @@
 -- Entries that are brought to their replicas one by one, and the rows that entries bring.
-use Rattle.std.proofs.Common.{◌≡◌, ◌∙◌, ◌≤◌, ◌<◌, ◌+◌, ◌-◌, ℕ, zero, suc, Bool, true, false, cond, Option, Some, None, IfSome, List, [], ◌∷◌, ◌++◌, length, take, get_or, slice_get, refl, sym, ap, subst, append_assoc, append-nil, arith}
+use Rattle.std.proofs.Common.{◌≡◌, ◌∙◌, ◌≤◌, ◌<◌, ◌+◌, ◌-◌, ℕ, zero, suc, Bool, true, false, cond, Option, Some, None}
+use Rattle.std.proofs.Common.{IfSome, List, [], ◌∷◌, ◌++◌, length, take, get_or, slice_get, refl, sym, ap, subst}
+use Rattle.std.proofs.Common.{append_assoc, append-nil, arith}
 use Rattle.std.specs.Prelude.{is_some}
 use Rattle.std.proofs.lemmas.List.{length-append, take-append-le, take_more}
 use Rattle.std.proofs.lemmas.Option.{get_or_from_slice_get, slice_get_within}
@@ -15,7 +17,8 @@ use Rattle.mon_value.specs.declared.rows.Row.{Row}
 use Rattle.leaf_store.specs.LeafStates.{opened_rows}
 use Rattle.leaf_store.specs.declared.kept.Kept.{Kept}
 use Rattle.leaf_store.specs.declared.replicas.Replica.{Replica}
-use Rattle.leaf_store.specs.within.Replicas.{AllThere, CanPut, CanSettle, Holds, HoldsHistory, IsNew, Replicas, Settles, all_rows, entry_of, rows_held, shown}
+use Rattle.leaf_store.specs.within.Replicas.{AllThere, CanPut, CanSettle, Holds, HoldsHistory, IsNew, Replicas}
+use Rattle.leaf_store.specs.within.Replicas.{Settles, all_rows, entry_of, rows_held, shown}
 use Rattle.leaf_store.specs.within.States.{AllSwitches}
 use Rattle.leaf_store.proofs.EntryLemmas.{shown_count, shown_kept, shown_push, shown_take, there_push}
 use Rattle.mon_value.proofs.LeafHistoryLemmas.{follows, front, no_rows, replica_rows-push}
@@ -23,7 +26,8 @@ use Rattle.leaf_store.proofs.ReplicaLemmas.{switch_rows}
 
 -- ---- one entry
 
-pub can_settle : (replicas : Replicas) (ks : List Kept) (e : Entry) (rest : List Entry) → Holds replicas ks (e ∷ rest) → CanSettle replicas e
+pub can_settle : (replicas : Replicas) (ks : List Kept) (e : Entry) (rest : List Entry) → Holds replicas ks (e ∷ rest)
+    → CanSettle replicas e
 can_settle replicas ks e rest holds = record {
   history = shown replicas ks;
   formed = front (shown replicas ks) (e ∷ rest) holds.formed;
@@ -31,7 +35,8 @@ can_settle replicas ks e rest holds = record {
   follows = follows (shown replicas ks) e rest holds.formed;
 }
 
-pub settled : (old new : Replicas) (ks : List Kept) (own : Kept) (e : Entry) (rest : List Entry) → Holds old ks (e ∷ rest) → Settles old new e own
+pub settled : (old new : Replicas) (ks : List Kept) (own : Kept) (e : Entry) (rest : List Entry)
+    → Holds old ks (e ∷ rest) → Settles old new e own
     → Holds new (ks ++ own ∷ []) rest × (shown new (ks ++ own ∷ []) ++ rest ≡ shown old ks ++ e ∷ rest)
 settled old new ks own e rest holds settles =
     let stays = shown_kept old new ks settles.keeps holds.there in
@@ -43,7 +48,8 @@ settled old new ks own e rest holds settles =
         there = there_push new ks own e settles.own_is stays.1;
         formed = subst IsWellFormed (sym all) holds.formed;
         holds = subst (HoldsHistory new) (sym now)
-            (settles.holds (shown old ks) (front (shown old ks) (e ∷ rest) holds.formed) (follows (shown old ks) e rest holds.formed) holds.holds);
+            (settles.holds (shown old ks) (front (shown old ks) (e ∷ rest) holds.formed)
+            (follows (shown old ks) e rest holds.formed) holds.holds);
       },
       all,
     )
@@ -58,30 +64,36 @@ unopened_held : (b : Bool) (rows : List Row) → b ≡ false → cond b (Some ro
 unopened_held true rows e = absurd cc
 unopened_held false rows e = refl
 
-pub can_put : (replicas : Replicas) (pass : ℕ) (replica : Replica) (row : Row) → CanSettle replicas (entry.Put pass replica.range replica.slot row)
+pub can_put : (replicas : Replicas) (pass : ℕ) (replica : Replica) (row : Row) → CanSettle replicas
+    (entry.Put pass replica.range replica.slot row)
     → CanPut replicas replica row
 can_put replicas pass replica row can =
     let rows = replica_rows replica.range replica.slot can.history in (
       rows,
-      can.holds replica.range replica.slot ∙ opened_held (is_opened replica.range replica.slot can.history) rows can.follows.1,
+      can.holds replica.range replica.slot ∙ opened_held (is_opened replica.range replica.slot can.history) rows
+          can.follows.1,
       source_later rows row can.follows.2,
     )
 
-pub is_new : (replicas : Replicas) (pass : ℕ) (replica : Replica) (rows : List Row) → CanSettle replicas (entry.Opened pass replica.range replica.slot rows)
+pub is_new : (replicas : Replicas) (pass : ℕ) (replica : Replica) (rows : List Row) → CanSettle replicas
+    (entry.Opened pass replica.range replica.slot rows)
     → IsNew replicas replica
 is_new replicas pass replica rows can =
     can.holds replica.range replica.slot
-    ∙ unopened_held (is_opened replica.range replica.slot can.history) (replica_rows replica.range replica.slot can.history) can.follows.1
+    ∙ unopened_held (is_opened replica.range replica.slot can.history) (replica_rows replica.range replica.slot
+    can.history) can.follows.1
 
 -- ---- entries without rows
 
-switch_opens : (range : Range) (slot : Slot) (e : Entry) → is_switch e ≡ true → (is_opened range slot (e ∷ []) ≡ false) × (entry_rows range slot e ≡ [])
+switch_opens : (range : Range) (slot : Slot) (e : Entry) → is_switch e ≡ true → (is_opened range slot (e ∷ []) ≡ false)
+    × (entry_rows range slot e ≡ [])
 switch_opens range slot (entry.Opened pass other place rows) is = absurd cc
 switch_opens range slot (entry.Put pass other place row) is = absurd cc
 switch_opens range slot (entry.Down pass) is = (refl, refl)
 switch_opens range slot (entry.Up pass) is = (refl, refl)
 
-pub switches_rows : (range : Range) (slot : Slot) (history left : List Entry) → AllSwitches left → opened_rows range slot (history ++ left) ≡ opened_rows range slot history
+pub switches_rows : (range : Range) (slot : Slot) (history left : List Entry) → AllSwitches left → opened_rows range
+    slot (history ++ left) ≡ opened_rows range slot history
 switches_rows range slot history [] all = ap (opened_rows range slot) (append-nil history)
 switches_rows range slot history (e ∷ left) all =
     let none = switch_opens range slot e all.0 in
@@ -91,67 +103,84 @@ switches_rows range slot history (e ∷ left) all =
 
 -- ---- the rows of entries, one entry more
 
-pub brought_more : (range : Range) (slot : Slot) (before rows more : List Row) (es : List Entry) (e : Entry) → rows ≡ before ++ replica_rows range slot es
+pub brought_more : (range : Range) (slot : Slot) (before rows more : List Row) (es : List Entry) (e : Entry) → rows
+    ≡ before ++ replica_rows range slot es
     → more ≡ rows ++ entry_rows range slot e → more ≡ before ++ replica_rows range slot (es ++ e ∷ [])
 brought_more range slot before rows more es e so_far added =
     added ∙ ap (λ (all : List Row). all ++ entry_rows range slot e) so_far
     ∙ append_assoc before (replica_rows range slot es) (entry_rows range slot e)
     ∙ ap (λ (all : List Row). before ++ all) (sym (replica_rows-push range slot es e))
 
-kept_by : (range : Range) (slot : Slot) (before rows more : List Row) (replicas : Replicas) (ks : List Kept) (k : Kept) (o : Option Entry) → entry_of replicas k ≡ o
-    → is_some o ≡ true → IfSome o (λ e. more ≡ rows ++ entry_rows range slot e) → rows ≡ before ++ replica_rows range slot (shown replicas ks)
+kept_by : (range : Range) (slot : Slot) (before rows more : List Row) (replicas : Replicas) (ks : List Kept) (k : Kept)
+    (o : Option Entry) → entry_of replicas k ≡ o
+    → is_some o ≡ true → IfSome o (λ e. more ≡ rows ++ entry_rows range slot e) → rows ≡ before ++ replica_rows range
+    slot (shown replicas ks)
     → more ≡ before ++ replica_rows range slot (shown replicas (ks ++ k ∷ []))
 kept_by range slot before rows more replicas ks k None is there added so_far = absurd cc
 kept_by range slot before rows more replicas ks k (Some e) is there added so_far =
     brought_more range slot before rows more (shown replicas ks) e so_far added
     ∙ ap (λ (es : List Entry). before ++ replica_rows range slot es) (sym (shown_push replicas ks k e is))
 
-pub kept_more : (range : Range) (slot : Slot) (before rows more : List Row) (replicas : Replicas) (ks : List Kept) (k : Kept) → is_some (entry_of replicas k) ≡ true
-    → IfSome (entry_of replicas k) (λ e. more ≡ rows ++ entry_rows range slot e) → rows ≡ before ++ replica_rows range slot (shown replicas ks)
+pub kept_more : (range : Range) (slot : Slot) (before rows more : List Row) (replicas : Replicas) (ks : List Kept)
+    (k : Kept) → is_some (entry_of replicas k) ≡ true
+    → IfSome (entry_of replicas k) (λ e. more ≡ rows ++ entry_rows range slot e) → rows ≡ before ++ replica_rows range
+    slot (shown replicas ks)
     → more ≡ before ++ replica_rows range slot (shown replicas (ks ++ k ∷ []))
 kept_more range slot before rows more replicas ks k there added so_far =
     kept_by range slot before rows more replicas ks k (entry_of replicas k) refl there added so_far
 
-pub there_at : (replicas : Replicas) (ks : List Kept) (i : ℕ) (d : Kept) → AllThere replicas ks → i < length ks → is_some (entry_of replicas (get_or ks i d)) ≡ true
+pub there_at : (replicas : Replicas) (ks : List Kept) (i : ℕ) (d : Kept) → AllThere replicas ks → i < length ks
+    → is_some (entry_of replicas (get_or ks i d)) ≡ true
 there_at replicas [] i d there below = absurd (omega arith)
 there_at replicas (k ∷ ks) zero d there below = there.0
 there_at replicas (k ∷ ks) (suc i) d there below = there_at replicas ks i d there.1 (omega arith)
 
-pub kept_next : (range : Range) (slot : Slot) (rows more : List Row) (replicas : Replicas) (ks : List Kept) (i : ℕ) (k : Kept) → AllThere replicas ks → slice_get ks i ≡ Some k
-    → IfSome (entry_of replicas k) (λ e. more ≡ rows ++ entry_rows range slot e) → rows ≡ replica_rows range slot (shown replicas (take i ks))
+pub kept_next : (range : Range) (slot : Slot) (rows more : List Row) (replicas : Replicas) (ks : List Kept) (i : ℕ)
+    (k : Kept) → AllThere replicas ks → slice_get ks i ≡ Some k
+    → IfSome (entry_of replicas k) (λ e. more ≡ rows ++ entry_rows range slot e) → rows ≡ replica_rows range slot
+    (shown replicas (take i ks))
     → more ≡ replica_rows range slot (shown replicas (take (i + 1) ks))
 kept_next range slot rows more replicas ks i k there is added so_far =
     let below = slice_get_within ks i k is in
     let same : get_or ks i k ≡ k = get_or_from_slice_get ks i k k is in
     kept_more range slot [] rows more replicas (take i ks) k
-    (subst (λ (own : Kept). is_some (entry_of replicas own) ≡ true) same (there_at replicas ks i k there below)) added so_far
+    (subst (λ (own : Kept). is_some (entry_of replicas own) ≡ true) same (there_at replicas ks i k there below)) added
+    so_far
     ∙ ap (λ (es : List Kept). replica_rows range slot (shown replicas es))
     (ap (λ (own : Kept). take i ks ++ own ∷ []) (sym same) ∙ sym (take_more ks i k below))
 
 -- a list's first so many and the next one
-pub take_next : (rows : List Row) (n : ℕ) (row : Row) → slice_get rows n ≡ Some row → take (n + 1) rows ≡ take n rows ++ row ∷ []
+pub take_next : (rows : List Row) (n : ℕ) (row : Row) → slice_get rows n ≡ Some row → take (n + 1) rows ≡ take n rows
+    ++ row ∷ []
 take_next rows n row e =
-    take_more rows n row (slice_get_within rows n row e) ∙ ap (λ (r : Row). take n rows ++ r ∷ []) (get_or_from_slice_get rows n row row e)
+    take_more rows n row (slice_get_within rows n row e) ∙ ap (λ (r : Row). take n rows ++ r ∷ [])
+    (get_or_from_slice_get rows n row row e)
 
 -- ---- rows of the first so many entries
 
-pub rows_early : (range : Range) (slot : Slot) (replicas : Replicas) (ks : List Kept) (left : List Entry) (cut : ℕ) → AllThere replicas ks → cut < length ks
-    → replica_rows range slot (shown replicas (take cut ks)) ≡ replica_rows range slot (take cut (shown replicas ks ++ left))
+pub rows_early : (range : Range) (slot : Slot) (replicas : Replicas) (ks : List Kept) (left : List Entry) (cut : ℕ)
+    → AllThere replicas ks → cut < length ks
+    → replica_rows range slot (shown replicas (take cut ks)) ≡ replica_rows range slot
+    (take cut (shown replicas ks ++ left))
 rows_early range slot replicas ks left cut there less =
     let within : cut ≤ length (shown replicas ks) = omega (arith, less, shown_count replicas ks there) in
-    ap (replica_rows range slot) ((shown_take replicas ks cut there).0 ∙ sym (take-append-le cut (shown replicas ks) left within))
+    ap (replica_rows range slot) ((shown_take replicas ks cut there).0
+    ∙ sym (take-append-le cut (shown replicas ks) left within))
 
-held_all : (b : Bool) (own : List Row) (rows : Option (List Row)) → rows ≡ cond b (Some own) None → (b ≡ false → own ≡ []) → all_rows rows ≡ own
+held_all : (b : Bool) (own : List Row) (rows : Option (List Row)) → rows ≡ cond b (Some own) None
+    → (b ≡ false → own ≡ []) → all_rows rows ≡ own
 held_all true own rows is none = ap all_rows is
 held_all false own rows is none = ap all_rows is ∙ sym (none refl)
 
-pub rows_late : (range : Range) (slot : Slot) (replicas : Replicas) (ks : List Kept) (left : List Entry) (cut : ℕ) → Holds replicas ks left → length ks ≤ cut
+pub rows_late : (range : Range) (slot : Slot) (replicas : Replicas) (ks : List Kept) (left : List Entry) (cut : ℕ)
+    → Holds replicas ks left → length ks ≤ cut
     → all_rows (rows_held replicas range slot) ++ replica_rows range slot (take (cut - length ks) left)
     ≡ replica_rows range slot (take cut (shown replicas ks ++ left))
 rows_late range slot replicas ks left cut holds more =
     let first = shown replicas ks in
     let count = shown_count replicas ks holds.there in
-    let all = held_all (is_opened range slot first) (replica_rows range slot first) (rows_held replicas range slot) (holds.holds range slot)
+    let all = held_all (is_opened range slot first) (replica_rows range slot first) (rows_held replicas range slot)
+    (holds.holds range slot)
     (λ never. no_rows range slot first (front first left holds.formed) never) in
     let sum : cut ≡ length first + (cut - length ks) = omega (arith, more, count) in
     ap (λ (rows : List Row). rows ++ replica_rows range slot (take (cut - length ks) left)) all
@@ -160,7 +189,8 @@ rows_late range slot replicas ks left cut holds more =
     ∙ ap (λ n. replica_rows range slot (take n (first ++ left))) (sym sum)
 
 -- what is left of a cut behind the entries that are kept is among those that are left
-pub cut_left : (replicas : Replicas) (ks : List Kept) (left : List Entry) (cut : ℕ) → AllThere replicas ks → cut ≤ length (shown replicas ks ++ left)
+pub cut_left : (replicas : Replicas) (ks : List Kept) (left : List Entry) (cut : ℕ) → AllThere replicas ks → cut
+    ≤ length (shown replicas ks ++ left)
     → length ks ≤ cut → cut - length ks ≤ length left
 cut_left replicas ks left cut there within more =
     let count = length-append (shown replicas ks) left in

@@ -1,3 +1,4 @@
 pub mod LeafBuckets
+pub mod LeafLists
 pub mod LeafStates
 pub mod within

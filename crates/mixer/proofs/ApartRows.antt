@@ -1,6 +1,7 @@
 -- Operations on rows of two sides that share no home: what they make of both is what they make of the one, and then
 -- what they make of the other.
-use Rattle.std.proofs.Common.{◌≡◌, ◌∙◌, ℕ, Bool, true, false, cond, List, [], ◌∷◌, ◌++◌, map, append-nil, refl, sym, ap, subst}
+use Rattle.std.proofs.Common.{◌≡◌, ◌∙◌, ℕ, Bool, true, false, cond, List, [], ◌∷◌, ◌++◌, map, append-nil, refl, sym}
+use Rattle.std.proofs.Common.{ap, subst}
 use Rattle.std.specs.List.{AllByRecursion, filter, flat_map}
 use Rattle.std.proofs.lemmas.Bool.{false_from_ne_true}
 use Rattle.std.proofs.lemmas.List.{map-append}
@@ -48,7 +49,8 @@ module _ (P Q : SeriesKey → Type 0) (apart : (key : SeriesKey) → P key → Q
       → aligned_rows by grid (xs ++ ys) ≡ aligned_rows by grid xs ++ aligned_rows by grid ys
   aligned-apart by grid xs ys p q =
       let made : SeriesGroup → List TimedRow = λ series. map (row_of series.0) (aligned_values by grid series.1) in
-      ap (flat_map made) (series-apart P Q apart xs ys p q) ∙ flat_map-append made (points_by_series xs) (points_by_series ys)
+      ap (flat_map made) (series-apart P Q apart xs ys p q) ∙ flat_map-append made (points_by_series xs)
+      (points_by_series ys)
 
 -- ---- pairs of which some rows have none
 

@@ -1,5 +1,6 @@
 -- The pairs that a zone or the root makes of pieces are the load that is its own.
-use Rattle.std.proofs.Common.{◌≡◌, ◌∙◌, ℕ, ◌+◌, Bool, true, false, cond, List, ◌++◌, map, length, take, drop, refl, sym, ap, arith}
+use Rattle.std.proofs.Common.{◌≡◌, ◌∙◌, ℕ, ◌+◌, Bool, true, false, cond, List, ◌++◌, map, length, take, drop, refl}
+use Rattle.std.proofs.Common.{sym, ap, arith}
 use Rattle.std.proofs.lemmas.List.Sorted.{length_permutation}
 use Rattle.mon_value.specs.declared.columns.Anchor.{Anchor}
 use Rattle.mon_value.specs.declared.grids.Grid.{Grid}

@@ -1,9 +1,11 @@
 -- Pieces of several children, put together, stand for the rows of all.
-use Rattle.std.proofs.Common.{◌≡◌, ◌∙◌, ◌≤◌, ℕ, List, [], ◌∷◌, ◌++◌, length, append-nil, append_assoc, sym, ap, subst, arith}
+use Rattle.std.proofs.Common.{◌≡◌, ◌∙◌, ◌≤◌, ℕ, List, [], ◌∷◌, ◌++◌, length, append-nil, append_assoc, sym, ap, subst}
+use Rattle.std.proofs.Common.{arith}
 use Rattle.std.specs.Prelude.{IsPermutation}
 use Rattle.std.specs.List.{AllByRecursion, flat_map}
 use Rattle.std.proofs.lemmas.List.{length-append}
-use Rattle.std.proofs.lemmas.List.Sorted.{IsPermutation-append, IsPermutation-sym, IsPermutation-trans, length_permutation}
+use Rattle.std.proofs.lemmas.List.Sorted.{IsPermutation-append, IsPermutation-sym, IsPermutation-trans}
+use Rattle.std.proofs.lemmas.List.Sorted.{length_permutation}
 use Rattle.mon_value.specs.Limits.{greatest_sum}
 use Rattle.mon_value.specs.Tops.{top_rows}
 use Rattle.mon_value.specs.declared.aggregates.Aggregate.{Aggregate}
@@ -132,7 +134,8 @@ come_together columns (up.ToGroup by with) xs ys (piece.Groups groups) (piece.Gr
     let same : IsPermutation (xs ++ ys) (us ++ vs) = IsPermutation-append _ _ _ _ one.rows_are two.rows_are in
     let count = length_permutation _ _ same in
     let merges = mergeable.groups_can_merge columns by with us vs
-    (CanGroup-permutation columns by with (xs ++ ys) (us ++ vs) same can.0) (subst (λ n. n ≤ greatest_sum) (sym count) can.1) in
+    (CanGroup-permutation columns by with (xs ++ ys) (us ++ vs) same can.0) (subst (λ n. n ≤ greatest_sum) (sym count)
+    can.1) in
     let first : groups ≡ parts_of columns by with us = one.groups_are in
     let second : others ≡ parts_of columns by with vs = two.groups_are in (
       (
@@ -140,10 +143,16 @@ come_together columns (up.ToGroup by with) xs ys (piece.Groups groups) (piece.Gr
         (
           ap (λ (g : GroupsSoFar). g.kinds) first ∙ sym (ap (λ (g : GroupsSoFar). g.kinds) second),
           subst (λ (g : GroupsSoFar). CanMergeGroups g.groups others.groups) (sym first)
-              (subst (λ (g : GroupsSoFar). CanMergeGroups (parts_of columns by with us).groups g.groups) (sym second) merges),
+              (subst (λ (g : GroupsSoFar). CanMergeGroups (parts_of columns by with us).groups g.groups) (sym second)
+              merges),
         ),
       ),
-      record { taken = us ++ vs; rows_are = same; groups_are = groups_joined columns by with us vs groups others first second },
+      record {
+        taken = us ++ vs;
+        rows_are = same;
+        groups_are = groups_joined columns by with us vs groups others first
+            second;
+      },
     )
 come_together columns (up.ToCut most column) xs ys (piece.Table table) (piece.Table other) one two can =
     let firsts : List TimedRow → List TimedRow = top_rows most column in
@@ -190,8 +199,11 @@ pub all_come-permutation : (meant other : TopPart → List TimedRow) (parts : Li
 all_come-permutation meant other [] [] same all = tt
 all_come-permutation meant other [] (p ∷ pieces) same all = absurd all
 all_come-permutation meant other (part ∷ parts) [] same all = absurd all
-all_come-permutation meant other (part ∷ parts) (p ∷ pieces) same all =
-    (comes-permutation (columns_of part.1) part.0 _ _ p same.0 all.0, all_come-permutation meant other parts pieces same.1 all.1)
+all_come-permutation meant other (part ∷ parts) (p ∷ pieces) same all = (
+  comes-permutation (columns_of part.1) part.0 _ _ p same.0 all.0,
+  all_come-permutation meant other parts pieces
+      same.1 all.1,
+)
 
 abbrev both : (TopPart → List TimedRow) → (TopPart → List TimedRow) → TopPart → List TimedRow
 both meant other part = meant part ++ other part
@@ -208,7 +220,8 @@ all_together meant other (part ∷ parts) (p ∷ pieces) (q ∷ others) one two 
     let rest = all_together meant other parts pieces others one.1 two.1 can.1 in
     ((first.0, rest.0), (first.1, rest.1))
 
-pub can_go_up_first : (columns : List Column) (use_of : PartUse) (xs ys : List TimedRow) → CanGoUp columns use_of (xs ++ ys)
+pub can_go_up_first : (columns : List Column) (use_of : PartUse) (xs ys : List TimedRow) → CanGoUp columns use_of
+    (xs ++ ys)
     → CanGoUp columns use_of xs
 can_go_up_first columns up.AsRows xs ys can = tt
 can_go_up_first columns (up.ToGroup by with) xs ys can = first_can columns by with xs ys can
@@ -237,12 +250,18 @@ AllChildren grid parts (rows ∷ leaves) [] = ⊥
 AllChildren grid parts (rows ∷ leaves) (child ∷ children) =
     AllStandFor grid rows parts child × AllChildren grid parts leaves children
 
-pub children_together : (grid : Grid) (parts : List TopPart) (meant : TopPart → List TimedRow) (leaves : List (List Row))
-    (pieces : List Piece) (children : List (List Piece)) → AllCome meant parts pieces → AllChildren grid parts leaves children
+pub children_together : (grid : Grid) (parts : List TopPart) (meant : TopPart → List TimedRow)
+    (leaves : List (List Row))
+    (pieces : List Piece) (children : List (List Piece)) → AllCome meant parts pieces → AllChildren grid parts leaves
+    children
     → AllCanCome (both meant (rows_over grid leaves)) parts
-    → CanJoinChildren pieces children × AllCome (both meant (rows_over grid leaves)) parts (with_children pieces children)
-children_together grid parts meant [] pieces [] come all can =
-    (tt, subst (λ (f : TopPart → List TimedRow). AllCome f parts pieces) (sym (λ i part. append-nil (meant part) i)) come)
+    → CanJoinChildren pieces children × AllCome (both meant (rows_over grid leaves)) parts
+    (with_children pieces children)
+children_together grid parts meant [] pieces [] come all can = (
+  tt,
+  subst (λ (f : TopPart → List TimedRow). AllCome f parts pieces) (sym (λ i part. append-nil (meant part) i))
+      come,
+)
 children_together grid parts meant [] pieces (child ∷ children) come all can = absurd all
 children_together grid parts meant (rows ∷ leaves) pieces [] come all can = absurd all
 children_together grid parts meant (rows ∷ leaves) pieces (child ∷ children) come all can =
@@ -254,7 +273,8 @@ children_together grid parts meant (rows ∷ leaves) pieces (child ∷ children)
     subst (λ (f : TopPart → List TimedRow). AllCanCome f parts) (sym apart) can in
     let first = all_together meant own parts pieces child come (all_standing grid rows parts child all.0)
     (first_can_come (both meant own) rest parts can_all) in
-    let more = children_together grid parts (both meant own) leaves (pieces_joined pieces child) children first.1 all.1 can_all in (
+    let more = children_together grid parts (both meant own) leaves (pieces_joined pieces child) children first.1 all.1
+    can_all in (
       (first.0, more.0),
       subst (λ (f : TopPart → List TimedRow). AllCome f parts (with_children pieces (child ∷ children))) apart more.1,
     )

@@ -1,5 +1,6 @@
 -- What is made of answers is a zone's answer, or the table that a query means.
-use Rattle.std.proofs.Common.{◌≡◌, ◌∙◌, ◌≤◌, ◌≤ℤ◌, ℕ, ℤ, pos, ◌+◌, List, [], ◌∷◌, ◌++◌, map, append-nil, refl, sym, ap, subst, arith}
+use Rattle.std.proofs.Common.{◌≡◌, ◌∙◌, ◌≤◌, ◌≤ℤ◌, ℕ, ℤ, pos, ◌+◌, List, [], ◌∷◌, ◌++◌, map, append-nil, refl, sym, ap}
+use Rattle.std.proofs.Common.{subst, arith}
 use Rattle.std.specs.Prelude.{IsPermutation}
 use Rattle.std.specs.List.{AllByRecursion, sum_by}
 use Rattle.std.proofs.lemmas.List.Sums.{sum_by-cons}
@@ -26,7 +27,8 @@ use Rattle.mon_meaning.specs.Counts.{TellsOver}
 use Rattle.mon_meaning.specs.LeafAnswers.{load_in_leaf, parts_load}
 use Rattle.mon_meaning.specs.declared.meter.OverLimit.{OverLimit}
 use Rattle.mixer.specs.Divisions.{ShareNoLocation, ShareNoTarget, all_rows, together}
-use Rattle.mixer.specs.ZoneAnswers.{AllLeafParts, AllZoneParts, AreLeafParts, AreZoneParts, IsRefusedByZone, IsZonePart, load_in_zone}
+use Rattle.mixer.specs.ZoneAnswers.{AllLeafParts, AllZoneParts, AreLeafParts, AreZoneParts, IsRefusedByZone}
+use Rattle.mixer.specs.ZoneAnswers.{IsZonePart, load_in_zone}
 use Rattle.mixer.specs.declared.zone_answers.ZoneAnswer.{ZoneAnswer}
 use Rattle.mixer.specs.within.Joined.{AreTogether, CanBeEmpty, CanJoinAll}
 use Rattle.mixer.specs.within.Mixtures.{CanMix, joins_from, rows_from}
@@ -43,7 +45,8 @@ use Rattle.mixer.proofs.WholeParts.{AreWholes, can_be_empty, can_join, parts_can
 use Rattle.mixer.proofs.ZoneParts.{Come, all_can, all_stand, loads_of_parts, lower_parts, lowers, parts_made}
 
 -- a query is typed over some of the rows
-pub typed_over : (typed : TypedTree) (rows some : List Row) → (of : IsTyped typed rows) → AllFit of.held some → IsTyped typed some
+pub typed_over : (typed : TypedTree) (rows some : List Row) → (of : IsTyped typed rows) → AllFit of.held some
+    → IsTyped typed some
 typed_over typed rows some of fit = record {
   held = of.held;
   query = of.query;
@@ -67,7 +70,8 @@ zone_load_parts typed rows moment from of =
 
 -- ---- a zone
 
-leaf_sums : (typed : TypedTree) (all : List Row) (moment : ℤ) (limit : ℕ) (leaves : List (List Row)) (parts : List LeafAnswer)
+leaf_sums : (typed : TypedTree) (all : List Row) (moment : ℤ) (limit : ℕ) (leaves : List (List Row))
+    (parts : List LeafAnswer)
     → pos 0 ≤ℤ moment → (of : IsTyped typed all) → AllFit of.held (together leaves)
     → AllLeafParts typed leaves moment limit parts
     → sum_by (λ (part : LeafAnswer). part.load) parts ≡ sum_by (λ rows. leaf_load typed rows moment) leaves
@@ -89,7 +93,8 @@ leaf_sums typed all moment limit (rows ∷ leaves) (part ∷ parts) from of fit 
 
 leaf_children : (typed : TypedTree) (moment : ℤ) (limit : ℕ) (leaves : List (List Row)) (parts : List LeafAnswer)
     → AllLeafParts typed leaves moment limit parts
-    → AllChildren (grid_of typed moment) (top_parts is_leaf typed.tree) leaves (map (λ (part : LeafAnswer). part.pieces) parts)
+    → AllChildren (grid_of typed moment) (top_parts is_leaf typed.tree) leaves
+    (map (λ (part : LeafAnswer). part.pieces) parts)
 leaf_children typed moment limit [] [] each = tt
 leaf_children typed moment limit [] (part ∷ parts) each = absurd each
 leaf_children typed moment limit (rows ∷ leaves) [] each = absurd each
@@ -138,7 +143,8 @@ module _ (typed : TypedTree) (leaves : List (List Row)) (moment : ℤ) (limit : 
 
   leaves_can_come : IsWithinRows leaf_total → AllCanCome (rows_over zone_grid leaves) leaf_tops
   leaves_can_come few =
-      parts_can_come zone_grid leaves leaf_tops (parts_made zone_grid zone_rows is_leaf typed.tree zone_evaluable) leaf_wholes
+      parts_can_come zone_grid leaves leaf_tops (parts_made zone_grid zone_rows is_leaf typed.tree zone_evaluable)
+      leaf_wholes
       (subst IsWithinRows total_parts few)
 
   pub leaves_can_be_empty : IsWithinRows leaf_total → AllByRecursion CanBeEmpty (top_parts is_leaf typed.tree)
@@ -146,7 +152,8 @@ module _ (typed : TypedTree) (leaves : List (List Row)) (moment : ℤ) (limit : 
 
   pub leaves_can_join : IsWithinRows leaf_total → CanJoinAll (map (λ (part : LeafAnswer). part.pieces) parts)
   leaves_can_join few =
-      can_join zone_grid leaf_tops leaves _ (leaf_children typed moment limit leaves parts are.each) (leaves_can_come few)
+      can_join zone_grid leaf_tops leaves _ (leaf_children typed moment limit leaves parts are.each)
+      (leaves_can_come few)
 
   -- the pieces of all leaves
   module _ (few : IsWithinRows leaf_total) (joined : List Piece)
@@ -157,7 +164,8 @@ module _ (typed : TypedTree) (leaves : List (List Row)) (moment : ℤ) (limit : 
     joined_come : Come zone_grid zone_rows (lowers zone_grid zone_rows zone_tops) joined
     joined_come =
         subst (λ tops. AllCome (meant zone_grid zone_rows) tops joined) same_parts
-        (whole_come zone_grid leaf_tops leaves _ joined (leaf_children typed moment limit leaves parts are.each) leaf_wholes
+        (whole_come zone_grid leaf_tops leaves _ joined (leaf_children typed moment limit leaves parts are.each)
+        leaf_wholes
         (leaves_can_come few) is)
 
     pub zone_can : CanHandUpAll leaf_total (top_parts in_zone typed.tree) joined
@@ -189,7 +197,8 @@ module _ (typed : TypedTree) (leaves : List (List Row)) (moment : ℤ) (limit : 
       within = omega (arith, counted, zone_work, within);
     }
 
-    pub zone_over : (r : Refusal OverLimit) → TellsOver limit (leaf_total + joins_of_parts (top_parts in_zone typed.tree) joined) r
+    pub zone_over : (r : Refusal OverLimit) → TellsOver limit
+        (leaf_total + joins_of_parts (top_parts in_zone typed.tree) joined) r
         → IsRefusedByZone typed leaves moment limit r
     zone_over (refusal.Fault over) tells =
         record { above = tells.above; most = omega (arith, tells.within, zone_work) }
@@ -259,8 +268,10 @@ module _ (typed : TypedTree) (zones : List (List (List Row))) (moment : ℤ) (li
   root_wholes : AreWholes root_grid root_tops (map together zones)
   root_wholes =
       let held = of.held in
-      wholes held root_grid in_zone typed.tree (ShareNoLocation held) (λ zone others shares. locations_together held zone others shares)
-      (λ xs ys fit more shares. pushed.zone_pieces-apart held root_grid typed.tree planned are.divided.located xs ys fit more shares)
+      wholes held root_grid in_zone typed.tree (ShareNoLocation held) (λ zone others shares. locations_together held
+      zone others shares)
+      (λ xs ys fit more shares. pushed.zone_pieces-apart held root_grid typed.tree planned are.divided.located xs ys
+      fit more shares)
       (map together zones) of.fit are.divided.zones_apart
 
   root_evaluable : IsEvaluable root_grid typed.tree root_rows
@@ -268,7 +279,8 @@ module _ (typed : TypedTree) (zones : List (List (List Row))) (moment : ℤ) (li
 
   zones_can_come : IsWithinRows zone_total → AllCanCome (rows_over root_grid (map together zones)) root_tops
   zones_can_come few =
-      parts_can_come root_grid (map together zones) root_tops (parts_made root_grid root_rows in_zone typed.tree root_evaluable)
+      parts_can_come root_grid (map together zones) root_tops (parts_made root_grid root_rows in_zone typed.tree
+      root_evaluable)
       root_wholes (subst IsWithinRows root_total few)
 
   pub zones_can_be_empty : IsWithinRows zone_total → AllByRecursion CanBeEmpty (top_parts in_zone typed.tree)
@@ -284,12 +296,14 @@ module _ (typed : TypedTree) (zones : List (List (List Row))) (moment : ℤ) (li
     all_come : AllCome (meant root_grid root_rows) (root_tops ++ []) joined
     all_come =
         subst (λ tops. AllCome (meant root_grid root_rows) tops joined) (sym (append-nil root_tops))
-        (whole_come root_grid root_tops (map together zones) _ joined (zone_children typed moment limit zones parts are.each)
+        (whole_come root_grid root_tops (map together zones) _ joined (zone_children typed moment limit zones parts
+        are.each)
         root_wholes (zones_can_come few) is)
 
     pub root_can : CanMix zone_total in_zone typed.tree joined
     root_can =
-        can_mix root_grid root_rows in_zone zone_total typed.tree [] joined root_evaluable all_come (omega (arith, root_total))
+        can_mix root_grid root_rows in_zone zone_total typed.tree [] joined root_evaluable all_come
+        (omega (arith, root_total))
 
     root_work : zone_total + joins_from in_zone typed.tree joined ≡ load typed root_rows moment
     root_work = omega (arith, root_total, loads_come root_grid root_rows in_zone typed.tree [] joined all_come)
@@ -317,6 +331,7 @@ module _ (typed : TypedTree) (zones : List (List (List Row))) (moment : ℤ) (li
       let all = loads_mixed typed zones moment are.from are.divided in
       omega (arith, sums, all)
 
-  pub zones_over : (r : Refusal OverLimit) → TellsOver limit zone_total r → IsRefusedBy typed (all_rows zones) moment limit r
+  pub zones_over : (r : Refusal OverLimit) → TellsOver limit zone_total r → IsRefusedBy typed (all_rows zones) moment
+      limit r
   zones_over (refusal.Fault over) tells = record { above = tells.above; most = omega (arith, tells.within, zones_less) }
   zones_over refusal.OutOfMemory tells = tt

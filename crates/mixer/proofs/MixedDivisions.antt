@@ -13,7 +13,8 @@ use Rattle.mql_types.specs.Levels.{is_leaf, is_root}
 use Rattle.mql_types.specs.Loads.{load, load_of}
 use Rattle.mql_types.specs.Meaning.{grid_of, meaning, rows_meant}
 use Rattle.mql_types.specs.Nodes.{NodeTree, TypedTree}
-use Rattle.mql_types.specs.Pieces.{PieceMeant, TopPart, in_zone, leaf_part, piece_meant, pieces_meant, top_parts, zone_part}
+use Rattle.mql_types.specs.Pieces.{PieceMeant, TopPart, in_zone, leaf_part, piece_meant, pieces_meant, top_parts}
+use Rattle.mql_types.specs.Pieces.{zone_part}
 use Rattle.mql_types.specs.Soundness.{IsTyped}
 use Rattle.mql_types.proofs.FetchedTrees.{AllFit}
 use Rattle.mql_types.proofs.JoinedRows.{all-front}
@@ -22,7 +23,8 @@ use Rattle.mql_types.proofs.TypedQueries.{query_ruled}
 use Rattle.mixer.specs.Divisions.{AreApart, IsDivided, ShareNoLocation, ShareNoTarget, all_rows, together}
 use Rattle.mon_schema.specs.HeldTargets.{TellsLocation}
 use Rattle.mixer.specs.Mixing.{SamePieces, joined_pieces, joins_mixed, mixed_load, mixed_table, parts_mixed, piece_rows}
-use Rattle.mixer.specs.Mixing.{pieces_together, root_joins, rows_mixed, zone_answer, zone_joins, zone_mixed, zone_pieces}
+use Rattle.mixer.specs.Mixing.{pieces_together, root_joins, rows_mixed, zone_answer, zone_joins, zone_mixed}
+use Rattle.mixer.specs.Mixing.{zone_pieces}
 use Rattle.mixer.proofs.ApartPieces.{SamePieces-refl, SamePieces-trans, joined_pieces-same, pieces_none}
 use Rattle.mixer.proofs.JoinLoads.{joins_mixed-load, joins_mixed-same, local_closed}
 use Rattle.mixer.proofs.LeafHomes.{TargetSays}
@@ -149,7 +151,8 @@ module _ (held : SchemaLists) (grid : Grid) (tree : NodeTree) (of : IsPlanned he
     -- what leaves and zones do is what they would do over all rows
     pub zone_loads : (zones : List (List (List Row))) → AllFit held (all_rows zones)
         → AllByRecursion (AreApart ShareNoTarget) zones → AreApart (ShareNoLocation held) (map together zones)
-        → sum_by (λ zone. sum_by (λ rows. load_at is_leaf grid tree rows) zone + load_at is_zone grid tree (together zone))
+        → sum_by (λ zone. sum_by (λ rows. load_at is_leaf grid tree rows) zone + load_at is_zone grid tree
+        (together zone))
         zones
         ≡ load_at is_leaf grid tree (all_rows zones) + load_at is_zone grid tree (all_rows zones)
     zone_loads [] fit leaves apart = omega (arith, no_load is_leaf grid tree, no_load is_zone grid tree)
@@ -246,7 +249,8 @@ pub leaf_loads_mixed : (typed : TypedTree) (zone : List (List Row)) (moment : �
     → IsTyped typed (together zone) → AreApart ShareNoTarget zone
     → sum_by (λ rows. leaf_load typed rows moment) zone ≡ leaf_load typed (together zone) moment
 leaf_loads_mixed typed zone moment from of apart =
-    leaf_loads of.held (grid_of typed moment) typed.tree (typed_planned typed (together zone) moment from of) zone of.fit
+    leaf_loads of.held (grid_of typed moment) typed.tree (typed_planned typed (together zone) moment from of) zone
+    of.fit
     apart
 
 -- a leaf does what its parts are

@@ -11,10 +11,12 @@ use Rattle.mon_fold.specs.declared.answers.Piece.{Piece}
 use Rattle.mon_meaning.specs.Counts.{TellsOver}
 use Rattle.mon_meaning.specs.Operations.{CanOperate, operation_rows}
 use Rattle.mon_meaning.specs.declared.meter.OverLimit.{OverLimit}
-use Rattle.mon_meaning.specs.within.Paths.{Leads, first_input, node_count}
+use Rattle.mon_meaning.specs.within.Paths.{Leads, first_input}
+use Rattle.mql_types.specs.ExplanationParts.{nodes}
 use Rattle.mon_meaning.proofs.PathLemmas.{Leads-pop, Leads-push, smaller_below}
 use Rattle.mixer.specs.Mixing.{part_count}
-use Rattle.mixer.specs.within.Mixtures.{CanMix, IsInput, IsWayDown, OtherCanMix, behind_first, first_rows, is_piece, joins_from}
+use Rattle.mixer.specs.within.Mixtures.{CanMix, IsInput, IsWayDown, OtherCanMix, behind_first, first_rows, is_piece}
+use Rattle.mixer.specs.within.Mixtures.{joins_from}
 use Rattle.mixer.specs.within.Mixtures.{other_count, other_joins, other_rows, own_joins, rows_from}
 use Rattle.mixer.proofs.NodePieces.{can_above, joins_above, joins_of_piece, left_behind, one_piece, other_can_more}
 use Rattle.mixer.proofs.NodePieces.{rows_above, rows_of_piece}
@@ -90,7 +92,8 @@ module _ (here : Level → Bool) where
     }
 
     -- the next operation, on the rows that flow into it
-    pub record Step (above : List NodeTree) (node : NodeTree) (rows : List TimedRow) (left : List Piece) (start load : ℕ)
+    pub record Step (above : List NodeTree) (node : NodeTree) (rows : List TimedRow) (left : List Piece)
+        (start load : ℕ)
         : Type 0 where
       pub leads : Leads above top node
       pub passed : AllByRecursion IsPassed above
@@ -101,10 +104,12 @@ module _ (here : Level → Bool) where
       pub others : OtherCanMix load here node left
       pub operates : IsWithinRows (load + other_joins here node left)
           → CanOperate node rows (other_rows here node left)
-      pub smaller : node_count node ≤ node_count top
+      pub smaller : nodes node ≤ nodes top
 
-    pub next_step : (above : List NodeTree) (node : NodeTree) (rows : List TimedRow) (left : List Piece) (start load : ℕ)
-        → Walk (above ++ node ∷ []) rows left start load → CanMix start here top all → Step above node rows left start load
+    pub next_step : (above : List NodeTree) (node : NodeTree) (rows : List TimedRow) (left : List Piece)
+        (start load : ℕ)
+        → Walk (above ++ node ∷ []) rows left start load → CanMix start here top all → Step above node rows left start
+        load
     next_step above node rows left start load walk can =
         let parts = Leads-pop above node top walk.end walk.leads in
         let passed = all_pop IsPassed above node walk.passed in
@@ -127,7 +132,8 @@ module _ (here : Level → Bool) where
           operates = λ few.
               let same = ap (λ ps. other_joins here node ps) behind in
               subst (λ rs. CanOperate node rs (other_rows here node left)) (sym flowing)
-              (subst (λ ps. CanOperate node (rows_from here (first_input node) all) (other_rows here node ps)) (sym behind)
+              (subst (λ ps. CanOperate node (rows_from here (first_input node) all) (other_rows here node ps))
+              (sym behind)
               (own.0 (omega (arith, few, same, counted))));
           smaller = smaller_below above top node parts.0;
         }

@@ -1,5 +1,6 @@
 -- The rows that are made of pieces, node by node.
-use Rattle.std.proofs.Common.{◌≡◌, ◌∙◌, ◌≤◌, ℕ, ◌+◌, Bool, true, false, cond, List, ◌++◌, length, drop, refl, sym, ap, arith}
+use Rattle.std.proofs.Common.{◌≡◌, ◌∙◌, ◌≤◌, ℕ, ◌+◌, Bool, true, false, cond, List, ◌++◌, length, drop, refl, sym, ap}
+use Rattle.std.proofs.Common.{arith}
 use Rattle.std.proofs.lemmas.List.{drop-drop, length-append}
 use Rattle.mon_value.specs.declared.tables.TimedRow.{TimedRow}
 use Rattle.mql_types.specs.Nodes as node
@@ -10,7 +11,8 @@ use Rattle.mon_fold.specs.declared.answers.Piece.{Piece}
 use Rattle.mon_meaning.specs.Operations.{operation_rows}
 use Rattle.mon_meaning.specs.within.Paths.{first_input}
 use Rattle.mixer.specs.Mixing.{part_count}
-use Rattle.mixer.specs.within.Mixtures.{CanMix, Operates, OtherCanMix, Unless, behind_first, first_rows, is_piece, joins_from}
+use Rattle.mixer.specs.within.Mixtures.{CanMix, Operates, OtherCanMix, Unless, behind_first, first_rows, is_piece}
+use Rattle.mixer.specs.within.Mixtures.{joins_from}
 use Rattle.mixer.specs.within.Mixtures.{other_count, other_rows, own_joins, rows_from}
 
 -- ---- a node of which there is a piece
@@ -46,7 +48,8 @@ pub parts_below : (b : Bool) (use_of : PartUse) (tree : NodeTree) (below : List 
 parts_below true use_of tree below e = absurd cc
 parts_below false use_of tree below e = refl
 
-pub groups_below : (b c : Bool) (use_of more : PartUse) (tree input : NodeTree) (below : List TopPart) → cond b true c ≡ false
+pub groups_below : (b c : Bool) (use_of more : PartUse) (tree input : NodeTree) (below : List TopPart) → cond b true c
+    ≡ false
     → part_or b use_of tree (part_or c more input below) ≡ below
 groups_below true c use_of more tree input below e = absurd cc
 groups_below false true use_of more tree input below e = absurd cc
@@ -124,15 +127,18 @@ module _ (here : Level → Bool) where
       → part_count here tree ≡ part_count here (first_input tree) + other_count here tree
   more_parts (node.Fetch info schema metric) e = absurd cc
   more_parts (node.Filter info by input) e =
-      let below = ap (λ (ps : List TopPart). length ps) (parts_below (here info.level) AsRows (node.Filter info by input) (top_parts here input) e) in
+      let below = ap (λ (ps : List TopPart). length ps) (parts_below (here info.level) AsRows
+      (node.Filter info by input) (top_parts here input) e) in
       omega (arith, below)
   more_parts (node.Align info by input) e = absurd cc
   more_parts (node.GroupBy info by with input) e =
       let below = ap (λ (ps : List TopPart). length ps)
-      (groups_below (here info.level) (here (level_of input)) AsRows (ToGroup by with) (node.GroupBy info by with input) input (top_parts here input) e) in
+      (groups_below (here info.level) (here (level_of input)) AsRows (ToGroup by with)
+      (node.GroupBy info by with input) input (top_parts here input) e) in
       omega (arith, below)
   more_parts (node.Value info items input) e =
-      let below = ap (λ (ps : List TopPart). length ps) (parts_below (here info.level) AsRows (node.Value info items input) (top_parts here input) e) in
+      let below = ap (λ (ps : List TopPart). length ps) (parts_below (here info.level) AsRows
+      (node.Value info items input) (top_parts here input) e) in
       omega (arith, below)
   more_parts (node.Top info most column input) e =
       let below = ap (λ (ps : List TopPart). length ps)
@@ -141,17 +147,20 @@ module _ (here : Level → Bool) where
       omega (arith, below, same_count (ToCut most column) input)
   more_parts (node.Join info left right) e =
       let below = ap (λ (ps : List TopPart). length ps)
-      (parts_below (here info.level) AsRows (node.Join info left right) (top_parts here left ++ top_parts here right) e) in
+      (parts_below (here info.level) AsRows (node.Join info left right) (top_parts here left ++ top_parts here right)
+      e) in
       omega (arith, below, length-append (top_parts here left) (top_parts here right))
   more_parts (node.Union info left right) e =
       let below = ap (λ (ps : List TopPart). length ps)
-      (parts_below (here info.level) AsRows (node.Union info left right) (top_parts here left ++ top_parts here right) e) in
+      (parts_below (here info.level) AsRows (node.Union info left right) (top_parts here left ++ top_parts here right)
+      e) in
       omega (arith, below, length-append (top_parts here left) (top_parts here right))
 
   -- its rows are those of its operation, and its pairs those of both sides and its own
   pub rows_above : (tree : NodeTree) (pieces : List Piece) → is_piece here tree ≡ false
       → rows_from here tree pieces
-      ≡ operation_rows tree (rows_from here (first_input tree) pieces) (other_rows here tree (behind_first here tree pieces))
+      ≡ operation_rows tree (rows_from here (first_input tree) pieces)
+      (other_rows here tree (behind_first here tree pieces))
   rows_above (node.Fetch info schema metric) pieces e = absurd cc
   rows_above (node.Filter info by input) pieces e = rows_unless (here info.level) _ _ e
   rows_above (node.Align info by input) pieces e = absurd cc
@@ -167,7 +176,8 @@ module _ (here : Level → Bool) where
       ≡ joins_from here (first_input tree) pieces
       + own_joins here tree (rows_from here (first_input tree) pieces) (behind_first here tree pieces)
   joins_above (node.Fetch info schema metric) pieces e = absurd cc
-  joins_above (node.Filter info by input) pieces e = omega (arith, some_unless (here info.level) (joins_from here input pieces) e)
+  joins_above (node.Filter info by input) pieces e =
+      omega (arith, some_unless (here info.level) (joins_from here input pieces) e)
   joins_above (node.Align info by input) pieces e = absurd cc
   joins_above (node.GroupBy info by with input) pieces e =
       omega (arith, some_unless (cond (here info.level) true (here (level_of input))) (joins_from here input pieces) e)
@@ -229,20 +239,34 @@ module _ (here : Level → Bool) where
   can_more base more (node.Fetch info schema metric) pieces less can = tt
   can_more base more (node.Filter info by input) pieces less can =
       unless-map (here info.level) _ _
-      (λ own. (operates_more base more (node.Filter info by input) pieces less own.0, can_more base more input pieces less own.1))
+      (λ own. (
+        operates_more base more (node.Filter info by input) pieces less own.0,
+        can_more base more input pieces
+            less own.1,
+      ))
       can
   can_more base more (node.Align info by input) pieces less can = tt
   can_more base more (node.GroupBy info by with input) pieces less can =
       unless-map (cond (here info.level) true (here (level_of input))) _ _
-      (λ own. (operates_more base more (node.GroupBy info by with input) pieces less own.0, can_more base more input pieces less own.1))
+      (λ own. (
+        operates_more base more (node.GroupBy info by with input) pieces less own.0,
+        can_more base more input pieces less own.1,
+      ))
       can
   can_more base more (node.Value info items input) pieces less can =
       unless-map (here info.level) _ _
-      (λ own. (operates_more base more (node.Value info items input) pieces less own.0, can_more base more input pieces less own.1))
+      (λ own. (
+        operates_more base more (node.Value info items input) pieces less own.0,
+        can_more base more input pieces
+            less own.1,
+      ))
       can
   can_more base more (node.Top info most column input) pieces less can =
       unless-map (here info.level) _ _
-      (λ own. (operates_more base more (node.Top info most column input) pieces less own.0, can_more base more input pieces less own.1))
+      (λ own. (
+        operates_more base more (node.Top info most column input) pieces less own.0,
+        can_more base more input pieces less own.1,
+      ))
       can
   can_more base more (node.Join info left right) pieces less can =
       unless-map (here info.level) _ _

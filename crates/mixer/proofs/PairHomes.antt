@@ -1,5 +1,6 @@
 -- Pairs of a join: rows that agree in columns that tell their home have one home, and so has their pair.
-use Rattle.std.proofs.Common.{◌≡◌, ◌&&◌, ◌||◌, Bool, true, false, not, cond, Option, Some, None, List, [], ◌∷◌, map, refl, sym, subst}
+use Rattle.std.proofs.Common.{◌≡◌, ◌&&◌, ◌||◌, Bool, true, false, not, cond, Option, Some, None, List, [], ◌∷◌, map}
+use Rattle.std.proofs.Common.{refl, sym, subst}
 use Rattle.std.specs.Prelude.{find, option_map, unwrap_or}
 use Rattle.std.specs.List.{cons_option, list_all, zip}
 use Rattle.std.proofs.lemmas.List.Folds.{find_at}
@@ -13,7 +14,8 @@ use Rattle.mon_value.specs.declared.values.Value.{Value}
 use Rattle.mon_value.proofs.SameLemmas.{both, same_value-Decides}
 use Rattle.mon_schema.specs.SchemaLists.{SchemaLists}
 use Rattle.mql_ast.specs.NamedCells.{column_named}
-use Rattle.mql_types.specs.Branches.{anchored_with, as_joined, common_columns, join_columns, left_column, same_columns, union_columns}
+use Rattle.mql_types.specs.Branches.{anchored_with, as_joined, common_columns, join_columns, left_column, same_columns}
+use Rattle.mql_types.specs.Branches.{union_columns}
 use Rattle.mql_types.specs.Levels.{common_anchor, is_location_anchor, same_anchor}
 use Rattle.mixer.proofs.HeldCells as held_cells
 use Rattle.mixer.proofs.HeldCells.{Holds, SaysIf, Tell}

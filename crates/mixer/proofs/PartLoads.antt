@@ -38,7 +38,8 @@ split_by true use_of tree rest f n own more =
     omega (arith, own refl, sum_by-cons f (use_of, tree) [])
 split_by false use_of tree rest f n own more = more refl
 
-module _ (held : SchemaLists) (grid : Grid) (rows : List Row) (here : Level → Bool) (leaf_here : here level.Leaf ≡ true) where
+module _ (held : SchemaLists) (grid : Grid) (rows : List Row) (here : Level → Bool) (leaf_here : here level.Leaf
+    ≡ true) where
   abbrev part_load : TopPart → ℕ
   part_load part = load_of grid part.1 rows
 
@@ -195,7 +196,8 @@ zone_closed held (node.Top info most column input) own =
     (λ e. absurd (no_top in_zone info.level own.0 refl e), zone_closed held input own.1)
 zone_closed held (node.Join info left right) own = (
   λ e. zone_higher (level_of left) (level_of right)
-      (meets_in_zone held (higher_level (level_of left) (level_of right)) (common_columns held (columns_of left) (columns_of right))
+      (meets_in_zone held (higher_level (level_of left) (level_of right)) (common_columns held (columns_of left)
+      (columns_of right))
       (moved in_zone info.level _ own.0 e)),
   (zone_closed held left own.1.0, zone_closed held right own.1.1),
 )

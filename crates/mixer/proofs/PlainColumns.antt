@@ -10,7 +10,8 @@ use Rattle.mql_ast.specs.declared.names.Name.{Name}
 use Rattle.mql_ast.specs.declared.operations.Aggregate.{Aggregate}
 use Rattle.mql_ast.specs.declared.operations.FoldWord.{FoldWord}
 use Rattle.mql_types.specs.Groupings.{aggregate_column, aggregate_columns, aggregate_name, column_made, folded_column}
-use Rattle.mql_types.specs.Items.{column_alone, item_column, item_name, plain_column, renamed_column, sum_column, sum_width}
+use Rattle.mql_types.specs.Items.{column_alone, item_column, item_name, plain_column, renamed_column, sum_column}
+use Rattle.mql_types.specs.Items.{sum_width}
 use Rattle.mql_types.proofs.MadeCells.{all-filter_map, nothing_is, same_item}
 use Rattle.mixer.proofs.HeldCells.{HasNoAnchor}
 

@@ -23,7 +23,8 @@ use Rattle.mixer.proofs.LevelledTrees.{AreLevelled, leaf_local, zone_local}
 use Rattle.mixer.proofs.Sides.{Within, WithinLocations, Without, WithoutLocations, locations_apart, locations_out}
 use Rattle.mixer.proofs.Sides.{locations_within, targets_apart, targets_out, targets_within}
 use Rattle.mixer.proofs.TypedTables.{makes_whole}
-use Rattle.mixer.proofs.ZoneHomes.{IsLocated, LocationSays, location_alike, location_field, location_located, location_one}
+use Rattle.mixer.proofs.ZoneHomes.{IsLocated, LocationSays, location_alike, location_field, location_located}
+use Rattle.mixer.proofs.ZoneHomes.{location_one}
 
 pub leaf_in_zone : (l : Level) → is_leaf l ≡ true → in_zone l ≡ true
 leaf_in_zone level.Leaf e = refl

@@ -23,9 +23,11 @@ use Rattle.mixer.proofs.MixedDivisions.{leaf_load_of_parts, loads_mixed}
 leaf_all : (P : Row → Type 0) (first : List (List Row)) (rows : List Row) (rest : List (List Row))
     → AllByRecursion P (together (first ++ rows ∷ rest)) → AllByRecursion P rows
 leaf_all P [] rows rest all = (all-front P rows (together rest) all).0
-leaf_all P (leaf ∷ first) rows rest all = leaf_all P first rows rest (all-front P leaf (together (first ++ rows ∷ rest)) all).1
+leaf_all P (leaf ∷ first) rows rest all = leaf_all P first rows rest
+    (all-front P leaf (together (first ++ rows ∷ rest)) all).1
 
-zone_all : (P : Row → Type 0) (before : List (List (List Row))) (leaves : List (List Row)) (after : List (List (List Row)))
+zone_all : (P : Row → Type 0) (before : List (List (List Row))) (leaves : List (List Row))
+    (after : List (List (List Row)))
     → AllByRecursion P (all_rows (before ++ leaves ∷ after)) → AllByRecursion P (together leaves)
 zone_all P [] leaves after all = (all-front P (together leaves) (all_rows after) all).0
 zone_all P (zone ∷ before) leaves after all =
@@ -82,7 +84,11 @@ pub leaf_refused : (typed : TypedTree) (before : List (List (List Row))) (first 
     → IsRefusedByLeaf typed rows moment limit refused
     → IsRefusedBy typed (all_rows (before ++ (first ++ rows ∷ rest) ∷ after)) moment limit refused
 leaf_refused typed before first rows rest after moment limit (refusal.Fault over) from divided told =
-    record { above = told.above; most = omega (arith, told.most, leaf_less typed before first rows rest after moment from divided) }
+    record {
+      above = told.above;
+      most =
+          omega (arith, told.most, leaf_less typed before first rows rest after moment from divided);
+    }
 leaf_refused typed before first rows rest after moment limit refusal.OutOfMemory from divided told = tt
 
 pub zone_refused : (typed : TypedTree) (before : List (List (List Row))) (leaves : List (List Row))
@@ -90,5 +96,9 @@ pub zone_refused : (typed : TypedTree) (before : List (List (List Row))) (leaves
     → pos 0 ≤ℤ moment → IsDivided typed (before ++ leaves ∷ after) → IsRefusedByZone typed leaves moment limit refused
     → IsRefusedBy typed (all_rows (before ++ leaves ∷ after)) moment limit refused
 zone_refused typed before leaves after moment limit (refusal.Fault over) from divided told =
-    record { above = told.above; most = omega (arith, told.most, zone_less typed before leaves after moment from divided) }
+    record {
+      above = told.above;
+      most =
+          omega (arith, told.most, zone_less typed before leaves after moment from divided);
+    }
 zone_refused typed before leaves after moment limit refusal.OutOfMemory from divided told = tt

@@ -1,5 +1,6 @@
 -- Two sides that share no target, or no location: each row has its home there, and none on both.
-use Rattle.std.proofs.Common.{◌≡◌, ◌∙◌, ◌||◌, ℕ, Bool, true, false, Option, Some, None, List, [], ◌∷◌, ◌++◌, refl, sym, ap}
+use Rattle.std.proofs.Common.{◌≡◌, ◌∙◌, ◌||◌, ℕ, Bool, true, false, Option, Some, None, List, [], ◌∷◌, ◌++◌, refl, sym}
+use Rattle.std.proofs.Common.{ap}
 use Rattle.std.specs.List.{AllByRecursion}
 use Rattle.std.specs.Option.{option_map_or}
 use Rattle.std.proofs.lemmas.List.Folds.{list_any-append}
@@ -159,7 +160,8 @@ module _ (held : SchemaLists) (tell : AllByRecursion TellsLocation held.targets)
       → has_location held rows location ≡ true) rows
   locations_there [] = tt
   locations_there (row ∷ rows) = (
-    (λ location e. first_true (lies_at held location row) (has_location held rows location) (lies_there row location e)),
+    (λ location e. first_true (lies_at held location row) (has_location held rows location)
+        (lies_there row location e)),
     all-map (λ other. (location : List ℕ) → location_of held other.key.target ≡ Some location
         → has_location held rows location ≡ true)
         (λ other. (location : List ℕ) → location_of held other.key.target ≡ Some location

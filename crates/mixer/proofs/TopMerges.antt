@@ -21,7 +21,7 @@ use Rattle.mon_meaning.proofs.KeyOrders as orders
 use Rattle.mon_meaning.proofs.OperationOrders.{rank_exact, rank_total, top_rows-permutation}
 use Rattle.mon_meaning.proofs.ApartKeys.{all_keys}
 use Rattle.mixer.proofs.TopParts.{block_keys, firsts_append, no_block, one_block}
-use Rattle.mixer.proofs.TypedRows.{each_has_rows}
+use Rattle.mql_types.proofs.GroupedRows.{each_has_rows}
 
 passed_by : {A : Type 0} (p : A → Bool) (b : Bool) (x : A) (xs : List A) → p x ≡ b
     → AllByRecursion (λ y. p y ≡ true) xs → AllByRecursion (λ y. p y ≡ true) (cond b (x ∷ xs) xs)
@@ -60,7 +60,8 @@ module _ (column : ℕ) where
   none_taken : (rows : List TimedRow) (keys : List TimedRow) → flat_map (first_of 0 rows) keys ≡ []
   none_taken rows [] = refl
   none_taken rows (key ∷ keys) =
-      ap (λ first. first ++ flat_map (first_of 0 rows) keys) (take_none (sorted_list (rank_cmp column) (rows_in [] key rows)))
+      ap (λ first. first ++ flat_map (first_of 0 rows) keys)
+      (take_none (sorted_list (rank_cmp column) (rows_in [] key rows)))
       ∙ none_taken rows keys
 
   no_top : (rows : List TimedRow) → top_rows 0 column rows ≡ []
@@ -111,7 +112,8 @@ module _ (column : ℕ) where
       ap (group_keys []) (top_is (suc m) rows)
       ∙ block_keys same_row same_row-Decides (group_key []) (first_of (suc m) rows) (own_rows (suc m) rows)
       (group_keys [] rows) (keyed.keys_distinct same_row same_row-Decides (group_key []) rows)
-      (all-map (λ key. 0 < length (rows_in [] key rows)) (λ key. first_of (suc m) rows key ≡ [] → ⊥) (group_keys [] rows)
+      (all-map (λ key. 0 < length (rows_in [] key rows)) (λ key. first_of (suc m) rows key ≡ [] → ⊥)
+      (group_keys [] rows)
       (λ key some. some_first m rows key some)
       (all_keys same_row same_row-Decides (group_key []) (λ key. 0 < length (rows_in [] key rows)) rows
       (each_has_rows [] rows)))

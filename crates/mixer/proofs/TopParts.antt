@@ -1,5 +1,5 @@
--- The rows that come first, of the rows that come first on one side and all rows of another: the rows that come first of
--- both sides.
+-- The rows that come first, of the rows that come first on one side and all rows of another: the rows that come first
+-- of both sides.
 use Rattle.std.proofs.Common.{◌≡◌, ◌∙◌, ◌||◌, ℕ, zero, suc, Bool, true, false, not, cond, Decides, List, [], ◌∷◌}
 use Rattle.std.proofs.Common.{◌++◌, take, append-nil, refl, sym, ap, subst}
 use Rattle.std.specs.Cmp.{IsTotalOrder}

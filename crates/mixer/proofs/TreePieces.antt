@@ -1,5 +1,6 @@
 -- What is made of the pieces of a tree's parts is what the tree means.
-use Rattle.std.proofs.Common.{◌≡◌, ◌∙◌, ℕ, Bool, true, false, cond, List, [], ◌∷◌, ◌++◌, length, drop, map, append_assoc, refl, sym, ap, subst}
+use Rattle.std.proofs.Common.{◌≡◌, ◌∙◌, ℕ, Bool, true, false, cond, List, [], ◌∷◌, ◌++◌, length, drop, map}
+use Rattle.std.proofs.Common.{append_assoc, refl, sym, ap, subst}
 use Rattle.std.specs.Prelude.{IsPermutation}
 use Rattle.std.proofs.lemmas.List.Sorted.{IsPermutation-append}
 use Rattle.mon_value.specs.Groups.{group_rows}
@@ -64,7 +65,8 @@ module _ (grid : Grid) (source : List Row) where
 
   one_come : (use_of : PartUse) (tree : NodeTree) (more : List TopPart) (pieces : List Piece) (P : List Piece → Type 0)
       → AllCome meant ((use_of, tree) ∷ more) pieces
-      → ((p : Piece) (rest : List Piece) → ComesTo (columns_of tree) use_of (rows_meant grid tree source) p → P (p ∷ rest))
+      → ((p : Piece) (rest : List Piece) → ComesTo (columns_of tree) use_of (rows_meant grid tree source) p
+      → P (p ∷ rest))
       → P pieces
   one_come use_of tree more [] P come given = absurd come
   one_come use_of tree more (p ∷ pieces) P come given = given p pieces come.0
@@ -88,7 +90,8 @@ module _ (grid : Grid) (source : List Row) where
       one_come up.AsRows tree more pieces (λ ps. IsPermutation (rows_meant grid tree source) (first_rows ps)) come
       (λ p rest comes. first_of_rows (columns_of tree) (rows_meant grid tree source) p comes rest)
   group_by false true tree by with input below more pieces made is come further =
-      one_come (up.ToGroup by with) input more pieces (λ ps. IsPermutation (rows_meant grid tree source) (first_rows ps))
+      one_come (up.ToGroup by with) input more pieces (λ ps. IsPermutation (rows_meant grid tree source)
+      (first_rows ps))
       come
       (λ p rest comes. subst (λ xs. IsPermutation xs (first_rows (p ∷ rest))) (sym is)
       (first_of_groups (columns_of input) by with (rows_meant grid input source) p comes rest))
@@ -121,7 +124,8 @@ module _ (grid : Grid) (source : List Row) where
         → AllCome meant ((top_parts here left ++ top_parts here right) ++ more) pieces
         → AllCome meant (top_parts here right ++ more) (drop (part_count here left) pieces)
     second_side left right more pieces come =
-        come-drop meant (top_parts here left) (top_parts here right ++ more) pieces (first_side left right more pieces come)
+        come-drop meant (top_parts here left) (top_parts here right ++ more) pieces (first_side left right more pieces
+        come)
 
     -- the rows that are made are those that are meant
     pub rows_come : (tree : NodeTree) (more : List TopPart) (pieces : List Piece)
@@ -153,12 +157,14 @@ module _ (grid : Grid) (source : List Row) where
         (rows_from here input pieces) (λ e. rows_of_piece here input pieces (piece_here here input e)) below
         (λ further. rows_come input more pieces further))
     rows_come (node.Join info left right) more pieces come =
-        rows_by (here info.level) (node.Join info left right) (top_parts here left ++ top_parts here right) more pieces _ come
+        rows_by (here info.level) (node.Join info left right) (top_parts here left ++ top_parts here right) more pieces
+        _ come
         (λ below. pairs-permutation (columns_of left) (columns_of right) _ _ _ _
         (rows_come left (top_parts here right ++ more) pieces (first_side left right more pieces below))
         (rows_come right more (drop (part_count here left) pieces) (second_side left right more pieces below)))
     rows_come (node.Union info left right) more pieces come =
-        rows_by (here info.level) (node.Union info left right) (top_parts here left ++ top_parts here right) more pieces _ come
+        rows_by (here info.level) (node.Union info left right) (top_parts here left ++ top_parts here right) more
+        pieces _ come
         (λ below. IsPermutation-append _ _ _ _
         (rows_come left (top_parts here right ++ more) pieces (first_side left right more pieces below))
         (rows_come right more (drop (part_count here left) pieces) (second_side left right more pieces below)))

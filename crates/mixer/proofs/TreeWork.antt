@@ -1,5 +1,6 @@
 -- The pairs that are made of pieces are the load above their parts, and each operation above them can be done.
-use Rattle.std.proofs.Common.{◌≡◌, ◌≤◌, ℕ, ◌+◌, Bool, true, false, cond, List, [], ◌∷◌, ◌++◌, length, drop, refl, sym, subst, arith}
+use Rattle.std.proofs.Common.{◌≡◌, ◌≤◌, ℕ, ◌+◌, Bool, true, false, cond, List, [], ◌∷◌, ◌++◌, length, drop, refl, sym}
+use Rattle.std.proofs.Common.{subst, arith}
 use Rattle.std.specs.List.{flat_map}
 use Rattle.std.proofs.lemmas.List.Sorted.{length_permutation}
 use Rattle.std.proofs.lemmas.List.Sums.{sum_by-append, sum_by-cons}
@@ -69,7 +70,8 @@ module _ (grid : Grid) (source : List Row) where
     below_parts b use_of tree below more pieces e come =
         subst (λ parts. Come (parts ++ more) pieces) (parts_below b use_of tree below e) come
 
-    below_groups : (b c : Bool) (use_of : PartUse) (tree input : NodeTree) (below more : List TopPart) (pieces : List Piece)
+    below_groups : (b c : Bool) (use_of : PartUse) (tree input : NodeTree) (below more : List TopPart)
+        (pieces : List Piece)
         → cond b true c ≡ false → Come (part_or b up.AsRows tree (part_or c use_of input below) ++ more) pieces
         → Come (below ++ more) pieces
     below_groups b c use_of tree input below more pieces e come =
@@ -81,14 +83,16 @@ module _ (grid : Grid) (source : List Row) where
         sum_by-append (λ (part : TopPart). load_of grid part.1 source) (top_parts here left) (top_parts here right)
 
     -- the pairs that are made above the parts, with the load of the parts, are the whole load
-    pub loads_come : (tree : NodeTree) (more : List TopPart) (pieces : List Piece) → Come (top_parts here tree ++ more) pieces
+    pub loads_come : (tree : NodeTree) (more : List TopPart) (pieces : List Piece) → Come (top_parts here tree ++ more)
+        pieces
         → load_over tree ≡ over (top_parts here tree) + joins_from here tree pieces
     loads_come (node.Fetch info schema metric) more pieces come =
         omega (arith, one_load up.AsRows (node.Fetch info schema metric))
     loads_come (node.Filter info by input) more pieces come =
         let tree = node.Filter info by input in
         load_by (here info.level) tree (top_parts here input) (joins_from here input pieces)
-        (λ e. loads_come input more pieces (below_parts (here info.level) up.AsRows tree (top_parts here input) more pieces e come))
+        (λ e. loads_come input more pieces (below_parts (here info.level) up.AsRows tree (top_parts here input) more
+        pieces e come))
     loads_come (node.Align info by input) more pieces come =
         omega (arith, one_load up.AsRows (node.Align info by input))
     loads_come (node.GroupBy info by with input) more pieces come =
@@ -96,12 +100,14 @@ module _ (grid : Grid) (source : List Row) where
         group_load (here info.level) (here (level_of input)) tree (up.ToGroup by with) input (top_parts here input)
         (joins_from here input pieces) refl
         (λ e. loads_come input more pieces
-        (below_groups (here info.level) (here (level_of input)) (up.ToGroup by with) tree input (top_parts here input) more pieces e
+        (below_groups (here info.level) (here (level_of input)) (up.ToGroup by with) tree input (top_parts here input)
+        more pieces e
         come))
     loads_come (node.Value info items input) more pieces come =
         let tree = node.Value info items input in
         load_by (here info.level) tree (top_parts here input) (joins_from here input pieces)
-        (λ e. loads_come input more pieces (below_parts (here info.level) up.AsRows tree (top_parts here input) more pieces e come))
+        (λ e. loads_come input more pieces (below_parts (here info.level) up.AsRows tree (top_parts here input) more
+        pieces e come))
     loads_come (node.Top info most column input) more pieces come =
         let tree = node.Top info most column input in
         let cut = up.ToCut most column in
@@ -119,13 +125,15 @@ module _ (grid : Grid) (source : List Row) where
         let behind = drop (part_count here left) pieces in
         load_by (here info.level) tree (lefts ++ rights)
         (joins_from here left pieces + (joins_from here right behind
-        + length (flat_map (pairs_of (columns_of left) (columns_of right) (rows_from here right behind)) (rows_from here left pieces))))
+        + length (flat_map (pairs_of (columns_of left) (columns_of right) (rows_from here right behind))
+        (rows_from here left pieces))))
         (λ e.
         let below = below_parts (here info.level) up.AsRows tree (lefts ++ rights) more pieces e come in
         let one = first_side grid source here left right more pieces below in
         let other = second_side grid source here left right more pieces below in
         let made = length_permutation _ _
-        (pairs-permutation (columns_of left) (columns_of right) _ _ _ _ (rows_come grid source here left (rights ++ more) pieces one)
+        (pairs-permutation (columns_of left) (columns_of right) _ _ _ _ (rows_come grid source here left
+        (rights ++ more) pieces one)
         (rows_come grid source here right more behind other)) in
         omega (
           arith,
@@ -156,18 +164,22 @@ module _ (grid : Grid) (source : List Row) where
     -- a part that is to be cut, or what is made below it
     can_cut : (c : Bool) (use_of : PartUse) (base : ℕ) (input : NodeTree) (more : List TopPart) (pieces : List Piece)
         → c ≡ here (level_of input)
-        → (Come (top_parts here input ++ more) pieces → over (top_parts here input) ≤ base → CanMix base here input pieces)
+        → (Come (top_parts here input ++ more) pieces → over (top_parts here input) ≤ base → CanMix base here input
+        pieces)
         → Come (part_or c use_of input (top_parts here input) ++ more) pieces
         → over (part_or c use_of input (top_parts here input)) ≤ base
         → CanMix base here input pieces
-    can_cut true use_of base input more pieces e further come least = can_piece here base input pieces (piece_here here input (sym e))
+    can_cut true use_of base input more pieces e further come least = can_piece here base input pieces
+        (piece_here here input (sym e))
     can_cut false use_of base input more pieces e further come least = further come least
 
-    few_first : (base joins others load part : ℕ) → IsWithinRows (base + joins + others) → load ≡ part + joins → part ≤ base
+    few_first : (base joins others load part : ℕ) → IsWithinRows (base + joins + others) → load ≡ part + joins → part
+        ≤ base
         → IsWithinRows load
     few_first base joins others load part few is least = omega (arith, few, is, least)
 
-    few_second : (base joins others load part : ℕ) → IsWithinRows (base + joins + others) → load ≡ part + others → part ≤ base
+    few_second : (base joins others load part : ℕ) → IsWithinRows (base + joins + others) → load ≡ part + others → part
+        ≤ base
         → IsWithinRows load
     few_second base joins others load part few is least = omega (arith, few, is, least)
 
@@ -176,7 +188,8 @@ module _ (grid : Grid) (source : List Row) where
     less_below b use_of tree below base e least =
         subst (λ parts. over parts ≤ base) (parts_below b use_of tree below e) least
 
-    pub can_mix : (base : ℕ) (tree : NodeTree) (more : List TopPart) (pieces : List Piece) → IsEvaluable grid tree source
+    pub can_mix : (base : ℕ) (tree : NodeTree) (more : List TopPart) (pieces : List Piece) → IsEvaluable grid tree
+        source
         → Come (top_parts here tree ++ more) pieces → over (top_parts here tree) ≤ base → CanMix base here tree pieces
     can_mix base (node.Fetch info schema metric) more pieces can come least = tt
     can_mix base (node.Filter info by input) more pieces can come least =
@@ -195,9 +208,11 @@ module _ (grid : Grid) (source : List Row) where
         let grouped = cond (here info.level) true (here (level_of input)) in
         unless_by grouped _
         (λ e.
-        let own = below_groups (here info.level) (here (level_of input)) (up.ToGroup by with) tree input below more pieces e come in
+        let own = below_groups (here info.level) (here (level_of input)) (up.ToGroup by with) tree input below more
+        pieces e come in
         let less = subst (λ parts. over parts ≤ base)
-        (groups_below (here info.level) (here (level_of input)) up.AsRows (up.ToGroup by with) tree input below e) least in (
+        (groups_below (here info.level) (here (level_of input)) up.AsRows (up.ToGroup by with) tree input below e)
+        least in (
           λ few. CanGroup-permutation (columns_of input) by with _ _ (rows_come grid source here input more pieces own)
               (can.0 (few_first base (joins_from here input pieces) 0 (load_over input) (over below) few
               (loads_come input more pieces own) less)),
@@ -247,7 +262,8 @@ module _ (grid : Grid) (source : List Row) where
           λ few. (
             all-permutation (λ (row : TimedRow). length row.cells ≡ length (columns_of left)) _ _
                 (rows_come grid source here left (rights ++ more) pieces one)
-                (can.0 (few_first base (joins_from here left pieces) (joins_from here right behind) (load_over left) (over lefts)
+                (can.0 (few_first base (joins_from here left pieces) (joins_from here right behind) (load_over left)
+                (over lefts)
                 few (loads_come left (rights ++ more) pieces one) first_less)),
             all-permutation (λ (row : TimedRow). length row.cells ≡ length (columns_of right)) _ _
                 (rows_come grid source here right more behind other)

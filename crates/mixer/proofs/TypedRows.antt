@@ -1,6 +1,6 @@
 -- The rows of a typed tree have the types of its columns, however many there are.
 use Rattle.std.proofs.Common.{◌≡◌, ◌∙◌, ◌<◌, ℕ, Bool, true, false, ◌||◌, cond, Option, Some, None, List, [], ◌∷◌}
-use Rattle.std.proofs.Common.{◌++◌, map, length, refl, sym, ap, subst, arith}
+use Rattle.std.proofs.Common.{◌++◌, map, length, refl, sym, ap, subst}
 use Rattle.std.specs.Prelude.{option_and_then, option_map, slice_get}
 use Rattle.std.specs.List.{AllByRecursion, cons_option, filter_map, flat_map, list_any}
 use Rattle.mon_value.specs.Columns.{FitColumns}
@@ -32,11 +32,12 @@ use Rattle.mql_types.specs.Items.{item_column, item_name, item_sum_faults, key_c
 use Rattle.mql_types.specs.Meaning.{key_cells, value_row}
 use Rattle.mql_types.specs.Soundness.{CountsRows}
 use Rattle.mql_types.specs.Widths.{count_width}
-use Rattle.mql_types.proofs.FoldedColumns.{fold_made, place_is}
+use Rattle.mql_types.proofs.FoldedColumns.{fold_made, over_is}
 use Rattle.mql_types.proofs.JoinedRows.{FitColumns-append, all-map}
 use Rattle.mql_types.proofs.KeptRows.{all-filter}
 use Rattle.mql_types.proofs.MadeCells.{kept_shaped, nothing_is, same_item}
 use Rattle.mql_types.proofs.SumBounds.{AreLawful, no_faults, none_where}
+use Rattle.mql_types.proofs.GroupedRows.{each_has_rows}
 use Rattle.mon_meaning.proofs.ApartKeys.{all_keys}
 use Rattle.mixer.proofs.TypedCells.{AreTyped, TypedCell, alone_typed, aggregate_typed, cells_typed, cons_typed}
 use Rattle.mixer.proofs.TypedCells.{count_typed, keys_typed, sum_typed}
@@ -71,13 +72,6 @@ record AggregateCell (columns : List Column) (rows : List TimedRow) (o : Option 
   is : o ≡ Some column
   is_made : m ≡ Some made
   typed : TypedCell (Some column) (aggregate_made made.what made.column rows)
-
-over_is : (columns : List Column) (how : FoldWord) (name : List ℕ) (c : Column) → column_named name columns ≡ Some c
-    → option_and_then (aggregate_at columns how) (place_found name columns)
-    ≡ Some (grouping.aggregate_made how c.of (place_of name columns))
-over_is columns how name c e =
-    ap (λ o. option_and_then (aggregate_at columns how) o) (place_is columns name c e)
-    ∙ ap (λ o. option_map (λ (d : Column). grouping.aggregate_made how d.of (place_of name columns)) o) e
 
 no_count : (how : FoldWord) (name : Name) → CountsRows how (Some name) → how ≡ fold.Count → ⊥
 no_count how name counts e = subst (λ h. CountsRows h (Some name)) e counts
@@ -155,27 +149,6 @@ aggregates_typed columns lawful (a ∷ aggregates) counts none rows some fit =
 
 -- ---- groups
 
-more_by : {A : Type 0} (b : Bool) (x : A) (xs : List A) → 0 < length xs → 0 < length (cond b (x ∷ xs) xs)
-more_by true x xs h = omega arith
-more_by false x xs h = h
-
-first_by : {A : Type 0} (b : Bool) (x : A) (xs : List A) → b ≡ true → 0 < length (cond b (x ∷ xs) xs)
-first_by true x xs e = omega arith
-first_by false x xs e = absurd cc
-
-pub each_has_rows : (by : List ℕ) (rows : List TimedRow)
-    → AllByRecursion (λ row. 0 < length (rows_in by (group_key by row) rows)) rows
-each_has_rows by [] = tt
-each_has_rows by (row ∷ rows) = (
-  first_by (same_row (group_key by row) (group_key by row)) row (rows_in by (group_key by row) rows)
-      ((same_row-Decides (group_key by row) (group_key by row)).1 refl),
-  all-map (λ other. 0 < length (rows_in by (group_key by other) rows))
-      (λ other. 0 < length (rows_in by (group_key by other) (row ∷ rows))) rows
-      (λ other h. more_by (same_row (group_key by other) (group_key by row)) row
-      (rows_in by (group_key by other) rows) h)
-      (each_has_rows by rows),
-)
-
 module _ (columns : List Column) (by : List ℕ) (aggregates : List Aggregate) (lawful : AreLawful columns)
     (counts : AllByRecursion (λ (a : Aggregate). CountsRows a.fold a.column) aggregates)
     (none : flat_map (aggregate_faults columns) aggregates ≡ []) (rows : List TimedRow) (fit : AreTyped columns rows)
@@ -239,7 +212,8 @@ any_split false c e = (refl, e)
 items_typed : (columns : List Column) (items : List ItemTree) → flat_map (item_sum_faults columns) items ≡ []
     → (cells : List Value) → FitColumns columns cells
     → list_any (λ (item : ItemTree). meets_no_values item.sum columns cells) items ≡ false
-    → AllByRecursion (λ (item : ItemTree). TypedCell (item_column columns item) (sum_value item.sum columns cells)) items
+    → AllByRecursion (λ (item : ItemTree). TypedCell (item_column columns item) (sum_value item.sum columns cells))
+    items
 items_typed columns [] none cells fit some = tt
 items_typed columns (item ∷ items) none cells fit some =
     let parts = no_faults (item_sum_faults columns item) (flat_map (item_sum_faults columns) items) none in
@@ -259,7 +233,8 @@ pub value_made : (columns : List Column) (items : List ItemTree) → flat_map (i
 value_made columns items none row made fit e =
     let rest = filter_map (λ (item : ItemTree). sum_value item.sum columns row.cells) items in
     let whole : TimedRow = record { time = row.time; cells = key_cells columns row.cells ++ rest } in
-    let parts = row_by (list_any (λ (item : ItemTree). meets_no_values item.sum columns row.cells) items) whole made e in
+    let parts = row_by (list_any (λ (item : ItemTree). meets_no_values item.sum columns row.cells) items) whole made
+    e in
     subst (λ (r : TimedRow). FitColumns (key_columns columns ++ filter_map (item_column columns) items) r.cells) parts.1
     (FitColumns-append (key_columns columns) (filter_map (item_column columns) items) (key_cells columns row.cells) rest
     (kept_shaped (λ (column : Column). column.key) columns row.cells fit)

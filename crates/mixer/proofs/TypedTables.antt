@@ -1,15 +1,12 @@
 -- The tables of a typed tree have the types of its columns, however much work the tree is.
-use Rattle.std.proofs.Common.{◌≡◌, ◌∙◌, ◌&&◌, ℕ, suc, ℤ, true, not, Option, Some, None, List, [], ◌∷◌, ◌++◌, map}
-use Rattle.std.proofs.Common.{length, take, refl, sym, ap, subst, arith}
-use Rattle.std.specs.Prelude.{option_map, unwrap_or}
-use Rattle.std.specs.Cmp.Lexicographic.{pointwise}
+use Rattle.std.proofs.Common.{◌≡◌, ◌∙◌, ◌&&◌, ℕ, true, List, [], ◌∷◌, ◌++◌, map}
+use Rattle.std.proofs.Common.{length, take, sym, ap, subst}
 use Rattle.std.specs.List.{AllByRecursion, filter, filter_map, flat_map}
-use Rattle.std.specs.Ordering.{int_eq}
 use Rattle.mon_value.specs.Alignments.{aligned_values}
 use Rattle.mon_value.specs.Columns.{FitColumns, HasType}
 use Rattle.mon_value.specs.Grids.{IsLawful}
 use Rattle.mon_value.specs.Groups.{group_key, group_keys, group_rows, rows_in}
-use Rattle.mon_value.specs.Joins.{has_name, is_pair, pair_of, pairs_of, right_cells, right_columns}
+use Rattle.mon_value.specs.Joins.{is_pair, pair_of, pairs_of}
 use Rattle.mon_value.specs.Same.{same_row, same_series, same_text, same_truth}
 use Rattle.mon_value.specs.SeriesRows.{row_of}
 use Rattle.mon_value.specs.Sorting.{sorted_list}
@@ -28,14 +25,12 @@ use Rattle.mon_value.specs.declared.schemas.TargetSchema.{TargetSchema}
 use Rattle.mon_value.specs.declared.tables.TimedRow.{TimedRow}
 use Rattle.mon_value.specs.declared.values.Value.{Value}
 use Rattle.mon_value.specs.declared.values.Value.TheVariants as value
-use Rattle.mon_value.specs.declared.values.ValueType.{ValueType}
 use Rattle.mon_value.specs.declared.values.ValueType.TheVariants as type
 use Rattle.mon_value.proofs.SameLemmas.{both, same_series-Decides}
 use Rattle.mon_schema.specs.SchemaLists.{SchemaLists}
-use Rattle.mql_ast.specs.NamedCells.{column_named}
 use Rattle.mql_ast.specs.Trees.{ItemTree}
 use Rattle.mql_ast.specs.Truths.{predicate_truth}
-use Rattle.mql_types.specs.Branches.{anchored_with, as_joined, join_columns, left_column, same_column, same_columns}
+use Rattle.mql_types.specs.Branches.{join_columns, same_column, same_columns}
 use Rattle.mql_types.specs.Branches.{same_type, union_columns}
 use Rattle.mql_types.specs.Fetches.{value_column}
 use Rattle.mql_types.specs.Groupings.{aggregate_columns, key_columns_at}
@@ -51,11 +46,13 @@ use Rattle.mql_types.proofs.AlignedRows.{aligned_are}
 use Rattle.mql_types.proofs.AlignedValues.{PointFits, aligned_fit}
 use Rattle.mql_types.proofs.FetchedPoints.{IsRowOf, IsSeriesOf, series_columns, series_typed, value_small, value_typed}
 use Rattle.mql_types.proofs.FetchedTrees.{AllFit, columns_fetched_are, points_of_schemas}
-use Rattle.mql_types.proofs.JoinedRows.{FitColumns-append, FitColumns-map, all-flat_map, all-made, all-map}
+use Rattle.mql_types.proofs.JoinedRows.{FitColumns-append, all-flat_map, all-made, all-map}
 use Rattle.mql_types.proofs.KeptRows.{all-append, all-filter, all-sorted, all-take}
-use Rattle.mql_types.proofs.MadeCells.{all-filter_map, kept_shaped, length_fit}
+use Rattle.mql_types.proofs.MadeCells.{all-filter_map, length_fit}
 use Rattle.mql_types.proofs.SumBounds.{AreLawful}
 use Rattle.mql_types.proofs.TypedTrees.{AlignOf, AreRows, GroupOf, ValueOf, lawful_columns}
+use Rattle.mql_types.proofs.UnitedRows.{left_fits, same_type-HasType}
+use Rattle.mql_types.proofs.JoinedRows.{pair_fits}
 use Rattle.mon_meaning.proofs.ApartKeys.{all_keys}
 use Rattle.mixer.proofs.LocalTrees.{MakesWhole}
 use Rattle.mixer.proofs.StemmingRows.{AreWhole}
@@ -110,21 +107,6 @@ align_typed held grid lawful rows fit info by input own =
 
 -- ---- joins and unions
 
-left_type : (held : SchemaLists) (c : Column) (o : Option Column)
-    → c.of ≡ (as_joined (unwrap_or (option_map (anchored_with held c) o) c)).of
-left_type held c None = refl
-left_type held c (Some other) = refl
-
-pair_typed : (held : SchemaLists) (lefts rights : List Column) (left right : TimedRow)
-    → FitColumns lefts left.cells → FitColumns rights right.cells
-    → FitColumns (join_columns held lefts rights) (pair_of lefts rights left right).cells
-pair_typed held lefts rights left right fit other =
-    FitColumns-append (map (left_column held rights) lefts) (map as_joined (right_columns lefts rights)) left.cells
-    (right_cells lefts rights right)
-    (FitColumns-map (left_column held rights) (λ c. left_type held c (column_named c.name rights)) lefts left.cells fit)
-    (FitColumns-map as_joined (λ c. refl) (right_columns lefts rights) (right_cells lefts rights right)
-    (kept_shaped (λ column. not (has_name column.name lefts)) rights right.cells other))
-
 join_typed : (held : SchemaLists) (lefts rights : List Column) (rows others : List TimedRow) → AreTyped lefts rows
     → AreTyped rights others
     → AreTyped (join_columns held lefts rights) (flat_map (pairs_of lefts rights others) rows)
@@ -135,47 +117,8 @@ join_typed held lefts rights rows others fit more =
     (λ left l. all-made (λ (row : TimedRow). FitColumns rights row.cells)
     (λ (row : TimedRow). FitColumns to row.cells) (pair_of lefts rights left)
     (filter (is_pair lefts rights left) others)
-    (λ right r. pair_typed held lefts rights left right l r)
+    (λ right r. pair_fits held lefts rights left right l r)
     (all-filter (λ (row : TimedRow). FitColumns rights row.cells) (is_pair lefts rights left) others more)) fit
-
-bounds_long : (xs ys : List ℤ) → pointwise int_eq xs ys ≡ true → length xs ≡ length ys
-bounds_long [] [] same = refl
-bounds_long [] (y ∷ ys) same = absurd cc
-bounds_long (x ∷ xs) [] same = absurd cc
-bounds_long (x ∷ xs) (y ∷ ys) same =
-    ap (λ n. suc n) (bounds_long xs ys (both (int_eq x y) (pointwise int_eq xs ys) same).1)
-
--- a value of the same type
-of_same : (a b : ValueType) (x : Value) → same_type a b ≡ true → HasType b x → HasType a x
-of_same type.Int type.Int x same has = has
-of_same type.Bool type.Bool x same has = has
-of_same type.Text type.Text x same has = has
-of_same (type.Dist bounds) (type.Dist others) (value.Dist counts) same has =
-    omega (arith, bounds_long bounds others same, has)
-of_same (type.Dist bounds) (type.Dist others) (value.Int z) same has = has
-of_same (type.Dist bounds) (type.Dist others) (value.Bool b) same has = has
-of_same (type.Dist bounds) (type.Dist others) (value.Text s) same has = has
-of_same type.Int type.Bool x same has = absurd cc
-of_same type.Int type.Text x same has = absurd cc
-of_same type.Int (type.Dist others) x same has = absurd cc
-of_same type.Bool type.Int x same has = absurd cc
-of_same type.Bool type.Text x same has = absurd cc
-of_same type.Bool (type.Dist others) x same has = absurd cc
-of_same type.Text type.Int x same has = absurd cc
-of_same type.Text type.Bool x same has = absurd cc
-of_same type.Text (type.Dist others) x same has = absurd cc
-of_same (type.Dist bounds) type.Int x same has = absurd cc
-of_same (type.Dist bounds) type.Bool x same has = absurd cc
-of_same (type.Dist bounds) type.Text x same has = absurd cc
-
-left_united : (held : SchemaLists) (lefts rights : List Column) (xs : List Value) → same_columns lefts rights ≡ true
-    → FitColumns lefts xs → FitColumns (union_columns held lefts rights) xs
-left_united held [] rights [] same fit = tt
-left_united held [] rights (x ∷ xs) same fit = absurd fit
-left_united held (l ∷ ls) [] xs same fit = absurd cc
-left_united held (l ∷ ls) (r ∷ rs) [] same fit = absurd fit
-left_united held (l ∷ ls) (r ∷ rs) (x ∷ xs) same fit =
-    (fit.0, left_united held ls rs xs (both (same_column l r) (same_columns ls rs) same).1 fit.1)
 
 right_united : (held : SchemaLists) (lefts rights : List Column) (xs : List Value) → same_columns lefts rights ≡ true
     → FitColumns rights xs → FitColumns (union_columns held lefts rights) xs
@@ -187,7 +130,7 @@ right_united held (l ∷ ls) (r ∷ rs) [] same fit = absurd fit
 right_united held (l ∷ ls) (r ∷ rs) (x ∷ xs) same fit =
     let parts = both (same_column l r) (same_columns ls rs) same in
     let types = both (same_text l.name r.name) (same_type l.of r.of && same_truth l.key r.key) parts.0 in (
-      of_same l.of r.of x (both (same_type l.of r.of) (same_truth l.key r.key) types.1).0 fit.0,
+      same_type-HasType l.of r.of x (both (same_type l.of r.of) (same_truth l.key r.key) types.1).0 fit.0,
       right_united held ls rs xs parts.1 fit.1,
     )
 
@@ -237,7 +180,8 @@ module _ (held : SchemaLists) (grid : Grid) (lawful : IsLawful grid) (rows : Lis
       (tree_typed input own.1))
   tree_typed (node.Align info by input) own = align_typed held grid lawful rows fit info by input own
   tree_typed (node.GroupBy info by with input) own =
-      group_by_typed info by with (columns_of input) own.0 (lawful_columns held input own.1) (rows_meant grid input rows)
+      group_by_typed info by with (columns_of input) own.0 (lawful_columns held input own.1)
+      (rows_meant grid input rows)
       (tree_typed input own.1)
   tree_typed (node.Value info items input) own =
       values_typed info items (columns_of input) own.0 (rows_meant grid input rows) (tree_typed input own.1)
@@ -256,7 +200,7 @@ module _ (held : SchemaLists) (grid : Grid) (lawful : IsLawful grid) (rows : Lis
       (rows_meant grid right rows)
       (all-map (λ (row : TimedRow). FitColumns (columns_of left) row.cells)
       (λ (row : TimedRow). FitColumns to row.cells) (rows_meant grid left rows)
-      (λ row f. left_united held (columns_of left) (columns_of right) row.cells own.0.same f)
+      (λ row f. left_fits held (columns_of left) (columns_of right) row.cells own.0.same f)
       (tree_typed left own.1.0))
       (all-map (λ (row : TimedRow). FitColumns (columns_of right) row.cells)
       (λ (row : TimedRow). FitColumns to row.cells) (rows_meant grid right rows)

@@ -2,7 +2,8 @@
 use Rattle.std.proofs.Common.{◌≤◌, ℕ, ◌^◌, Bool, List, [], ◌∷◌, ◌++◌, length, map, sym, subst, arith}
 use Rattle.std.specs.Prelude.{IsPermutation}
 use Rattle.std.specs.List.{AllByRecursion}
-use Rattle.std.proofs.lemmas.List.Sorted.{IsPermutation-append, IsPermutation-refl, IsPermutation-trans, length_permutation}
+use Rattle.std.proofs.lemmas.List.Sorted.{IsPermutation-append, IsPermutation-refl, IsPermutation-trans}
+use Rattle.std.proofs.lemmas.List.Sorted.{length_permutation}
 use Rattle.std.proofs.lemmas.List.Sums.{sum_by-cons}
 use Rattle.mon_value.specs.Limits.{greatest_sum}
 use Rattle.mon_value.specs.declared.grids.Grid.{Grid}
@@ -24,7 +25,8 @@ use Rattle.mixer.specs.Divisions.{AreApart, together}
 use Rattle.mixer.specs.Mixing.{SamePieces, joined_pieces}
 use Rattle.mixer.specs.within.Joined.{AllStandEmpty, AreTogether, CanBeEmpty, CanJoinAll}
 use Rattle.mixer.proofs.ApartPieces.{no_rows}
-use Rattle.mixer.proofs.JoinedPieces.{AllCanCome, AllChildren, AllCome, all_come-permutation, all_standing, can_go_up_first}
+use Rattle.mixer.proofs.JoinedPieces.{AllCanCome, AllChildren, AllCome, all_come-permutation, all_standing}
+use Rattle.mixer.proofs.JoinedPieces.{can_go_up_first}
 use Rattle.mixer.proofs.JoinedPieces.{children_together, comes_standing, meant_over, rows_over}
 use Rattle.mixer.proofs.ZoneParts.{IsPartMade}
 
@@ -38,7 +40,8 @@ split_pieces : (grid : Grid) (whole xs ys : List Row) (parts : List TopPart)
     → SamePieces (map (piece_meant grid whole) parts)
     (joined_pieces (map (piece_meant grid xs) parts) (map (piece_meant grid ys) parts))
     → AllByRecursion
-    (λ (part : TopPart). IsPermutation (rows_meant grid part.1 whole) (rows_meant grid part.1 xs ++ rows_meant grid part.1 ys))
+    (λ (part : TopPart). IsPermutation (rows_meant grid part.1 whole) (rows_meant grid part.1 xs ++ rows_meant grid
+    part.1 ys))
     parts
 split_pieces grid whole xs ys [] same = tt
 split_pieces grid whole xs ys (part ∷ parts) same = (same.1.0, split_pieces grid whole xs ys parts same.1.1)
@@ -65,7 +68,8 @@ with_leaf grid leaf leaves (part ∷ parts) split rest = (
 
 module _ (held : SchemaLists) (grid : Grid) (here : Level → Bool) (tree : NodeTree)
     (Shares : List Row → List Row → Type 0)
-    (all_shares : (leaf : List Row) (leaves : List (List Row)) → AllByRecursion (Shares leaf) leaves → Shares leaf (together leaves))
+    (all_shares : (leaf : List Row) (leaves : List (List Row)) → AllByRecursion (Shares leaf) leaves
+    → Shares leaf (together leaves))
     (apart : (xs ys : List Row) → AllFit held xs → AllFit held ys → Shares xs ys
     → SamePieces (pieces_meant here grid tree (xs ++ ys))
     (joined_pieces (pieces_meant here grid tree xs) (pieces_meant here grid tree ys))) where
@@ -124,17 +128,21 @@ can_join grid parts [] [] all can = tt
 can_join grid parts [] (child ∷ children) all can = absurd all
 can_join grid parts (rows ∷ leaves) [] all can = absurd all
 can_join grid parts (rows ∷ leaves) (child ∷ children) all can =
-    (children_together grid parts (meant_over grid rows) leaves child children (all_standing grid rows parts child all.0) all.1 can).0
+    (children_together grid parts (meant_over grid rows) leaves child children (all_standing grid rows parts child
+    all.0) all.1 can).0
 
-joined_come : (grid : Grid) (parts : List TopPart) (leaves : List (List Row)) (children : List (List Piece)) (pieces : List Piece)
-    → AllChildren grid parts leaves children → AllCanCome (rows_over grid leaves) parts → AreTogether parts children pieces
+joined_come : (grid : Grid) (parts : List TopPart) (leaves : List (List Row)) (children : List (List Piece))
+    (pieces : List Piece)
+    → AllChildren grid parts leaves children → AllCanCome (rows_over grid leaves) parts → AreTogether parts children
+    pieces
     → AllCome (rows_over grid leaves) parts pieces
 joined_come grid parts [] [] pieces all can joined = empty_come grid parts pieces joined
 joined_come grid parts [] (child ∷ children) pieces all can joined = absurd all
 joined_come grid parts (rows ∷ leaves) [] pieces all can joined = absurd all
 joined_come grid parts (rows ∷ leaves) (child ∷ children) pieces all can joined =
     subst (λ ps. AllCome (rows_over grid (rows ∷ leaves)) parts ps) (sym joined)
-    (children_together grid parts (meant_over grid rows) leaves child children (all_standing grid rows parts child all.0) all.1 can).1
+    (children_together grid parts (meant_over grid rows) leaves child children (all_standing grid rows parts child
+    all.0) all.1 can).1
 
 -- the pieces of all children have come to the rows of all
 pub whole_come : (grid : Grid) (parts : List TopPart) (leaves : List (List Row)) (children : List (List Piece))

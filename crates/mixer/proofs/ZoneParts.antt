@@ -1,5 +1,6 @@
 -- The parts of a zone, each of which is made of the parts of its leaves.
-use Rattle.std.proofs.Common.{◌≡◌, ◌∙◌, ◌≤◌, ℕ, ◌+◌, Bool, true, false, List, [], ◌∷◌, ◌++◌, drop, append-nil, refl, sym, ap, subst, arith}
+use Rattle.std.proofs.Common.{◌≡◌, ◌∙◌, ◌≤◌, ℕ, ◌+◌, Bool, true, false, List, [], ◌∷◌, ◌++◌, drop, append-nil, refl}
+use Rattle.std.proofs.Common.{sym, ap, subst, arith}
 use Rattle.std.specs.List.{AllByRecursion, flat_map}
 use Rattle.std.proofs.lemmas.Grind.{flat_map-append}
 use Rattle.std.proofs.lemmas.List.Sums.{sum_by-append, sum_by-cons}
@@ -46,9 +47,11 @@ module _ (below : Level → Bool) where
   lower_itself (node.Fetch info schema metric) = same_part (below info.level) (AsRows, node.Fetch info schema metric)
   lower_itself (node.Filter info by input) = same_twice (below info.level) AsRows (node.Filter info by input) _
   lower_itself (node.Align info by input) = same_part (below info.level) (AsRows, node.Align info by input)
-  lower_itself (node.GroupBy info by with input) = same_twice (below info.level) AsRows (node.GroupBy info by with input) _
+  lower_itself (node.GroupBy info by with input) = same_twice (below info.level) AsRows
+      (node.GroupBy info by with input) _
   lower_itself (node.Value info items input) = same_twice (below info.level) AsRows (node.Value info items input) _
-  lower_itself (node.Top info most column input) = same_twice (below info.level) AsRows (node.Top info most column input) _
+  lower_itself (node.Top info most column input) = same_twice (below info.level) AsRows
+      (node.Top info most column input) _
   lower_itself (node.Join info left right) = same_twice (below info.level) AsRows (node.Join info left right) _
   lower_itself (node.Union info left right) = same_twice (below info.level) AsRows (node.Union info left right) _
 
@@ -62,7 +65,8 @@ module _ (below : Level → Bool) where
 
     lower_used : (b c : Bool) (use_of : PartUse) (input : NodeTree) → (c ≡ true → b ≡ true) → c ≡ below (level_of input)
         → top_parts below input ≡ flat_map lower (top_parts here input)
-        → part_or c use_of input (top_parts below input) ≡ flat_map lower (part_or b use_of input (top_parts here input))
+        → part_or c use_of input (top_parts below input) ≡ flat_map lower
+        (part_or b use_of input (top_parts here input))
     lower_used true c use_of input up is further =
         ap (λ d. part_or d use_of input (top_parts below input)) is ∙ sym (append-nil (lower (use_of, input)))
     lower_used false true use_of input up is further = absurd (let no : false ≡ true = up refl in cc)
@@ -72,36 +76,46 @@ module _ (below : Level → Bool) where
     lower_parts (node.Fetch info schema metric) =
         sym (append-nil (lower (AsRows, node.Fetch info schema metric)) ∙ lower_itself (node.Fetch info schema metric))
     lower_parts (node.Filter info by input) =
-        lower_by (here info.level) (below info.level) (node.Filter info by input) _ _ (within info.level) refl (lower_parts input)
+        lower_by (here info.level) (below info.level) (node.Filter info by input) _ _ (within info.level) refl
+        (lower_parts input)
     lower_parts (node.Align info by input) =
         sym (append-nil (lower (AsRows, node.Align info by input)) ∙ lower_itself (node.Align info by input))
     lower_parts (node.GroupBy info by with input) =
         lower_by (here info.level) (below info.level) (node.GroupBy info by with input) _ _ (within info.level) refl
-        (lower_used (here (level_of input)) (below (level_of input)) (ToGroup by with) input (within (level_of input)) refl
+        (lower_used (here (level_of input)) (below (level_of input)) (ToGroup by with) input (within (level_of input))
+        refl
         (lower_parts input))
     lower_parts (node.Value info items input) =
-        lower_by (here info.level) (below info.level) (node.Value info items input) _ _ (within info.level) refl (lower_parts input)
+        lower_by (here info.level) (below info.level) (node.Value info items input) _ _ (within info.level) refl
+        (lower_parts input)
     lower_parts (node.Top info most column input) =
         lower_by (here info.level) (below info.level) (node.Top info most column input) _ _ (within info.level) refl
-        (lower_used (here (level_of input)) (below (level_of input)) (ToCut most column) input (within (level_of input)) refl
+        (lower_used (here (level_of input)) (below (level_of input)) (ToCut most column) input
+        (within (level_of input)) refl
         (lower_parts input))
     lower_parts (node.Join info left right) =
-        lower_by (here info.level) (below info.level) (node.Join info left right) (top_parts below left ++ top_parts below right)
+        lower_by (here info.level) (below info.level) (node.Join info left right) (top_parts below left
+        ++ top_parts below right)
         (top_parts here left ++ top_parts here right) (within info.level) refl
-        ((λ i. lower_parts left i ++ lower_parts right i) ∙ sym (flat_map-append lower (top_parts here left) (top_parts here right)))
+        ((λ i. lower_parts left i ++ lower_parts right i) ∙ sym (flat_map-append lower (top_parts here left)
+        (top_parts here right)))
     lower_parts (node.Union info left right) =
-        lower_by (here info.level) (below info.level) (node.Union info left right) (top_parts below left ++ top_parts below right)
+        lower_by (here info.level) (below info.level) (node.Union info left right) (top_parts below left
+        ++ top_parts below right)
         (top_parts here left ++ top_parts here right) (within info.level) refl
-        ((λ i. lower_parts left i ++ lower_parts right i) ∙ sym (flat_map-append lower (top_parts here left) (top_parts here right)))
+        ((λ i. lower_parts left i ++ lower_parts right i) ∙ sym (flat_map-append lower (top_parts here left)
+        (top_parts here right)))
 
 -- ---- that parts can be made
 
 -- a part that can be evaluated, and whose piece can be made of its rows
 pub record IsPartMade (grid : Grid) (source : List Row) (part : TopPart) : Type 0 where
   pub evaluable : IsEvaluable grid part.1 source
-  pub can : IsWithinRows (load_of grid part.1 source) → CanGoUp (columns_of part.1) part.0 (rows_meant grid part.1 source)
+  pub can : IsWithinRows (load_of grid part.1 source) → CanGoUp (columns_of part.1) part.0
+      (rows_meant grid part.1 source)
 
-part_all : (P : TopPart → Type 0) (b : Bool) (use_of : PartUse) (part : NodeTree) (below : List TopPart) → P (use_of, part)
+part_all : (P : TopPart → Type 0) (b : Bool) (use_of : PartUse) (part : NodeTree) (below : List TopPart)
+    → P (use_of, part)
     → AllByRecursion P below → AllByRecursion P (part_or b use_of part below)
 part_all P true use_of part below own all = (own, tt)
 part_all P false use_of part below own all = all
@@ -120,19 +134,22 @@ module _ (grid : Grid) (source : List Row) (here : Level → Bool) where
       (parts_made input can)
   parts_made (node.Align info by input) can = (as_rows (node.Align info by input) can, tt)
   parts_made (node.GroupBy info by with input) can =
-      part_all Made (here info.level) AsRows (node.GroupBy info by with input) _ (as_rows (node.GroupBy info by with input) can)
+      part_all Made (here info.level) AsRows (node.GroupBy info by with input)
+      _ (as_rows (node.GroupBy info by with input) can)
       (part_all Made (here (level_of input)) (ToGroup by with) input _ (record { evaluable = can.1; can = can.0 })
       (parts_made input can.1))
   parts_made (node.Value info items input) can =
       part_all Made (here info.level) AsRows (node.Value info items input) _ (as_rows (node.Value info items input) can)
       (parts_made input can.1.1)
   parts_made (node.Top info most column input) can =
-      part_all Made (here info.level) AsRows (node.Top info most column input) _ (as_rows (node.Top info most column input) can)
+      part_all Made (here info.level) AsRows (node.Top info most column input)
+      _ (as_rows (node.Top info most column input) can)
       (part_all Made (here (level_of input)) (ToCut most column) input _ (record { evaluable = can; can = λ few. tt })
       (parts_made input can))
   parts_made (node.Join info left right) can =
       part_all Made (here info.level) AsRows (node.Join info left right) _ (as_rows (node.Join info left right) can)
-      (all-append Made (top_parts here left) (top_parts here right) (parts_made left can.1.1.0) (parts_made right can.1.1.1))
+      (all-append Made (top_parts here left) (top_parts here right) (parts_made left can.1.1.0)
+      (parts_made right can.1.1.1))
   parts_made (node.Union info left right) can =
       part_all Made (here info.level) AsRows (node.Union info left right) _ (as_rows (node.Union info left right) can)
       (all-append Made (top_parts here left) (top_parts here right) (parts_made left can.0) (parts_made right can.1))
@@ -146,7 +163,8 @@ module _ (grid : Grid) (source : List Row) where
   abbrev pub Come : List TopPart → List Piece → Type 0
   Come parts pieces = AllCome (meant grid source) parts pieces
 
-  further : (part : TopPart) (parts : List TopPart) (pieces : List Piece) → Come (lower is_leaf part ++ lowers parts) pieces
+  further : (part : TopPart) (parts : List TopPart) (pieces : List Piece) → Come (lower is_leaf part ++ lowers parts)
+      pieces
       → Come (lowers parts) (behind_part part pieces)
   further part parts pieces come =
       subst (λ n. Come (lowers parts) (drop n pieces)) (same_count is_leaf part.0 part.1)
@@ -160,7 +178,8 @@ module _ (grid : Grid) (source : List Row) where
       subst (λ q. StandsFor (columns_of part.1) (part.0, rows_meant grid part.1 source) q) (sym handed)
       (cut_stands (columns_of part.1) part.0 (rows_meant grid part.1 source) p come.0)
   first_stands false part more pieces made come handed =
-      stands-permutation (columns_of part.1) part.0 _ _ made (rows_come grid source is_leaf part.1 more pieces come) handed
+      stands-permutation (columns_of part.1) part.0 _ _ made (rows_come grid source is_leaf part.1 more pieces come)
+      handed
 
   -- what is handed up stands for the parts' rows
   pub all_stand : (parts : List TopPart) (pieces made : List Piece) → Come (lowers parts) pieces
@@ -198,7 +217,8 @@ module _ (grid : Grid) (source : List Row) where
         loads_of_parts parts (behind_part part pieces) (further part parts pieces come),
       )
 
-  first_can : (b : Bool) (base : ℕ) (part : TopPart) (more : List TopPart) (pieces : List Piece) → b ≡ is_leaf (level_of part.1)
+  first_can : (b : Bool) (base : ℕ) (part : TopPart) (more : List TopPart) (pieces : List Piece)
+      → b ≡ is_leaf (level_of part.1)
       → IsPartMade grid source part → Come (part_or b part.0 part.1 (top_parts is_leaf part.1) ++ more) pieces
       → over grid source (part_or b part.0 part.1 (top_parts is_leaf part.1)) ≤ base → CanHandUpBy b base part pieces
   first_can true base part more [] e made come least = absurd come
@@ -217,6 +237,8 @@ module _ (grid : Grid) (source : List Row) where
   all_can base [] pieces made come least = tt
   all_can base (part ∷ parts) pieces made come least =
       let split = sum_by-append (λ (p : TopPart). load_of grid p.1 source) (lower is_leaf part) (lowers parts) in (
-        first_can (is_leaf (level_of part.1)) base part (lowers parts) pieces refl made.0 come (omega (arith, split, least)),
-        all_can base parts (behind_part part pieces) made.1 (further part parts pieces come) (omega (arith, split, least)),
+        first_can (is_leaf (level_of part.1)) base part (lowers parts) pieces refl made.0 come
+            (omega (arith, split, least)),
+        all_can base parts (behind_part part pieces) made.1 (further part parts pieces come)
+            (omega (arith, split, least)),
       )

@@ -8,7 +8,8 @@ use Rattle.mixer.specs.within.Mixtures.{joins_from}
 use Rattle.mixer.specs.within.ZonePieces.{CanHandUp, CanHandUpAll, CanHandUpBy, behind_part, joins_of_parts}
 use Rattle.mixer.proofs.NodePieces.{can_more}
 
-by_more : (b : Bool) (base more : ℕ) (part : TopPart) (pieces : List Piece) → base ≤ more → CanHandUpBy b base part pieces
+by_more : (b : Bool) (base more : ℕ) (part : TopPart) (pieces : List Piece) → base ≤ more → CanHandUpBy b base part
+    pieces
     → CanHandUpBy b more part pieces
 by_more true base more part pieces less can = can
 by_more false base more part pieces less can =

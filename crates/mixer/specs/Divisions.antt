@@ -29,7 +29,8 @@ has_location held rows location = list_any (lies_at held location) rows
 -- no location has rows on both sides
 abbrev pub ShareNoLocation : SchemaLists → List Row → List Row → Type 0
 ShareNoLocation held rows others =
-    AllByRecursion (λ row. option_map_or (has_location held others) (location_of held row.key.target) false ≡ false) rows
+    AllByRecursion (λ row. option_map_or (has_location held others) (location_of held row.key.target) false ≡ false)
+    rows
 
 -- each two of some children share nothing
 abbrev pub AreApart : (List Row → List Row → Type 0) → List (List Row) → Type 0

@@ -1,6 +1,6 @@
 -- What a zone makes of the pieces of its leaves, and the root of those of its zones. A piece goes by the rows that it
--- stands for: where groups go up, merging and finishing them is to group the rows; where the first rows do, cutting them
--- again is to cut the rows.
+-- stands for: where groups go up, merging and finishing them is to group the rows; where the first rows do, cutting
+-- them again is to cut the rows.
 use Rattle.std.specs.Prelude.{ℕ, ℤ, ◌≡◌, ◌+◌, Bool, List, [], ◌∷◌, ◌++◌, IsPermutation, map, length, take, drop}
 use Rattle.std.specs.Prelude.{filter, sum_by, if◌then◌else◌}
 use Rattle.std.specs.List.{filter_map, flat_map, zip}

@@ -21,13 +21,15 @@ load_in_zone typed leaves moment =
     sum_by (λ rows. leaf_load typed rows moment) leaves + zone_load typed (together leaves) moment
 
 -- a zone's answer over the rows of its leaves
-pub record IsZonePart (typed : TypedTree) (leaves : List (List Row)) (moment : ℤ) (limit : ℕ) (answer : ZoneAnswer) : Type 0 where
+pub record IsZonePart (typed : TypedTree) (leaves : List (List Row)) (moment : ℤ) (limit : ℕ) (answer : ZoneAnswer) :
+    Type 0 where
   pub pieces : AllStandFor (grid_of typed moment) (together leaves) (top_parts in_zone typed.tree) answer.pieces
   pub load : answer.load ≡ load_in_zone typed leaves moment
   pub within : load_in_zone typed leaves moment ≤ limit
 
 -- the load of the zone and its leaves is above the limit; the number told lies between
-pub record IsOverZone (typed : TypedTree) (leaves : List (List Row)) (moment : ℤ) (limit : ℕ) (over : OverLimit) : Type 0 where
+pub record IsOverZone (typed : TypedTree) (leaves : List (List Row)) (moment : ℤ) (limit : ℕ) (over : OverLimit) : Type
+    0 where
   pub above : limit < over.load
   pub most : over.load ≤ load_in_zone typed leaves moment
 
@@ -59,7 +61,8 @@ AllZoneParts typed (leaves ∷ zones) moment limit (part ∷ parts) =
     IsZonePart typed leaves moment limit part × AllZoneParts typed zones moment limit parts
 
 -- the answers of leaves that share no target, to a typed query that is asked at a moment
-pub record AreLeafParts (typed : TypedTree) (leaves : List (List Row)) (moment : ℤ) (limit : ℕ) (parts : List LeafAnswer)
+pub record AreLeafParts (typed : TypedTree) (leaves : List (List Row)) (moment : ℤ) (limit : ℕ)
+    (parts : List LeafAnswer)
     : Type 0 where
   pub from : pos 0 ≤ℤ moment
   pub of : IsTyped typed (together leaves)
@@ -67,7 +70,8 @@ pub record AreLeafParts (typed : TypedTree) (leaves : List (List Row)) (moment :
   pub each : AllLeafParts typed leaves moment limit parts
 
 -- the answers of zones that share no location, to a typed query that is asked at a moment
-pub record AreZoneParts (typed : TypedTree) (zones : List (List (List Row))) (moment : ℤ) (limit : ℕ) (parts : List ZoneAnswer)
+pub record AreZoneParts (typed : TypedTree) (zones : List (List (List Row))) (moment : ℤ) (limit : ℕ)
+    (parts : List ZoneAnswer)
     : Type 0 where
   pub from : pos 0 ≤ℤ moment
   pub divided : IsDivided typed zones

@@ -17,8 +17,8 @@ use mql_types::{Level, Node};
 use std::alloc::Global;
 use std::vec::IntoIter;
 
-/// The pieces of all children for the topmost parts of a tree. What the first child has is moved, and the others are put
-/// to it.
+/// The pieces of all children for the topmost parts of a tree. What the first child has is moved, and the others are
+/// put to it.
 pub(crate) fn pieces_together(
     alloc: Global,
     tree: &Node,

@@ -20,8 +20,8 @@ use mon_value::{Refusal, Table};
 use mql_types::{Level, Plan};
 use std::alloc::Global;
 
-/// A zone's part of a plan, made of the answers of its leaves. It is refused exactly where the load of the leaves and of the
-/// zone's joins is above the limit, before memory for what is too much is taken.
+/// A zone's part of a plan, made of the answers of its leaves. It is refused exactly where the load of the leaves and
+/// of the zone's joins is above the limit, before memory for what is too much is taken.
 pub fn mix_zone(
     alloc: Global,
     plan: &Plan,
@@ -45,8 +45,8 @@ pub fn mix_zone(
     })
 }
 
-/// The table of a plan's query, made of the answers of zones. It is refused exactly where the load of the zones and of the
-/// root's joins is above the limit, before memory for what is too much is taken.
+/// The table of a plan's query, made of the answers of zones. It is refused exactly where the load of the zones and
+/// of the root's joins is above the limit, before memory for what is too much is taken.
 pub fn mix_root(
     alloc: Global,
     plan: &Plan,

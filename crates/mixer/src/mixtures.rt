@@ -9,7 +9,8 @@ ghost use Rattle.mon_meaning.specs.Operations.{CanOperate, operation_load};
 ghost use Rattle.mon_meaning.specs.TopParts.{up_to};
 ghost use Rattle.mixer.specs.Mixing.{part_count};
 ghost use Rattle.mixer.specs.within.Mixtures as made;
-ghost use Rattle.mixer.specs.within.Mixtures.{CanMix, OtherCanMix, first_rows, joins_from, other_count, other_joins, rows_from};
+ghost use Rattle.mixer.specs.within.Mixtures.{CanMix, OtherCanMix, first_rows, joins_from, other_count, other_joins};
+ghost use Rattle.mixer.specs.within.Mixtures.{rows_from};
 
 use crate::paths::way_down;
 use mon_fold::{Piece, finish_parts};

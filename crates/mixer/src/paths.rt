@@ -10,8 +10,9 @@ use mon_value::OutOfMemory;
 use mql_types::{Level, Node};
 use std::alloc::Global;
 
-/// The nodes from the top of a tree down to the first of which there is a piece, without that one. Each is the input, or
-/// the left side, of the one before it. A loop goes down, since a query may have many thousand operations or branches.
+/// The nodes from the top of a tree down to the first of which there is a piece, without that one. Each is the input,
+/// or the left side, of the one before it. A loop goes down, since a query may have many thousand operations or
+/// branches.
 pub(crate) fn way_down<'a>(
     alloc: Global,
     tree: &'a Node,
@@ -84,7 +85,8 @@ fn input_of(node: &Node, below: Level) -> Option<&Node>
 
 // What flows into a grouping, unless there is a piece of its groups.
 fn unless_piece(input: &Node, below: Level) -> Option<&Node>
-    ensures input { IfSome result (λ given. (given.now ≡ input.now) × (up_to below (level_of (node_tree input.now)) ≡ false)) }
+    ensures input { IfSome result (λ given.
+        (given.now ≡ input.now) × (up_to below (level_of (node_tree input.now)) ≡ false)) }
     ensures piece { IsNone result → up_to below (level_of (node_tree input.now)) ≡ true }
 {
     if is_up_to(input.info().level, below) {

@@ -3,8 +3,8 @@ use mon_fold::Pieces;
 use mon_value::{ListOf, OutOfMemory, TryCopy};
 use std::alloc::Global;
 
-/// What a zone answers: the pieces of the parts that zones evaluate with their leaves, in the order of the query, and the
-/// load that the zone and its leaves took.
+/// What a zone answers: the pieces of the parts that zones evaluate with their leaves, in the order of the query, and
+/// the load that the zone and its leaves took.
 #[derive(Debug, Drop)]
 pub struct ZoneAnswer {
     pub pieces: Pieces,

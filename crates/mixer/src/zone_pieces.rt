@@ -9,7 +9,8 @@ ghost use Rattle.mql_types.specs.Pieces.{in_zone};
 ghost use Rattle.mon_meaning.specs.Counts.{TellsOver};
 ghost use Rattle.mon_meaning.specs.TopParts.{part_seen, use_seen};
 ghost use Rattle.mixer.specs.within.Mixtures.{joins_from};
-ghost use Rattle.mixer.specs.within.ZonePieces.{AreHandedUp, CanHandUp, CanHandUpAll, IsHandedUp, behind_part, joins_of_parts, piece_cut};
+ghost use Rattle.mixer.specs.within.ZonePieces.{AreHandedUp, CanHandUp, CanHandUpAll, IsHandedUp, behind_part};
+ghost use Rattle.mixer.specs.within.ZonePieces.{joins_of_parts, piece_cut};
 
 use crate::mixtures::{Setting, mixed_rows};
 use mon_fold::{Piece, Pieces};
@@ -19,7 +20,8 @@ use mql_types::{Level, Node};
 use std::alloc::Global;
 use std::vec::IntoIter;
 
-/// A piece for each part of a tree that is topmost in a zone, made of those of its leaves. The pairs of joins are counted.
+/// A piece for each part of a tree that is topmost in a zone, made of those of its leaves. The pairs of joins are
+/// counted.
 pub(crate) fn zone_pieces(
     alloc: Global,
     tree: &Node,
@@ -43,7 +45,8 @@ pub(crate) fn zone_pieces(
     Ok(made)
 }
 
-// The piece of a part: the next one, where leaves do all of the part, and else one of the rows that the next are made to.
+// The piece of a part: the next one, where leaves do all of the part, and else one of the rows that the next are made
+// to.
 fn zone_piece(
     alloc: Global,
     part: &TopPart<'_>,
@@ -53,7 +56,8 @@ fn zone_piece(
     requires can { CanHandUp meter.old.load (part_seen part.now) (into_iter_items pieces.old) }
     requires items { into_iter_len pieces.old ≡ length (into_iter_items pieces.old) }
     ensures piece { IfOk result (λ made. IsHandedUp (part_seen part.now) (into_iter_items pieces.old) made) }
-    ensures left { OnOk result (into_iter_items pieces.new ≡ behind_part (part_seen part.now) (into_iter_items pieces.old)) }
+    ensures left { OnOk result (into_iter_items pieces.new
+        ≡ behind_part (part_seen part.now) (into_iter_items pieces.old)) }
     ensures items { into_iter_len pieces.new ≡ length (into_iter_items pieces.new) }
     ensures limit { meter.new.limit ≡ meter.old.limit }
     ensures counted { OnOk result (meter.new.load

@@ -1,5 +1,6 @@
 -- A number that is read passes its test.
-use Rattle.std.proofs.Common.{◌≡◌, ℕ, Bool, true, false, cond, List, Option, Some, None, option_and_then, Result, Ok, Err, refl, ap, ◌∙◌, subst}
+use Rattle.std.proofs.Common.{◌≡◌, ℕ, Bool, true, false, cond, List, Option, Some, None, option_and_then, Result, Ok}
+use Rattle.std.proofs.Common.{Err, refl, ap, ◌∙◌, subst}
 use Rattle.serde_json.specs.Data.{Data}
 use Rattle.serde_json.specs.Find.{as_number, as_u64, get}
 use Rattle.mon_config.specs.Objects.{number_in, number_if}
@@ -28,4 +29,5 @@ by_there test default n (Some d) lawful h = by_found test n (option_and_then as_
 -- a number under a key passes its test, where its default does
 pub optional_passes : (test : ℕ → Bool) (default : ℕ) (key : List ℕ) (d : Data) (n : ℕ) → test default ≡ true
     → optional_key default key (number_in test) d ≡ Ok n → test n ≡ true
-optional_passes test default key d n lawful h = by_there test default n (get key d) lawful (through key (if_there (Ok default) (number_in test) (get key d)) n h)
+optional_passes test default key d n lawful h = by_there test default n (get key d) lawful
+    (through key (if_there (Ok default) (number_in test) (get key d)) n h)

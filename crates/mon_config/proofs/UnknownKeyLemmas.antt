@@ -1,5 +1,6 @@
 -- The least unknown key, of the keys that a map has in their order.
-use Rattle.std.proofs.Common.{◌≡◌, ℕ, Bool, List, [], ◌∷◌, map, Option, Some, None, true, false, cond, refl, ap, ◌∙◌, String, string_bytes}
+use Rattle.std.proofs.Common.{◌≡◌, ℕ, Bool, List, [], ◌∷◌, map, Option, Some, None, true, false, cond, refl, ap, ◌∙◌}
+use Rattle.std.proofs.Common.{String, string_bytes}
 use Rattle.std.specs.declared.alloc.Global.{Global}
 use Rattle.std.specs.List.{AllByRecursion, list_any}
 use Rattle.std.specs.List.Sorted.{IsStrictlySortedBy}
@@ -15,16 +16,19 @@ use Rattle.mon_config.specs.Shapes.{lesser_key, unknown_in}
 -- the first of the keys that isn't known
 abbrev pub first_unknown : List (List ℕ) → List (String Global) → Option (List ℕ)
 first_unknown known [] = None
-first_unknown known (key ∷ keys) = cond (list_any (same_text (string_bytes key)) known) (first_unknown known keys) (Some (string_bytes key))
+first_unknown known (key ∷ keys) = cond (list_any (same_text (string_bytes key)) known) (first_unknown known keys)
+    (Some (string_bytes key))
 
 -- a key stands before an unknown one that is found, where it stands before all keys
 lesser_key-first : (known : List (List ℕ)) (key : String Global) (keys : List (String Global))
     → AllByRecursion (λ other. string_cmp key other ≡ Less) keys
     → lesser_key (string_bytes key) (first_unknown known keys) ≡ string_bytes key
 lesser_key-first known key [] above = refl
-lesser_key-first known key (k ∷ keys) above = by (lesser_key-first known key keys above.1) (list_any (same_text (string_bytes k)) known)
+lesser_key-first known key (k ∷ keys) above = by (lesser_key-first known key keys above.1)
+    (list_any (same_text (string_bytes k)) known)
   where
-    by : lesser_key (string_bytes key) (first_unknown known keys) ≡ string_bytes key → (b : Bool) → lesser_key (string_bytes key) (cond b (first_unknown known keys) (Some (string_bytes k))) ≡ string_bytes key
+    by : lesser_key (string_bytes key) (first_unknown known keys) ≡ string_bytes key → (b : Bool)
+        → lesser_key (string_bytes key) (cond b (first_unknown known keys) (Some (string_bytes k))) ≡ string_bytes key
     by rest true = rest
     by rest false = ap (λ (o : Ordering). cond (is_gt o) (string_bytes k) (string_bytes key)) above.0
 
@@ -36,5 +40,7 @@ unfolding IsStrictlySortedBy
 unknown_in-keys known [] sorted = refl
 unknown_in-keys known (e ∷ entries) sorted =
     let key = string_bytes e.0 in
-    ap (λ rest. cond (list_any (same_text key) known) rest (Some (lesser_key key rest))) (unknown_in-keys known entries sorted.1)
-    ∙ ap (λ least. cond (list_any (same_text key) known) (first_unknown known (map (λ e. e.0) entries)) (Some least)) (lesser_key-first known e.0 (map (λ e. e.0) entries) sorted.0)
+    ap (λ rest. cond (list_any (same_text key) known) rest (Some (lesser_key key rest)))
+    (unknown_in-keys known entries sorted.1)
+    ∙ ap (λ least. cond (list_any (same_text key) known) (first_unknown known (map (λ e. e.0) entries)) (Some least))
+    (lesser_key-first known e.0 (map (λ e. e.0) entries) sorted.0)

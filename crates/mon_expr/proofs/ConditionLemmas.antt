@@ -1,7 +1,9 @@
 -- Conditions that lead to earlier ones.
-use Rattle.std.proofs.Common.{◌≡◌, ℕ, suc, ◌+◌, ◌<◌, ◌≤◌, Bool, true, false, ◌&&◌, List, [], ◌∷◌, ◌++◌, take, drop, length, reverse, get_or, refl, sym, ap, ◌∙◌, arith, if◌then◌else◌}
+use Rattle.std.proofs.Common.{◌≡◌, ℕ, suc, ◌+◌, ◌<◌, ◌≤◌, Bool, true, false, ◌&&◌, List, [], ◌∷◌, ◌++◌, take, drop}
+use Rattle.std.proofs.Common.{length, reverse, get_or, refl, sym, ap, ◌∙◌, arith, if◌then◌else◌}
 use Rattle.std.proofs.lemmas.Bool.{and_parts, lt-ltb, ltb-true, ne_eqb, eq-eqb}
-use Rattle.std.proofs.lemmas.List.{append_assoc, drop_more, length-append, length-reverse, length-take-le, reverse-append, take-append-drop}
+use Rattle.std.proofs.lemmas.List.{append_assoc, drop_more, length-append, length-reverse, length-take-le}
+use Rattle.std.proofs.lemmas.List.{reverse-append, take-append-drop}
 use Rattle.mon_value.specs.declared.columns.Column.{Column}
 use Rattle.mon_value.specs.declared.values.Value.{Value}
 use Rattle.mql_ast.specs.Trees.{PredicateTree}
@@ -67,18 +69,6 @@ entered condition earlier cells ordered =
     rw (eq-eqb (length earlier) (length earlier) refl)
     (rw (not_at (next_of condition cells) (length earlier) (length earlier)
     (next_before condition earlier cells ordered) (omega arith)) refl)
-
--- a condition that is entered leads to what comes next
-entered_here : (condition : Condition) (earlier : List Condition) (cells : List Value) →
-    answer (condition ∷ earlier) cells (next.Condition (length earlier))
-    ≡ answer earlier cells (next_of condition cells)
-entered_here condition earlier cells = rw (eq-eqb (length earlier) (length earlier) refl) refl
-
-answer_of_either : (truth : Bool) (at_true at_false : Next) (conditions : List Condition) (cells : List Value) →
-    answer conditions cells (if truth then at_true else at_false)
-    ≡ (if truth then answer conditions cells at_true else answer conditions cells at_false)
-answer_of_either true at_true at_false conditions cells = refl
-answer_of_either false at_true at_false conditions cells = refl
 
 -- a list around one of its conditions, from the last one back
 around : (conditions : List Condition) (at : ℕ) (condition : Condition) → at < length conditions →

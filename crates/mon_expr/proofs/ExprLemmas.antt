@@ -1,5 +1,6 @@
 -- A bound expression comes to what the expression comes to.
-use Rattle.std.proofs.Common.{◌≡◌, ◌≤◌, ℕ, ◌^◌, ℤ, false, List, sum, Option, Some, None, option_map, option_and_then, IsSomeAnd, refl, sym, ap, subst, ◌∙◌, arith}
+use Rattle.std.proofs.Common.{◌≡◌, ◌≤◌, ℕ, ◌^◌, ℤ, false, List, sum, Option, Some, None, option_map, option_and_then}
+use Rattle.std.proofs.Common.{IsSomeAnd, refl, sym, ap, subst, ◌∙◌, arith}
 use Rattle.std.proofs.Math.Pow.{pow_mono}
 use Rattle.mon_value.specs.Distributions.{percentile_of}
 use Rattle.mon_value.specs.Groups.{counts_in, number_in}

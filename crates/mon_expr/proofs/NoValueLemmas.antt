@@ -1,5 +1,6 @@
 -- A sum comes to no value exactly where a percentile in it meets a distribution without values.
-use Rattle.std.proofs.Common.{◌≡◌, ◌↔◌, ℕ, ℤ, Bool, true, false, not, ◌&&◌, ◌==◌, List, sum, Option, Some, None, is_some, option_map, option_and_then, IsNone, IsTrue, refl, sym, ap, ◌∙◌, if◌then◌else◌}
+use Rattle.std.proofs.Common.{◌≡◌, ◌↔◌, ℕ, ℤ, Bool, true, false, not, ◌&&◌, ◌==◌, List, sum, Option, Some, None}
+use Rattle.std.proofs.Common.{is_some, option_map, option_and_then, IsNone, IsTrue, refl, sym, ap, ◌∙◌, if◌then◌else◌}
 use Rattle.std.specs.Option.{option_map_or}
 use Rattle.std.proofs.lemmas.Bool.{not-false}
 use Rattle.std.proofs.lemmas.Option.{none-some}

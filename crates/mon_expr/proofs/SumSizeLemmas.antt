@@ -1,5 +1,7 @@
 -- Typed sums can be computed in every row whose cells are within the widths of their columns.
-use Rattle.std.proofs.Common.{◌≡◌, ◌≤◌, ℕ, zero, suc, ◌+◌, ◌*◌, ◌^◌, max, ℤ, Bool, true, false, not, ◌&&◌, ◌||◌, nat_le, List, [], ◌∷◌, ◌++◌, length, sum, Option, Some, None, option_and_then, slice_get, unsigned_abs, refl, sym, ap, subst, ◌∙◌, arith, if◌then◌else◌}
+use Rattle.std.proofs.Common.{◌≡◌, ◌≤◌, ℕ, zero, suc, ◌+◌, ◌*◌, ◌^◌, max, ℤ, Bool, true, false, not, ◌&&◌, ◌||◌}
+use Rattle.std.proofs.Common.{nat_le, List, [], ◌∷◌, ◌++◌, length, sum, Option, Some, None, option_and_then, slice_get}
+use Rattle.std.proofs.Common.{unsigned_abs, refl, sym, ap, subst, ◌∙◌, arith, if◌then◌else◌}
 use Rattle.std.specs.List.{AllByRecursion}
 use Rattle.std.specs.Option.{option_map_or}
 use Rattle.std.proofs.Math.Nat.{pow-suc}
@@ -16,7 +18,8 @@ use Rattle.mon_value.specs.declared.values.ValueType.{ValueType}
 use Rattle.mon_value.specs.declared.values.ValueType.TheVariants as type
 use Rattle.mql_ast.specs.NamedCells.{cell_named, column_named, place_of}
 use Rattle.mql_ast.specs.Sums.{bounds_named, bucket_bounds}
-use Rattle.mql_ast.specs.SumWidths.{CanCompute, FitWidths, HasBound, HasShares, number_width, percentile_width, sum_width, widest_percentile, width_together}
+use Rattle.mql_ast.specs.SumWidths.{CanCompute, FitWidths, HasBound, HasShares, number_width, percentile_width}
+use Rattle.mql_ast.specs.SumWidths.{sum_width, widest_percentile, width_together}
 use Rattle.mql_ast.specs.Trees as tree
 use Rattle.mql_ast.specs.Trees.{SumTree}
 use Rattle.mon_expr.specs.BoundSums.{CanDivide, CanTake, terms_size}

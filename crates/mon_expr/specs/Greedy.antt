@@ -1,5 +1,6 @@
 -- Pieces that are each taken at their first place.
-use Rattle.std.specs.Prelude.{ℕ, nat_eq, List, [], ◌∷◌, drop, length, Option, Some, None, option_and_then, if◌then◌else◌}
+use Rattle.std.specs.Prelude.{ℕ, nat_eq, List, [], ◌∷◌, drop, length, Option, Some, None, option_and_then}
+use Rattle.std.specs.Prelude.{if◌then◌else◌}
 use Rattle.std.specs.List.{starts_with}
 
 -- what stands in a text behind the first place of a piece

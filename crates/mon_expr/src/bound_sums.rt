@@ -1,5 +1,6 @@
 // Sums whose columns were found once for all rows of a table.
-ghost use Rattle.std.specs.Prelude.{◌≡◌, ◌<◌, ◌≤◌, ◌+◌, ◌^◌, ◌++◌, ◌∷◌, [], Bool, true, false, IfOk, IfSome, OnOk, unsigned_abs, option_and_then, slice_get};
+ghost use Rattle.std.specs.Prelude.{◌≡◌, ◌<◌, ◌≤◌, ◌+◌, ◌^◌, ◌++◌, ◌∷◌, [], Bool, true, false, IfOk, IfSome, OnOk};
+ghost use Rattle.std.specs.Prelude.{unsigned_abs, option_and_then, slice_get};
 ghost use Rattle.mon_value.specs.Distributions as distribution;
 ghost use Rattle.mon_value.specs.Limits.{greatest_sum};
 ghost use Rattle.mon_value.specs.Groups.{number_in};
@@ -9,7 +10,8 @@ ghost use Rattle.mql_ast.specs.SumParts.{nodes};
 ghost use Rattle.mql_ast.specs.Sums as sums;
 ghost use Rattle.mql_ast.specs.SumWidths.{HasShares, IsTypedSum};
 ghost use Rattle.mql_ast.specs.Trees.{sum_tree};
-ghost use Rattle.mon_expr.specs.BoundSums.{CanDivide, CanEvaluate, CanTake, CanTotal, IsBoundExpr, bound_value, signed_number, term_number, term_size, terms_total};
+ghost use Rattle.mon_expr.specs.BoundSums.{CanDivide, CanEvaluate, CanTake, CanTotal, IsBoundExpr, bound_value};
+ghost use Rattle.mon_expr.specs.BoundSums.{signed_number, term_number, term_size, terms_total};
 ghost use Rattle.mon_expr.specs.BoundSums as bound;
 ghost use Rattle.mon_expr.specs.SumTerms as spec;
 
@@ -150,7 +152,7 @@ fn percentile_of(counts: &Counts, bounds: &Bounds, p: u8) -> Option<i128>
     Some(i128::from(counts.percentile(bounds, p)?))
 }
 
-// A part of a sum whose terms are still to come, and whether it is taken away.
+/// A part of a sum whose terms are still to come, and whether it is taken away.
 #[derive(Drop)]
 pub struct Part<'a> {
     minus: bool,

@@ -17,7 +17,7 @@ pub fn matches(pattern: &Pattern, text: &[u8]) -> bool
     matches_pieces(pattern.pieces.as_slice(), text)
 }
 
-// The same of the pieces: the first stands at the front, and the others behind it.
+/// The same of the pieces: the first stands at the front, and the others behind it.
 pub(crate) fn matches_pieces(pieces: &[Text], text: &[u8]) -> bool
     ensures truth { result ≡ is_match pieces.now text.now }
 {

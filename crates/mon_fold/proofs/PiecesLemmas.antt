@@ -1,5 +1,6 @@
 -- Parts that are made in whatever pieces and order.
-use Rattle.std.proofs.Common.{◌≡◌, ℕ, ◌+◌, ◌<◌, List, [], ◌∷◌, ◌++◌, length, get_or, take, drop, Option, IsNone, ◌↔◌, IsPermutation, refl, sym, ap, subst, ◌∙◌, append_assoc, append-nil}
+use Rattle.std.proofs.Common.{◌≡◌, ℕ, ◌+◌, ◌<◌, List, [], ◌∷◌, ◌++◌, length, get_or, take, drop, Option, IsNone, ◌↔◌}
+use Rattle.std.proofs.Common.{IsPermutation, refl, sym, ap, subst, ◌∙◌, append_assoc}
 use Rattle.std.specs.List.{flat_map}
 use Rattle.std.proofs.lemmas.List.{take_more, drop_more, take-append-drop}
 use Rattle.std.proofs.lemmas.List.Concat.{flat_map-append}
@@ -12,18 +13,14 @@ abbrev pub items_of_pieces : {A : Type 0} → List (List A) → List A
 items_of_pieces pieces = flat_map (λ piece. piece) pieces
 
 pub items_of_pieces-split : {A : Type 0} (pieces : List (List A)) (i : ℕ) (d : List A) → i < length pieces
-    → items_of_pieces pieces ≡ (items_of_pieces (take i pieces) ++ get_or pieces i d) ++ items_of_pieces (drop (i + 1) pieces)
+    → items_of_pieces pieces ≡ (items_of_pieces (take i pieces) ++ get_or pieces i d) ++ items_of_pieces
+    (drop (i + 1) pieces)
 items_of_pieces-split pieces i d h =
-    let whole : items_of_pieces (take i pieces ++ drop i pieces) ≡ items_of_pieces pieces = ap items_of_pieces (take-append-drop i pieces) in
+    let whole : items_of_pieces (take i pieces ++ drop i pieces) ≡ items_of_pieces pieces = ap items_of_pieces
+    (take-append-drop i pieces) in
     sym whole ∙ flat_map-append (λ piece. piece) (take i pieces) (drop i pieces)
     ∙ ap (λ rest. items_of_pieces (take i pieces) ++ items_of_pieces rest) (drop_more pieces i d h)
     ∙ sym (append_assoc (items_of_pieces (take i pieces)) (get_or pieces i d) (items_of_pieces (drop (i + 1) pieces)))
-
-pub joined_more : {A : Type 0} (pieces : List (List A)) (i : ℕ) (d : List A) → i < length pieces
-    → items_of_pieces (take i pieces) ++ get_or pieces i d ≡ items_of_pieces (take (i + 1) pieces)
-joined_more pieces i d h =
-    sym (ap items_of_pieces (take_more pieces i d h) ∙ flat_map-append (λ piece. piece) (take i pieces) (get_or pieces i d ∷ [])
-    ∙ ap (λ rest. items_of_pieces (take i pieces) ++ rest) (append-nil (get_or pieces i d)))
 
 -- a value is absent exactly where another is
 pub none_exactly : {B : Type 0} {a b : Option B} {P : Type 0} → a ≡ b → IsNone b ↔ P → IsNone a ↔ P
@@ -31,23 +28,30 @@ none_exactly {a = a} {b = b} same exactly = rw same exactly
 
 -- ---- items that fit in whatever pieces
 
-module _ {A : Type 0} (fits : List A → Type 0) (chosen : (xs ys zs : List A) → IsPermutation (xs ++ ys) zs → fits zs → fits xs) where
+module _ {A : Type 0} (fits : List A → Type 0) (chosen : (xs ys zs : List A) → IsPermutation (xs ++ ys) zs → fits zs
+    → fits xs) where
   pub fits_front : (xs ys : List A) → fits (xs ++ ys) → fits xs
   fits_front xs ys h = chosen xs ys (xs ++ ys) (IsPermutation-refl (xs ++ ys)) h
 
   pub fits_back : (xs ys : List A) → fits (xs ++ ys) → fits ys
   fits_back xs ys h = chosen ys xs (xs ++ ys) (IsPermutation-append_comm ys xs) h
 
-  pub fits_more : (items : List A) (i : ℕ) (d : A) → i < length items → fits items → fits (take i items ++ get_or items i d ∷ [])
+  pub fits_more : (items : List A) (i : ℕ) (d : A) → i < length items → fits items
+      → fits (take i items ++ get_or items i d ∷ [])
   fits_more items i d h all =
-      subst fits (take_more items i d h) (fits_front (take (i + 1) items) (drop (i + 1) items) (subst fits (sym (take-append-drop (i + 1) items)) all))
+      subst fits (take_more items i d h) (fits_front (take (i + 1) items) (drop (i + 1) items)
+      (subst fits (sym (take-append-drop (i + 1) items)) all))
 
-  pub fits_pieces_more : (pieces : List (List A)) (i : ℕ) (d : List A) → i < length pieces → fits (items_of_pieces pieces) → fits (items_of_pieces (take i pieces) ++ get_or pieces i d)
+  pub fits_pieces_more : (pieces : List (List A)) (i : ℕ) (d : List A) → i < length pieces
+      → fits (items_of_pieces pieces) → fits (items_of_pieces (take i pieces) ++ get_or pieces i d)
   fits_pieces_more pieces i d h all =
-      fits_front (items_of_pieces (take i pieces) ++ get_or pieces i d) (items_of_pieces (drop (i + 1) pieces)) (subst fits (items_of_pieces-split pieces i d h) all)
+      fits_front (items_of_pieces (take i pieces) ++ get_or pieces i d) (items_of_pieces (drop (i + 1) pieces))
+      (subst fits (items_of_pieces-split pieces i d h) all)
 
-  pub fits_piece : (pieces : List (List A)) (i : ℕ) (d : List A) → i < length pieces → fits (items_of_pieces pieces) → fits (get_or pieces i d)
-  fits_piece pieces i d h all = fits_back (items_of_pieces (take i pieces)) (get_or pieces i d) (fits_pieces_more pieces i d h all)
+  pub fits_piece : (pieces : List (List A)) (i : ℕ) (d : List A) → i < length pieces → fits (items_of_pieces pieces)
+      → fits (get_or pieces i d)
+  fits_piece pieces i d h all = fits_back (items_of_pieces (take i pieces)) (get_or pieces i d)
+      (fits_pieces_more pieces i d h all)
 
 -- parts of items that fit together can be merged
 pub can_merge_at : {A P : Type 0} (part_of : List A → P) (can_merge : P → P → Type 0) (fits : List A → Type 0)
@@ -59,14 +63,6 @@ can_merge_at part_of can_merge fits merges a b xs ys left right all = rw (left, 
 
 module _ {A P : Type 0} (part_of : List A → P) (merged : P → P → P)
     (joins : (xs ys : List A) → merged (part_of xs) (part_of ys) ≡ part_of (xs ++ ys)) where
-  pub part_more : (items : List A) (i : ℕ) (d : A) → i < length items
-      → merged (part_of (take i items)) (part_of (get_or items i d ∷ [])) ≡ part_of (take (i + 1) items)
-  part_more items i d h = joins (take i items) (get_or items i d ∷ []) ∙ ap part_of (sym (take_more items i d h))
-
-  pub part_pieces_more : (pieces : List (List A)) (i : ℕ) (d : List A) → i < length pieces
-      → merged (part_of (items_of_pieces (take i pieces))) (part_of (get_or pieces i d)) ≡ part_of (items_of_pieces (take (i + 1) pieces))
-  part_pieces_more pieces i d h = joins (items_of_pieces (take i pieces)) (get_or pieces i d) ∙ ap part_of (joined_more pieces i d h)
-
   -- what is made is the part of the items that went in
   pub part_made_is : (merging : Merging A) → part_made part_of merged merging ≡ part_of (items_of merging)
   part_made_is nothing = refl
@@ -89,12 +85,14 @@ module _ {A P : Type 0} (part_of : List A → P) (merged : P → P → P)
         )
 
   -- the order of the items plays no part
-  module _ (commutes : (a b : P) → merged a b ≡ merged b a) (associates : (a b c : P) → merged (merged a b) c ≡ merged a (merged b c)) where
+  module _ (commutes : (a b : P) → merged a b ≡ merged b a) (associates : (a b c : P) → merged (merged a b) c
+      ≡ merged a (merged b c)) where
     part-turned : (x y : A) (xs : List A) → part_of (x ∷ y ∷ xs) ≡ part_of (y ∷ x ∷ xs)
     part-turned x y xs =
         let a = x ∷ [] in
         let b = y ∷ [] in
-        sym (joins (x ∷ y ∷ []) xs) ∙ ap (λ p. merged p (part_of xs)) (sym (joins a b) ∙ commutes (part_of a) (part_of b) ∙ joins b a) ∙ joins (y ∷ x ∷ []) xs
+        sym (joins (x ∷ y ∷ []) xs) ∙ ap (λ p. merged p (part_of xs)) (sym (joins a b) ∙ commutes (part_of a)
+        (part_of b) ∙ joins b a) ∙ joins (y ∷ x ∷ []) xs
 
     pub part-permutation : (xs ys : List A) → IsPermutation xs ys → part_of xs ≡ part_of ys
     part-permutation =

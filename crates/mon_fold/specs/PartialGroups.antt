@@ -1,5 +1,6 @@
 -- Groups whose aggregates are kept as parts.
-use Rattle.std.specs.Prelude.{◌≡◌, ◌≤◌, ℕ, pos, ◌+ℤ◌, int_lt, false, List, [], ◌∷◌, ◌++◌, length, map, filter, not, is_some, All, codes, slice_get, Option, Some, None, option_map, IfSome, if◌then◌else◌}
+use Rattle.std.specs.Prelude.{◌≡◌, ◌≤◌, ℕ, pos, ◌+ℤ◌, int_lt, false, List, [], ◌∷◌, ◌++◌, length, map, filter, not}
+use Rattle.std.specs.Prelude.{is_some, All, codes, slice_get, Option, Some, None, option_map, IfSome, if◌then◌else◌}
 use Rattle.std.specs.Int.{int_div_euclid, int_min, int_max}
 use Rattle.std.specs.List.{filter_map}
 use Rattle.std.specs.Map.{lookup}

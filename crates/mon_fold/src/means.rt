@@ -1,5 +1,6 @@
 // The mean of numbers.
-ghost use Rattle.std.specs.Prelude.{◌≤◌, ℤ, pos, ◌+ℤ◌, ◌*ℤ◌, ◌≤ℤ◌, ◌<ℤ◌, List, IfSome, int_lt, Some, None, length, sum_by, unsigned_abs, if◌then◌else◌};
+ghost use Rattle.std.specs.Prelude.{◌≤◌, ℤ, pos, ◌+ℤ◌, ◌*ℤ◌, ◌≤ℤ◌, ◌<ℤ◌, List, IfSome, int_lt, Some, None, length};
+ghost use Rattle.std.specs.Prelude.{sum_by, unsigned_abs, if◌then◌else◌};
 ghost use Rattle.std.specs.Int.{int_div_euclid};
 ghost use Rattle.mon_value.specs.Aggregates.{sum_of, item_count, mean_of};
 ghost use Rattle.mon_value.specs.Limits.{greatest_sum};

@@ -1,11 +1,13 @@
 // Groups put into groups.
-ghost use Rattle.std.specs.Prelude.{◌≡◌, ◌≤◌, ◌<◌, ◌+◌, ◌++◌, [], ◌∷◌, drop, length, slice_get, IfOk, IfSome, IsNone, OnOk, Some, None};
+ghost use Rattle.std.specs.Prelude.{◌≡◌, ◌≤◌, ◌<◌, ◌+◌, ◌++◌, [], ◌∷◌, drop, length, slice_get, IfOk, IfSome, IsNone};
+ghost use Rattle.std.specs.Prelude.{OnOk, Some, None};
 ghost use Rattle.std.specs.Map.{lookup};
 ghost use Rattle.std.specs.Option.{option_to_list};
 ghost use Rattle.std.specs.Vec.Iter.{into_iter_items, into_iter_len};
 ghost use Rattle.indexmap.specs.IndexMap.{spare};
 ghost use Rattle.mon_value.specs.Same.{same_row};
-ghost use Rattle.mon_fold.specs.PartialGroups.{CanMergeGroups, CanTakeGroup, merged_groups, new_to, PartialGroup, with_group};
+ghost use Rattle.mon_fold.specs.PartialGroups.{CanMergeGroups, CanTakeGroup, merged_groups, new_to, PartialGroup};
+ghost use Rattle.mon_fold.specs.PartialGroups.{with_group};
 
 use crate::aggregate_parts::{AggregateParts, merge_lists};
 use indexmap::IndexMap;

@@ -1,8 +1,8 @@
 -- Bits that grow lead to as much, and to what one entry more brings.
-use Rattle.std.proofs.Common.{◌≡◌, ℕ, Bool, true, ◌||◌, ◌&&◌, List, [], ◌∷◌, ◌++◌, refl, sym, ap, ◌∙◌, inl, inr}
+use Rattle.std.proofs.Common.{◌≡◌, ℕ, Bool, ◌||◌, ◌&&◌, List, [], ◌∷◌, ◌++◌, sym, ap, ◌∙◌, inl, inr}
 use Rattle.std.specs.Prelude.{nat_eq}
 use Rattle.std.specs.List.{flat_map}
-use Rattle.std.proofs.lemmas.Bool.{and_from, eq-eqb, or_cases, or_left, or_right}
+use Rattle.std.proofs.lemmas.Bool.{or_cases, or_left, or_right}
 use Rattle.std.proofs.lemmas.List.Concat.{flat_map-append}
 use Rattle.std.proofs.lemmas.List.Folds.{list_any-append}
 use Rattle.mon_value.specs.LeafHistories.{brought_rows, leaf_rows}
@@ -18,11 +18,6 @@ use Rattle.mon_hints.specs.Listings.{is_among}
 
 pub kept_bit : (bits : ℕ → ℕ → Bool) (place bucket : ℕ) → AreKept bits (with_bit bits place bucket)
 kept_bit bits place bucket other n h = or_right (nat_eq other place && nat_eq n bucket) (bits other n) h
-
-pub bit_set : (bits : ℕ → ℕ → Bool) (place bucket : ℕ) → with_bit bits place bucket place bucket ≡ true
-bit_set bits place bucket =
-    or_left (nat_eq place place && nat_eq bucket bucket) (bits place bucket)
-    (and_from (nat_eq place place) (nat_eq bucket bucket) (eq-eqb place place refl) (eq-eqb bucket bucket refl))
 
 pub bits_within : (some all : ℕ → ℕ → Bool) (place bucket : ℕ) → AreKept some all
     → AreKept (with_bit some place bucket) (with_bit all place bucket)
@@ -44,7 +39,8 @@ joined_bits_second a b = record {
   zone = λ place bucket there. or_right (a.zone place bucket) (b.zone place bucket) there;
 }
 
-pub joined_bits_within : (a b all : Bits) → AreBitsWithin a all → AreBitsWithin b all → AreBitsWithin (joined_bits a b) all
+pub joined_bits_within : (a b all : Bits) → AreBitsWithin a all → AreBitsWithin b all → AreBitsWithin (joined_bits a b)
+    all
 joined_bits_within a b all h k = record {
   root = λ place bucket there. elim (or_cases (a.root place bucket) (b.root place bucket) there)
       [ inl x ↦ h.root place bucket x | inr y ↦ k.root place bucket y ];

@@ -22,10 +22,12 @@ fingerprint_behind schema field excerpt =
 
 pub bucket_labelled : (buckets : ℕ) (schema field excerpt : List ℕ) →
     bucket_of buckets schema field excerpt ≡ bucket_behind buckets (with_label (with_label START schema) field) excerpt
-bucket_labelled buckets schema field excerpt = ap (λ fingerprint. fingerprint % buckets) (fingerprint_behind schema field excerpt)
+bucket_labelled buckets schema field excerpt = ap (λ fingerprint. fingerprint % buckets)
+    (fingerprint_behind schema field excerpt)
 
 value_labelled : (buckets : ℕ) (schema field : List ℕ) (value : FieldValue) →
-    value_buckets buckets schema field value ≡ buckets_behind buckets (with_label (with_label START schema) field) (value_excerpts value)
+    value_buckets buckets schema field value ≡ buckets_behind buckets (with_label (with_label START schema) field)
+    (value_excerpts value)
 value_labelled buckets schema field value =
     ap (λ bucket. map bucket (value_excerpts value)) (λ i excerpt. bucket_labelled buckets schema field excerpt i)
 
@@ -47,26 +49,33 @@ pub series_found : (buckets : ℕ) (target : TargetSchema) (metric : MetricSchem
     series_buckets buckets target metric key ≡ found_buckets buckets target metric key
 series_found buckets target metric key =
     let schema = key.target.schema in
-    ap (λ first. first ∷ (field_buckets buckets schema target.fields key.target.fields ++ field_buckets buckets schema metric.fields key.fields))
+    ap (λ first. first ∷ (field_buckets buckets schema target.fields key.target.fields ++ field_buckets buckets schema
+    metric.fields key.fields))
     (bucket_labelled buckets schema [] key.metric)
-    ∙ ap (λ some. bucket_behind buckets (with_label (with_label START schema) []) key.metric ∷ (some ++ field_buckets buckets schema metric.fields key.fields))
+    ∙ ap (λ some. bucket_behind buckets (with_label (with_label START schema) []) key.metric
+    ∷ (some ++ field_buckets buckets schema metric.fields key.fields))
     (fields_labelled buckets schema target.fields key.target.fields)
     ∙ ap (λ some. bucket_behind buckets (with_label (with_label START schema) []) key.metric
     ∷ (buckets_of_pairs buckets (with_label START schema) (zip target.fields key.target.fields) ++ some))
     (fields_labelled buckets schema metric.fields key.fields)
 
 -- a set to which all of them were added
-pub series_filled : (buckets : ℕ) (target : TargetSchema) (metric : MetricSchema) (key : SeriesKey) (empty named targets whole : ℕ → Bool) →
-    empty ≡ no_bucket → named ≡ with_bucket empty (bucket_behind buckets (with_label (with_label START key.target.schema) []) key.metric) →
-    targets ≡ with_buckets named (buckets_of_pairs buckets (with_label START key.target.schema) (zip target.fields key.target.fields)) →
-    whole ≡ with_buckets targets (buckets_of_pairs buckets (with_label START key.target.schema) (zip metric.fields key.fields)) →
+pub series_filled : (buckets : ℕ) (target : TargetSchema) (metric : MetricSchema) (key : SeriesKey)
+    (empty named targets whole : ℕ → Bool) →
+    empty ≡ no_bucket → named ≡ with_bucket empty
+    (bucket_behind buckets (with_label (with_label START key.target.schema) []) key.metric) →
+    targets ≡ with_buckets named (buckets_of_pairs buckets (with_label START key.target.schema)
+    (zip target.fields key.target.fields)) →
+    whole ≡ with_buckets targets (buckets_of_pairs buckets (with_label START key.target.schema)
+    (zip metric.fields key.fields)) →
     whole ≡ with_buckets no_bucket (series_buckets buckets target metric key)
 series_filled buckets target metric key empty named targets whole none first second third =
     let schema = with_label START key.target.schema in
     let name = bucket_behind buckets (with_label schema []) key.metric in
     let some = buckets_of_pairs buckets schema (zip target.fields key.target.fields) in
     let more = buckets_of_pairs buckets schema (zip metric.fields key.fields) in
-    third ∙ ap (λ set. with_buckets set more) (second ∙ ap (λ set. with_buckets set some) (first ∙ ap (λ set. with_bucket set name) none))
+    third ∙ ap (λ set. with_buckets set more) (second ∙ ap (λ set. with_buckets set some)
+    (first ∙ ap (λ set. with_bucket set name) none))
     ∙ sym (fold-append with_bucket (with_bucket no_bucket name) some more)
     ∙ sym (ap (with_buckets no_bucket) (series_found buckets target metric key))
 

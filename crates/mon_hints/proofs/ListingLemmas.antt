@@ -1,10 +1,12 @@
 -- Listings: of a set whose least buckets come one after another, and of numbers that are sorted.
-use Rattle.std.proofs.Common.{◌≡◌, ℕ, zero, suc, ◌+◌, ◌-◌, ◌<◌, Bool, true, false, cond, ◌==◌, ◌&&◌, ◌||◌, List, [], ◌∷◌, ◌++◌, length, get_or, IsPermutation, refl, sym, ap, ◌∙◌, subst, inl, inr, arith}
+use Rattle.std.proofs.Common.{◌≡◌, ℕ, zero, suc, ◌+◌, ◌-◌, ◌<◌, Bool, true, false, cond, ◌==◌, ◌&&◌, ◌||◌, List, []}
+use Rattle.std.proofs.Common.{◌∷◌, ◌++◌, length, get_or, IsPermutation, refl, sym, ap, ◌∙◌, subst, inl, inr, arith}
 use Rattle.std.specs.Prelude.{nat_eq, nat_lt}
 use Rattle.std.specs.List.Sorted.{IsSorted, IsStrictlyIncreasing}
 use Rattle.std.specs.List.{dedup, dedup_from}
 use Rattle.std.specs.Ordering.{nat_cmp}
-use Rattle.std.proofs.lemmas.Bool.{cases_eq, cases_lt, and_parts, eq-eqb, eqb-true, ne_eqb, le-ltb, lt-ltb, ltb-true, or_left, or_right}
+use Rattle.std.proofs.lemmas.Bool.{cases_eq, cases_lt, and_parts, eq-eqb, eqb-true, ne_eqb, le-ltb, lt-ltb, ltb-true}
+use Rattle.std.proofs.lemmas.Bool.{or_left, or_right}
 use Rattle.std.proofs.lemmas.List.{get_or_append_left, get_or-append_right, length-append}
 use Rattle.std.proofs.lemmas.List.Folds.{list_any-append}
 use Rattle.std.proofs.lemmas.List.Sorted.{list_any-IsPermutation}
@@ -47,11 +49,13 @@ pub record ListsBelow (set : ℕ → Bool) (listed : List ℕ) (from : ℕ) : Ty
 same_pushed : (set : ℕ → Bool) (listed : List ℕ) (from next : ℕ) → ListsBelow set listed from → IsNext set from next →
     (bucket : ℕ) → is_among bucket (listed ++ next ∷ []) ≡ (nat_lt bucket (next + 1) && set bucket)
 same_pushed set listed from next lists least bucket =
-    list_any-append (λ other. bucket == other) listed (next ∷ []) ∙ ap (λ some. some || ((bucket == next) || false)) (lists.same bucket)
+    list_any-append (λ other. bucket == other) listed (next ∷ []) ∙ ap (λ some. some || ((bucket == next) || false))
+    (lists.same bucket)
     ∙ elim (cases_lt bucket from) [
       | inl before ↦
           ap (λ below. (below && set bucket) || ((bucket == next) || false)) (lt-ltb bucket from before)
-          ∙ ap (λ same. set bucket || (same || false)) (ne_eqb bucket next (λ e. omega (arith, e, before, least.reached)))
+          ∙ ap (λ same. set bucket || (same || false))
+          (ne_eqb bucket next (λ e. omega (arith, e, before, least.reached)))
           ∙ or_false (set bucket)
           ∙ sym (ap (λ below. below && set bucket) (lt-ltb bucket (next + 1) (omega (arith, before, least.reached))))
       | inr behind ↦
@@ -64,17 +68,21 @@ same_pushed set listed from next lists least bucket =
             | inr differ ↦
                 ap (λ same. same || false) (ne_eqb bucket next differ)
                 ∙ sym (elim (cases_lt bucket next) [
-                  | inl between ↦ ap (λ some. nat_lt bucket (next + 1) && some) (least.least bucket behind between) ∙ and_false (nat_lt bucket (next + 1))
-                  | inr past ↦ ap (λ below. below && set bucket) (le-ltb bucket (next + 1) (omega (arith, past, differ)))
+                  | inl between ↦ ap (λ some. nat_lt bucket (next + 1) && some) (least.least bucket behind between)
+                      ∙ and_false (nat_lt bucket (next + 1))
+                  | inr past ↦ ap (λ below. below && set bucket)
+                      (le-ltb bucket (next + 1) (omega (arith, past, differ)))
                 ])
           ]
     ]
 
-pub pushed_below : (set : ℕ → Bool) (listed : List ℕ) (from next : ℕ) → ListsBelow set listed from → IsNext set from next →
+pub pushed_below : (set : ℕ → Bool) (listed : List ℕ) (from next : ℕ) → ListsBelow set listed from → IsNext set from
+    next →
     ListsBelow set (listed ++ next ∷ []) (next + 1)
 pushed_below set listed from next lists least = record {
   rising = rising_push listed next lists.rising (λ n h.
-      let below = ltb-true n from (and_parts (nat_lt n from) (set n) (sym (lists.same n) ∙ h)).0 in omega (arith, below, least.reached));
+      let below = ltb-true n from (and_parts (nat_lt n from) (set n) (sym (lists.same n) ∙ h)).0 in
+      omega (arith, below, least.reached));
   same = same_pushed set listed from next lists least;
 }
 
@@ -82,7 +90,8 @@ pub all_listed : (set : ℕ → Bool) (listed : List ℕ) (from : ℕ) → Lists
     (bucket : ℕ) → is_among bucket listed ≡ set bucket
 all_listed set listed from lists none bucket = lists.same bucket ∙ elim (cases_lt bucket from) [
   | inl below ↦ ap (λ low. low && set bucket) (lt-ltb bucket from below)
-  | inr behind ↦ ap (λ some. nat_lt bucket from && some) (none bucket behind) ∙ and_false (nat_lt bucket from) ∙ sym (none bucket behind)
+  | inr behind ↦ ap (λ some. nat_lt bucket from && some) (none bucket behind) ∙ and_false (nat_lt bucket from)
+      ∙ sym (none bucket behind)
 ]
 
 -- ---- sorted, each once
@@ -96,9 +105,11 @@ same_once n first next true numbers e h =
     ∙ or_once (n == first) (is_among n numbers))
 same_once n first next false numbers e h = ap (λ some. (n == first) || some) (h next)
 
-among_from : (n first : ℕ) (numbers : List ℕ) → is_among n (dedup_from nat_eq first numbers) ≡ is_among n (first ∷ numbers)
+among_from : (n first : ℕ) (numbers : List ℕ) → is_among n (dedup_from nat_eq first numbers)
+    ≡ is_among n (first ∷ numbers)
 among_from n first [] = refl
-among_from n first (next ∷ numbers) = same_once n first next (next == first) numbers refl (λ last. among_from n last numbers)
+among_from n first (next ∷ numbers) = same_once n first next (next == first) numbers refl
+    (λ last. among_from n last numbers)
 
 among_dedup : (n : ℕ) (numbers : List ℕ) → is_among n (dedup nat_eq numbers) ≡ is_among n numbers
 among_dedup n [] = refl

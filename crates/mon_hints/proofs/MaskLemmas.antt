@@ -1,5 +1,6 @@
 -- Masks of children.
-use Rattle.std.proofs.Common.{◌≡◌, ℕ, zero, suc, ◌-◌, ◌^◌, ◌<◌, min, max, Bool, true, false, ◌==◌, ◌&&◌, ◌||◌, refl, sym, ap, ◌∙◌, arith}
+use Rattle.std.proofs.Common.{◌≡◌, ℕ, zero, suc, ◌-◌, ◌^◌, ◌<◌, min, max, Bool, true, false, ◌==◌, ◌&&◌, ◌||◌, refl}
+use Rattle.std.proofs.Common.{sym, ap, ◌∙◌, arith}
 use Rattle.std.specs.Prelude.{bit_and, bit_or}
 use Rattle.std.specs.Int.{bit_at}
 use Rattle.std.proofs.lemmas.Nat.Bits.{bit_at-lt, bit_at-zero, bit_at_and, bit_at_ones, bit_at_or}
@@ -30,13 +31,15 @@ mask_of_every child h = ap (λ bit. bit == 1) (bit_at_ones 64 child h)
 pub mask_of_none : IsMask 0 (λ child. false)
 mask_of_none child h = ap (λ bit. bit == 1) (bit_at-zero child)
 
-pub mask_of_both : (v w : ℕ) (p q : ℕ → Bool) → IsMask v p → IsMask w q → IsMask (bit_and v w) (λ child. p child && q child)
+pub mask_of_both : (v w : ℕ) (p q : ℕ → Bool) → IsMask v p → IsMask w q → IsMask (bit_and v w) (λ child. p child
+    && q child)
 mask_of_both v w p q f g child h =
     ap (λ bit. bit == 1) (bit_at_and v w child)
     ∙ both_bits (bit_at v child) (bit_at w child) (bit_at-lt v child) (bit_at-lt w child)
     ∙ ap (λ b. b && has_bit w child) (f child h) ∙ ap (λ b. p child && b) (g child h)
 
-pub mask_of_either : (v w : ℕ) (p q : ℕ → Bool) → IsMask v p → IsMask w q → IsMask (bit_or v w) (λ child. p child || q child)
+pub mask_of_either : (v w : ℕ) (p q : ℕ → Bool) → IsMask v p → IsMask w q → IsMask (bit_or v w) (λ child. p child
+    || q child)
 mask_of_either v w p q f g child h =
     ap (λ bit. bit == 1) (bit_at_or v w child)
     ∙ either_bit (bit_at v child) (bit_at w child) (bit_at-lt v child) (bit_at-lt w child)

@@ -1,10 +1,12 @@
 -- The least bit of a word at or above a place.
-use Rattle.std.proofs.Common.{◌≡◌, ℕ, ◌-◌, ◌*◌, ◌%◌, ◌^◌, ◌<◌, ◌≤◌, min, true, false, ◌==◌, sym, ap, ◌∙◌, inl, inr, arith}
+use Rattle.std.proofs.Common.{◌≡◌, ℕ, ◌-◌, ◌*◌, ◌%◌, ◌^◌, ◌<◌, ◌≤◌, min, true, false, ◌==◌, sym, ap, ◌∙◌, inl, inr}
+use Rattle.std.proofs.Common.{arith}
 use Rattle.std.specs.Prelude.{bit_and}
 use Rattle.std.specs.Int.{bit_at, trailing_zeros, w64}
 use Rattle.std.proofs.lemmas.Bool.{cases_lt}
 use Rattle.std.proofs.lemmas.Nat.{and_le_l}
-use Rattle.std.proofs.lemmas.Nat.Bits.{bit_at-lt, bit_at-trailing_zeros, bit_at-zero, bit_at_and, bit_at_mask_below, bit_at_mask_inside, ones_shl}
+use Rattle.std.proofs.lemmas.Nat.Bits.{bit_at-lt, bit_at-trailing_zeros, bit_at-zero, bit_at_and, bit_at_mask_below}
+use Rattle.std.proofs.lemmas.Nat.Bits.{bit_at_mask_inside, ones_shl}
 use Rattle.mon_hints.specs.BucketSets.{IsNext}
 use Rattle.mon_hints.specs.Words.{has_bit}
 
@@ -24,9 +26,11 @@ min_none n = omega arith
 abbrev pub above : ℕ → ℕ → ℕ
 above word from = bit_and word ((2 ^ 64 - 1) * 2 ^ from % 2 ^ 64)
 
-at_above : (word from bit : ℕ) → from < 64 → bit_at (above word from) bit ≡ min (bit_at word bit) (bit_at (2 ^ 64 - 2 ^ from) bit)
+at_above : (word from bit : ℕ) → from < 64 → bit_at (above word from) bit ≡ min (bit_at word bit)
+    (bit_at (2 ^ 64 - 2 ^ from) bit)
 at_above word from bit h =
-    ap (λ mask. bit_at (bit_and word mask) bit) (ones_shl 64 from (omega arith)) ∙ bit_at_and word (2 ^ 64 - 2 ^ from) bit
+    ap (λ mask. bit_at (bit_and word mask) bit) (ones_shl 64 from (omega arith)) ∙ bit_at_and word (2 ^ 64 - 2 ^ from)
+    bit
 
 kept_above : (word from bit : ℕ) → from ≤ bit → bit < 64 → bit_at (above word from) bit ≡ bit_at word bit
 kept_above word from bit low high =
@@ -35,7 +39,8 @@ kept_above word from bit low high =
 
 gone_below : (word from bit : ℕ) → bit < from → from < 64 → bit_at (above word from) bit ≡ 0
 gone_below word from bit low high =
-    at_above word from bit high ∙ ap (min (bit_at word bit)) (bit_at_mask_below from 64 bit low) ∙ min_none (bit_at word bit)
+    at_above word from bit high ∙ ap (min (bit_at word bit)) (bit_at_mask_below from 64 bit low)
+    ∙ min_none (bit_at word bit)
 
 pub none_above : (word from : ℕ) → above word from ≡ 0 → (bit : ℕ) → from ≤ bit → bit < 64 → has_bit word bit ≡ false
 none_above word from none bit low high =
@@ -46,7 +51,8 @@ above_fits word from h = let below = and_le_l word ((2 ^ 64 - 1) * 2 ^ from % 2 
 
 reached : (word from bit : ℕ) → from < 64 → bit_at (above word from) bit ≡ 1 → from ≤ bit
 reached word from bit h e = elim (cases_lt bit from) [
-  | inl below ↦ absurd (let none : bit_at (above word from) bit ≡ 0 = gone_below word from bit below h in omega (arith, none, e))
+  | inl below ↦ absurd (let none : bit_at (above word from) bit ≡ 0 = gone_below word from bit below h in
+      omega (arith, none, e))
   | inr above ↦ above
 ]
 
@@ -62,6 +68,7 @@ first_above word from h some fits =
       record {
         among = bit_found word first (sym (kept_above word from first low high) ∙ lowest.1);
         reached = low;
-        least = λ bit least below. bit_cleared word bit (sym (kept_above word from bit least (omega arith)) ∙ lowest.2 bit below);
+        least = λ bit least below. bit_cleared word bit (sym (kept_above word from bit least (omega arith))
+            ∙ lowest.2 bit below);
       },
     )

@@ -1,5 +1,6 @@
 -- A pattern's excerpts are among those of every text that it matches.
-use Rattle.std.proofs.Common.{◌≡◌, ℕ, Bool, true, ◌||◌, List, [], ◌∷◌, ◌++◌, take, drop, length, refl, sym, ap, ◌∙◌, subst, inl, inr}
+use Rattle.std.proofs.Common.{◌≡◌, ℕ, Bool, true, ◌||◌, List, [], ◌∷◌, ◌++◌, take, drop, length, refl, sym, ap, ◌∙◌}
+use Rattle.std.proofs.Common.{subst, inl, inr}
 use Rattle.std.specs.Prelude.{nat_eq}
 use Rattle.std.specs.List.{flat_map, list_all, list_any, starts_with}
 use Rattle.std.proofs.lemmas.Bool.{and_parts, and_from, or_cases, or_left, or_right, false≢true}
@@ -19,7 +20,8 @@ PiecesPass test marks pieces = list_all test (flat_map windows (ended (begun mar
 abbrev pub TextPasses : (List ℕ → Bool) → List ℕ → List ℕ → Type 0
 TextPasses test marks text = Pass test (marks ++ text ++ back)
 
-joined : (test : List ℕ → Bool) (some others : List (List ℕ)) → list_all test some ≡ true → list_all test others ≡ true →
+joined : (test : List ℕ → Bool) (some others : List (List ℕ)) → list_all test some ≡ true → list_all test others ≡ true
+    →
     list_all test (some ++ others) ≡ true
 joined test some others e f =
     list_all-append test some others ∙ and_from (list_all test some) (list_all test others) e f
@@ -34,12 +36,14 @@ regrouped marks piece rest =
     ap (λ t. t ++ back) (sym (append_assoc marks piece rest)) ∙ append_assoc (marks ++ piece) rest back
 
 in_front : (test : List ℕ → Bool) (marks piece next : List ℕ) (pieces : List (List ℕ)) (rest : List ℕ) →
-    TextPasses test marks (piece ++ rest) → PiecesPass test [] (next ∷ pieces) → PiecesPass test marks (piece ∷ next ∷ pieces)
+    TextPasses test marks (piece ++ rest) → PiecesPass test [] (next ∷ pieces) → PiecesPass test marks
+    (piece ∷ next ∷ pieces)
 in_front test marks piece next pieces rest h later =
     joined test (windows (marks ++ piece)) (flat_map windows (ended (next ∷ pieces) back))
     (pass_front test (marks ++ piece) (rest ++ back) (subst (Pass test) (regrouped marks piece rest) h)) later
 
-behind : (test : List ℕ → Bool) (marks piece rest : List ℕ) → TextPasses test marks (piece ++ rest) → TextPasses test [] rest
+behind : (test : List ℕ → Bool) (marks piece rest : List ℕ) → TextPasses test marks (piece ++ rest) → TextPasses test
+    [] rest
 behind test marks piece rest h =
     pass_back test (marks ++ piece) (rest ++ back) (subst (Pass test) (regrouped marks piece rest) h)
 
@@ -48,7 +52,8 @@ behind test marks piece rest h =
 no_match : (text : List ℕ) → IsMatch [] text → ⊥
 no_match text m = elim m [ ]
 
-next_passes : (test : List ℕ → Bool) (marks piece between rest : List ℕ) (pieces : List (List ℕ)) → IsMatch pieces rest →
+next_passes : (test : List ℕ → Bool) (marks piece between rest : List ℕ) (pieces : List (List ℕ)) → IsMatch pieces rest
+    →
     (TextPasses test [] rest → PiecesPass test [] pieces) → TextPasses test marks (piece ++ between ++ rest) →
     PiecesPass test marks (piece ∷ pieces)
 next_passes test marks piece between rest [] m later h = absurd (no_match rest m)
@@ -58,7 +63,8 @@ next_passes test marks piece between rest (next ∷ pieces) m later h =
     in_front test marks piece next pieces (between ++ rest) whole
     (later (behind test [] between rest (behind test marks piece (between ++ rest) whole)))
 
-pub relation_passes : (test : List ℕ → Bool) (marks : List ℕ) (pieces : List (List ℕ)) (text : List ℕ) → IsMatch pieces text →
+pub relation_passes : (test : List ℕ → Bool) (marks : List ℕ) (pieces : List (List ℕ)) (text : List ℕ)
+    → IsMatch pieces text →
     TextPasses test marks text → PiecesPass test marks pieces
 relation_passes test marks _ _ (last_piece {piece}) h = alone test marks piece h
 relation_passes test marks _ _ (next_piece {piece} {rest} {pieces} between m) h =
@@ -67,7 +73,8 @@ relation_passes test marks _ _ (next_piece {piece} {rest} {pieces} between m) h 
 -- ---- from the test
 
 -- what follows of a text that passes and is met, follows where one is met behind some front
-some_behind : (test met : List ℕ → Bool) (Claim : Type 0) → ((text : List ℕ) → met text ≡ true → TextPasses test [] text → Claim) →
+some_behind : (test met : List ℕ → Bool) (Claim : Type 0) → ((text : List ℕ) → met text ≡ true → TextPasses test []
+    text → Claim) →
     (text : List ℕ) → holds_behind met text ≡ true → TextPasses test [] text → Claim
 some_behind test met Claim follows [] e h = follows [] e h
 some_behind test met Claim follows (byte ∷ bytes) e h = elim (or_cases (met (byte ∷ bytes)) (holds_behind met bytes) e) [
@@ -75,7 +82,8 @@ some_behind test met Claim follows (byte ∷ bytes) e h = elim (or_cases (met (b
   | inr later ↦ some_behind test met Claim follows bytes later (pass_tail test byte (bytes ++ back) h)
 ]
 
-pub test_passes : (test : List ℕ → Bool) (marks : List ℕ) (pieces : List (List ℕ)) (text : List ℕ) → is_match pieces text ≡ true →
+pub test_passes : (test : List ℕ → Bool) (marks : List ℕ) (pieces : List (List ℕ)) (text : List ℕ) → is_match pieces
+    text ≡ true →
     TextPasses test marks text → PiecesPass test marks pieces
 test_passes test marks [] text e h = absurd (false≢true e)
 test_passes test marks (piece ∷ []) text e h =
@@ -96,7 +104,8 @@ same_self : (text : List ℕ) → same_text text text ≡ true
 same_self text = (same_text-Decides text text).1 refl
 
 -- a list of which every item passes where more are given
-among_more : (some more : List (List ℕ)) (first : List ℕ) → are_among some more ≡ true → are_among some (first ∷ more) ≡ true
+among_more : (some more : List (List ℕ)) (first : List ℕ) → are_among some more ≡ true → are_among some (first ∷ more)
+    ≡ true
 among_more [] more first e = refl
 among_more (excerpt ∷ some) more first e =
     let parts = and_parts (list_any (same_text excerpt) more) (are_among some more) e in
@@ -107,7 +116,8 @@ among_more (excerpt ∷ some) more first e =
 among_all : (excerpts : List (List ℕ)) → are_among excerpts excerpts ≡ true
 among_all [] = refl
 among_all (excerpt ∷ excerpts) =
-    and_from (same_text excerpt excerpt || list_any (same_text excerpt) excerpts) (are_among excerpts (excerpt ∷ excerpts))
+    and_from (same_text excerpt excerpt || list_any (same_text excerpt) excerpts)
+    (are_among excerpts (excerpt ∷ excerpts))
     (or_left (same_text excerpt excerpt) (list_any (same_text excerpt) excerpts) (same_self excerpt))
     (among_more excerpts excerpts excerpt (among_all excerpts))
 

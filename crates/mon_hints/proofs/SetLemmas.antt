@@ -1,5 +1,6 @@
 -- Which buckets a set has, and how one is added.
-use Rattle.std.proofs.Common.{◌≡◌, ℕ, zero, ◌+◌, ◌*◌, ◌/◌, ◌%◌, ◌^◌, ◌<◌, Bool, false, ◌==◌, ◌||◌, List, [], ◌∷◌, length, get_or, set, replicate, refl, sym, ap, ◌∙◌, inl, inr, arith, lit<}
+use Rattle.std.proofs.Common.{◌≡◌, ℕ, zero, ◌+◌, ◌*◌, ◌/◌, ◌%◌, ◌^◌, ◌<◌, Bool, false, ◌==◌, ◌||◌, List, [], ◌∷◌}
+use Rattle.std.proofs.Common.{length, get_or, set, replicate, refl, sym, ap, ◌∙◌, inl, inr, arith, lit<}
 use Rattle.std.specs.Prelude.{bit_or}
 use Rattle.std.specs.Int.{w64}
 use Rattle.std.proofs.lemmas.Bool.{cases_eq, cases_lt, eq-eqb, ne_eqb, or_left}
@@ -17,7 +18,8 @@ pub with_buckets_has : (set : ℕ → Bool) (buckets : List ℕ) (bucket : ℕ) 
     with_buckets set buckets bucket ≡ (is_among bucket buckets || set bucket)
 with_buckets_has set [] bucket = refl
 with_buckets_has set (first ∷ buckets) bucket =
-    with_buckets_has (with_bucket set first) buckets bucket ∙ or_exchanged (is_among bucket buckets) (bucket == first) (set bucket)
+    with_buckets_has (with_bucket set first) buckets bucket ∙ or_exchanged (is_among bucket buckets) (bucket == first)
+    (set bucket)
 
 pub set_of_buckets : (buckets : List ℕ) → with_buckets no_bucket buckets ≡ (λ bucket. is_among bucket buckets)
 set_of_buckets buckets =
@@ -73,7 +75,8 @@ module _ (words : List ℕ) (bucket other : ℕ) (within : bucket / 64 < length 
       is_set (set words (bucket / 64) new) other ≡ with_bucket (is_set words) bucket other
   beside same differ =
       ap (λ read. has_bit read (other % 64)) (read_back same)
-      ∙ ap (λ bit. bit == 1) (bit_at_set_other w64 word (bucket % 64) (mod_below bucket 64 (lit< tt)) (other % 64) differ)
+      ∙ ap (λ bit. bit == 1) (bit_at_set_other w64 word (bucket % 64) (mod_below bucket 64 (lit< tt)) (other % 64)
+      differ)
       ∙ ap (λ place. has_bit (get_or words place 0) (other % 64)) (sym same)
       ∙ sym (ap (λ found. found || is_set words other) (ne_eqb other bucket (λ e. differ (ap (λ n. n % 64) e))))
 

@@ -26,8 +26,8 @@ pub type Excerpts = ListOf<Excerpt>;
 /// The texts between the cuts of a pattern, in order.
 pub type Pieces = Texts;
 
-/// The excerpts of a pattern: the windows of three bytes of each of its pieces, of which the first has two marks in front of
-/// it and the last two behind it. Every text that the pattern matches has them all.
+/// The excerpts of a pattern: the windows of three bytes of each of its pieces, of which the first has two marks in
+/// front of it and the last two behind it. Every text that the pattern matches has them all.
 pub fn excerpts_of(alloc: Global, pieces: &Pieces) -> Result<Excerpts, OutOfMemory>
     ensures excerpts { IfOk result (λ excerpts. excerpts ≡ pattern_excerpts pieces.now) }
 {

@@ -15,7 +15,8 @@ const FACTOR: u64 = 1_099_511_628_211;
 /// Buckets, each a number below their number.
 pub type Buckets = ListOf<u32>;
 
-/// The bucket, among so many, of an excerpt of a schema's field. The one excerpt of a field without a name is the metric.
+/// The bucket, among so many, of an excerpt of a schema's field. The one excerpt of a field without a name is the
+/// metric.
 pub fn bucket_of(schema: &[u8], field: &[u8], excerpt: &[u8], buckets: u32) -> u32
     requires { 0 < buckets }
     ensures bucket { result ≡ spec.bucket_of buckets schema.now field.now excerpt.now }

@@ -130,7 +130,8 @@ fn insert_text(set: &mut BucketSet, field: Fingerprint, text: &[u8], buckets: u3
 fn insert_excerpt(set: &mut BucketSet, field: Fingerprint, excerpt: &[u8], buckets: u32)
     requires some { 0 < buckets }
     requires most { buckets ≤ MOST_BUCKETS }
-    ensures added { is_set set.new.words ≡ with_bucket (is_set set.old.words) (bucket_behind buckets field.state excerpt.now) }
+    ensures added { is_set set.new.words
+        ≡ with_bucket (is_set set.old.words) (bucket_behind buckets field.state excerpt.now) }
 {
     set.insert(field.with_bytes(excerpt).bucket(buckets));
 }

@@ -12,8 +12,8 @@ pub fn formulas_stay_true()
         → AreAmong buckets more → holds tree buckets ≡ true → holds tree more ≡ true }
 {}
 
-/// The excerpts of a pattern are among those of every text that it matches, so whatever passes for all of these passes for
-/// all of the pattern's.
+/// The excerpts of a pattern are among those of every text that it matches, so whatever passes for all of these
+/// passes for all of the pattern's.
 pub fn patterns_are_in_texts()
     ensures among { (pieces : List (List ℕ)) (text : List ℕ) → IsMatch pieces text
         → are_among (pattern_excerpts pieces) (text_excerpts text) ≡ true }

@@ -12,10 +12,11 @@ use mon_value::ListOf;
 /// For each bucket the children that have it, a bit for each.
 pub type Words = ListOf<u64>;
 
-/// The children of which the formula holds, a bit for each: a child has the buckets whose words have its bit. The words stand
-/// in the order of the named buckets. No memory is taken.
+/// The children of which the formula holds, a bit for each: a child has the buckets whose words have its bit. The
+/// words stand in the order of the named buckets. No memory is taken.
 pub fn mask(formula: &Formula, named: &Buckets, words: &Words) -> u64
-    ensures bits { IsMask result (λ child. holds (formula_tree formula.now) (buckets_of_child named.now words.now child)) }
+    ensures bits { IsMask result (λ child.
+        holds (formula_tree formula.now) (buckets_of_child named.now words.now child)) }
 {
     NamedWords::new(named.as_slice(), words.as_slice()).mask(formula)
 }

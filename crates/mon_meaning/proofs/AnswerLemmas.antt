@@ -32,7 +32,8 @@ asked_whole typed series moment asked from =
     }
 
 module _ (typed : TypedTree) (source : List Row) (moment : ℤ) (limit : ℕ) where
-  pub is_meant : (table : Table) (rows : List TimedRow) (counted most : ℕ) → table ≡ record { columns = columns_of typed.tree; rows = rows }
+  pub is_meant : (table : Table) (rows : List TimedRow) (counted most : ℕ) → table
+      ≡ record { columns = columns_of typed.tree; rows = rows }
       → IsPermutation (meaning typed source moment) rows
       → counted ≡ 0 + load typed source moment → counted ≤ most → most ≡ limit
       → IsMeant typed source moment limit table

@@ -1,5 +1,6 @@
 -- Items by key, where the keys of some items are of one kind, those of others of another kind, and none is of both.
-use Rattle.std.proofs.Common.{◌≡◌, Bool, false, not, cond, Decides, List, [], ◌∷◌, ◌++◌, map, append-nil, refl, sym, ap, subst, ◌∙◌}
+use Rattle.std.proofs.Common.{◌≡◌, Bool, false, not, cond, Decides, List, [], ◌∷◌, ◌++◌, map, append-nil, refl, sym}
+use Rattle.std.proofs.Common.{ap, subst, ◌∙◌}
 use Rattle.std.specs.List.{AllByRecursion, filter}
 use Rattle.std.proofs.lemmas.Bool.{false_from_ne_true}
 use Rattle.std.proofs.lemmas.List.{map-append}

@@ -1,5 +1,7 @@
--- A fetch with its filters: the series that are met and the points that are kept are those of the part that it stands for.
-use Rattle.std.proofs.Common.{◌≡◌, Bool, true, false, ◌&&◌, ◌||◌, ◌==◌, not, cond, List, [], ◌∷◌, ◌++◌, map, length, refl, sym, ap, subst, ◌∙◌, arith}
+-- A fetch with its filters: the series that are met and the points that are kept are those of the part that it stands
+-- for.
+use Rattle.std.proofs.Common.{◌≡◌, Bool, true, false, ◌&&◌, ◌||◌, ◌==◌, not, cond, List, [], ◌∷◌, ◌++◌, map, length}
+use Rattle.std.proofs.Common.{refl, sym, ap, subst, ◌∙◌, arith}
 use Rattle.std.specs.List.{AllByRecursion, filter, flat_map, sum_by}
 use Rattle.std.proofs.lemmas.List.Elements.{filter_agree}
 use Rattle.std.proofs.lemmas.List.Sums.{sum_by-cons}
@@ -17,18 +19,21 @@ use Rattle.mql_types.specs.Loads.{lets_in, meets, names_keys, series_cells}
 use Rattle.mql_types.specs.Meaning.{is_fetched}
 use Rattle.mql_types.specs.Nodes as node
 use Rattle.mql_types.specs.Nodes.{NodeTree}
-use Rattle.mon_meaning.specs.within.FetchViews.{FetchView, FetchesNothing, IsFetchOf, all_hold, is_met, keeps, met_rows, points_kept}
+use Rattle.mon_meaning.specs.within.FetchViews.{FetchView, FetchesNothing, IsFetchOf, all_hold, is_met, keeps}
+use Rattle.mon_meaning.specs.within.FetchViews.{met_rows, points_kept}
 use Rattle.mon_meaning.specs.within.MetSeries.{CanAlignMet, is_counted, met_count}
 use Rattle.mon_meaning.specs.within.Reach.{reached}
 use Rattle.mon_meaning.specs.within.KeyFilters.{KeysDecide, fetches}
-use Rattle.mon_meaning.specs.within.SeriesMeaning.{SeriesGroup, align_load, flows, points_flowing, reach_count, series_rows}
+use Rattle.mon_meaning.specs.within.SeriesMeaning.{SeriesGroup, align_load, flows, points_flowing, reach_count}
+use Rattle.mon_meaning.specs.within.SeriesMeaning.{series_rows}
 use Rattle.mon_meaning.proofs.FilterLemmas.{filter_none}
 use Rattle.mon_meaning.proofs.ReachLemmas.{aligned-in_reach}
 use Rattle.mon_meaning.proofs.SeriesOrders.{no_values}
 
 -- ---- what isn't met doesn't flow
 
-unfetched : (input : NodeTree) (key : SeriesKey) (value : Value) → fetches input key ≡ false → flows input key value ≡ false
+unfetched : (input : NodeTree) (key : SeriesKey) (value : Value) → fetches input key ≡ false → flows input key value
+    ≡ false
 unfetched (node.Fetch info schema metric) key value e = e
 unfetched (node.Filter info by input) key value e =
     let rest = unfetched input key value e in by_test (predicate_truth by info.columns (cells_of key value)) rest
@@ -78,7 +83,8 @@ unmet_by input key value true e decided unmet = decided_out input key value (dec
 unmet_by input key value false e decided unmet = unfetched input key value e
 
 -- the points of a series that isn't met don't flow
-unmet : (input : NodeTree) (key : SeriesKey) → (fetches input key ≡ true → KeysDecide input key) → meets input key ≡ false
+unmet : (input : NodeTree) (key : SeriesKey) → (fetches input key ≡ true → KeysDecide input key) → meets input key
+    ≡ false
     → (value : Value) → flows input key value ≡ false
 unmet input key decided e value = unmet_by input key value (fetches input key) refl decided e
 
@@ -95,7 +101,8 @@ met_fetched (node.Union info left right) key e = absurd cc
 
 -- ---- what is met
 
-module _ (grid : Grid) (by : Aligner) (input : NodeTree) (fetch : FetchView) (is : IsFetchOf input fetch) (lawful : IsLawful grid) where
+module _ (grid : Grid) (by : Aligner) (input : NodeTree) (fetch : FetchView) (is : IsFetchOf input fetch)
+    (lawful : IsLawful grid) where
   keeps_by : (fetched series at kept flow : Bool) → (fetched && series) ≡ true → at ≡ series
       → (fetched && (at && kept)) ≡ flow → kept ≡ flow
   keeps_by true true at kept flow e f g = ap (λ b. b && kept) (sym f) ∙ g
@@ -116,7 +123,8 @@ module _ (grid : Grid) (by : Aligner) (input : NodeTree) (fetch : FetchView) (is
 
   rows_met : (one : SeriesGroup) → (fetches input one.0 ≡ true → KeysDecide input one.0) → meets input one.0 ≡ true
       → met_rows grid by fetch one ≡ series_rows grid by input one
-  rows_met one decided met = ap (λ points. map (row_of one.0) (aligned_values by grid points)) (points_met one decided met)
+  rows_met one decided met = ap (λ points. map (row_of one.0) (aligned_values by grid points))
+      (points_met one decided met)
 
   none_flow : (key : SeriesKey) (points : List Point) → ((value : Value) → flows input key value ≡ false)
       → points_flowing input (key, points) ≡ []
@@ -133,7 +141,8 @@ module _ (grid : Grid) (by : Aligner) (input : NodeTree) (fetch : FetchView) (is
   empty_by_length [] e = refl
   empty_by_length (x ∷ xs) e = absurd (grind arith)
 
-  unreached_rows : (one : SeriesGroup) → (length (reached grid by one.1) == 0) ≡ true → series_rows grid by input one ≡ []
+  unreached_rows : (one : SeriesGroup) → (length (reached grid by one.1) == 0) ≡ true → series_rows grid by input one
+      ≡ []
   unreached_rows one e =
       let test : Point → Bool = λ point. flows input one.0 point.value in
       let none : reached grid by one.1 ≡ [] = empty_by_length (reached grid by one.1) e in
@@ -152,10 +161,13 @@ module _ (grid : Grid) (by : Aligner) (input : NodeTree) (fetch : FetchView) (is
   uncounted_rows one true false decided e f g = absurd cc
   uncounted_rows one false empty decided e f g = unmet_rows one decided e
 
-  rows_by : (one : SeriesGroup) (rest : List SeriesGroup) (b : Bool) → (fetches input one.0 ≡ true → KeysDecide input one.0)
+  rows_by : (one : SeriesGroup) (rest : List SeriesGroup) (b : Bool) → (fetches input one.0 ≡ true → KeysDecide input
+      one.0)
       → is_counted grid by fetch one ≡ b
-      → flat_map (met_rows grid by fetch) (filter (is_counted grid by fetch) rest) ≡ flat_map (series_rows grid by input) rest
-      → flat_map (met_rows grid by fetch) (cond b (one ∷ filter (is_counted grid by fetch) rest) (filter (is_counted grid by fetch) rest))
+      → flat_map (met_rows grid by fetch) (filter (is_counted grid by fetch) rest)
+      ≡ flat_map (series_rows grid by input) rest
+      → flat_map (met_rows grid by fetch) (cond b (one ∷ filter (is_counted grid by fetch) rest)
+      (filter (is_counted grid by fetch) rest))
       ≡ series_rows grid by input one ++ flat_map (series_rows grid by input) rest
   rows_by one rest true decided e ih =
       let met : meets input one.0 ≡ true =
@@ -164,20 +176,24 @@ module _ (grid : Grid) (by : Aligner) (input : NodeTree) (fetch : FetchView) (is
       λ i. here i ++ ih i
   rows_by one rest false decided e ih =
       let none : series_rows grid by input one ≡ [] =
-      uncounted_rows one (is_met fetch one.0) (length (reached grid by one.1) == 0) decided (sym (is.met one.0)) refl e in
+      uncounted_rows one (is_met fetch one.0) (length (reached grid by one.1) == 0) decided (sym (is.met one.0)) refl
+      e in
       ih ∙ ap (λ front. front ++ flat_map (series_rows grid by input) rest) (sym none)
 
   -- the rows of the series that are counted are all rows
   pub counted_rows : (series : List SeriesGroup)
       → AllByRecursion (λ (one : SeriesGroup). fetches input one.0 ≡ true → KeysDecide input one.0) series
-      → flat_map (met_rows grid by fetch) (filter (is_counted grid by fetch) series) ≡ flat_map (series_rows grid by input) series
+      → flat_map (met_rows grid by fetch) (filter (is_counted grid by fetch) series)
+      ≡ flat_map (series_rows grid by input) series
   counted_rows [] decided = refl
   counted_rows (one ∷ series) decided =
       rows_by one series (is_counted grid by fetch one) decided.0 refl (counted_rows series decided.1)
 
-  can_by : (one : SeriesGroup) (rest : List SeriesGroup) (b : Bool) → (fetches input one.0 ≡ true → KeysDecide input one.0)
+  can_by : (one : SeriesGroup) (rest : List SeriesGroup) (b : Bool) → (fetches input one.0 ≡ true → KeysDecide input
+      one.0)
       → is_counted grid by fetch one ≡ b → CanAlign by grid (points_flowing input one)
-      → AllByRecursion (CanAlignMet grid by fetch) rest → AllByRecursion (CanAlignMet grid by fetch) (cond b (one ∷ rest) rest)
+      → AllByRecursion (CanAlignMet grid by fetch) rest → AllByRecursion (CanAlignMet grid by fetch)
+      (cond b (one ∷ rest) rest)
   can_by one rest true decided e can all =
       let met : meets input one.0 ≡ true =
       sym (is.met one.0) ∙ counted_parts (is_met fetch one.0) (length (reached grid by one.1) == 0) e in
@@ -197,7 +213,8 @@ module _ (grid : Grid) (by : Aligner) (input : NodeTree) (fetch : FetchView) (is
   -- as many points are in reach of the series that are met
   pub counts_met : (series : List SeriesGroup)
       → sum_by (met_count grid by fetch) series ≡ sum_by (reach_count grid by input) series
-  counts_met series = λ i. sum_by (λ (one : SeriesGroup). cond (is.met one.0 i) (length (reached grid by one.1)) 0) series
+  counts_met series = λ i. sum_by (λ (one : SeriesGroup). cond (is.met one.0 i) (length (reached grid by one.1)) 0)
+      series
 
 -- ---- where nothing is fetched
 
@@ -209,12 +226,14 @@ module _ (grid : Grid) (by : Aligner) (input : NodeTree) (nothing : FetchesNothi
 
   pub nothing_rows : (series : List SeriesGroup) → flat_map (series_rows grid by input) series ≡ []
   nothing_rows [] = refl
-  nothing_rows (one ∷ series) = ap (λ front. front ++ flat_map (series_rows grid by input) series) (dry_rows one) ∙ nothing_rows series
+  nothing_rows (one ∷ series) = ap (λ front. front ++ flat_map (series_rows grid by input) series) (dry_rows one)
+      ∙ nothing_rows series
 
   nothing_counted : (series : List SeriesGroup) → sum_by (reach_count grid by input) series ≡ 0
   nothing_counted [] = refl
   nothing_counted (one ∷ series) =
-      let here : reach_count grid by input one ≡ 0 = ap (λ b. cond b (length (reached grid by one.1)) 0) (nothing.unmet one.0) in
+      let here : reach_count grid by input one ≡ 0 = ap (λ b. cond b (length (reached grid by one.1)) 0)
+      (nothing.unmet one.0) in
       sum_by_more here (nothing_counted series)
     where
       sum_by_more : reach_count grid by input one ≡ 0 → sum_by (reach_count grid by input) series ≡ 0

@@ -1,5 +1,6 @@
 -- Filters of lists: two of them, and in another order.
-use Rattle.std.proofs.Common.{◌≡◌, ◌&&◌, Bool, true, false, cond, Option, Some, None, List, [], ◌∷◌, map, refl, sym, ap, ◌∙◌}
+use Rattle.std.proofs.Common.{◌≡◌, ◌&&◌, Bool, true, false, cond, Option, Some, None, List, [], ◌∷◌, map, refl, sym}
+use Rattle.std.proofs.Common.{ap, ◌∙◌}
 use Rattle.std.specs.Prelude.{IsPermutation}
 use Rattle.std.specs.List.{AllByRecursion, cons_option, filter, filter_map, flat_map}
 use Rattle.std.proofs.lemmas.List.Sorted.{IsPermutation-refl, IsPermutation-cons, IsPermutation-trans}
@@ -57,9 +58,11 @@ module _ {A : Type 0} where
   all-filter P p (x ∷ xs) all = kept_by P (p x) x (filter p xs) all.0 (all-filter P p xs all.1)
 
   -- what holds of all items holds of them in another order
-  pub all-permutation : (P : A → Type 0) (xs ys : List A) → IsPermutation xs ys → AllByRecursion P xs → AllByRecursion P ys
+  pub all-permutation : (P : A → Type 0) (xs ys : List A) → IsPermutation xs ys → AllByRecursion P xs
+      → AllByRecursion P ys
   all-permutation P =
-      along_permutation (λ xs ys. AllByRecursion P xs → AllByRecursion P ys) (λ xs all. all) (λ x xs ys h all. (all.0, h all.1))
+      along_permutation (λ xs ys. AllByRecursion P xs → AllByRecursion P ys) (λ xs all. all) (λ x xs ys h all.
+      (all.0, h all.1))
       (λ x y xs all. (all.1.0, (all.0, all.1.1))) (λ xs ys zs h g all. g (h all))
 
 module _ {A B : Type 0} (f : A → Option B) where
@@ -67,20 +70,24 @@ module _ {A B : Type 0} (f : A → Option B) where
   past_by None xs ys h = h
   past_by (Some x) xs ys h = IsPermutation-cons x xs ys h
 
-  exchanged_by : (o p : Option B) (xs : List B) → IsPermutation (cons_option o (cons_option p xs)) (cons_option p (cons_option o xs))
+  exchanged_by : (o p : Option B) (xs : List B) → IsPermutation (cons_option o (cons_option p xs))
+      (cons_option p (cons_option o xs))
   exchanged_by None p xs = IsPermutation-refl (cons_option p xs)
   exchanged_by (Some x) None xs = IsPermutation-refl (x ∷ xs)
   exchanged_by (Some x) (Some y) xs = front_exchanged (x ∷ []) (y ∷ []) xs
 
   -- what is made of items in another order
-  pub filter_map-permutation : (xs ys : List A) → IsPermutation xs ys → IsPermutation (filter_map f xs) (filter_map f ys)
+  pub filter_map-permutation : (xs ys : List A) → IsPermutation xs ys → IsPermutation (filter_map f xs)
+      (filter_map f ys)
   filter_map-permutation =
-      along_permutation (λ xs ys. IsPermutation (filter_map f xs) (filter_map f ys)) (λ xs. IsPermutation-refl (filter_map f xs))
+      along_permutation (λ xs ys. IsPermutation (filter_map f xs) (filter_map f ys))
+      (λ xs. IsPermutation-refl (filter_map f xs))
       (λ x xs ys h. past_by (f x) (filter_map f xs) (filter_map f ys) h)
       (λ x y xs. exchanged_by (f x) (f y) (filter_map f xs)) (λ xs ys zs h g. IsPermutation-trans _ _ _ h g)
 
 -- lists made of the same pieces
-pub flat_map-agree : {A B : Type 0} (f g : A → List B) → ((x : A) → f x ≡ g x) → (xs : List A) → flat_map f xs ≡ flat_map g xs
+pub flat_map-agree : {A B : Type 0} (f g : A → List B) → ((x : A) → f x ≡ g x) → (xs : List A) → flat_map f xs
+    ≡ flat_map g xs
 flat_map-agree f g same xs = λ i. flat_map (λ x. same x i) xs
 
 pub map-agree : {A B : Type 0} (f g : A → B) → ((x : A) → f x ≡ g x) → (xs : List A) → map f xs ≡ map g xs

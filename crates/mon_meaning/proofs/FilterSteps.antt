@@ -31,8 +31,10 @@ begins input = record { met = λ key. refl; flowing = λ key value. refl; decide
 
 -- ---- a filter more
 
-one_more : (filters : List BoundPredicate) (bound : BoundPredicate) (by : PredicateTree) (columns : List Column) (cells : List Value)
-    → IsBoundPredicate bound by columns → all_hold (filters ++ bound ∷ []) cells ≡ (all_hold filters cells && predicate_truth by columns cells)
+one_more : (filters : List BoundPredicate) (bound : BoundPredicate) (by : PredicateTree) (columns : List Column)
+    (cells : List Value)
+    → IsBoundPredicate bound by columns → all_hold (filters ++ bound ∷ []) cells
+    ≡ (all_hold filters cells && predicate_truth by columns cells)
 one_more filters bound by columns cells is =
     list_all-append (λ (b : BoundPredicate). bound_truth b cells) filters (bound ∷ [])
     ∙ ap (λ b. all_hold filters cells && b) (alone (bound_truth bound cells) ∙ is cells)
@@ -71,7 +73,8 @@ module _ (input rest : NodeTree) (info : NodeInfo) (by : PredicateTree) (of_seri
   with_series keys = record {
     met = λ key.
         ap (λ b. b && meets rest key) (one_more of_series bound by info.columns (series_cells key) is)
-        ∙ met_series (all_hold of_series (series_cells key)) (predicate_truth by info.columns (series_cells key)) (meets rest key)
+        ∙ met_series (all_hold of_series (series_cells key)) (predicate_truth by info.columns (series_cells key))
+        (meets rest key)
         ∙ ap (λ k. all_hold of_series (series_cells key)
         && ((not k || predicate_truth by info.columns (series_cells key)) && meets rest key)) (sym keys)
         ∙ remains.met key;
@@ -93,7 +96,8 @@ module _ (input rest : NodeTree) (info : NodeInfo) (by : PredicateTree) (of_seri
   pub with_points : names_keys info.columns by ≡ false → Remains input rest of_series (of_points ++ bound ∷ [])
   with_points other = record {
     met = λ key.
-        met_points (all_hold of_series (series_cells key)) (predicate_truth by info.columns (series_cells key)) (meets rest key)
+        met_points (all_hold of_series (series_cells key)) (predicate_truth by info.columns (series_cells key))
+        (meets rest key)
         ∙ ap (λ k. all_hold of_series (series_cells key)
         && ((not k || predicate_truth by info.columns (series_cells key)) && meets rest key)) (sym other)
         ∙ remains.met key;

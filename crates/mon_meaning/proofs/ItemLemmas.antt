@@ -1,5 +1,7 @@
 -- Items whose columns were found, and the cells of keys.
-use Rattle.std.proofs.Common.{◌≡◌, ◌<◌, ℕ, zero, suc, Bool, true, false, ◌||◌, cond, Option, Some, None, List, [], ◌∷◌, ◌++◌, map, length, get_or, option_map, option_to_list, IsNone, refl, sym, ap, subst, ◌∙◌, arith}
+use Rattle.std.proofs.Common.{◌≡◌, ◌<◌, ℕ, zero, suc, Bool, true, false, ◌||◌, cond, Option, Some, None, List, [], ◌∷◌}
+use Rattle.std.proofs.Common.{◌++◌, map, length, get_or, option_map, option_to_list, IsNone, refl, sym, ap, subst, ◌∙◌}
+use Rattle.std.proofs.Common.{arith}
 use Rattle.std.specs.List.{AllByRecursion, cons_option, filter, filter_map, list_any, zip}
 use Rattle.std.specs.Prelude.{if◌then◌else◌}
 use Rattle.mon_expr.proofs.NoValueLemmas.{none_exactly}
@@ -35,7 +37,8 @@ none_long (x ∷ xs) e = absurd (omega (arith, e))
 -- ---- keys
 
 key_by : (b : Bool) (column : Column) (cell : Value) (rest : List Named)
-    → map (λ (n : Named). n.1) (cond b ((column, cell) ∷ rest) rest) ≡ cond b (cell ∷ []) [] ++ map (λ (n : Named). n.1) rest
+    → map (λ (n : Named). n.1) (cond b ((column, cell) ∷ rest) rest) ≡ cond b (cell ∷ []) []
+    ++ map (λ (n : Named). n.1) rest
 key_by true column cell rest = refl
 key_by false column cell rest = refl
 
@@ -58,12 +61,15 @@ no_columns columns cells none = ap (λ cs. key_cells cs cells) none ∙ left cel
 -- ---- items
 
 -- one bound more
-pub AreBound-push : (bound : List BoundExpr) (items : List ItemTree) (columns : List Column) (one : BoundExpr) (item : ItemTree)
-    → AreBound bound items columns → IsBoundExpr one item.sum columns → AreBound (bound ++ one ∷ []) (items ++ item ∷ []) columns
+pub AreBound-push : (bound : List BoundExpr) (items : List ItemTree) (columns : List Column) (one : BoundExpr)
+    (item : ItemTree)
+    → AreBound bound items columns → IsBoundExpr one item.sum columns → AreBound (bound ++ one ∷ [])
+    (items ++ item ∷ []) columns
 AreBound-push [] [] columns one item are is = (is, tt)
 AreBound-push [] (i ∷ items) columns one item are is = absurd are
 AreBound-push (b ∷ bound) [] columns one item are is = absurd are
-AreBound-push (b ∷ bound) (i ∷ items) columns one item are is = (are.0, AreBound-push bound items columns one item are.1 is)
+AreBound-push (b ∷ bound) (i ∷ items) columns one item are is =
+    (are.0, AreBound-push bound items columns one item are.1 is)
 
 -- bound items can be computed where the items can
 pub bound_can : (bound : List BoundExpr) (items : List ItemTree) (columns : List Column) (cells : List Value)
@@ -71,7 +77,8 @@ pub bound_can : (bound : List BoundExpr) (items : List ItemTree) (columns : List
 bound_can [] [] columns cells are can = tt
 bound_can [] (i ∷ items) columns cells are can = tt
 bound_can (b ∷ bound) [] columns cells are can = absurd are
-bound_can (b ∷ bound) (i ∷ items) columns cells are can = (are.0.computes cells can, bound_can bound items columns cells are.1 can)
+bound_can (b ∷ bound) (i ∷ items) columns cells are can =
+    (are.0.computes cells can, bound_can bound items columns cells are.1 can)
 
 pub all_can : (bound : List BoundExpr) (items : List ItemTree) (columns : List Column) (rows : List TimedRow)
     → AreBound bound items columns → AllByRecursion (λ (row : TimedRow). CanCompute columns row.cells) rows
@@ -93,8 +100,10 @@ is_none_of None e = refl
 is_none_of (Some v) e = absurd cc
 
 -- what bound items come to in a row
-values_of : (bound : List BoundExpr) (items : List ItemTree) (columns : List Column) (cells : List Value) → AreBound bound items columns
-    → AllByRecursion (λ (item : ItemTree). IsTypedSum item.sum columns × HasShares item.sum) items → CanCompute columns cells
+values_of : (bound : List BoundExpr) (items : List ItemTree) (columns : List Column) (cells : List Value)
+    → AreBound bound items columns
+    → AllByRecursion (λ (item : ItemTree). IsTypedSum item.sum columns × HasShares item.sum) items → CanCompute columns
+    cells
     → all_values bound cells
     ≡ (if list_any (λ (item : ItemTree). meets_no_values item.sum columns cells) items then None
     else Some (filter_map (λ (item : ItemTree). sum_value item.sum columns cells) items))
@@ -106,7 +115,8 @@ values_of (b ∷ bound) (i ∷ items) columns cells are typed can =
     let exactly = none_exactly i.sum columns cells value typed.0.0 can refl in
     ap (λ o. with_value o (all_values bound cells)) (are.0.value cells)
     ∙ ap (with_value value) (values_of bound items columns cells are.1 typed.1 can)
-    ∙ step (meets_no_values i.sum columns cells) value (list_any (λ (item : ItemTree). meets_no_values item.sum columns cells) items)
+    ∙ step (meets_no_values i.sum columns cells) value (list_any (λ (item : ItemTree). meets_no_values item.sum columns
+    cells) items)
     (filter_map (λ (item : ItemTree). sum_value item.sum columns cells) items)
     (λ e. exactly.0 (is_none_of value e)) (λ e. exactly.1 e)
 
@@ -115,17 +125,24 @@ if_made : (b : Bool) (f : List Value → TimedRow) (values : List Value)
 if_made true f values = refl
 if_made false f values = refl
 
-row_same : (bound : List BoundExpr) (items : List ItemTree) (columns : List Column) (row : TimedRow) → AreBound bound items columns
-    → AllByRecursion (λ (item : ItemTree). IsTypedSum item.sum columns × HasShares item.sum) items → CanCompute columns row.cells
+row_same : (bound : List BoundExpr) (items : List ItemTree) (columns : List Column) (row : TimedRow)
+    → AreBound bound items columns
+    → AllByRecursion (λ (item : ItemTree). IsTypedSum item.sum columns × HasShares item.sum) items → CanCompute columns
+    row.cells
     → row_made columns bound row ≡ value_row columns items row
 row_same bound items columns row are typed can =
-    let f : List Value → TimedRow = λ values. record { time = row.time; cells = key_cells columns row.cells ++ values } in
+    let f : List Value → TimedRow = λ values. record {
+      time = row.time;
+      cells = key_cells columns row.cells
+          ++ values;
+    } in
     ap (option_map f) (values_of bound items columns row.cells are typed can)
     ∙ if_made (list_any (λ (item : ItemTree). meets_no_values item.sum columns row.cells) items) f
     (filter_map (λ (item : ItemTree). sum_value item.sum columns row.cells) items)
 
 -- the rows that bound items make are those of the items
-pub rows_same : (bound : List BoundExpr) (items : List ItemTree) (columns : List Column) (rows : List TimedRow) → AreBound bound items columns
+pub rows_same : (bound : List BoundExpr) (items : List ItemTree) (columns : List Column) (rows : List TimedRow)
+    → AreBound bound items columns
     → AllByRecursion (λ (item : ItemTree). IsTypedSum item.sum columns × HasShares item.sum) items
     → AllByRecursion (λ (row : TimedRow). CanCompute columns row.cells) rows
     → filter_map (row_made columns bound) rows ≡ filter_map (value_row columns items) rows

@@ -1,5 +1,6 @@
 -- Filters that name keys alone say of a series' points what they say of the series.
-use Rattle.std.proofs.Common.{◌≡◌, ◌<◌, ℕ, zero, suc, ◌+◌, true, false, ◌&&◌, ◌||◌, not, Option, Some, None, List, [], ◌∷◌, ◌++◌, map, length, length-append, append_assoc, refl, sym, ap, subst, ◌∙◌, arith}
+use Rattle.std.proofs.Common.{◌≡◌, ◌<◌, ℕ, zero, suc, ◌+◌, true, false, ◌&&◌, ◌||◌, not, Option, Some, None, List, []}
+use Rattle.std.proofs.Common.{◌∷◌, ◌++◌, map, length, length-append, append_assoc, refl, sym, ap, subst, ◌∙◌, arith}
 use Rattle.std.specs.Prelude.{slice_get}
 use Rattle.std.specs.Option.{option_map_or}
 use Rattle.std.proofs.lemmas.List.{length-map}
@@ -31,7 +32,8 @@ use Rattle.mon_meaning.specs.within.KeyFilters.{KeysDecide, fetches}
 -- ---- cells in front of the value
 
 key_in_front : (keys : List Column) (value : Column) (place : ℕ) → value.key ≡ false
-    → option_map_or (λ (column : Column). column.key) (slice_get (keys ++ value ∷ []) place) false ≡ true → place < length keys
+    → option_map_or (λ (column : Column). column.key) (slice_get (keys ++ value ∷ []) place) false ≡ true → place
+    < length keys
 key_in_front [] value zero plain e = absurd cc
 key_in_front [] value (suc place) plain e = absurd cc
 key_in_front (key ∷ keys) value zero plain e = omega arith
@@ -51,12 +53,14 @@ module _ (keys : List Column) (value : Column) (cells : List Value) (cell : Valu
   same_cell : (name : List ℕ) → is_key_name columns name ≡ true
       → slice_get (cells ++ cell ∷ []) (place_of name columns) ≡ slice_get cells (place_of name columns)
   same_cell name e =
-      front_cell cells cell (place_of name columns) (omega (arith, long, key_in_front keys value (place_of name columns) plain e))
+      front_cell cells cell (place_of name columns)
+      (omega (arith, long, key_in_front keys value (place_of name columns) plain e))
 
   -- a filter that names keys alone doesn't look at the last cell
   pub truth_of_keys : (by : PredicateTree) → names_keys columns by ≡ true
       → predicate_truth by columns (cells ++ cell ∷ []) ≡ predicate_truth by columns cells
-  truth_of_keys (tree.Compare name how literal) e = ap (is_passed (is_compared how literal.value)) (same_cell name.text e)
+  truth_of_keys (tree.Compare name how literal) e = ap (is_passed (is_compared how literal.value))
+      (same_cell name.text e)
   truth_of_keys (tree.Like name pattern) e = ap (is_passed (is_like pattern.pieces)) (same_cell name.text e)
   truth_of_keys (tree.Not p) e = ap not (truth_of_keys p e)
   truth_of_keys (tree.And p q) e =
@@ -72,11 +76,13 @@ module _ (keys : List Column) (value : Column) (cells : List Value) (cell : Valu
 
 -- ---- the columns of a fetch
 
-length-target_columns : (schema : List ℕ) (next : ℕ) (fields : List Field) → length (target_columns schema next fields) ≡ length fields
+length-target_columns : (schema : List ℕ) (next : ℕ) (fields : List Field) → length (target_columns schema next fields)
+    ≡ length fields
 length-target_columns schema next [] = refl
 length-target_columns schema next (field ∷ fields) = omega (arith, length-target_columns schema (next + 1) fields)
 
-as_many : (fields : List Field) (values : List FieldValue) → fields_fit fields values ≡ true → length fields ≡ length values
+as_many : (fields : List Field) (values : List FieldValue) → fields_fit fields values ≡ true → length fields
+    ≡ length values
 as_many [] [] e = refl
 as_many [] (value ∷ values) e = absurd cc
 as_many (field ∷ fields) [] e = absurd cc
@@ -101,7 +107,8 @@ of_by held row (Some target) None e f fit = absurd cc
 of_by held row (Some target) (Some metric) e f fit =
     let halves = both (fields_fit target.fields row.key.target.fields && fields_fit metric.fields row.key.fields)
     (times_fit metric.kind row.point.start row.point.end && value_fits metric.value row.point.value) fit in
-    let fields = both (fields_fit target.fields row.key.target.fields) (fields_fit metric.fields row.key.fields) halves.0 in
+    let fields = both (fields_fit target.fields row.key.target.fields) (fields_fit metric.fields row.key.fields)
+    halves.0 in
     record {
       target = target;
       metric = metric;
@@ -117,7 +124,8 @@ IsKeyOf held key = IsOf held key
 -- the key of a row that fits
 pub key_fits : (held : SchemaLists) (row : Row) → fits held row ≡ true → IsKeyOf held row.key
 unfolding IsKeyOf
-key_fits held row fit = of_by held row (target_named row.key.target.schema held.targets) (metric_named row.key.metric held.metrics) refl refl fit
+key_fits held row fit = of_by held row (target_named row.key.target.schema held.targets)
+    (metric_named row.key.metric held.metrics) refl refl fit
 
 same_columns : (own others : List Column) (by : PredicateTree) (cells more : List Value) → own ≡ others
     → (names_keys others by ≡ true → predicate_truth by others more ≡ predicate_truth by others cells)
@@ -126,8 +134,10 @@ same_columns own others by cells more e decide =
     subst (λ cs. names_keys cs by ≡ true → predicate_truth by cs more ≡ predicate_truth by cs cells) (sym e) decide
 
 -- the columns below a filter are those of the fetch
-columns_below : (held : SchemaLists) (key : SeriesKey) (input : NodeTree) → HasFetchColumns held input → fetches input key ≡ true
-    → columns_of input ≡ fetch_columns (target_named key.target.schema held.targets) (metric_named key.metric held.metrics)
+columns_below : (held : SchemaLists) (key : SeriesKey) (input : NodeTree) → HasFetchColumns held input
+    → fetches input key ≡ true
+    → columns_of input ≡ fetch_columns (target_named key.target.schema held.targets)
+    (metric_named key.metric held.metrics)
 columns_below held key (node.Fetch info schema metric) has e =
     let names = both (same_text schema key.target.schema) (same_text metric key.metric) e in
     let one : schema ≡ key.target.schema = (same_text-Decides schema key.target.schema).0 names.0 in
@@ -142,8 +152,10 @@ columns_below held key (node.Join info left right) has e = absurd cc
 columns_below held key (node.Union info left right) has e = absurd cc
 
 keys_decide_in : (held : SchemaLists) (key : SeriesKey) → IsOf held key → (by : PredicateTree) (value : Value)
-    → let columns = fetch_columns (target_named key.target.schema held.targets) (metric_named key.metric held.metrics) in
-    names_keys columns by ≡ true → predicate_truth by columns (cells_of key value) ≡ predicate_truth by columns (series_cells key)
+    → let columns = fetch_columns (target_named key.target.schema held.targets)
+    (metric_named key.metric held.metrics) in
+    names_keys columns by ≡ true → predicate_truth by columns (cells_of key value) ≡ predicate_truth by columns
+    (series_cells key)
 keys_decide_in held key of by value =
     let target = of.target in
     let metric = of.metric in
@@ -151,7 +163,8 @@ keys_decide_in held key of by value =
     let fetched : fetch_columns (target_named key.target.schema held.targets) (metric_named key.metric held.metrics)
     ≡ keys ++ value_column metric ∷ [] =
     (λ i. fetch_columns (of.targeted i) (of.measured i))
-    ∙ sym (append_assoc (target_columns target.name 0 target.fields) (map (key_column None) metric.fields) (value_column metric ∷ [])) in
+    ∙ sym (append_assoc (target_columns target.name 0 target.fields) (map (key_column None) metric.fields)
+    (value_column metric ∷ [])) in
     let long : length keys ≡ length (series_cells key) =
     omega (
       arith,
@@ -183,7 +196,8 @@ decide_below held key of (node.Join info left right) has e = tt
 decide_below held key of (node.Union info left right) has e = tt
 
 -- keys decide of the points of a series whose key fits
-pub keys_decide : (held : SchemaLists) (key : SeriesKey) → IsKeyOf held key → (input : NodeTree) → HasFetchColumns held input
+pub keys_decide : (held : SchemaLists) (key : SeriesKey) → IsKeyOf held key → (input : NodeTree) → HasFetchColumns held
+    input
     → fetches input key ≡ true → KeysDecide input key
 unfolding IsKeyOf
 keys_decide = decide_below

@@ -1,13 +1,16 @@
 -- The keys of items: of the same items in another order, of two lists, and of those items that pass a test.
-use Rattle.std.proofs.Common.{◌≡◌, ◌&&◌, ℕ, ◌+◌, Bool, true, false, not, cond, Decides, List, [], ◌∷◌, ◌++◌, refl, sym, ap, subst, ◌∙◌, append-nil, arith}
+use Rattle.std.proofs.Common.{◌≡◌, ◌&&◌, ℕ, ◌+◌, Bool, true, false, not, cond, Decides, List, [], ◌∷◌, ◌++◌, refl, sym}
+use Rattle.std.proofs.Common.{ap, subst, ◌∙◌, append-nil, arith}
 use Rattle.std.specs.Prelude.{IsPermutation}
 use Rattle.std.specs.List.{AllByRecursion, filter, flat_map, sum_by}
 use Rattle.std.proofs.lemmas.List.Concat.{flat_map-append}
 use Rattle.std.proofs.lemmas.List.Elements.{filter-append, filter_agree}
-use Rattle.std.proofs.lemmas.List.Sorted.{IsPermutation-refl, IsPermutation-cons, IsPermutation-trans, IsPermutation-filter_both, IsPermutation-sym}
+use Rattle.std.proofs.lemmas.List.Sorted.{IsPermutation-refl, IsPermutation-cons, IsPermutation-trans}
+use Rattle.std.proofs.lemmas.List.Sorted.{IsPermutation-filter_both, IsPermutation-sym}
 use Rattle.std.proofs.lemmas.List.Sums.{sum_by-cons}
 use Rattle.mon_value.proofs.KeyedLemmas as keyed
-use Rattle.mon_value.proofs.PermutationLemmas.{along_permutation, filter-permutation, flat_map-permutation, front_exchanged}
+use Rattle.mon_value.proofs.PermutationLemmas.{along_permutation, filter-permutation, flat_map-permutation}
+use Rattle.mon_value.proofs.PermutationLemmas.{front_exchanged}
 use Rattle.mon_value.specs.Keyed.{items_with, keys_of}
 use Rattle.mon_meaning.proofs.FilterLemmas.{filter_swap, filter_twice}
 
@@ -36,7 +39,8 @@ module _ {K A : Type 0} (same : K → K → Bool) (decides : (a b : K) → Decid
       filter_swap (λ other. not (same k other)) (λ other. not (same j other)) keys in
       rw (left, right, rest) (front_exchanged (k ∷ []) (j ∷ []) (others j (others k keys)))
 
-  pub keys_of-permutation : (xs ys : List A) → IsPermutation xs ys → IsPermutation (keys_of same key_of xs) (keys_of same key_of ys)
+  pub keys_of-permutation : (xs ys : List A) → IsPermutation xs ys → IsPermutation (keys_of same key_of xs)
+      (keys_of same key_of ys)
   keys_of-permutation =
       along_permutation (λ xs ys. IsPermutation (keys_of same key_of xs) (keys_of same key_of ys))
       (λ xs. IsPermutation-refl (keys_of same key_of xs))
@@ -65,14 +69,16 @@ module _ {K A : Type 0} (same : K → K → Bool) (decides : (a b : K) → Decid
       left ∙ sym right
   new_by k key keys false e =
       let back : same key k ≡ false = keyed.same_back same decides key_of k key e in
-      let left : (not (same k key) && not (has key keys)) ≡ not (has key keys) = ap (λ b. not b && not (has key keys)) e in
+      let left : (not (same k key) && not (has key keys)) ≡ not (has key keys) = ap (λ b. not b && not (has key keys))
+      e in
       let right : has key (k ∷ others k keys) ≡ has key keys =
       keyed.has_cons same decides key_of key k (others k keys) false back
       ∙ keyed.has-others same decides key_of key k keys e in
       left ∙ ap (λ b. not b) (sym right)
 
   pub keys_of-append : (xs ys : List A)
-      → keys_of same key_of (xs ++ ys) ≡ keys_of same key_of xs ++ new_keys (keys_of same key_of xs) (keys_of same key_of ys)
+      → keys_of same key_of (xs ++ ys) ≡ keys_of same key_of xs ++ new_keys (keys_of same key_of xs)
+      (keys_of same key_of ys)
   keys_of-append [] ys = sym (all_kept (keys_of same key_of ys))
   keys_of-append (x ∷ xs) ys =
       let k = key_of x in
@@ -108,12 +114,14 @@ module _ {K A : Type 0} (same : K → K → Bool) (decides : (a b : K) → Decid
       let others = filter (λ item. not (test item)) items in
       let old = keys_of same key_of passing in
       let new = new_keys old (keys_of same key_of others) in
-      let split : IsPermutation items (passing ++ others) = IsPermutation-filter_both test (λ item. not (test item)) (λ item. refl) items in
+      let split : IsPermutation items (passing ++ others) = IsPermutation-filter_both test (λ item. not (test item))
+      (λ item. refl) items in
       let keys : IsPermutation (keys_of same key_of (passing ++ others)) (keys_of same key_of items) =
       keys_of-permutation (passing ++ others) items (IsPermutation-sym items (passing ++ others) split) in
       let more : flat_map h old ≡ flat_map h (keys_of same key_of (passing ++ others)) =
       append_none (flat_map h old) (flat_map h new)
-      (nothing_new h old (keys_of same key_of others) (λ key e. none key (keyed.items_none same decides key_of key passing e)))
+      (nothing_new h old (keys_of same key_of others)
+      (λ key e. none key (keyed.items_none same decides key_of key passing e)))
       ∙ sym (flat_map-append h old new)
       ∙ ap (flat_map h) (sym (keys_of-append passing others)) in
       subst (λ front. IsPermutation front (flat_map h (keys_of same key_of items))) (sym more)
@@ -192,23 +200,27 @@ module _ {K A : Type 0} (same : K → K → Bool) (decides : (a b : K) → Decid
         sum_by-cons f x items,
       )
 
-  still_there : (k key : K) (keys : List K) (b : Bool) → same key k ≡ b → has key keys ≡ true → has key (k ∷ others k keys) ≡ true
+  still_there : (k key : K) (keys : List K) (b : Bool) → same key k ≡ b → has key keys ≡ true
+      → has key (k ∷ others k keys) ≡ true
   still_there k key keys true e there = keyed.has_cons same decides key_of key k (others k keys) true e
   still_there k key keys false e there =
       keyed.has_cons same decides key_of key k (others k keys) false e
       ∙ keyed.has-others same decides key_of key k keys (keyed.same_back same decides key_of key k e) ∙ there
 
-  all_still_there : (k : K) (keys : List K) (items : List A) → AllByRecursion (λ item. has (key_of item) keys ≡ true) items
+  all_still_there : (k : K) (keys : List K) (items : List A) → AllByRecursion (λ item. has (key_of item) keys ≡ true)
+      items
       → AllByRecursion (λ item. has (key_of item) (k ∷ others k keys) ≡ true) items
   all_still_there k keys [] there = tt
   all_still_there k keys (item ∷ items) there =
       (still_there k (key_of item) keys (same (key_of item) k) refl there.0, all_still_there k keys items there.1)
 
   -- each item's key occurs
-  pub keys_there : (items : List A) → AllByRecursion (λ item. has (key_of item) (keys_of same key_of items) ≡ true) items
+  pub keys_there : (items : List A) → AllByRecursion (λ item. has (key_of item) (keys_of same key_of items) ≡ true)
+      items
   keys_there [] = tt
   keys_there (item ∷ items) = (
-    keyed.has_cons same decides key_of (key_of item) (key_of item) (others (key_of item) (keys_of same key_of items)) true
+    keyed.has_cons same decides key_of (key_of item) (key_of item) (others (key_of item) (keys_of same key_of items))
+        true
         (keyed.same_itself same decides key_of (key_of item)),
     all_still_there (key_of item) (keys_of same key_of items) items (keys_there items),
   )
@@ -217,4 +229,5 @@ module _ {K A : Type 0} (same : K → K → Bool) (decides : (a b : K) → Decid
   pub key_sums : (f : A → ℕ) (items : List A)
       → sum_by (λ key. sum_by f (items_with same key_of key items)) (keys_of same key_of items) ≡ sum_by f items
   key_sums f items =
-      key_sums_whole f items (keys_of same key_of items) (keyed.keys_distinct same decides key_of items) (keys_there items)
+      key_sums_whole f items (keys_of same key_of items) (keyed.keys_distinct same decides key_of items)
+      (keys_there items)

@@ -1,5 +1,6 @@
 -- Groups of items as a map holds them: a look-up, and an item more.
-use Rattle.std.proofs.Common.{◌≡◌, Bool, true, false, cond, Option, Some, None, List, [], ◌∷◌, ◌++◌, map, option_map, refl, sym, ap, ◌∙◌}
+use Rattle.std.proofs.Common.{◌≡◌, Bool, true, false, cond, Option, Some, None, List, [], ◌∷◌, ◌++◌, map, option_map}
+use Rattle.std.proofs.Common.{refl, sym, ap, ◌∙◌}
 use Rattle.std.specs.Map.{lookup, set_value}
 use Rattle.mon_value.proofs.KeyedLemmas as keyed
 
@@ -9,7 +10,8 @@ module _ {K L V A : Type 0} (same : K → K → Bool) (alike : L → L → Bool)
   abbrev pub groups : List (K × V) → List (L × List A)
   groups entries = map (λ entry. (seen entry.0, items entry.1)) entries
 
-  found_by : (b : Bool) (value : V) (rest : Option V) → option_map items (cond b (Some value) rest) ≡ cond b (Some (items value)) (option_map items rest)
+  found_by : (b : Bool) (value : V) (rest : Option V) → option_map items (cond b (Some value) rest)
+      ≡ cond b (Some (items value)) (option_map items rest)
   found_by true value rest = refl
   found_by false value rest = refl
 
@@ -29,7 +31,8 @@ module _ {K L V A : Type 0} (same : K → K → Bool) (alike : L → L → Bool)
 
   there_by : (key : K) (item : A) (old w : V) (entry : K × V) (entries : List (K × V)) (b : Bool) → same key entry.0 ≡ b
       → Some old ≡ cond b (Some entry.1) (lookup (same key) entries) → items w ≡ items old ++ item ∷ []
-      → (Some old ≡ lookup (same key) entries → groups (set_value (same key) entries w) ≡ keyed.with_items alike (groups entries) (seen key, item ∷ []))
+      → (Some old ≡ lookup (same key) entries → groups (set_value (same key) entries w) ≡ keyed.with_items alike
+      (groups entries) (seen key, item ∷ []))
       → groups (cond b ((entry.0, w) ∷ entries) (entry ∷ set_value (same key) entries w))
       ≡ cond b ((seen entry.0, items entry.1 ++ item ∷ []) ∷ groups entries)
       ((seen entry.0, items entry.1) ∷ keyed.with_items alike (groups entries) (seen key, item ∷ []))
@@ -48,11 +51,13 @@ module _ {K L V A : Type 0} (same : K → K → Bool) (alike : L → L → Bool)
       there_by key item old w entry entries (same key entry.0) refl is made
       (λ left. put_there key item old w entries left made)
       ∙ ap (λ b. cond b ((seen entry.0, items entry.1 ++ item ∷ []) ∷ groups entries)
-      ((seen entry.0, items entry.1) ∷ keyed.with_items alike (groups entries) (seen key, item ∷ []))) (agree key entry.0)
+      ((seen entry.0, items entry.1) ∷ keyed.with_items alike (groups entries) (seen key, item ∷ [])))
+      (agree key entry.0)
 
   new_by : (key : K) (item : A) (w : V) (entry : K × V) (entries : List (K × V)) (b : Bool) → same key entry.0 ≡ b
       → None ≡ cond b (Some entry.1) (lookup (same key) entries)
-      → (None ≡ lookup (same key) entries → groups (entries ++ (key, w) ∷ []) ≡ keyed.with_items alike (groups entries) (seen key, item ∷ []))
+      → (None ≡ lookup (same key) entries → groups (entries ++ (key, w) ∷ []) ≡ keyed.with_items alike (groups entries)
+      (seen key, item ∷ []))
       → groups (entry ∷ (entries ++ (key, w) ∷ []))
       ≡ cond b ((seen entry.0, items entry.1 ++ item ∷ []) ∷ groups entries)
       ((seen entry.0, items entry.1) ∷ keyed.with_items alike (groups entries) (seen key, item ∷ []))
@@ -60,10 +65,12 @@ module _ {K L V A : Type 0} (same : K → K → Bool) (alike : L → L → Bool)
   new_by key item w entry entries false e is rest = ap (λ more. (seen entry.0, items entry.1) ∷ more) (rest is)
 
   -- an item of a group that isn't there yet
-  pub put_new : (key : K) (item : A) (w : V) (entries : List (K × V)) → None ≡ lookup (same key) entries → items w ≡ item ∷ []
+  pub put_new : (key : K) (item : A) (w : V) (entries : List (K × V)) → None ≡ lookup (same key) entries → items w
+      ≡ item ∷ []
       → groups (entries ++ (key, w) ∷ []) ≡ keyed.with_items alike (groups entries) (seen key, item ∷ [])
   put_new key item w [] is made = ap (λ own. (seen key, own) ∷ []) made
   put_new key item w (entry ∷ entries) is made =
       new_by key item w entry entries (same key entry.0) refl is (λ left. put_new key item w entries left made)
       ∙ ap (λ b. cond b ((seen entry.0, items entry.1 ++ item ∷ []) ∷ groups entries)
-      ((seen entry.0, items entry.1) ∷ keyed.with_items alike (groups entries) (seen key, item ∷ []))) (agree key entry.0)
+      ((seen entry.0, items entry.1) ∷ keyed.with_items alike (groups entries) (seen key, item ∷ [])))
+      (agree key entry.0)

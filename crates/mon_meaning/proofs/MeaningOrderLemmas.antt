@@ -1,8 +1,10 @@
 -- What a query means, and how much work it is: the same over rows whose series stand in another order.
-use Rattle.std.proofs.Common.{◌≡◌, ℕ, ℤ, Bool, true, false, ◌||◌, cond, List, [], ◌∷◌, map, Result, Ok, Err, refl, sym, ap, subst, ◌∙◌, arith}
+use Rattle.std.proofs.Common.{◌≡◌, ℕ, ℤ, Bool, true, false, ◌||◌, cond, List, [], ◌∷◌, map, Result, Ok, Err, refl, sym}
+use Rattle.std.proofs.Common.{ap, subst, ◌∙◌, arith}
 use Rattle.std.specs.Prelude.{IsPermutation}
 use Rattle.std.specs.List.{AllByRecursion}
-use Rattle.std.proofs.lemmas.List.Sorted.{IsPermutation-append, IsPermutation-refl, IsPermutation-sym, IsPermutation-trans, length_permutation, sum_by-IsPermutation}
+use Rattle.std.proofs.lemmas.List.Sorted.{IsPermutation-append, IsPermutation-refl, IsPermutation-sym}
+use Rattle.std.proofs.lemmas.List.Sorted.{IsPermutation-trans, length_permutation, sum_by-IsPermutation}
 use Rattle.mon_value.proofs.PermutationLemmas.{filter-permutation, flat_map-permutation}
 use Rattle.mon_value.proofs.SameLemmas.{same_series-Decides}
 use Rattle.mon_value.proofs.SourceLemmas.{has_series}
@@ -23,7 +25,8 @@ use Rattle.mql_types.specs.Nodes as node
 use Rattle.mql_types.specs.Nodes.{NodeTree, TypedTree, columns_of}
 use Rattle.mon_meaning.specs.Central.{IsAnswer, IsRefusedBy}
 use Rattle.mon_meaning.specs.declared.meter.OverLimit.{OverLimit}
-use Rattle.mon_meaning.specs.within.SeriesMeaning.{SeriesGroup, load_by_series, reach_count, rows_by_series, series_rows}
+use Rattle.mon_meaning.specs.within.SeriesMeaning.{SeriesGroup, load_by_series, reach_count, rows_by_series}
+use Rattle.mon_meaning.specs.within.SeriesMeaning.{series_rows}
 use Rattle.mon_meaning.proofs.FilterLemmas.{filter_map-permutation}
 use Rattle.mon_meaning.proofs.OperationOrders.{group_rows-permutation, pairs-permutation, top_rows-permutation}
 use Rattle.mon_meaning.proofs.PartLemmas.{part_load, part_rows}
@@ -108,7 +111,8 @@ module _ (typed : TypedTree) (some others : List Row) (moment : ℤ)
   refused_in_order limit refusal.OutOfMemory is = tt
 
   -- an answer over rows is one over those of their series in another order
-  pub answer_in_order : (limit : ℕ) (result : Result Table (Refusal OverLimit)) → IsAnswer typed some moment limit result
+  pub answer_in_order : (limit : ℕ) (result : Result Table (Refusal OverLimit)) → IsAnswer typed some moment limit
+      result
       → IsAnswer typed others moment limit result
   answer_in_order limit (Ok table) meant = record {
     columns = meant.columns;

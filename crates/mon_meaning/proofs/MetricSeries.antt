@@ -1,5 +1,6 @@
 -- The series of a metric, one number after another: those that are counted are all that are counted.
-use Rattle.std.proofs.Common.{◌≡◌, ◌∙◌, ◌&&◌, ◌==◌, ◌<◌, ◌+◌, ℕ, zero, suc, Bool, true, false, not, cond, Option, Some, List, [], ◌∷◌, ◌++◌, length, map, refl, sym, ap, subst, slice_get, append_assoc, arith}
+use Rattle.std.proofs.Common.{◌≡◌, ◌∙◌, ◌&&◌, ◌==◌, ◌<◌, ◌+◌, ℕ, zero, suc, Bool, true, false, not, cond, Option, Some}
+use Rattle.std.proofs.Common.{List, [], ◌∷◌, ◌++◌, length, map, refl, sym, ap, subst, slice_get, append_assoc, arith}
 use Rattle.std.specs.List.{AllByRecursion, cons_option, filter, filter_map, sum_by}
 use Rattle.std.proofs.lemmas.List.{length-append, length-map}
 use Rattle.std.proofs.lemmas.List.Elements.{filter_agree}
@@ -23,7 +24,8 @@ use Rattle.mon_meaning.proofs.FilterLemmas.{filter_twice}
 abbrev keys_in : List SeriesGroup → List SeriesKey
 keys_in groups = map (λ (group : SeriesGroup). group.0) groups
 
-keys_of_groups : (of : SeriesKey → List Point) (keys : List SeriesKey) → keys_in (map (λ (key : SeriesKey). (key, of key)) keys) ≡ keys
+keys_of_groups : (of : SeriesKey → List Point) (keys : List SeriesKey)
+    → keys_in (map (λ (key : SeriesKey). (key, of key)) keys) ≡ keys
 keys_of_groups of [] = refl
 keys_of_groups of (key ∷ keys) = ap (λ (rest : List SeriesKey). key ∷ rest) (keys_of_groups of keys)
 
@@ -34,7 +36,8 @@ numbered groups numbers = filter_map (λ (number : ℕ). slice_get groups number
 abbrev is_of : List ℕ → SeriesGroup → Bool
 is_of metric group = same_text metric group.0.metric
 
-at_seam : (done : List SeriesGroup) (group : SeriesGroup) (rest : List SeriesGroup) → slice_get (done ++ group ∷ rest) (length done) ≡ Some group
+at_seam : (done : List SeriesGroup) (group : SeriesGroup) (rest : List SeriesGroup) → slice_get (done ++ group ∷ rest)
+    (length done) ≡ Some group
 at_seam [] group rest = refl
 at_seam (d ∷ done) group rest = at_seam done group rest
 
@@ -46,24 +49,31 @@ numbered_from metric all done (group ∷ rest) n split count =
     (λ i. slice_get (sym split i) (count i)) ∙ at_seam done group rest in
     let longer = length-append done (group ∷ []) in
     by (is_of metric group) there
-    (numbered_from metric all (done ++ group ∷ []) rest (suc n) (append_assoc done (group ∷ []) rest ∙ split) (omega (arith, count, longer)))
+    (numbered_from metric all (done ++ group ∷ []) rest (suc n) (append_assoc done (group ∷ []) rest ∙ split)
+    (omega (arith, count, longer)))
   where
-    by : (b : Bool) → slice_get all n ≡ Some group → numbered all (numbers_from (suc n) metric (keys_in rest)) ≡ filter (is_of metric) rest
-        → numbered all (cond b (n ∷ numbers_from (suc n) metric (keys_in rest)) (numbers_from (suc n) metric (keys_in rest)))
+    by : (b : Bool) → slice_get all n ≡ Some group → numbered all (numbers_from (suc n) metric (keys_in rest))
+        ≡ filter (is_of metric) rest
+        → numbered all (cond b (n ∷ numbers_from (suc n) metric (keys_in rest))
+        (numbers_from (suc n) metric (keys_in rest)))
         ≡ cond b (group ∷ filter (is_of metric) rest) (filter (is_of metric) rest)
     by true there ih =
         ap (λ (o : Option SeriesGroup). cons_option o (numbered all (numbers_from (suc n) metric (keys_in rest)))) there
         ∙ ap (λ (groups : List SeriesGroup). group ∷ groups) ih
     by false there ih = ih
 
-numbers_below : (metric : List ℕ) (n : ℕ) (keys : List SeriesKey) → AllByRecursion (λ m. m < n + length keys) (numbers_from n metric keys)
+numbers_below : (metric : List ℕ) (n : ℕ) (keys : List SeriesKey) → AllByRecursion (λ m. m < n + length keys)
+    (numbers_from n metric keys)
 numbers_below metric n [] = tt
 numbers_below metric n (key ∷ keys) =
     let count : suc n + length keys ≡ n + suc (length keys) = omega arith in
-    by (same_text metric key.metric) (subst (λ (most : ℕ). AllByRecursion (λ m. m < most) (numbers_from (suc n) metric keys)) count (numbers_below metric (suc n) keys))
+    by (same_text metric key.metric)
+    (subst (λ (most : ℕ). AllByRecursion (λ m. m < most) (numbers_from (suc n) metric keys)) count
+    (numbers_below metric (suc n) keys))
   where
     by : (b : Bool) → AllByRecursion (λ m. m < n + suc (length keys)) (numbers_from (suc n) metric keys)
-        → AllByRecursion (λ m. m < n + suc (length keys)) (cond b (n ∷ numbers_from (suc n) metric keys) (numbers_from (suc n) metric keys))
+        → AllByRecursion (λ m. m < n + suc (length keys)) (cond b (n ∷ numbers_from (suc n) metric keys)
+        (numbers_from (suc n) metric keys))
     by true all = (omega arith, all)
     by false all = all
 
@@ -109,36 +119,49 @@ module _ (grid : Grid) (by : Aligner) (fetch : FetchView) where
       of_metric_by (same_text fetch.schema group.0.target.schema) (same_text fetch.metric group.0.metric) _
       (not (length (reached grid by group.1) == 0))
 
-  counted_of_metric : (groups : List SeriesGroup) → filter counts (filter (is_of fetch.metric) groups) ≡ filter counts groups
+  counted_of_metric : (groups : List SeriesGroup) → filter counts (filter (is_of fetch.metric) groups) ≡ filter counts
+      groups
   counted_of_metric groups = filter_twice (is_of fetch.metric) counts groups ∙ filter_agree _ _ of_metric groups
 
-  sum_of_metric : (groups : List SeriesGroup) → sum_by count_of (filter (is_of fetch.metric) groups) ≡ sum_by count_of groups
+  sum_of_metric : (groups : List SeriesGroup) → sum_by count_of (filter (is_of fetch.metric) groups) ≡ sum_by count_of
+      groups
   sum_of_metric [] = refl
   sum_of_metric (group ∷ groups) = sum_if (is_of fetch.metric group) refl (sum_of_metric groups)
     where
-      sum_if : (b : Bool) → is_of fetch.metric group ≡ b → sum_by count_of (filter (is_of fetch.metric) groups) ≡ sum_by count_of groups
+      sum_if : (b : Bool) → is_of fetch.metric group ≡ b → sum_by count_of (filter (is_of fetch.metric) groups)
+          ≡ sum_by count_of groups
           → sum_by count_of (cond b (group ∷ filter (is_of fetch.metric) groups) (filter (is_of fetch.metric) groups))
           ≡ sum_by count_of (group ∷ groups)
       sum_if true e ih =
-          omega (arith, ih, sum_by-cons count_of group (filter (is_of fetch.metric) groups), sum_by-cons count_of group groups)
+          omega (
+            arith,
+            ih,
+            sum_by-cons count_of group (filter (is_of fetch.metric) groups),
+            sum_by-cons count_of group
+                groups,
+          )
       sum_if false e ih =
           let none : count_of group ≡ 0 =
-          unmet_by (same_text fetch.schema group.0.target.schema) (same_text fetch.metric group.0.metric) _ (length (reached grid by group.1)) e in
+          unmet_by (same_text fetch.schema group.0.target.schema) (same_text fetch.metric group.0.metric)
+          _ (length (reached grid by group.1)) e in
           omega (arith, ih, none, sum_by-cons count_of group groups)
 
   -- what was met so far with the series of the numbers that are left is all that is met; so with the points
-  pub record MetSoFar (groups : List SeriesGroup) (numbers : List ℕ) (start met : List SeriesGroup) (start_load load : ℕ) : Type 0 where
+  pub record MetSoFar (groups : List SeriesGroup) (numbers : List ℕ) (start met : List SeriesGroup)
+      (start_load load : ℕ) : Type 0 where
     pub within : AllByRecursion (λ number. number < length groups) numbers
     pub met_is : met ++ filter counts (numbered groups numbers) ≡ start ++ filter counts groups
     pub load_is : load + sum_by count_of (numbered groups numbers) ≡ start_load + sum_by count_of groups
 
-  pub none_met : (rows : List Row) (numbers : List ℕ) (met : List SeriesGroup) (load : ℕ) → numbers ≡ metric_numbers fetch.metric rows
+  pub none_met : (rows : List Row) (numbers : List ℕ) (met : List SeriesGroup) (load : ℕ) → numbers ≡ metric_numbers
+      fetch.metric rows
       → MetSoFar (points_by_series rows) numbers met met load load
   none_met rows numbers met load is =
       let groups = points_by_series rows in
       let keys : keys_in groups ≡ series_of rows = keys_of_groups (λ key. points_of key rows) (series_of rows) in
       let all : numbered groups numbers ≡ filter (is_of fetch.metric) groups =
-      ap (numbered groups) (is ∙ ap (numbers_from 0 fetch.metric) (sym keys)) ∙ numbered_from fetch.metric groups [] groups 0 refl refl in
+      ap (numbered groups) (is ∙ ap (numbers_from 0 fetch.metric) (sym keys)) ∙ numbered_from fetch.metric groups []
+      groups 0 refl refl in
       let count : 0 + length (series_of rows) ≡ length groups =
       omega (arith, ap length keys, length-map groups (λ (group : SeriesGroup). group.0)) in
       record {
@@ -149,22 +172,27 @@ module _ (grid : Grid) (by : Aligner) (fetch : FetchView) where
         load_is = ap (λ (n : ℕ). load + n) (ap (sum_by count_of) all ∙ sum_of_metric groups);
       }
 
-  pub within_series : (rows : List Row) (numbers rest : List ℕ) (number : ℕ) (start met : List SeriesGroup) (start_load load : ℕ)
-      → MetSoFar (points_by_series rows) numbers start met start_load load → numbers ≡ number ∷ rest → number < length (series_of rows)
+  pub within_series : (rows : List Row) (numbers rest : List ℕ) (number : ℕ) (start met : List SeriesGroup)
+      (start_load load : ℕ)
+      → MetSoFar (points_by_series rows) numbers start met start_load load → numbers ≡ number ∷ rest → number
+      < length (series_of rows)
   within_series rows numbers rest number start met start_load load so_far is =
       let of : SeriesKey → SeriesGroup = λ key. (key, points_of key rows) in
       let all = subst (λ (ns : List ℕ). AllByRecursion (λ n. n < length (points_by_series rows)) ns) is so_far.within in
       omega (arith, all.0, length-map (series_of rows) of)
 
-  module _ (groups : List SeriesGroup) (numbers rest : List ℕ) (number : ℕ) (group : SeriesGroup) (start met : List SeriesGroup) (start_load load : ℕ)
-      (so_far : MetSoFar groups numbers start met start_load load) (is : numbers ≡ number ∷ rest) (there : slice_get groups number ≡ Some group) where
+  module _ (groups : List SeriesGroup) (numbers rest : List ℕ) (number : ℕ) (group : SeriesGroup)
+      (start met : List SeriesGroup) (start_load load : ℕ)
+      (so_far : MetSoFar groups numbers start met start_load load) (is : numbers ≡ number ∷ rest)
+      (there : slice_get groups number ≡ Some group) where
     within_rest : AllByRecursion (λ n. n < length groups) rest
     within_rest = (subst (λ (ns : List ℕ). AllByRecursion (λ n. n < length groups) ns) is so_far.within).1
 
     first_of : numbered groups numbers ≡ group ∷ numbered groups rest
     first_of = ap (numbered groups) is ∙ ap (λ (o : Option SeriesGroup). cons_option o (numbered groups rest)) there
 
-    next_filter : filter counts (numbered groups numbers) ≡ cond (counts group) (group ∷ filter counts (numbered groups rest)) (filter counts (numbered groups rest))
+    next_filter : filter counts (numbered groups numbers) ≡ cond (counts group)
+        (group ∷ filter counts (numbered groups rest)) (filter counts (numbered groups rest))
     next_filter = ap (filter counts) first_of
 
     next_sum : sum_by count_of (numbered groups numbers) ≡ count_of group + sum_by count_of (numbered groups rest)
@@ -178,18 +206,22 @@ module _ (grid : Grid) (by : Aligner) (fetch : FetchView) where
         let left = filter counts (numbered groups rest) in record {
           within = within_rest;
           met_is = ap (λ (gs : List SeriesGroup). gs ++ left) same
-              ∙ ap (λ (gs : List SeriesGroup). met ++ gs) (sym (next_filter ∙ ap (λ b. cond b (group ∷ left) left) out)) ∙ so_far.met_is;
+              ∙ ap (λ (gs : List SeriesGroup). met ++ gs)
+              (sym (next_filter ∙ ap (λ b. cond b (group ∷ left) left) out)) ∙ so_far.met_is;
           load_is = omega (arith, next_sum, none, counted, so_far.load_is);
         }
 
     -- one more is met
-    pub one_met : (more : List SeriesGroup) (more_load : ℕ) → 0 < count_of group → more ≡ met ++ group ∷ [] → more_load ≡ load + count_of group
+    pub one_met : (more : List SeriesGroup) (more_load : ℕ) → 0 < count_of group → more ≡ met ++ group ∷ [] → more_load
+        ≡ load + count_of group
         → MetSoFar groups rest start more start_load more_load
     one_met more more_load some added counted =
-        let in_reach : counts group ≡ true = counted_some (is_met fetch group.0) (length (reached grid by group.1)) some in
+        let in_reach : counts group ≡ true = counted_some (is_met fetch group.0) (length (reached grid by group.1))
+        some in
         let left = filter counts (numbered groups rest) in record {
           within = within_rest;
           met_is = ap (λ (gs : List SeriesGroup). gs ++ left) added ∙ append_assoc met (group ∷ []) left
-              ∙ ap (λ (gs : List SeriesGroup). met ++ gs) (sym (next_filter ∙ ap (λ b. cond b (group ∷ left) left) in_reach)) ∙ so_far.met_is;
+              ∙ ap (λ (gs : List SeriesGroup). met ++ gs)
+              (sym (next_filter ∙ ap (λ b. cond b (group ∷ left) left) in_reach)) ∙ so_far.met_is;
           load_is = omega (arith, next_sum, counted, so_far.load_is);
         }

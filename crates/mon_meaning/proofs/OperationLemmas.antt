@@ -11,7 +11,8 @@ use Rattle.mon_meaning.specs.within.SeriesMeaning.{SeriesGroup, load_by_series, 
 
 module _ (grid : Grid) (series : List SeriesGroup) where
   pub rows_made : (tree : NodeTree)
-      → rows_by_series grid tree series ≡ operation_rows tree (rows_by_series grid (first_input tree) series) (other_rows grid tree series)
+      → rows_by_series grid tree series ≡ operation_rows tree (rows_by_series grid (first_input tree) series)
+      (other_rows grid tree series)
   rows_made (node.Fetch info schema metric) = refl
   rows_made (node.Filter info by input) = refl
   rows_made (node.Align info by input) = refl
@@ -21,7 +22,8 @@ module _ (grid : Grid) (series : List SeriesGroup) where
   rows_made (node.Join info left right) = refl
   rows_made (node.Union info left right) = refl
 
-  pub can_operate : (tree : NodeTree) → IsReady grid tree series → IsWithinRows (load_by_series grid (first_input tree) series)
+  pub can_operate : (tree : NodeTree) → IsReady grid tree series → IsWithinRows (load_by_series grid (first_input tree)
+      series)
       → IsWithinRows (other_load grid tree series)
       → CanOperate tree (rows_by_series grid (first_input tree) series) (other_rows grid tree series)
   can_operate (node.Fetch info schema metric) ready few others = tt

@@ -8,7 +8,8 @@ use Rattle.std.specs.Ordering.{int_eq}
 use Rattle.std.proofs.lemmas.Cmp.{back_total, lists_total, on_total, then_total}
 use Rattle.std.proofs.lemmas.List.Folds.{flat_map-map}
 use Rattle.std.proofs.lemmas.List.Sorted.{IsPermutation-map, IsPermutation-trans, sum_by-IsPermutation}
-use Rattle.mon_value.proofs.AggregateLemmas.{greatest_of-permutation, item_count-permutation, least_of-permutation, mean_of-permutation, sum_of-permutation, where_any-permutation}
+use Rattle.mon_value.proofs.AggregateLemmas.{greatest_of-permutation, item_count-permutation, least_of-permutation}
+use Rattle.mon_value.proofs.AggregateLemmas.{mean_of-permutation, sum_of-permutation, where_any-permutation}
 use Rattle.mon_value.proofs.CountsLemmas.{merged_of-permutation}
 use Rattle.mon_value.proofs.OrderLemmas.{both_Equal, value_total}
 use Rattle.mon_value.proofs.PermutationLemmas.{filter-permutation, flat_map-alike, flat_map-permutation}
@@ -18,7 +19,8 @@ use Rattle.mon_value.proofs.SortingLemmas.{sorted_list-alike}
 use Rattle.mon_value.specs.Aggregates.{sum_of}
 use Rattle.mon_value.specs.Columns.{FitColumns}
 use Rattle.mon_value.specs.GroupConditions.{CanGroup, SumsFit, UnlessCount, rows_at}
-use Rattle.mon_value.specs.Groups.{aggregate_made, cells_at, column_of, counts_in, group_key, group_keys, group_row, group_rows, number_in, numbers_in, rows_in}
+use Rattle.mon_value.specs.Groups.{aggregate_made, cells_at, column_of, counts_in, group_key, group_keys, group_row}
+use Rattle.mon_value.specs.Groups.{group_rows, number_in, numbers_in, rows_in}
 use Rattle.mon_value.specs.Joins.{is_pair, pair_of, pairs_of}
 use Rattle.mon_value.specs.Order.{TellsApart, row_cmp, value_cmp}
 use Rattle.mon_value.specs.Same.{same_row}
@@ -37,12 +39,14 @@ use Rattle.mon_meaning.proofs.KeyOrders as orders
 
 -- ---- groups
 
-column_alike : (column : ℕ) (xs ys : List TimedRow) → IsPermutation xs ys → IsPermutation (column_of column xs) (column_of column ys)
+column_alike : (column : ℕ) (xs ys : List TimedRow) → IsPermutation xs ys → IsPermutation (column_of column xs)
+    (column_of column ys)
 column_alike column xs ys same = filter_map-permutation (λ (row : TimedRow). slice_get row.cells column) xs ys same
 
 numbers_alike : (column : ℕ) (xs ys : List TimedRow) → IsPermutation xs ys
     → IsPermutation (numbers_in (column_of column xs)) (numbers_in (column_of column ys))
-numbers_alike column xs ys same = filter_map-permutation number_in (column_of column xs) (column_of column ys) (column_alike column xs ys same)
+numbers_alike column xs ys same = filter_map-permutation number_in (column_of column xs) (column_of column ys)
+    (column_alike column xs ys same)
 
 made_alike : (what : AggregateKind) (column : ℕ) (xs ys : List TimedRow) → IsPermutation xs ys
     → aggregate_made what column xs ≡ aggregate_made what column ys
@@ -88,11 +92,13 @@ group_rows-permutation by with xs ys same =
 
 pub rank_total : (column : ℕ) → IsTotalOrder (rank_cmp column)
 rank_total column =
-    then_total (back_total (on_total (λ (row : TimedRow). cells_at (column ∷ []) row.cells) (lists_total value_total))) row_total
+    then_total (back_total (on_total (λ (row : TimedRow). cells_at (column ∷ []) row.cells) (lists_total value_total)))
+    row_total
 
 pub rank_exact : (column : ℕ) → TellsApart (rank_cmp column)
 rank_exact column a b h =
-    row_exact a b (both_Equal (slice_cmp value_cmp (cells_at (column ∷ []) b.cells) (cells_at (column ∷ []) a.cells)) (row_cmp a b) h).1
+    row_exact a b (both_Equal (slice_cmp value_cmp (cells_at (column ∷ []) b.cells) (cells_at (column ∷ []) a.cells))
+    (row_cmp a b) h).1
 
 -- the rows that come first of the same rows
 pub top_rows-permutation : (n column : ℕ) (xs ys : List TimedRow) → IsPermutation xs ys
@@ -113,18 +119,21 @@ top_rows-permutation n column xs ys same =
 
 -- ---- joins
 
-pub pairs-permutation : (lefts rights : List Column) (xs ys us vs : List TimedRow) → IsPermutation xs ys → IsPermutation us vs
+pub pairs-permutation : (lefts rights : List Column) (xs ys us vs : List TimedRow) → IsPermutation xs ys
+    → IsPermutation us vs
     → IsPermutation (flat_map (pairs_of lefts rights us) xs) (flat_map (pairs_of lefts rights vs) ys)
 pairs-permutation lefts rights xs ys us vs left right =
     IsPermutation-trans _ _ _ (flat_map-permutation (pairs_of lefts rights us) xs ys left)
     (flat_map-alike (pairs_of lefts rights us) (pairs_of lefts rights vs)
-    (λ row. IsPermutation-map (pair_of lefts rights row) _ _ (filter-permutation (is_pair lefts rights row) us vs right)) ys)
+    (λ row. IsPermutation-map (pair_of lefts rights row) _ _ (filter-permutation (is_pair lefts rights row) us vs
+    right)) ys)
 
 -- ---- which tables can be grouped
 
 sums_alike : (xs ys : List TimedRow) → IsPermutation xs ys → (column : ℕ) → SumsFit xs column → SumsFit ys column
 sums_alike xs ys same column fit time =
-    let at : IsPermutation (rows_at time xs) (rows_at time ys) = filter-permutation (λ (row : TimedRow). int_eq row.time time) xs ys same in
+    let at : IsPermutation (rows_at time xs) (rows_at time ys) = filter-permutation (λ (row : TimedRow).
+    int_eq row.time time) xs ys same in
     let equal = sum_by-IsPermutation magnitude _ _ (column_alike column (rows_at time xs) (rows_at time ys) at) in
     rw equal (fit time)
 
@@ -146,7 +155,8 @@ all_sums xs ys same (aggregate ∷ with) all = (
   all_sums xs ys same with all.1,
 )
 
-pub CanGroup-permutation : (columns : List Column) (by : List ℕ) (with : List Aggregate) (xs ys : List TimedRow) → IsPermutation xs ys
+pub CanGroup-permutation : (columns : List Column) (by : List ℕ) (with : List Aggregate) (xs ys : List TimedRow)
+    → IsPermutation xs ys
     → CanGroup columns by with xs → CanGroup columns by with ys
 CanGroup-permutation columns by with xs ys same can = record {
   shaped = all-permutation (λ (row : TimedRow). FitColumns columns row.cells) xs ys same can.shaped;

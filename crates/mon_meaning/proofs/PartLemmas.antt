@@ -22,7 +22,8 @@ module _ (grid : Grid) (part : NodeTree) (series : List SeriesGroup) where
       (ready asked.held grid asked.source asked.fit asked.lawful part asked.evaluable asked.fetched)
 
   module _ (source : List Row) (kept : series ≡ points_by_series source) where
-    pub part_rows : (rows : List TimedRow) → rows ≡ rows_by_series grid part series → IsPermutation (rows_meant grid part source) rows
+    pub part_rows : (rows : List TimedRow) → rows ≡ rows_by_series grid part series
+        → IsPermutation (rows_meant grid part source) rows
     part_rows rows made =
         subst (λ (all : List TimedRow). IsPermutation (rows_meant grid part source) all)
         (sym (made ∙ ap (rows_by_series grid part) kept)) (rows-permutation grid part source)
@@ -30,7 +31,8 @@ module _ (grid : Grid) (part : NodeTree) (series : List SeriesGroup) where
     pub part_load : load_by_series grid part series ≡ load_of grid part source
     part_load = ap (load_by_series grid part) kept ∙ sym (loads grid part source)
 
-    pub rows_told : {E : Type 0} (r : Result (List TimedRow) E) → IfOk r (λ rows. rows ≡ rows_by_series grid part series)
+    pub rows_told : {E : Type 0} (r : Result (List TimedRow) E) → IfOk r (λ rows. rows ≡ rows_by_series grid part
+        series)
         → IfOk r (λ rows. IsPermutation (rows_meant grid part source) rows)
     rows_told (Ok rows) made = part_rows rows made
     rows_told (Err refused) made = tt

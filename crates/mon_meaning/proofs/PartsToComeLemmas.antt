@@ -1,5 +1,6 @@
 -- Parts to come: one that is put at the end comes first.
-use Rattle.std.proofs.Common.{◌≡◌, ◌∙◌, ℕ, ◌+◌, Bool, true, false, List, [], ◌∷◌, ◌++◌, ap, sym, refl, append_assoc, append-nil, arith}
+use Rattle.std.proofs.Common.{◌≡◌, ◌∙◌, ℕ, ◌+◌, Bool, true, false, List, [], ◌∷◌, ◌++◌, ap, sym, refl, append_assoc}
+use Rattle.std.proofs.Common.{append-nil, arith}
 use Rattle.std.proofs.lemmas.List.{map-append}
 use Rattle.mql_types.specs.Nodes as node
 use Rattle.mql_types.specs.Nodes.{NodeTree, level_of, node_tree}
@@ -17,7 +18,8 @@ parts_left-push here (next ∷ parts) part =
     ap (λ some. some ++ parts_of_part here (part_seen next)) (parts_left-push here parts part)
     ∙ append_assoc (parts_of_part here (part_seen part)) (parts_left here parts) (parts_of_part here (part_seen next))
 
-pub nodes_left-push : (parts : List TopPart) (part : TopPart) → nodes_left (parts ++ part ∷ []) ≡ part_nodes part + nodes_left parts
+pub nodes_left-push : (parts : List TopPart) (part : TopPart) → nodes_left (parts ++ part ∷ []) ≡ part_nodes part
+    + nodes_left parts
 nodes_left-push [] part = omega arith
 nodes_left-push (next ∷ parts) part = omega (arith, nodes_left-push parts part)
 
@@ -26,7 +28,8 @@ twice : (b : Bool) (use_of : spec.PartUse) (part : NodeTree) (below : List spec.
 twice true use_of part below = refl
 twice false use_of part below = refl
 
-own : (b : Bool) (use_of : spec.PartUse) (part : NodeTree) → part_or b use_of part ((use_of, part) ∷ []) ≡ (use_of, part) ∷ []
+own : (b : Bool) (use_of : spec.PartUse) (part : NodeTree) → part_or b use_of part ((use_of, part) ∷ [])
+    ≡ (use_of, part) ∷ []
 own true use_of part = refl
 own false use_of part = refl
 
@@ -35,24 +38,29 @@ pub rows_parts : (here : Level → Bool) (tree : NodeTree) → parts_of_part her
 rows_parts here (node.Fetch info schema metric) = own (here info.level) spec.AsRows (node.Fetch info schema metric)
 rows_parts here (node.Filter info by input) = twice (here info.level) spec.AsRows (node.Filter info by input) _
 rows_parts here (node.Align info by input) = own (here info.level) spec.AsRows (node.Align info by input)
-rows_parts here (node.GroupBy info by with input) = twice (here info.level) spec.AsRows (node.GroupBy info by with input) _
+rows_parts here (node.GroupBy info by with input) = twice (here info.level) spec.AsRows
+    (node.GroupBy info by with input) _
 rows_parts here (node.Value info items input) = twice (here info.level) spec.AsRows (node.Value info items input) _
-rows_parts here (node.Top info most column input) = twice (here info.level) spec.AsRows (node.Top info most column input) _
+rows_parts here (node.Top info most column input) = twice (here info.level) spec.AsRows
+    (node.Top info most column input) _
 rows_parts here (node.Join info left right) = twice (here info.level) spec.AsRows (node.Join info left right) _
 rows_parts here (node.Union info left right) = twice (here info.level) spec.AsRows (node.Union info left right) _
 
-higher : (b : Bool) (use_of : spec.PartUse) (part : NodeTree) (below : List spec.TopPart) → b ≡ false → part_or b use_of part below ≡ below
+higher : (b : Bool) (use_of : spec.PartUse) (part : NodeTree) (below : List spec.TopPart) → b ≡ false
+    → part_or b use_of part below ≡ below
 higher b use_of part below e = ap (λ c. part_or c use_of part below) e
 
 -- the parts of a join or a union that is done higher up are those of its sides
-pub join_below : (here : Level → Bool) (tree : NodeTree) (info : NodeInfo) (left right : NodeTree) → tree ≡ node.Join info left right
+pub join_below : (here : Level → Bool) (tree : NodeTree) (info : NodeInfo) (left right : NodeTree) → tree
+    ≡ node.Join info left right
     → here (level_of tree) ≡ false → top_parts here tree ≡ top_parts here left ++ top_parts here right
 join_below here tree info left right is e =
     ap (top_parts here) is
     ∙ higher (here info.level) spec.AsRows (node.Join info left right) (top_parts here left ++ top_parts here right)
     (ap (λ t. here (level_of t)) (sym is) ∙ e)
 
-pub union_below : (here : Level → Bool) (tree : NodeTree) (info : NodeInfo) (left right : NodeTree) → tree ≡ node.Union info left right
+pub union_below : (here : Level → Bool) (tree : NodeTree) (info : NodeInfo) (left right : NodeTree) → tree
+    ≡ node.Union info left right
     → here (level_of tree) ≡ false → top_parts here tree ≡ top_parts here left ++ top_parts here right
 union_below here tree info left right is e =
     ap (top_parts here) is
@@ -60,13 +68,16 @@ union_below here tree info left right is e =
     (ap (λ t. here (level_of t)) (sym is) ∙ e)
 
 -- two parts more, the second of which comes first
-pub two_left : (here : Level → Bool) (rest : List TopPart) (l r : TopPart) (left right : NodeTree) → part_seen l ≡ as_rows left
+pub two_left : (here : Level → Bool) (rest : List TopPart) (l r : TopPart) (left right : NodeTree) → part_seen l
+    ≡ as_rows left
     → part_seen r ≡ as_rows right
-    → parts_left here ((rest ++ r ∷ []) ++ l ∷ []) ≡ top_parts here left ++ (top_parts here right ++ parts_left here rest)
+    → parts_left here ((rest ++ r ∷ []) ++ l ∷ []) ≡ top_parts here left
+    ++ (top_parts here right ++ parts_left here rest)
 two_left here rest l r left right el er =
     parts_left-push here (rest ++ r ∷ []) l
     ∙ ap (λ xs. xs ++ parts_left here (rest ++ r ∷ [])) (ap (parts_of_part here) el ∙ rows_parts here left)
     ∙ ap (λ xs. top_parts here left ++ xs)
-    (parts_left-push here rest r ∙ ap (λ xs. xs ++ parts_left here rest) (ap (parts_of_part here) er ∙ rows_parts here right))
+    (parts_left-push here rest r ∙ ap (λ xs. xs ++ parts_left here rest) (ap (parts_of_part here) er ∙ rows_parts here
+    right))
 
 pub ruleset parts_pushed = (parts_left-push, nodes_left-push, rows_parts, append_assoc, map-append)

@@ -3,12 +3,14 @@ use Rattle.std.proofs.Common.{◌≡◌, ◌≤◌, ◌+◌, List, [], ◌∷◌
 use Rattle.mon_value.specs.declared.grids.Grid.{Grid}
 use Rattle.mql_types.specs.Nodes as node
 use Rattle.mql_types.specs.Nodes.{NodeTree}
-use Rattle.mon_meaning.specs.within.Paths.{Leads, first_input, node_count, own_load}
+use Rattle.mql_types.specs.ExplanationParts.{nodes}
+use Rattle.mon_meaning.specs.within.Paths.{Leads, first_input, own_load}
 use Rattle.mon_meaning.specs.within.Readiness.{IsReady}
 use Rattle.mon_meaning.specs.within.SeriesMeaning.{SeriesGroup, load_by_series}
 
 -- a node more
-pub Leads-push : (above : List NodeTree) (top end : NodeTree) → Leads above top end → Leads (above ++ end ∷ []) top (first_input end)
+pub Leads-push : (above : List NodeTree) (top end : NodeTree) → Leads above top end → Leads (above ++ end ∷ []) top
+    (first_input end)
 Leads-push [] top end e = (e, refl)
 Leads-push (node ∷ above) top end leads = (leads.0, Leads-push above (first_input node) end leads.1)
 
@@ -19,7 +21,8 @@ Leads-pop [] last top end leads = (leads.0, leads.1)
 Leads-pop (node ∷ above) last top end leads =
     let rest = Leads-pop above last (first_input node) end leads.1 in ((leads.0, rest.0), rest.1)
 
-first_ready : (grid : Grid) (series : List SeriesGroup) (tree : NodeTree) → IsReady grid tree series → IsReady grid (first_input tree) series
+first_ready : (grid : Grid) (series : List SeriesGroup) (tree : NodeTree) → IsReady grid tree series
+    → IsReady grid (first_input tree) series
 first_ready grid series (node.Fetch info schema metric) ready = ready
 first_ready grid series (node.Filter info by input) ready = ready
 first_ready grid series (node.Align info by input) ready = ready
@@ -30,14 +33,15 @@ first_ready grid series (node.Join info left right) ready = ready.1.1.0
 first_ready grid series (node.Union info left right) ready = ready.0
 
 -- what a tree can be evaluated to, each node on the way down can
-pub ready_below : (grid : Grid) (series : List SeriesGroup) (above : List NodeTree) (top end : NodeTree) → Leads above top end
+pub ready_below : (grid : Grid) (series : List SeriesGroup) (above : List NodeTree) (top end : NodeTree)
+    → Leads above top end
     → IsReady grid top series → IsReady grid end series
 ready_below grid series [] top end e ready = subst (λ tree. IsReady grid tree series) e ready
 ready_below grid series (node ∷ above) top end leads ready =
     ready_below grid series above (first_input node) end leads.1
     (first_ready grid series node (subst (λ tree. IsReady grid tree series) leads.0 ready))
 
-first_smaller : (tree : NodeTree) → node_count (first_input tree) ≤ node_count tree
+first_smaller : (tree : NodeTree) → nodes (first_input tree) ≤ nodes tree
 first_smaller (node.Fetch info schema metric) = omega arith
 first_smaller (node.Filter info by input) = omega arith
 first_smaller (node.Align info by input) = omega arith
@@ -47,7 +51,7 @@ first_smaller (node.Top info most column input) = omega arith
 first_smaller (node.Join info left right) = omega arith
 first_smaller (node.Union info left right) = omega arith
 
-pub smaller_below : (above : List NodeTree) (top end : NodeTree) → Leads above top end → node_count end ≤ node_count top
+pub smaller_below : (above : List NodeTree) (top end : NodeTree) → Leads above top end → nodes end ≤ nodes top
 smaller_below [] top end e = rw e (omega arith)
 smaller_below (node ∷ above) top end leads =
     let rest = smaller_below above (first_input node) end leads.1 in

@@ -1,18 +1,21 @@
 -- Points in reach: what an alignment sees of a series, it sees of those.
-use Rattle.std.proofs.Common.{◌≡◌, ℕ, zero, suc, ◌+◌, ◌-◌, ◌*◌, ℤ, pos, ◌-ℤ◌, ◌≤ℤ◌, Bool, true, false, ◌&&◌, List, [], ◌∷◌, ◌++◌, unsigned_abs, refl, ap, subst, ◌∙◌, arith}
+use Rattle.std.proofs.Common.{◌≡◌, ℕ, zero, suc, ◌+◌, ◌-◌, ◌*◌, ℤ, pos, ◌-ℤ◌, ◌≤ℤ◌, Bool, true, false, ◌&&◌, List, []}
+use Rattle.std.proofs.Common.{◌∷◌, ◌++◌, unsigned_abs, refl, ap, subst, ◌∙◌, arith}
 use Rattle.std.specs.Prelude.{int_le, int_lt}
 use Rattle.std.specs.List.{AllByRecursion, filter, flat_map}
 use Rattle.std.proofs.lemmas.Int.{ints}
 use Rattle.std.proofs.lemmas.List.Elements.{filter_agree}
 use Rattle.mon_fold.proofs.AlignmentLemmas.{alike_filtered}
-use Rattle.mon_value.specs.Alignments.{AreAlike, CanAlign, SumFits, aligned_values, seconds_of, timed_values, value_at, value_made}
+use Rattle.mon_value.specs.Alignments.{AreAlike, CanAlign, SumFits, aligned_values, seconds_of, timed_values, value_at}
+use Rattle.mon_value.specs.Alignments.{value_made}
 use Rattle.mon_value.specs.Grids.{IsLawful, grid_times, least_time, time_count, times_back}
 use Rattle.mon_value.specs.Windows.{ends_within, window_of}
 use Rattle.mon_value.specs.declared.aligners.Aligner.{Aligner}
 use Rattle.mon_value.specs.declared.aligners.Aligner.TheVariants as aligner
 use Rattle.mon_value.specs.declared.grids.Grid.{Grid}
 use Rattle.mon_value.specs.declared.rows.Point.{Point}
-use Rattle.mon_meaning.specs.within.Reach.{is_in_reach, reached}
+use Rattle.mql_types.specs.Loads.{is_in_reach}
+use Rattle.mon_meaning.specs.within.Reach.{reached}
 use Rattle.mon_meaning.proofs.FilterLemmas.{filter_swap, filter_twice}
 
 -- a time between the least of a grid and its moment
@@ -52,14 +55,16 @@ seen_in_reach false b c d h g = refl
 
 -- what an alignment sees at a time is in reach
 module _ (grid : Grid) (by : Aligner) (time : ℤ) (within : IsWithin grid time) where
-  seen : (point : Point) → (ends_within time (seconds_of by) point && is_in_reach grid by point) ≡ ends_within time (seconds_of by) point
+  seen : (point : Point) → (ends_within time (seconds_of by) point && is_in_reach grid by point) ≡ ends_within time
+      (seconds_of by) point
   seen point =
       seen_in_reach (int_lt (time -ℤ seconds_of by) point.end) (int_le point.end time)
       (int_lt (least_time grid -ℤ seconds_of by) point.end) (int_le point.end grid.moment)
       (λ e. grind (arith, ints)) (λ e. grind (arith, ints))
 
   pub window_in_reach : (test : Point → Bool) (points : List Point)
-      → window_of time (seconds_of by) (filter test (reached grid by points)) ≡ window_of time (seconds_of by) (filter test points)
+      → window_of time (seconds_of by) (filter test (reached grid by points)) ≡ window_of time (seconds_of by)
+      (filter test points)
   window_in_reach test points =
       ap (window_of time (seconds_of by)) (filter_swap test (is_in_reach grid by) points)
       ∙ filter_twice (is_in_reach grid by) (ends_within time (seconds_of by)) (filter test points)
@@ -80,7 +85,8 @@ values_in_reach grid by test points (time ∷ times) all =
 
 pub aligned-in_reach : (grid : Grid) (by : Aligner) (test : Point → Bool) (points : List Point) → IsLawful grid
     → aligned_values by grid (filter test (reached grid by points)) ≡ aligned_values by grid (filter test points)
-aligned-in_reach grid by test points lawful = values_in_reach grid by test points (grid_times grid) (times_within grid lawful)
+aligned-in_reach grid by test points lawful = values_in_reach grid by test points (grid_times grid)
+    (times_within grid lawful)
 
 -- ---- which series can be aligned
 

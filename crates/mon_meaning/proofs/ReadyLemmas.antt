@@ -1,5 +1,6 @@
 -- What can be evaluated over rows can be evaluated over their series.
-use Rattle.std.proofs.Common.{◌≡◌, ℕ, ℤ, Bool, true, false, not, cond, List, [], ◌∷◌, ◌++◌, map, length, refl, sym, ap, subst, ◌∙◌, arith}
+use Rattle.std.proofs.Common.{◌≡◌, ℕ, ℤ, Bool, true, false, not, cond, List, [], ◌∷◌, ◌++◌, map, length, refl, sym, ap}
+use Rattle.std.proofs.Common.{subst, ◌∙◌, arith}
 use Rattle.std.specs.List.{AllByRecursion, filter}
 use Rattle.mon_value.proofs.KeyedLemmas as keyed
 use Rattle.mon_value.proofs.SameLemmas.{same_series-Decides}
@@ -29,7 +30,8 @@ use Rattle.mon_meaning.specs.within.SeriesMeaning.{SeriesGroup, points_flowing, 
 use Rattle.mon_meaning.proofs.FilterLemmas.{all-permutation}
 use Rattle.mon_meaning.proofs.KeyCells.{IsKeyOf, key_fits, keys_decide}
 use Rattle.mon_meaning.proofs.OperationOrders.{CanGroup-permutation}
-use Rattle.mon_meaning.proofs.SeriesOrders.{loads, points_meant-filter, points_of-flowing, reach_counts, row_flows, rows-permutation}
+use Rattle.mon_meaning.proofs.SeriesOrders.{loads, points_meant-filter, points_of-flowing, reach_counts, row_flows}
+use Rattle.mon_meaning.proofs.SeriesOrders.{rows-permutation}
 
 -- ---- what holds of each row's key holds of each series
 
@@ -45,10 +47,12 @@ module _ (P : SeriesKey → Type 0) where
 
   pub all_keys : (rows : List Row) → AllByRecursion (λ (row : Row). P row.key) rows → AllByRecursion P (series_of rows)
   all_keys [] all = tt
-  all_keys (row ∷ rows) all = (all.0, kept (λ key. not (same_series row.key key)) (series_of rows) (all_keys rows all.1))
+  all_keys (row ∷ rows) all =
+      (all.0, kept (λ key. not (same_series row.key key)) (series_of rows) (all_keys rows all.1))
 
 series_of_all : (P : SeriesGroup → Type 0) (Q : SeriesKey → Type 0) (f : SeriesKey → List Point) (keys : List SeriesKey)
-    → ((key : SeriesKey) → Q key → P (key, f key)) → AllByRecursion Q keys → AllByRecursion P (map (λ key. (key, f key)) keys)
+    → ((key : SeriesKey) → Q key → P (key, f key)) → AllByRecursion Q keys → AllByRecursion P
+    (map (λ key. (key, f key)) keys)
 series_of_all P Q f [] give all = tt
 series_of_all P Q f (key ∷ keys) give all = (give key all.0, series_of_all P Q f keys give all.1)
 
@@ -69,7 +73,8 @@ alike_none (aligner.Delta seconds) = tt
 alike_none (aligner.NextOlder seconds) = tt
 
 -- a series without points can be aligned
-align_none : (by : Aligner) (grid : Grid) (points : List Point) → IsDuration (seconds_of by) → IsLawful grid → points ≡ []
+align_none : (by : Aligner) (grid : Grid) (points : List Point) → IsDuration (seconds_of by) → IsLawful grid → points
+    ≡ []
     → CanAlign by grid points
 align_none by grid points looks lawful none =
     subst (λ ps. CanAlign by grid ps) (sym none) (record {
@@ -90,23 +95,28 @@ module _ (P : List Point → Type 0) (of : SeriesKey → List Point) where
       rest (sym (keyed.has_cons same_series same_series-Decides key_of_row key first keys false e) ∙ there)
 
   -- what holds of all series holds of one that is there
-  at_key : (key : SeriesKey) (keys : List SeriesKey) → keyed.has same_series same_series-Decides key_of_row key keys ≡ true
+  at_key : (key : SeriesKey) (keys : List SeriesKey) → keyed.has same_series same_series-Decides key_of_row key keys
+      ≡ true
       → AllByRecursion (λ (series : SeriesKey × List Point). P series.1) (map (λ k. (k, of k)) keys) → P (of key)
   at_key key [] there all = absurd cc
   at_key key (first ∷ keys) there all =
       at_by key first keys (same_series key first) refl there all (λ left. at_key key keys left all.1)
 
-module _ (grid : Grid) (by : Aligner) (input : NodeTree) (rows : List Row) (looks : IsDuration (seconds_of by)) (lawful : IsLawful grid)
-    (all : AllByRecursion (λ (series : SeriesKey × List Point). CanAlign by grid series.1) (points_by_series (points_meant input rows))) where
+module _ (grid : Grid) (by : Aligner) (input : NodeTree) (rows : List Row) (looks : IsDuration (seconds_of by))
+    (lawful : IsLawful grid)
+    (all : AllByRecursion (λ (series : SeriesKey × List Point). CanAlign by grid series.1)
+    (points_by_series (points_meant input rows))) where
   abbrev passing : List Row
   passing = filter (row_flows input) rows
 
   abbrev there : SeriesKey → Bool
   there key = keyed.has same_series same_series-Decides key_of_row key (series_of passing)
 
-  all_passing : AllByRecursion (λ (series : SeriesKey × List Point). CanAlign by grid series.1) (points_by_series passing)
+  all_passing : AllByRecursion (λ (series : SeriesKey × List Point). CanAlign by grid series.1)
+      (points_by_series passing)
   all_passing =
-      subst (λ rs. AllByRecursion (λ (series : SeriesKey × List Point). CanAlign by grid series.1) (points_by_series rs))
+      subst (λ rs. AllByRecursion (λ (series : SeriesKey × List Point). CanAlign by grid series.1)
+      (points_by_series rs))
       (points_meant-filter input rows) all
 
   can_by : (key : SeriesKey) (b : Bool) → there key ≡ b → CanAlign by grid (points_of key passing)
@@ -116,7 +126,8 @@ module _ (grid : Grid) (by : Aligner) (input : NodeTree) (rows : List Row) (look
       (ap (map (λ (r : Row). r.point)) (keyed.items_none same_series same_series-Decides key_of_row key passing e))
 
   -- what flows of each series can be aligned
-  flowing_can : AllByRecursion (λ (one : SeriesGroup). CanAlign by grid (points_flowing input one)) (points_by_series rows)
+  flowing_can : AllByRecursion (λ (one : SeriesGroup). CanAlign by grid (points_flowing input one))
+      (points_by_series rows)
   flowing_can =
       each_series (λ one. CanAlign by grid (points_flowing input one)) (λ key. points_of key rows) (series_of rows)
       (λ key. subst (CanAlign by grid) (points_of-flowing input key rows) (can_by key (there key) refl))
@@ -128,22 +139,28 @@ within a b e h = rw e h
 
 whole_alike : (grid : Grid) (tree : NodeTree) (rows : List Row)
     → AllByRecursion (λ (row : TimedRow). length row.cells ≡ length (columns_of tree)) (rows_meant grid tree rows)
-    → AllByRecursion (λ (row : TimedRow). length row.cells ≡ length (columns_of tree)) (rows_by_series grid tree (points_by_series rows))
+    → AllByRecursion (λ (row : TimedRow). length row.cells ≡ length (columns_of tree))
+    (rows_by_series grid tree (points_by_series rows))
 whole_alike grid tree rows =
-    all-permutation (λ (row : TimedRow). length row.cells ≡ length (columns_of tree)) _ _ (rows-permutation grid tree rows)
+    all-permutation (λ (row : TimedRow). length row.cells ≡ length (columns_of tree)) _ _ (rows-permutation grid tree
+    rows)
 
-all-front : {A : Type 0} (P : A → Type 0) (xs ys : List A) → AllByRecursion P (xs ++ ys) → AllByRecursion P xs × AllByRecursion P ys
+all-front : {A : Type 0} (P : A → Type 0) (xs ys : List A) → AllByRecursion P (xs ++ ys) → AllByRecursion P xs
+    × AllByRecursion P ys
 all-front P [] ys all = (tt, all)
 all-front P (x ∷ xs) ys all = let rest = all-front P xs ys all.1 in ((all.0, rest.0), rest.1)
 
-module _ (held : SchemaLists) (grid : Grid) (rows : List Row) (fit : AllByRecursion (λ (row : Row). fits held row ≡ true) rows)
+module _ (held : SchemaLists) (grid : Grid) (rows : List Row) (fit : AllByRecursion (λ (row : Row). fits held row
+    ≡ true) rows)
     (lawful : IsLawful grid) where
-  row_keys : (rs : List Row) → AllByRecursion (λ (row : Row). fits held row ≡ true) rs → AllByRecursion (λ (row : Row). IsKeyOf held row.key) rs
+  row_keys : (rs : List Row) → AllByRecursion (λ (row : Row). fits held row ≡ true) rs
+      → AllByRecursion (λ (row : Row). IsKeyOf held row.key) rs
   row_keys [] all = tt
   row_keys (row ∷ rs) all = (key_fits held row all.0, row_keys rs all.1)
 
   decided : (input : NodeTree) → HasFetchColumns held input
-      → AllByRecursion (λ (one : SeriesGroup). fetches input one.0 ≡ true → KeysDecide input one.0) (points_by_series rows)
+      → AllByRecursion (λ (one : SeriesGroup). fetches input one.0 ≡ true → KeysDecide input one.0)
+      (points_by_series rows)
   decided input has =
       series_of_all (λ (one : SeriesGroup). fetches input one.0 ≡ true → KeysDecide input one.0) (IsKeyOf held)
       (λ key. points_of key rows) (series_of rows) (λ key of. keys_decide held key of input has)
@@ -169,7 +186,8 @@ module _ (held : SchemaLists) (grid : Grid) (rows : List Row) (fit : AllByRecurs
   ready (node.Value info items input) can has = (
     can.0,
     (
-      (λ few. all-permutation (λ (row : TimedRow). CanCompute (columns_of input) row.cells) _ _ (rows-permutation grid input rows)
+      (λ few. all-permutation (λ (row : TimedRow). CanCompute (columns_of input) row.cells)
+          _ _ (rows-permutation grid input rows)
           (can.1.0 (within _ _ (loads grid input rows) few))),
       ready input can.1.1 has,
     ),

@@ -1,8 +1,10 @@
 -- Rows that have for each series the same points in order: the same series with their points, in another order.
-use Rattle.std.proofs.Common.{◌≡◌, ◌<◌, Bool, true, false, ◌||◌, not, cond, List, [], ◌∷◌, map, length, refl, sym, ap, subst, ◌∙◌, arith}
+use Rattle.std.proofs.Common.{◌≡◌, ◌<◌, Bool, true, false, ◌||◌, not, cond, List, [], ◌∷◌, map, length, refl, sym, ap}
+use Rattle.std.proofs.Common.{subst, ◌∙◌, arith}
 use Rattle.std.specs.Prelude.{IsPermutation}
 use Rattle.std.specs.List.{filter}
-use Rattle.std.proofs.lemmas.List.Sorted.{IsPermutation-cons, IsPermutation-map, IsPermutation-refl, IsPermutation-sym, IsPermutation-trans}
+use Rattle.std.proofs.lemmas.List.Sorted.{IsPermutation-cons, IsPermutation-map, IsPermutation-refl, IsPermutation-sym}
+use Rattle.std.proofs.lemmas.List.Sorted.{IsPermutation-trans}
 use Rattle.std.proofs.lemmas.Map.Views.{any-filter_same}
 use Rattle.mon_value.proofs.KeyedLemmas as keyed
 use Rattle.mon_value.proofs.PermutationLemmas.{front_exchanged}
@@ -54,7 +56,8 @@ others_lack key keys =
 all_others : (key : SeriesKey) (keys : List SeriesKey) → has_series key keys ≡ false → others_of key keys ≡ keys
 all_others key [] none = refl
 all_others key (first ∷ keys) none =
-    let parts = keyed.or_false same_series same_series-Decides key_of_row (same_series key first) (has_series key keys) none in
+    let parts = keyed.or_false same_series same_series-Decides key_of_row (same_series key first) (has_series key keys)
+    none in
     past key first keys false parts.0 ∙ ap (λ rest. first ∷ rest) (all_others key keys parts.1)
 
 lack_by : (key other : SeriesKey) (keys : List SeriesKey) (b : Bool) → same_series other key ≡ b
@@ -105,7 +108,8 @@ rest_alike_by : (key other : SeriesKey) (some keys : List SeriesKey) (b : Bool) 
     → has_series key some ≡ false → has_series other (key ∷ some) ≡ has_series other keys
     → has_series other some ≡ has_series other (others_of key keys)
 rest_alike_by key other some keys true e apart alike =
-    subst (λ (k : SeriesKey). has_series k some ≡ has_series k (others_of key keys)) ((same_series-Decides key other).0 e)
+    subst (λ (k : SeriesKey). has_series k some ≡ has_series k (others_of key keys)) ((same_series-Decides key other).0
+    e)
     (apart ∙ sym (others_lack key keys))
 rest_alike_by key other some keys false e apart alike =
     sym (has_first other key some false (back key other e)) ∙ alike ∙ sym (others_have other key keys e)

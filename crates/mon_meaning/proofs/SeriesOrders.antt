@@ -1,5 +1,6 @@
 -- What a query means over rows, and over their series: the same rows in another order, and the same load.
-use Rattle.std.proofs.Common.{◌≡◌, ℕ, ℤ, ◌+◌, Bool, true, false, ◌&&◌, cond, List, [], ◌∷◌, map, length, refl, sym, ap, ◌∙◌, arith}
+use Rattle.std.proofs.Common.{◌≡◌, ℕ, ℤ, ◌+◌, Bool, true, false, ◌&&◌, cond, List, [], ◌∷◌, map, length, refl, sym, ap}
+use Rattle.std.proofs.Common.{◌∙◌, arith}
 use Rattle.std.specs.Prelude.{IsPermutation}
 use Rattle.std.specs.List.{filter, flat_map, sum_by}
 use Rattle.std.proofs.lemmas.List.Folds.{flat_map-map}
@@ -25,9 +26,12 @@ use Rattle.mql_types.specs.Loads.{is_reached, load_of, meets, points_reached}
 use Rattle.mql_types.specs.Meaning.{aligned_rows, is_point_kept, points_meant, rows_meant, value_row}
 use Rattle.mql_types.specs.Nodes as node
 use Rattle.mql_types.specs.Nodes.{NodeTree, columns_of}
-use Rattle.mon_meaning.specs.within.Reach.{is_in_reach, reached}
-use Rattle.mon_meaning.specs.within.SeriesMeaning.{SeriesGroup, align_load, flows, load_by_series, points_flowing, reach_count, rows_by_series, series_rows}
-use Rattle.mon_meaning.proofs.FilterLemmas.{filter_map-permutation, filter_none, filter_swap, filter_twice, flat_map-agree}
+use Rattle.mql_types.specs.Loads.{is_in_reach}
+use Rattle.mon_meaning.specs.within.Reach.{reached}
+use Rattle.mon_meaning.specs.within.SeriesMeaning.{SeriesGroup, align_load, flows, load_by_series, points_flowing}
+use Rattle.mon_meaning.specs.within.SeriesMeaning.{reach_count, rows_by_series, series_rows}
+use Rattle.mon_meaning.proofs.FilterLemmas.{filter_map-permutation, filter_none, filter_swap, filter_twice}
+use Rattle.mon_meaning.proofs.FilterLemmas.{flat_map-agree}
 use Rattle.mon_meaning.proofs.KeyOrders as orders
 use Rattle.mon_meaning.proofs.OperationOrders.{group_rows-permutation, pairs-permutation, top_rows-permutation}
 
@@ -103,7 +107,8 @@ abbrev own_rows : Grid → Aligner → SeriesGroup → List TimedRow
 own_rows grid by series = map (row_of series.0) (aligned_values by grid series.1)
 
 pub aligned_rows-permutation : (grid : Grid) (by : Aligner) (input : NodeTree) (rows : List Row)
-    → IsPermutation (aligned_rows by grid (points_meant input rows)) (flat_map (series_rows grid by input) (points_by_series rows))
+    → IsPermutation (aligned_rows by grid (points_meant input rows)) (flat_map (series_rows grid by input)
+    (points_by_series rows))
 aligned_rows-permutation grid by input rows =
     let passing = filter (row_flows input) rows in
     let h : SeriesKey → List TimedRow = λ key. series_rows grid by input (key, points_of key rows) in
@@ -125,7 +130,8 @@ pub rows-permutation : (grid : Grid) (tree : NodeTree) (rows : List Row)
     → IsPermutation (rows_meant grid tree rows) (rows_by_series grid tree (points_by_series rows))
 rows-permutation grid (node.Fetch info schema metric) rows = IsPermutation-refl []
 rows-permutation grid (node.Filter info by input) rows =
-    filter-permutation (λ (row : TimedRow). predicate_truth by info.columns row.cells) _ _ (rows-permutation grid input rows)
+    filter-permutation (λ (row : TimedRow). predicate_truth by info.columns row.cells) _ _ (rows-permutation grid input
+    rows)
 rows-permutation grid (node.Align info by input) rows = aligned_rows-permutation grid by input rows
 rows-permutation grid (node.GroupBy info by with input) rows =
     group_rows-permutation by with _ _ (rows-permutation grid input rows)
@@ -134,7 +140,8 @@ rows-permutation grid (node.Value info items input) rows =
 rows-permutation grid (node.Top info most column input) rows =
     top_rows-permutation most column _ _ (rows-permutation grid input rows)
 rows-permutation grid (node.Join info left right) rows =
-    pairs-permutation (columns_of left) (columns_of right) _ _ _ _ (rows-permutation grid left rows) (rows-permutation grid right rows)
+    pairs-permutation (columns_of left) (columns_of right) _ _ _ _ (rows-permutation grid left rows)
+    (rows-permutation grid right rows)
 rows-permutation grid (node.Union info left right) rows =
     IsPermutation-append _ _ _ _ (rows-permutation grid left rows) (rows-permutation grid right rows)
 
@@ -145,14 +152,16 @@ module _ (grid : Grid) (by : Aligner) (input : NodeTree) where
   abbrev counts : Row → ℕ
   counts row = cond (is_reached grid by row && meets input row.key) 1 0
 
-  counted_more : (b : Bool) (row : Row) (rows : List Row) (n : ℕ) → length rows ≡ n → length (cond b (row ∷ rows) rows) ≡ cond b 1 0 + n
+  counted_more : (b : Bool) (row : Row) (rows : List Row) (n : ℕ) → length rows ≡ n → length (cond b (row ∷ rows) rows)
+      ≡ cond b 1 0 + n
   counted_more true row rows n e = omega (arith, e)
   counted_more false row rows n e = omega (arith, e)
 
   counted_length : (rows : List Row) → length (points_reached grid by input rows) ≡ sum_by counts rows
   counted_length [] = refl
   counted_length (row ∷ rows) =
-      counted_more (is_reached grid by row && meets input row.key) row (points_reached grid by input rows) (sum_by counts rows)
+      counted_more (is_reached grid by row && meets input row.key) row (points_reached grid by input rows)
+      (sum_by counts rows)
       (counted_length rows)
       ∙ sym (sum_by-cons counts row rows)
 

@@ -29,7 +29,8 @@ up-permutation columns up.AsRows xs ys same can = tt
 up-permutation columns (up.ToGroup by with) xs ys same can = CanGroup-permutation columns by with xs ys same can
 up-permutation columns (up.ToCut most column) xs ys same can = tt
 
-pub stands-permutation : (columns : List Column) (use_of : PartUse) (xs ys : List TimedRow) (p : Piece) → IsPermutation xs ys
+pub stands-permutation : (columns : List Column) (use_of : PartUse) (xs ys : List TimedRow) (p : Piece)
+    → IsPermutation xs ys
     → StandsFor columns (use_of, ys) p → StandsFor columns (use_of, xs) p
 stands-permutation columns up.AsRows xs ys (piece.Table table) same stands = record {
   columns_are = stands.columns_are;
@@ -50,21 +51,31 @@ stands-permutation columns (up.ToCut most column) xs ys (piece.Groups groups) sa
 
 -- ---- how many rows or groups go up
 
-keys_made : (by : List ℕ) (with : List Aggregate) (rows : List TimedRow) → length (group_rows by with rows) ≡ length (group_keys by rows)
+keys_made : (by : List ℕ) (with : List Aggregate) (rows : List TimedRow) → length (group_rows by with rows)
+    ≡ length (group_keys by rows)
 keys_made by with rows =
     length-map (rows_by_group by rows) (group_row with)
     ∙ length-map {B = TimedRow × List TimedRow} (group_keys by rows) (λ key. (key, rows_in by key rows))
 
-groups_made : (by : List ℕ) (with : List Aggregate) (rows : List TimedRow) → length (partial_groups by with rows) ≡ length (group_keys by rows)
+groups_made : (by : List ℕ) (with : List Aggregate) (rows : List TimedRow) → length (partial_groups by with rows)
+    ≡ length (group_keys by rows)
 groups_made by with rows =
     length-map {B = PartialGroup} (rows_by_group by rows) (λ group. (group.0, parts_over with group.1))
     ∙ length-map {B = TimedRow × List TimedRow} (group_keys by rows) (λ key. (key, rows_in by key rows))
 
-keys-permutation : (by : List ℕ) (xs ys : List TimedRow) → IsPermutation xs ys → length (group_keys by xs) ≡ length (group_keys by ys)
+keys-permutation : (by : List ℕ) (xs ys : List TimedRow) → IsPermutation xs ys → length (group_keys by xs)
+    ≡ length (group_keys by ys)
 keys-permutation by xs ys same =
-    omega (arith, keys_made by [] xs, keys_made by [] ys, length_permutation _ _ (group_rows-permutation by [] xs ys same))
+    omega (
+      arith,
+      keys_made by [] xs,
+      keys_made by [] ys,
+      length_permutation _ _ (group_rows-permutation by [] xs ys
+          same),
+    )
 
-pub sent_is : (columns : List Column) (use_of : PartUse) (rows : List TimedRow) (p : Piece) → StandsFor columns (use_of, rows) p
+pub sent_is : (columns : List Column) (use_of : PartUse) (rows : List TimedRow) (p : Piece) → StandsFor columns
+    (use_of, rows) p
     → items_sent p ≡ sent_of use_of rows
 sent_is columns up.AsRows rows (piece.Table table) stands = length_permutation _ _ stands.rows_are
 sent_is columns up.AsRows rows (piece.Groups groups) stands = absurd stands
@@ -81,6 +92,10 @@ pub sent_within : (grid : Grid) (use_of : PartUse) (part : NodeTree) (source : L
     → sent_of use_of (rows_meant grid part source) ≤ load_of grid part source
 sent_within grid up.AsRows part source = rows_within_load grid part source
 sent_within grid (up.ToGroup by with) part source =
-    omega (arith, keys_made by with (rows_meant grid part source), rows_within_load grid (node.GroupBy (info_of part) by with part) source)
+    omega (
+      arith,
+      keys_made by with (rows_meant grid part source),
+      rows_within_load grid (node.GroupBy (info_of part) by with part) source,
+    )
 sent_within grid (up.ToCut most column) part source =
     rows_within_load grid (node.Top (info_of part) most column part) source

@@ -1,5 +1,6 @@
 -- The rows that come first at each time, as a map of times holds them.
-use Rattle.std.proofs.Common.{◌≡◌, ℕ, ℤ, ◌&&◌, Bool, true, false, List, [], ◌∷◌, ◌++◌, map, append-nil, append_assoc, Vec, take, Bor, IsPermutation, refl, sym, ap, ◌∙◌}
+use Rattle.std.proofs.Common.{◌≡◌, ℕ, ℤ, ◌&&◌, Bool, true, false, List, [], ◌∷◌, ◌++◌, map, append-nil, append_assoc}
+use Rattle.std.proofs.Common.{Vec, take, Bor, IsPermutation, refl, sym, ap, ◌∙◌}
 use Rattle.std.specs.Ordering.{int_eq, is_lt}
 use Rattle.std.specs.declared.alloc.Global.{Global}
 use Rattle.std.specs.declared.cmp.Ordering.{Ordering}
@@ -33,7 +34,8 @@ abbrev pub rows_held : Vec TimedRow Global → List TimedRow
 rows_held rows = rows.items
 
 -- what a sort by rank leaves
-pub sorted_by_rank : (column : _) {F : Type 0} {g : Mut F (Bor TimedRow × (Bor TimedRow × Unit {0})) Ordering} {f : F} (xs ys : List TimedRow)
+pub sorted_by_rank : (column : _) {F : Type 0} {g : Mut F (Bor TimedRow × (Bor TimedRow × Unit {0})) Ordering} {f : F}
+    (xs ys : List TimedRow)
     → IsPermutation xs ys
     → ((lt : TimedRow → TimedRow → Bool) → IsStrictWeakOrder lt → ComparesAs g lt f → IsSortedBy lt ys)
     → ((a : Bor TimedRow × (Bor TimedRow × Unit {0})) (r : Ordering) (f' : F) → Called g f a r f'
@@ -49,7 +51,8 @@ sorted_by_rank column {g = g} {f = f} xs ys kept up h =
 abbrev pub first_of : ℕ → ℕ → TimedRow × List TimedRow → List TimedRow
 first_of most column group = take most (sorted_list (rank_cmp column) group.1)
 
-merged_on : (xs ys : List TimedRow) → merged_rows (rows_by_group [] xs) (map (own_group []) ys) ≡ rows_by_group [] (xs ++ ys)
+merged_on : (xs ys : List TimedRow) → merged_rows (rows_by_group [] xs) (map (own_group []) ys) ≡ rows_by_group []
+    (xs ++ ys)
 merged_on xs [] = ap (rows_by_group []) (sym (append-nil xs))
 merged_on xs (y ∷ ys) =
     ap (λ groups. merged_rows groups (map (own_group []) ys)) (sym (rows_by_group-push [] xs y))

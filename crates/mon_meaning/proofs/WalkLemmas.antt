@@ -7,14 +7,19 @@ use Rattle.mon_value.specs.declared.tables.TimedRow.{TimedRow}
 use Rattle.mql_types.specs.Nodes.{NodeTree}
 use Rattle.mon_meaning.specs.declared.meter.OverLimit.{OverLimit}
 use Rattle.mon_meaning.specs.Counts.{TellsOver}
-use Rattle.mon_meaning.specs.within.Paths.{Leads, first_input, node_count, own_load}
+use Rattle.mql_types.specs.ExplanationParts.{nodes}
+use Rattle.mon_meaning.specs.within.Paths.{Leads, first_input, own_load}
 use Rattle.mon_meaning.specs.within.Readiness.{IsReady}
 use Rattle.mon_meaning.specs.within.SeriesMeaning.{SeriesGroup, load_by_series, rows_by_series}
 use Rattle.mon_meaning.proofs.PathLemmas.{Leads-pop, own_loads, ready_below, smaller_below}
 
 -- a number above the limit stays between where there is more to count
 pub tells_more : (limit a b : ℕ) (r : Refusal OverLimit) → a ≤ b → TellsOver limit a r → TellsOver limit b r
-tells_more limit a b (refusal.Fault over) more tells = record { above = tells.above; within = omega (arith, more, tells.within) }
+tells_more limit a b (refusal.Fault over) more tells = record {
+  above = tells.above;
+  within =
+      omega (arith, more, tells.within);
+}
 tells_more limit a b refusal.OutOfMemory more tells = tt
 
 module _ (grid : Grid) (series : List SeriesGroup) (top : NodeTree) where
@@ -39,7 +44,7 @@ module _ (grid : Grid) (series : List SeriesGroup) (top : NodeTree) where
     pub counted : load ≡ start + load_by_series grid (first_input node) series
     pub within : load_by_series grid (first_input node) series ≤ load
     pub leads : Leads above top node
-    pub smaller : node_count node ≤ node_count top
+    pub smaller : nodes node ≤ nodes top
 
   pub next_step : (above : List NodeTree) (node : NodeTree) (rows : List TimedRow) (start load : ℕ)
       → Walk (above ++ node ∷ []) rows start load → IsReady grid top series → Step above node rows start load
@@ -55,7 +60,8 @@ module _ (grid : Grid) (series : List SeriesGroup) (top : NodeTree) where
       }
 
   pub walk_on : (above : List NodeTree) (node : NodeTree) (rows made : List TimedRow) (start load more : ℕ)
-      → Step above node rows start load → made ≡ rows_by_series grid node series → more ≡ load + own_load grid node series
+      → Step above node rows start load → made ≡ rows_by_series grid node series → more ≡ load + own_load grid node
+      series
       → Walk above made start more
   walk_on above node rows made start load more step is counted = record {
     end = node;
@@ -64,24 +70,30 @@ module _ (grid : Grid) (series : List SeriesGroup) (top : NodeTree) where
     counted = omega (arith, counted, step.counted, own_loads grid series node);
   }
 
-  pub rows_done : (rows : List TimedRow) (start load : ℕ) → Walk [] rows start load → rows ≡ rows_by_series grid top series
+  pub rows_done : (rows : List TimedRow) (start load : ℕ) → Walk [] rows start load → rows ≡ rows_by_series grid top
+      series
   rows_done rows start load walk = walk.made ∙ ap (λ tree. rows_by_series grid tree series) (sym walk.leads)
 
-  pub load_done : (rows : List TimedRow) (start load : ℕ) → Walk [] rows start load → load ≡ start + load_by_series grid top series
+  pub load_done : (rows : List TimedRow) (start load : ℕ) → Walk [] rows start load → load ≡ start
+      + load_by_series grid top series
   load_done rows start load walk = walk.counted ∙ ap (λ tree. start + load_by_series grid tree series) (sym walk.leads)
 
   pub begun : (above : List NodeTree) (end : NodeTree) (rows : List TimedRow) (start load : ℕ) → Leads above top end
-      → rows ≡ rows_by_series grid end series → load ≡ start + load_by_series grid end series → Walk above rows start load
+      → rows ≡ rows_by_series grid end series → load ≡ start + load_by_series grid end series → Walk above rows start
+      load
   begun above end rows start load leads made counted =
       record { end = end; leads = leads; made = made; counted = counted }
 
   -- a source or an operation that is over is over in the whole
-  pub source_over : (above : List NodeTree) (end : NodeTree) (limit start : ℕ) (r : Refusal OverLimit) → Leads above top end
-      → TellsOver limit (start + load_by_series grid end series) r → TellsOver limit (start + load_by_series grid top series) r
+  pub source_over : (above : List NodeTree) (end : NodeTree) (limit start : ℕ) (r : Refusal OverLimit)
+      → Leads above top end
+      → TellsOver limit (start + load_by_series grid end series) r → TellsOver limit (start + load_by_series grid top
+      series) r
   source_over above end limit start r leads tells =
       let more = load_below above top end leads in tells_more limit _ _ r (omega (arith, more)) tells
 
-  pub step_over : (above : List NodeTree) (node : NodeTree) (rows : List TimedRow) (limit start load : ℕ) (r : Refusal OverLimit)
+  pub step_over : (above : List NodeTree) (node : NodeTree) (rows : List TimedRow) (limit start load : ℕ)
+      (r : Refusal OverLimit)
       → Step above node rows start load → TellsOver limit (load + own_load grid node series) r
       → TellsOver limit (start + load_by_series grid top series) r
   step_over above node rows limit start load r step tells =

@@ -1,5 +1,7 @@
 -- The points that end between two times, by their places.
-use Rattle.std.proofs.Common.{◌≡◌, ◌∙◌, Option, Some, None, neg_ℤ, unsigned_abs, ℕ, zero, suc, ◌+◌, ◌-◌, ◌*◌, ◌/◌, ◌≤◌, ◌<◌, ℤ, ◌≤ℤ◌, ◌<ℤ◌, ◌-ℤ◌, pos, Bool, true, false, ◌&&◌, cond, List, [], ◌∷◌, length, take, drop, get_or, IfSome, refl, sym, ap, subst, arith}
+use Rattle.std.proofs.Common.{◌≡◌, ◌∙◌, Option, Some, None, neg_ℤ, unsigned_abs, ℕ, zero, suc, ◌+◌, ◌-◌, ◌*◌, ◌/◌, ◌≤◌}
+use Rattle.std.proofs.Common.{◌<◌, ℤ, ◌≤ℤ◌, ◌<ℤ◌, ◌-ℤ◌, pos, Bool, true, false, ◌&&◌, cond, List, [], ◌∷◌, length}
+use Rattle.std.proofs.Common.{take, drop, get_or, IfSome, refl, sym, ap, subst, arith}
 use Rattle.std.specs.Prelude.{int_le, int_lt}
 use Rattle.std.specs.List.{AllByRecursion, filter}
 use Rattle.std.proofs.Math.Nat.{mul_comm}
@@ -18,17 +20,21 @@ EndsAfter end points = AllByRecursion (λ (later : Point). end <ℤ later.end) p
 
 -- ---- points whose ends rise
 
-after_filter : (first : ℤ) (test : Point → Bool) (ps : List Point) → EndsAfter first ps → EndsAfter first (filter test ps)
+after_filter : (first : ℤ) (test : Point → Bool) (ps : List Point) → EndsAfter first ps → EndsAfter first
+    (filter test ps)
 after_filter first test [] h = tt
 after_filter first test (p ∷ ps) h =
-    cond_both (test p) _ _ (EndsAfter first) (λ e. (h.0, after_filter first test ps h.1)) (λ e. after_filter first test ps h.1)
+    cond_both (test p) _ _ (EndsAfter first) (λ e. (h.0, after_filter first test ps h.1))
+    (λ e. after_filter first test ps h.1)
 
 pub EndsRise-filter : (test : Point → Bool) (ps : List Point) → EndsRise ps → EndsRise (filter test ps)
 EndsRise-filter test [] h = tt
 EndsRise-filter test (p ∷ ps) h =
-    cond_both (test p) _ _ EndsRise (λ e. (after_filter p.end test ps h.0, EndsRise-filter test ps h.1)) (λ e. EndsRise-filter test ps h.1)
+    cond_both (test p) _ _ EndsRise (λ e. (after_filter p.end test ps h.0, EndsRise-filter test ps h.1))
+    (λ e. EndsRise-filter test ps h.1)
 
-before_at : (end : ℤ) (ps : List Point) (i : ℕ) (d : Point) → EndsAfter end ps → i < length ps → end <ℤ (get_or ps i d).end
+before_at : (end : ℤ) (ps : List Point) (i : ℕ) (d : Point) → EndsAfter end ps → i < length ps
+    → end <ℤ (get_or ps i d).end
 before_at end [] i d h below = absurd (omega arith)
 before_at end (p ∷ ps) zero d h below = h.0
 before_at end (p ∷ ps) (suc i) d h below = before_at end ps i d h.1 (omega arith)
@@ -49,7 +55,8 @@ last_before end (point ∷ []) all = all.0
 last_before end (point ∷ next ∷ points) all = last_before end (next ∷ points) all.1
 
 -- a point ends after those kept of the points in front of it
-pub rises_on : (test : Point → Bool) (ps : List Point) (i : ℕ) (p : Point) → EndsRise ps → p ≡ get_or ps i p → i < length ps
+pub rises_on : (test : Point → Bool) (ps : List Point) (i : ℕ) (p : Point) → EndsRise ps → p ≡ get_or ps i p
+    → i < length ps
     → IfSome (last_end (filter test (take i ps))) (λ last. last <ℤ p.end)
 rises_on test ps i p rise is below =
     last_before p.end (filter test (take i ps))
@@ -61,14 +68,16 @@ rises_on test ps i p rise is below =
 abbrev between : ℤ → ℤ → Point → Bool
 between low high point = int_lt low point.end && int_le point.end high
 
-until_by : (time : ℤ) (p : Point) (rest : List Point) (b : Bool) → int_le p.end time ≡ b → time <ℤ p.end → rest ≡ [] → cond b (p ∷ rest) rest ≡ []
+until_by : (time : ℤ) (p : Point) (rest : List Point) (b : Bool) → int_le p.end time ≡ b → time <ℤ p.end → rest ≡ []
+    → cond b (p ∷ rest) rest ≡ []
 until_by time p rest true e past none = absurd (grind (arith, ints))
 until_by time p rest false e past none = none
 
 -- no point ends until a time, where all end above it
 none_until : (time : ℤ) (ps : List Point) → EndsAfter time ps → points_until time ps ≡ []
 none_until time [] h = refl
-none_until time (p ∷ ps) h = until_by time p (points_until time ps) (int_le p.end time) refl h.0 (none_until time ps h.1)
+none_until time (p ∷ ps) h = until_by time p (points_until time ps) (int_le p.end time) refl h.0
+    (none_until time ps h.1)
 
 between_by : (high : ℤ) (p : Point) (rest : List Point) (a b : Bool) → int_le p.end high ≡ b → high <ℤ p.end → rest ≡ []
     → cond (a && b) (p ∷ rest) rest ≡ []
@@ -79,7 +88,8 @@ between_by high p rest false false e past none = none
 none_between : (low high : ℤ) (ps : List Point) → EndsAfter high ps → filter (between low high) ps ≡ []
 none_between low high [] h = refl
 none_between low high (p ∷ ps) h =
-    between_by high p (filter (between low high) ps) (int_lt low p.end) (int_le p.end high) refl h.0 (none_between low high ps h.1)
+    between_by high p (filter (between low high) ps) (int_lt low p.end) (int_le p.end high) refl h.0
+    (none_between low high ps h.1)
 
 after_all : (low end : ℤ) (ps : List Point) → EndsAfter end ps → low ≤ℤ end → EndsAfter low ps
 after_all low end [] h below = tt
@@ -109,7 +119,8 @@ first_until : (low high : ℤ) (ps : List Point) → EndsRise ps → EndsAfter l
     → take (length (points_until high ps)) ps ≡ filter (between low high) ps
 first_until low high [] rise after = refl
 first_until low high (p ∷ ps) rise after =
-    first_by low high p ps (int_lt low p.end) (int_le p.end high) refl refl rise.0 after.0 (first_until low high ps rise.1 after.1)
+    first_by low high p ps (int_lt low p.end) (int_le p.end high) refl refl rise.0 after.0
+    (first_until low high ps rise.1 after.1)
 
 fewer_less : (p q : Point) (xs ys : List Point) → length (p ∷ xs) - length (q ∷ ys) ≡ length xs - length ys
 fewer_less p q xs ys = omega arith
@@ -128,7 +139,8 @@ places_by low high p ps true true e f rise order rest =
     let skipped : int_lt low p.end ≡ false = grind (arith, ints) in
     (λ i. take (fewer_less p p hs ls i) (drop (longer p ls i) (p ∷ ps)))
     ∙ rest
-    ∙ sym (ap (λ c. cond (c && int_le p.end high) (p ∷ filter (between low high) ps) (filter (between low high) ps)) skipped)
+    ∙ sym (ap (λ c. cond (c && int_le p.end high) (p ∷ filter (between low high) ps) (filter (between low high) ps))
+    skipped)
 places_by low high p ps true false e f rise order rest = absurd (grind (arith, ints))
 places_by low high p ps false b e f rise order rest =
     let past : low <ℤ p.end = grind (arith, ints) in
@@ -149,9 +161,11 @@ pub between_places : (low high : ℤ) (ps : List Point) → EndsRise ps → low 
     ≡ filter (between low high) ps
 between_places low high [] rise order = refl
 between_places low high (p ∷ ps) rise order =
-    places_by low high p ps (int_le p.end low) (int_le p.end high) refl refl rise order (between_places low high ps rise.1 order)
+    places_by low high p ps (int_le p.end low) (int_le p.end high) refl refl rise order
+    (between_places low high ps rise.1 order)
 
-more_by : (low high : ℤ) (p : Point) (ls hs : List Point) (a b : Bool) → int_le p.end low ≡ a → int_le p.end high ≡ b → low ≤ℤ high
+more_by : (low high : ℤ) (p : Point) (ls hs : List Point) (a b : Bool) → int_le p.end low ≡ a → int_le p.end high ≡ b
+    → low ≤ℤ high
     → length ls ≤ length hs → length (cond a (p ∷ ls) ls) ≤ length (cond b (p ∷ hs) hs)
 more_by low high p ls hs true true e f order rest = omega (arith, rest)
 more_by low high p ls hs true false e f order rest = absurd (grind (arith, ints))
@@ -159,10 +173,12 @@ more_by low high p ls hs false true e f order rest = omega (arith, rest)
 more_by low high p ls hs false false e f order rest = rest
 
 -- more points end until a later time
-pub until_more : (low high : ℤ) (ps : List Point) → low ≤ℤ high → length (points_until low ps) ≤ length (points_until high ps)
+pub until_more : (low high : ℤ) (ps : List Point) → low ≤ℤ high → length (points_until low ps)
+    ≤ length (points_until high ps)
 until_more low high [] order = omega arith
 until_more low high (p ∷ ps) order =
-    more_by low high p (points_until low ps) (points_until high ps) (int_le p.end low) (int_le p.end high) refl refl order
+    more_by low high p (points_until low ps) (points_until high ps) (int_le p.end low) (int_le p.end high) refl refl
+    order
     (until_more low high ps order)
 
 -- ---- the least time
@@ -179,7 +195,8 @@ steps_within : (w p : ℕ) → 1 ≤ p → ((w + (p - 1)) / p - 1) * p ≤ w
 steps_within w p some = steps_by ((w + (p - 1)) / p) w p (omega arith) some
 
 -- the least time of a grid is no earlier than a longest duration before the epoch, and no later than its moment
-pub least_bounds : (grid : Grid) → IsLawful grid → (neg_ℤ LONGEST_DURATION ≤ℤ least_time grid) × (least_time grid ≤ℤ grid.moment)
+pub least_bounds : (grid : Grid) → IsLawful grid → (neg_ℤ LONGEST_DURATION ≤ℤ least_time grid)
+    × (least_time grid ≤ℤ grid.moment)
 least_bounds grid lawful =
     let every = lawful.every in
     let within = lawful.within in
@@ -202,22 +219,24 @@ none_last [] e = refl
 none_last (p ∷ ps) e = absurd (none_last_by (last_end (p ∷ ps)) p ps refl e)
 
 module _ (least seconds moment time span now : ℤ) (points : List Point) (before ended : ℕ)
-    (is_time : time ≡ least) (is_span : span ≡ seconds) (is_now : now ≡ moment) (order : least ≤ℤ moment) (some : pos 1 ≤ℤ seconds)
-    (first : before ≡ length (points_until (time -ℤ span) points)) (last : ended ≡ length (points_until now points)) where
-  low : before ≡ length (points_until (least -ℤ seconds) points)
-  low = first ∙ (λ i. length (points_until (is_time i -ℤ is_span i) points))
+    (is_time : time ≡ least) (is_span : span ≡ seconds) (is_now : now ≡ moment) (order : least ≤ℤ moment)
+    (some : pos 1 ≤ℤ seconds)
+    (first : before ≡ length (points_until (time -ℤ span) points)) (last : ended ≡ length (points_until now points))
+  where
+    low : before ≡ length (points_until (least -ℤ seconds) points)
+    low = first ∙ (λ i. length (points_until (is_time i -ℤ is_span i) points))
 
-  high : ended ≡ length (points_until moment points)
-  high = last ∙ (λ i. length (points_until (is_now i) points))
+    high : ended ≡ length (points_until moment points)
+    high = last ∙ (λ i. length (points_until (is_now i) points))
 
-  earlier : (least -ℤ seconds) ≤ℤ moment
-  earlier = omega (arith, ints)
+    earlier : (least -ℤ seconds) ≤ℤ moment
+    earlier = omega (arith, ints)
 
-  pub places_apart : before ≤ ended
-  places_apart = omega (arith, low, high, until_more (least -ℤ seconds) moment points earlier)
+    pub places_apart : before ≤ ended
+    places_apart = omega (arith, low, high, until_more (least -ℤ seconds) moment points earlier)
 
-  pub places_of : (listed : List Point) → listed ≡ points → EndsRise points
-      → take (ended - before) (drop before listed) ≡ filter (between (least -ℤ seconds) moment) points
-  places_of listed same rise =
-      (λ i. take (high i - low i) (drop (low i) (same i)))
-      ∙ between_places (least -ℤ seconds) moment points rise earlier
+    pub places_of : (listed : List Point) → listed ≡ points → EndsRise points
+        → take (ended - before) (drop before listed) ≡ filter (between (least -ℤ seconds) moment) points
+    places_of listed same rise =
+        (λ i. take (high i - low i) (drop (low i) (same i)))
+        ∙ between_places (least -ℤ seconds) moment points rise earlier

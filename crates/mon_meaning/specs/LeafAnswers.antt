@@ -22,11 +22,12 @@ abbrev pub load_in_leaf : TypedTree → List Row → ℤ → ℕ
 load_in_leaf typed source moment = parts_load (grid_of typed moment) source (top_parts is_leaf typed.tree)
 
 -- a leaf's answer over its rows
-pub record IsLeafPart (typed : TypedTree) (source : List Row) (moment : ℤ) (limit : ℕ) (answer : LeafAnswer) : Type 0 where
-  pub pieces : AllStandFor (grid_of typed moment) source (top_parts is_leaf typed.tree) answer.pieces
-  pub load : answer.load ≡ load_in_leaf typed source moment
-  pub sent_is : answer.sent ≡ sent typed source moment
-  pub within : load_in_leaf typed source moment ≤ limit
+pub record IsLeafPart (typed : TypedTree) (source : List Row) (moment : ℤ) (limit : ℕ) (answer : LeafAnswer) : Type 0
+  where
+    pub pieces : AllStandFor (grid_of typed moment) source (top_parts is_leaf typed.tree) answer.pieces
+    pub load : answer.load ≡ load_in_leaf typed source moment
+    pub sent_is : answer.sent ≡ sent typed source moment
+    pub within : load_in_leaf typed source moment ≤ limit
 
 -- the load of the leaf's part is above the limit; the number told lies between
 pub record IsOverLeaf (typed : TypedTree) (source : List Row) (moment : ℤ) (limit : ℕ) (over : OverLimit) : Type 0 where

@@ -14,7 +14,8 @@ use Rattle.mql_types.specs.Meaning.{value_row}
 use Rattle.mql_types.specs.Nodes as node
 use Rattle.mql_types.specs.Nodes.{NodeTree, columns_of}
 
--- what an operation makes of the rows of its input, or of its left side and its right one; a source passes on what it has
+-- what an operation makes of the rows of its input, or of its left side and its right one; a source passes on what it
+-- has
 abbrev pub operation_rows : NodeTree → List TimedRow → List TimedRow → List TimedRow
 operation_rows (node.Fetch info schema metric) rows others = rows
 operation_rows (node.Filter info by input) rows others =

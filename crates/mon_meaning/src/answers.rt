@@ -15,8 +15,8 @@ use mon_value::{Grid, Refusal, RowList, Table};
 use mql_types::Typed;
 use std::alloc::Global;
 
-/// The rows that a typed query means, asked at a moment over rows of any series. They are a bag: their order says nothing.
-/// It is refused exactly where its load is above the limit.
+/// The rows that a typed query means, asked at a moment over rows of any series. They are a bag: their order says
+/// nothing. It is refused exactly where its load is above the limit.
 pub fn central(
     alloc: Global,
     typed: &Typed,
@@ -53,8 +53,8 @@ pub fn central_by_series(
     Ok(table_of(alloc, &typed.tree.info().columns, rows)?)
 }
 
-// The times of a query that is asked at a moment.
-fn grid_of(typed: &Typed, moment: i64) -> Grid
+/// The times of a query that is asked at a moment, in seconds from the epoch.
+pub fn grid_of(typed: &Typed, moment: i64) -> Grid
     ensures grid { result ≡ meant.grid_of (typed_tree typed.now) moment }
 {
     Grid {

@@ -25,8 +25,8 @@ pub(crate) struct Setting<'a> {
     pub grid: Grid,
 }
 
-/// The rows of a tree, and its load on the meter. Only right sides recurse: a text nests them, where it repeats operations
-/// and left sides.
+/// The rows of a tree, and its load on the meter. Only right sides recurse: a text nests them, where it repeats
+/// operations and left sides.
 #[cycle(evaluation)]
 pub(crate) fn rows_of(
     setting: &Setting<'_>,
@@ -84,7 +84,8 @@ fn rows_above(
     requires ready { IsReady setting.now.grid (node_tree node.now) (all_held setting.now.series.now) }
     requires rows { rows
         ≡ rows_by_series setting.now.grid (first_input (node_tree node.now)) (all_held setting.now.series.now) }
-    requires counted { load_by_series setting.now.grid (first_input (node_tree node.now)) (all_held setting.now.series.now)
+    requires counted { load_by_series setting.now.grid (first_input (node_tree node.now))
+        (all_held setting.now.series.now)
         ≤ meter.old.load }
     ensures rows { IfOk result (λ rows. rows
         ≡ rows_by_series setting.now.grid (node_tree node.now) (all_held setting.now.series.now)) }

@@ -16,7 +16,7 @@ mod steps;
 mod tops;
 mod value_rows;
 
-pub use answers::{central, central_by_series};
+pub use answers::{central, central_by_series, grid_of};
 pub use meter::{Meter, OverLimit};
 pub use operations::table_of;
 pub use parts::part_by_series;

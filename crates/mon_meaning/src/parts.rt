@@ -16,9 +16,9 @@ use mon_value::{Grid, Refusal, TimedRows};
 use mql_types::Node;
 use std::alloc::Global;
 
-/// The rows that a part of a query's tree means over series, which are kept in several places, at the times of a grid. They
-/// are a bag: their order says nothing. Only the series of a fetch's metric are looked at. The part's load goes on the
-/// meter, and it is refused exactly where there is no room for it.
+/// The rows that a part of a query's tree means over series, which are kept in several places, at the times of a
+/// grid. They are a bag: their order says nothing. Only the series of a fetch's metric are looked at. The part's load
+/// goes on the meter, and it is refused exactly where there is no room for it.
 pub fn part_by_series(
     alloc: Global,
     part: &Node,

@@ -3,6 +3,7 @@ ghost use Rattle.std.specs.Prelude.{◌≡◌, ◌<◌, ◌+◌, ◌++◌, false
 ghost use Rattle.mql_types.specs.Nodes.{level_of, node_tree};
 ghost use Rattle.mql_types.specs.Pieces as spec;
 ghost use Rattle.mon_meaning.specs.TopParts.{parts_seen, up_to};
+ghost use Rattle.mql_types.specs.ExplanationParts.{nodes};
 ghost use Rattle.mon_meaning.specs.within.PartsToCome.{part_nodes, parts_left, nodes_left};
 ghost use Rattle.mon_meaning.specs.within.PartsToCome as come;
 
@@ -38,8 +39,8 @@ impl<'a> TopPart<'a> {
     }
 }
 
-/// The topmost parts of a tree that are done at a level or below it, from the left. The parts to come are kept in a list,
-/// since a query may have many thousand operations or branches.
+/// The topmost parts of a tree that are done at a level or below it, from the left. The parts to come are kept in a
+/// list, since a query may have many thousand operations or branches.
 #[tactic(auto, using(crate::proofs::PartsToComeLemmas::parts_pushed))]
 pub fn top_parts<'a>(
     alloc: Global,
@@ -67,7 +68,8 @@ fn add_part<'a>(
 ) -> Result<(), OutOfMemory>
     ensures parts { OnOk result (parts_seen parts.new.items ++ parts_left (up_to highest) rest.new.items
         ≡ parts_seen parts.old.items
-        ++ (come.parts_of_part (up_to highest) (come.part_seen part.entry) ++ parts_left (up_to highest) rest.old.items)) }
+        ++ (come.parts_of_part (up_to highest) (come.part_seen part.entry)
+        ++ parts_left (up_to highest) rest.old.items)) }
     ensures less { OnOk result (nodes_left rest.new.items < nodes_left rest.old.items + part_nodes part.entry) }
 {
     if is_up_to(part.part.info().level, highest) {
@@ -90,7 +92,7 @@ fn add_below<'a>(
         ≡ parts_seen parts.old.items
         ++ (spec.top_parts (up_to highest) (node_tree node.now) ++ parts_left (up_to highest) rest.old.items)) }
     ensures less { OnOk result (nodes_left rest.new.items
-        < nodes_left rest.old.items + come.nodes (node_tree node.now)) }
+        < nodes_left rest.old.items + nodes (node_tree node.now)) }
 {
     match node {
         Node::Fetch { .. } | Node::Align { .. } => parts.push(TopPart::of_rows(node))?,

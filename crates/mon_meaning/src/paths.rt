@@ -1,7 +1,8 @@
 // The way down a typed tree to what its rows come from.
 ghost use Rattle.std.specs.Prelude.{◌≡◌, ◌<◌, IfOk, IfSome, IsNone};
 ghost use Rattle.mql_types.specs.Nodes.{node_tree};
-ghost use Rattle.mon_meaning.specs.within.Paths.{first_input, IsSource, Leads, node_count, trees_of};
+ghost use Rattle.mql_types.specs.ExplanationParts.{nodes};
+ghost use Rattle.mon_meaning.specs.within.Paths.{first_input, IsSource, Leads, trees_of};
 
 use mon_value::OutOfMemory;
 use mql_types::Node;
@@ -34,7 +35,7 @@ pub(crate) fn path_down<'a>(alloc: Global, tree: &'a Node) -> Result<Path<'a>, O
 // What rows flow in first; none into a fetch or an alignment.
 fn input_of(node: &Node) -> Option<&Node>
     ensures input { IfSome result (λ input. node_tree input.now ≡ first_input (node_tree node.now)) }
-    ensures smaller { IfSome result (λ input. node_count (node_tree input.now) < node_count (node_tree node.now)) }
+    ensures smaller { IfSome result (λ input. nodes (node_tree input.now) < nodes (node_tree node.now)) }
     ensures source { IsNone result → IsSource (node_tree node.now) }
 {
     match node {

@@ -29,7 +29,8 @@ pub fn piece_of(alloc: Global, part: &TopPart<'_>, rows: TimedRows) -> Result<Pi
 
 // The rows of a table that come first at each time.
 fn cut_table(alloc: Global, most: u32, column: u32, table: Table) -> Result<Table, OutOfMemory>
-    ensures cut { IfOk result (λ cut. cut ≡ record { columns = table.columns; rows = spec.top_rows most column table.rows }) }
+    ensures cut { IfOk result (λ cut.
+        cut ≡ record { columns = table.columns; rows = spec.top_rows most column table.rows }) }
 {
     let Table { columns, rows } = table;
     let rows = top_rows(alloc, most, column, rows)?;

@@ -13,8 +13,8 @@ use mon_value::{Refusal, TimedRows};
 use mql_types::Node;
 use std::alloc::Global;
 
-/// The rows of an operation on those of its input, or on those of its left side and its right one. The pairs of a join are
-/// counted, and more than there is room for are not made. Rows move.
+/// The rows of an operation on those of its input, or on those of its left side and its right one. The pairs of a
+/// join are counted, and more than there is room for are not made. Rows move.
 pub fn operation_rows(
     alloc: Global,
     node: &Node,

@@ -1,5 +1,6 @@
 -- Counts that are read one after another.
-use Rattle.std.proofs.Common.{◌≡◌, ℕ, zero, suc, ◌+◌, ◌<◌, List, [], ◌∷◌, ◌++◌, length, get_or, take, Option, Some, None, refl, ap, arith, option_map}
+use Rattle.std.proofs.Common.{◌≡◌, ℕ, zero, suc, ◌+◌, ◌<◌, List, [], ◌∷◌, ◌++◌, length, get_or, take, Option, Some}
+use Rattle.std.proofs.Common.{None, refl, ap, arith, option_map}
 use Rattle.std.specs.Option.{option_zip}
 use Rattle.std.proofs.lemmas.List.{take_more}
 use Rattle.std.proofs.lemmas.Option.{same_Some}
@@ -32,11 +33,13 @@ counts_of-push (t ∷ texts) text counts count h k =
 pub counts_of-more : (texts : List (List ℕ)) (i : ℕ) (text counts : List ℕ) (count : ℕ) → i < length texts
     → text ≡ get_or texts i text → counts_of (take i texts) ≡ Some counts → count_of text ≡ Some count
     → counts_of (take (i + 1) texts) ≡ Some (counts ++ count ∷ [])
-counts_of-more texts i text counts count l e h k = rw (take_more texts i text l, ← e) (counts_of-push (take i texts) text counts count h k)
+counts_of-more texts i text counts count l e h k = rw (take_more texts i text l, ← e)
+    (counts_of-push (take i texts) text counts count h k)
 
 -- a text that spells no count
 pub counts_of-none : (texts : List (List ℕ)) (i : ℕ) (text : List ℕ) → i < length texts
     → text ≡ get_or texts i text → count_of text ≡ None → counts_of texts ≡ None
 counts_of-none [] i text l e k = absurd (omega arith)
 counts_of-none (t ∷ texts) zero text l e k = let f : count_of t ≡ None = rw (← e) k in rw f
-counts_of-none (t ∷ texts) (suc i) text l e k = rw (counts_of-none texts i text (omega arith) e k) (joined-none (count_of t))
+counts_of-none (t ∷ texts) (suc i) text l e k = rw (counts_of-none texts i text (omega arith) e k)
+    (joined-none (count_of t))

@@ -1,5 +1,7 @@
 -- Fields that are read one after another.
-use Rattle.std.proofs.Common.{◌≡◌, ◌∙◌, ℕ, zero, suc, ◌+◌, ◌<◌, List, [], ◌∷◌, ◌++◌, length, get_or, drop, Option, Some, None, Result, Ok, Err, refl, sym, ap, arith, append_assoc, IsSome, option_map, drop-cons, Bor, inl, inr, add-one, eq-eqb}
+use Rattle.std.proofs.Common.{◌≡◌, ◌∙◌, ℕ, zero, suc, ◌+◌, ◌<◌, List, [], ◌∷◌, ◌++◌, length, get_or, drop, Option}
+use Rattle.std.proofs.Common.{Some, None, Result, Ok, Err, refl, sym, ap, arith, append_assoc, IsSome, option_map}
+use Rattle.std.proofs.Common.{drop-cons, Bor, inl, inr, add-one, eq-eqb}
 use Rattle.std.proofs.lemmas.Bool.{cases_lt}
 use Rattle.csv.specs.Records.{field_at}
 use Rattle.mon_value.specs.declared.values.FieldValue.{FieldValue}
@@ -58,16 +60,25 @@ cell_here cells place i cell e =
     drop_at cells (place + i) cell e ∙ ap (λ n. cell ∷ drop n cells) k
 
 -- one more field
-pub fields_more : (n place i : ℕ) (fields : List Field) (cells : List (List ℕ)) (values : List FieldValue) (field : Field) (cell : List ℕ) (value : FieldValue)
+pub fields_more : (n place i : ℕ) (fields : List Field) (cells : List (List ℕ)) (values : List FieldValue)
+    (field : Field) (cell : List ℕ) (value : FieldValue)
     → i < length fields → field ≡ get_or fields i field → field_at cells (place + i) ≡ Some cell
     → field_of field.of cell ≡ Some value
-    → behind values (fields_read (n + i) (drop i fields) (drop (place + i) cells)) ≡ behind (values ++ value ∷ []) (fields_read (n + (i + 1)) (drop (i + 1) fields) (drop (place + (i + 1)) cells))
+    → behind values (fields_read (n + i) (drop i fields) (drop (place + i) cells)) ≡ behind (values ++ value ∷ [])
+    (fields_read (n + (i + 1)) (drop (i + 1) fields) (drop (place + (i + 1)) cells))
 fields_more n place i fields cells values field cell value l at_field at_cell is_value =
     let k : n + i + 1 ≡ n + (i + 1) = omega arith in
-    rw (item_here fields i field l at_field, cell_here cells place i cell at_cell, fields_next (n + i) field (drop (i + 1) fields) cell (drop (place + (i + 1)) cells) value is_value, k) (behind-behind values (value ∷ []) _)
+    rw (
+      item_here fields i field l at_field,
+      cell_here cells place i cell at_cell,
+      fields_next (n + i) field (drop (i + 1) fields) cell (drop (place + (i + 1)) cells) value is_value,
+      k,
+    )
+    (behind-behind values (value ∷ []) _)
 
 -- a field whose cell spells none
-pub fields_bad : (n place i : ℕ) (fields : List Field) (cells : List (List ℕ)) (values : List FieldValue) (field : Field) (cell : List ℕ)
+pub fields_bad : (n place i : ℕ) (fields : List Field) (cells : List (List ℕ)) (values : List FieldValue)
+    (field : Field) (cell : List ℕ)
     → i < length fields → field ≡ get_or fields i field → field_at cells (place + i) ≡ Some cell
     → field_of field.of cell ≡ None
     → behind values (fields_read (n + i) (drop i fields) (drop (place + i) cells)) ≡ Err (fault.BadField (n + i))
@@ -93,7 +104,8 @@ pub leading_at : (cells : List (List ℕ)) (a b c d e : List ℕ) → field_at c
     → field_at cells 1 ≡ Some b → field_at cells 2 ≡ Some c → field_at cells 3 ≡ Some d
     → field_at cells 4 ≡ Some e → cells ≡ a ∷ b ∷ c ∷ d ∷ e ∷ drop 5 cells
 leading_at cells a b c d e at0 at1 at2 at3 at4 =
-    drop_at cells 0 a at0 ∙ ap (λ rest. a ∷ rest) (drop_at cells 1 b at1 ∙ ap (λ rest. b ∷ rest) (drop_at cells 2 c at2 ∙ ap (λ rest. c ∷ rest) (drop_at cells 3 d at3 ∙ ap (λ rest. d ∷ rest) (drop_at cells 4 e at4))))
+    drop_at cells 0 a at0 ∙ ap (λ rest. a ∷ rest) (drop_at cells 1 b at1 ∙ ap (λ rest. b ∷ rest) (drop_at cells 2 c at2
+    ∙ ap (λ rest. c ∷ rest) (drop_at cells 3 d at3 ∙ ap (λ rest. d ∷ rest) (drop_at cells 4 e at4))))
 
 -- the cell at a place where a look-up found it
 pub found_at : (cells : List (List ℕ)) (k : ℕ) (found : Option (Bor (List ℕ))) (cell : Bor (List ℕ))

@@ -1,5 +1,6 @@
 -- What passes a test.
-use Rattle.std.proofs.Common.{◌≡◌, ◌∙◌, ℕ, ℤ, pos, negsuc, ◌&&◌, ◌^◌, int_le, int_lt, List, Bool, true, false, cond, Option, Some, None, option_map, refl, sym, ap, subst}
+use Rattle.std.proofs.Common.{◌≡◌, ◌∙◌, ℕ, ℤ, pos, negsuc, ◌&&◌, ◌^◌, int_le, int_lt, List, Bool, true, false, cond}
+use Rattle.std.proofs.Common.{Option, Some, None, option_map, refl, sym, ap, subst}
 use Rattle.std.specs.Option.{option_zip}
 use Rattle.std.proofs.lemmas.Bool.{and_parts, false_from_ne_true, false≢true}
 use Rattle.std.proofs.lemmas.Option.{cond_some}
@@ -61,14 +62,16 @@ zip_none (Some x) = refl
 
 -- times that fit are numbers of 64 bits
 pub fit_numbers : (kind : Kind) (a b : Option ℤ)
-    → option_filter (λ times. times_fit kind times.0 times.1) (option_zip (option_filter is_number a) (option_filter is_number b))
+    → option_filter (λ times. times_fit kind times.0 times.1) (option_zip (option_filter is_number a)
+    (option_filter is_number b))
     ≡ option_filter (λ times. times_fit kind times.0 times.1) (option_zip a b)
 fit_numbers kind None b = refl
 fit_numbers kind (Some a) None = rw (zip_none (option_filter is_number (Some a))) refl
 fit_numbers kind (Some a) (Some b) = fit_ints kind a b (is_number a) (is_number b) refl refl
 
 pub times_of-ints : (kind : Kind) (start end : List ℕ)
-    → times_of kind start end ≡ option_filter (λ times. times_fit kind times.0 times.1) (option_zip (int_of start) (int_of end))
+    → times_of kind start end ≡ option_filter (λ times. times_fit kind times.0 times.1)
+    (option_zip (int_of start) (int_of end))
 times_of-ints kind start end = sym (fit_numbers kind (number_of start) (number_of end))
 
 -- a number's cell spells a value exactly where it spells a number of 64 bits
@@ -77,10 +80,12 @@ value_of-int text = option_filter-map value.Int (value_fits of.Int) (number_of t
 
 pub value_of-bool : (text : List ℕ) → value_of of.Bool text ≡ option_map (λ b. value.Bool b) (truth_of text)
 value_of-bool text =
-    option_filter-map value.Bool (value_fits of.Bool) (truth_of text) ∙ ap (option_map value.Bool) (option_filter-all (truth_of text))
+    option_filter-map value.Bool (value_fits of.Bool) (truth_of text) ∙ ap (option_map value.Bool)
+    (option_filter-all (truth_of text))
 
 pub value_of-dist : (bounds : List ℤ) (text : List ℕ)
-    → value_of (of.Dist bounds) text ≡ option_map (λ counts. value.Dist counts) (option_filter (counts_fit bounds) (counts_in text))
+    → value_of (of.Dist bounds) text ≡ option_map (λ counts. value.Dist counts) (option_filter (counts_fit bounds)
+    (counts_in text))
 value_of-dist bounds text = option_filter-map value.Dist (value_fits (of.Dist bounds)) (counts_in text)
 
 pub field_of-int : (text : List ℕ) → field_of type.Int text ≡ option_map (λ z. field.Int z) (int_of text)
@@ -88,7 +93,8 @@ field_of-int text = option_filter-map field.Int (field_fits type.Int) (number_of
 
 pub field_of-bool : (text : List ℕ) → field_of type.Bool text ≡ option_map (λ b. field.Bool b) (truth_of text)
 field_of-bool text =
-    option_filter-map field.Bool (field_fits type.Bool) (truth_of text) ∙ ap (option_map field.Bool) (option_filter-all (truth_of text))
+    option_filter-map field.Bool (field_fits type.Bool) (truth_of text) ∙ ap (option_map field.Bool)
+    (option_filter-all (truth_of text))
 
 pub ruleset times = (times_of-ints)
 

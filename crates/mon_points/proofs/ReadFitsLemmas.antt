@@ -1,5 +1,6 @@
 -- Each row that is read is of schemas that are held.
-use Rattle.std.proofs.Common.{◌≡◌, ◌∙◌, ℕ, ℤ, ◌+◌, ◌&&◌, Bool, true, false, cond, List, [], ◌∷◌, length, map, drop, Option, Some, None, Result, Ok, Err, refl, subst, ap}
+use Rattle.std.proofs.Common.{◌≡◌, ◌∙◌, ℕ, ℤ, ◌+◌, ◌&&◌, Bool, true, false, cond, List, [], ◌∷◌, length, map, drop}
+use Rattle.std.proofs.Common.{Option, Some, None, Result, Ok, Err, refl, subst, ap}
 use Rattle.std.specs.List.{AllByRecursion, list_all}
 use Rattle.std.specs.Option.{ok_or, option_zip}
 use Rattle.std.specs.Str.{is_utf8}
@@ -19,7 +20,8 @@ use Rattle.mon_schema.specs.SchemaLists.{SchemaLists, first_named, target_named,
 use Rattle.mon_schema.specs.Fits.{field_fits, fields_fit, fits, fits_both, times_fit, value_fits}
 use Rattle.mon_points.specs.Cells.{field_in, field_of, times_of, value_in, value_of}
 use Rattle.mon_points.specs.Fitting.{ReadFits}
-use Rattle.mon_points.specs.Records.{field_cells, fields_read, key_read, point_read, read_as, reads_of, record_read, row_read}
+use Rattle.mon_points.specs.Records.{field_cells, fields_read, key_read, point_read, read_as, reads_of, record_read}
+use Rattle.mon_points.specs.Records.{row_read}
 use Rattle.mon_points.specs.declared.faults.RowFault.{RowFault}
 use Rattle.mon_points.specs.declared.faults.RowFault.TheVariants as fault
 use Rattle.mon_points.specs.declared.records.RowRead.TheVariants as read
@@ -56,7 +58,8 @@ fields_spelled n (field ∷ fields) (cell ∷ cells) values e =
     steps (ok_or (field_of field.of cell) (fault.BadField n)) _ values e (λ v is rest.
     steps (fields_read (n + 1) fields cells) _ values rest (λ vs are all.
     subst (λ ws. fields_fit (field ∷ fields) ws ≡ true) (same_Ok (v ∷ vs) values all)
-    (and_from (field_fits field.of v) (fields_fit fields vs) (option_filter-some (field_fits field.of) (field_in field.of cell) v (there _ (fault.BadField n) v is)).0 (fields_spelled (n + 1) fields cells vs are))))
+    (and_from (field_fits field.of v) (fields_fit fields vs) (option_filter-some (field_fits field.of)
+    (field_in field.of cell) v (there _ (fault.BadField n) v is)).0 (fields_spelled (n + 1) fields cells vs are))))
 
 abbrev point_fits : MetricSchema → Point → Bool
 point_fits metric point = times_fit metric.kind point.start point.end && value_fits metric.value point.value
@@ -70,8 +73,10 @@ point_spelled metric start end text point e =
     let made : Point = record { start = times.0; end = times.1; value = v } in
     subst (λ p. point_fits metric p ≡ true) (same_Ok made point all)
     (and_from (times_fit metric.kind times.0 times.1) (value_fits metric.value v)
-    (option_filter-some (λ (pair : ℤ × ℤ). times_fit metric.kind pair.0 pair.1) (option_zip (number_of start) (number_of end)) times (there _ fault.BadTime times is)).0
-    (option_filter-some (value_fits metric.value) (value_in metric.value text) v (there _ fault.BadValue v spelled)).0)))
+    (option_filter-some (λ (pair : ℤ × ℤ). times_fit metric.kind pair.0 pair.1)
+    (option_zip (number_of start) (number_of end)) times (there _ fault.BadTime times is)).0
+    (option_filter-some (value_fits metric.value) (value_in metric.value text) v
+    (there _ fault.BadValue v spelled)).0)))
 
 -- a key has the names of its schemas, and values that fit their fields
 record IsOf (target : TargetSchema) (metric : MetricSchema) (key : SeriesKey) : Type 0 where
@@ -84,12 +89,19 @@ key_spelled : (target : TargetSchema) (metric : MetricSchema) (cells : List (Lis
 unfolding key_read
 key_spelled target metric cells key e =
     steps (fields_read 1 target.fields cells) _ key e (λ of_target are rest.
-    steps (fields_read (length target.fields + 1) metric.fields (drop (length target.fields) cells)) _ key rest (λ of_metric others all.
-    let made : SeriesKey = record { target = record { schema = target.name; fields = of_target }; metric = metric.name; fields = of_metric } in
+    steps (fields_read (length target.fields + 1) metric.fields (drop (length target.fields) cells)) _ key rest
+    (λ of_metric others all.
+    let made : SeriesKey = record {
+      target = record { schema = target.name; fields = of_target };
+      metric =
+          metric.name;
+      fields = of_metric;
+    } in
     subst (IsOf target metric) (same_Ok made key all) (record {
       schema = refl;
       name = refl;
-      fields = and_from (fields_fit target.fields of_target) (fields_fit metric.fields of_metric) (fields_spelled 1 target.fields cells of_target are) (fields_spelled _ metric.fields _ of_metric others);
+      fields = and_from (fields_fit target.fields of_target) (fields_fit metric.fields of_metric)
+          (fields_spelled 1 target.fields cells of_target are) (fields_spelled _ metric.fields _ of_metric others);
     })))
 
 -- ---- rows
@@ -100,11 +112,14 @@ row_of : (schemas : SchemaLists) (target : TargetSchema) (metric : MetricSchema)
     → point_fits metric point ≡ true → fits schemas (record { key = key; point = point }) ≡ true
 row_of schemas target metric key point held measured is fitting =
     let row : Row = record { key = key; point = point } in
-    let t : target_named key.target.schema schemas.targets ≡ Some target = ap (λ n. target_named n schemas.targets) is.schema ∙ held in
-    let m : metric_named key.metric schemas.metrics ≡ Some metric = ap (λ n. metric_named n schemas.metrics) is.name ∙ measured in
+    let t : target_named key.target.schema schemas.targets ≡ Some target = ap (λ n. target_named n schemas.targets)
+    is.schema ∙ held in
+    let m : metric_named key.metric schemas.metrics ≡ Some metric = ap (λ n. metric_named n schemas.metrics) is.name
+    ∙ measured in
     ap (λ found. fits_both found (metric_named key.metric schemas.metrics) row) t
     ∙ (ap (λ found. fits_both (Some target) found row) m
-    ∙ and_from (fields_fit target.fields key.target.fields && fields_fit metric.fields key.fields) (point_fits metric point) is.fields fitting)
+    ∙ and_from (fields_fit target.fields key.target.fields && fields_fit metric.fields key.fields)
+    (point_fits metric point) is.fields fitting)
 
 row_fits : (schemas : SchemaLists) (cells : List (List ℕ)) (row : Row) → row_read schemas cells ≡ Ok row
     → fits schemas row ≡ true
@@ -143,7 +158,10 @@ record_fits schemas false row all = tt
 all_fit : (schemas : SchemaLists) (rows : List (List (List ℕ)))
     → AllByRecursion (ReadFits schemas) (map (record_read schemas) rows)
 all_fit schemas [] = tt
-all_fit schemas (cells ∷ rows) = (record_fits schemas (list_all is_utf8 cells) (row_read schemas cells) (row_fits schemas cells), all_fit schemas rows)
+all_fit schemas (cells ∷ rows) = (
+  record_fits schemas (list_all is_utf8 cells) (row_read schemas cells) (row_fits schemas cells),
+  all_fit schemas rows,
+)
 
 -- every row that is read from a file fits its schemas
 pub reads_fit : (schemas : SchemaLists) (bytes : List ℕ) → AllByRecursion (ReadFits schemas) (reads_of schemas bytes)

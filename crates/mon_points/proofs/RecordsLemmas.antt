@@ -1,11 +1,14 @@
 -- Records that a reader takes one after another are all records of the text, and each takes a byte at least.
-use Rattle.std.proofs.Common.{◌≡◌, ◌∙◌, ℕ, zero, suc, ◌+◌, ◌<◌, ◌≤◌, Bool, true, false, cond, List, [], ◌∷◌, length, map, Option, Some, None, Bor, refl, sym, ap, subst, arith}
+use Rattle.std.proofs.Common.{◌≡◌, ◌∙◌, ℕ, zero, suc, ◌+◌, ◌<◌, ◌≤◌, Bool, true, false, cond, List, [], ◌∷◌, length}
+use Rattle.std.proofs.Common.{map, Option, Some, None, Bor, refl, sym, ap, subst, arith}
 use Rattle.std.specs.Prelude.{◌==◌}
 use Rattle.std.proofs.lemmas.Bool.{false≢true}
 use Rattle.std.proofs.lemmas.List.{length-map}
 use Rattle.std.proofs.lemmas.Option.{cond_some, same_Some}
-use Rattle.csv.specs.Machine.{Read, ends_at_end, ends_with, field_after, fields_after, in_field, is_end, next_record, start_field, start_record, step}
-use Rattle.csv.specs.Reading.{NextIs, Reached, Ready, ReadRecord, ReadsNext, default_config, is_bom, pending_of, records, records_from, records_next, source_of, strip_bom}
+use Rattle.csv.specs.Machine.{Read, ends_at_end, ends_with, field_after, fields_after, in_field, is_end, next_record}
+use Rattle.csv.specs.Machine.{start_field, start_record, step}
+use Rattle.csv.specs.Reading.{NextIs, Reached, Ready, ReadRecord, ReadsNext, default_config, is_bom, pending_of}
+use Rattle.csv.specs.Reading.{records, records_from, records_next, source_of, strip_bom}
 use Rattle.csv.specs.declared.parser.Action.{Action}
 use Rattle.csv.specs.declared.parser.Action.TheVariants as act
 use Rattle.csv.specs.declared.parser.State.{State}
@@ -30,7 +33,8 @@ pub unread_length-less : (old new : Option (List ℕ)) (xs rest : List ℕ) → 
 unread_length-less old new xs rest e f less = rw (e, f) less
 
 -- The reader stands behind some records of the text, and these are what they read as.
-pub record IsReading (schemas : SchemaLists) (bytes : List ℕ) (reads : List RowRead) (reader : Reader (Bor (List ℕ))) : Type 0 where
+pub record IsReading (schemas : SchemaLists) (bytes : List ℕ) (reads : List RowRead) (reader : Reader (Bor (List ℕ))) :
+    Type 0 where
   pub plain : reader.trim ≡ trim.None
   pub ready : Ready reader
   pub config : reader.config ≡ default_config
@@ -75,7 +79,8 @@ step-between state.InField c = in_field-between c
 step-between state.InQuoted c = one_of (c == 34) (state.AfterQuote, act.Skip) (state.InQuoted, act.Copy) no_end no_end
 step-between state.InEscape c = no_end
 step-between state.AfterQuote c = one_of (c == 34) (state.InQuoted, act.Copy) _ no_end (in_field-between c)
-step-between state.InComment c = one_of (c == 10) (state.StartRecord, act.Skip) (state.InComment, act.Skip) no_end no_end
+step-between state.InComment c = one_of (c == 10) (state.StartRecord, act.Skip) (state.InComment, act.Skip) no_end
+    no_end
 step-between state.AfterCr c = one_of (c == 10) (state.StartRecord, act.Skip) _ no_end (start_record-between c)
 
 -- what is left behind a record of a text of n bytes
@@ -85,9 +90,14 @@ record IsBehind (n : ℕ) (p : Read) : Type 0 where
 
 by_end : (s : State) (c n : ℕ) (fields : List (List ℕ)) (xs : List ℕ) (later : Option Read) (b : Bool) (p : Read)
     → is_end (step default_config s c).1 ≡ b → length xs ≤ n
-    → cond b (Some (fields, (step default_config s c).0, xs)) later ≡ Some p → (later ≡ Some p → IsBehind n p) → IsBehind n p
+    → cond b (Some (fields, (step default_config s c).0, xs)) later ≡ Some p → (later ≡ Some p → IsBehind n p)
+    → IsBehind n p
 by_end s c n fields xs later true p end l e more =
-    subst (IsBehind n) (same_Some (fields, (step default_config s c).0, xs) p e) record { between = step-between s c end; left = l }
+    subst (IsBehind n) (same_Some (fields, (step default_config s c).0, xs) p e) record {
+      between = step-between s c
+          end;
+      left = l;
+    }
 by_end s c n fields xs later false p end l e more = more e
 
 behind : (n : ℕ) (s : State) (fields : List (List ℕ)) (field xs : List ℕ) (p : Read)
@@ -131,10 +141,12 @@ reads-less : (s s2 : State) (xs rest : List ℕ) (after : Option (List ℕ)) (fi
     → ReadsNext default_config s (Some xs) after true fields s2 → after ≡ Some rest → length rest < length xs
 reads-less s s2 xs rest None fields between next e = absurd cc
 reads-less s s2 xs rest (Some ys) fields between next e =
-    let less = next-less (next_record default_config s [] [] xs) (length xs) fields s2 ys (λ p is. (took s xs p between is).0) next in
+    let less = next-less (next_record default_config s [] [] xs) (length xs) fields s2 ys
+    (λ p is. (took s xs p between is).0) next in
     rw (← same_Some ys rest e) less
 
-pub read-less : (bytes : List ℕ) (taken : List (List (List ℕ))) (old new : Reader (Bor (List ℕ))) (fields : List (List ℕ)) (xs rest : List ℕ)
+pub read-less : (bytes : List ℕ) (taken : List (List (List ℕ))) (old new : Reader (Bor (List ℕ)))
+    (fields : List (List ℕ)) (xs rest : List ℕ)
     → old.config ≡ default_config → unread old ≡ Some xs → unread new ≡ Some rest
     → Reached default_config state.StartRecord (strip_bom bytes) taken old.state xs
     → ReadRecord (λ bytes. Some bytes.now) old new true fields → length rest < length xs
@@ -201,4 +213,10 @@ strip_bom-few (a ∷ b ∷ c ∷ rest) = bom-few (is_bom a b c) a b c rest
 pub reads_of-few : (schemas : SchemaLists) (bytes : List ℕ) → length (reads_of schemas bytes) ≤ length bytes
 reads_of-few schemas bytes =
     let xs = strip_bom bytes in
-    omega (arith, length-map {A = List (List ℕ)} {B = RowRead}, strip_bom-few bytes, records_from-few (length xs + 1) state.StartRecord xs refl)
+    omega (
+      arith,
+      length-map {A = List (List ℕ)} {B = RowRead},
+      strip_bom-few bytes,
+      records_from-few (length xs + 1)
+          state.StartRecord xs refl,
+    )

@@ -1,5 +1,6 @@
 -- A key that a record's cells spell is the key that they read as.
-use Rattle.std.proofs.Common.{◌≡◌, ℕ, ◌+◌, ◌<◌, ◌≤◌, ◌&&◌, true, false, List, [], ◌∷◌, length, get_or, drop, Option, Some, None, Ok, refl, ap, arith}
+use Rattle.std.proofs.Common.{◌≡◌, ℕ, ◌+◌, ◌<◌, ◌≤◌, ◌&&◌, true, false, List, [], ◌∷◌, length, get_or, drop, Option}
+use Rattle.std.proofs.Common.{Some, None, Ok, refl, ap, arith}
 use Rattle.std.proofs.lemmas.Bool.{and_parts, false_from_ne_true, false≢true}
 use Rattle.std.proofs.lemmas.List.{drop_all}
 use Rattle.csv.specs.Records.{field_at}
@@ -27,7 +28,8 @@ spells_fields-read n (field ∷ fields) cells [] e = absurd (false≢true e)
 spells_fields-read n (field ∷ fields) [] (value ∷ values) e = absurd (false≢true e)
 spells_fields-read n (field ∷ fields) (cell ∷ cells) (value ∷ values) e =
     let parts = and_parts (spells_field field.of cell value) (spells_fields fields cells values) e in
-    rw (is_value-some (field_of field.of cell) value parts.0, spells_fields-read (n + 1) fields cells values parts.1) refl
+    rw (is_value-some (field_of field.of cell) value parts.0, spells_fields-read (n + 1) fields cells values parts.1)
+    refl
 
 pub spells_key-read : (target : TargetSchema) (metric : MetricSchema) (cells : List (List ℕ)) (key : SeriesKey)
     → spells_key target metric cells key ≡ true → key_read target metric cells ≡ Ok key
@@ -36,7 +38,8 @@ spells_key-read target metric cells key e =
     let of_target = spells_fields target.fields cells key.target.fields in
     let others = drop (length target.fields) cells in
     let of_metric = spells_fields metric.fields others key.fields in
-    let both = and_parts (same_text key.target.schema target.name && of_target) (same_text key.metric metric.name && of_metric) e in
+    let both = and_parts (same_text key.target.schema target.name && of_target) (same_text key.metric metric.name
+    && of_metric) e in
     let first = and_parts (same_text key.target.schema target.name) of_target both.0 in
     let second = and_parts (same_text key.metric metric.name) of_metric both.1 in
     let schema = (same_text-Decides key.target.schema target.name).0 first.0 in
@@ -57,7 +60,8 @@ pub spells_fields-more : (place i : ℕ) (fields : List Field) (cells : List (Li
     ≡ (spells_field field.of cell value
     && spells_fields (drop (i + 1) fields) (drop (place + (i + 1)) cells) (drop (i + 1) values))
 spells_fields-more place i fields cells values field cell value l m at_field at_value at_cell =
-    rw (item_here fields i field l at_field, cell_here cells place i cell at_cell, item_here values i value m at_value) refl
+    rw (item_here fields i field l at_field, cell_here cells place i cell at_cell, item_here values i value m at_value)
+    refl
 
 -- no field more
 pub spells_fields-none : (i : ℕ) (fields : List Field) (cells : List (List ℕ)) (values : List FieldValue)

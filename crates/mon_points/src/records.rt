@@ -186,7 +186,8 @@ fn read_point(
     metric: &MetricSchema,
     leading: &Leading<'_>,
 ) -> Result<Point, Refusal<RowFault>>
-    ensures point { Gives result (point_read metric.now leading.now.start.now leading.now.end.now leading.now.value.now) }
+    ensures point { Gives result
+        (point_read metric.now leading.now.start.now leading.now.end.now leading.now.value.now) }
 {
     let Some((start, end)) = read_times(metric.kind, leading.start, leading.end) else {
         return Err(Refusal::Fault(RowFault::BadTime));

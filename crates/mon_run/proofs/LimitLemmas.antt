@@ -1,5 +1,6 @@
 -- The numbers of a configuration are within what the leaves and the meaning ask.
-use Rattle.std.proofs.Common.{◌≡◌, ◌<◌, ◌≤◌, ◌==◌, ◌||◌, ◌&&◌, ℕ, Bool, true, false, nat_le, List, [], ◌∷◌, refl, sym, subst, arith}
+use Rattle.std.proofs.Common.{◌≡◌, ◌<◌, ◌≤◌, ◌==◌, ◌||◌, ◌&&◌, ℕ, Bool, true, false, nat_le, List, [], ◌∷◌, refl, sym}
+use Rattle.std.proofs.Common.{subst, arith}
 use Rattle.std.specs.List.{AllByRecursion, list_any}
 use Rattle.std.proofs.lemmas.Bool.Decides.{nat_tests}
 use Rattle.mon_config.specs.Numbers.{AreLawful, is_limit}
@@ -13,7 +14,8 @@ Fits n = (0 < n) × (n ≤ 4096)
 equal : (n m : ℕ) → (n == m) ≡ true → n ≡ m
 equal n m e = grind (arith, nat_tests)
 
-one_fits : (n : ℕ) (powers : List ℕ) → AllByRecursion Fits powers → list_any (λ power. n == power) powers ≡ true → Fits n
+one_fits : (n : ℕ) (powers : List ℕ) → AllByRecursion Fits powers → list_any (λ power. n == power) powers ≡ true
+    → Fits n
 one_fits n [] all some = absurd cc
 one_fits n (power ∷ powers) all some = by (n == power) refl some (λ rest. one_fits n powers all.1 rest)
   where

@@ -18,7 +18,8 @@ use Rattle.mon_run.specs.declared.outcome.LineFault.TheVariants as fault
 
 pub goes_by_tree : (text : List ℕ) → GoesByTree text
 goes_by_tree text config rows moment tree spells =
-    ap (λ (answer : Result PipeTree ParseFault). refused_as fault.Parse answer >>= tree_answer config rows moment) (text_complete text tree spells)
+    ap (λ (answer : Result PipeTree ParseFault). refused_as fault.Parse answer >>= tree_answer config rows moment)
+    (text_complete text tree spells)
 
 abbrev refusal_of : ParseFault → Result PipeTree ParseFault
 refusal_of why = Err why
@@ -34,11 +35,14 @@ text_fault text why is = record {
   long = λ more. same_fault why too_long (sym (long_fault text (Err (refusal.Fault why)) is more));
 }
 
-refused_by : (text : List ℕ) (answer : Result PipeTree ParseFault) → text_outcome text ≡ answer → HasNoTree text → IsRefused text
-refused_by text (Ok tree) is none config rows moment = absurd (none tree (subst (λ (a : Result PipeTree ParseFault). IfOk a (λ t. Spells t text)) is (text_sound text)))
+refused_by : (text : List ℕ) (answer : Result PipeTree ParseFault) → text_outcome text ≡ answer → HasNoTree text
+    → IsRefused text
+refused_by text (Ok tree) is none config rows moment =
+    absurd (none tree (subst (λ (a : Result PipeTree ParseFault). IfOk a (λ t. Spells t text)) is (text_sound text)))
 refused_by text (Err why) is none config rows moment = record {
   why = why;
-  refused = ap (λ (answer : Result PipeTree ParseFault). refused_as fault.Parse answer >>= tree_answer config rows moment) is;
+  refused = ap (λ (answer : Result PipeTree ParseFault). refused_as fault.Parse answer >>= tree_answer config rows
+      moment) is;
   fault = text_fault text why is;
 }
 

@@ -1,5 +1,6 @@
 -- What was done, step behind step.
-use Rattle.std.proofs.Common.{◌≡◌, ◌∙◌, ℕ, Bool, true, false, cond, Option, List, [], ◌∷◌, ◌++◌, refl, sym, ap, subst, append_assoc, append-nil}
+use Rattle.std.proofs.Common.{◌≡◌, ◌∙◌, ℕ, Bool, true, false, cond, Option, List, [], ◌∷◌, ◌++◌, refl, sym, ap, subst}
+use Rattle.std.proofs.Common.{append_assoc, append-nil}
 use Rattle.std.specs.List.{flat_map}
 use Rattle.std.proofs.lemmas.Grind.{flat_map-append}
 use Rattle.mon_value.specs.declared.rows.Row.{Row}
@@ -16,14 +17,18 @@ use Rattle.mon_run.specs.within.Stops.{Done, Stops, StopsAtRead, StopsBefore}
 
 -- ---- steps behind steps
 
-items_then : {A : Type 0} (of : Step → List A) (before mid after : List A) (xs ys : List Step) → mid ≡ before ++ flat_map of xs → after ≡ mid ++ flat_map of ys → after ≡ before ++ flat_map of (xs ++ ys)
+items_then : {A : Type 0} (of : Step → List A) (before mid after : List A) (xs ys : List Step) → mid ≡ before
+    ++ flat_map of xs → after ≡ mid ++ flat_map of ys → after ≡ before ++ flat_map of (xs ++ ys)
 items_then {A} of before mid after xs ys first second =
-    second ∙ ap (λ (items : List A). items ++ flat_map of ys) first ∙ append_assoc before (flat_map of xs) (flat_map of ys)
+    second ∙ ap (λ (items : List A). items ++ flat_map of ys) first ∙ append_assoc before (flat_map of xs)
+    (flat_map of ys)
     ∙ ap (λ (items : List A). before ++ items) (sym (flat_map-append of xs ys))
 
-written_items : (before mid after : Option (List ℕ)) (xs ys : List Step) → mid ≡ written_then (flat_map text_in xs) before → after ≡ written_then (flat_map text_in ys) mid → after ≡ written_then (flat_map text_in (xs ++ ys)) before
+written_items : (before mid after : Option (List ℕ)) (xs ys : List Step) → mid ≡ written_then (flat_map text_in xs)
+    before → after ≡ written_then (flat_map text_in ys) mid → after ≡ written_then (flat_map text_in (xs ++ ys)) before
 written_items before mid after xs ys first second =
-    second ∙ ap (written_then (flat_map text_in ys)) first ∙ written_both (flat_map text_in xs) (flat_map text_in ys) before
+    second ∙ ap (written_then (flat_map text_in ys)) first ∙ written_both (flat_map text_in xs) (flat_map text_in ys)
+    before
     ∙ ap (λ (text : List ℕ). written_then text before) (sym (flat_map-append text_in xs ys))
 
 pub did_none : (p : Progress) → Did [] p p
@@ -35,7 +40,8 @@ did_none p = record {
   wrote = nothing_written p.sink.written;
 }
 
-pub did_then : {xs ys : List Step} {before mid after : Progress} → Did xs before mid → Did ys mid after → Did (xs ++ ys) before after
+pub did_then : {xs ys : List Step} {before mid after : Progress} → Did xs before mid → Did ys mid after
+    → Did (xs ++ ys) before after
 did_then {xs} {ys} {before} {mid} {after} first second = record {
   files = second.files ∙ first.files;
   asked = items_then read_in before.folder.asked mid.folder.asked after.folder.asked xs ys first.asked second.asked;
@@ -49,21 +55,25 @@ pub did_by : {xs ys : List Step} {before after : Progress} → xs ≡ ys → Did
 did_by {xs} {ys} {before} {after} same did = subst (λ (steps : List Step). Did steps before after) same did
 
 -- three parts
-pub did_front : {xs : List Step} (done : List Step) (step : Step) {before mid after : Progress} → Did xs before mid → Did (done ++ step ∷ []) mid after → Did ((xs ++ done) ++ step ∷ []) before after
+pub did_front : {xs : List Step} (done : List Step) (step : Step) {before mid after : Progress} → Did xs before mid
+    → Did (done ++ step ∷ []) mid after → Did ((xs ++ done) ++ step ∷ []) before after
 did_front {xs} done step first second = did_by (sym (append_assoc xs done (step ∷ []))) (did_then first second)
 
 -- ---- one step
 
 -- only a read was added
-pub read_alone : {step : Step} {before after : Progress} → flat_map row_in (step ∷ []) ≡ [] → flat_map end_in (step ∷ []) ≡ [] → flat_map text_in (step ∷ []) ≡ [] →
-    after.folder.files ≡ before.folder.files → after.folder.asked ≡ before.folder.asked ++ flat_map read_in (step ∷ []) → after.rows ≡ before.rows → after.ends ≡ before.ends → after.sink.written ≡ before.sink.written →
+pub read_alone : {step : Step} {before after : Progress} → flat_map row_in (step ∷ []) ≡ [] → flat_map end_in
+    (step ∷ []) ≡ [] → flat_map text_in (step ∷ []) ≡ [] →
+    after.folder.files ≡ before.folder.files → after.folder.asked ≡ before.folder.asked ++ flat_map read_in (step ∷ [])
+    → after.rows ≡ before.rows → after.ends ≡ before.ends → after.sink.written ≡ before.sink.written →
     Did (step ∷ []) before after
 read_alone {step} {before} {after} row end text files asked rows ends written = record {
   files = files;
   asked = asked;
   rows = rows ∙ sym (append-nil before.rows) ∙ ap (λ (more : List Row). before.rows ++ more) (sym row);
   ends = ends ∙ sym (append-nil before.ends) ∙ ap (λ (more : List LineEnd). before.ends ++ more) (sym end);
-  wrote = written ∙ nothing_written before.sink.written ∙ ap (λ (more : List ℕ). written_then more before.sink.written) (sym text);
+  wrote = written ∙ nothing_written before.sink.written ∙ ap (λ (more : List ℕ). written_then more before.sink.written)
+      (sym text);
 }
 
 -- ---- plans behind steps
@@ -71,38 +81,47 @@ read_alone {step} {before} {after} row end text files asked rows ends written = 
 pub plan_twice : (xs ys : List Step) (rest : Plan) → plan_behind xs (plan_behind ys rest) ≡ plan_behind (xs ++ ys) rest
 plan_twice xs ys rest = ap (λ (steps : List Step). plan steps rest.status) (sym (append_assoc xs ys rest.steps))
 
-pub not_long : (files : Files) (name : List ℕ) (rest : Plan) → is_too_long files name ≡ false → read_plan files name rest ≡ plan_behind (Ask name ∷ []) rest
-not_long files name rest short = ap (λ b. plan_behind (Ask name ∷ []) (cond b (ending 8 (too_long_text name)) rest)) short
+pub not_long : (files : Files) (name : List ℕ) (rest : Plan) → is_too_long files name ≡ false → read_plan files name
+    rest ≡ plan_behind (Ask name ∷ []) rest
+not_long files name rest short = ap (λ b. plan_behind (Ask name ∷ []) (cond b (ending 8 (too_long_text name)) rest))
+    short
 
-pub too_long : (files : Files) (name : List ℕ) (rest : Plan) → is_too_long files name ≡ true → read_plan files name rest ≡ plan_behind (Ask name ∷ []) (ending 8 (too_long_text name))
+pub too_long : (files : Files) (name : List ℕ) (rest : Plan) → is_too_long files name ≡ true → read_plan files name
+    rest ≡ plan_behind (Ask name ∷ []) (ending 8 (too_long_text name))
 too_long files name rest long = ap (λ b. plan_behind (Ask name ∷ []) (cond b (ending 8 (too_long_text name)) rest)) long
 
 -- ---- parts behind steps
 
-pub done_behind : {xs : List Step} {p : Plan} {refused : Bool} {before mid after : Progress} → Did xs before mid → Done p refused mid after → Done (plan_behind xs p) refused before after
+pub done_behind : {xs : List Step} {p : Plan} {refused : Bool} {before mid after : Progress} → Did xs before mid
+    → Done p refused mid after → Done (plan_behind xs p) refused before after
 done_behind did done = record { status = done.status; did = did_then did done.did }
 
-before_behind : {xs : List Step} {p : Plan} {before mid after : Progress} (status : ℕ) (text : List ℕ) → Did xs before mid → StopsBefore p status text mid after → StopsBefore (plan_behind xs p) status text before after
+before_behind : {xs : List Step} {p : Plan} {before mid after : Progress} (status : ℕ) (text : List ℕ)
+    → Did xs before mid → StopsBefore p status text mid after → StopsBefore (plan_behind xs p) status text before after
 before_behind {xs} status text did stops = record {
   done = xs ++ stops.done;
   split = ap (plan_behind xs) stops.split ∙ plan_twice xs stops.done (ending status text);
   did = did_then did stops.did;
 }
 
-read_behind : {xs : List Step} (p : Plan) {before mid after : Progress} (name : List ℕ) → Did xs before mid → StopsAtRead p.steps name mid after → StopsAtRead (plan_behind xs p).steps name before after
+read_behind : {xs : List Step} (p : Plan) {before mid after : Progress} (name : List ℕ) → Did xs before mid
+    → StopsAtRead p.steps name mid after → StopsAtRead (plan_behind xs p).steps name before after
 read_behind {xs} p name did stops = record {
   done = xs ++ stops.done;
   left = stops.left;
-  split = ap (λ (steps : List Step). xs ++ steps) stops.split ∙ sym (append_assoc xs stops.done (Ask name ∷ stops.left));
+  split = ap (λ (steps : List Step). xs ++ steps) stops.split
+      ∙ sym (append_assoc xs stops.done (Ask name ∷ stops.left));
   did = did_front stops.done (Miss name) did stops.did;
 }
 
-cut_behind : {xs : List Step} (p : Plan) {before mid after : Progress} → Did xs before mid → CutShort p.steps mid after → CutShort (plan_behind xs p).steps before after
+cut_behind : {xs : List Step} (p : Plan) {before mid after : Progress} → Did xs before mid → CutShort p.steps mid after
+    → CutShort (plan_behind xs p).steps before after
 cut_behind {xs} p did stops = record {
   done = xs ++ stops.done;
   text = stops.text;
   left = stops.left;
-  split = ap (λ (steps : List Step). xs ++ steps) stops.split ∙ sym (append_assoc xs stops.done (Write stops.text ∷ stops.left));
+  split = ap (λ (steps : List Step). xs ++ steps) stops.split
+      ∙ sym (append_assoc xs stops.done (Write stops.text ∷ stops.left));
   front = stops.front;
   rest = stops.rest;
   cut = stops.cut;
@@ -110,7 +129,8 @@ cut_behind {xs} p did stops = record {
   did = did_front stops.done (Write stops.front) did stops.did;
 }
 
-starved_behind : {xs : List Step} (p : Plan) {before mid after : Progress} → Did xs before mid → Starved p.steps mid after → Starved (plan_behind xs p).steps before after
+starved_behind : {xs : List Step} (p : Plan) {before mid after : Progress} → Did xs before mid → Starved p.steps mid
+    after → Starved (plan_behind xs p).steps before after
 starved_behind {xs} p did stops = record {
   done = xs ++ stops.done;
   left = stops.left;
@@ -118,7 +138,8 @@ starved_behind {xs} p did stops = record {
   did = did_then did stops.did;
 }
 
-pub stops_behind : {xs : List Step} (p : Plan) {before mid : Progress} (after : Progress) (stopped : Stop) → Did xs before mid → Stops p stopped mid after → Stops (plan_behind xs p) stopped before after
+pub stops_behind : {xs : List Step} (p : Plan) {before mid : Progress} (after : Progress) (stopped : Stop)
+    → Did xs before mid → Stops p stopped mid after → Stops (plan_behind xs p) stopped before after
 stops_behind p after stop.Usage did stops = before_behind 1 _ did stops
 stops_behind p after (stop.Config fault) did stops = before_behind 2 _ did stops
 stops_behind p after (stop.Script fault) did stops = before_behind 3 _ did stops
@@ -131,11 +152,27 @@ stops_behind p after (stop.TooLong name) did stops = before_behind 8 _ did stops
 -- ---- stops
 
 -- memory ran out behind steps, in front of what was left
-pub starved : (xs : List Step) (rest : Plan) {before after : Progress} → Did xs before after → Starved (plan_behind xs rest).steps before after
+pub starved : (xs : List Step) (rest : Plan) {before after : Progress} → Did xs before after
+    → Starved (plan_behind xs rest).steps before after
 starved xs rest did = record { done = xs; left = rest.steps; split = refl; did = did }
 
-pub stops_at_miss : (files : Files) (name : List ℕ) (rest : Plan) {before after : Progress} → Did (Miss name ∷ []) before after → StopsAtRead (read_plan files name rest).steps name before after
-stops_at_miss files name rest did = record { done = []; left = (cond (is_too_long files name) (ending 8 (too_long_text name)) rest).steps; split = refl; did = did }
+pub stops_at_miss : (files : Files) (name : List ℕ) (rest : Plan) {before after : Progress} → Did (Miss name ∷ [])
+    before after → StopsAtRead (read_plan files name rest).steps name before after
+stops_at_miss files name rest did =
+    record {
+      done = [];
+      left = (cond (is_too_long files name) (ending 8 (too_long_text name)) rest).steps;
+      split =
+          refl;
+      did = did;
+    }
 
-pub stops_too_long : (files : Files) (name : List ℕ) (rest : Plan) {before after : Progress} → is_too_long files name ≡ true → Did (Ask name ∷ []) before after → StopsBefore (read_plan files name rest) 8 (too_long_text name) before after
-stops_too_long files name rest long did = record { done = Ask name ∷ []; split = too_long files name rest long; did = did }
+pub stops_too_long : (files : Files) (name : List ℕ) (rest : Plan) {before after : Progress} → is_too_long files name
+    ≡ true → Did (Ask name ∷ []) before after → StopsBefore (read_plan files name rest) 8 (too_long_text name) before
+    after
+stops_too_long files name rest long did = record {
+  done = Ask name ∷ [];
+  split = too_long files name rest long;
+  did =
+      did;
+}

@@ -8,7 +8,7 @@ ghost use Rattle.mql_types.specs.Nodes.{typed_tree};
 ghost use Rattle.mql_types.specs.Typing.{typing};
 ghost use Rattle.mon_run.specs.Queries as spec;
 ghost use Rattle.mon_run.specs.QueryTexts.{GoesByTree, HasNoTree, IsRefused};
-ghost use Rattle.mon_store.specs.QueryTypes.{HasType};
+ghost use Rattle.mql_types.specs.Soundness.{IsQueryType};
 ghost use Rattle.mon_store.specs.Stores.{AreSound, accepted_rows};
 ghost use Rattle.mon_table.specs.Tables.{printed_table};
 
@@ -107,7 +107,7 @@ fn table_within(
     moment: i64,
 ) -> Result<Table, Refusal<LineFault>>
     requires sound { AreSound config.now store.now }
-    requires typed { HasType config.now.schemas (typed_tree plan.now.typed) }
+    requires typed { IsQueryType config.now.schemas (typed_tree plan.now.typed) }
     requires moment { pos 0 ≤ℤ moment }
     ensures printed { GivesView printed_table result
         (spec.table_within config.now.limit (typed_tree plan.now.typed) (accepted_rows store.now) moment) }

@@ -1,13 +1,13 @@
 -- What holds of a schema without a fault.
-use Rattle.std.proofs.Common.{◌≡◌, ◌≤◌, ◌||◌, ℕ, nat_lt, count_by, Bool, true, false, not, cond, Option, Some, None, List, [], ◌∷◌, ◌++◌, refl, arith}
+use Rattle.std.proofs.Common.{◌≡◌, ◌||◌, Bool, true, false, not, cond, Option, Some, None}
+use Rattle.std.proofs.Common.{List, [], ◌∷◌, ◌++◌, refl}
 use Rattle.std.specs.Prelude.{is_some}
-use Rattle.std.specs.List.{list_any}
-use Rattle.std.proofs.lemmas.Bool.Decides.{nat_tests}
 use Rattle.mon_value.specs.declared.schemas.TargetSchema.{TargetSchema}
 use Rattle.mon_value.specs.declared.schemas.MetricSchema.{MetricSchema}
 use Rattle.mon_schema.specs.SchemaLists.{SchemaLists, target_named, metric_named}
-use Rattle.mon_schema.specs.Faults.{is_location, target_fault, metric_fault, is_bounded, is_kind_met, is_target_over, is_target_named, is_target_taken, is_metric_over, is_metric_named, is_metric_taken}
-use Rattle.mon_schema.specs.HeldMetrics.{AreHeld, HasNumbers, IsHeld}
+use Rattle.mon_schema.specs.Faults.{target_fault, metric_fault, is_target_over}
+use Rattle.mon_schema.specs.Faults.{is_target_named, is_target_taken, is_metric_over, is_metric_named, is_metric_taken}
+use Rattle.mon_schema.specs.HeldMetrics.{AreHeld, IsHeld}
 use Rattle.mon_schema.specs.HeldTargets.{AllTellLocations, TellsLocation}
 
 -- a chain of tests that ends without a fault has passed the third
@@ -17,16 +17,6 @@ past_third true b c f g h rest nf ng nh e = absurd (nf e)
 past_third false true c f g h rest nf ng nh e = absurd (ng e)
 past_third false false true f g h rest nf ng nh e = absurd (nh e)
 past_third false false false f g h rest nf ng nh e = refl
-
--- and the last two
-past_last : {F : Type 0} (a b c d e : Bool) (f g h i j : F) → cond a (Some f) (cond b (Some g) (cond c (Some h) (cond (not d) (Some i) (cond (not e) (Some j) None)))) ≡ None
-    → (d ≡ true) × (e ≡ true)
-past_last true b c d e f g h i j none = absurd cc
-past_last false true c d e f g h i j none = absurd cc
-past_last false false true d e f g h i j none = absurd cc
-past_last false false false false e f g h i j none = absurd cc
-past_last false false false true false f g h i j none = absurd cc
-past_last false false false true true f g h i j none = (refl, refl)
 
 neither : (a b : Bool) → (a || b) ≡ false → a ≡ false
 neither true b h = absurd cc
@@ -42,48 +32,26 @@ pub target_named-free : (held : SchemaLists) (schema : TargetSchema)
 target_named-free held schema h =
     absent (target_named schema.name held.targets)
     (neither (is_some (target_named schema.name held.targets)) _
-    (past_third (is_target_over held schema) (not (is_target_named schema)) (is_target_taken held schema) _ _ _ _ (λ e. cc) (λ e. cc) (λ e. cc) h))
+    (past_third (is_target_over held schema) (not (is_target_named schema)) (is_target_taken held schema)
+    _ _ _ _ (λ e. cc) (λ e. cc) (λ e. cc) h))
 
 pub metric_named-free : (held : SchemaLists) (metric : MetricSchema)
     → metric_fault held metric ≡ None → metric_named metric.name held.metrics ≡ None
 metric_named-free held metric h =
     absent (metric_named metric.name held.metrics)
     (neither (is_some (metric_named metric.name held.metrics)) _
-    (past_third (is_metric_over held metric) (not (is_metric_named metric)) (is_metric_taken held metric) _ _ _ _ (λ e. cc) (λ e. cc) (λ e. cc) h))
-
--- a metric without a fault, whose bounds are numbers, is one that schemas take
-pub metric_held : (held : SchemaLists) (metric : MetricSchema) → metric_fault held metric ≡ None → HasNumbers metric.value → IsHeld metric
-metric_held held metric none numbers =
-    let last = past_last (is_metric_over held metric) (not (is_metric_named metric)) (is_metric_taken held metric) (is_bounded metric.value) (is_kind_met metric.kind metric.value) _ _ _ _ _ none in
-    record { numbers = numbers; bounded = last.0; met = last.1 }
+    (past_third (is_metric_over held metric) (not (is_metric_named metric)) (is_metric_taken held metric)
+    _ _ _ _ (λ e. cc) (λ e. cc) (λ e. cc) h))
 
 -- a metric more at the end of a map
-pub held_more : (metrics : List MetricSchema) (metric : MetricSchema) → AreHeld metrics → IsHeld metric → AreHeld (metrics ++ metric ∷ [])
+pub held_more : (metrics : List MetricSchema) (metric : MetricSchema) → AreHeld metrics → IsHeld metric
+    → AreHeld (metrics ++ metric ∷ [])
 held_more [] metric all one = (one, tt)
 held_more (first ∷ metrics) metric all one = (all.0, held_more metrics metric all.1 one)
 
--- a chain of tests that ends without a fault has passed the last two
-past_both : {F : Type 0} (a b c d e : Bool) (f g h i j : F) → cond a (Some f) (cond b (Some g) (cond c (Some h) (cond d (Some i) (cond (not e) (Some j) None)))) ≡ None
-    → (d ≡ false) × (e ≡ true)
-past_both true b c d e f g h i j none = absurd cc
-past_both false true c d e f g h i j none = absurd cc
-past_both false false true d e f g h i j none = absurd cc
-past_both false false false true e f g h i j none = absurd cc
-past_both false false false false false f g h i j none = absurd cc
-past_both false false false false true f g h i j none = (refl, refl)
-
-not_more : (n : ℕ) → nat_lt 1 n ≡ false → n ≤ 1
-not_more n e = grind (arith, nat_tests)
-
--- a target schema without a fault tells where its targets are
-pub target_tells : (held : SchemaLists) (schema : TargetSchema) → target_fault held schema ≡ None → TellsLocation schema
-target_tells held schema none =
-    let last = past_both (is_target_over held schema) (not (is_target_named schema)) (is_target_taken held schema)
-    (nat_lt 1 (count_by (λ field. field.location) schema.fields)) (list_any is_location schema.fields) _ _ _ _ _ none in
-    record { once = not_more (count_by (λ field. field.location) schema.fields) last.0; some = last.1 }
-
 -- a target schema more at the end of a map
-pub located_more : (targets : List TargetSchema) (schema : TargetSchema) → AllTellLocations targets → TellsLocation schema
+pub located_more : (targets : List TargetSchema) (schema : TargetSchema) → AllTellLocations targets
+    → TellsLocation schema
     → AllTellLocations (targets ++ schema ∷ [])
 located_more [] schema all one = (one, tt)
 located_more (first ∷ targets) schema all one = (all.0, located_more targets schema all.1 one)

@@ -1,5 +1,6 @@
 -- Entries whose names are alike have the same schemas, and an entry more goes to the end.
-use Rattle.std.proofs.Common.{◌≡◌, ◌∙◌, ℕ, Bool, true, false, cond, List, [], ◌∷◌, ◌++◌, Some, None, Vec, map, refl, sym, ap, subst, nat_eq, append_assoc}
+use Rattle.std.proofs.Common.{◌≡◌, ◌∙◌, ℕ, Bool, true, false, cond, List, [], ◌∷◌, ◌++◌, Some, None, Vec, map, refl}
+use Rattle.std.proofs.Common.{sym, ap, subst, nat_eq, append_assoc}
 use Rattle.std.specs.Cmp.Lexicographic.{pointwise}
 use Rattle.std.specs.List.{AllByRecursion, IsDistinct}
 use Rattle.std.specs.Map.{keys_of, lookup}
@@ -30,7 +31,8 @@ Named S = List ℕ × S
 module _ {S : Type 0} where
   -- ---- what is the same of entries that are alike
 
-  schemas_of_named : (es : List (Entry S)) → map (λ (e : Named S). e.1) (named_entries es) ≡ map (λ (e : Entry S). e.1) es
+  schemas_of_named : (es : List (Entry S)) → map (λ (e : Named S). e.1) (named_entries es) ≡ map (λ (e : Entry S). e.1)
+      es
   schemas_of_named [] = refl
   schemas_of_named (e ∷ es) = ap (λ more. e.1 ∷ more) (schemas_of_named es)
 

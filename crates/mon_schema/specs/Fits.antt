@@ -1,5 +1,6 @@
 -- Which rows are of schemas that are held.
-use Rattle.std.specs.Prelude.{ℕ, ◌+◌, ◌^◌, ◌==◌, ◌&&◌, ℤ, pos, neg_ℤ, int_le, int_lt, Bool, true, false, nat_le, nat_lt, List, length, sum, Option, Some, None}
+use Rattle.std.specs.Prelude.{ℕ, ◌+◌, ◌^◌, ◌==◌, ◌&&◌, ℤ, pos, neg_ℤ, int_le, int_lt, Bool, true, false, nat_le}
+use Rattle.std.specs.Prelude.{nat_lt, List, length, sum, Option, Some, None}
 use Rattle.std.specs.Cmp.Lexicographic.{pointwise}
 use Rattle.std.specs.Ordering.{int_eq}
 use Rattle.mon_value.specs.declared.limits.TheConstants.{LONGEST_TEXT, NUMBER_BITS}

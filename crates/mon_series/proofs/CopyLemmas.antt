@@ -1,5 +1,6 @@
 -- The series of a map, copied one by one into another.
-use Rattle.std.proofs.Common.{◌≡◌, ◌∙◌, Bool, true, false, cond, List, [], ◌∷◌, ◌++◌, Some, None, refl, sym, ap, subst, append_assoc}
+use Rattle.std.proofs.Common.{◌≡◌, ◌∙◌, Bool, true, false, cond, List, [], ◌∷◌, ◌++◌, Some, None, refl, sym, ap, subst}
+use Rattle.std.proofs.Common.{append_assoc}
 use Rattle.std.specs.List.{AllByRecursion, IsDistinct}
 use Rattle.std.specs.Map.{keys_of, lookup}
 use Rattle.std.proofs.lemmas.List.{map-append}
@@ -40,7 +41,8 @@ absent_so_far (d ∷ done) group rest distinct =
     ap (λ b. cond b (Some d.1) (lookup (same_series group.0) done)) apart ∙ absent_so_far done group rest distinct.1
 
 -- a copy more goes to the end
-pub copy_put : {H : Type 0} (made : IndexMap SeriesKey SeriesPoints H) (own key : SeriesKey) (copy series : SeriesPoints) (rest all new : Entries)
+pub copy_put : {H : Type 0} (made : IndexMap SeriesKey SeriesPoints H) (own key : SeriesKey)
+    (copy series : SeriesPoints) (rest all new : Entries)
     → own ≡ key → copy.points ≡ series.points → new ≡ insert_entry derived.eq-value.it made.entries own copy
     → series_held made.entries ++ series_held ((key, series) ∷ rest) ≡ series_held all
     → IsDistinct derived.eq-value.it (keys_of all) → series_held new ++ series_held rest ≡ series_held all
@@ -48,12 +50,15 @@ copy_put made own key copy series rest all new owns points is whole distinct =
     let done : List Group = series_held made.entries in
     let same : derived.eq-value.it ≡ same_series = λ i k. same_test k i in
     let by_series : IsDistinct same_series (keys_of (series_held all)) =
-    subst (λ test. IsDistinct test (keys_of (series_held all))) same (subst (IsDistinct derived.eq-value.it) (sym (keys_held all)) distinct) in
+    subst (λ test. IsDistinct test (keys_of (series_held all))) same (subst (IsDistinct derived.eq-value.it)
+    (sym (keys_held all)) distinct) in
     let unlike : IsDistinct same_series (keys_of (done ++ (key, series.points) ∷ series_held rest)) =
     subst (λ (groups : List Group). IsDistinct same_series (keys_of groups)) (sym whole) by_series in
     let absent : lookup (same_series own) done ≡ None =
-    ap (λ (k : SeriesKey). lookup (same_series k) done) owns ∙ absent_so_far done (key, series.points) (series_held rest) unlike in
-    let none : get derived.eq-value.it made own ≡ None = ap (λ test. lookup test made.entries) (same_test own) ∙ held_none own made.entries absent in
+    ap (λ (k : SeriesKey). lookup (same_series k) done) owns ∙ absent_so_far done (key, series.points)
+    (series_held rest) unlike in
+    let none : get derived.eq-value.it made own ≡ None = ap (λ test. lookup test made.entries) (same_test own)
+    ∙ held_none own made.entries absent in
     let put : series_held new ≡ done ++ (key, series.points) ∷ [] =
     ap series_held (is ∙ insert_entry-new derived.eq-value.it made own copy none)
     ∙ map-append (λ (entry : SeriesKey × SeriesPoints). (entry.0, entry.1.points)) made.entries ((own, copy) ∷ [])

@@ -1,5 +1,6 @@
 -- Points whose ends rise.
-use Rattle.std.proofs.Common.{◌≡◌, inl, inr, ℕ, zero, suc, ◌-◌, ◌<◌, ℤ, ◌<ℤ◌, Bool, List, [], ◌∷◌, ◌++◌, length, get_or, filter, refl, arith, IfSome, option_map}
+use Rattle.std.proofs.Common.{◌≡◌, inl, inr, ℕ, zero, suc, ◌-◌, ◌<◌, ℤ, ◌<ℤ◌, Bool, List, [], ◌∷◌, ◌++◌, length}
+use Rattle.std.proofs.Common.{get_or, filter, refl, arith, IfSome, option_map}
 use Rattle.std.specs.List.{AllByRecursion, slice_get}
 use Rattle.std.specs.Prelude.{int_le}
 use Rattle.std.specs.List.Sorted.{IsPartitionedBy}
@@ -13,19 +14,23 @@ abbrev EndsAfter : ℤ → List Point → Type 0
 EndsAfter end points = AllByRecursion (λ (later : Point). end <ℤ later.end) points
 
 -- what ends after the last point ends after what comes before all points
-before_last : (first end : ℤ) (p : Point) (ps : List Point) → EndsAfter first (p ∷ ps) → IfSome (last_end (p ∷ ps)) (λ last. last <ℤ end) → first <ℤ end
+before_last : (first end : ℤ) (p : Point) (ps : List Point) → EndsAfter first (p ∷ ps) → IfSome (last_end (p ∷ ps))
+    (λ last. last <ℤ end) → first <ℤ end
 before_last first end p [] h l = let k = h.0 in omega (arith, ints)
 before_last first end p (q ∷ ps) h l = before_last first end q ps h.1 l
 
-after_push : (first : ℤ) (ps : List Point) (p : Point) → EndsAfter first ps → first <ℤ p.end → EndsAfter first (ps ++ p ∷ [])
+after_push : (first : ℤ) (ps : List Point) (p : Point) → EndsAfter first ps → first <ℤ p.end → EndsAfter first
+    (ps ++ p ∷ [])
 after_push first [] p h l = (l, tt)
 after_push first (q ∷ ps) p h l = (h.0, after_push first ps p h.1 l)
 
 -- a point that ends after the last one
-pub EndsRise-push : (ps : List Point) (p : Point) → EndsRise ps → IfSome (last_end ps) (λ last. last <ℤ p.end) → EndsRise (ps ++ p ∷ [])
+pub EndsRise-push : (ps : List Point) (p : Point) → EndsRise ps → IfSome (last_end ps) (λ last. last <ℤ p.end)
+    → EndsRise (ps ++ p ∷ [])
 EndsRise-push [] p h l = (tt, tt)
 EndsRise-push (q ∷ []) p h l = ((l, tt), (tt, tt))
-EndsRise-push (q ∷ r ∷ ps) p h l = (after_push q.end (r ∷ ps) p h.0 (before_last q.end p.end r ps h.0 l), EndsRise-push (r ∷ ps) p h.1 l)
+EndsRise-push (q ∷ r ∷ ps) p h l =
+    (after_push q.end (r ∷ ps) p h.0 (before_last q.end p.end r ps h.0 l), EndsRise-push (r ∷ ps) p h.1 l)
 
 -- the end of the last point is at the last place
 pub last_end_at : (ps : List Point) → option_map (λ (p : Point). p.end) (slice_get ps (length ps - 1)) ≡ last_end ps
@@ -35,13 +40,15 @@ last_end_at (p ∷ q ∷ ps) =
     let e : length (p ∷ q ∷ ps) - 1 ≡ suc (length (q ∷ ps) - 1) = omega arith in
     rw e (last_end_at (q ∷ ps))
 
-after_at : (first : ℤ) (ps : List Point) (i : ℕ) (d : Point) → EndsAfter first ps → i < length ps → first <ℤ (get_or ps i d).end
+after_at : (first : ℤ) (ps : List Point) (i : ℕ) (d : Point) → EndsAfter first ps → i < length ps
+    → first <ℤ (get_or ps i d).end
 after_at first [] i d h l = absurd (omega arith)
 after_at first (p ∷ ps) zero d h l = h.0
 after_at first (p ∷ ps) (suc i) d h l = after_at first ps i d h.1 (omega arith)
 
 -- a later point ends later
-rising_at : (ps : List Point) (i j : ℕ) (d : Point) → EndsRise ps → i < j → j < length ps → (get_or ps i d).end <ℤ (get_or ps j d).end
+rising_at : (ps : List Point) (i j : ℕ) (d : Point) → EndsRise ps → i < j → j < length ps → (get_or ps i d).end <ℤ
+    (get_or ps j d).end
 rising_at [] i j d h l k = absurd (omega arith)
 rising_at (p ∷ ps) i zero d h l k = absurd (omega arith)
 rising_at (p ∷ ps) zero (suc j) d h l k = after_at p.end ps j d h.0 (omega arith)
@@ -55,11 +62,14 @@ ended_first ps time h i j d l k e =
       | inr other ↦ let later = rising_at ps i j d h (omega arith) k in grind (arith, ints)
     ]
 
-after_filter : (first : ℤ) (test : Point → Bool) (ps : List Point) → EndsAfter first ps → EndsAfter first (filter test ps)
+after_filter : (first : ℤ) (test : Point → Bool) (ps : List Point) → EndsAfter first ps → EndsAfter first
+    (filter test ps)
 after_filter first test [] h = tt
-after_filter first test (p ∷ ps) h = cond_both (test p) _ _ (EndsAfter first) (λ e. (h.0, after_filter first test ps h.1)) (λ e. after_filter first test ps h.1)
+after_filter first test (p ∷ ps) h = cond_both (test p) _ _ (EndsAfter first)
+    (λ e. (h.0, after_filter first test ps h.1)) (λ e. after_filter first test ps h.1)
 
 -- the points that pass a test
 pub EndsRise-filter : (test : Point → Bool) (ps : List Point) → EndsRise ps → EndsRise (filter test ps)
 EndsRise-filter test [] h = tt
-EndsRise-filter test (p ∷ ps) h = cond_both (test p) _ _ EndsRise (λ e. (after_filter p.end test ps h.0, EndsRise-filter test ps h.1)) (λ e. EndsRise-filter test ps h.1)
+EndsRise-filter test (p ∷ ps) h = cond_both (test p) _ _ EndsRise
+    (λ e. (after_filter p.end test ps h.0, EndsRise-filter test ps h.1)) (λ e. EndsRise-filter test ps h.1)

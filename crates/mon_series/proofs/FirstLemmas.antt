@@ -1,5 +1,7 @@
 -- The first entry whose key passes a test: where a look-up finds it, and what a value put there changes.
-use Rattle.std.proofs.Common.{◌≡◌, ◌∙◌, Result, Ok, Err, OnErr, ◌<◌, ◌+◌, nat_lt, not, position, arith, ℕ, zero, suc, Bool, true, false, cond, Some, None, List, [], ◌∷◌, map, length, refl, sym, ap, slice_get}
+use Rattle.std.proofs.Common.{◌≡◌, ◌∙◌, Result, Ok, Err, OnErr, ◌<◌, ◌+◌, nat_lt, not, position, arith, ℕ, zero, suc}
+use Rattle.std.proofs.Common.{Bool, true, false, cond, Some, None, List, [], ◌∷◌, map, length, refl, sym, ap}
+use Rattle.std.proofs.Common.{slice_get}
 use Rattle.std.specs.List.{position_or_len}
 use Rattle.std.specs.Map.{keys_of, lookup}
 use Rattle.std.proofs.lemmas.Bool.Decides.{nat_tests}
@@ -15,7 +17,8 @@ position_by n m at false less is = absurd cc
 
 module _ {K V : Type 0} where
   -- the value that is there changes nothing
-  pub set_same : (entries : List (K × V)) (n : ℕ) (value : V) → Some value ≡ slice_get (map (λ e. e.1) entries) n → set_value_at entries n value ≡ entries
+  pub set_same : (entries : List (K × V)) (n : ℕ) (value : V) → Some value ≡ slice_get (map (λ e. e.1) entries) n
+      → set_value_at entries n value ≡ entries
   set_same [] n value e = refl
   set_same (entry ∷ entries) zero value e = ap (λ v. (entry.0, v) ∷ entries) (same_some value entry.1 e)
   set_same (entry ∷ entries) (suc n) value e = ap (λ more. entry ∷ more) (set_same entries n value e)
@@ -34,25 +37,29 @@ module _ {K V : Type 0} (test : K → Bool) where
 
   first_by : (entry : K × V) (entries : List (K × V)) (n : ℕ) (b : Bool) → test entry.0 ≡ b
       → cond (not b) (1 + position_or_len test (keys_of entries)) 0 ≡ n → n < suc (length entries)
-      → ((m : ℕ) → position_or_len test (keys_of entries) ≡ m → m < length entries → IsFirst entries m) → IsFirst (entry ∷ entries) n
+      → ((m : ℕ) → position_or_len test (keys_of entries) ≡ m → m < length entries → IsFirst entries m)
+      → IsFirst (entry ∷ entries) n
   first_by entry entries zero true is at within rest = is
   first_by entry entries zero false is at within rest = absurd (omega arith)
   first_by entry entries (suc n) true is at within rest = absurd (omega arith)
   first_by entry entries (suc n) false is at within rest = (is, rest n (omega arith) (omega arith))
 
-  first_at : (entries : List (K × V)) (n : ℕ) → position_or_len test (keys_of entries) ≡ n → n < length entries → IsFirst entries n
+  first_at : (entries : List (K × V)) (n : ℕ) → position_or_len test (keys_of entries) ≡ n → n < length entries
+      → IsFirst entries n
   first_at [] n at within = absurd (omega arith)
   first_at (entry ∷ entries) n at within = first_by entry entries n (test entry.0) refl at within (first_at entries)
 
   pub first_position : (entries : List (K × V)) (n : ℕ) → position test (keys_of entries) ≡ Some n → IsFirst entries n
   first_position entries n is =
       let keys = keys_of entries in
-      let there = position_by (position_or_len test keys) (length keys) n (nat_lt (position_or_len test keys) (length keys)) refl is in
+      let there = position_by (position_or_len test keys) (length keys) n (nat_lt (position_or_len test keys)
+      (length keys)) refl is in
       let count = length-map entries (λ entry. entry.0) in
       first_at entries n there.0 (omega arith)
 
   -- its key passes the test, and a look-up finds its value
-  pub first_found : (entries : List (K × V)) (n : ℕ) (key : K) (value : V) → IsFirst entries n → slice_get entries n ≡ Some (key, value)
+  pub first_found : (entries : List (K × V)) (n : ℕ) (key : K) (value : V) → IsFirst entries n → slice_get entries n
+      ≡ Some (key, value)
       → (test key ≡ true) × (lookup test entries ≡ Some value)
   first_found [] n key value first there = absurd first
   first_found (entry ∷ entries) zero key value first there =

@@ -1,5 +1,7 @@
 -- What a map keeps, as groups.
-use Rattle.std.proofs.Common.{◌≡◌, ◌∙◌, ◌<◌, ◌+◌, nat_lt, not, position, arith, ℕ, zero, suc, Bool, true, false, cond, Option, Some, None, option_map, List, [], ◌∷◌, ◌++◌, map, length, Result, Ok, Err, OnOk, is_ok, refl, sym, ap, slice_get}
+use Rattle.std.proofs.Common.{◌≡◌, ◌∙◌, ◌<◌, ◌+◌, nat_lt, not, position, arith, ℕ, zero, suc, Bool, true, false, cond}
+use Rattle.std.proofs.Common.{Option, Some, None, option_map, List, [], ◌∷◌, ◌++◌, map, length, Result, Ok, Err, OnOk}
+use Rattle.std.proofs.Common.{is_ok, refl, sym, ap, slice_get}
 use Rattle.std.specs.Map.{keys_of, lookup}
 use Rattle.std.specs.List.{position_or_len}
 use Rattle.std.proofs.lemmas.Bool.Decides.{nat_tests}
@@ -26,14 +28,16 @@ ok_claim P (Err error) ok claim = absurd cc
 -- ---- by number
 
 -- the group at a number
-pub held_entry : (entries : Entries) (at : ℕ) (key : SeriesKey) (series : SeriesPoints) → slice_get entries at ≡ Some (key, series)
+pub held_entry : (entries : Entries) (at : ℕ) (key : SeriesKey) (series : SeriesPoints) → slice_get entries at
+    ≡ Some (key, series)
     → slice_get (series_held entries) at ≡ Some (key, series.points)
 held_entry [] at key series e = absurd cc
 held_entry (entry ∷ entries) zero key series e =
     let same : entry ≡ (key, series) = cc in ap (λ (e : SeriesKey × SeriesPoints). Some (e.0, e.1.points)) same
 held_entry (entry ∷ entries) (suc at) key series e = held_entry entries at key series e
 
-pub held_get : (entries : Entries) (at : ℕ) (series : SeriesPoints) → Some series ≡ slice_get (map (λ e. e.1) entries) at
+pub held_get : (entries : Entries) (at : ℕ) (series : SeriesPoints) → Some series ≡ slice_get (map (λ e. e.1) entries)
+    at
     → (key : SeriesKey) × (slice_get (series_held entries) at ≡ Some (key, series.points))
 held_get [] at series e = absurd cc
 held_get (entry ∷ entries) zero series e =
@@ -41,12 +45,15 @@ held_get (entry ∷ entries) zero series e =
 held_get (entry ∷ entries) (suc at) series e = held_get entries at series e
 
 -- a point more in the series at a number
-pub held_grown : (entries : Entries) (at : ℕ) (old new : SeriesPoints) (point : Point) → Some old ≡ slice_get (map (λ e. e.1) entries) at
-    → new.points ≡ old.points ++ point ∷ [] → series_held (set_value_at entries at new) ≡ with_point_at (series_held entries) at point
+pub held_grown : (entries : Entries) (at : ℕ) (old new : SeriesPoints) (point : Point) → Some old
+    ≡ slice_get (map (λ e. e.1) entries) at
+    → new.points ≡ old.points ++ point ∷ [] → series_held (set_value_at entries at new) ≡ with_point_at
+    (series_held entries) at point
 held_grown [] at old new point e made = refl
 held_grown (entry ∷ entries) zero old new point e made =
     let same : entry.1 ≡ old = cc in
-    ap (λ (ps : List Point). (entry.0, ps) ∷ series_held entries) (made ∙ ap (λ (s : SeriesPoints). s.points ++ point ∷ []) (sym same))
+    ap (λ (ps : List Point). (entry.0, ps) ∷ series_held entries)
+    (made ∙ ap (λ (s : SeriesPoints). s.points ++ point ∷ []) (sym same))
 held_grown (entry ∷ entries) (suc at) old new point e made =
     ap (λ (more : List Group). (entry.0, entry.1.points) ∷ more) (held_grown entries at old new point e made)
 
@@ -56,14 +63,17 @@ pub held_same : (entries : Entries) (at : ℕ) (old new : SeriesPoints) → Some
 held_same [] at old new e made = refl
 held_same (entry ∷ entries) zero old new e made =
     let same : entry.1 ≡ old = cc in
-    ap (λ (ps : List Point). (entry.0, ps) ∷ series_held entries) (made ∙ ap (λ (s : SeriesPoints). s.points) (sym same))
+    ap (λ (ps : List Point). (entry.0, ps) ∷ series_held entries) (made ∙ ap (λ (s : SeriesPoints). s.points)
+    (sym same))
 held_same (entry ∷ entries) (suc at) old new e made =
     ap (λ (more : List Group). (entry.0, entry.1.points) ∷ more) (held_same entries at old new e made)
 
-pub held_count : (entries : Entries) (at : ℕ) (series : SeriesPoints) → Some series ≡ slice_get (map (λ e. e.1) entries) at
+pub held_count : (entries : Entries) (at : ℕ) (series : SeriesPoints) → Some series
+    ≡ slice_get (map (λ e. e.1) entries) at
     → length series.points ≡ count_at (series_held entries) at
 held_count [] at series e = absurd cc
-held_count (entry ∷ entries) zero series e = let same : entry.1 ≡ series = cc in ap (λ (s : SeriesPoints). length s.points) (sym same)
+held_count (entry ∷ entries) zero series e = let same : entry.1 ≡ series = cc in
+    ap (λ (s : SeriesPoints). length s.points) (sym same)
 held_count (entry ∷ entries) (suc at) series e = held_count entries at series e
 
 pub held_out : (entries : Entries) (at : ℕ) → slice_get entries at ≡ None → slice_get (series_held entries) at ≡ None
@@ -74,37 +84,46 @@ held_out (entry ∷ entries) (suc at) e = held_out entries at e
 -- ---- by key
 
 lookup_cons : (test : SeriesKey → Bool) (e : SeriesKey × SeriesPoints) (es : Entries) (b : Bool)
-    → option_map (λ s. s.points) (cond b (Some e.1) (lookup test es)) ≡ cond b (Some e.1.points) (option_map (λ s. s.points) (lookup test es))
+    → option_map (λ s. s.points) (cond b (Some e.1) (lookup test es)) ≡ cond b (Some e.1.points)
+    (option_map (λ s. s.points) (lookup test es))
 lookup_cons test e es true = refl
 lookup_cons test e es false = refl
 
 -- a look-up in the map finds the points of the group
-pub held_lookup : (test : SeriesKey → Bool) (es : Entries) → lookup test (series_held es) ≡ option_map (λ s. s.points) (lookup test es)
+pub held_lookup : (test : SeriesKey → Bool) (es : Entries) → lookup test (series_held es) ≡ option_map (λ s. s.points)
+    (lookup test es)
 held_lookup test [] = refl
-held_lookup test (e ∷ es) = ap (cond (test e.0) (Some e.1.points)) (held_lookup test es) ∙ sym (lookup_cons test e es (test e.0))
+held_lookup test (e ∷ es) = ap (cond (test e.0) (Some e.1.points)) (held_lookup test es)
+    ∙ sym (lookup_cons test e es (test e.0))
 
-first_by : (key : SeriesKey) (entry : SeriesKey × SeriesPoints) (entries : Entries) (at : ℕ) (b : Bool) → same_series key entry.0 ≡ b
+first_by : (key : SeriesKey) (entry : SeriesKey × SeriesPoints) (entries : Entries) (at : ℕ) (b : Bool)
+    → same_series key entry.0 ≡ b
     → cond (not b) (1 + position_or_len (same_series key) (keys_of entries)) 0 ≡ at → at < suc (length entries)
-    → ((n : ℕ) → position_or_len (same_series key) (keys_of entries) ≡ n → n < length entries → IsFirst key (series_held entries) n)
+    → ((n : ℕ) → position_or_len (same_series key) (keys_of entries) ≡ n → n < length entries
+    → IsFirst key (series_held entries) n)
     → IsFirst key ((entry.0, entry.1.points) ∷ series_held entries) at
 first_by key entry entries zero true is at_is within rest = is
 first_by key entry entries zero false is at_is within rest = absurd (omega arith)
 first_by key entry entries (suc at) true is at_is within rest = absurd (omega arith)
 first_by key entry entries (suc at) false is at_is within rest = (is, rest at (omega arith) (omega arith))
 
-first_held : (key : SeriesKey) (entries : Entries) (at : ℕ) → position_or_len (same_series key) (keys_of entries) ≡ at → at < length entries → IsFirst key (series_held entries) at
+first_held : (key : SeriesKey) (entries : Entries) (at : ℕ) → position_or_len (same_series key) (keys_of entries) ≡ at
+    → at < length entries → IsFirst key (series_held entries) at
 first_held key [] at is within = absurd (omega arith)
-first_held key (entry ∷ entries) at is within = first_by key entry entries at (same_series key entry.0) refl is within (first_held key entries)
+first_held key (entry ∷ entries) at is within = first_by key entry entries at (same_series key entry.0) refl is within
+    (first_held key entries)
 
 position_by : (n m at : ℕ) (b : Bool) → nat_lt n m ≡ b → cond b (Some n) None ≡ Some at → (n ≡ at) × (at < m)
 position_by n m at true less is = let same : n ≡ at = cc in (same, grind (arith, nat_tests))
 position_by n m at false less is = absurd cc
 
 -- the group of the first key that passes a test
-pub held_first : (key : SeriesKey) (entries : Entries) (at : ℕ) → position (same_series key) (keys_of entries) ≡ Some at → IsFirst key (series_held entries) at
+pub held_first : (key : SeriesKey) (entries : Entries) (at : ℕ) → position (same_series key) (keys_of entries)
+    ≡ Some at → IsFirst key (series_held entries) at
 held_first key entries at is =
     let keys = keys_of entries in
-    let there = position_by (position_or_len (same_series key) keys) (length keys) at (nat_lt (position_or_len (same_series key) keys) (length keys)) refl is in
+    let there = position_by (position_or_len (same_series key) keys) (length keys) at
+    (nat_lt (position_or_len (same_series key) keys) (length keys)) refl is in
     let count = length-map entries (λ entry. entry.0) in
     first_held key entries at there.0 (omega arith)
 
@@ -112,15 +131,19 @@ no_points : (found : Option SeriesPoints) → option_map (λ s. s.points) found 
 no_points None e = refl
 no_points (Some series) e = absurd cc
 
-pub held_none : (key : SeriesKey) (entries : Entries) → lookup (same_series key) (series_held entries) ≡ None → lookup (same_series key) entries ≡ None
-held_none key entries none = no_points (lookup (same_series key) entries) (sym (held_lookup (same_series key) entries) ∙ none)
+pub held_none : (key : SeriesKey) (entries : Entries) → lookup (same_series key) (series_held entries) ≡ None
+    → lookup (same_series key) entries ≡ None
+held_none key entries none = no_points (lookup (same_series key) entries) (sym (held_lookup (same_series key) entries)
+    ∙ none)
 
-pub none_held : (key : SeriesKey) (entries : Entries) → lookup (same_series key) entries ≡ None → lookup (same_series key) (series_held entries) ≡ None
+pub none_held : (key : SeriesKey) (entries : Entries) → lookup (same_series key) entries ≡ None
+    → lookup (same_series key) (series_held entries) ≡ None
 none_held key entries none = held_lookup (same_series key) entries ∙ ap (option_map (λ s. s.points)) none
 
 -- the test of a map is that of the definitions
 pub same_test : (key : SeriesKey) → derived.eq-value.it key ≡ same_series key
 same_test key = λ i other. eq-same_series key other i
 
-pub held_last : (entries : Entries) (key : SeriesKey) (series : SeriesPoints) → series_held (entries ++ (key, series) ∷ []) ≡ series_held entries ++ (key, series.points) ∷ []
+pub held_last : (entries : Entries) (key : SeriesKey) (series : SeriesPoints)
+    → series_held (entries ++ (key, series) ∷ []) ≡ series_held entries ++ (key, series.points) ∷ []
 held_last entries key series = map-append (λ entry. (entry.0, entry.1.points)) entries ((key, series) ∷ [])

@@ -1,5 +1,6 @@
 -- Rows that are kept with the numbers of their series, after a push and in a copy.
-use Rattle.std.proofs.Common.{◌≡◌, ◌∙◌, ◌+◌, ◌<◌, ◌^◌, ℕ, List, [], ◌∷◌, ◌++◌, length, slice_get, Some, Result, Ok, Err, refl, sym, ap, subst}
+use Rattle.std.proofs.Common.{◌≡◌, ◌∙◌, ◌+◌, ◌<◌, ◌^◌, ℕ, List, [], ◌∷◌, ◌++◌, length, slice_get, Some, Result, Ok}
+use Rattle.std.proofs.Common.{Err, refl, sym, ap, subst}
 use Rattle.std.specs.Map.{keys_of}
 use Rattle.mon_value.specs.Sources.{points_of, series_of}
 use Rattle.mon_value.specs.declared.rows.Row.{Row}
@@ -19,21 +20,26 @@ numbered_by : (index : Index) (rows rows' : List Row) → rows' ≡ rows → Has
 numbered_by index rows rows' same has = subst (HasNumbers index) (sym same) has
 
 -- nothing came, and there may be room for a number more
-pub stays_kept : {groups groups' : List Group} {places places' : List Place} {index room : Index} → AreKept groups places index → SameNumbers index room
+pub stays_kept : {groups groups' : List Group} {places places' : List Place} {index room : Index}
+    → AreKept groups places index → SameNumbers index room
     → groups' ≡ groups → places' ≡ places → AreKept groups' places' room
 stays_kept {groups} {groups'} {places} {places'} {index} {room} kept more same stayed =
     let as_before = unchanged kept.placed same stayed in record {
       placed = as_before.0;
-      numbered = numbered_by room (rows_at groups places) (rows_at groups' places') as_before.1 (λ metric. more metric ∙ kept.numbered metric);
+      numbered = numbered_by room (rows_at groups places) (rows_at groups' places') as_before.1 (λ metric. more metric
+          ∙ kept.numbered metric);
     }
 
 -- a row of a series that is there came, or none
-pub known_kept : {E : Type 0} {groups groups' : List Group} {places places' : List Place} {index : Index} {rows : List Row} (row : Row) (at : ℕ)
-    (result : Result (Unit {0}) E) → AreKept groups places index → rows_at groups places ≡ rows → slice_get (series_of rows) at ≡ Some row.key
+pub known_kept : {E : Type 0} {groups groups' : List Group} {places places' : List Place} {index : Index}
+    {rows : List Row} (row : Row) (at : ℕ)
+    (result : Result (Unit {0}) E) → AreKept groups places index → rows_at groups places ≡ rows
+    → slice_get (series_of rows) at ≡ Some row.key
     → IsPushed row groups groups' places places' result → AreKept groups' places' index
 known_kept {E} {groups} {groups'} {places} {places'} {index} {rows} row at (Ok done) kept seen there pushed = record {
   placed = pushed.kept;
-  numbered = numbered_by index (rows ++ row ∷ []) (rows_at groups' places') (pushed.rows ∙ ap (λ (rs : List Row). rs ++ row ∷ []) seen)
+  numbered = numbered_by index (rows ++ row ∷ []) (rows_at groups' places')
+      (pushed.rows ∙ ap (λ (rs : List Row). rs ++ row ∷ []) seen)
       (numbers_known index rows row at there (numbered_by index (rows_at groups places) rows (sym seen) kept.numbered));
 }
 known_kept {E} {groups} {groups'} {places} {places'} {index} {rows} row at (Err error) kept seen there pushed = record {
@@ -42,12 +48,16 @@ known_kept {E} {groups} {groups'} {places} {places'} {index} {rows} row at (Err 
 }
 
 -- the first row of a series came
-pub first_kept : {groups groups' : List Group} {places places' : List Place} {index : Index} {rows : List Row} (row : Row) (room new : Index)
+pub first_kept : {groups groups' : List Group} {places places' : List Place} {index : Index} {rows : List Row}
+    (row : Row) (room new : Index)
     (number count : ℕ) → AreKept groups places index → rows_at groups places ≡ rows → points_of row.key rows ≡ []
-    → number ≡ length (series_of rows) → SameNumbers index room → TakesNumber room new row.key.metric number → count ≡ length groups
-    → groups' ≡ groups ++ (row.key, row.point ∷ []) ∷ [] → places' ≡ places ++ place_at count 0 ∷ [] → count + 1 < 2 ^ 32
+    → number ≡ length (series_of rows) → SameNumbers index room → TakesNumber room new row.key.metric number → count
+    ≡ length groups
+    → groups' ≡ groups ++ (row.key, row.point ∷ []) ∷ [] → places' ≡ places ++ place_at count 0 ∷ [] → count
+    + 1 < 2 ^ 32
     → AreKept groups' places' new × (rows_at groups' places' ≡ rows ++ row ∷ [])
-first_kept {groups} {groups'} {places} {places'} {index} {rows} row room new number count kept seen first number_is stays more count_is grown placed few =
+first_kept {groups} {groups'} {places} {places'} {index} {rows} row room new number count kept seen first number_is
+    stays more count_is grown placed few =
     let done : Result (Unit {0}) (Unit {0}) = Ok tt in
     let pushed : IsPushed row groups groups' places places' done =
     new_pushed kept.placed seen row groups' places' done first grown
@@ -57,7 +67,8 @@ first_kept {groups} {groups'} {places} {places'} {index} {rows} row room new num
     λ metric. stays metric ∙ numbered_by index (rows_at groups places) rows (sym seen) kept.numbered metric in (
       record {
         placed = pushed.kept;
-        numbered = numbered_by new (rows ++ row ∷ []) (rows_at groups' places') all (numbers_new room new rows row number first number_is has more);
+        numbered = numbered_by new (rows ++ row ∷ []) (rows_at groups' places') all
+            (numbers_new room new rows row number first number_is has more);
       },
       all,
     )
@@ -67,10 +78,12 @@ keys_held [] = refl
 keys_held (entry ∷ entries) = ap (λ (keys : List SeriesKey). entry.0 ∷ keys) (keys_held entries)
 
 -- copies of the series and the places, and numbers of their own
-pub copy_kept : {groups' : List Group} {places places' : List Place} {index new : Index} (entries : Entries) → AreKept (series_held entries) places index
+pub copy_kept : {groups' : List Group} {places places' : List Place} {index new : Index} (entries : Entries)
+    → AreKept (series_held entries) places index
     → groups' ≡ series_held entries → places' ≡ places → NumbersKeys new (keys_of entries) → AreKept groups' places' new
 copy_kept {groups'} {places} {places'} {index} {new} entries kept same stayed numbers =
     let as_before = unchanged kept.placed same stayed in
     let keys : keys_of entries ≡ series_of (rows_at groups' places') =
-    keys_held entries ∙ ap keys_in kept.placed.grouped ∙ keys_by_series (rows_at (series_held entries) places) ∙ ap series_of (sym as_before.1) in
+    keys_held entries ∙ ap keys_in kept.placed.grouped ∙ keys_by_series (rows_at (series_held entries) places)
+    ∙ ap series_of (sym as_before.1) in
     record { placed = as_before.0; numbered = subst (NumbersKeys new) keys numbers }

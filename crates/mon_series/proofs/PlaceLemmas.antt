@@ -1,11 +1,13 @@
 -- Rows at places, as groups grow by a point.
-use Rattle.std.proofs.Common.{◌≡◌, ◌∙◌, ℕ, zero, suc, true, Option, Some, None, option_map, List, [], ◌∷◌, ◌++◌, map, length, refl, sym, ap, slice_get}
+use Rattle.std.proofs.Common.{◌≡◌, ◌∙◌, ℕ, zero, suc, true, Option, Some, None, option_map, List, [], ◌∷◌, ◌++◌, map}
+use Rattle.std.proofs.Common.{length, refl, sym, ap, slice_get}
 use Rattle.std.specs.Prelude.{is_some}
 use Rattle.mon_value.specs.declared.rows.Point.{Point}
 use Rattle.mon_value.specs.declared.rows.Row.{Row}
 use Rattle.mon_value.specs.declared.rows.SeriesKey.{SeriesKey}
 use Rattle.mon_series.specs.declared.placing.Place.{Place}
-use Rattle.mon_series.specs.within.Places.{AllThere, Group, count_at, place_at, row_at, row_of_parts, rows_at, with_point_at, with_row}
+use Rattle.mon_series.specs.within.Places.{AllThere, Group, count_at, place_at, row_at, row_of_parts, rows_at}
+use Rattle.mon_series.specs.within.Places.{with_point_at, with_row}
 
 -- ---- lists
 
@@ -21,9 +23,11 @@ keys_in groups = map (λ (group : Group). group.0) groups
 
 -- whatever row is at a place in groups is there in others too
 abbrev pub Keeps : List Group → List Group → Type 0
-Keeps groups groups' = (series point : ℕ) (row : Row) → row_at groups series point ≡ Some row → row_at groups' series point ≡ Some row
+Keeps groups groups' = (series point : ℕ) (row : Row) → row_at groups series point ≡ Some row → row_at groups' series
+    point ≡ Some row
 
-row_kept : (key : SeriesKey) (points more : List Point) (n : ℕ) (row : Row) → option_map (row_of_parts key) (slice_get points n) ≡ Some row
+row_kept : (key : SeriesKey) (points more : List Point) (n : ℕ) (row : Row) → option_map (row_of_parts key)
+    (slice_get points n) ≡ Some row
     → option_map (row_of_parts key) (slice_get (points ++ more) n) ≡ Some row
 row_kept key [] more n row e = absurd cc
 row_kept key (p ∷ points) more zero row e = e
@@ -48,14 +52,17 @@ keeps_new (g ∷ groups) more (suc series) point row e = keeps_new groups more s
 some_key : (a b : SeriesKey) → Some a ≡ Some b → a ≡ b
 some_key a b e = cc
 
-pub row_grown : (groups : List Group) (at : ℕ) (key : SeriesKey) (point : Point) → slice_get (keys_in groups) at ≡ Some key
+pub row_grown : (groups : List Group) (at : ℕ) (key : SeriesKey) (point : Point) → slice_get (keys_in groups) at
+    ≡ Some key
     → row_at (with_point_at groups at point) at (count_at groups at) ≡ Some (row_of_parts key point)
 row_grown [] at key point there = absurd cc
 row_grown (g ∷ groups) zero key point there =
-    ap (option_map (row_of_parts g.0)) (get_next g.1 point) ∙ ap (λ (k : SeriesKey). Some (row_of_parts k point)) (some_key g.0 key there)
+    ap (option_map (row_of_parts g.0)) (get_next g.1 point) ∙ ap (λ (k : SeriesKey). Some (row_of_parts k point))
+    (some_key g.0 key there)
 row_grown (g ∷ groups) (suc at) key point there = row_grown groups at key point there
 
-pub row_new : (groups : List Group) (key : SeriesKey) (point : Point) → row_at (groups ++ (key, point ∷ []) ∷ []) (length groups) 0 ≡ Some (row_of_parts key point)
+pub row_new : (groups : List Group) (key : SeriesKey) (point : Point) → row_at (groups ++ (key, point ∷ []) ∷ [])
+    (length groups) 0 ≡ Some (row_of_parts key point)
 row_new [] key point = refl
 row_new (g ∷ groups) key point = row_new groups key point
 
@@ -70,37 +77,47 @@ pub rows_kept : (groups groups' : List Group) (places : List Place) → Keeps gr
 rows_kept groups groups' [] keeps there = (refl, tt)
 rows_kept groups groups' (place ∷ places) keeps there =
     let found = there_at (row_at groups place.series place.point) there.0 in
-    let again : row_at groups' place.series place.point ≡ Some found.0 = keeps place.series place.point found.0 found.1 in
+    let again : row_at groups' place.series place.point ≡ Some found.0 = keeps place.series place.point found.0
+    found.1 in
     let rest = rows_kept groups groups' places keeps there.1 in (
       (λ i. with_row ((again ∙ sym found.1) i) (rest.0 i)),
       (ap is_some again, rest.1),
     )
 
-pub rows_added : (groups : List Group) (places : List Place) (series point : ℕ) (row : Row) → row_at groups series point ≡ Some row
+pub rows_added : (groups : List Group) (places : List Place) (series point : ℕ) (row : Row) → row_at groups series
+    point ≡ Some row
     → rows_at groups (places ++ place_at series point ∷ []) ≡ rows_at groups places ++ row ∷ []
 rows_added groups [] series point row e = ap (λ (o : Option Row). with_row o []) e
 rows_added groups (place ∷ places) series point row e =
-    ap (with_row (row_at groups place.series place.point)) (rows_added groups places series point row e) ∙ by (row_at groups place.series place.point)
+    ap (with_row (row_at groups place.series place.point)) (rows_added groups places series point row e)
+    ∙ by (row_at groups place.series place.point)
   where
-    by : (o : Option Row) → with_row o (rows_at groups places ++ row ∷ []) ≡ with_row o (rows_at groups places) ++ row ∷ []
+    by : (o : Option Row) → with_row o (rows_at groups places ++ row ∷ []) ≡ with_row o (rows_at groups places)
+        ++ row ∷ []
     by None = refl
     by (Some first) = refl
 
-pub there_added : (groups : List Group) (places : List Place) (series point : ℕ) (row : Row) → row_at groups series point ≡ Some row
+pub there_added : (groups : List Group) (places : List Place) (series point : ℕ) (row : Row) → row_at groups series
+    point ≡ Some row
     → AllThere groups places → AllThere groups (places ++ place_at series point ∷ [])
 there_added groups [] series point row e there = (ap is_some e, tt)
-there_added groups (place ∷ places) series point row e there = (there.0, there_added groups places series point row e there.1)
+there_added groups (place ∷ places) series point row e there =
+    (there.0, there_added groups places series point row e there.1)
 
 -- as many rows as places
-pub rows_count : (groups : List Group) (places : List Place) → AllThere groups places → length (rows_at groups places) ≡ length places
+pub rows_count : (groups : List Group) (places : List Place) → AllThere groups places → length (rows_at groups places)
+    ≡ length places
 rows_count groups [] there = refl
 rows_count groups (place ∷ places) there =
     let found = there_at (row_at groups place.series place.point) there.0 in
-    ap (λ (o : Option Row). length (with_row o (rows_at groups places))) found.1 ∙ ap suc (rows_count groups places there.1)
+    ap (λ (o : Option Row). length (with_row o (rows_at groups places))) found.1
+    ∙ ap suc (rows_count groups places there.1)
 
 -- a place that is listed has a row, with the same number
-pub row_listed : (groups : List Group) (places : List Place) (n : ℕ) (place : Place) → AllThere groups places → slice_get places n ≡ Some place
-    → (row : Row) × (row_at groups place.series place.point ≡ Some row) × (slice_get (rows_at groups places) n ≡ Some row)
+pub row_listed : (groups : List Group) (places : List Place) (n : ℕ) (place : Place) → AllThere groups places
+    → slice_get places n ≡ Some place
+    → (row : Row) × (row_at groups place.series place.point ≡ Some row) × (slice_get (rows_at groups places) n
+    ≡ Some row)
 row_listed groups [] n place there listed = absurd cc
 row_listed groups (first ∷ places) zero place there listed =
     let same : first ≡ place = cc in
@@ -116,12 +133,14 @@ row_listed groups (first ∷ places) (suc n) place there listed =
 
 -- a row at a place is the point of that number in the group of that number
 pub row_parts : (groups : List Group) (series point : ℕ) (row : Row) → row_at groups series point ≡ Some row
-    → (group : Group) × (slice_get groups series ≡ Some group) × (row.key ≡ group.0) × (slice_get group.1 point ≡ Some row.point)
+    → (group : Group) × (slice_get groups series ≡ Some group) × (row.key ≡ group.0)
+    × (slice_get group.1 point ≡ Some row.point)
 row_parts [] series point row e = absurd cc
 row_parts (g ∷ groups) zero point row e =
     let parts = by g.0 (slice_get g.1 point) row e in (g, refl, parts.0, parts.1)
   where
-    by : (key : SeriesKey) (o : Option Point) (row : Row) → option_map (row_of_parts key) o ≡ Some row → (row.key ≡ key) × (o ≡ Some row.point)
+    by : (key : SeriesKey) (o : Option Point) (row : Row) → option_map (row_of_parts key) o ≡ Some row
+        → (row.key ≡ key) × (o ≡ Some row.point)
     by key None row e = absurd cc
     by key (Some p) row e =
         let same : row_of_parts key p ≡ row = cc in

@@ -1,5 +1,6 @@
 -- Points on both sides of a time, and places of items in a list.
-use Rattle.std.proofs.Common.{◌≡◌, ◌∙◌, inl, inr, ℕ, zero, suc, ◌+◌, ◌-◌, ◌≤◌, ℤ, ◌≤ℤ◌, ◌-ℤ◌, pos, Bool, true, false, ◌&&◌, List, [], ◌∷◌, ◌++◌, length, take, drop, filter, refl, sym, ap, arith}
+use Rattle.std.proofs.Common.{◌≡◌, ◌∙◌, inl, inr, ℕ, zero, suc, ◌+◌, ◌-◌, ◌≤◌, ℤ, ◌≤ℤ◌, ◌-ℤ◌, pos, Bool, true, false}
+use Rattle.std.proofs.Common.{◌&&◌, List, [], ◌∷◌, ◌++◌, length, take, drop, filter, refl, sym, ap, arith}
 use Rattle.std.specs.List.{AllWithin}
 use Rattle.std.specs.Prelude.{int_le}
 use Rattle.std.proofs.Math.Seq.{take-nil, drop-nil, take-append_seam, drop-append_seam}
@@ -11,27 +12,34 @@ use Rattle.mon_value.specs.declared.rows.Point.{Point}
 use Rattle.mon_series.specs.Splits.{points_until}
 
 -- the first points of a list, which pass a test that the others fail
-pub filter_first : {X : Type 0} (test : X → Bool) (xs : List X) (i : ℕ) → AllWithin (λ x. test x ≡ true) xs 0 i → AllWithin (λ x. test x ≡ false) xs i (length xs) → i ≤ length xs → take i xs ≡ filter test xs
+pub filter_first : {X : Type 0} (test : X → Bool) (xs : List X) (i : ℕ) → AllWithin (λ x. test x ≡ true) xs 0 i
+    → AllWithin (λ x. test x ≡ false) xs i (length xs) → i ≤ length xs → take i xs ≡ filter test xs
 filter_first test [] i passing failing l = take-nil i
 filter_first test (x ∷ xs) zero passing failing l =
-    filter_first test xs zero (λ m d a b. absurd (omega arith)) (λ m d a b. failing (suc m) d (omega arith) (omega arith)) (omega arith)
+    filter_first test xs zero (λ m d a b. absurd (omega arith)) (λ m d a b. failing (suc m) d (omega arith)
+    (omega arith)) (omega arith)
     ∙ sym (cond-false (test x) _ _ (failing zero x (omega arith) (omega arith)))
 filter_first test (x ∷ xs) (suc i) passing failing l =
-    ap (λ ys. x ∷ ys) (filter_first test xs i (λ m d a b. passing (suc m) d (omega arith) (omega arith)) (λ m d a b. failing (suc m) d (omega arith) (omega arith)) (omega arith))
+    ap (λ ys. x ∷ ys) (filter_first test xs i (λ m d a b. passing (suc m) d (omega arith) (omega arith))
+    (λ m d a b. failing (suc m) d (omega arith) (omega arith)) (omega arith))
     ∙ sym (cond-true (test x) _ _ (passing zero x (omega arith) (omega arith)))
 
 -- the last points of a list, which pass a test that the others fail
-pub filter_last : {X : Type 0} (test : X → Bool) (xs : List X) (i : ℕ) → AllWithin (λ x. test x ≡ false) xs 0 i → AllWithin (λ x. test x ≡ true) xs i (length xs) → i ≤ length xs → drop i xs ≡ filter test xs
+pub filter_last : {X : Type 0} (test : X → Bool) (xs : List X) (i : ℕ) → AllWithin (λ x. test x ≡ false) xs 0 i
+    → AllWithin (λ x. test x ≡ true) xs i (length xs) → i ≤ length xs → drop i xs ≡ filter test xs
 filter_last test [] i failing passing l = drop-nil i
 filter_last test (x ∷ xs) zero failing passing l =
-    ap (λ ys. x ∷ ys) (filter_last test xs zero (λ m d a b. absurd (omega arith)) (λ m d a b. passing (suc m) d (omega arith) (omega arith)) (omega arith))
+    ap (λ ys. x ∷ ys) (filter_last test xs zero (λ m d a b. absurd (omega arith))
+    (λ m d a b. passing (suc m) d (omega arith) (omega arith)) (omega arith))
     ∙ sym (cond-true (test x) _ _ (passing zero x (omega arith) (omega arith)))
 filter_last test (x ∷ xs) (suc i) failing passing l =
-    filter_last test xs i (λ m d a b. failing (suc m) d (omega arith) (omega arith)) (λ m d a b. passing (suc m) d (omega arith) (omega arith)) (omega arith)
+    filter_last test xs i (λ m d a b. failing (suc m) d (omega arith) (omega arith))
+    (λ m d a b. passing (suc m) d (omega arith) (omega arith)) (omega arith)
     ∙ sym (cond-false (test x) _ _ (failing zero x (omega arith) (omega arith)))
 
 -- two filters are one
-pub filter_both : {X : Type 0} (first second : X → Bool) (xs : List X) → filter second (filter first xs) ≡ filter (λ x. second x && first x) xs
+pub filter_both : {X : Type 0} (first second : X → Bool) (xs : List X) → filter second (filter first xs)
+    ≡ filter (λ x. second x && first x) xs
 filter_both first second [] = refl
 filter_both first second (x ∷ xs) =
     let rest = filter_both first second xs in
@@ -45,7 +53,8 @@ until_both true c h = h refl
 until_both false c h = refl
 
 -- among the points that end by a time, those that end before its window
-pub points_until-before : (ps : List Point) (t w before until : ℤ) → before ≡ t -ℤ w → until ≡ t → pos 1 ≤ℤ w → points_until before (points_until until ps) ≡ points_until (t -ℤ w) ps
+pub points_until-before : (ps : List Point) (t w before until : ℤ) → before ≡ t -ℤ w → until ≡ t → pos 1 ≤ℤ w
+    → points_until before (points_until until ps) ≡ points_until (t -ℤ w) ps
 points_until-before ps t w before until e f h =
     filter_both (λ p. int_le p.end until) (λ p. int_le p.end before) ps
     ∙ filter_agree _ _ (λ p. until_both (int_le p.end before) (int_le p.end until) (λ g. grind (arith, ints))) ps
@@ -59,7 +68,8 @@ pub items_behind : {X : Type 0} (xs first rest : List X) → xs ≡ first ++ res
 items_behind xs first rest joined = ap (drop (length first)) joined ∙ drop-append_seam first rest
 
 -- the items from a place up to another
-pub items_between : {X : Type 0} (start end : ℕ) (xs : List X) → start ≤ end → take (end - start) (drop start xs) ≡ drop start (take end xs)
+pub items_between : {X : Type 0} (start end : ℕ) (xs : List X) → start ≤ end → take (end - start) (drop start xs)
+    ≡ drop start (take end xs)
 items_between start end xs h =
     let sum : start + (end - start) ≡ end = omega arith in
     sym (drop-take start (end - start) xs) ∙ ap (λ n. drop start (take n xs)) sum

@@ -7,5 +7,6 @@ use Rattle.mon_series.proofs.SplitLemmas.{filter_both}
 use Rattle.mon_series.specs.Splits.{points_after, points_until}
 
 -- the points that end by a moment, without those that end w before it or earlier
-pub window_from : (ps : List Point) (t w after until : ℤ) → after ≡ t -ℤ w → until ≡ t → points_after after (points_until until ps) ≡ window_of t w ps
+pub window_from : (ps : List Point) (t w after until : ℤ) → after ≡ t -ℤ w → until ≡ t → points_after after
+    (points_until until ps) ≡ window_of t w ps
 window_from ps t w after until e f = rw (e, f) (filter_both (λ p. int_le p.end t) (λ p. int_lt (t -ℤ w) p.end) ps)

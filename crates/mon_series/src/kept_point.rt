@@ -9,8 +9,8 @@ use std::alloc::{AllocError, AllocFailed, Global};
 use std::marker::Model;
 use std::mem::size_of;
 
-/// A point of a series, in 24 bytes. Contracts see the point. A number of 64 bits and a truth value stand in these bytes,
-/// where the point speaks of less than 2^32 seconds; any other point has memory of its own.
+/// A point of a series, in 24 bytes. Contracts see the point. A number of 64 bits and a truth value stand in these
+/// bytes, where the point speaks of less than 2^32 seconds; any other point has memory of its own.
 #[derive(Debug, Drop)]
 pub struct KeptPoint {
     form: Form,

@@ -1,5 +1,6 @@
 // Rows that are kept by series, in the order in which they came.
-ghost use Rattle.std.specs.Prelude.{◌≡◌, ◌++◌, ◌∷◌, ◌<◌, ◌<ℤ◌, [], length, slice_get, option_map, Some, IfErr, IfNone, IfOk, IfSome, OnErr, OnOk};
+ghost use Rattle.std.specs.Prelude.{◌≡◌, ◌++◌, ◌∷◌, ◌<◌, ◌<ℤ◌, [], length, slice_get, option_map, Some, IfErr, IfNone};
+ghost use Rattle.std.specs.Prelude.{IfOk, IfSome, OnErr, OnOk};
 ghost use Rattle.std.specs.Option.{option_copied};
 ghost use Rattle.mon_value.specs.Sources.{IsSource, last_end, points_by_series, points_of, series_of};
 ghost use Rattle.mon_series.specs.MetricNumbers.{metric_numbers};
@@ -24,9 +25,9 @@ pub struct KeptSeries {
     pub last: i64,
 }
 
-/// Rows in the order in which they came. Contracts see them as one list. Each point is kept once, with its series; beside
-/// them stand the places of the points, in order, and the numbers of the series under their metrics. There are fewer than
-/// 2^32 series, and at most as many points of each.
+/// Rows in the order in which they came. Contracts see them as one list. Each point is kept once, with its series;
+/// beside them stand the places of the points, in order, and the numbers of the series under their metrics. There are
+/// fewer than 2^32 series, and at most as many points of each.
 #[derive(Drop)]
 pub struct KeptRows {
     alloc: Global,
@@ -121,7 +122,8 @@ impl KeptRows {
     /// The series of a number.
     pub fn points(&self, number: u32) -> &Series
         requires within { number < length (series_of self.now) }
-        ensures points { IfSome (slice_get (series_of self.now) number) (λ key. result.now.points ≡ points_of key self.now) }
+        ensures points { IfSome (slice_get (series_of self.now) number) (λ key.
+            result.now.points ≡ points_of key self.now) }
     {
         let Some((_, series)) = self.series.get_index(number as usize) else {
             unreachable!();
@@ -165,8 +167,8 @@ impl KeptRows {
         })
     }
 
-    /// Adds a row at the end, whose point ends later than those of its series. Its series is looked up once. Where memory
-    /// runs out the rows stay, and the row is given back.
+    /// Adds a row at the end, whose point ends later than those of its series. Its series is looked up once. Where
+    /// memory runs out the rows stay, and the row is given back.
     pub fn push(&mut self, row: Row) -> Result<(), AllocFailed<Row>>
         requires later { IfSome (last_end (points_of row.key self.old)) (λ last. last <ℤ row.point.end) }
         ensures pushed { OnOk result (self.new ≡ self.old ++ row ∷ []) }

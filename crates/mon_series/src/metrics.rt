@@ -2,7 +2,8 @@
 ghost use Rattle.std.specs.Prelude.{◌≡◌, ◌≤◌, ◌<◌, ◌^◌, ℕ, List, length, slice_get, None, IfOk, IfSome, OnOk};
 ghost use Rattle.std.specs.Map.{keys_of, lookup};
 ghost use Rattle.mon_value.specs.Same.{same_text};
-ghost use Rattle.mon_series.specs.within.Metrics.{HasRoom, MoreRoom, NumbersKeys, SameNumbers, TakesNumber, numbers_held};
+ghost use Rattle.mon_series.specs.within.Metrics.{HasRoom, MoreRoom, NumbersKeys, SameNumbers, TakesNumber};
+ghost use Rattle.mon_series.specs.within.Metrics.{numbers_held};
 
 use crate::kept_rows::SeriesMap;
 use indexmap::IndexMap;

@@ -1,5 +1,6 @@
 // A series and its windows.
-ghost use Rattle.std.specs.Prelude.{◌≡◌, ◌+◌, ◌-◌, ◌≤◌, ◌<◌, ◌^◌, ◌==◌, ◌-ℤ◌, ◌<ℤ◌, ◌≤ℤ◌, neg_ℤ, [], ◌∷◌, ◌++◌, length, take, drop, IfOk, IfSome, OnOk};
+ghost use Rattle.std.specs.Prelude.{◌≡◌, ◌+◌, ◌-◌, ◌≤◌, ◌<◌, ◌^◌, ◌==◌, ◌-ℤ◌, ◌<ℤ◌, ◌≤ℤ◌, neg_ℤ, [], ◌∷◌, ◌++◌};
+ghost use Rattle.std.specs.Prelude.{length, take, drop, IfOk, IfSome, OnOk};
 ghost use Rattle.mon_series.specs.Splits.{points_after, points_until};
 ghost use Rattle.mon_value.specs.Grids.{IsDuration};
 ghost use Rattle.mon_value.specs.Sources.{last_end};
@@ -97,7 +98,8 @@ impl Series {
         ensures ended { result.1 ≡ length (points_until time self.now.points) }
         ensures ordered { result.0 ≤ result.1 }
         ensures within { result.1 ≤ length self.now.points }
-        ensures window { take (result.1 - result.0) (drop result.0 self.now.points) ≡ window_of time seconds self.now.points }
+        ensures window { take (result.1 - result.0) (drop result.0 self.now.points)
+            ≡ window_of time seconds self.now.points }
     {
         let (ended, _) = split_at_time(self.points.as_slice(), time);
         let (before, _) = split_at_time(ended, time - seconds);

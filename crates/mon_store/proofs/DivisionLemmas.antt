@@ -1,5 +1,6 @@
 -- The rows that a run accepted are divided: leaves share no target, and zones no location.
-use Rattle.std.proofs.Common.{◌≡◌, ◌∙◌, ◌<◌, ◌+◌, ◌||◌, ℕ, ℤ, zero, suc, Bool, true, false, Option, Some, None, Result, List, [], ◌∷◌, length, map, nat_eq, slice_get, refl, sym, ap, subst, arith}
+use Rattle.std.proofs.Common.{◌≡◌, ◌∙◌, ◌<◌, ◌+◌, ◌||◌, ℕ, ℤ, zero, suc, Bool, true, false, Option, Some, None, Result}
+use Rattle.std.proofs.Common.{List, [], ◌∷◌, length, map, nat_eq, slice_get, refl, sym, ap, subst, arith}
 use Rattle.std.specs.List.{AllByRecursion}
 use Rattle.std.specs.Option.{option_map_or}
 use Rattle.std.proofs.lemmas.Bool.Decides.{nat_tests}
@@ -23,14 +24,13 @@ use Rattle.mon_topo.specs.Replicas.{HasReplicas}
 use Rattle.mon_topo.specs.Zones.{first_leaf, first_replicas, leaf_zones, ranges_in, zone_at, zone_numbered, zone_of}
 use Rattle.mon_config.specs.declared.config.Config.{Config}
 use Rattle.mql_types.specs.Nodes.{TypedTree}
-use Rattle.mql_types.specs.Soundness.{IsTyped}
+use Rattle.mql_types.specs.Soundness.{IsQueryType, IsTyped}
 use Rattle.mon_meaning.proofs.FilterLemmas.{all-filter}
 use Rattle.mon_meaning.specs.Central.{IsAnswer}
 use Rattle.mon_meaning.specs.declared.meter.OverLimit.{OverLimit}
 use Rattle.mixer.specs.Divisions.{AreApart, IsDivided, ShareNoLocation, ShareNoTarget, all_rows, has_location, together}
 use Rattle.leaf_store.specs.LeafStates.{LeafView}
 use Rattle.mon_store.specs.Writes.{is_range, range_of_key}
-use Rattle.mon_store.specs.QueryTypes.{HasType}
 use Rattle.mon_store.specs.within.Divisions.{divided_rows, leaf_rows, zone_rows}
 use Rattle.mon_store.specs.Stores.{AllFit, AreKept, range_rows, rows_kept}
 use Rattle.mon_store.specs.within.Leaves.{first_slot, first_slots, is_at, leaf_of}
@@ -49,7 +49,8 @@ all_together : (P : Row → Type 0) (lists : List (List Row)) → AllByRecursion
 all_together P [] all = tt
 all_together P (rows ∷ lists) all = all_append P rows (together lists) all.0 (all_together P lists all.1)
 
-every : {A B : Type 0} (P : B → Type 0) (f : A → B) → ((x : A) → P (f x)) → (xs : List A) → AllByRecursion (λ x. P (f x)) xs
+every : {A B : Type 0} (P : B → Type 0) (f : A → B) → ((x : A) → P (f x)) → (xs : List A)
+    → AllByRecursion (λ x. P (f x)) xs
 every P f each [] = tt
 every P f each (x ∷ xs) = (each x, every P f each xs)
 
@@ -70,11 +71,14 @@ module _ (config : Config) (rows : List Row) (P : Row → Type 0) (all : AllByRe
   pub all_divided : AllByRecursion P (all_rows (divided_rows config rows))
   all_divided =
       all_together P (map together (divided_rows config rows))
-      (subst (AllByRecursion (AllByRecursion P)) (sym (map_listed together (zone_rows config rows) (length config.topology)))
-      (all_listed (AllByRecursion P) (λ z. together (zone_rows config rows z)) (length config.topology) (λ z within. all_in_zone z)))
+      (subst (AllByRecursion (AllByRecursion P))
+      (sym (map_listed together (zone_rows config rows) (length config.topology)))
+      (all_listed (AllByRecursion P) (λ z. together (zone_rows config rows z)) (length config.topology)
+      (λ z within. all_in_zone z)))
 
 -- a query that has a type is typed for rows that fit
-abbrev pub typed_for : (held : SchemaLists) (typed : TypedTree) (rows : List Row) → HasType held typed → AllFit held rows
+abbrev pub typed_for : (held : SchemaLists) (typed : TypedTree) (rows : List Row) → IsQueryType held typed
+    → AllFit held rows
     → IsTyped typed rows
 typed_for held typed rows has fit = record {
   held = held;
@@ -87,7 +91,7 @@ typed_for held typed rows has fit = record {
 }
 
 -- the rows on a leaf
-pub leaf_typed : (config : Config) (typed : TypedTree) (rows : List Row) (n : ℕ) → HasType config.schemas typed
+pub leaf_typed : (config : Config) (typed : TypedTree) (rows : List Row) (n : ℕ) → IsQueryType config.schemas typed
     → AllFit config.schemas rows → IsTyped typed (leaf_rows config rows n)
 leaf_typed config typed rows n has fit =
     typed_for config.schemas typed (leaf_rows config rows n) has
@@ -101,7 +105,8 @@ record LiesIn (config : Config) (z : ℕ) (row : Row) : Type 0 where
   at : location_of config.schemas row.key.target ≡ Some location
   lists : zone_of config.topology location ≡ Some (zone_numbered z)
 
-all_at : {X : Type 0} (P : X → Type 0) (xs : List X) (i : ℕ) (x : X) → slice_get xs i ≡ Some x → AllByRecursion P xs → P x
+all_at : {X : Type 0} (P : X → Type 0) (xs : List X) (i : ℕ) (x : X) → slice_get xs i ≡ Some x → AllByRecursion P xs
+    → P x
 all_at P [] i x e all = absurd cc
 all_at P (y ∷ xs) zero x e all = let same : y ≡ x = cc in subst P same all.0
 all_at P (y ∷ xs) (suc i) x e all = all_at P xs i x e all.1
@@ -123,12 +128,14 @@ module _ (config : Config) (has : AllHave config.topology) (z i : ℕ) (there : 
   on_leaf range (Some leaf) at first here =
       let zones = config.topology in
       let placed = is_placed config.schemas config.topology row.key.target range at in
-      let replicas : HasReplicas zones range = has range.0 (range_known config.schemas config.topology row.key.target range at) in
+      let replicas : HasReplicas zones range = has range.0 (range_known config.schemas config.topology row.key.target
+      range at) in
       let zoned : IsInZoneOf zones range leaf =
       all_at (IsInZoneOf zones range) (first_replicas zones range.0) 0 leaf first replicas.zoned in
       let number : 0 + z ≡ z = omega arith in
       let own : slice_get (leaf_zones zones) leaf.0 ≡ Some (zone_numbered z) =
-      ap (slice_get (leaf_zones zones)) (leaf_is n leaf here) ∙ zone_of_part (λ zone. zone.leaves) 0 zones z i there within
+      ap (slice_get (leaf_zones zones)) (leaf_is n leaf here) ∙ zone_of_part (λ zone. zone.leaves) 0 zones z i there
+      within
       ∙ ap (λ k. Some (zone_numbered k)) number in
       let same : z ≡ placed.zone.0 = one_zone z placed.zone.0 (sym own ∙ zoned.2 ∙ placed.zoned) in
       record {
@@ -152,7 +159,8 @@ lie_in config has rows z there =
 
 module _ (config : Config) (z y : ℕ) (lt : z < y) where
   text_by : (location other : List ℕ) (b : Bool) → same_text location other ≡ b
-      → zone_of config.topology location ≡ Some (zone_numbered z) → zone_of config.topology other ≡ Some (zone_numbered y)
+      → zone_of config.topology location ≡ Some (zone_numbered z) → zone_of config.topology other
+      ≡ Some (zone_numbered y)
       → b ≡ false
   text_by location other true same one two =
       let alike : location ≡ other = (same_text-Decides location other).0 same in
@@ -168,7 +176,8 @@ module _ (config : Config) (z y : ℕ) (lt : z < y) where
       ∙ text_by location all.0.location (same_text location all.0.location) refl one all.0.lists)
       ∙ no_location location others one all.1
 
-  no_locations : (rows others : List Row) → AllByRecursion (LiesIn config z) rows → AllByRecursion (LiesIn config y) others
+  no_locations : (rows others : List Row) → AllByRecursion (LiesIn config z) rows → AllByRecursion (LiesIn config y)
+      others
       → ShareNoLocation config.schemas rows others
   no_locations [] others all more = tt
   no_locations (row ∷ rows) others all more = (
@@ -192,14 +201,17 @@ zones_apart config has rows =
     let count = length config.topology in
     subst (AreApart (ShareNoLocation config.schemas)) (sym (map_listed together (zone_rows config rows) count))
     (apart_listed (ShareNoLocation config.schemas) (λ z. together (zone_rows config rows z)) count
-    (λ z y lt within. no_locations config z y lt (together (zone_rows config rows z)) (together (zone_rows config rows y))
+    (λ z y lt within. no_locations config z y lt (together (zone_rows config rows z))
+    (together (zone_rows config rows y))
     (lie_in config has rows z (omega (arith, lt, within))) (lie_in config has rows y within)))
 
 module _ (config : Config) (leaves : List LeafView) (order : List Range) where
   abbrev rows : List Row
   rows = rows_kept leaves order
 
-  pub is_divided : (typed : TypedTree) → AreKept config leaves order → AllHave config.topology → HasType config.schemas typed
+  pub is_divided : (typed : TypedTree) → AreKept config leaves order → AllHave config.topology
+      → IsQueryType config.schemas
+      typed
       → AllFit config.schemas rows → IsDivided typed (divided_rows config rows)
   is_divided typed kept has typing fit = record {
     of = typed_for config.schemas typed (all_rows (divided_rows config rows)) typing
@@ -217,7 +229,8 @@ module _ (config : Config) (leaves : List LeafView) (order : List Range) where
   -- an answer over the rows of all zones is one over the rows as they were accepted
   pub answer_divided : (typed : TypedTree) (moment : ℤ) (limit : ℕ) (result : Result Table (Refusal OverLimit))
       → AreKept config leaves order → AllHave config.topology
-      → IsAnswer typed (all_rows (divided_rows config rows)) moment limit result → IsAnswer typed rows moment limit result
+      → IsAnswer typed (all_rows (divided_rows config rows)) moment limit result → IsAnswer typed rows moment limit
+      result
   answer_divided typed moment limit result kept has =
       answer_in_order typed (all_rows (divided_rows config rows)) rows moment
       (series_in_order (all_rows (divided_rows config rows)) rows (divided_points kept has)) limit result

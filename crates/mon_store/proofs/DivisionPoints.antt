@@ -1,5 +1,7 @@
 -- The rows that a run accepted, divided into zones and leaves: each series has its points, in their order.
-use Rattle.std.proofs.Common.{◌≡◌, ◌∙◌, ◌<◌, ◌≤◌, ◌+◌, ◌&&◌, ℕ, zero, suc, Bool, true, false, cond, Option, Some, None, is_some, List, [], ◌∷◌, ◌++◌, length, length-append, map, nat_eq, nat_lt, slice_get, take, refl, sym, ap, append-nil, append_assoc, arith}
+use Rattle.std.proofs.Common.{◌≡◌, ◌∙◌, ◌<◌, ◌≤◌, ◌+◌, ◌&&◌, ℕ, zero, suc, Bool, true, false, cond, Option, Some, None}
+use Rattle.std.proofs.Common.{is_some, List, [], ◌∷◌, ◌++◌, length, length-append, map, nat_eq, nat_lt, slice_get}
+use Rattle.std.proofs.Common.{take, refl, sym, ap, append-nil, append_assoc, arith}
 use Rattle.std.specs.List.{AllByRecursion}
 use Rattle.std.proofs.lemmas.Bool.Decides.{nat_tests}
 use Rattle.std.proofs.lemmas.Grind.{flat_map-append}
@@ -141,14 +143,16 @@ module _ (config : Config) (has : AllHave config.topology) (rows : List Row) (ke
       ap (λ d. map (λ (r : Row). r.point) (cond d (row ∷ rows_of key own) (rows_of key own))) same ∙ rest
   none_by range row own true true apart lies same rest =
       let alike : key ≡ row.key = (same_series-Decides key row.key).0 same in
-      let clash : is_range range (range_of_key config key) ≡ true = ap (λ k. is_range range (range_of_key config k)) alike ∙ lies in
+      let clash : is_range range (range_of_key config key) ≡ true = ap (λ k. is_range range (range_of_key config k))
+      alike ∙ lies in
       absurd cc
 
   none_of : (range : Range) (own : List Row) → is_range range (range_of_key config key) ≡ false
       → points_of key (range_rows config range own) ≡ []
   none_of range [] apart = refl
   none_of range (row ∷ own) apart =
-      none_by range row (range_rows config range own) (is_range range (range_of_key config row.key)) (same_series key row.key)
+      none_by range row (range_rows config range own) (is_range range (range_of_key config row.key))
+      (same_series key row.key)
       apart refl refl (none_of range own apart)
 
   in_range_by : (range : Range) (b : Bool) → is_range range (range_of_key config key) ≡ b
@@ -193,14 +197,17 @@ module _ (config : Config) (has : AllHave config.topology) (rows : List Row) (ke
       let last : List RangeSlot = cond here (first_replica most ∷ []) [] in
       ap (points_of key) (flat_map-append (λ (own : RangeSlot). range_rows config own.range rows) front last)
       ∙ points_append key (slots_rows config rows front) (slots_rows config rows last)
-      ∙ (λ i. slot_points n most i ++ last_by most here (is_range (range_numbered most) (range_of_key config key)) refl i)
+      ∙ (λ i. slot_points n most i ++ last_by most here (is_range (range_numbered most) (range_of_key config key)) refl
+      i)
       ∙ next_range n most (range_of_key config key)
 
   known_by : (n : ℕ) (o : Option Range) → range_of_key config key ≡ o
-      → cond (is_range_below (length (ranges_in zones)) o && is_at n (leaf_for o)) points [] ≡ cond (is_at n (leaf_for o)) points []
+      → cond (is_range_below (length (ranges_in zones)) o && is_at n (leaf_for o)) points []
+      ≡ cond (is_at n (leaf_for o)) points []
   known_by n None is = refl
   known_by n (Some range) is =
-      let within : range.0 < length (ranges_in zones) = range_known config.schemas config.topology key.target range is in
+      let within : range.0 < length (ranges_in zones) = range_known config.schemas config.topology key.target range
+      is in
       let below : nat_lt range.0 (length (ranges_in zones)) ≡ true = grind (arith, nat_tests) in
       ap (λ b. cond (b && is_at n (leaf_of zones range first_slot)) points []) below
 
@@ -271,7 +278,8 @@ module _ (config : Config) (has : AllHave config.topology) (rows : List Row) (ke
       → cond (is_below (length (leaves_in zones)) (leaf_for o)) points [] ≡ points
   whole_by None is placed = sym (no_points rows is placed)
   whole_by (Some range) is placed =
-      let within : range.0 < length (ranges_in zones) = range_known config.schemas config.topology key.target range is in
+      let within : range.0 < length (ranges_in zones) = range_known config.schemas config.topology key.target range
+      is in
       let replicas : HasReplicas zones range = has range.0 within in
       let first = first_there (first_replicas zones range.0) replicas.some in
       let there : first.0.0 < length (leaves_in zones) = replica_there zones range 0 first.0 replicas first.1 in
@@ -282,4 +290,5 @@ module _ (config : Config) (has : AllHave config.topology) (rows : List Row) (ke
   pub points_divided : AllByRecursion (λ row. is_some (range_of_key config row.key) ≡ true) rows
       → points_of key (all_rows (divided_rows config rows)) ≡ points
   points_divided placed =
-      zones_points (length zones) (omega arith) ∙ ap shown (first_all zones) ∙ whole_by (range_of_key config key) refl placed
+      zones_points (length zones) (omega arith) ∙ ap shown (first_all zones) ∙ whole_by (range_of_key config key) refl
+      placed

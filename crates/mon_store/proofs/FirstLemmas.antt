@@ -1,5 +1,7 @@
 -- The first replicas on each leaf, range by range.
-use Rattle.std.proofs.Common.{◌≡◌, ◌∙◌, ◌+◌, ℕ, zero, suc, Bool, true, false, cond, Option, Some, None, List, [], ◌∷◌, ◌++◌, nat_eq, slice_get, length, length-append, refl, sym, ap, subst, append-nil, arith, option_map}
+use Rattle.std.proofs.Common.{◌≡◌, ◌∙◌, ◌+◌, ℕ, zero, suc, Bool, true, false, cond, Option, Some, None, List, [], ◌∷◌}
+use Rattle.std.proofs.Common.{◌++◌, nat_eq, slice_get, length, length-append, refl, sym, ap, subst, append-nil, arith}
+use Rattle.std.proofs.Common.{option_map}
 use Rattle.std.specs.List.{AllByRecursion}
 use Rattle.mon_value.specs.declared.positions.Leaf.{Leaf}
 use Rattle.mon_value.specs.declared.positions.Range.{Range}
@@ -11,11 +13,13 @@ use Rattle.mon_store.specs.within.Leaves.{AreBare, HasFirsts, IsPushed, first_sl
 pub bare_none : (firsts : List (List RangeSlot)) → firsts ≡ [] → AreBare 0 firsts
 bare_none firsts none = subst (AreBare 0) (sym none) (refl, tt)
 
-pub bare_more : (n : ℕ) (firsts : List (List RangeSlot)) (slots : List RangeSlot) → AreBare n firsts → slots ≡ [] → AreBare (n + 1) (firsts ++ slots ∷ [])
+pub bare_more : (n : ℕ) (firsts : List (List RangeSlot)) (slots : List RangeSlot) → AreBare n firsts → slots ≡ []
+    → AreBare (n + 1) (firsts ++ slots ∷ [])
 bare_more n firsts slots bare none =
     (length-append firsts (slots ∷ []) ∙ ap (λ k. k + 1) bare.0, all_push (λ s. s ≡ []) firsts slots bare.1 none)
 
-all_at : {X : Type 0} (P : X → Type 0) (xs : List X) (i : ℕ) (x : X) → slice_get xs i ≡ Some x → AllByRecursion P xs → P x
+all_at : {X : Type 0} (P : X → Type 0) (xs : List X) (i : ℕ) (x : X) → slice_get xs i ≡ Some x → AllByRecursion P xs
+    → P x
 all_at P [] i x e all = absurd cc
 all_at P (y ∷ xs) zero x e all = let same : y ≡ x = cc in subst P same all.0
 all_at P (y ∷ xs) (suc i) x e all = all_at P xs i x e all.1
@@ -25,12 +29,14 @@ record WasPushed (own : RangeSlot) (old : Option (List RangeSlot)) (slots : List
   there : old ≡ Some before
   is : slots ≡ before ++ own ∷ []
 
-was_pushed : (own : RangeSlot) (old : Option (List RangeSlot)) (slots : List RangeSlot) → option_map (λ (s : List RangeSlot). s ++ own ∷ []) old ≡ Some slots → WasPushed own old slots
+was_pushed : (own : RangeSlot) (old : Option (List RangeSlot)) (slots : List RangeSlot)
+    → option_map (λ (s : List RangeSlot). s ++ own ∷ []) old ≡ Some slots → WasPushed own old slots
 was_pushed own None slots e = absurd cc
 was_pushed own (Some before) slots e = record { before = before; there = refl; is = cc }
 
 -- the first replica of a range more
-pub firsts_more : (zones : List ZoneSpec) (range : Range) (leaf : Leaf) (old new : List (List RangeSlot)) → HasFirsts zones range.0 old
+pub firsts_more : (zones : List ZoneSpec) (range : Range) (leaf : Leaf) (old new : List (List RangeSlot))
+    → HasFirsts zones range.0 old
     → leaf_of zones range first_slot ≡ Some leaf → length new ≡ length old
     → IsPushed leaf (record { range = range; slot = first_slot }) old new
     → HasFirsts zones (range.0 + 1) new

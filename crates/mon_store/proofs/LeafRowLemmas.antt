@@ -1,5 +1,7 @@
 -- The rows on a leaf, by its first replicas: what a leaf evaluates, and where each row lies.
-use Rattle.std.proofs.Common.{◌≡◌, ◌∙◌, ◌<◌, ◌||◌, ◌&&◌, ℕ, zero, suc, Bool, true, false, cond, Option, Some, None, List, [], ◌∷◌, ◌++◌, length, nat_eq, slice_get, option_map, refl, sym, ap, subst, append-nil, arith}
+use Rattle.std.proofs.Common.{◌≡◌, ◌∙◌, ◌<◌, ◌||◌, ◌&&◌, ℕ, zero, suc, Bool, true, false, cond, Option, Some, None}
+use Rattle.std.proofs.Common.{List, [], ◌∷◌, ◌++◌, length, nat_eq, slice_get, option_map, refl, sym, ap, subst}
+use Rattle.std.proofs.Common.{append-nil, arith}
 use Rattle.std.specs.List.{AllByRecursion}
 use Rattle.std.proofs.lemmas.Bool.Decides.{nat_tests}
 use Rattle.std.proofs.lemmas.Option.{slice_get-map}
@@ -37,16 +39,19 @@ pub record IsFirstOn (zones : List ZoneSpec) (leaf most : ℕ) (own : RangeSlot)
 abbrev pub first_replica : ℕ → RangeSlot
 first_replica n = record { range = range_numbered n; slot = first_slot }
 
-firsts_by : (zones : List ZoneSpec) (leaf most : ℕ) (b : Bool) → is_at leaf (leaf_of zones (range_numbered most) first_slot) ≡ b
+firsts_by : (zones : List ZoneSpec) (leaf most : ℕ) (b : Bool) → is_at leaf (leaf_of zones (range_numbered most)
+    first_slot) ≡ b
     → AllByRecursion (IsFirstOn zones leaf (suc most)) (first_slots zones leaf most)
-    → AllByRecursion (IsFirstOn zones leaf (suc most)) (first_slots zones leaf most ++ cond b (first_replica most ∷ []) [])
+    → AllByRecursion (IsFirstOn zones leaf (suc most)) (first_slots zones leaf most ++ cond b (first_replica most ∷ [])
+    [])
 firsts_by zones leaf most true at front =
     all_push (IsFirstOn zones leaf (suc most)) (first_slots zones leaf most) (first_replica most) front
     (record { at = at; slot = refl; below = omega arith })
 firsts_by zones leaf most false at front =
     subst (AllByRecursion (IsFirstOn zones leaf (suc most))) (sym (append-nil (first_slots zones leaf most))) front
 
-pub firsts_on : (zones : List ZoneSpec) (leaf most : ℕ) → AllByRecursion (IsFirstOn zones leaf most) (first_slots zones leaf most)
+pub firsts_on : (zones : List ZoneSpec) (leaf most : ℕ) → AllByRecursion (IsFirstOn zones leaf most)
+    (first_slots zones leaf most)
 firsts_on zones leaf zero = tt
 firsts_on zones leaf (suc most) =
     firsts_by zones leaf most (is_at leaf (leaf_of zones (range_numbered most) first_slot)) refl
@@ -70,7 +75,8 @@ module _ (config : Config) where
   abbrev pub InRange : Range → Row → Type 0
   InRange range row = range_of_key config row.key ≡ Some range
 
-  in_range_by : (range : Range) (row : Row) (rows : List Row) (b : Bool) → is_range range (range_of_key config row.key) ≡ b
+  in_range_by : (range : Range) (row : Row) (rows : List Row) (b : Bool) → is_range range (range_of_key config row.key)
+      ≡ b
       → AllByRecursion (InRange range) (range_rows config range rows)
       → AllByRecursion (InRange range) (cond b (row ∷ range_rows config range rows) (range_rows config range rows))
   in_range_by range row rows true is rest = (is_in range (range_of_key config row.key) is, rest)
@@ -81,7 +87,8 @@ module _ (config : Config) where
   in_range range (row ∷ rows) =
       in_range_by range row rows (is_range range (range_of_key config row.key)) refl (in_range range rows)
 
-  lacks_by : (key : SeriesKey) (row : Row) (others : List Row) (range other : Range) (b : Bool) → same_series key row.key ≡ b
+  lacks_by : (key : SeriesKey) (row : Row) (others : List Row) (range other : Range) (b : Bool) → same_series key
+      row.key ≡ b
       → range_of_key config key ≡ Some range → InRange other row → range.0 < other.0 → has_series others key ≡ false
       → has_series (row ∷ others) key ≡ false
   lacks_by key row others range other true same at here lt rest =
@@ -111,7 +118,8 @@ replicas_push : (history : List Entry) (replicas : List RangeSlot) (last : Range
     → AreApart history (replicas ++ last ∷ [])
 replicas_push history [] last apart all = (tt, tt)
 replicas_push history (own ∷ replicas) last apart all = (
-  all_push (λ other. ShareNoSeries (replica_rows_of history own) (replica_rows_of history other)) replicas last apart.0 all.0,
+  all_push (λ other. ShareNoSeries (replica_rows_of history own) (replica_rows_of history other)) replicas last apart.0
+      all.0,
   replicas_push history replicas last apart.1 all.1,
 )
 
@@ -120,13 +128,16 @@ module _ (config : Config) (leaves : List LeafView) (order : List Range) (kept :
   rows = rows_kept leaves order
 
   module _ (n : ℕ) (state : LeafView) (at : slice_get leaves n ≡ Some state) where
-    keeps : Keeps (λ range slot. is_at n (leaf_of config.topology range slot)) (λ range slot. first_rows (histories leaves) range)
+    keeps : Keeps (λ range slot. is_at n (leaf_of config.topology range slot))
+        (λ range slot. first_rows (histories leaves) range)
         state.history
     keeps =
         kept.alike.keep n state.history
-        (slice_get-map (λ (leaf : LeafView). leaf.history) leaves n ∙ ap (option_map (λ (leaf : LeafView). leaf.history)) at)
+        (slice_get-map (λ (leaf : LeafView). leaf.history) leaves n
+        ∙ ap (option_map (λ (leaf : LeafView). leaf.history)) at)
 
-    opened : (most : ℕ) (own : RangeSlot) → IsFirstOn config.topology n most own → is_opened own.range own.slot state.history ≡ true
+    opened : (most : ℕ) (own : RangeSlot) → IsFirstOn config.topology n most own → is_opened own.range own.slot
+        state.history ≡ true
     opened most own is =
         ap (λ slot. is_opened own.range slot state.history) is.slot ∙ keeps.opened own.range first_slot ∙ is.at
 
@@ -150,16 +161,19 @@ module _ (config : Config) (leaves : List LeafView) (order : List Range) (kept :
         replicas_push state.history (first_slots config.topology n most) (first_replica most) front
         (all_weaker (IsFirstOn config.topology n most) _
         (λ own is. share_none config own.range (range_numbered most) (replica_rows_of state.history own)
-        (replica_rows_of state.history (first_replica most)) is.below (own_in most own is) (own_in (suc most) (first_replica most) last))
+        (replica_rows_of state.history (first_replica most)) is.below (own_in most own is)
+        (own_in (suc most) (first_replica most) last))
         (first_slots config.topology n most) (firsts_on config.topology n most))
-    apart_by most false here front = subst (AreApart state.history) (sym (append-nil (first_slots config.topology n most))) front
+    apart_by most false here front = subst (AreApart state.history)
+        (sym (append-nil (first_slots config.topology n most))) front
 
     apart_below : (most : ℕ) → AreApart state.history (first_slots config.topology n most)
     apart_below zero = tt
     apart_below (suc most) =
         apart_by most (is_at n (leaf_of config.topology (range_numbered most) first_slot)) refl (apart_below most)
 
-    module _ (slots : List RangeSlot) (are : slots ≡ first_slots config.topology n (length (ranges_in config.topology))) where
+    module _ (slots : List RangeSlot) (are : slots ≡ first_slots config.topology n
+        (length (ranges_in config.topology))) where
       abbrev most : ℕ
       most = length (ranges_in config.topology)
 
@@ -188,10 +202,12 @@ pub record LiesOn (config : Config) (leaf : ℕ) (row : Row) : Type 0 where
   pub at : range_of_key config row.key ≡ Some range
   pub first : is_at leaf (leaf_of config.topology range first_slot) ≡ true
 
-pub lie_on : (config : Config) (rows : List Row) (leaf : ℕ) → AllByRecursion (LiesOn config leaf) (leaf_rows config rows leaf)
+pub lie_on : (config : Config) (rows : List Row) (leaf : ℕ) → AllByRecursion (LiesOn config leaf)
+    (leaf_rows config rows leaf)
 lie_on config rows leaf =
     let most = length (ranges_in config.topology) in
-    all_flat (LiesOn config leaf) (λ (own : RangeSlot). range_rows config own.range rows) (first_slots config.topology leaf most)
+    all_flat (LiesOn config leaf) (λ (own : RangeSlot). range_rows config own.range rows)
+    (first_slots config.topology leaf most)
     (all_weaker (IsFirstOn config.topology leaf most) _
     (λ own is. all_weaker (InRange config own.range) (LiesOn config leaf)
     (λ row here. record { range = own.range; at = here; first = is.at }) (range_rows config own.range rows)
@@ -236,7 +252,8 @@ module _ (config : Config) (n m : ℕ) (lt : n < m) where
       ∙ no_target row others here all.1
 
   -- two leaves share no target
-  pub no_targets : (rows others : List Row) → AllByRecursion (LiesOn config n) rows → AllByRecursion (LiesOn config m) others
+  pub no_targets : (rows others : List Row) → AllByRecursion (LiesOn config n) rows → AllByRecursion (LiesOn config m)
+      others
       → ShareNoTarget rows others
   no_targets [] others all more = tt
   no_targets (row ∷ rows) others all more = (no_target row others all.0 more, no_targets rows others all.1 more)

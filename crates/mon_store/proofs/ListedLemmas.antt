@@ -1,5 +1,6 @@
 -- What holds of what a function makes of the first so many numbers.
-use Rattle.std.proofs.Common.{◌≡◌, ◌∙◌, ◌<◌, ◌≤◌, ℕ, zero, suc, List, [], ◌∷◌, ◌++◌, map, refl, ap, append_assoc, arith, inl, inr, ◌⊎◌}
+use Rattle.std.proofs.Common.{◌≡◌, ◌∙◌, ◌<◌, ◌≤◌, ℕ, zero, suc, List, [], ◌∷◌, ◌++◌, map, refl, ap, append_assoc}
+use Rattle.std.proofs.Common.{arith, inl, inr, ◌⊎◌}
 use Rattle.std.specs.List.{AllByRecursion, flat_map}
 use Rattle.std.proofs.lemmas.Bool.{cases_lt}
 use Rattle.std.proofs.lemmas.List.{map-append}
@@ -71,7 +72,8 @@ split_on f n m split = record {
   is = ap (λ front. front ++ f n ∷ []) split.is ∙ append_assoc (listed f m) (f m ∷ split.rest) (f n ∷ []);
 }
 
-split_by : {X : Type 0} (f : ℕ → X) (n m : ℕ) → m < suc n → (m < n → Split f n m) → (m < n) ⊎ (n ≤ m) → Split f (suc n) m
+split_by : {X : Type 0} (f : ℕ → X) (n m : ℕ) → m < suc n → (m < n → Split f n m) → (m < n) ⊎ (n ≤ m) → Split f (suc n)
+    m
 split_by f n m within earlier (inl lt) = split_on f n m (earlier lt)
 split_by f n m within earlier (inr le) =
     let same : n ≡ m = omega (arith, within, le) in

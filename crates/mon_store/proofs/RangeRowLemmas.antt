@@ -1,5 +1,6 @@
 -- The rows of a range among those that were accepted, and what becomes of a row by them.
-use Rattle.std.proofs.Common.{◌≡◌, ◌∙◌, ℕ, ℤ, ◌<ℤ◌, int_le, Bool, true, false, cond, Option, Some, None, List, [], ◌∷◌, ◌++◌, IfSome, length, map, refl, sym, ap, arith}
+use Rattle.std.proofs.Common.{◌≡◌, ◌∙◌, ℕ, ℤ, ◌<ℤ◌, int_le, Bool, true, false, cond, Option, Some, None, List, [], ◌∷◌}
+use Rattle.std.proofs.Common.{◌++◌, IfSome, length, map, refl, sym, ap, arith}
 use Rattle.std.specs.Option.{option_or}
 use Rattle.std.proofs.lemmas.Bool.Decides.{nat_tests}
 use Rattle.std.proofs.lemmas.Int.{ints}
@@ -13,7 +14,8 @@ use Rattle.mon_value.specs.declared.rows.Point.{Point}
 use Rattle.mon_value.specs.declared.rows.Row.{Row}
 use Rattle.mon_value.specs.declared.rows.SeriesKey.{SeriesKey}
 use Rattle.mon_config.specs.declared.config.Config.{Config}
-use Rattle.mon_store.specs.Writes.{fault_behind, full_fault, is_range, old_fault, range_fault, range_of_key, write_fault}
+use Rattle.mon_store.specs.Writes.{fault_behind, full_fault, is_range, old_fault, range_fault, range_of_key}
+use Rattle.mon_store.specs.Writes.{write_fault}
 use Rattle.mon_store.specs.declared.faults.WriteFault.{WriteFault}
 use Rattle.mon_store.specs.declared.faults.WriteFault.TheVariants as fault
 use Rattle.mon_store.specs.Stores.{range_rows}
@@ -21,16 +23,20 @@ use Rattle.mon_store.specs.Stores.{range_rows}
 -- ---- faults
 
 -- a row that isn't old ends later than its series
-old_none : (o : Option ℤ) (rest : Option WriteFault) (point : Point) → option_or (old_fault o point) rest ≡ None → IfSome o (λ last. last <ℤ point.end)
+old_none : (o : Option ℤ) (rest : Option WriteFault) (point : Point) → option_or (old_fault o point) rest ≡ None
+    → IfSome o (λ last. last <ℤ point.end)
 old_none None rest point none = tt
 old_none (Some last) rest point none = by (int_le point.end last) refl none
   where
-    by : (b : Bool) → int_le point.end last ≡ b → option_or (cond b (Some (fault.OldPoint last)) None) rest ≡ None → last <ℤ point.end
+    by : (b : Bool) → int_le point.end last ≡ b → option_or (cond b (Some (fault.OldPoint last)) None) rest ≡ None
+        → last <ℤ point.end
     by true le fault = absurd cc
     by false later fault = grind (arith, ints)
 
-pub is_later : (rows : List Row) (row : Row) (limit : ℕ) → fault_behind rows row limit ≡ None → IfSome (last_end (points_of row.key rows)) (λ last. last <ℤ row.point.end)
-is_later rows row limit none = old_none (last_end (points_of row.key rows)) (full_fault limit (length rows)) row.point none
+pub is_later : (rows : List Row) (row : Row) (limit : ℕ) → fault_behind rows row limit ≡ None
+    → IfSome (last_end (points_of row.key rows)) (λ last. last <ℤ row.point.end)
+is_later rows row limit none = old_none (last_end (points_of row.key rows)) (full_fault limit (length rows)) row.point
+    none
 
 -- ---- the rows of a range
 
@@ -38,36 +44,45 @@ module _ (config : Config) (range : Range) where
   abbrev lies : Row → Bool
   lies row = is_range range (range_of_key config row.key)
 
-  pub range_rows-push : (rows : List Row) (row : Row) → range_rows config range (rows ++ row ∷ []) ≡ range_rows config range rows ++ cond (is_range range (range_of_key config row.key)) (row ∷ []) []
+  pub range_rows-push : (rows : List Row) (row : Row) → range_rows config range (rows ++ row ∷ []) ≡ range_rows config
+      range rows ++ cond (is_range range (range_of_key config row.key)) (row ∷ []) []
   range_rows-push rows row = filter-append lies rows (row ∷ [])
 
   itself : is_range range (Some range) ≡ true
   itself = grind (arith, nat_tests)
 
-  points_by : (key : SeriesKey) (row : Row) (rows : List Row) (b c : Bool) → same_series key row.key ≡ b → lies row ≡ c → range_of_key config key ≡ Some range
+  points_by : (key : SeriesKey) (row : Row) (rows : List Row) (b c : Bool) → same_series key row.key ≡ b → lies row ≡ c
+      → range_of_key config key ≡ Some range
       → points_of key (range_rows config range rows) ≡ points_of key rows
-      → points_of key (cond c (row ∷ range_rows config range rows) (range_rows config range rows)) ≡ map (λ (r : Row). r.point) (cond b (row ∷ rows_of key rows) (rows_of key rows))
+      → points_of key (cond c (row ∷ range_rows config range rows) (range_rows config range rows))
+      ≡ map (λ (r : Row). r.point) (cond b (row ∷ rows_of key rows) (rows_of key rows))
   points_by key row rows true true same here at rest =
-      ap (λ d. map (λ (r : Row). r.point) (cond d (row ∷ rows_of key (range_rows config range rows)) (rows_of key (range_rows config range rows)))) same
+      ap (λ d. map (λ (r : Row). r.point) (cond d (row ∷ rows_of key (range_rows config range rows))
+      (rows_of key (range_rows config range rows)))) same
       ∙ ap (λ (points : List Point). row.point ∷ points) rest
   points_by key row rows true false same here at rest =
       absurd (let is : key ≡ row.key = (same_series-Decides key row.key).0 same in
-      let in_range : lies row ≡ true = ap (λ k. is_range range (range_of_key config k)) (sym is) ∙ ap (is_range range) at ∙ itself in cc)
+      let in_range : lies row ≡ true = ap (λ k. is_range range (range_of_key config k)) (sym is) ∙ ap (is_range range)
+      at ∙ itself in cc)
   points_by key row rows false true same here at rest =
-      ap (λ d. map (λ (r : Row). r.point) (cond d (row ∷ rows_of key (range_rows config range rows)) (rows_of key (range_rows config range rows)))) same ∙ rest
+      ap (λ d. map (λ (r : Row). r.point) (cond d (row ∷ rows_of key (range_rows config range rows))
+      (rows_of key (range_rows config range rows)))) same ∙ rest
   points_by key row rows false false same here at rest = rest
 
   -- a series' rows are all in its range
-  pub points_of-ranged : (key : SeriesKey) (rows : List Row) → range_of_key config key ≡ Some range → points_of key (range_rows config range rows) ≡ points_of key rows
+  pub points_of-ranged : (key : SeriesKey) (rows : List Row) → range_of_key config key ≡ Some range
+      → points_of key (range_rows config range rows) ≡ points_of key rows
   points_of-ranged key [] at = refl
   points_of-ranged key (row ∷ rows) at =
       points_by key row rows (same_series key row.key) (lies row) refl refl at (points_of-ranged key rows at)
 
   -- why a row is refused, by the rows of its range
-  pub fault_ranged : (rows own : List Row) (row : Row) (fault : Option WriteFault) → range_of_key config row.key ≡ Some range → own ≡ range_rows config range rows
+  pub fault_ranged : (rows own : List Row) (row : Row) (fault : Option WriteFault) → range_of_key config row.key
+      ≡ Some range → own ≡ range_rows config range rows
       → fault ≡ fault_behind own row config.range_points → write_fault config rows row ≡ fault
   fault_ranged rows own row fault at same is =
       ap (λ (o : Option Range). range_fault config rows row o) at
-      ∙ (λ i. option_or (old_fault (last_end (sym (points_of-ranged row.key rows at) i)) row.point) (full_fault config.range_points (sym (length-filter lies rows) i)))
+      ∙ (λ i. option_or (old_fault (last_end (sym (points_of-ranged row.key rows at) i)) row.point)
+      (full_fault config.range_points (sym (length-filter lies rows) i)))
       ∙ ap (λ (r : List Row). fault_behind r row config.range_points) (sym same)
       ∙ sym is

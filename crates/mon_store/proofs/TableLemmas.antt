@@ -1,5 +1,7 @@
 -- The answers of leaves and of zones, as they come one by one.
-use Rattle.std.proofs.Common.{◌≡◌, ◌∙◌, ◌<◌, ◌≤◌, ◌+◌, ◌&&◌, ℕ, ℤ, zero, suc, Bool, true, false, Option, None, nat_le, List, [], ◌∷◌, ◌++◌, Result, Ok, Err, IfErr, IfOk, length, length-append, take, refl, sym, ap, subst, arith}
+use Rattle.std.proofs.Common.{◌≡◌, ◌∙◌, ◌<◌, ◌≤◌, ◌+◌, ◌&&◌, ℕ, ℤ, zero, suc, Bool, true, false, Option, None, nat_le}
+use Rattle.std.proofs.Common.{List, [], ◌∷◌, ◌++◌, Result, Ok, Err, IfErr, IfOk, length, length-append, take, refl}
+use Rattle.std.proofs.Common.{sym, ap, subst, arith}
 use Rattle.std.specs.Option.{option_or}
 use Rattle.std.proofs.lemmas.Bool.Decides.{nat_tests}
 use Rattle.mon_value.specs.declared.refusals.Refusal.{Refusal}
@@ -32,44 +34,57 @@ module _ (typed : TypedTree) (moment : ℤ) (limit : ℕ) where
   leaf_parts_push (l ∷ leaves) (p ∷ parts) rows part all one = (all.0, leaf_parts_push leaves parts rows part all.1 one)
 
   -- a leaf more
-  pub leaf_parts_more : (f : ℕ → List Row) (n : ℕ) (parts : List LeafAnswer) (part : LeafAnswer) → AllLeafParts typed (listed f n) moment limit parts
-      → IsLeafPart typed (f n) moment limit part → AllLeafParts typed (listed f (n + 1)) moment limit (parts ++ part ∷ [])
+  pub leaf_parts_more : (f : ℕ → List Row) (n : ℕ) (parts : List LeafAnswer) (part : LeafAnswer) → AllLeafParts typed
+      (listed f n) moment limit parts
+      → IsLeafPart typed (f n) moment limit part → AllLeafParts typed (listed f (n + 1)) moment limit
+      (parts ++ part ∷ [])
   leaf_parts_more f n parts part all one =
       let next : suc n ≡ n + 1 = omega arith in
-      subst (λ k. AllLeafParts typed (listed f k) moment limit (parts ++ part ∷ [])) next (leaf_parts_push (listed f n) parts (f n) part all one)
+      subst (λ k. AllLeafParts typed (listed f k) moment limit (parts ++ part ∷ [])) next
+      (leaf_parts_push (listed f n) parts (f n) part all one)
 
-  zone_parts_push : (zones : List (List (List Row))) (parts : List ZoneAnswer) (leaves : List (List Row)) (part : ZoneAnswer)
+  zone_parts_push : (zones : List (List (List Row))) (parts : List ZoneAnswer) (leaves : List (List Row))
+      (part : ZoneAnswer)
       → AllZoneParts typed zones moment limit parts → IsZonePart typed leaves moment limit part
       → AllZoneParts typed (zones ++ leaves ∷ []) moment limit (parts ++ part ∷ [])
   zone_parts_push [] [] leaves part all one = (one, tt)
   zone_parts_push [] (p ∷ parts) leaves part all one = absurd all
   zone_parts_push (z ∷ zones) [] leaves part all one = absurd all
-  zone_parts_push (z ∷ zones) (p ∷ parts) leaves part all one = (all.0, zone_parts_push zones parts leaves part all.1 one)
+  zone_parts_push (z ∷ zones) (p ∷ parts) leaves part all one =
+      (all.0, zone_parts_push zones parts leaves part all.1 one)
 
   -- a zone more
-  pub zone_parts_more : (f : ℕ → List (List Row)) (n : ℕ) (parts : List ZoneAnswer) (part : ZoneAnswer) → AllZoneParts typed (listed f n) moment limit parts
-      → IsZonePart typed (f n) moment limit part → AllZoneParts typed (listed f (n + 1)) moment limit (parts ++ part ∷ [])
+  pub zone_parts_more : (f : ℕ → List (List Row)) (n : ℕ) (parts : List ZoneAnswer) (part : ZoneAnswer)
+      → AllZoneParts typed (listed f n) moment limit parts
+      → IsZonePart typed (f n) moment limit part → AllZoneParts typed (listed f (n + 1)) moment limit
+      (parts ++ part ∷ [])
   zone_parts_more f n parts part all one =
       let next : suc n ≡ n + 1 = omega arith in
-      subst (λ k. AllZoneParts typed (listed f k) moment limit (parts ++ part ∷ [])) next (zone_parts_push (listed f n) parts (f n) part all one)
+      subst (λ k. AllZoneParts typed (listed f k) moment limit (parts ++ part ∷ [])) next
+      (zone_parts_push (listed f n) parts (f n) part all one)
 
   -- an answer that came, and one that didn't
-  pub part_of : (rows : List Row) (result : Result LeafAnswer (Refusal OverLimit)) (part : LeafAnswer) → IsLeafAnswer typed rows moment limit result
+  pub part_of : (rows : List Row) (result : Result LeafAnswer (Refusal OverLimit)) (part : LeafAnswer)
+      → IsLeafAnswer typed rows moment limit result
       → result ≡ Ok part → IsLeafPart typed rows moment limit part
   part_of rows result part answer is = subst (IsLeafAnswer typed rows moment limit) is answer
 
-  pub refused_leaf : (rows : List Row) (result : Result LeafAnswer (Refusal OverLimit)) (refused : Refusal OverLimit) → IsLeafAnswer typed rows moment limit result
+  pub refused_leaf : (rows : List Row) (result : Result LeafAnswer (Refusal OverLimit)) (refused : Refusal OverLimit)
+      → IsLeafAnswer typed rows moment limit result
       → result ≡ Err refused → IsRefusedByLeaf typed rows moment limit refused
   refused_leaf rows result refused answer is = subst (IsLeafAnswer typed rows moment limit) is answer
 
   -- what a zone answers, by its two cases
-  pub zone_part : (leaves : List (List Row)) (result : Result ZoneAnswer (Refusal OverLimit)) → IsZoneAnswer typed leaves moment limit result
+  pub zone_part : (leaves : List (List Row)) (result : Result ZoneAnswer (Refusal OverLimit)) → IsZoneAnswer typed
+      leaves moment limit result
       → IfOk result (IsZonePart typed leaves moment limit)
   zone_part leaves (Ok part) answer = answer
   zone_part leaves (Err refused) answer = tt
 
-  pub zone_refused : (zones : List (List (List Row))) (leaves : List (List Row)) (result : Result ZoneAnswer (Refusal OverLimit)) → IsZoneAnswer typed leaves moment limit result
-      → ((refused : Refusal OverLimit) → IsRefusedByZone typed leaves moment limit refused → IsRefusedBy typed (all_rows zones) moment limit refused)
+  pub zone_refused : (zones : List (List (List Row))) (leaves : List (List Row))
+      (result : Result ZoneAnswer (Refusal OverLimit)) → IsZoneAnswer typed leaves moment limit result
+      → ((refused : Refusal OverLimit) → IsRefusedByZone typed leaves moment limit refused → IsRefusedBy typed
+      (all_rows zones) moment limit refused)
       → IfErr result (IsRefusedBy typed (all_rows zones) moment limit)
   zone_refused zones leaves (Ok part) answer whole = tt
   zone_refused zones leaves (Err refused) answer whole = whole refused answer
@@ -81,7 +96,8 @@ module _ (typed : TypedTree) (moment : ℤ) (limit : ℕ) where
       subst (IsAnswer typed rows moment limit) (sym is) (subst (IsRefusedBy typed rows moment limit) (sym same) by)
 
 -- a refusal that is handed on
-pub refused_on : {T : Type 0} (result : Result T (Refusal OverLimit)) (P : Refusal OverLimit → Type 0) (refused : Refusal OverLimit)
+pub refused_on : {T : Type 0} (result : Result T (Refusal OverLimit)) (P : Refusal OverLimit → Type 0)
+    (refused : Refusal OverLimit)
     → (r : Refusal OverLimit) × (result ≡ Err r) × (r ≡ refused) → P refused → IfErr result P
 refused_on {T} result P refused (r, is, same) holds =
     subst (λ (o : Result T (Refusal OverLimit)). IfErr o P) (sym is) (subst P (sym same) holds)
@@ -102,7 +118,8 @@ zone_leaf_there (zone ∷ zones) (suc z) i there within =
 
 -- ---- there are few leaves
 
-few_by : (good : Bool) (where_at : Place) (rest : Option Place) → option_or (unless good where_at) rest ≡ None → good ≡ true
+few_by : (good : Bool) (where_at : Place) (rest : Option Place) → option_or (unless good where_at) rest ≡ None → good
+    ≡ true
 few_by true where_at rest none = refl
 few_by false where_at rest none = absurd cc
 
@@ -114,7 +131,8 @@ middle false b c e = absurd cc
 pub few_leaves : (zones : List ZoneSpec) → IsLawful zones → length (leaves_in zones) ≤ 64
 few_leaves zones lawful =
     let few = few_by (are_few zones) _ _ lawful.few in
-    let le = middle (nat_le (length zones) 32) (nat_le (length (leaves_in zones)) 64) (nat_le (length (ranges_in zones)) 512) few in
+    let le = middle (nat_le (length zones) 32) (nat_le (length (leaves_in zones)) 64)
+    (nat_le (length (ranges_in zones)) 512) few in
     grind (arith, nat_tests)
 
 -- ---- one leaf's refusal, and one zone's, among all
@@ -139,5 +157,6 @@ module _ (config : Config) (rows : List Row) (zone place : ℕ) where
         first = listed leaf_at place;
         rest = inner.rest;
         after = outer.rest;
-        is = outer.is ∙ ap (λ (leaves : List (List Row)). listed (zone_rows config rows) zone ++ leaves ∷ outer.rest) inner.is;
+        is = outer.is ∙ ap (λ (leaves : List (List Row)). listed (zone_rows config rows) zone ++ leaves ∷ outer.rest)
+            inner.is;
       }

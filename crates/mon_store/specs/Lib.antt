@@ -1,4 +1,3 @@
-pub mod QueryTypes
 pub mod Stores
 pub mod within
 pub mod Writes

@@ -6,7 +6,7 @@ ghost use Rattle.mon_meaning.specs.LeafAnswers.{IsLeafAnswer};
 ghost use Rattle.mon_topo.specs.Zones.{leaves_in};
 ghost use Rattle.mixer.specs.Divisions.{all_rows};
 ghost use Rattle.mixer.specs.ZoneAnswers.{IsZonePart};
-ghost use Rattle.mon_store.specs.QueryTypes.{HasType};
+ghost use Rattle.mql_types.specs.Soundness.{IsQueryType};
 ghost use Rattle.mon_store.specs.within.Divisions.{divided_rows, leaf_rows, zone_rows};
 ghost use Rattle.mon_store.specs.Stores.{AreSound, accepted_rows};
 
@@ -33,7 +33,7 @@ impl Store {
         moment: i64,
     ) -> Result<Table, Refusal<OverLimit>>
         requires sound { AreSound config.now self.now }
-        requires typed { HasType config.now.schemas (typed_tree plan.now.typed) }
+        requires typed { IsQueryType config.now.schemas (typed_tree plan.now.typed) }
         requires moment { pos 0 ≤ℤ moment }
         ensures answer { IsAnswer (typed_tree plan.now.typed) (accepted_rows self.now) moment config.now.limit result }
     {
@@ -55,7 +55,7 @@ impl Store {
         moment: i64,
     ) -> Result<ZoneAnswer, Refusal<OverLimit>>
         requires sound { AreSound config.now self.now }
-        requires typed { HasType config.now.schemas (typed_tree plan.now.typed) }
+        requires typed { IsQueryType config.now.schemas (typed_tree plan.now.typed) }
         requires moment { pos 0 ≤ℤ moment }
         requires there { zone.0 < length config.now.topology }
         ensures part { IfOk result (IsZonePart (typed_tree plan.now.typed)
@@ -85,7 +85,7 @@ impl Store {
         moment: i64,
     ) -> Result<LeafAnswer, Refusal<OverLimit>>
         requires sound { AreSound config.now self.now }
-        requires typed { HasType config.now.schemas (typed_tree plan.now.typed) }
+        requires typed { IsQueryType config.now.schemas (typed_tree plan.now.typed) }
         requires moment { pos 0 ≤ℤ moment }
         requires there { leaf.0 < length (leaves_in config.now.topology) }
         ensures answer { IsLeafAnswer (typed_tree plan.now.typed)

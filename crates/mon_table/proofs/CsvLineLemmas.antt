@@ -1,5 +1,6 @@
 -- A line of cells that are texts is a text.
-use Rattle.std.proofs.Common.{◌≡◌, ◌==◌, ℕ, suc, ◌<◌, ◌≤◌, Bool, true, false, cond, List, [], ◌∷◌, ◌++◌, length, get_or, IsUtf8, inl, inr, refl, sym, ap, ◌∙◌, subst, arith, append-nil}
+use Rattle.std.proofs.Common.{◌≡◌, ◌==◌, ℕ, suc, ◌<◌, ◌≤◌, Bool, true, false, cond, List, [], ◌∷◌, ◌++◌, length}
+use Rattle.std.proofs.Common.{get_or, IsUtf8, inl, inr, refl, sym, ap, ◌∙◌, subst, arith, append-nil}
 use Rattle.std.proofs.lemmas.Bool.{and_parts, cases_lt}
 use Rattle.std.proofs.lemmas.Bool.Decides.{nat_tests}
 use Rattle.std.proofs.lemmas.Str.{IsUtf8-append, IsUtf8-nil, IsUtf8-encode, encode_ascii, inside_one}
@@ -11,7 +12,8 @@ use Rattle.mon_table.specs.Tables.{csv_line, line_writer}
 -- ---- ASCII
 
 ascii_then : (x : ℕ) (xs : List ℕ) → x < 128 → IsUtf8 xs → IsUtf8 (x ∷ xs)
-ascii_then x xs small u = IsUtf8-append (x ∷ []) xs (subst IsUtf8 (encode_ascii x small) (IsUtf8-encode x (low_scalar x (omega arith)))) u
+ascii_then x xs small u = IsUtf8-append (x ∷ []) xs (subst IsUtf8 (encode_ascii x small)
+    (IsUtf8-encode x (low_scalar x (omega arith)))) u
 
 -- ---- a cell between its quotes
 
@@ -26,7 +28,8 @@ inside_nil : inside [] ≡ []
 unfolding escaped
 inside_nil = refl
 
-branch-append : (b : Bool) (x : ℕ) (xs ys : List ℕ) → cond b (34 ∷ x ∷ (xs ++ ys)) (x ∷ (xs ++ ys)) ≡ cond b (34 ∷ x ∷ xs) (x ∷ xs) ++ ys
+branch-append : (b : Bool) (x : ℕ) (xs ys : List ℕ) → cond b (34 ∷ x ∷ (xs ++ ys)) (x ∷ (xs ++ ys))
+    ≡ cond b (34 ∷ x ∷ xs) (x ∷ xs) ++ ys
 branch-append true x xs ys = refl
 branch-append false x xs ys = refl
 
@@ -55,10 +58,12 @@ ascii_branch false x small = ascii_then x [] small IsUtf8-nil
 one_char : (c : ℕ) → scalar c ≡ true → IsUtf8 (inside (encode c))
 one_char c ok = elim (cases_lt c 128) [
   | inl small ↦
-      let this = ap inside (encode_ascii c small) ∙ inside_cons c [] ∙ ap (λ l. cond (c == 34) (34 ∷ c ∷ l) (c ∷ l)) inside_nil in
+      let this = ap inside (encode_ascii c small) ∙ inside_cons c [] ∙ ap (λ l. cond (c == 34) (34 ∷ c ∷ l) (c ∷ l))
+      inside_nil in
       subst IsUtf8 (sym this) (ascii_branch (c == 34) c small)
   | inr big ↦
-      let high : (k : ℕ) → k < length (encode c) → 128 ≤ get_or (encode c) k 0 = λ k below. elim (cases_lt (get_or (encode c) k 0) 128) [
+      let high : (k : ℕ) → k < length (encode c) → 128 ≤ get_or (encode c) k 0 = λ k below.
+      elim (cases_lt (get_or (encode c) k 0) 128) [
         | inl low ↦ absurd (omega (arith, inside_one c [] (encode c) k (sym (append-nil _)) below low))
         | inr h ↦ h
       ] in
@@ -73,7 +78,8 @@ all_chars (c ∷ cs) e =
 
 quoted-text : (s : List ℕ) → IsUtf8 s → IsUtf8 (quoted line_writer s)
 quoted-text s u =
-    ascii_then 34 _ (omega arith) (IsUtf8-append (inside s) (34 ∷ []) (subst (λ l. IsUtf8 (inside l)) u.1.1 (all_chars u.0 u.1.0)) (ascii_then 34 [] (omega arith) IsUtf8-nil))
+    ascii_then 34 _ (omega arith) (IsUtf8-append (inside s) (34 ∷ []) (subst (λ l. IsUtf8 (inside l)) u.1.1
+    (all_chars u.0 u.1.0)) (ascii_then 34 [] (omega arith) IsUtf8-nil))
 
 -- ---- cells and lines
 
@@ -87,7 +93,8 @@ cell-text s u = cell_branch (by_style line_writer.style (needs_quotes line_write
 cells-text : (cells : List (List ℕ)) → AllText cells → IsUtf8 (fields_text line_writer cells)
 unfolding AllText fields_text
 cells-text [] all = IsUtf8-nil
-cells-text (cell ∷ cells) all = ascii_then 44 _ (omega arith) (IsUtf8-append _ _ (cell-text cell all.0) (cells-text cells all.1))
+cells-text (cell ∷ cells) all = ascii_then 44 _ (omega arith) (IsUtf8-append _ _ (cell-text cell all.0)
+    (cells-text cells all.1))
 
 body-text : (cells : List (List ℕ)) → AllText cells → IsUtf8 (row_body line_writer cells)
 unfolding AllText
@@ -100,4 +107,5 @@ blank-text false = IsUtf8-nil
 
 pub line-text : (cells : List (List ℕ)) → AllText cells → IsUtf8 (csv_line cells)
 line-text cells all =
-    IsUtf8-append _ _ (body-text cells all) (IsUtf8-append _ _ (blank-text (is_blank line_writer cells)) (ascii_then 10 [] (omega arith) IsUtf8-nil))
+    IsUtf8-append _ _ (body-text cells all) (IsUtf8-append _ _ (blank-text (is_blank line_writer cells))
+    (ascii_then 10 [] (omega arith) IsUtf8-nil))

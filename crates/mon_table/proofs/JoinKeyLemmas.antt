@@ -1,5 +1,6 @@
 -- Rows that are kept under their keys.
-use Rattle.std.proofs.Common.{◌≡◌, ◌&&◌, Bool, true, false, cond, List, [], ◌∷◌, ◌++◌, map, Some, Vec, Bor, refl, sym, ap, ◌∙◌, append-nil}
+use Rattle.std.proofs.Common.{◌≡◌, ◌&&◌, Bool, true, false, cond, List, [], ◌∷◌, ◌++◌, map, Some, Vec, Bor, refl, sym}
+use Rattle.std.proofs.Common.{ap, ◌∙◌, append-nil}
 use Rattle.std.specs.Cmp.Lexicographic.{pointwise}
 use Rattle.std.specs.Ordering.{int_eq}
 use Rattle.std.specs.declared.alloc.Global.{Global}
@@ -16,7 +17,8 @@ use Rattle.mon_table.specs.contracts.keys.JoinKeyPartialEq.TheImpl as derived
 -- ---- keys
 
 pointwise-now : (xs ys : List (Bor Value))
-    → pointwise (λ (x y : Bor Value). same_value x.now y.now) xs ys ≡ pointwise same_value (map (λ x. x.now) xs) (map (λ y. y.now) ys)
+    → pointwise (λ (x y : Bor Value). same_value x.now y.now) xs ys ≡ pointwise same_value (map (λ x. x.now) xs)
+    (map (λ y. y.now) ys)
 pointwise-now [] [] = refl
 pointwise-now [] (y ∷ ys) = refl
 pointwise-now (x ∷ xs) [] = refl
@@ -28,7 +30,8 @@ eq-same_join_key = λ i a b. both a b i
   where
     both : (a b : JoinKey) → derived.eq-value.it a b ≡ same_join_key a b
     both a b =
-        ap (λ (same : Value → Value → Bool). int_eq a.time b.time && pointwise (λ (x y : Bor Value). same x.now y.now) a.cells.items b.cells.items) (λ i x y. eq-same_value x y i)
+        ap (λ (same : Value → Value → Bool). int_eq a.time b.time && pointwise (λ (x y : Bor Value). same x.now y.now)
+        a.cells.items b.cells.items) (λ i x y. eq-same_value x y i)
         ∙ ap (λ rest. int_eq a.time b.time && rest) (pointwise-now a.cells.items b.cells.items)
 
 is_false : (b : Bool) → (b ≡ true → ⊥) → b ≡ false
@@ -37,26 +40,34 @@ is_false false h = refl
 
 same_row-back : (a b : TimedRow) (c : Bool) → same_row a b ≡ c → same_row b a ≡ c
 same_row-back a b true e = (same_row-Decides b a).1 (sym ((same_row-Decides a b).0 e))
-same_row-back a b false e = is_false (same_row b a) (λ h. let back : same_row a b ≡ true = (same_row-Decides a b).1 (sym ((same_row-Decides b a).0 h)) in cc)
+same_row-back a b false e = is_false (same_row b a) (λ h. let back : same_row a b ≡ true = (same_row-Decides a b).1
+    (sym ((same_row-Decides b a).0 h)) in cc)
 
 -- ---- a row more
 
-module _ {S : Type 0} (m n : IndexMap JoinKey (Vec (Bor TimedRow) Global) S) (key : JoinKey) (row : TimedRow) (rows : Vec (Bor TimedRow) Global) where
-  added_at : (other : JoinKey) (b : Bool) → same_join_key key other ≡ b → get same_join_key n other ≡ cond b (Some rows) (get same_join_key m other)
+module _ {S : Type 0} (m n : IndexMap JoinKey (Vec (Bor TimedRow) Global) S) (key : JoinKey) (row : TimedRow)
+    (rows : Vec (Bor TimedRow) Global) where
+  added_at : (other : JoinKey) (b : Bool) → same_join_key key other ≡ b → get same_join_key n other
+      ≡ cond b (Some rows) (get same_join_key m other)
       → rows_behind rows.items ≡ entry_rows (get same_join_key m key) ++ row ∷ []
-      → entry_rows (get same_join_key n other) ≡ entry_rows (get same_join_key m other) ++ cond (same_join_key other key) (row ∷ []) []
+      → entry_rows (get same_join_key n other) ≡ entry_rows (get same_join_key m other)
+      ++ cond (same_join_key other key) (row ∷ []) []
   added_at other true same new grown =
       let one : key_row key ≡ key_row other = (same_row-Decides (key_row key) (key_row other)).0 same in
       ap entry_rows new
       ∙ grown
       ∙ ap (λ (k : TimedRow). entry_rows (get (λ (a b : JoinKey). same_row k (key_row b)) m key) ++ row ∷ []) one
-      ∙ ap (λ c. entry_rows (get same_join_key m other) ++ cond c (row ∷ []) []) (sym (same_row-back (key_row key) (key_row other) true same))
+      ∙ ap (λ c. entry_rows (get same_join_key m other) ++ cond c (row ∷ []) [])
+      (sym (same_row-back (key_row key) (key_row other) true same))
   added_at other false apart new grown =
       ap entry_rows new
       ∙ sym (append-nil (entry_rows (get same_join_key m other)))
-      ∙ ap (λ c. entry_rows (get same_join_key m other) ++ cond c (row ∷ []) []) (sym (same_row-back (key_row key) (key_row other) false apart))
+      ∙ ap (λ c. entry_rows (get same_join_key m other) ++ cond c (row ∷ []) [])
+      (sym (same_row-back (key_row key) (key_row other) false apart))
 
   -- a row more under its key
-  pub entry_rows-added : UpdatesBy same_join_key (same_join_key key) m n (Some rows) → rows_behind rows.items ≡ entry_rows (get same_join_key m key) ++ row ∷ []
-      → (other : JoinKey) → entry_rows (get same_join_key n other) ≡ entry_rows (get same_join_key m other) ++ cond (same_join_key other key) (row ∷ []) []
+  pub entry_rows-added : UpdatesBy same_join_key (same_join_key key) m n (Some rows) → rows_behind rows.items
+      ≡ entry_rows (get same_join_key m key) ++ row ∷ []
+      → (other : JoinKey) → entry_rows (get same_join_key n other) ≡ entry_rows (get same_join_key m other)
+      ++ cond (same_join_key other key) (row ∷ []) []
   entry_rows-added updates grown other = added_at other (same_join_key key other) refl (updates.0 other) grown

@@ -13,8 +13,10 @@ pairs_alike lefts rights rows others same left =
     IsPermutation-map (pair_of lefts rights left) _ _ (filter-permutation (is_pair lefts rights left) rows others same)
 
 -- the rows of both tables in another order
-pub joins_alike : (lefts rights : List Column) (rows rows' others others' : List TimedRow) → JoinsAlike lefts rights rows rows' others others'
+pub joins_alike : (lefts rights : List Column) (rows rows' others others' : List TimedRow) → JoinsAlike lefts rights
+    rows rows' others others'
 joins_alike lefts rights rows rows' others others' left right =
     let pairs = pairs_of lefts rights others in
     let pairs' = pairs_of lefts rights others' in
-    IsPermutation-trans _ _ _ (flat_map-permutation pairs rows rows' left) (flat_map-alike pairs pairs' (pairs_alike lefts rights others others' right) rows')
+    IsPermutation-trans _ _ _ (flat_map-permutation pairs rows rows' left)
+    (flat_map-alike pairs pairs' (pairs_alike lefts rights others others' right) rows')

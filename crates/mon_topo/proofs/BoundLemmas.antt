@@ -1,7 +1,8 @@
--- Bounds that rise part the targets of a zone: those of one range, and none besides, lie between its bound and the next.
-use Rattle.std.proofs.Common.{◌≡◌, ◌∙◌, ℕ, zero, suc, ◌+◌, ◌-◌, ◌<◌, ◌≤◌, Bool, true, false, List, [], ◌∷◌, Option, Some, None, cond, option_map, length, get_or, refl, ap, sym, subst, arith, inl, inr, ◌⊎◌}
+-- Bounds that rise part the targets of a zone: those of one range, and none besides, lie between its bound and the
+-- next.
+use Rattle.std.proofs.Common.{◌≡◌, ◌∙◌, ℕ, zero, suc, ◌+◌, ◌-◌, ◌<◌, ◌≤◌, Bool, true, false, List, [], ◌∷◌, Option}
+use Rattle.std.proofs.Common.{Some, None, cond, option_map, length, get_or, refl, ap, sym, subst, arith, inl, inr, ◌⊎◌}
 use Rattle.std.specs.Cmp.{IsTotalOrder}
-use Rattle.std.specs.Cmp.Lexicographic.{slice_cmp}
 use Rattle.std.specs.List.Sorted.{IsPartitionedBy, IsPartitionPoint}
 use Rattle.std.specs.Option.{option_or}
 use Rattle.std.specs.Prelude.{◌==◌}
@@ -15,8 +16,6 @@ use Rattle.mon_value.proofs.OrderLemmas.{value_total}
 use Rattle.mon_value.specs.Order.{field_as_value, field_cmp}
 use Rattle.mon_value.specs.declared.rows.Target.{Target}
 use Rattle.mon_value.specs.declared.values.FieldValue.{FieldValue}
-use Rattle.mon_value.specs.declared.values.FieldValue.TheVariants as value
-use Rattle.mon_value.specs.contracts.values.FieldValueOrd.TheImpl as derived
 use Rattle.mon_topo.proofs.PlaceLemmas.{passed}
 use Rattle.mon_topo.specs.Bounds.{bound_at, bound_cmp, is_above, is_within, last_within, target_bound, IsHeldAt}
 use Rattle.mon_topo.specs.Faults.{disorder_in, fall_in}
@@ -31,21 +30,6 @@ field_total = on_total field_as_value value_total
 
 bound_total : IsTotalOrder bound_cmp
 bound_total = lists_total field_total
-
--- the derived order of fields is that of the definition
-cmp-field_cmp : (a b : FieldValue) → derived.cmp-value.it a b ≡ field_cmp a b
-cmp-field_cmp (value.Int y) (value.Int z) = refl
-cmp-field_cmp (value.Int y) (value.Bool q) = refl
-cmp-field_cmp (value.Int y) (value.Text t) = refl
-cmp-field_cmp (value.Bool p) (value.Int z) = refl
-cmp-field_cmp (value.Bool p) (value.Bool q) = refl
-cmp-field_cmp (value.Bool p) (value.Text t) = refl
-cmp-field_cmp (value.Text s) (value.Int z) = refl
-cmp-field_cmp (value.Text s) (value.Bool q) = refl
-cmp-field_cmp (value.Text s) (value.Text t) = refl
-
-pub cmp-bound_cmp : (a b : List FieldValue) → slice_cmp derived.cmp-value.it a b ≡ bound_cmp a b
-cmp-bound_cmp a b = λ i. slice_cmp (λ x y. cmp-field_cmp x y i) a b
 
 below : (a b c : List FieldValue) (o p : Ordering) → bound_cmp a b ≡ o → bound_cmp b c ≡ p
     → is_lt o ≡ true → is_le p ≡ true → is_le (bound_cmp a c) ≡ true
@@ -69,14 +53,16 @@ abbrev Rise : List FieldValue → List RangeSpec → Type 0
 Rise before [] = Unit {0}
 Rise before (range ∷ ranges) = (is_above before range.from ≡ true) × Rise range.from ranges
 
-rise : (i j : ℕ) (before : List FieldValue) (ranges : List RangeSpec) → fall_in i j before ranges ≡ None → Rise before ranges
+rise : (i j : ℕ) (before : List FieldValue) (ranges : List RangeSpec) → fall_in i j before ranges ≡ None
+    → Rise before ranges
 rise i j before [] e = tt
 rise i j before (range ∷ ranges) e =
     let both = passed (is_above before range.from) (place.Bound i j) (fall_in i (j + 1) range.from ranges) e in
     (both.0, rise i (j + 1) range.from ranges both.1)
 
 -- a bound is not above a target where a later one isn't
-all_before : (target : Target) (before : List FieldValue) (ranges : List RangeSpec) → Rise before ranges → (j : ℕ) (d : RangeSpec)
+all_before : (target : Target) (before : List FieldValue) (ranges : List RangeSpec) → Rise before ranges
+    → (j : ℕ) (d : RangeSpec)
     → j < length ranges → is_within (get_or ranges j d).from target ≡ true → is_within before target ≡ true
 all_before target before [] up j d there within = absurd (omega arith)
 all_before target before (range ∷ ranges) up zero d there within = within_below before range.from target up.0 within
@@ -105,7 +91,8 @@ one_of : (b : Bool) → cond {A = Option ℕ} b (Some 0) None ≡ None → b ≡
 one_of true e = absurd (cc)
 one_of false e = refl
 
-no_later : (o : Option ℕ) (b : Bool) → option_or (option_map (λ (j : ℕ). suc j) o) (cond {A = Option ℕ} b (Some 0) None) ≡ None
+no_later : (o : Option ℕ) (b : Bool) → option_or (option_map (λ (j : ℕ). suc j) o) (cond {A = Option ℕ} b (Some 0)
+    None) ≡ None
     → (o ≡ None) × (b ≡ false)
 no_later None b e = (refl, one_of b e)
 no_later (Some j) b e = absurd (cc)
@@ -135,7 +122,8 @@ later_than_next target range ranges j last (suc k) d above there = last.later k 
 last_at : (target : Target) (range : RangeSpec) (ranges : List RangeSpec) (j : ℕ)
     → ((m : ℕ) → last_within target ranges ≡ Some m → IsLast target ranges m)
     → (o : Option ℕ) (b : Bool) → last_within target ranges ≡ o → is_within range.from target ≡ b
-    → option_or (option_map (λ (k : ℕ). suc k) o) (cond {A = Option ℕ} b (Some 0) None) ≡ Some j → IsLast target (range ∷ ranges) j
+    → option_or (option_map (λ (k : ℕ). suc k) o) (cond {A = Option ℕ} b (Some 0) None) ≡ Some j
+    → IsLast target (range ∷ ranges) j
 last_at target range ranges j more None true is same e =
     let first : 0 ≡ j = cc in
     subst (λ (k : ℕ). IsLast target (range ∷ ranges) k) first (record {
@@ -158,7 +146,8 @@ found_last : (target : Target) (ranges : List RangeSpec) (j : ℕ) → last_with
     → IsLast target ranges j
 found_last target [] j e = absurd (cc)
 found_last target (range ∷ ranges) j e =
-    last_at target range ranges j (found_last target ranges) (last_within target ranges) (is_within range.from target) refl refl e
+    last_at target range ranges j (found_last target ranges) (last_within target ranges) (is_within range.from target)
+    refl refl e
 
 -- ---- a zone's ranges in order
 
@@ -191,7 +180,8 @@ in_order i (range ∷ ranges) e =
       parts = λ target. parted_all target range ranges (rise i 1 range.from ranges both.1);
     }
 
-within_some : (target : Target) (ranges : List RangeSpec) (o : Option ℕ) → last_within target ranges ≡ o → AreInOrder ranges
+within_some : (target : Target) (ranges : List RangeSpec) (o : Option ℕ) → last_within target ranges ≡ o
+    → AreInOrder ranges
     → (j : ℕ) × (last_within target ranges ≡ Some j)
 within_some target ranges None is order =
     let none = none_within target ranges is 0 no_range order.some in
@@ -211,10 +201,13 @@ held_once target ranges j order last = (
   λ other held. only other held (cases_lt other j) (cases_lt j other),
 )
   where
-    only : (other : ℕ) → IsHeldAt target ranges other → (other < j) ⊎ (j ≤ other) → (j < other) ⊎ (other ≤ j) → other ≡ j
+    only : (other : ℕ) → IsHeldAt target ranges other → (other < j) ⊎ (j ≤ other) → (j < other) ⊎ (other ≤ j) → other
+        ≡ j
     only other held (inl below) up =
-        let next : is_within (bound_at ranges (other + 1)) target ≡ true = order.parts target (other + 1) j no_range (omega arith) last.there (last.within no_range) in
-        let none : is_within (bound_at ranges (other + 1)) target ≡ false = held.before_next (omega (arith, last.there)) in
+        let next : is_within (bound_at ranges (other + 1)) target ≡ true = order.parts target (other + 1) j no_range
+        (omega arith) last.there (last.within no_range) in
+        let none : is_within (bound_at ranges (other + 1)) target ≡ false = held.before_next
+        (omega (arith, last.there)) in
         absurd (cc)
     only other held (inr le) (inl above) =
         let none = last.later other no_range above held.there in
@@ -224,7 +217,8 @@ held_once target ranges j order last = (
 
 -- what a binary search finds: behind the last
 point_last : (target : Target) (ranges : List RangeSpec) (p : ℕ) → p ≤ length ranges
-    → IsPartitionPoint (λ range. is_within range.from target ≡ true) (λ range. is_within range.from target ≡ false) ranges p
+    → IsPartitionPoint (λ range. is_within range.from target ≡ true) (λ range. is_within range.from target ≡ false)
+    ranges p
     → (j : ℕ) → IsLast target ranges j → p ≡ j + 1
 point_last target ranges p le point j last = by (cases_lt j p) (cases_lt (j + 1) p)
   where
@@ -234,7 +228,8 @@ point_last target ranges p le point j last = by (cases_lt j p) (cases_lt (j + 1)
         let some = last.within no_range in
         absurd (cc)
     by (inl above) (inl more) =
-        let some : is_within (get_or ranges (j + 1) no_range).from target ≡ true = point.0 (j + 1) no_range (omega arith) more in
+        let some : is_within (get_or ranges (j + 1) no_range).from target ≡ true = point.0 (j + 1) no_range
+        (omega arith) more in
         let none = last.later (j + 1) no_range (omega arith) (omega arith) in
         absurd (cc)
     by (inl above) (inr most) = omega arith
@@ -250,7 +245,8 @@ has_one target ranges order =
     (some.0, some.1, once.0, once.1)
 
 pub point_found : (target : Target) (ranges : List RangeSpec) (p : ℕ) → AreInOrder ranges → p ≤ length ranges
-    → IsPartitionPoint (λ range. is_within range.from target ≡ true) (λ range. is_within range.from target ≡ false) ranges p
+    → IsPartitionPoint (λ range. is_within range.from target ≡ true) (λ range. is_within range.from target ≡ false)
+    ranges p
     → (0 < p) × (last_within target ranges ≡ Some (p - 1))
 point_found target ranges p order le point =
     let some = within_some target ranges (last_within target ranges) refl order in

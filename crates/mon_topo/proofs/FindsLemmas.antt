@@ -1,5 +1,6 @@
 -- What is found of names, locations and leaves.
-use Rattle.std.proofs.Common.{◌≡◌, ◌∙◌, ℕ, ◌+◌, Bool, true, false, ◌||◌, List, [], ◌∷◌, ◌++◌, Option, Some, None, cond, is_some, length, refl, ap, sym, arith}
+use Rattle.std.proofs.Common.{◌≡◌, ◌∙◌, ℕ, ◌+◌, Bool, true, false, ◌||◌, List, [], ◌∷◌, ◌++◌, Option, Some, None, cond}
+use Rattle.std.proofs.Common.{is_some, length, refl, ap, sym, arith}
 use Rattle.std.specs.List.{list_any, position_from}
 use Rattle.std.specs.Map.{keys_of, lookup}
 use Rattle.std.specs.Option.{option_or}
@@ -8,10 +9,6 @@ use Rattle.mon_value.specs.Same.{same_text}
 use Rattle.mon_value.proofs.SameLemmas.{same_text-Decides}
 use Rattle.mon_topo.specs.Indexed.{all_numbered, located, numbered, with_name, FindsPlaces}
 use Rattle.mon_topo.specs.declared.zones.ZoneSpec.{ZoneSpec}
-
-option_or-assoc : {X : Type 0} (a b c : Option X) → option_or (option_or a b) c ≡ option_or a (option_or b c)
-option_or-assoc None b c = refl
-option_or-assoc (Some x) b c = refl
 
 option_or-cond : {X : Type 0} (b : Bool) (x : X) (o p : Option X)
     → option_or (cond b (Some x) o) p ≡ cond b (Some x) (option_or o p)
@@ -39,11 +36,6 @@ pub lookup-numbered : (text : List ℕ) (n : ℕ) (texts : List (List ℕ))
 lookup-numbered text n [] = refl
 lookup-numbered text n (t ∷ texts) = ap (cond (same_text text t) (Some n)) (lookup-numbered text (n + 1) texts)
 
-cond-or : {X : Type 0} (a b : Bool) (x : X) (o : Option X)
-    → cond a (Some x) (option_or (cond b (Some x) None) o) ≡ option_or (cond (a || b) (Some x) None) o
-cond-or true b x o = refl
-cond-or false b x o = refl
-
 or_one : {X : Type 0} (b : Bool) (x : X) (o : Option X) → option_or (cond b (Some x) None) o ≡ cond b (Some x) o
 or_one true x o = refl
 or_one false x o = refl
@@ -66,7 +58,8 @@ lookup-located location i [] = refl
 lookup-located location i (zone ∷ zones) =
     let own : Bool = list_any (same_text location) zone.locations in
     lookup-append (same_text location) (all_numbered i zone.locations) (located (i + 1) zones)
-    ∙ ap (λ o. option_or o (lookup (same_text location) (located (i + 1) zones))) (lookup-all_numbered location i zone.locations)
+    ∙ ap (λ o. option_or o (lookup (same_text location) (located (i + 1) zones))) (lookup-all_numbered location i
+    zone.locations)
     ∙ or_one own i (lookup (same_text location) (located (i + 1) zones))
     ∙ ap (cond own (Some i)) (lookup-located location (i + 1) zones)
 
@@ -103,5 +96,6 @@ pub FindsPlaces-with_name : (es : List (List ℕ × ℕ)) (names : List (List �
 FindsPlaces-with_name es names name n long finds text =
     added text name n es (list_any (same_text name) (keys_of es)) refl
     ∙ ap (λ o. option_or o (cond (same_text text name) (Some n) None)) (finds text)
-    ∙ ap (λ k. option_or (position_from (same_text text) 0 names) (cond (same_text text name) (Some k) None)) (sym long ∙ omega arith)
+    ∙ ap (λ k. option_or (position_from (same_text text) 0 names) (cond (same_text text name) (Some k) None))
+    (sym long ∙ omega arith)
     ∙ sym (position_from-append (same_text text) 0 names (name ∷ []))

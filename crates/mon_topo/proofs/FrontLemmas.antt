@@ -1,13 +1,14 @@
 -- Lists of which one begins with another, and the longer one of two.
-use Rattle.std.proofs.Common.{◌≡◌, ℕ, zero, suc, ◌+◌, ◌<◌, ◌≤◌, List, [], ◌∷◌, ◌++◌, length, get_or, take, drop, refl, sym, ap, subst, ◌∙◌, append_assoc, length-append, arith}
+use Rattle.std.proofs.Common.{◌≡◌, ℕ, ◌+◌, ◌<◌, ◌≤◌, List, [], ◌∷◌, ◌++◌, length, take, drop, refl}
+use Rattle.std.proofs.Common.{sym, ap, subst, ◌∙◌, append_assoc, length-append, arith}
 use Rattle.std.specs.Prelude.{nat_lt, Contains}
 use Rattle.std.specs.List.{flat_map}
-use Rattle.std.proofs.lemmas.Bool.{cond_above, cond_below, cond_both, ltb-true, ltb-false}
+use Rattle.std.proofs.lemmas.Bool.{cond_both, ltb-true, ltb-false}
 use Rattle.std.proofs.lemmas.List.{take_at, take-append-drop, take_all, take-take, take-append-le}
 use Rattle.std.proofs.lemmas.List.Concat.{flat_map-append}
 use Rattle.std.proofs.lemmas.List.Elements.{Contains-append_left}
 use Rattle.mon_topo.specs.HeldHistories.{BeginsWith}
-use Rattle.mon_topo.specs.SeenHistories.{longer, longer_each}
+use Rattle.mon_value.specs.Farther.{longer}
 
 module _ {X : Type 0} where
   -- what follows the front
@@ -100,27 +101,6 @@ module _ {X : Type 0} where
       omega arith)
 
 -- ---- lists of lists
-
-longer_none : {X : Type 0} (b : List X) → b ≡ longer [] b
-longer_none [] = refl
-longer_none (x ∷ b) = cond_below zero (suc (length b)) (x ∷ b) [] (omega arith)
-
-longer_alone : {X : Type 0} (a : List X) → a ≡ longer a []
-longer_alone [] = refl
-longer_alone (x ∷ a) = cond_above (suc (length a)) zero [] (x ∷ a) (x ∷ a) (omega arith) refl
-
-pub longer_each-get : {X : Type 0} (some others : List (List X)) (i : ℕ)
-    → get_or (longer_each some others) i [] ≡ longer (get_or some i []) (get_or others i [])
-longer_each-get [] others i = longer_none (get_or others i [])
-longer_each-get (a ∷ some) [] i = longer_alone (get_or (a ∷ some) i [])
-longer_each-get (a ∷ some) (b ∷ others) zero = refl
-longer_each-get (a ∷ some) (b ∷ others) (suc i) = longer_each-get some others i
-
-pub longer_each-length : {X : Type 0} (some others : List (List X)) → length some ≡ length others
-    → length (longer_each some others) ≡ length some
-longer_each-length [] others e = sym e
-longer_each-length (a ∷ some) [] e = refl
-longer_each-length (a ∷ some) (b ∷ others) e = ap suc (longer_each-length some others (omega arith))
 
 pub begins-flat_map : {X Y : Type 0} (f : X → List Y) (all front : List X) → BeginsWith all front
     → BeginsWith (flat_map f all) (flat_map f front)

@@ -1,5 +1,7 @@
--- Histories that were seen: those that grow bear out as much, two of one truth are held together, and one entry more is.
-use Rattle.std.proofs.Common.{◌≡◌, ◌≢◌, ℕ, ◌<◌, ◌≤◌, List, [], ◌∷◌, ◌++◌, length, take, sym, ap, subst, ◌∙◌, arith, inl, inr}
+-- Histories that were seen: those that grow bear out as much, two of one truth are held together, and one entry more
+-- is.
+use Rattle.std.proofs.Common.{◌≡◌, ◌≢◌, ℕ, ◌<◌, ◌≤◌, List, [], ◌∷◌, ◌++◌, length, take, sym, ap, subst, ◌∙◌, arith}
+use Rattle.std.proofs.Common.{inl, inr}
 use Rattle.std.specs.Prelude.{Contains}
 use Rattle.std.proofs.lemmas.Bool.{cases_eq}
 use Rattle.std.proofs.lemmas.List.{get_or-set_same, get_or-set_other, length-set, take-append-le}
@@ -15,14 +17,19 @@ use Rattle.mon_value.specs.declared.positions.Leaf.{Leaf}
 use Rattle.mon_value.specs.declared.positions.Range.{Range}
 use Rattle.mon_value.specs.declared.positions.SlotLeaf.{SlotLeaf}
 use Rattle.mon_value.proofs.LeafHistoryLemmas.{IsWellFormed-push}
+use Rattle.mon_value.specs.Farther.{longer, longer_each}
+use Rattle.mon_value.proofs.FartherLemmas.{farther_each-length, longer_each-get}
 use Rattle.mon_schema.specs.SchemaLists.{SchemaLists}
-use Rattle.mon_topo.specs.HeldHistories.{AreAtHome, AreHeld, BeginsWith, Histories, IsBorneOut, IsHeldBy, IsMissed, IsOpened, IsTaken, leaf_history, range_history}
+use Rattle.mon_topo.specs.HeldHistories.{AreAtHome, AreHeld, BeginsWith, Histories, IsBorneOut, IsHeldBy, IsMissed}
+use Rattle.mon_topo.specs.HeldHistories.{IsOpened, IsTaken, leaf_history, range_history}
 use Rattle.mon_topo.specs.RangeHistories as range
 use Rattle.mon_topo.specs.RangeHistories.{acked, opened, serving}
-use Rattle.mon_topo.specs.SeenHistories.{AreWithin, joined_histories, longer, longer_each, with_leaf_entry, with_range_entry}
+use Rattle.mon_topo.specs.SeenHistories.{AreWithin, joined_histories, with_leaf_entry, with_range_entry}
 use Rattle.mon_topo.specs.Zones.{leaf_numbered, range_numbered}
 use Rattle.mon_topo.specs.declared.zones.ZoneSpec.{ZoneSpec}
-use Rattle.mon_topo.proofs.FrontLemmas.{begins-flat_map, begins_itself, begins_length, begins_push, begins_same, begins_through, contains_on, longer_by, longer_each-get, longer_each-length, longer_first, longer_second, longer_whole, take_on}
+use Rattle.mon_topo.proofs.FrontLemmas.{begins-flat_map, begins_itself, begins_length, begins_push, begins_same}
+use Rattle.mon_topo.proofs.FrontLemmas.{begins_through, contains_on, longer_by, longer_first, longer_second}
+use Rattle.mon_topo.proofs.FrontLemmas.{longer_whole, take_on}
 use Rattle.mon_topo.proofs.RangeHistoryLemmas.{IsLegal-push, get-push}
 
 -- ---- leaves that grow bear out as much
@@ -100,7 +107,8 @@ module _ (a b : Histories) where
   -- what both say of a leaf's history, both together say
   pub joined_seen_leaf_by : (l : Leaf) (P : List Entry → Type 0) → P (leaf_history a l) → P (leaf_history b l)
       → P (leaf_history (joined_histories a b) l)
-  joined_seen_leaf_by l P p q = subst P (sym (joined_seen_leaf l)) (longer_by (leaf_history a l) (leaf_history b l) P p q)
+  joined_seen_leaf_by l P p q = subst P (sym (joined_seen_leaf l)) (longer_by (leaf_history a l) (leaf_history b l) P p
+      q)
 
   pub joined_seen_range_by : (r : Range) (P : List RangeEntry → Type 0) → P (range_history a r)
       → P (range_history b r) → P (range_history (joined_histories a b) r)
@@ -144,10 +152,14 @@ module _ (a b : Histories) where
     module _ (held : SchemaLists) (zones : List ZoneSpec) (points : ℕ) (held_a : AreHeld held zones points a)
         (held_b : AreHeld held zones points b) where
       leaves_count : length (longer_each a.leaves b.leaves) ≡ length a.leaves
-      leaves_count = longer_each-length a.leaves b.leaves (held_a.all_leaves ∙ sym held_b.all_leaves)
+      leaves_count =
+          let alike = held_a.all_leaves ∙ sym held_b.all_leaves in
+          farther_each-length length a.leaves b.leaves alike ∙ sym alike
 
       ranges_count : length (longer_each a.ranges b.ranges) ≡ length a.ranges
-      ranges_count = longer_each-length a.ranges b.ranges (held_a.all_ranges ∙ sym held_b.all_ranges)
+      ranges_count =
+          let alike = held_a.all_ranges ∙ sym held_b.all_ranges in
+          farther_each-length length a.ranges b.ranges alike ∙ sym alike
 
       leaf_in_a : (l : Leaf) → l.0 < length (longer_each a.leaves b.leaves) → l.0 < length a.leaves
       leaf_in_a l here = subst (λ (n : ℕ). l.0 < n) leaves_count here

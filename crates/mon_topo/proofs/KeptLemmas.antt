@@ -1,5 +1,6 @@
 -- What is kept beside the zones says what is asked of them.
-use Rattle.std.proofs.Common.{◌≡◌, ◌∙◌, ℕ, ◌+◌, ◌-◌, ◌<◌, ◌≤◌, true, false, List, Some, get_or, length, ap, sym, subst, arith}
+use Rattle.std.proofs.Common.{◌≡◌, ◌∙◌, ℕ, ◌+◌, ◌-◌, ◌<◌, ◌≤◌, true, false, List, Some, get_or, length, ap, sym, subst}
+use Rattle.std.proofs.Common.{arith}
 use Rattle.std.specs.List.Sorted.{IsPartitionedBy, IsPartitionPoint}
 use Rattle.std.specs.Option.{option_map}
 use Rattle.mon_value.specs.declared.rows.Target.{Target}
@@ -35,7 +36,8 @@ span_kept zones spans i span is there at =
 
 -- ---- the range that a binary search finds
 
-pub ranges_parted : (zones : List ZoneSpec) (i : ℕ) (target : Target) (ranges : List RangeSpec) → IsLawful zones → i < length zones
+pub ranges_parted : (zones : List ZoneSpec) (i : ℕ) (target : Target) (ranges : List RangeSpec) → IsLawful zones
+    → i < length zones
     → ranges ≡ (zone_at zones i).ranges → IsPartitionedBy (λ range. is_within range.from target) ranges
 ranges_parted zones i target ranges lawful there is =
     subst (λ (rs : List RangeSpec). IsPartitionedBy (λ (range : RangeSpec). is_within range.from target) rs) (sym is)
@@ -48,15 +50,19 @@ pub record IsFound (zones : List ZoneSpec) (i : ℕ) (target : Target) (p : ℕ)
   pub all : first_range zones i + length (zone_at zones i).ranges ≤ length (ranges_in zones)
   pub last : last_within target (zone_at zones i).ranges ≡ Some (p - 1)
 
-pub range_searched : (zones : List ZoneSpec) (i : ℕ) (target : Target) (ranges : List RangeSpec) (p : ℕ) → IsLawful zones → i < length zones
+pub range_searched : (zones : List ZoneSpec) (i : ℕ) (target : Target) (ranges : List RangeSpec) (p : ℕ)
+    → IsLawful zones → i < length zones
     → ranges ≡ (zone_at zones i).ranges → p ≤ length ranges
-    → IsPartitionPoint (λ range. is_within range.from target ≡ true) (λ range. is_within range.from target ≡ false) ranges p
+    → IsPartitionPoint (λ range. is_within range.from target ≡ true) (λ range. is_within range.from target ≡ false)
+    ranges p
     → IsFound zones i target p
 range_searched zones i target ranges p lawful there is le point =
     let own = (zone_at zones i).ranges in
     let order = zone_in_order zones lawful.ordered i there in
-    let at : IsPartitionPoint (λ (range : RangeSpec). is_within range.from target ≡ true) (λ (range : RangeSpec). is_within range.from target ≡ false) own p =
-    subst (λ (rs : List RangeSpec). IsPartitionPoint (λ (range : RangeSpec). is_within range.from target ≡ true) (λ (range : RangeSpec). is_within range.from target ≡ false) rs p) is point in
+    let at : IsPartitionPoint (λ (range : RangeSpec). is_within range.from target ≡ true) (λ (range : RangeSpec).
+    is_within range.from target ≡ false) own p =
+    subst (λ (rs : List RangeSpec). IsPartitionPoint (λ (range : RangeSpec). is_within range.from target ≡ true)
+    (λ (range : RangeSpec). is_within range.from target ≡ false) rs p) is point in
     let long : length ranges ≡ length own = ap length is in
     let found = point_found target own p order (omega arith) at in
     let most = few zones lawful.few in

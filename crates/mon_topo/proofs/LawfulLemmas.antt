@@ -1,13 +1,12 @@
 -- What holds of zones that passed.
-use Rattle.std.proofs.Common.{◌≡◌, ℕ, ◌+◌, ◌<◌, ◌≤◌, Bool, true, false, ◌&&◌, List, Option, Some, None, leb, length, refl, arith}
+use Rattle.std.proofs.Common.{◌≡◌, ℕ, ◌+◌, ◌<◌, ◌≤◌, Bool, true, false, ◌&&◌, List, None, leb, length}
+use Rattle.std.proofs.Common.{refl, arith}
 use Rattle.std.proofs.lemmas.Bool.Decides.{nat_tests}
 use Rattle.mon_topo.proofs.BoundLemmas.{in_order, AreInOrder}
 use Rattle.mon_topo.proofs.PlaceLemmas.{first_at-none, passed}
-use Rattle.mon_topo.specs.Faults.{are_few, disorder, disorder_in_zone, fault_at, leaves_over, too_many}
+use Rattle.mon_topo.specs.Faults.{are_few, disorder, disorder_in_zone, leaves_over, too_many}
 use Rattle.mon_topo.specs.Places.{first_at}
 use Rattle.mon_topo.specs.Zones.{leaves_in, no_zone, ranges_in, zone_at}
-use Rattle.mon_topo.specs.declared.faults.TopoKind.{TopoKind}
-use Rattle.mon_topo.specs.declared.places.Place.{Place}
 use Rattle.mon_topo.specs.declared.places.Place.TheVariants as place
 use Rattle.mon_topo.specs.declared.zones.ZoneSpec.{ZoneSpec}
 
@@ -24,7 +23,8 @@ three false b c e = absurd (cc)
 pub few : (zones : List ZoneSpec) → too_many zones ≡ None → AreFew zones
 few zones e =
     let passes = (passed (are_few zones) place.Zones (first_at leaves_over 0 zones) e).0 in
-    let each = three (leb (length zones) 32) (leb (length (leaves_in zones)) 64) (leb (length (ranges_in zones)) 512) passes in
+    let each = three (leb (length zones) 32) (leb (length (leaves_in zones)) 64) (leb (length (ranges_in zones)) 512)
+    passes in
     record {
       zones_few = grind (arith, nat_tests);
       leaves_few = grind (arith, nat_tests);
@@ -36,8 +36,3 @@ pub zone_in_order : (zones : List ZoneSpec) → disorder zones ≡ None → (i :
     → AreInOrder (zone_at zones i).ranges
 zone_in_order zones e i there =
     in_order (0 + i) (zone_at zones i).ranges (first_at-none disorder_in_zone 0 zones e i no_zone there)
-
--- a kind without a place is no fault
-pub no_place : (kind : TopoKind) (found : Option Place) → fault_at kind found ≡ None → found ≡ None
-no_place kind None e = refl
-no_place kind (Some p) e = absurd (cc)

@@ -1,20 +1,20 @@
 mod BoundLemmas
 mod FindsLemmas
 mod KeptLemmas
-mod LawfulLemmas
+pub mod LawfulLemmas
 mod LeadingLemmas
 mod NumberedLemmas
 mod PlaceLemmas
-mod RangeNameLemmas
+pub mod RangeNameLemmas
 mod RepeatLemmas
 mod ReplicaLemmas
-mod SizeLemmas
+pub mod SizeLemmas
 mod SpanLemmas
-pub mod FartherLemmas
 pub mod FrontLemmas
 pub mod HeldLemmas
 pub mod NameMapLemmas
 pub mod PartLemmas
 pub mod PositionLemmas
 pub mod RangeHistoryLemmas
+pub mod SightLemmas
 pub mod PlacedRangeLemmas

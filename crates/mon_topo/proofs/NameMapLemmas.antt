@@ -1,5 +1,6 @@
 -- A map of names, as contracts see it.
-use Rattle.std.proofs.Common.{◌≡◌, ◌∙◌, ℕ, false, List, [], ◌∷◌, ◌++◌, Option, Some, None, Vec, cond, is_some, refl, ap, sym, nat_eq}
+use Rattle.std.proofs.Common.{◌≡◌, ◌∙◌, ℕ, false, List, [], ◌∷◌, ◌++◌, Option, Some, None, Vec, cond, is_some, refl}
+use Rattle.std.proofs.Common.{ap, sym, nat_eq}
 use Rattle.std.specs.Cmp.Lexicographic.{pointwise}
 use Rattle.std.specs.List.{list_any}
 use Rattle.std.specs.Map.{keys_of, lookup}
@@ -33,13 +34,15 @@ absent None h = refl
 absent (Some x) h = absurd (cc)
 
 -- a name that isn't there goes to the end
-pub insert_name : {H : Type 0} (m : IndexMap (Vec ℕ Global) ℕ H) (name : List ℕ) (key : Vec ℕ Global) (n : ℕ) (new : List (Vec ℕ Global × ℕ))
+pub insert_name : {H : Type 0} (m : IndexMap (Vec ℕ Global) ℕ H) (name : List ℕ) (key : Vec ℕ Global) (n : ℕ)
+    (new : List (Vec ℕ Global × ℕ))
     → key.items ≡ name → is_some (lookup (λ (k : Vec ℕ Global). pointwise nat_eq name k.items) m.entries) ≡ false
     → new ≡ insert_entry (λ (a b : Vec ℕ Global). pointwise nat_eq a.items b.items) m.entries key n
     → named_entries new ≡ named_entries m.entries ++ (name, n) ∷ []
 insert_name m name key n new items none is =
     let free : get (λ (a b : Vec ℕ Global). pointwise nat_eq a.items b.items) m key ≡ None =
-    ap (λ (text : List ℕ). lookup (λ (k : Vec ℕ Global). pointwise nat_eq text k.items) m.entries) items ∙ absent _ none in
+    ap (λ (text : List ℕ). lookup (λ (k : Vec ℕ Global). pointwise nat_eq text k.items) m.entries) items
+    ∙ absent _ none in
     ap named_entries (is ∙ insert_entry-new _ m key n free)
     ∙ named_entries-append m.entries ((key, n) ∷ [])
     ∙ (λ i. named_entries m.entries ++ (items i, n) ∷ [])

@@ -19,7 +19,8 @@ located-append i [] more = ap (λ k. located k more) (omega arith)
 located-append i (zone ∷ zones) more =
     ap (λ rest. all_numbered i zone.locations ++ rest)
     (located-append (i + 1) zones more ∙ ap (λ k. located (i + 1) zones ++ located k more) (omega arith))
-    ∙ sym (append_assoc (all_numbered i zone.locations) (located (i + 1) zones) (located (i + length (zone ∷ zones)) more))
+    ∙ sym (append_assoc (all_numbered i zone.locations) (located (i + 1) zones) (located (i + length (zone ∷ zones))
+    more))
 
 pub keys-numbered : (n : ℕ) (xs : List (List ℕ)) → keys_of (numbered n xs) ≡ xs
 keys-numbered n [] = refl

@@ -1,5 +1,6 @@
 -- Parts of all zones: in which zone one stands, and the zone of each.
-use Rattle.std.proofs.Common.{◌≡◌, ◌∙◌, ℕ, zero, suc, ◌+◌, ◌-◌, ◌<◌, ◌≤◌, List, [], ◌∷◌, ◌++◌, Some, get_or, length, length-append, map, slice_get, take, refl, ap, sym, arith, inl, inr, ◌⊎◌}
+use Rattle.std.proofs.Common.{◌≡◌, ◌∙◌, ℕ, zero, suc, ◌+◌, ◌-◌, ◌<◌, ◌≤◌, List, [], ◌∷◌, ◌++◌, Some, get_or, length}
+use Rattle.std.proofs.Common.{length-append, map, slice_get, take, refl, ap, sym, arith, inl, inr, ◌⊎◌}
 use Rattle.std.specs.List.{flat_map}
 use Rattle.std.proofs.lemmas.Bool.{cases_lt}
 use Rattle.std.proofs.lemmas.List.{length-map}
@@ -48,7 +49,8 @@ part_here parts x xs d r lt = record {
   item = λ e. get_or-front (parts x) (flat_map parts xs) r e lt;
 }
 
-part_later : {X Y : Type 0} (parts : X → List Y) (x : X) (xs : List X) (d : X) (r left : ℕ) → r ≡ length (parts x) + left
+part_later : {X Y : Type 0} (parts : X → List Y) (x : X) (xs : List X) (d : X) (r left : ℕ) → r ≡ length (parts x)
+    + left
     → IsPart parts xs d left → IsPart parts (x ∷ xs) d r
 part_later parts x xs d r left split found =
     let rest = flat_map parts xs in
@@ -73,7 +75,8 @@ pub part_at : {X Y : Type 0} (parts : X → List Y) (xs : List X) (d : X) (r : �
 part_at parts [] d r there = absurd (omega arith)
 part_at parts (x ∷ xs) d r there =
     either_part parts x xs d r
-    (λ le. part_at parts xs d (r - length (parts x)) (omega (arith, there, le, length-append (parts x) (flat_map parts xs))))
+    (λ le. part_at parts xs d (r - length (parts x))
+    (omega (arith, there, le, length-append (parts x) (flat_map parts xs))))
     (cases_lt r (length (parts x)))
 
 -- ---- the zone of a part

@@ -1,5 +1,6 @@
 -- The first place at fault, one element after another.
-use Rattle.std.proofs.Common.{◌≡◌, ◌∙◌, ℕ, zero, suc, ◌+◌, ◌<◌, Bool, true, false, List, [], ◌∷◌, Option, Some, None, get_or, length, refl, ap, arith}
+use Rattle.std.proofs.Common.{◌≡◌, ◌∙◌, ℕ, zero, suc, ◌+◌, ◌<◌, Bool, true, false, List, [], ◌∷◌, Option, Some, None}
+use Rattle.std.proofs.Common.{get_or, length, refl, ap, arith}
 use Rattle.std.specs.Option.{option_or}
 use Rattle.mon_topo.specs.Places.{first_at, unless}
 use Rattle.mon_topo.specs.declared.places.Place.{Place}

@@ -1,5 +1,6 @@
 -- The zone that a target's range is one of.
-use Rattle.std.proofs.Common.{◌≡◌, ◌∙◌, ◌<◌, ◌+◌, ℕ, suc, Bool, true, false, cond, Option, Some, None, List, [], ◌∷◌, length, option_and_then, option_map, slice_get, refl, sym, ap, subst, arith}
+use Rattle.std.proofs.Common.{◌≡◌, ◌∙◌, ◌<◌, ◌+◌, ℕ, suc, Bool, true, false, cond, Option, Some, None, List, [], ◌∷◌}
+use Rattle.std.proofs.Common.{length, option_and_then, option_map, slice_get, refl, sym, ap, subst, arith}
 use Rattle.std.specs.List.{list_any, position_from}
 use Rattle.std.specs.Option.{option_or}
 use Rattle.std.proofs.lemmas.Option.{slice_get_within}
@@ -27,7 +28,8 @@ last_by ranges j (Some k) b earlier is =
 last_by ranges j None true earlier is = let same : ◌≡◌ {A = ℕ} 0 j = cc in omega (arith, same)
 last_by ranges j None false earlier is = absurd cc
 
-last_below : (target : Target) (ranges : List RangeSpec) (j : ℕ) → last_within target ranges ≡ Some j → j < length ranges
+last_below : (target : Target) (ranges : List RangeSpec) (j : ℕ) → last_within target ranges ≡ Some j
+    → j < length ranges
 last_below target [] j is = absurd cc
 last_below target (range ∷ ranges) j is =
     last_by ranges j (last_within target ranges) (is_within range.from target) (λ k e. last_below target ranges k e) is
@@ -69,7 +71,8 @@ pub record IsPlaced (held : SchemaLists) (zones : List ZoneSpec) (target : Targe
 module _ (held : SchemaLists) (zones : List ZoneSpec) (target : Target) (range : Range) where
   in_zone : (location : List ℕ) (o : Option Zone) → location_of held target ≡ Some location
       → zone_of zones location ≡ o
-      → option_and_then (λ (zone : Zone). range_of zones zone.0 target) o ≡ Some range → IsPlaced held zones target range
+      → option_and_then (λ (zone : Zone). range_of zones zone.0 target) o ≡ Some range → IsPlaced held zones target
+      range
   in_zone location None at lists found = absurd cc
   in_zone location (Some zone) at lists found = record {
     location = location;

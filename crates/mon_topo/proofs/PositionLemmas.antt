@@ -1,5 +1,6 @@
 -- What is known of a place that was found in a list.
-use Rattle.std.proofs.Common.{◌≡◌, ◌∙◌, ℕ, suc, ◌+◌, ◌<◌, Bool, true, false, ◌||◌, List, [], ◌∷◌, Some, cond, get_or, length, refl, ap, sym, arith}
+use Rattle.std.proofs.Common.{◌≡◌, ◌∙◌, ℕ, suc, ◌+◌, ◌<◌, Bool, true, false, ◌||◌, List, [], ◌∷◌, Some, cond, get_or}
+use Rattle.std.proofs.Common.{length, refl, ap, sym, arith}
 use Rattle.std.specs.List.{list_any, position_from}
 
 -- the place p of a list that is numbered on from n, where an element passes a test
@@ -12,7 +13,13 @@ pub record IsPosition {X : Type 0} (test : X → Bool) (n : ℕ) (xs : List X) (
 one_on : {X : Type 0} (test : X → Bool) (n : ℕ) (x : X) (xs : List X) (p : ℕ)
     → IsPosition test (n + 1) xs p → IsPosition test n (x ∷ xs) p
 one_on test n x xs p found =
-    record { place = suc found.place; is = omega (arith, found.is); there = omega (arith, found.there); passes = found.passes }
+    record {
+      place = suc found.place;
+      is = omega (arith, found.is);
+      there = omega (arith, found.there);
+      passes =
+          found.passes;
+    }
 
 some_is : (a b : ℕ) → Some a ≡ Some b → a ≡ b
 some_is a b e = cc
@@ -30,7 +37,8 @@ position_found test n [] p e = absurd (cc)
 position_found test n (x ∷ xs) p e = one_of test n x xs p (position_found test (n + 1) xs p) (test x) refl e
 
 -- what is found is within the list
-pub found_within : {X : Type 0} (test : X → Bool) (xs : List X) (p : ℕ) → Some p ≡ position_from test 0 xs → p < length xs
+pub found_within : {X : Type 0} (test : X → Bool) (xs : List X) (p : ℕ) → Some p ≡ position_from test 0 xs
+    → p < length xs
 found_within test xs p e =
     let found = position_found test 0 xs p (sym e) in
     omega (arith, found.is, found.there)

@@ -1,8 +1,10 @@
 -- What a range's history says after one entry more; and the replicas of a legal one: they are numbered as they were
 -- opened, and so told apart.
-use Rattle.std.proofs.Common.{◌≡◌, ◌≢◌, ℕ, zero, suc, ◌<◌, Bool, true, false, not, cond, Some, List, [], ◌∷◌, ◌++◌, length, get_or, refl, sym, ap, subst, ◌∙◌, append_assoc, append-nil, arith, ◌⊎◌, inl, inr}
-use Rattle.std.specs.Prelude.{filter, slice_get, Contains}
 use Rattle.std.specs.List.{AllByRecursion as All}
+use Rattle.std.proofs.Common.{◌≡◌, ◌≢◌, ℕ, zero, suc, ◌<◌, Bool, true, false, not, cond, Some, List, [], ◌∷◌, ◌++◌}
+use Rattle.std.proofs.Common.{length, get_or, refl, sym, ap, subst, ◌∙◌, append_assoc, append-nil, arith, ◌⊎◌, inl}
+use Rattle.std.proofs.Common.{inr}
+use Rattle.std.specs.Prelude.{filter, slice_get, Contains}
 use Rattle.std.proofs.lemmas.List.Concat.{flat_map-append}
 use Rattle.std.proofs.lemmas.List.Elements.{Contains-append_left, Contains-push}
 use Rattle.mon_value.specs.declared.histories.Ack.{Ack}
@@ -181,19 +183,19 @@ one_replica history h a b in_a in_b e =
     let place : in_a.0 ≡ in_b.0 = sym (h.numbered in_a.0 a at_a) ∙ e ∙ h.numbered in_b.0 b at_b in
     some_same a b (sym at_a ∙ ap (slice_get (opened history)) place ∙ at_b)
 
+pub serving_after-opened : (replicas : List SlotLeaf) (history : List RangeEntry) (pass : ℕ) (replica : SlotLeaf)
+    → serving_after replicas (history ++ range_entry.Opened pass replica.slot replica.leaf ∷ []) ≡ serving_after
+    replicas history ++ replica ∷ []
+serving_after-opened replicas [] pass replica = refl
+serving_after-opened replicas (range_entry.Opened p slot leaf ∷ history) pass replica = serving_after-opened
+    (replicas ++ record { slot = slot; leaf = leaf } ∷ []) history pass replica
+serving_after-opened replicas (range_entry.Acked p row ack ∷ history) pass replica = serving_after-opened
+    (filter (λ x. not (spec.is_missed ack.missed x)) replicas) history pass replica
+
 module _ (held : SchemaLists) (zones : List ZoneSpec) (points : ℕ) (r : Range) where
   opened-push : (history : List RangeEntry) (e : RangeEntry)
       → opened (history ++ e ∷ []) ≡ opened history ++ (spec.opened_slot e ++ [])
   opened-push history e = flat_map-append spec.opened_slot history (e ∷ [])
-
-  serving_after-opened : (replicas : List SlotLeaf) (history : List RangeEntry) (pass : ℕ) (replica : SlotLeaf)
-      → serving_after replicas (history ++ range_entry.Opened pass replica.slot replica.leaf ∷ []) ≡ serving_after
-      replicas history ++ replica ∷ []
-  serving_after-opened replicas [] pass replica = refl
-  serving_after-opened replicas (range_entry.Opened p slot leaf ∷ history) pass replica = serving_after-opened
-      (replicas ++ record { slot = slot; leaf = leaf } ∷ []) history pass replica
-  serving_after-opened replicas (range_entry.Acked p row ack ∷ history) pass replica = serving_after-opened
-      (filter (λ x. not (spec.is_missed ack.missed x)) replicas) history pass replica
 
   numbered-push : (history : List RangeEntry) (e : RangeEntry) → AreNumbered history
       → spec.MayFollow held zones points r history e → AreNumbered (history ++ e ∷ [])

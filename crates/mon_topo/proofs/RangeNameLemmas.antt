@@ -1,5 +1,6 @@
 -- The names of ranges, one after another.
-use Rattle.std.proofs.Common.{◌≡◌, ◌∙◌, ℕ, zero, suc, ◌+◌, ◌<◌, List, [], ◌∷◌, ◌++◌, append_assoc, get_or, length, length-append, refl, ap, sym, subst, take, arith}
+use Rattle.std.proofs.Common.{◌≡◌, ◌∙◌, ℕ, zero, suc, ◌+◌, ◌<◌, List, [], ◌∷◌, ◌++◌, append_assoc, get_or, length}
+use Rattle.std.proofs.Common.{length-append, refl, ap, sym, subst, take, arith}
 use Rattle.std.proofs.lemmas.Grind.{common_steps}
 use Rattle.std.proofs.lemmas.List.{append-nil, take_more}
 use Rattle.std.proofs.lemmas.List.Concat.{flat_map-append}
@@ -35,7 +36,8 @@ ranges-take-within : (ranges : List RangeSpec) (j : ℕ) → j < length ranges �
 ranges-take-within ranges j there = grind (arith, common_steps)
 
 -- the name of one range more
-pub range_more : (so_far new : List (List ℕ × ℕ)) (before : List (List ℕ)) (zone name : List ℕ) (first j : ℕ) (ranges : List RangeSpec)
+pub range_more : (so_far new : List (List ℕ × ℕ)) (before : List (List ℕ)) (zone name : List ℕ) (first j : ℕ)
+    (ranges : List RangeSpec)
     → j < length ranges → length before ≡ first → name ≡ range_name zone j → new ≡ with_name so_far name (first + j)
     → FindsPlaces so_far (before ++ names_from zone 0 (take j ranges))
     → FindsPlaces new (before ++ names_from zone 0 (take (j + 1) ranges))

@@ -1,5 +1,6 @@
 -- The names of the zones so far tell what a zone repeats of them.
-use Rattle.std.proofs.Common.{◌≡◌, ◌∙◌, ℕ, ◌+◌, ◌<◌, Bool, true, false, List, [], ◌∷◌, ◌++◌, Option, Some, None, append_assoc, cond, get_or, length, length-append, not, refl, ap, sym, take, arith}
+use Rattle.std.proofs.Common.{◌≡◌, ◌∙◌, ℕ, ◌+◌, ◌<◌, Bool, true, false, List, [], ◌∷◌, ◌++◌, Option, Some, None}
+use Rattle.std.proofs.Common.{append_assoc, cond, get_or, length, length-append, not, refl, ap, sym, take, arith}
 use Rattle.std.specs.List.{list_any}
 use Rattle.std.specs.Map.{keys_of}
 use Rattle.std.specs.Option.{option_or}
@@ -10,7 +11,8 @@ use Rattle.mon_value.specs.Answers.{RefusesBy}
 use Rattle.mon_value.specs.Same.{same_text}
 use Rattle.mon_value.specs.declared.refusals.Refusal.{Refusal}
 use Rattle.mon_value.specs.declared.refusals.Refusal.TheVariants as refusal
-use Rattle.mon_topo.proofs.NumberedLemmas.{keys-append, keys-located, keys-numbered, length-numbered, located-append, numbered-append}
+use Rattle.mon_topo.proofs.NumberedLemmas.{keys-append, keys-located, keys-numbered, length-numbered, located-append}
+use Rattle.mon_topo.proofs.NumberedLemmas.{numbered-append}
 use Rattle.mon_topo.specs.Faults.{repeat_behind, repeat_in, repeated_at, stood}
 use Rattle.mon_topo.specs.Indexed.{all_numbered, located, names_of, numbered, with_name, with_zone}
 use Rattle.mon_topo.specs.Places.{unless}
@@ -25,10 +27,6 @@ pub refused_first : {F : Type 0} (r : Refusal F) (a b : Option F) → RefusesBy 
 refused_first (refusal.Fault f) a b e = ap (λ o. option_or o b) e
 refused_first refusal.OutOfMemory a b e = tt
 
-pub refused_later : {F : Type 0} (r : Refusal F) (a b : Option F) → a ≡ None → RefusesBy r b → RefusesBy r (option_or a b)
-refused_later (refusal.Fault f) a b none e = ap (λ o. option_or o b) none ∙ e
-refused_later refusal.OutOfMemory a b none e = tt
-
 -- what a zone repeats of names, or of itself
 abbrev pub seen_repeat : Names → ℕ → ZoneSpec → Option Place
 seen_repeat names i zone =
@@ -40,26 +38,33 @@ pub seen_repeat-names_of : (zones : List ZoneSpec) (i : ℕ) (zone : ZoneSpec) (
     → names ≡ names_of (take i zones) → seen_repeat names i zone ≡ repeat_behind zones i zone
 seen_repeat-names_of zones i zone names is =
     let before = take i zones in
-    let by_name : keys_of names.zones ≡ zone_names_in before = ap (λ (n : Names). keys_of n.zones) is ∙ keys-numbered 0 (zone_names_in before) in
-    let by_location : keys_of names.locations ≡ locations_in before = ap (λ (n : Names). keys_of n.locations) is ∙ keys-located 0 before in
-    let by_leaf : keys_of names.leaves ≡ leaves_in before = ap (λ (n : Names). keys_of n.leaves) is ∙ keys-numbered 0 (leaves_in before) in
+    let by_name : keys_of names.zones ≡ zone_names_in before = ap (λ (n : Names). keys_of n.zones) is ∙ keys-numbered 0
+    (zone_names_in before) in
+    let by_location : keys_of names.locations ≡ locations_in before = ap (λ (n : Names). keys_of n.locations) is
+    ∙ keys-located 0 before in
+    let by_leaf : keys_of names.leaves ≡ leaves_in before = ap (λ (n : Names). keys_of n.leaves) is ∙ keys-numbered 0
+    (leaves_in before) in
     λ k. option_or (unless (not (list_any (same_text zone.name) (by_name k))) (place.ZoneName i))
-    (option_or (repeat_in (place.Location i) (by_location k) zone.locations) (repeat_in (place.Leaf i) (by_leaf k) zone.leaves))
+    (option_or (repeat_in (place.Location i) (by_location k) zone.locations) (repeat_in (place.Leaf i) (by_leaf k)
+    zone.leaves))
 
 grown : (before : List ZoneSpec) (zone : ZoneSpec) (i : ℕ) → length before ≡ i
     → with_zone (names_of before) i zone ≡ names_of (before ++ zone ∷ [])
 grown before zone i long =
     let names = zone_names_in before in
     let by_name : numbered 0 names ++ (zone.name, i) ∷ [] ≡ numbered 0 (zone_names_in (before ++ zone ∷ [])) =
-    ap (λ n. numbered 0 names ++ (zone.name, n) ∷ []) (omega (arith, long, length-map before (λ (z : ZoneSpec). z.name)))
+    ap (λ n. numbered 0 names ++ (zone.name, n) ∷ [])
+    (omega (arith, long, length-map before (λ (z : ZoneSpec). z.name)))
     ∙ sym (numbered-append 0 names (zone.name ∷ []))
     ∙ ap (numbered 0) (sym (map-append (λ (z : ZoneSpec). z.name) before (zone ∷ []))) in
     let by_location : located 0 before ++ all_numbered i zone.locations ≡ located 0 (before ++ zone ∷ []) =
     ap (λ n. located 0 before ++ all_numbered n zone.locations) (omega (arith, long))
     ∙ ap (λ more. located 0 before ++ more) (sym (append-nil (all_numbered (0 + length before) zone.locations)))
     ∙ sym (located-append 0 before (zone ∷ [])) in
-    let by_leaf : numbered 0 (leaves_in before) ++ numbered (length (numbered 0 (leaves_in before))) zone.leaves ≡ numbered 0 (leaves_in (before ++ zone ∷ [])) =
-    ap (λ n. numbered 0 (leaves_in before) ++ numbered n zone.leaves) (length-numbered 0 (leaves_in before) ∙ omega arith)
+    let by_leaf : numbered 0 (leaves_in before) ++ numbered (length (numbered 0 (leaves_in before))) zone.leaves
+    ≡ numbered 0 (leaves_in (before ++ zone ∷ [])) =
+    ap (λ n. numbered 0 (leaves_in before) ++ numbered n zone.leaves) (length-numbered 0 (leaves_in before)
+    ∙ omega arith)
     ∙ sym (numbered-append 0 (leaves_in before) zone.leaves)
     ∙ ap (λ more. numbered 0 (leaves_in before ++ more)) (sym (append-nil zone.leaves))
     ∙ ap (numbered 0) (sym (flat_map-append (λ (z : ZoneSpec). z.leaves) before (zone ∷ []))) in
@@ -95,14 +100,16 @@ known : (old so_far own : List (List ℕ × ℕ)) (texts : List (List ℕ)) (j :
 known old so_far own texts j text is keys =
     ap (list_any (same_text text)) (ap keys_of is ∙ keys-append old own ∙ ap (λ more. keys_of old ++ more) keys)
 
-pub repeated : (place_of : ℕ → Place) (old so_far own : List (List ℕ × ℕ)) (texts : List (List ℕ)) (j : ℕ) (text : List ℕ)
+pub repeated : (place_of : ℕ → Place) (old so_far own : List (List ℕ × ℕ)) (texts : List (List ℕ)) (j : ℕ)
+    (text : List ℕ)
     → so_far ≡ old ++ own → keys_of own ≡ take j texts → not (list_any (same_text text) (keys_of so_far)) ≡ false
     → repeated_at place_of (keys_of old) texts j text ≡ Some (place_of j)
 repeated place_of old so_far own texts j text is keys again =
     ap (λ b. unless (not b) (place_of j))
     (sym (known old so_far own texts j text is keys) ∙ turned (list_any (same_text text) (keys_of so_far)) again)
 
-pub unrepeated : (place_of : ℕ → Place) (old so_far own : List (List ℕ × ℕ)) (texts : List (List ℕ)) (j : ℕ) (text : List ℕ)
+pub unrepeated : (place_of : ℕ → Place) (old so_far own : List (List ℕ × ℕ)) (texts : List (List ℕ)) (j : ℕ)
+    (text : List ℕ)
     → so_far ≡ old ++ own → keys_of own ≡ take j texts → not (list_any (same_text text) (keys_of so_far)) ≡ true
     → repeated_at place_of (keys_of old) texts j text ≡ None
 unrepeated place_of old so_far own texts j text is keys new =
@@ -113,10 +120,12 @@ pub with_new_name : (so_far new : List (List ℕ × ℕ)) (text : List ℕ) (n :
     → not (list_any (same_text text) (keys_of so_far)) ≡ true → new ≡ with_name so_far text n
     → new ≡ so_far ++ (text, n) ∷ []
 with_new_name so_far new text n fresh is =
-    is ∙ ap (λ b. cond b so_far (so_far ++ (text, n) ∷ [])) (unturned (list_any (same_text text) (keys_of so_far)) fresh)
+    is ∙ ap (λ b. cond b so_far (so_far ++ (text, n) ∷ [])) (unturned (list_any (same_text text) (keys_of so_far))
+    fresh)
 
 -- one location more
-pub locations_more : (old so_far new : List (List ℕ × ℕ)) (texts : List (List ℕ)) (i j : ℕ) (text : List ℕ) → j < length texts
+pub locations_more : (old so_far new : List (List ℕ × ℕ)) (texts : List (List ℕ)) (i j : ℕ) (text : List ℕ)
+    → j < length texts
     → text ≡ get_or texts j text → so_far ≡ old ++ all_numbered i (take j texts) → new ≡ so_far ++ (text, i) ∷ []
     → new ≡ old ++ all_numbered i (take (j + 1) texts)
 locations_more old so_far new texts i j text there at is more =
@@ -138,7 +147,8 @@ leaves_so_far old so_far texts j there is =
     ∙ ap (λ n. length old + n) (length-numbered (length old) (take j texts) ∙ texts-take-within texts j there)
 
 -- one leaf more
-pub leaves_more : (old so_far new : List (List ℕ × ℕ)) (texts : List (List ℕ)) (j : ℕ) (text : List ℕ) → j < length texts
+pub leaves_more : (old so_far new : List (List ℕ × ℕ)) (texts : List (List ℕ)) (j : ℕ) (text : List ℕ)
+    → j < length texts
     → text ≡ get_or texts j text → so_far ≡ old ++ numbered (length old) (take j texts)
     → new ≡ so_far ++ (text, length so_far) ∷ [] → new ≡ old ++ numbered (length old) (take (j + 1) texts)
 leaves_more old so_far new texts j text there at is more =
@@ -146,7 +156,8 @@ leaves_more old so_far new texts j text there at is more =
     more ∙ ap (λ es. es ++ (text, length so_far) ∷ []) is
     ∙ append_assoc old (numbered (length old) front) ((text, length so_far) ∷ [])
     ∙ ap (λ es. old ++ es)
-    (ap (λ n. numbered (length old) front ++ (text, n) ∷ []) (leaves_so_far old so_far texts j there is ∙ ap (λ n. length old + n) (sym (texts-take-within texts j there)))
+    (ap (λ n. numbered (length old) front ++ (text, n) ∷ []) (leaves_so_far old so_far texts j there is
+    ∙ ap (λ n. length old + n) (sym (texts-take-within texts j there)))
     ∙ sym (numbered-append (length old) front (text ∷ []))
     ∙ ap (λ (t : List ℕ). numbered (length old) (front ++ t ∷ [])) at
     ∙ ap (numbered (length old)) (sym (take_more texts j text there)))

@@ -1,5 +1,7 @@
 -- The leaves that a range names are one to three of its zone, each once.
-use Rattle.std.proofs.Common.{◌≡◌, ◌∙◌, ℕ, zero, suc, ◌+◌, ◌<◌, ◌≤◌, Bool, true, false, ◌||◌, ◌&&◌, List, [], ◌∷◌, Option, Some, None, cond, get_or, leb, length, length-append, nat_eq, not, refl, ap, slice_get, subst, sym, take, arith}
+use Rattle.std.proofs.Common.{◌≡◌, ◌∙◌, ℕ, zero, suc, ◌+◌, ◌<◌, ◌≤◌, Bool, true, false, ◌||◌, ◌&&◌, List, [], ◌∷◌}
+use Rattle.std.proofs.Common.{Option, Some, None, cond, get_or, leb, length, length-append, nat_eq, not, refl, ap}
+use Rattle.std.proofs.Common.{slice_get, subst, sym, take, arith}
 use Rattle.std.specs.List.{cons_option, list_any, position_from, AllByRecursion, IsDistinct}
 use Rattle.std.specs.Option.{option_map, option_or}
 use Rattle.std.proofs.lemmas.Bool.Decides.{nat_tests}
@@ -14,11 +16,14 @@ use Rattle.mon_topo.proofs.PartLemmas.{length-zones_of, part_at, zone_of_part, I
 use Rattle.mon_topo.proofs.PlaceLemmas.{neither, none_at, passed}
 use Rattle.mon_topo.proofs.PositionLemmas.{position_found, position_there}
 use Rattle.mon_topo.proofs.SizeLemmas.{parts_so_far}
-use Rattle.mon_topo.specs.Faults.{are_replicas, bad_replicas_in_range, bad_replicas_in_zone, no_leaf_at, no_leaf_in_range, no_leaf_in_zone, repeat_behind, repeat_in, repeated_at, stood, IsLawful}
+use Rattle.mon_topo.specs.Faults.{are_replicas, bad_replicas_in_range, bad_replicas_in_zone, no_leaf_at}
+use Rattle.mon_topo.specs.Faults.{no_leaf_in_range, no_leaf_in_zone, repeat_behind, repeat_in, repeated_at, stood}
+use Rattle.mon_topo.specs.Faults.{IsLawful}
 use Rattle.mon_topo.specs.Places.{first_at, unless}
 use Rattle.mon_topo.specs.RangeHistories.{IsInZoneOf}
 use Rattle.mon_topo.specs.Replicas.{same_leaf, HasReplicas}
-use Rattle.mon_topo.specs.Zones.{first_replicas, leaf_numbered, leaves_in, leaves_named, locations_in, no_range, no_zone, range_numbered, ranges_in, zone_names_in}
+use Rattle.mon_topo.specs.Zones.{first_replicas, leaf_numbered, leaves_in, leaves_named, locations_in, no_range}
+use Rattle.mon_topo.specs.Zones.{no_zone, range_numbered, ranges_in, zone_names_in}
 use Rattle.mon_topo.specs.declared.places.Place.{Place}
 use Rattle.mon_topo.specs.declared.places.Place.TheVariants as place
 use Rattle.mon_topo.specs.declared.zones.RangeSpec.{RangeSpec}
@@ -30,7 +35,8 @@ each_known : (zone : ZoneSpec) (i j k : ℕ) (leaves : List (List ℕ)) → firs
     → AllByRecursion (λ leaf. list_any (same_text leaf) zone.leaves ≡ true) leaves
 each_known zone i j k [] e = tt
 each_known zone i j k (leaf ∷ leaves) e =
-    let both = passed (list_any (same_text leaf) zone.leaves) (place.Replica i j k) (first_at (no_leaf_at zone i j) (k + 1) leaves) e in
+    let both = passed (list_any (same_text leaf) zone.leaves) (place.Replica i j k) (first_at (no_leaf_at zone i j)
+    (k + 1) leaves) e in
     (both.0, each_known zone i j (k + 1) leaves both.1)
 
 front_false : (a b : Bool) → not (a || b) ≡ true → a ≡ false
@@ -43,7 +49,8 @@ each_new : (place_of : ℕ → Place) (before all : List (List ℕ)) (k : ℕ) (
     → AllByRecursion (λ text. list_any (same_text text) before ≡ false) texts
 each_new place_of before all k [] e = tt
 each_new place_of before all k (text ∷ texts) e =
-    let both = passed (not (stood before all k text)) (place_of k) (first_at (repeated_at place_of before all) (k + 1) texts) e in (
+    let both = passed (not (stood before all k text)) (place_of k) (first_at (repeated_at place_of before all) (k + 1)
+    texts) e in (
       front_false (list_any (same_text text) before) (list_any (same_text text) (take k all))
           (ap not (sym (list_any-append (same_text text) before (take k all))) ∙ both.0),
       each_new place_of before all (k + 1) texts both.1,
@@ -59,7 +66,8 @@ holds_of : (P : List ℕ → Type 0) (name : List ℕ) (texts : List (List ℕ))
     → list_any (same_text name) texts ≡ true → P name
 holds_of P name [] all e = absurd (cc)
 holds_of P name (text ∷ texts) all e =
-    one_holds P name text (list_any (same_text name) texts) (same_text name text) refl all.0 (holds_of P name texts all.1) e
+    one_holds P name text (list_any (same_text name) texts) (same_text name text) refl all.0
+    (holds_of P name texts all.1) e
 
 -- ---- a leaf of a zone is found in it, where its name didn't stand before
 
@@ -67,7 +75,8 @@ neither_false : (a b : Bool) → (a || b) ≡ false → (a ≡ false) × (b ≡ 
 neither_false true b e = absurd (cc)
 neither_false false b e = (refl, e)
 
-nowhere : (test : List ℕ → Bool) (n : ℕ) (texts : List (List ℕ)) → list_any test texts ≡ false → position_from test n texts ≡ None
+nowhere : (test : List ℕ → Bool) (n : ℕ) (texts : List (List ℕ)) → list_any test texts ≡ false → position_from test n
+    texts ≡ None
 nowhere test n [] e = refl
 nowhere test n (text ∷ texts) e =
     let both = neither_false (test text) (list_any test texts) e in
@@ -76,7 +85,8 @@ nowhere test n (text ∷ texts) e =
 record IsLeafOf (zones : List ZoneSpec) (n i : ℕ) (name : List ℕ) : Type 0 where
   pub place : ℕ
   pub there : place < length (get_or zones i no_zone).leaves
-  pub found : position_from (same_text name) n (leaves_in zones) ≡ Some (n + (length (leaves_in (take i zones)) + place))
+  pub found : position_from (same_text name) n (leaves_in zones)
+      ≡ Some (n + (length (leaves_in (take i zones)) + place))
 
 leaf_of : (zones : List ZoneSpec) (n i : ℕ) (name : List ℕ) → i < length zones
     → list_any (same_text name) (leaves_in (take i zones)) ≡ false
@@ -94,7 +104,8 @@ leaf_of (zone ∷ zones) n zero name there new known =
     }
 leaf_of (zone ∷ zones) n (suc i) name there new known =
     let before = leaves_in (take i zones) in
-    let apart = neither_false (list_any (same_text name) zone.leaves) (list_any (same_text name) before) (sym (list_any-append (same_text name) zone.leaves before) ∙ new) in
+    let apart = neither_false (list_any (same_text name) zone.leaves) (list_any (same_text name) before)
+    (sym (list_any-append (same_text name) zone.leaves before) ∙ new) in
     let later = leaf_of zones (n + length zone.leaves) i name (omega arith) apart.1 known in
     let behind : Option ℕ = position_from (same_text name) (n + length zone.leaves) (leaves_in zones) in
     record {
@@ -114,7 +125,8 @@ record IsNamed (zones : List ZoneSpec) (range : Range) (name : List ℕ) : Type 
   pub found : position_from (same_text name) 0 (leaves_in zones) ≡ Some place
   pub zoned : IsInZoneOf zones range (leaf_numbered place)
 
-named : (zones : List ZoneSpec) (r : ℕ) (name : List ℕ) (part : IsPart (λ (zone : ZoneSpec). zone.ranges) zones no_zone r)
+named : (zones : List ZoneSpec) (r : ℕ) (name : List ℕ) (part : IsPart (λ (zone : ZoneSpec). zone.ranges) zones no_zone
+    r)
     → list_any (same_text name) (leaves_in (take part.i zones)) ≡ false
     → list_any (same_text name) (get_or zones part.i no_zone).leaves ≡ true → IsNamed zones (range_numbered r) name
 named zones r name part new known =
@@ -126,7 +138,14 @@ named zones r name part new known =
       found = leaf.found ∙ ap Some (omega arith);
       zoned = (
         omega (arith, leaf.there, length-zones_of leaves 0 zones, parts_so_far leaves zones part.i no_zone part.there),
-        omega (arith, part.is, part.within, length-zones_of ranges 0 zones, parts_so_far ranges zones part.i no_zone part.there),
+        omega (
+          arith,
+          part.is,
+          part.within,
+          length-zones_of ranges 0 zones,
+          parts_so_far ranges zones part.i no_zone
+              part.there,
+        ),
         zone_of_part leaves 0 zones part.i leaf.place part.there leaf.there
             ∙ sym (zone_of_part ranges 0 zones part.i part.j part.there part.within)
             ∙ ap (slice_get _) (sym part.is),
@@ -137,7 +156,8 @@ some_is : (a b : ℕ) → Some a ≡ Some b → a ≡ b
 some_is a b e = cc
 
 -- one leaf has one name
-same_name : (zones : List ZoneSpec) (range : Range) (a b : List ℕ) (p : IsNamed zones range a) (q : IsNamed zones range b)
+same_name : (zones : List ZoneSpec) (range : Range) (a b : List ℕ) (p : IsNamed zones range a)
+    (q : IsNamed zones range b)
     → p.place ≡ q.place → a ≡ b
 same_name zones range a b p q same =
     let leaves = leaves_in zones in
@@ -160,7 +180,8 @@ apart zones range a b p q differ = by (nat_eq p.place q.place) refl
         let yes : same_text a b ≡ true = (same_text-Decides a b).1 (same_name zones range a b p q same) in
         absurd (cc)
 
-apart_from : (zones : List ZoneSpec) (range : Range) (name : List ℕ) (p : IsNamed zones range name) (names : List (List ℕ))
+apart_from : (zones : List ZoneSpec) (range : Range) (name : List ℕ) (p : IsNamed zones range name)
+    (names : List (List ℕ))
     → AllByRecursion (IsNamed zones range) names → list_any (same_text name) names ≡ false
     → AllByRecursion (λ leaf. same_leaf (leaf_numbered p.place) leaf ≡ false) (leaves_named zones names)
 apart_from zones range name p [] all e = tt
@@ -168,7 +189,8 @@ apart_from zones range name p (other ∷ names) all e =
     let both = neither_false (same_text name other) (list_any (same_text name) names) e in
     let q = all.0 in
     subst
-    (λ (o : Option ℕ). AllByRecursion (λ leaf. same_leaf (leaf_numbered p.place) leaf ≡ false) (cons_option (option_map leaf_numbered o) (leaves_named zones names)))
+    (λ (o : Option ℕ). AllByRecursion (λ leaf. same_leaf (leaf_numbered p.place) leaf ≡ false)
+    (cons_option (option_map leaf_numbered o) (leaves_named zones names)))
     (sym q.found)
     (apart zones range name other p q both.0, apart_from zones range name p names all.1 both.1)
 
@@ -192,13 +214,15 @@ leaves_of zones range [] all = record { long = refl; zoned = tt; distinct = λ e
 leaves_of zones range (name ∷ names) all =
     let rest = leaves_of zones range names all.1 in
     let p = all.0 in
-    subst (λ (o : Option ℕ). AreLeavesOf zones range (name ∷ names) (cons_option (option_map leaf_numbered o) (leaves_named zones names))) (sym p.found)
+    subst (λ (o : Option ℕ). AreLeavesOf zones range (name ∷ names) (cons_option (option_map leaf_numbered o)
+    (leaves_named zones names))) (sym p.found)
     (record {
       long = ap (λ n. suc n) rest.long;
       zoned = (p.zoned, rest.zoned);
       distinct = λ e.
           let both = neither_false (list_any (same_text name) names) (texts_repeat names) e in
-          one_more (leaf_numbered p.place) (leaves_named zones names) (apart_from zones range name p names all.1 both.0) (rest.distinct both.1);
+          one_more (leaf_numbered p.place) (leaves_named zones names) (apart_from zones range name p names all.1
+          both.0) (rest.distinct both.1);
     })
 
 -- ---- the leaves that hold a range at first
@@ -223,14 +247,17 @@ are_good leaves e =
     let each = all_three (leb 1 (length leaves)) (leb (length leaves) 3) (texts_repeat leaves) e in
     record { some = grind (arith, nat_tests); few = grind (arith, nat_tests); apart = each.2 }
 
-each_named : (zones : List ZoneSpec) (r : ℕ) (part : IsPart (λ (zone : ZoneSpec). zone.ranges) zones no_zone r) (names : List (List ℕ))
-    → AllByRecursion (λ text. list_any (same_text text) (leaves_in (take part.i zones)) ≡ false) (get_or zones part.i no_zone).leaves
+each_named : (zones : List ZoneSpec) (r : ℕ) (part : IsPart (λ (zone : ZoneSpec). zone.ranges) zones no_zone r)
+    (names : List (List ℕ))
+    → AllByRecursion (λ text. list_any (same_text text) (leaves_in (take part.i zones)) ≡ false)
+    (get_or zones part.i no_zone).leaves
     → AllByRecursion (λ leaf. list_any (same_text leaf) (get_or zones part.i no_zone).leaves ≡ true) names
     → AllByRecursion (IsNamed zones (range_numbered r)) names
 each_named zones r part [] new known = tt
 each_named zones r part (name ∷ names) new known =
     let zone = get_or zones part.i no_zone in
-    let fresh = holds_of (λ text. list_any (same_text text) (leaves_in (take part.i zones)) ≡ false) name zone.leaves new known.0 in
+    let fresh = holds_of (λ text. list_any (same_text text) (leaves_in (take part.i zones)) ≡ false) name zone.leaves
+    new known.0 in
     (named zones r name part fresh known.0, each_named zones r part names new known.1)
 
 pub has_replicas : (zones : List ZoneSpec) → IsLawful zones → (r : ℕ) → r < length (ranges_in zones)
@@ -242,8 +269,11 @@ has_replicas zones lawful r there =
     let zone : ZoneSpec = get_or zones i no_zone in
     let range : RangeSpec = get_or zone.ranges j no_range in
     let is : get_or (ranges_in zones) r no_range ≡ range = part.item no_range in
-    let known = each_known zone i j 0 range.leaves (none_at (no_leaf_in_range zone i) zone.ranges (none_at no_leaf_in_zone zones lawful.known i no_zone part.there) j no_range part.within) in
-    let replicas = are_good range.leaves (good (are_replicas range.leaves) (place.Replicas i j) (none_at (bad_replicas_in_range i) zone.ranges (none_at bad_replicas_in_zone zones lawful.replicated i no_zone part.there) j no_range part.within)) in
+    let known = each_known zone i j 0 range.leaves (none_at (no_leaf_in_range zone i) zone.ranges
+    (none_at no_leaf_in_zone zones lawful.known i no_zone part.there) j no_range part.within) in
+    let replicas = are_good range.leaves (good (are_replicas range.leaves) (place.Replicas i j)
+    (none_at (bad_replicas_in_range i) zone.ranges (none_at bad_replicas_in_zone zones lawful.replicated i no_zone
+    part.there) j no_range part.within)) in
     let before = take i zones in
     let repeats = none_at (repeat_behind zones) zones lawful.apart i no_zone part.there in
     let by_name = unless (not (list_any (same_text zone.name) (zone_names_in before))) (place.ZoneName i) in
@@ -252,7 +282,8 @@ has_replicas zones lawful r there =
     let none = neither by_location by_leaf (neither by_name (option_or by_location by_leaf) repeats).1 in
     let new = each_new (place.Leaf i) (leaves_in before) zone.leaves 0 zone.leaves none.1 in
     let leaves = leaves_of zones (range_numbered r) range.leaves (each_named zones r part range.leaves new known) in
-    let first : first_replicas zones r ≡ leaves_named zones range.leaves = ap (λ (spec : RangeSpec). leaves_named zones spec.leaves) is in
+    let first : first_replicas zones r ≡ leaves_named zones range.leaves = ap (λ (spec : RangeSpec). leaves_named zones
+    spec.leaves) is in
     record {
       some = omega (arith, replicas.some, leaves.long, ap length first);
       few = omega (arith, replicas.few, leaves.long, ap length first);

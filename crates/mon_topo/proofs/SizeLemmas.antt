@@ -8,4 +8,9 @@ pub parts_so_far : {X Y : Type 0} (parts : X → List Y) (xs : List X) (i : ℕ)
 parts_so_far parts [] i d there = absurd (omega arith)
 parts_so_far parts (x ∷ xs) zero d there = omega (arith, length-append (parts x) (flat_map parts xs))
 parts_so_far parts (x ∷ xs) (suc i) d there =
-    omega (arith, parts_so_far parts xs i d (omega arith), length-append (parts x) (flat_map parts xs), length-append (parts x) (flat_map parts (take i xs)))
+    omega (
+      arith,
+      parts_so_far parts xs i d (omega arith),
+      length-append (parts x) (flat_map parts xs),
+      length-append (parts x) (flat_map parts (take i xs)),
+    )

@@ -1,5 +1,6 @@
 -- Where the leaves and the ranges of each zone begin.
-use Rattle.std.proofs.Common.{◌≡◌, ◌∙◌, ℕ, zero, suc, ◌+◌, ◌<◌, List, [], ◌∷◌, get_or, length, map, take, refl, ap, arith, length-append}
+use Rattle.std.proofs.Common.{◌≡◌, ◌∙◌, ℕ, zero, suc, ◌+◌, ◌<◌, List, [], ◌∷◌, get_or, length, map, take, refl, ap}
+use Rattle.std.proofs.Common.{arith, length-append}
 use Rattle.mon_topo.specs.Indexed.{spans_from}
 use Rattle.mon_topo.specs.Zones.{first_leaf, first_range, leaves_in, ranges_in, zone_at}
 use Rattle.mon_topo.specs.declared.spans.ZoneSpan.{ZoneSpan}
@@ -19,7 +20,8 @@ length-spans_from leaf range (zone ∷ zones) =
 
 pub get_or-spans_from : (leaf range : ℕ) (zones : List ZoneSpec) (i : ℕ) (d : ZoneSpan) → i < length zones
     → get_or (spans_from leaf range zones) i d
-    ≡ span (leaf + first_leaf zones i) (length (zone_at zones i).leaves) (range + first_range zones i) (length (zone_at zones i).ranges)
+    ≡ span (leaf + first_leaf zones i) (length (zone_at zones i).leaves) (range + first_range zones i)
+    (length (zone_at zones i).ranges)
 get_or-spans_from leaf range [] i d there = absurd (omega arith)
 get_or-spans_from leaf range (zone ∷ zones) zero d there =
     same_span leaf (leaf + 0) (length zone.leaves) (length zone.ranges) range (range + 0) (omega arith) (omega arith)
@@ -33,4 +35,5 @@ pub leaves-spans_from : (leaf range : ℕ) (zones : List ZoneSpec)
     → map (λ (s : ZoneSpan). s.leaves) (spans_from leaf range zones) ≡ map (λ (z : ZoneSpec). length z.leaves) zones
 leaves-spans_from leaf range [] = refl
 leaves-spans_from leaf range (zone ∷ zones) =
-    ap (λ more. length zone.leaves ∷ more) (leaves-spans_from (leaf + length zone.leaves) (range + length zone.ranges) zones)
+    ap (λ more. length zone.leaves ∷ more) (leaves-spans_from (leaf + length zone.leaves) (range + length zone.ranges)
+    zones)

@@ -1,5 +1,6 @@
 -- Why zones are no topology: the first fault in order, and its place.
-use Rattle.std.specs.Prelude.{ℕ, ◌+◌, ◌≡◌, ◌==◌, ◌&&◌, Bool, true, false, not, nat_le, List, [], ◌∷◌, ◌++◌, length, take, Option, Some, None, option_map}
+use Rattle.std.specs.Prelude.{ℕ, ◌+◌, ◌≡◌, ◌==◌, ◌&&◌, Bool, true, false, not, nat_le, List, [], ◌∷◌, ◌++◌, length}
+use Rattle.std.specs.Prelude.{take, Option, Some, None, option_map}
 use Rattle.std.specs.List.{list_any}
 use Rattle.std.specs.Option.{option_or}
 use Rattle.mon_value.specs.Same.{same_text}
@@ -15,7 +16,8 @@ use Rattle.mon_schema.specs.SchemaLists.{SchemaLists, target_named}
 use Rattle.mon_topo.specs.declared.faults.TopoFault.{TopoFault}
 use Rattle.mon_topo.specs.declared.faults.TopoKind.{TopoKind}
 use Rattle.mon_topo.specs.declared.faults.TopoKind.TheVariants as kind
-use Rattle.mon_topo.specs.declared.limits.TheConstants.{MOST_LEAVES, MOST_LEAVES_OF_ZONE, MOST_RANGES, MOST_REPLICAS, MOST_ZONES}
+use Rattle.mon_topo.specs.declared.limits.TheConstants.{MOST_LEAVES, MOST_LEAVES_OF_ZONE, MOST_RANGES, MOST_REPLICAS}
+use Rattle.mon_topo.specs.declared.limits.TheConstants.{MOST_ZONES}
 use Rattle.mon_topo.specs.declared.places.Place.{Place}
 use Rattle.mon_topo.specs.declared.places.Place.TheVariants as place
 use Rattle.mon_topo.specs.declared.zones.RangeSpec.{RangeSpec}

@@ -1,5 +1,4 @@
 pub mod Bounds
-pub mod Farther
 pub mod FaultTexts
 pub mod Faults
 pub mod HeldHistories
@@ -11,4 +10,5 @@ pub mod RangeHistories
 pub mod Replicas
 pub mod SeenHistories
 pub mod Settings
+pub mod Sights
 pub mod Zones

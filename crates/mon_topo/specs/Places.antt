@@ -14,9 +14,11 @@ place_path (place.Leaves i) = codes "$.zones[" ++ (decimal i ++ codes "].leaves"
 place_path (place.Leaf i j) = codes "$.zones[" ++ (decimal i ++ (codes "].leaves[" ++ (decimal j ++ codes "]")))
 place_path (place.Ranges i) = codes "$.zones[" ++ (decimal i ++ codes "].ranges")
 place_path (place.Bound i j) = codes "$.zones[" ++ (decimal i ++ (codes "].ranges[" ++ (decimal j ++ codes "].from")))
-place_path (place.Replicas i j) = codes "$.zones[" ++ (decimal i ++ (codes "].ranges[" ++ (decimal j ++ codes "].leaves")))
+place_path (place.Replicas i j) = codes "$.zones["
+    ++ (decimal i ++ (codes "].ranges[" ++ (decimal j ++ codes "].leaves")))
 place_path (place.Replica i j k) =
-    codes "$.zones[" ++ (decimal i ++ (codes "].ranges[" ++ (decimal j ++ (codes "].leaves[" ++ (decimal k ++ codes "]")))))
+    codes "$.zones[" ++ (decimal i
+    ++ (codes "].ranges[" ++ (decimal j ++ (codes "].leaves[" ++ (decimal k ++ codes "]")))))
 
 -- the place, unless it is as it must be
 abbrev pub unless : Bool → Place → Option Place

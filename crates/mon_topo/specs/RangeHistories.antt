@@ -1,5 +1,6 @@
 -- What a range's history says, oldest entry first, and which histories a range can have.
-use Rattle.std.specs.Prelude.{◌≡◌, ◌<◌, ◌≤◌, ℕ, nat_eq, Bool, false, not, List, [], ◌∷◌, ◌++◌, length, filter, map, slice_get, Some}
+use Rattle.std.specs.Prelude.{◌≡◌, ◌<◌, ◌≤◌, ℕ, nat_eq, Bool, false, not, List, [], ◌∷◌, ◌++◌, length, filter, map}
+use Rattle.std.specs.Prelude.{slice_get, Some}
 use Rattle.std.specs.List.{count_by, flat_map, list_any}
 use Rattle.mon_value.specs.Sources.{IsSource}
 use Rattle.mon_value.specs.declared.histories.Ack.{Ack}

@@ -1,5 +1,6 @@
 -- Histories that someone has seen: those of two together, and with one entry more.
-use Rattle.std.specs.Prelude.{nat_lt, List, [], ◌∷◌, ◌++◌, length, set, if◌then◌else◌}
+use Rattle.std.specs.Prelude.{[], ◌∷◌, ◌++◌, set}
+use Rattle.mon_value.specs.Farther.{longer_each}
 use Rattle.mon_value.specs.declared.histories.Entry.{Entry}
 use Rattle.mon_value.specs.declared.histories.RangeEntry.{RangeEntry}
 use Rattle.mon_value.specs.declared.positions.Leaf.{Leaf}
@@ -12,16 +13,6 @@ pub record AreWithin (part whole : Histories) : Type 0 where
   pub ranges : (range : Range) → BeginsWith (range_history whole range) (range_history part range)
 
 -- ---- what two have seen together
-
--- the longer one of two lists
-abbrev pub longer : {X : Type 0} → List X → List X → List X
-longer a b = if nat_lt (length a) (length b) then b else a
-
--- place by place
-abbrev pub longer_each : {X : Type 0} → List (List X) → List (List X) → List (List X)
-longer_each [] bs = bs
-longer_each (a ∷ rest) [] = a ∷ rest
-longer_each (a ∷ rest) (b ∷ bs) = longer a b ∷ longer_each rest bs
 
 -- of each history the longer one
 abbrev pub joined_histories : Histories → Histories → Histories

@@ -1,9 +1,9 @@
 // Of lengths the greater ones.
 ghost use Rattle.std.specs.Prelude.{◌≡◌, length};
-ghost use Rattle.mon_topo.specs.Farther.{farther_each};
+ghost use Rattle.mon_value.specs.Farther.{farther_each};
 
 /// Puts the greater one of two lengths in each place. No memory is taken.
-pub fn join_lengths(mine: &mut [u64], theirs: &[u64])
+pub(crate) fn join_lengths(mine: &mut [u64], theirs: &[u64])
     requires alike { length mine.old ≡ length theirs.now }
     ensures joined { mine.new ≡ farther_each (λ length. length) mine.old theirs.now }
 {

@@ -14,6 +14,7 @@ mod naming;
 mod places;
 mod ranges;
 mod repeats;
+mod sights;
 mod sizes;
 mod spans;
 mod topology;
@@ -21,11 +22,11 @@ mod zones;
 
 pub use faults::{TopoFault, TopoKind};
 pub use laws::{ranges_have_replicas, targets_have_one_range};
-pub use lengths::join_lengths;
 pub use limits::{
     MOST_LEAVES, MOST_LEAVES_OF_ZONE, MOST_RANGES, MOST_REPLICAS, MOST_SLOTS, MOST_ZONES,
 };
 pub use locations::location_of;
 pub use mon_value::{Leaf, LeafCounts, Leaves, Range, Slot, Zone};
+pub use sights::{RangeSight, Sight};
 pub use topology::Topology;
 pub use zones::{RangeSpec, RangeSpecs, ZoneSpec, ZoneSpecs};

@@ -1,5 +1,6 @@
 -- Sums, numbers of items, extremes and means: of two lists together, and in another order.
-use Rattle.std.proofs.Common.{◌≡◌, ◌+◌, ◌≤◌, ℤ, pos, ◌+ℤ◌, List, [], ◌∷◌, ◌++◌, fold, sum_by, unsigned_abs, Option, Some, None, IsPermutation, refl, sym, ap, ◌∙◌, length-append, arith}
+use Rattle.std.proofs.Common.{◌≡◌, ◌+◌, ◌≤◌, ℤ, pos, ◌+ℤ◌, List, [], ◌∷◌, ◌++◌, fold, sum_by, unsigned_abs, Option}
+use Rattle.std.proofs.Common.{Some, None, IsPermutation, refl, sym, ap, ◌∙◌, length-append, arith}
 use Rattle.std.specs.Int.{int_min, int_max, int_div_euclid}
 use Rattle.std.proofs.lemmas.Int.{ints, clamps}
 use Rattle.std.proofs.lemmas.List.Sorted.{length_permutation}
@@ -52,7 +53,8 @@ item_count-append xs ys = ap pos (length-append xs ys)
 pub item_count-permutation : {A : Type 0} (xs ys : List A) → IsPermutation xs ys → item_count xs ≡ item_count ys
 item_count-permutation xs ys same = ap pos (sym (length_permutation xs ys same))
 
-pub where_any-permutation : {A B : Type 0} (xs ys : List A) (value other : B) → IsPermutation xs ys → value ≡ other → where_any xs value ≡ where_any ys other
+pub where_any-permutation : {A B : Type 0} (xs ys : List A) (value other : B) → IsPermutation xs ys → value ≡ other
+    → where_any xs value ≡ where_any ys other
 where_any-permutation [] [] value other same e = refl
 where_any-permutation [] (y ∷ ys) value other same e = absurd (omega (arith, length_permutation [] (y ∷ ys) same))
 where_any-permutation (x ∷ xs) [] value other same e = absurd (omega (arith, length_permutation (x ∷ xs) [] same))
@@ -60,7 +62,8 @@ where_any-permutation (x ∷ xs) (y ∷ ys) value other same e = ap Some e
 
 pub mean_of-permutation : (xs ys : List ℤ) → IsPermutation xs ys → mean_of xs ≡ mean_of ys
 mean_of-permutation xs ys same =
-    where_any-permutation xs ys (int_div_euclid (sum_of xs) (item_count xs)) (int_div_euclid (sum_of ys) (item_count ys)) same
+    where_any-permutation xs ys (int_div_euclid (sum_of xs) (item_count xs))
+    (int_div_euclid (sum_of ys) (item_count ys)) same
     (rw (sum_of-permutation xs ys same, item_count-permutation xs ys same))
 
 -- ---- extremes
@@ -72,7 +75,8 @@ module _ (f : ℤ → ℤ → ℤ) (assoc : (x y z : ℤ) → f (f x y) z ≡ f 
 
 -- The best among numbers, where an operation says which of two is.
 module _ (f : ℤ → ℤ → ℤ) (assoc : (x y z : ℤ) → f (f x y) z ≡ f x (f y z)) (comm : (x y : ℤ) → f x y ≡ f y x)
-    (best : List ℤ → Option ℤ) (none : best [] ≡ None) (some : (x : ℤ) (xs : List ℤ) → best (x ∷ xs) ≡ Some (fold f x xs)) where
+    (best : List ℤ → Option ℤ) (none : best [] ≡ None) (some : (x : ℤ) (xs : List ℤ) → best (x ∷ xs)
+    ≡ Some (fold f x xs)) where
   best_with : ℤ → Option ℤ → Option ℤ
   best_with x None = Some x
   best_with x (Some y) = Some (f x y)
@@ -86,7 +90,8 @@ module _ (f : ℤ → ℤ → ℤ) (assoc : (x y z : ℤ) → f (f x y) z ≡ f 
   best-permutation =
       along_permutation (λ xs ys. best xs ≡ best ys) (λ xs. refl)
       (λ x xs ys h. best-cons x xs ∙ ap (best_with x) h ∙ sym (best-cons x ys))
-      (λ x y xs. some x (y ∷ xs) ∙ ap (λ a. Some (fold f a xs)) (comm x y) ∙ sym (some y (x ∷ xs))) (λ xs ys zs p q. p ∙ q)
+      (λ x y xs. some x (y ∷ xs) ∙ ap (λ a. Some (fold f a xs)) (comm x y) ∙ sym (some y (x ∷ xs))) (λ xs ys zs p q. p
+      ∙ q)
 
 pub least_of-permutation : (xs ys : List ℤ) → IsPermutation xs ys → least_of xs ≡ least_of ys
 least_of-permutation = best-permutation int_min int_min-assoc int_min-comm least_of refl (λ _ _. refl)

@@ -1,5 +1,6 @@
 -- Counts that are added bucket by bucket.
-use Rattle.std.proofs.Common.{◌≡◌, ℕ, zero, suc, ◌+◌, ◌<◌, ◌≤◌, max, List, [], ◌∷◌, ◌++◌, length, get_or, set, take, sum, sum_by, IsPermutation, refl, sym, ap, ◌∙◌, add-one, arith}
+use Rattle.std.proofs.Common.{◌≡◌, ℕ, zero, suc, ◌+◌, ◌<◌, ◌≤◌, max, List, [], ◌∷◌, ◌++◌, length, get_or, set, take}
+use Rattle.std.proofs.Common.{sum, sum_by, IsPermutation, refl, sym, ap, ◌∙◌, add-one, arith}
 use Rattle.std.proofs.lemmas.List.Sums.{sum_by-cons}
 use Rattle.mon_value.specs.Aggregates.{counts_added, counts_of, merged_of}
 use Rattle.mon_value.proofs.AggregateLemmas.{where_any-permutation}
@@ -18,7 +19,8 @@ counts_added-comm (x ∷ xs) (y ∷ ys) =
     let head : x + y ≡ y + x = omega arith in
     rw (head, counts_added-comm xs ys)
 
-pub counts_added-assoc : (xs ys zs : List ℕ) → counts_added (counts_added xs ys) zs ≡ counts_added xs (counts_added ys zs)
+pub counts_added-assoc : (xs ys zs : List ℕ) → counts_added (counts_added xs ys) zs ≡ counts_added xs
+    (counts_added ys zs)
 counts_added-assoc [] ys zs = refl
 counts_added-assoc (x ∷ xs) [] zs = refl
 counts_added-assoc (x ∷ xs) (y ∷ ys) [] = refl
@@ -38,7 +40,13 @@ pub sum-counts_added : (xs ys : List ℕ) → sum (counts_added xs ys) ≡ sum x
 sum-counts_added [] ys = omega arith
 sum-counts_added (x ∷ xs) [] = omega arith
 sum-counts_added (x ∷ xs) (y ∷ ys) =
-    omega (arith, sum-counts_added xs ys, sum_by-cons (λ n. n) (x + y) (counts_added xs ys), sum_by-cons (λ n. n) x xs, sum_by-cons (λ n. n) y ys)
+    omega (
+      arith,
+      sum-counts_added xs ys,
+      sum_by-cons (λ n. n) (x + y) (counts_added xs ys),
+      sum_by-cons (λ n. n) x xs,
+      sum_by-cons (λ n. n) y ys,
+    )
 
 pub get_or-counts_added : (xs ys : List ℕ) (i : ℕ) → get_or (counts_added xs ys) i 0 ≡ get_or xs i 0 + get_or ys i 0
 get_or-counts_added [] ys i = omega arith
@@ -48,7 +56,8 @@ get_or-counts_added (x ∷ xs) (y ∷ ys) (suc i) = get_or-counts_added xs ys i
 
 -- one bucket more is added
 pub counts_added-take_more : (xs ys : List ℕ) (i : ℕ) → i < length ys → length ys ≤ length xs
-    → counts_added xs (take (i + 1) ys) ≡ set (counts_added xs (take i ys)) i (get_or (counts_added xs (take i ys)) i 0 + get_or ys i 0)
+    → counts_added xs (take (i + 1) ys) ≡ set (counts_added xs (take i ys)) i (get_or (counts_added xs (take i ys)) i 0
+    + get_or ys i 0)
 counts_added-take_more [] ys i h le = absurd (omega arith)
 counts_added-take_more (x ∷ xs) [] i h le = absurd (omega arith)
 counts_added-take_more (x ∷ xs) (y ∷ ys) zero h le = ap (λ rest. (x + y) ∷ rest) (counts_added-nil xs)
@@ -63,8 +72,10 @@ get_or-take_at (y ∷ ys) zero = refl
 get_or-take_at (y ∷ ys) (suc i) = get_or-take_at ys i
 
 -- the next bucket, to which nothing was added yet
-pub counts_added-take_at : (xs ys : List ℕ) (i : ℕ) → get_or (counts_added xs (take i ys)) i 0 + get_or ys i 0 ≡ get_or (counts_added xs ys) i 0
-counts_added-take_at xs ys i = omega (arith, get_or-counts_added xs (take i ys) i, get_or-take_at ys i, get_or-counts_added xs ys i)
+pub counts_added-take_at : (xs ys : List ℕ) (i : ℕ) → get_or (counts_added xs (take i ys)) i 0 + get_or ys i 0
+    ≡ get_or (counts_added xs ys) i 0
+counts_added-take_at xs ys i =
+    omega (arith, get_or-counts_added xs (take i ys) i, get_or-take_at ys i, get_or-counts_added xs ys i)
 
 -- ---- many distributions
 
@@ -75,11 +86,13 @@ counts_of-append (x ∷ xs) ys = rw (counts_of-append xs ys) (sym (counts_added-
 pub counts_of-permutation : (xs ys : List (List ℕ)) → IsPermutation xs ys → counts_of xs ≡ counts_of ys
 counts_of-permutation =
     along_permutation (λ xs ys. counts_of xs ≡ counts_of ys) (λ xs. refl) (λ x xs ys h. ap (counts_added x) h)
-    (λ x y xs. sym (counts_added-assoc x y (counts_of xs)) ∙ ap (λ both. counts_added both (counts_of xs)) (counts_added-comm x y) ∙ counts_added-assoc y x (counts_of xs))
+    (λ x y xs. sym (counts_added-assoc x y (counts_of xs)) ∙ ap (λ both. counts_added both (counts_of xs))
+    (counts_added-comm x y) ∙ counts_added-assoc y x (counts_of xs))
     (λ xs ys zs p q. p ∙ q)
 
 pub merged_of-permutation : (xs ys : List (List ℕ)) → IsPermutation xs ys → merged_of xs ≡ merged_of ys
-merged_of-permutation xs ys same = where_any-permutation xs ys (counts_of xs) (counts_of ys) same (counts_of-permutation xs ys same)
+merged_of-permutation xs ys same = where_any-permutation xs ys (counts_of xs) (counts_of ys) same
+    (counts_of-permutation xs ys same)
 
 pub sum-counts_of : (items : List (List ℕ)) → sum (counts_of items) ≡ sum_by sum items
 sum-counts_of [] = refl

@@ -1,11 +1,14 @@
 -- Parts of distributions that are merged: counts that begin with counts of 0.
-use Rattle.std.proofs.Common.{◌≡◌, ℕ, zero, suc, ◌≤◌, Bool, true, false, ◌||◌, cond, List, [], ◌∷◌, ◌++◌, length, replicate, sum, sum_by, All, Some, None, IsPermutation, refl, sym, ap, subst, ◌∙◌, zero-add, length-append, arith}
+use Rattle.std.proofs.Common.{◌≡◌, ℕ, zero, suc, ◌≤◌, Bool, true, false, ◌||◌, cond, List, [], ◌∷◌, ◌++◌, length}
+use Rattle.std.proofs.Common.{replicate, sum, sum_by, All, Some, None, IsPermutation, refl, sym, ap, subst, ◌∙◌}
+use Rattle.std.proofs.Common.{zero-add, length-append, arith}
 use Rattle.std.proofs.lemmas.List.{get_or_append_left}
 use Rattle.std.proofs.lemmas.List.Elements.{All-head, All-tail}
 use Rattle.std.proofs.lemmas.List.Sorted.{All-permutation, IsPermutation-sym, IsPermutation-append_comm}
 use Rattle.std.proofs.lemmas.List.Sums.{sum_by-append, sum_by-cons, get_or-le-sum_by}
 use Rattle.mon_value.specs.Aggregates.{where_any, counts_added, counts_of}
-use Rattle.mon_value.proofs.CountsLemmas.{counts_added-nil, counts_added-comm, counts_added-assoc, length-counts_added, sum-counts_added, counts_of-append, sum-counts_of}
+use Rattle.mon_value.proofs.CountsLemmas.{counts_added-nil, counts_added-comm, counts_added-assoc, length-counts_added}
+use Rattle.mon_value.proofs.CountsLemmas.{sum-counts_added, counts_of-append, sum-counts_of}
 use Rattle.mon_value.specs.Parts.{IsZero, is_any}
 
 -- ---- whether there is an item
@@ -46,20 +49,24 @@ All-front P xs ys all k d lt = subst P (get_or_append_left xs ys d k lt) (all k 
 All-back : {A : Type 0} (P : A → Type 0) (xs ys : List A) → All P (xs ++ ys) → All P ys
 All-back P xs ys all = All-front P ys xs (All-permutation P (xs ++ ys) (ys ++ xs) (IsPermutation-append_comm xs ys) all)
 
-pub lengths-chosen : (n : ℕ) (xs ys zs : List (List ℕ)) → IsPermutation (xs ++ ys) zs → All (λ counts. length counts ≡ n) zs → All (λ counts. length counts ≡ n) xs
+pub lengths-chosen : (n : ℕ) (xs ys zs : List (List ℕ)) → IsPermutation (xs ++ ys) zs
+    → All (λ counts. length counts ≡ n) zs → All (λ counts. length counts ≡ n) xs
 lengths-chosen n xs ys zs same all =
-    All-front (λ counts. length counts ≡ n) xs ys (All-permutation (λ counts. length counts ≡ n) zs (xs ++ ys) (IsPermutation-sym (xs ++ ys) zs same) all)
+    All-front (λ counts. length counts ≡ n) xs ys (All-permutation (λ counts. length counts ≡ n) zs (xs ++ ys)
+    (IsPermutation-sym (xs ++ ys) zs same) all)
 
 -- ---- parts that begin with counts of 0
 
 module _ (z : List ℕ) (zeros : IsZero z) where
-  pub counts-append : (xs ys : List (List ℕ)) → counts_added (counts_added z (counts_of xs)) (counts_added z (counts_of ys)) ≡ counts_added z (counts_of (xs ++ ys))
+  pub counts-append : (xs ys : List (List ℕ)) → counts_added (counts_added z (counts_of xs))
+      (counts_added z (counts_of ys)) ≡ counts_added z (counts_of (xs ++ ys))
   counts-append xs ys =
       let a = counts_of xs in
       let b = counts_of ys in
       let once : counts_added z z ≡ z = zero_added z z zeros (omega arith) in
       let turned : counts_added a (counts_added z b) ≡ counts_added z (counts_added a b) =
-      sym (counts_added-assoc a z b) ∙ ap (λ left. counts_added left b) (counts_added-comm a z) ∙ counts_added-assoc z a b in
+      sym (counts_added-assoc a z b) ∙ ap (λ left. counts_added left b) (counts_added-comm a z) ∙ counts_added-assoc z
+      a b in
       counts_added-assoc z a (counts_added z b) ∙ ap (counts_added z) turned
       ∙ sym (counts_added-assoc z z (counts_added a b)) ∙ ap (λ left. counts_added left (counts_added a b)) once
       ∙ ap (counts_added z) (sym (counts_of-append xs ys))
@@ -70,14 +77,22 @@ module _ (z : List ℕ) (zeros : IsZero z) where
   counts_added_one counts item same =
       let long : length z ≤ length counts = omega (arith, length-counts_added z (counts_added item [])) in
       rw (counts_added-nil item)
-      (sym (counts_added-assoc counts z item) ∙ ap (λ left. counts_added left item) (counts_added-comm counts z ∙ zero_added z counts zeros long))
+      (sym (counts_added-assoc counts z item) ∙ ap (λ left. counts_added left item) (counts_added-comm counts z
+      ∙ zero_added z counts zeros long))
 
-  length-counts_of : (items : List (List ℕ)) → All (λ counts. length counts ≡ length z) items → length (counts_of items) ≤ length z
+  length-counts_of : (items : List (List ℕ)) → All (λ counts. length counts ≡ length z) items
+      → length (counts_of items) ≤ length z
   length-counts_of [] same = omega arith
   length-counts_of (x ∷ xs) same =
-      omega (arith, length-counts_added x (counts_of xs), length-counts_of xs (All-tail (λ counts. length counts ≡ length z) x xs same), All-head (λ counts. length counts ≡ length z) x xs same)
+      omega (
+        arith,
+        length-counts_added x (counts_of xs),
+        length-counts_of xs (All-tail (λ counts. length counts ≡ length z) x xs same),
+        All-head (λ counts. length counts ≡ length z) x xs same,
+      )
 
-  length-part : (items : List (List ℕ)) → All (λ counts. length counts ≡ length z) items → length (counts_added z (counts_of items)) ≡ length z
+  length-part : (items : List (List ℕ)) → All (λ counts. length counts ≡ length z) items
+      → length (counts_added z (counts_of items)) ≡ length z
   length-part items same = omega (arith, length-counts_added z (counts_of items), length-counts_of items same)
 
   sum-part : (items : List (List ℕ)) → sum (counts_added z (counts_of items)) ≡ sum_by sum items
@@ -92,7 +107,8 @@ module _ (z : List ℕ) (zeros : IsZero z) where
       let long = All-head (λ counts. length counts ≡ length z) x xs same in
       ap Some (zero_added z (counts_added x (counts_of xs)) zeros (omega (arith, length-counts_added x (counts_of xs))))
 
-  pub counts_within : (xs ys : List (List ℕ)) (most : ℕ) → All (λ counts. length counts ≡ length z) (xs ++ ys) → sum_by sum (xs ++ ys) ≤ most
+  pub counts_within : (xs ys : List (List ℕ)) (most : ℕ) → All (λ counts. length counts ≡ length z) (xs ++ ys)
+      → sum_by sum (xs ++ ys) ≤ most
       → (length (counts_added z (counts_of xs)) ≡ length (counts_added z (counts_of ys)))
       × All (λ count. count ≤ most) (counts_added (counts_added z (counts_of xs)) (counts_added z (counts_of ys)))
   counts_within xs ys most same fits =
@@ -101,5 +117,12 @@ module _ (z : List ℕ) (zeros : IsZero z) where
       let a = counts_added z (counts_of xs) in
       let b = counts_added z (counts_of ys) in (
         omega (arith, length-part xs left, length-part ys right),
-        λ k d lt. omega (arith, get_or-le-sum_by (λ n. n) (counts_added a b) k d lt, sum-counts_added a b, sum-part xs, sum-part ys, sum_by-append sum xs ys),
+        λ k d lt. omega (
+          arith,
+          get_or-le-sum_by (λ n. n) (counts_added a b) k d lt,
+          sum-counts_added a b,
+          sum-part xs,
+          sum-part ys,
+          sum_by-append sum xs ys,
+        ),
       )

@@ -1,5 +1,6 @@
 -- The times of a grid.
-use Rattle.std.proofs.Common.{◌≡◌, ℕ, zero, suc, ◌+◌, ◌-◌, ◌*◌, ◌/◌, ◌<◌, ◌≤◌, ℤ, pos, ◌+ℤ◌, ◌-ℤ◌, ◌<ℤ◌, ◌≤ℤ◌, ◌↔◌, ◌%◌, [], ◌∷◌, length, get_or, unsigned_abs, refl, ap, inl, inr, arith}
+use Rattle.std.proofs.Common.{◌≡◌, ℕ, zero, suc, ◌+◌, ◌-◌, ◌*◌, ◌/◌, ◌<◌, ◌≤◌, ℤ, pos, ◌+ℤ◌, ◌-ℤ◌, ◌<ℤ◌, ◌≤ℤ◌, ◌↔◌}
+use Rattle.std.proofs.Common.{◌%◌, [], ◌∷◌, length, get_or, unsigned_abs, refl, ap, inl, inr, arith}
 use Rattle.std.proofs.Math.Nat.{mul_comm, mul-le-mul_left}
 use Rattle.std.proofs.lemmas.Bool.{cases_eq, cases_lt}
 use Rattle.std.specs.List.{AllByRecursion}
@@ -50,7 +51,8 @@ grid_between grid lawful =
     between_back grid.every (grid.moment -ℤ grid.within) grid.moment (unsigned_abs grid.every) (omega (arith, ints))
     (time_count grid) grid.moment (unsigned_abs grid.within) (omega (arith, ints))
     (count_reaches (unsigned_abs grid.within) (unsigned_abs grid.every) (omega (arith, ints)))
-    (count_some (unsigned_abs grid.within) (unsigned_abs grid.every) (omega (arith, ints)) (omega (arith, ints))) (omega (arith, ints))
+    (count_some (unsigned_abs grid.within) (unsigned_abs grid.every) (omega (arith, ints)) (omega (arith, ints)))
+    (omega (arith, ints))
 
 -- a time is above the seconds before the moment exactly where it is one of the first so many
 pub counted_exactly : (k w p : ℕ) → 1 ≤ p → (k < (w + (p - 1)) / p) ↔ (k * p < w)
@@ -58,7 +60,8 @@ counted_exactly k w p some =
     let n = (w + (p - 1)) / p in
     let whole : p * n + (w + (p - 1)) % p ≡ w + (p - 1) = omega arith in
     let left : (w + (p - 1)) % p < p = omega arith in (
-      λ below. let most = mul-le-mul_left {m = suc k} {n = n} p (omega arith) in let more = more_times k p in omega (arith, mul_comm p (suc k)),
+      λ below. let most = mul-le-mul_left {m = suc k} {n = n} p (omega arith) in let more = more_times k p in
+          omega (arith, mul_comm p (suc k)),
       λ above. elim (cases_lt k n) [
         | inl below ↦ below
         | inr past ↦ let most = mul-le-mul_left {m = n} {n = k} p past in absurd (omega (arith, mul_comm p k))
@@ -66,7 +69,8 @@ counted_exactly k w p some =
     )
 
 -- the times, one by one
-pub get_or-times_back : (n k : ℕ) (t e d : ℤ) (p : ℕ) → e ≡ pos p → k < n → get_or (times_back n t e) k d ≡ t -ℤ pos (k * p)
+pub get_or-times_back : (n k : ℕ) (t e d : ℤ) (p : ℕ) → e ≡ pos p → k < n → get_or (times_back n t e) k d
+    ≡ t -ℤ pos (k * p)
 get_or-times_back zero k t e d p step below = absurd (omega arith)
 get_or-times_back (suc n) zero t e d p step below = omega (arith, ints)
 get_or-times_back (suc n) (suc k) t e d p step below =

@@ -31,13 +31,16 @@ module _ (places : List ℕ) where
   same_itself = keyed.same_itself same_row same_row-Decides (group_key places)
 
   pub rows_in-push : (key : TimedRow) (rows : List TimedRow) (row : TimedRow)
-      → rows_in places key (rows ++ row ∷ []) ≡ rows_in places key rows ++ cond (same_row key (group_key places row)) (row ∷ []) []
+      → rows_in places key (rows ++ row ∷ []) ≡ rows_in places key rows ++ cond (same_row key (group_key places row))
+      (row ∷ []) []
   rows_in-push = keyed.items_with-push same_row same_row-Decides (group_key places)
 
-  pub rows_by_group-push : (rows : List TimedRow) (row : TimedRow) → rows_by_group places (rows ++ row ∷ []) ≡ with_rows (rows_by_group places rows) (own_group row)
+  pub rows_by_group-push : (rows : List TimedRow) (row : TimedRow) → rows_by_group places (rows ++ row ∷ [])
+      ≡ with_rows (rows_by_group places rows) (own_group row)
   rows_by_group-push = keyed.items_by_key-push same_row same_row-Decides (group_key places)
 
-  pub rows_some : (key : TimedRow) (rows : List TimedRow) → has key (group_keys places rows) ≡ true → 0 < length (rows_in places key rows)
+  pub rows_some : (key : TimedRow) (rows : List TimedRow) → has key (group_keys places rows) ≡ true
+      → 0 < length (rows_in places key rows)
   rows_some = keyed.items_some same_row same_row-Decides (group_key places)
 
   pub look_up : {A : Type 0} (of : TimedRow → A) (key : TimedRow) (keys : List TimedRow) (b : Bool) → has key keys ≡ b
@@ -45,5 +48,6 @@ module _ (places : List ℕ) where
   look_up = keyed.look_up same_row same_row-Decides (group_key places)
 
   -- the groups of two lists of rows are those of both
-  pub merged_rows_by_group : (xs ys : List TimedRow) → merged_rows (rows_by_group places xs) (rows_by_group places ys) ≡ rows_by_group places (xs ++ ys)
+  pub merged_rows_by_group : (xs ys : List TimedRow) → merged_rows (rows_by_group places xs) (rows_by_group places ys)
+      ≡ rows_by_group places (xs ++ ys)
   merged_rows_by_group = keyed.merged_items_by_key same_row same_row-Decides (group_key places)

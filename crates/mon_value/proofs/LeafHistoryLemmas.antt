@@ -1,9 +1,11 @@
 -- What a history says after one entry more, and what a well-formed one says of each entry.
-use Rattle.std.proofs.Common.{◌≡◌, ◌∙◌, ℕ, Bool, true, false, cond, ◌&&◌, ◌||◌, nat_eq, List, [], ◌∷◌, ◌++◌, refl, sym, ap, subst, append-nil, append_assoc, arith, inl, inr}
+use Rattle.std.proofs.Common.{◌≡◌, ◌∙◌, ℕ, Bool, true, false, cond, ◌&&◌, ◌||◌, nat_eq, List, [], ◌∷◌, ◌++◌, refl, sym}
+use Rattle.std.proofs.Common.{ap, subst, append-nil, append_assoc, arith, inl, inr}
 use Rattle.std.proofs.lemmas.Bool.{and_left, or_left, or_right, or_cases}
 use Rattle.std.proofs.lemmas.Bool.Decides.{nat_tests}
 use Rattle.std.proofs.lemmas.List.Concat.{flat_map-append}
-use Rattle.mon_value.specs.LeafHistories.{GoesOn, IsWellFormed, MayFollow, entry_rows, is_down_after, is_opened, replica_rows, same_replica}
+use Rattle.mon_value.specs.LeafHistories.{GoesOn, IsWellFormed, MayFollow, entry_rows, is_down_after, is_opened}
+use Rattle.mon_value.specs.LeafHistories.{replica_rows, same_replica}
 use Rattle.mon_value.specs.declared.histories.Entry.{Entry}
 use Rattle.mon_value.specs.declared.histories.Entry.TheVariants as entry
 use Rattle.mon_value.specs.declared.positions.Range.{Range}
@@ -44,12 +46,15 @@ down_push down (entry.Up pass ∷ history) last = down_push false history last
 
 -- ---- each entry may follow those before it
 
-follows_at : (before history : List Entry) (last : Entry) (more : List Entry) → GoesOn before (history ++ last ∷ more) → MayFollow (before ++ history) last
+follows_at : (before history : List Entry) (last : Entry) (more : List Entry) → GoesOn before (history ++ last ∷ more)
+    → MayFollow (before ++ history) last
 follows_at before [] last more goes = subst (λ (h : List Entry). MayFollow h last) (sym (append-nil before)) goes.0
 follows_at before (first ∷ history) last more goes =
-    subst (λ (h : List Entry). MayFollow h last) (append_assoc before (first ∷ []) history) (follows_at (before ++ first ∷ []) history last more goes.1)
+    subst (λ (h : List Entry). MayFollow h last) (append_assoc before (first ∷ []) history)
+    (follows_at (before ++ first ∷ []) history last more goes.1)
 
-pub follows : (history : List Entry) (last : Entry) (more : List Entry) → IsWellFormed (history ++ last ∷ more) → MayFollow history last
+pub follows : (history : List Entry) (last : Entry) (more : List Entry) → IsWellFormed (history ++ last ∷ more)
+    → MayFollow history last
 follows history last more formed = follows_at [] history last more formed
 
 front_at : (before history more : List Entry) → GoesOn before (history ++ more) → GoesOn before history
@@ -69,14 +74,16 @@ parts true b e = (refl, e)
 parts false b e = absurd cc
 
 -- two that are the same replica have the same range and the same slot
-pub parts_same : (range other : Range) (slot place : Slot) → same_replica range slot other place ≡ true → (range ≡ other) × (slot ≡ place)
+pub parts_same : (range other : Range) (slot place : Slot) → same_replica range slot other place ≡ true
+    → (range ≡ other) × (slot ≡ place)
 parts_same range other slot place same =
     let both = parts (nat_eq range.0 other.0) (nat_eq slot.0 place.0) same in
     let ranges = numbers_same range.0 other.0 both.0 in
     let slots = numbers_same slot.0 place.0 both.1 in
     ((λ i. record { 0 = ranges i }), (λ i. record { 0 = slots i }))
 
-pub same_tests : (range other : Range) (slot place : Slot) → same_replica range slot other place ≡ true → (a : Range) (b : Slot) →
+pub same_tests : (range other : Range) (slot place : Slot) → same_replica range slot other place ≡ true
+    → (a : Range) (b : Slot) →
     same_replica range slot a b ≡ same_replica other place a b
 same_tests range other slot place same a b =
     let both = parts (nat_eq range.0 other.0) (nat_eq slot.0 place.0) same in
@@ -84,14 +91,16 @@ same_tests range other slot place same a b =
     let slots = numbers_same slot.0 place.0 both.1 in
     λ i. nat_eq (ranges i) a.0 && nat_eq (slots i) b.0
 
-pub opened_same : (range other : Range) (slot place : Slot) (history : List Entry) → same_replica range slot other place ≡ true →
+pub opened_same : (range other : Range) (slot place : Slot) (history : List Entry) → same_replica range slot other
+    place ≡ true →
     is_opened range slot history ≡ is_opened other place history
 opened_same range other slot place [] same = refl
 opened_same range other slot place (entry.Opened pass a b rows ∷ history) same =
     let first = same_tests range other slot place same a b in
     let rest = opened_same range other slot place history same in
     λ i. first i || rest i
-opened_same range other slot place (entry.Put pass a b row ∷ history) same = opened_same range other slot place history same
+opened_same range other slot place (entry.Put pass a b row ∷ history) same = opened_same range other slot place history
+    same
 opened_same range other slot place (entry.Down pass ∷ history) same = opened_same range other slot place history same
 opened_same range other slot place (entry.Up pass ∷ history) same = opened_same range other slot place history same
 
@@ -110,16 +119,20 @@ no_rows_at range slot before (entry.Opened pass other place rows ∷ history) go
     let apart = clash (same_replica range slot other place) (is_opened range slot history) never in
     nothing (same_replica range slot other place) rows (replica_rows range slot history) apart.0
     (no_rows_at range slot (before ++ entry.Opened pass other place rows ∷ []) history goes.1
-    (opened_more range slot before (entry.Opened pass other place rows ∷ []) ∙ (λ i. old i || is_opened range slot (entry.Opened pass other place rows ∷ [])) ∙ off (same_replica range slot other place) apart.0) apart.1)
+    (opened_more range slot before (entry.Opened pass other place rows ∷ [])
+    ∙ (λ i. old i || is_opened range slot (entry.Opened pass other place rows ∷ []))
+    ∙ off (same_replica range slot other place) apart.0) apart.1)
   where
     off : (b : Bool) → (b ≡ true → ⊥) → (b || false) ≡ false
     off true never = absurd (never refl)
     off false never = refl
 no_rows_at range slot before (entry.Put pass other place row ∷ history) goes old never =
     nothing (same_replica range slot other place) (row ∷ []) (replica_rows range slot history)
-    (λ same. absurd (let here : is_opened range slot before ≡ true = opened_same range other slot place before same ∙ goes.0.1 in cc))
+    (λ same. absurd (let here : is_opened range slot before ≡ true = opened_same range other slot place before same
+    ∙ goes.0.1 in cc))
     (no_rows_at range slot (before ++ entry.Put pass other place row ∷ []) history goes.1
-    (opened_more range slot before (entry.Put pass other place row ∷ []) ∙ or_false (is_opened range slot before) ∙ old) never)
+    (opened_more range slot before (entry.Put pass other place row ∷ []) ∙ or_false (is_opened range slot before)
+    ∙ old) never)
 no_rows_at range slot before (entry.Down pass ∷ history) goes old never =
     no_rows_at range slot (before ++ entry.Down pass ∷ []) history goes.1
     (opened_more range slot before (entry.Down pass ∷ []) ∙ or_false (is_opened range slot before) ∙ old) never
@@ -127,7 +140,8 @@ no_rows_at range slot before (entry.Up pass ∷ history) goes old never =
     no_rows_at range slot (before ++ entry.Up pass ∷ []) history goes.1
     (opened_more range slot before (entry.Up pass ∷ []) ∙ or_false (is_opened range slot before) ∙ old) never
 
-pub no_rows : (range : Range) (slot : Slot) (history : List Entry) → IsWellFormed history → is_opened range slot history ≡ false → replica_rows range slot history ≡ []
+pub no_rows : (range : Range) (slot : Slot) (history : List Entry) → IsWellFormed history → is_opened range slot
+    history ≡ false → replica_rows range slot history ≡ []
 no_rows range slot history formed never = no_rows_at range slot [] history formed refl never
 
 -- ---- one entry more

@@ -1,6 +1,7 @@
 pub mod AggregateLemmas
 pub mod CountsLemmas
 pub mod CountsPartLemmas
+pub mod FartherLemmas
 pub mod GridLemmas
 pub mod GroupLemmas
 pub mod KeyedLemmas

@@ -46,11 +46,13 @@ list_in (value.Text s) = s
 list_in (value.Dist counts) = counts
 
 abbrev by_parts : Value → Value → Ordering
-by_parts = then_cmp (on kind_of nat_cmp) (then_cmp (on number_in int_cmp) (then_cmp (on truth_in bool_cmp) (on list_in text_cmp)))
+by_parts = then_cmp (on kind_of nat_cmp) (then_cmp (on number_in int_cmp) (then_cmp (on truth_in bool_cmp)
+    (on list_in text_cmp)))
 
 by_parts_total : IsTotalOrder by_parts
 by_parts_total =
-    then_total (on_total kind_of nat_cmp_total) (then_total (on_total number_in int_cmp_total) (then_total (on_total truth_in bool_cmp_total) (on_total list_in nat_list_cmp_total)))
+    then_total (on_total kind_of nat_cmp_total) (then_total (on_total number_in int_cmp_total)
+    (then_total (on_total truth_in bool_cmp_total) (on_total list_in nat_list_cmp_total)))
 
 then-Equal : (o : Ordering) → o ≡ ordering_then o Equal
 then-Equal Less = refl
@@ -108,9 +110,10 @@ field_total : IsTotalOrder field_cmp
 field_total = on_total field_as_value value_total
 
 pub target_total : IsTotalOrder target_cmp
-target_total = then_total (on_total (λ (a : Target). a.schema) nat_list_cmp_total) (on_total (λ (a : Target). a.fields) (lists_total field_total))
+target_total = then_total (on_total (λ (a : Target). a.schema) nat_list_cmp_total) (on_total (λ (a : Target). a.fields)
+    (lists_total field_total))
 
-same_fields : (a b : FieldValue) → field_as_value a ≡ field_as_value b → a ≡ b
+pub same_fields : (a b : FieldValue) → field_as_value a ≡ field_as_value b → a ≡ b
 same_fields (field.Int y) (field.Int z) h = cc
 same_fields (field.Int y) (field.Bool q) h = cc
 same_fields (field.Int y) (field.Text t) h = cc

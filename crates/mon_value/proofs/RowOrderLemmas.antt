@@ -17,7 +17,8 @@ use Rattle.mon_value.specs.contracts.tables.TimedRowOrd.TheImpl as derived
 use Rattle.mon_value.specs.contracts.values.ValueOrd.TheImpl as derived_value
 
 pub row_total : IsTotalOrder row_cmp
-row_total = then_total (on_total (λ (r : TimedRow). r.time) int_cmp_total) (on_total (λ (r : TimedRow). r.cells) (lists_total value_total))
+row_total = then_total (on_total (λ (r : TimedRow). r.time) int_cmp_total) (on_total (λ (r : TimedRow). r.cells)
+    (lists_total value_total))
 
 pub row_exact : TellsApart row_cmp
 row_exact a b h =
@@ -54,6 +55,8 @@ pub cmp-row_cmp : derived.cmp-value.it ≡ row_cmp
 cmp-row_cmp = λ i a b. ordering_then (int_cmp a.time b.time) (slice_cmp (λ v w. cmp-value_cmp v w i) a.cells b.cells)
 
 -- what a sort by the derived order leaves
-pub sorted_rows-sorted : (xs ys : List TimedRow) → IsPermutation xs ys → IsSorted derived.cmp-value.it ys → ys ≡ sorted_rows xs
+pub sorted_rows-sorted : (xs ys : List TimedRow) → IsPermutation xs ys → IsSorted derived.cmp-value.it ys → ys
+    ≡ sorted_rows xs
 sorted_rows-sorted xs ys kept sorted =
-    sorted_list-sorted row_cmp row_total row_exact xs ys kept (subst (λ (order : TimedRow → TimedRow → Ordering). IsSorted order ys) cmp-row_cmp sorted)
+    sorted_list-sorted row_cmp row_total row_exact xs ys kept (subst (λ (order : TimedRow → TimedRow → Ordering).
+    IsSorted order ys) cmp-row_cmp sorted)

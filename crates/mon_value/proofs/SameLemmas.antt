@@ -36,7 +36,8 @@ eq-same_field (field.Text x) (field.Text y) = refl
 
 pub eq-same_series : (a b : SeriesKey) → derived.eq-value.it a b ≡ same_series a b
 eq-same_series a b =
-    ap (λ (same : FieldValue → FieldValue → Bool). (same_text a.target.schema b.target.schema && pointwise same a.target.fields b.target.fields) && (same_text a.metric b.metric && pointwise same a.fields b.fields))
+    ap (λ (same : FieldValue → FieldValue → Bool). (same_text a.target.schema b.target.schema && pointwise same
+    a.target.fields b.target.fields) && (same_text a.metric b.metric && pointwise same a.fields b.fields))
     (λ i x y. eq-same_field x y i)
 
 -- ---- what it tells
@@ -61,15 +62,18 @@ same_truth-Decides false true = (λ e. absurd cc, λ e. absurd cc)
 same_truth-Decides false false = (λ e. refl, λ e. refl)
 
 pub same_field-Decides : (a b : FieldValue) → Decides (same_field a b) (a ≡ b)
-same_field-Decides (field.Int x) (field.Int y) = (λ e. ap field.Int ((Decides-int_eq x y).0 e), λ e. (Decides-int_eq x y).1 cc)
+same_field-Decides (field.Int x) (field.Int y) =
+    (λ e. ap field.Int ((Decides-int_eq x y).0 e), λ e. (Decides-int_eq x y).1 cc)
 same_field-Decides (field.Int x) (field.Bool y) = (λ e. absurd cc, λ e. absurd cc)
 same_field-Decides (field.Int x) (field.Text y) = (λ e. absurd cc, λ e. absurd cc)
 same_field-Decides (field.Bool x) (field.Int y) = (λ e. absurd cc, λ e. absurd cc)
-same_field-Decides (field.Bool x) (field.Bool y) = (λ e. ap field.Bool ((same_truth-Decides x y).0 e), λ e. (same_truth-Decides x y).1 cc)
+same_field-Decides (field.Bool x) (field.Bool y) =
+    (λ e. ap field.Bool ((same_truth-Decides x y).0 e), λ e. (same_truth-Decides x y).1 cc)
 same_field-Decides (field.Bool x) (field.Text y) = (λ e. absurd cc, λ e. absurd cc)
 same_field-Decides (field.Text x) (field.Int y) = (λ e. absurd cc, λ e. absurd cc)
 same_field-Decides (field.Text x) (field.Bool y) = (λ e. absurd cc, λ e. absurd cc)
-same_field-Decides (field.Text x) (field.Text y) = (λ e. ap field.Text ((same_text-Decides x y).0 e), λ e. (same_text-Decides x y).1 cc)
+same_field-Decides (field.Text x) (field.Text y) =
+    (λ e. ap field.Text ((same_text-Decides x y).0 e), λ e. (same_text-Decides x y).1 cc)
 
 same_fields-Decides : (a b : List FieldValue) → Decides (pointwise same_field a b) (a ≡ b)
 same_fields-Decides a b = slice_eq-Decides same_field-Decides a b (pointwise same_field a b) refl
@@ -81,7 +85,8 @@ same_target-Decides a b = (
       let schema = (same_text-Decides a.schema b.schema).0 parts.0 in
       let fields = (same_fields-Decides a.fields b.fields).0 parts.1 in
       λ i. record { schema = schema i; fields = fields i },
-  λ e. join _ _ ((same_text-Decides a.schema b.schema).1 (ap (λ t. t.schema) e)) ((same_fields-Decides a.fields b.fields).1 (ap (λ t. t.fields) e)),
+  λ e. join _ _ ((same_text-Decides a.schema b.schema).1 (ap (λ t. t.schema) e))
+      ((same_fields-Decides a.fields b.fields).1 (ap (λ t. t.fields) e)),
 )
 
 -- keys name one series exactly where they are equal
@@ -95,7 +100,8 @@ same_series-Decides a b = (
       let fields = (same_fields-Decides a.fields b.fields).0 rest.1 in
       λ i. record { target = target i; metric = metric i; fields = fields i },
   λ e. join _ _ ((same_target-Decides a.target b.target).1 (ap (λ k. k.target) e))
-      (join _ _ ((same_text-Decides a.metric b.metric).1 (ap (λ k. k.metric) e)) ((same_fields-Decides a.fields b.fields).1 (ap (λ k. k.fields) e))),
+      (join _ _ ((same_text-Decides a.metric b.metric).1 (ap (λ k. k.metric) e))
+      ((same_fields-Decides a.fields b.fields).1 (ap (λ k. k.fields) e))),
 )
 
 -- ---- cells and rows
@@ -122,26 +128,33 @@ eq-same_value (value.Dist x) (value.Text y) = refl
 eq-same_value (value.Dist x) (value.Dist y) = refl
 
 pub same_value-Decides : (a b : Value) → Decides (same_value a b) (a ≡ b)
-same_value-Decides (value.Int x) (value.Int y) = (λ e. ap value.Int ((Decides-int_eq x y).0 e), λ e. (Decides-int_eq x y).1 cc)
+same_value-Decides (value.Int x) (value.Int y) =
+    (λ e. ap value.Int ((Decides-int_eq x y).0 e), λ e. (Decides-int_eq x y).1 cc)
 same_value-Decides (value.Int x) (value.Bool y) = (λ e. absurd cc, λ e. absurd cc)
 same_value-Decides (value.Int x) (value.Text y) = (λ e. absurd cc, λ e. absurd cc)
 same_value-Decides (value.Int x) (value.Dist y) = (λ e. absurd cc, λ e. absurd cc)
 same_value-Decides (value.Bool x) (value.Int y) = (λ e. absurd cc, λ e. absurd cc)
-same_value-Decides (value.Bool x) (value.Bool y) = (λ e. ap value.Bool ((same_truth-Decides x y).0 e), λ e. (same_truth-Decides x y).1 cc)
+same_value-Decides (value.Bool x) (value.Bool y) =
+    (λ e. ap value.Bool ((same_truth-Decides x y).0 e), λ e. (same_truth-Decides x y).1 cc)
 same_value-Decides (value.Bool x) (value.Text y) = (λ e. absurd cc, λ e. absurd cc)
 same_value-Decides (value.Bool x) (value.Dist y) = (λ e. absurd cc, λ e. absurd cc)
 same_value-Decides (value.Text x) (value.Int y) = (λ e. absurd cc, λ e. absurd cc)
 same_value-Decides (value.Text x) (value.Bool y) = (λ e. absurd cc, λ e. absurd cc)
-same_value-Decides (value.Text x) (value.Text y) = (λ e. ap value.Text ((same_text-Decides x y).0 e), λ e. (same_text-Decides x y).1 cc)
+same_value-Decides (value.Text x) (value.Text y) =
+    (λ e. ap value.Text ((same_text-Decides x y).0 e), λ e. (same_text-Decides x y).1 cc)
 same_value-Decides (value.Text x) (value.Dist y) = (λ e. absurd cc, λ e. absurd cc)
 same_value-Decides (value.Dist x) (value.Int y) = (λ e. absurd cc, λ e. absurd cc)
 same_value-Decides (value.Dist x) (value.Bool y) = (λ e. absurd cc, λ e. absurd cc)
 same_value-Decides (value.Dist x) (value.Text y) = (λ e. absurd cc, λ e. absurd cc)
-same_value-Decides (value.Dist x) (value.Dist y) = (λ e. ap value.Dist ((slice_eq-Decides Decides-eqb x y (pointwise nat_eq x y) refl).0 e), λ e. (slice_eq-Decides Decides-eqb x y (pointwise nat_eq x y) refl).1 cc)
+same_value-Decides (value.Dist x) (value.Dist y) = (
+  λ e. ap value.Dist ((slice_eq-Decides Decides-eqb x y (pointwise nat_eq x y) refl).0 e),
+  λ e. (slice_eq-Decides Decides-eqb x y (pointwise nat_eq x y) refl).1 cc,
+)
 
 pub eq-same_row : (a b : TimedRow) → derived_row.eq-value.it a b ≡ same_row a b
 eq-same_row a b =
-    ap (λ (same : Value → Value → Bool). int_eq a.time b.time && pointwise same a.cells b.cells) (λ i x y. eq-same_value x y i)
+    ap (λ (same : Value → Value → Bool). int_eq a.time b.time && pointwise same a.cells b.cells)
+    (λ i x y. eq-same_value x y i)
 
 -- rows are the same exactly where they are equal
 pub same_row-Decides : (a b : TimedRow) → Decides (same_row a b) (a ≡ b)
@@ -149,8 +162,10 @@ same_row-Decides a b = (
   λ e.
       let parts = both (int_eq a.time b.time) _ e in
       let time = (Decides-int_eq a.time b.time).0 parts.0 in
-      let cells = (slice_eq-Decides same_value-Decides a.cells b.cells (pointwise same_value a.cells b.cells) refl).0 parts.1 in
+      let cells = (slice_eq-Decides same_value-Decides a.cells b.cells (pointwise same_value a.cells b.cells) refl).0
+      parts.1 in
       λ i. record { time = time i; cells = cells i },
   λ e. join _ _ ((Decides-int_eq a.time b.time).1 (ap (λ r. r.time) e))
-      ((slice_eq-Decides same_value-Decides a.cells b.cells (pointwise same_value a.cells b.cells) refl).1 (ap (λ r. r.cells) e)),
+      ((slice_eq-Decides same_value-Decides a.cells b.cells (pointwise same_value a.cells b.cells) refl).1
+      (ap (λ r. r.cells) e)),
 )

@@ -1,5 +1,6 @@
 -- Lists in order: whatever order the items come in, there is one sorted list.
-use Rattle.std.proofs.Common.{◌≡◌, ℕ, ◌+◌, Bool, true, false, cond, List, [], ◌∷◌, get_or, IsPermutation, refl, sym, ap, ◌∙◌, add-one, arith}
+use Rattle.std.proofs.Common.{◌≡◌, ℕ, ◌+◌, Bool, true, false, cond, List, [], ◌∷◌, get_or, IsPermutation, refl, sym}
+use Rattle.std.proofs.Common.{ap, ◌∙◌, add-one, arith}
 use Rattle.std.specs.Cmp.{IsTotalOrder}
 use Rattle.std.specs.List.Sorted.{IsSorted}
 use Rattle.std.specs.Ordering.{is_gt, is_lt, ordering_reverse}
@@ -35,7 +36,8 @@ module _ {A : Type 0} (order : A → A → Ordering) where
   abbrev gt : A → A → Bool
   gt a b = is_gt (order a b)
 
-  pub sorted_list_with-cons : (a x : A) (xs : List A) (q : Bool) → gt a x ≡ q → sorted_list_with order a (x ∷ xs) ≡ cond q (x ∷ sorted_list_with order a xs) (a ∷ x ∷ xs)
+  pub sorted_list_with-cons : (a x : A) (xs : List A) (q : Bool) → gt a x ≡ q → sorted_list_with order a (x ∷ xs)
+      ≡ cond q (x ∷ sorted_list_with order a xs) (a ∷ x ∷ xs)
   sorted_list_with-cons a x xs q e = ap (λ b. cond b (x ∷ sorted_list_with order a xs) (a ∷ x ∷ xs)) e
 
   -- ---- sorting keeps the items
@@ -43,7 +45,8 @@ module _ {A : Type 0} (order : A → A → Ordering) where
   with_kept_at : (a x : A) (xs : List A) (q : Bool) → gt a x ≡ q → IsPermutation (a ∷ xs) (sorted_list_with order a xs)
       → IsPermutation (a ∷ x ∷ xs) (cond q (x ∷ sorted_list_with order a xs) (a ∷ x ∷ xs))
   with_kept_at a x xs true e ih =
-      IsPermutation-trans _ _ _ (front_exchanged (a ∷ []) (x ∷ []) xs) (IsPermutation-cons x (a ∷ xs) (sorted_list_with order a xs) ih)
+      IsPermutation-trans _ _ _ (front_exchanged (a ∷ []) (x ∷ []) xs)
+      (IsPermutation-cons x (a ∷ xs) (sorted_list_with order a xs) ih)
   with_kept_at a x xs false e ih = IsPermutation-refl (a ∷ x ∷ xs)
 
   pub sorted_list_with-permutation : (a : A) (xs : List A) → IsPermutation (a ∷ xs) (sorted_list_with order a xs)
@@ -53,7 +56,8 @@ module _ {A : Type 0} (order : A → A → Ordering) where
   pub sorted_list-permutation : (xs : List A) → IsPermutation xs (sorted_list order xs)
   sorted_list-permutation [] = IsPermutation-refl []
   sorted_list-permutation (x ∷ xs) =
-      IsPermutation-trans _ _ _ (IsPermutation-cons x xs (sorted_list order xs) (sorted_list-permutation xs)) (sorted_list_with-permutation x (sorted_list order xs))
+      IsPermutation-trans _ _ _ (IsPermutation-cons x xs (sorted_list order xs) (sorted_list-permutation xs))
+      (sorted_list_with-permutation x (sorted_list order xs))
 
   -- ---- a list in order stays
 
@@ -66,7 +70,8 @@ module _ {A : Type 0} (order : A → A → Ordering) where
   pub sorted_list-in_order : (xs : List A) → InOrder xs → sorted_list order xs ≡ xs
   sorted_list-in_order [] h = refl
   sorted_list-in_order (x ∷ []) h = refl
-  sorted_list-in_order (x ∷ y ∷ xs) h = ap (sorted_list_with order x) (sorted_list-in_order (y ∷ xs) h.1) ∙ sorted_list_with-cons x y xs false h.0
+  sorted_list-in_order (x ∷ y ∷ xs) h = ap (sorted_list_with order x) (sorted_list-in_order (y ∷ xs) h.1)
+      ∙ sorted_list_with-cons x y xs false h.0
 
 module _ {A : Type 0} (order : A → A → Ordering) (total : IsTotalOrder order) where
   abbrev comes_after : A → A → Bool
@@ -78,12 +83,15 @@ module _ {A : Type 0} (order : A → A → Ordering) (total : IsTotalOrder order
   not_after a b h = ap is_gt (total.antisymm b a) ∙ after_by (order a b) h
 
   -- behind an item that neither the first of the others nor the new one comes before
-  behind : (x a y : A) (xs : List A) (p : Bool) → comes_after a y ≡ p → comes_after x y ≡ false → comes_after x a ≡ false
-      → InOrder order (cond p (y ∷ sorted_list_with order a xs) (a ∷ y ∷ xs)) → InOrder order (x ∷ cond p (y ∷ sorted_list_with order a xs) (a ∷ y ∷ xs))
+  behind : (x a y : A) (xs : List A) (p : Bool) → comes_after a y ≡ p → comes_after x y ≡ false → comes_after x a
+      ≡ false
+      → InOrder order (cond p (y ∷ sorted_list_with order a xs) (a ∷ y ∷ xs))
+      → InOrder order (x ∷ cond p (y ∷ sorted_list_with order a xs) (a ∷ y ∷ xs))
   behind x a y xs true f h g ih = (h, ih)
   behind x a y xs false f h g ih = (g, ih)
 
-  in_order_with_at : (a x : A) (xs : List A) (q : Bool) → comes_after a x ≡ q → InOrder order (x ∷ xs) → InOrder order (sorted_list_with order a xs)
+  in_order_with_at : (a x : A) (xs : List A) (q : Bool) → comes_after a x ≡ q → InOrder order (x ∷ xs)
+      → InOrder order (sorted_list_with order a xs)
       → InOrder order (cond q (x ∷ sorted_list_with order a xs) (a ∷ x ∷ xs))
   in_order_with_at a x [] true e h ih = (not_after a x e, tt)
   in_order_with_at a x (y ∷ xs) true e h ih = behind x a y xs (comes_after a y) refl h.0 (not_after a x e) ih
@@ -93,7 +101,8 @@ module _ {A : Type 0} (order : A → A → Ordering) (total : IsTotalOrder order
   pub sorted_list_with-InOrder : (a : A) (xs : List A) → InOrder order xs → InOrder order (sorted_list_with order a xs)
   sorted_list_with-InOrder a [] h = tt
   sorted_list_with-InOrder a (x ∷ []) h = in_order_with_at a x [] (comes_after a x) refl h tt
-  sorted_list_with-InOrder a (x ∷ y ∷ xs) h = in_order_with_at a x (y ∷ xs) (comes_after a x) refl h (sorted_list_with-InOrder a (y ∷ xs) h.1)
+  sorted_list_with-InOrder a (x ∷ y ∷ xs) h = in_order_with_at a x (y ∷ xs) (comes_after a x) refl h
+      (sorted_list_with-InOrder a (y ∷ xs) h.1)
 
   pub sorted_list-InOrder : (xs : List A) → InOrder order (sorted_list order xs)
   sorted_list-InOrder [] = tt
@@ -130,7 +139,8 @@ module _ {A : Type 0} (order : A → A → Ordering) (total : IsTotalOrder order
   after_third : (a b x : A) → after b x ≡ true → after a x ≡ false → after b a ≡ true
   after_third a b x h g = is_true (after b a) (λ e. false≢true (sym (upto total b a x e g) ∙ h))
 
-  pair : (a b : A) (rest : List A) (p q : Bool) → (p ≡ true → q ≡ false) → (p ≡ false → q ≡ false → a ≡ b) → cond p (b ∷ a ∷ rest) (a ∷ b ∷ rest) ≡ cond q (a ∷ b ∷ rest) (b ∷ a ∷ rest)
+  pair : (a b : A) (rest : List A) (p q : Bool) → (p ≡ true → q ≡ false) → (p ≡ false → q ≡ false → a ≡ b)
+      → cond p (b ∷ a ∷ rest) (a ∷ b ∷ rest) ≡ cond q (a ∷ b ∷ rest) (b ∷ a ∷ rest)
   pair a b rest true q h g = ap (λ c. cond c (a ∷ b ∷ rest) (b ∷ a ∷ rest)) (sym (h refl))
   pair a b rest false true h g = refl
   pair a b rest false false h g = let e = g refl refl in λ i. e i ∷ sym e i ∷ rest
@@ -141,16 +151,19 @@ module _ {A : Type 0} (order : A → A → Ordering) (total : IsTotalOrder order
   put_cons : (a x : A) (xs : List A) (q : Bool) → after a x ≡ q → put a (x ∷ xs) ≡ cond q (x ∷ put a xs) (a ∷ x ∷ xs)
   put_cons = sorted_list_with-cons order
 
-  commutes_at : (a b x : A) (xs : List A) (p q : Bool) → after b x ≡ p → after a x ≡ q → put a (put b xs) ≡ put b (put a xs) → put a (put b (x ∷ xs)) ≡ put b (put a (x ∷ xs))
+  commutes_at : (a b x : A) (xs : List A) (p q : Bool) → after b x ≡ p → after a x ≡ q → put a (put b xs)
+      ≡ put b (put a xs) → put a (put b (x ∷ xs)) ≡ put b (put a (x ∷ xs))
   commutes_at a b x xs true true e f ih =
       ap (put a) (put_cons b x xs true e) ∙ put_cons a x (put b xs) true f
       ∙ ap (λ rest. x ∷ rest) ih
       ∙ sym (ap (put b) (put_cons a x xs true f) ∙ put_cons b x (put a xs) true e)
   commutes_at a b x xs true false e f ih =
       ap (put a) (put_cons b x xs true e) ∙ put_cons a x (put b xs) false f
-      ∙ sym (ap (put b) (put_cons a x xs false f) ∙ put_cons b a (x ∷ xs) true (after_third a b x e f) ∙ ap (λ rest. a ∷ rest) (put_cons b x xs true e))
+      ∙ sym (ap (put b) (put_cons a x xs false f) ∙ put_cons b a (x ∷ xs) true (after_third a b x e f)
+      ∙ ap (λ rest. a ∷ rest) (put_cons b x xs true e))
   commutes_at a b x xs false true e f ih =
-      ap (put a) (put_cons b x xs false e) ∙ put_cons a b (x ∷ xs) true (after_third b a x f e) ∙ ap (λ rest. b ∷ rest) (put_cons a x xs true f)
+      ap (put a) (put_cons b x xs false e) ∙ put_cons a b (x ∷ xs) true (after_third b a x f e) ∙ ap (λ rest. b ∷ rest)
+      (put_cons a x xs true f)
       ∙ sym (ap (put b) (put_cons a x xs true f) ∙ put_cons b x (put a xs) false e)
   commutes_at a b x xs false false e f ih =
       ap (put a) (put_cons b x xs false e)
@@ -174,4 +187,5 @@ module _ {A : Type 0} (order : A → A → Ordering) (total : IsTotalOrder order
 
   -- what a sort leaves is the sorted list
   pub sorted_list-sorted : (xs ys : List A) → IsPermutation xs ys → IsSorted order ys → ys ≡ sorted_list order xs
-  sorted_list-sorted xs ys kept sorted = sym (sorted_list-in_order order ys (InOrder-sorted order total ys sorted)) ∙ sym (sorted_list-alike xs ys kept)
+  sorted_list-sorted xs ys kept sorted = sym (sorted_list-in_order order ys (InOrder-sorted order total ys sorted))
+      ∙ sym (sorted_list-alike xs ys kept)

@@ -9,6 +9,7 @@ pub text_in-IsUtf8 : (bytes : List ℕ) → IsUtf8 bytes → text_in bytes ≡ S
 text_in-IsUtf8 bytes valid = ap (λ b. cond b (Some bytes) None) (is_utf8-from_IsUtf8 bytes valid)
 
 pub text_in-not_IsUtf8 : (bytes : List ℕ) → ¬ (IsUtf8 bytes) → text_in bytes ≡ None
-text_in-not_IsUtf8 bytes bad = ap (λ b. cond b (Some bytes) None) (false_from_ne_true (is_utf8 bytes) (λ e. bad (IsUtf8-from_is_utf8 bytes e)))
+text_in-not_IsUtf8 bytes bad = ap (λ b. cond b (Some bytes) None) (false_from_ne_true (is_utf8 bytes)
+    (λ e. bad (IsUtf8-from_is_utf8 bytes e)))
 
 pub ruleset utf8 = (text_in-IsUtf8)

@@ -1,5 +1,6 @@
 -- Distributions: a count for each bucket.
-use Rattle.std.specs.Prelude.{◌≡◌, ◌≤◌, ◌≤ℤ◌, Bool, true, ◌&&◌, int_lt, ℕ, ◌+◌, ◌-◌, ◌*◌, ◌==◌, nat_le, ℤ, pos, List, [], ◌∷◌, length, sum, slice_index_or, min, Option, Some, None, if◌then◌else◌}
+use Rattle.std.specs.Prelude.{◌≡◌, ◌≤◌, ◌≤ℤ◌, Bool, true, ◌&&◌, int_lt, ℕ, ◌+◌, ◌-◌, ◌*◌, ◌==◌, nat_le, ℤ, pos, List}
+use Rattle.std.specs.Prelude.{[], ◌∷◌, length, sum, slice_index_or, min, Option, Some, None, if◌then◌else◌}
 use Rattle.std.specs.List.{position_or_len}
 
 -- two distributions of one length, bucket by bucket; the empty list adds nothing

@@ -1,5 +1,6 @@
 -- What a leaf holds after a history of entries, oldest first, and which histories a leaf can have.
-use Rattle.std.specs.Prelude.{◌≡◌, ◌<◌, ◌≤◌, ℕ, nat_eq, Bool, true, false, ◌&&◌, ◌||◌, List, [], ◌∷◌, ◌++◌, length, take, if◌then◌else◌}
+use Rattle.std.specs.Prelude.{◌≡◌, ◌<◌, ◌≤◌, ℕ, nat_eq, Bool, true, false, ◌&&◌, ◌||◌, List, [], ◌∷◌, ◌++◌, length}
+use Rattle.std.specs.Prelude.{take, if◌then◌else◌}
 use Rattle.std.specs.List.{flat_map, count_by}
 use Rattle.mon_value.specs.Limits.{MOST_SWITCHES}
 use Rattle.mon_value.specs.Sources.{IsSource}

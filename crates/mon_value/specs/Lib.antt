@@ -3,6 +3,7 @@ pub mod Alignments
 pub mod Answers
 pub mod Columns
 pub mod Distributions
+pub mod Farther
 pub mod Grids
 pub mod GroupConditions
 pub mod Groups

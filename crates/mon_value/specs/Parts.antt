@@ -1,5 +1,6 @@
 -- Partial results of aggregates, and the bound within which they stay.
-use Rattle.std.specs.Prelude.{◌≡◌, ℕ, ◌≤◌, ℤ, List, [], ◌∷◌, Bool, true, false, Option, Some, None, length, replicate, unsigned_abs}
+use Rattle.std.specs.Prelude.{◌≡◌, ℕ, ◌≤◌, ℤ, List, [], ◌∷◌, Bool, true, false, Option, Some, None, length, replicate}
+use Rattle.std.specs.Prelude.{unsigned_abs}
 use Rattle.mon_value.specs.Limits.{greatest_sum}
 
 -- a sum, or a number of items, whose magnitude is at most the greatest sum

@@ -3,15 +3,19 @@ use Rattle.std.proofs.Common.{◌≡◌, ℕ, ◌+◌, List, [], ◌∷◌, ◌+
 use Rattle.mql_ast.specs.declared.printing.sums.SumPart.{SumPart}
 use Rattle.mql_ast.specs.SumParts.{part_text, part_weight, remaining_text, remaining_weight}
 
-pub remaining_text_push : (xs : List SumPart) (x : SumPart) → remaining_text (xs ++ x ∷ []) ≡ part_text x ++ remaining_text xs
-remaining_text_push [] x = sym (append-nil (part_text x))
-remaining_text_push (y ∷ ys) x = ap (λ t. t ++ part_text y) (remaining_text_push ys x) ∙ append_assoc (part_text x) _ _
+pub text_push : (xs : List SumPart) (x : SumPart) → remaining_text (xs ++ x ∷ []) ≡ part_text x
+    ++ remaining_text xs
+text_push [] x = sym (append-nil (part_text x))
+text_push (y ∷ ys) x = ap (λ t. t ++ part_text y) (text_push ys x) ∙ append_assoc (part_text x) _ _
 
-pub remaining_weight_push : (xs : List SumPart) (x : SumPart) → remaining_weight (xs ++ x ∷ []) ≡ part_weight x + remaining_weight xs
-remaining_weight_push [] x = omega arith
-remaining_weight_push (y ∷ ys) x = omega (arith, remaining_weight_push ys x)
+pub weight_push : (xs : List SumPart) (x : SumPart) → remaining_weight (xs ++ x ∷ []) ≡ part_weight x
+    + remaining_weight xs
+weight_push [] x = omega arith
+weight_push (y ∷ ys) x = omega (arith, weight_push ys x)
 
 -- what was written goes on with the part that comes next
-pub writes_on : (out out' whole : List ℕ) (xs xs' : List SumPart) (x : SumPart) → xs ≡ xs' ++ x ∷ [] → out' ≡ out ++ part_text x → out ++ remaining_text xs ≡ whole → out' ++ remaining_text xs' ≡ whole
+pub writes_on : (out out' whole : List ℕ) (xs xs' : List SumPart) (x : SumPart) → xs ≡ xs' ++ x ∷ [] → out' ≡ out
+    ++ part_text x → out ++ remaining_text xs ≡ whole → out' ++ remaining_text xs' ≡ whole
 writes_on out out' whole xs xs' x popped written kept =
-    ap (λ t. t ++ remaining_text xs') written ∙ append_assoc out _ _ ∙ ap (λ t. out ++ t) (sym (remaining_text_push xs' x) ∙ ap remaining_text (sym popped)) ∙ kept
+    ap (λ t. t ++ remaining_text xs') written ∙ append_assoc out _ _ ∙ ap (λ t. out ++ t)
+    (sym (text_push xs' x) ∙ ap remaining_text (sym popped)) ∙ kept

@@ -5,7 +5,9 @@ use Rattle.mql_ast.specs.declared.predicates.Literal.{Literal}
 use Rattle.mql_ast.specs.declared.predicates.Pattern.{Pattern}
 use Rattle.mql_ast.specs.declared.operations.Aggregate.{Aggregate}
 use Rattle.mql_ast.specs.Grammar.{SpellsAtLength}
-use Rattle.mql_ast.specs.Trees.{SumTree, Column, Number, Plus, Minus, Percentile, PredicateTree, Compare, Like, Not, And, Or, ItemTree, DeedTree, Filter, Align, GroupBy, Value, Top, Every, Within, OpTree, PipeTree, Flow, SourceTree, Fetch, Branches, BranchTrees, NoBranch, Branch}
+use Rattle.mql_ast.specs.Trees.{SumTree, Column, Number, Plus, Minus, Percentile, PredicateTree, Compare, Like, Not}
+use Rattle.mql_ast.specs.Trees.{And, Or, ItemTree, DeedTree, Filter, Align, GroupBy, Value, Top, Every, Within, OpTree}
+use Rattle.mql_ast.specs.Trees.{PipeTree, Flow, SourceTree, Fetch, Branches, BranchTrees, NoBranch, Branch}
 
 abbrev pub name_content : Name → Name
 name_content name = record { at = 0; text = name.text }

@@ -1,5 +1,6 @@
 -- The text that a tree is printed as: single blanks, and no more parentheses than its shape needs.
-use Rattle.std.specs.Prelude.{ℕ, ℤ, ◌==◌, ◌||◌, Bool, true, false, List, [], ◌∷◌, ◌++◌, map, codes, Option, Some, None, if◌then◌else◌}
+use Rattle.std.specs.Prelude.{ℕ, ℤ, ◌==◌, ◌||◌, Bool, true, false, List, [], ◌∷◌, ◌++◌, map, codes, Option, Some, None}
+use Rattle.std.specs.Prelude.{if◌then◌else◌}
 use Rattle.std.specs.Fmt.{decimal, signed_decimal}
 use Rattle.mon_value.specs.Values.{truth_text}
 use Rattle.mon_value.specs.declared.values.FieldValue.{FieldValue}
@@ -16,7 +17,9 @@ use Rattle.mql_ast.specs.declared.operations.FoldWord.{FoldWord}
 use Rattle.mql_ast.specs.declared.operations.FoldWord.TheVariants as fold
 use Rattle.mql_ast.specs.declared.pipes.How.{How}
 use Rattle.mql_ast.specs.declared.pipes.How.TheVariants as how
-use Rattle.mql_ast.specs.Trees.{SumTree, Column, Number, Plus, Minus, Percentile, PredicateTree, Compare, Like, Not, And, Or, ItemTree, DeedTree, Filter, Align, GroupBy, Value, Top, Every, Within, OpTree, PipeTree, Flow, SourceTree, Fetch, Branches, BranchTrees, NoBranch, Branch}
+use Rattle.mql_ast.specs.Trees.{SumTree, Column, Number, Plus, Minus, Percentile, PredicateTree, Compare, Like, Not}
+use Rattle.mql_ast.specs.Trees.{And, Or, ItemTree, DeedTree, Filter, Align, GroupBy, Value, Top, Every, Within, OpTree}
+use Rattle.mql_ast.specs.Trees.{PipeTree, Flow, SourceTree, Fetch, Branches, BranchTrees, NoBranch, Branch}
 
 -- a sign with a backslash before it where it is one of the marks
 abbrev pub sign_text : (ℕ → Bool) → ℕ → List ℕ

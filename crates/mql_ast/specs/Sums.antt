@@ -1,5 +1,6 @@
 -- What a sum comes to in a row.
-use Rattle.std.specs.Prelude.{ℕ, ℤ, ◌+ℤ◌, ◌-ℤ◌, Bool, false, ◌==◌, ◌||◌, List, [], sum, Option, Some, option_map, option_and_then}
+use Rattle.std.specs.Prelude.{ℕ, ℤ, ◌+ℤ◌, ◌-ℤ◌, Bool, false, ◌==◌, ◌||◌, List, [], sum, Option, Some, option_map}
+use Rattle.std.specs.Prelude.{option_and_then}
 use Rattle.std.specs.Option.{option_map_or}
 use Rattle.mon_value.specs.Distributions.{percentile_of}
 use Rattle.mon_value.specs.Groups.{number_in, counts_in}
@@ -52,7 +53,9 @@ is_without_values cell = option_map_or (λ counts. sum counts == 0) (counts_in c
 abbrev pub meets_no_values : SumTree → List Column → List Value → Bool
 meets_no_values (tree.Column name) columns cells = false
 meets_no_values (tree.Number at z) columns cells = false
-meets_no_values (tree.Plus left right) columns cells = meets_no_values left columns cells || meets_no_values right columns cells
-meets_no_values (tree.Minus left right) columns cells = meets_no_values left columns cells || meets_no_values right columns cells
+meets_no_values (tree.Plus left right) columns cells = meets_no_values left columns cells || meets_no_values right
+    columns cells
+meets_no_values (tree.Minus left right) columns cells = meets_no_values left columns cells || meets_no_values right
+    columns cells
 meets_no_values (tree.Percentile at name p) columns cells =
     option_map_or is_without_values (cell_named name.text columns cells) false

@@ -1,5 +1,6 @@
 -- The tokens of query texts. Blanks stand before a token.
-use Rattle.std.specs.Prelude.{ℕ, ℤ, pos, ◌+◌, ◌-◌, ◌*◌, ◌^◌, ◌-ℤ◌, unsigned_abs, Bool, true, false, ◌==◌, ◌&&◌, not, nat_le, List, codes, [], ◌∷◌, Option, Some, None, option_and_then, if◌then◌else◌}
+use Rattle.std.specs.Prelude.{ℕ, ℤ, pos, ◌+◌, ◌-◌, ◌*◌, ◌^◌, ◌-ℤ◌, unsigned_abs, Bool, true, false, ◌==◌, ◌&&◌, not}
+use Rattle.std.specs.Prelude.{nat_le, List, codes, [], ◌∷◌, Option, Some, None, option_and_then, if◌then◌else◌}
 use Rattle.mon_value.specs.declared.limits.TheConstants.{LONGEST_DURATION}
 use Rattle.mql_ast.specs.declared.names.Name.{Name}
 use Rattle.mql_ast.specs.Bytes.{is_letter, is_digit, is_word_byte, is_metric_byte}

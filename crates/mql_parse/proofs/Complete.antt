@@ -1,5 +1,6 @@
 -- What the grammar has is read so, part by part.
-use Rattle.std.proofs.Common.{◌≡◌, ℕ, ℤ, Bool, true, false, ◌==◌, ◌||◌, ◌&&◌, not, List, ◌∷◌, refl, sym, ap, ◌∙◌, if◌then◌else◌, Option, Some, None, option_and_then, Result, Ok, Err}
+use Rattle.std.proofs.Common.{◌≡◌, ℕ, ℤ, Bool, true, false, ◌==◌, ◌||◌, ◌&&◌, not, List, ◌∷◌, refl, sym, ap, ◌∙◌}
+use Rattle.std.proofs.Common.{if◌then◌else◌, Option, Some, None, option_and_then, Result, Ok, Err}
 use Rattle.std.specs.Result.{result_ok}
 use Rattle.std.proofs.lemmas.Bool.{false≢true, eqb-true, or_left, or_right}
 use Rattle.mon_value.specs.Answers.{◌>>=◌}
@@ -12,7 +13,8 @@ use Rattle.mql_parse.specs.Outcomes.{Outcome, exact, sign, map_outcome, up_to}
 use Rattle.mql_parse.specs.Repeats.{Turn, Done, repetition}
 use Rattle.mql_parse.specs.TokenReading as reading
 use Rattle.mql_parse.proofs.BehindLemmas.{chosen_any, sign_taken}
-use Rattle.mql_parse.proofs.Links.{sign_links, past_links, name_links, metric_links, positive_links, signed_links, duration_links}
+use Rattle.mql_parse.proofs.Links.{sign_links, past_links, name_links, metric_links, positive_links, signed_links}
+use Rattle.mql_parse.proofs.Links.{duration_links}
 use Rattle.mql_parse.proofs.Loops.{loop_ends}
 
 pub read_of : {A F : Type 0} (o : Option A) (r : Result A F) (x : A) → o ≡ result_ok r → o ≡ Some x → r ≡ Ok x

@@ -1,5 +1,7 @@
 -- What was read of a part before its fault can be completed to a whole part.
-use Rattle.std.proofs.Common.{◌≡◌, ℕ, zero, suc, ◌+◌, ◌<◌, Bool, true, false, ◌==◌, ◌||◌, List, [], ◌∷◌, ◌++◌, length, refl, sym, ap, ◌∙◌, subst, arith, if◌then◌else◌, append_assoc, length-append, Some, None, Result, Ok, Err}
+use Rattle.std.proofs.Common.{◌≡◌, ℕ, zero, suc, ◌+◌, ◌<◌, Bool, true, false, ◌==◌, ◌||◌, List, [], ◌∷◌, ◌++◌, length}
+use Rattle.std.proofs.Common.{refl, sym, ap, ◌∙◌, subst, arith, if◌then◌else◌, append_assoc, length-append, Some, None}
+use Rattle.std.proofs.Common.{Result, Ok, Err}
 use Rattle.std.proofs.lemmas.Bool.{false≢true}
 use Rattle.std.proofs.lemmas.List.{append-nil}
 use Rattle.std.specs.Result.{IfOk}
@@ -9,7 +11,8 @@ use Rattle.mql_ast.specs.Rests.{Rest, first_of}
 use Rattle.mql_ast.specs.Quotes.{Whole}
 use Rattle.mql_parse.specs.declared.faults.ParseFault.{ParseFault}
 use Rattle.mql_parse.specs.declared.faults.ParseKind.{ParseKind}
-use Rattle.mql_parse.specs.declared.faults.ParseKind.TheVariants.{BadToken, BadPattern, Expected, NumberTooLarge, TooDeep, TooLong}
+use Rattle.mql_parse.specs.declared.faults.ParseKind.TheVariants.{BadToken, BadPattern, Expected, NumberTooLarge}
+use Rattle.mql_parse.specs.declared.faults.ParseKind.TheVariants.{TooDeep, TooLong}
 use Rattle.mql_parse.specs.declared.faults.What.{What}
 use Rattle.mql_parse.specs.FaultNumbers.{IsNumber}
 use Rattle.mql_parse.specs.declared.faults.What.TheVariants as what
@@ -115,7 +118,12 @@ pub record Default (L : List ℕ → Type 0) : Type 0 where
 abbrev pub both : {o o' : Front} {c c' : Bool} {R S : List ℕ → List ℕ → Type 0} → joins c o' ≡ true →
     Default (Text o c R) →
     Default (Text o' c' S) → Default (Text o c' (Then R S))
-both j f g = record { text = f.text ++ g.text; plain = no_quotes_on f.text g.text f.plain g.plain; is = join f.text g.text j f.is g.is }
+both j f g = record {
+  text = f.text ++ g.text;
+  plain = no_quotes_on f.text g.text f.plain g.plain;
+  is =
+      join f.text g.text j f.is g.is;
+}
 
 abbrev pub default_as : {L M : List ℕ → Type 0} → ((w : List ℕ) → L w → M w) → Default L → Default M
 default_as h d = record { text = d.text; plain = d.plain; is = h d.text d.is }
@@ -406,7 +414,12 @@ pub then_ends : {A B : Type 0} {left : A → Rest} {left' : B → Rest} {o o' : 
     Ends left (λ x. Text o c S) (Text o c S) s m → Default (Text o' c' T) →
     ((x : A) → Ends left' (λ y. Text o' c' T) (Text o' c' T) (left x) (f x)) →
     Ends left' (λ y. Text o c' (Then S T)) (Text o c' (Then S T)) s (m >>= f)
-then_ends s m f j h d g = bind_ends s m f h (λ w t. record { text = d.text; plain = d.plain; is = join w d.text j t d.is })
+then_ends s m f j h d g = bind_ends s m f h (λ w t. record {
+  text = d.text;
+  plain = d.plain;
+  is = join w d.text j t
+      d.is;
+})
     (λ x w t. ends_as _ (f x) (g x) (λ y v u. join w v j t u) (λ v u. join w v j t u))
 
 pub if_ends : {A : Type 0} {left : A → Rest} {P : A → List ℕ → Type 0} {E : List ℕ → Type 0} (s : Rest) (t : Bool)

@@ -13,14 +13,19 @@ use Rattle.mql_parse.specs.PredicateReading as predicates
 use Rattle.mql_parse.specs.Folds as folds
 use Rattle.mql_parse.specs.PipeReading as pipes
 use Rattle.mql_parse.specs.Steadiness.{next}
-use Rattle.mql_parse.proofs.Firsts.{Spot, Begun, Meets, Before, First, NoMore, first_to, first_next, first_bind, first_unexpected, meets_then, meets_map, meets_of, meets_from, meets_to, meets_behind_pass, meets_up_to, before_skip, before_unexpected, before_next, before_bind, meets_ok, sign_to}
-use Rattle.mql_parse.proofs.FirstBytes.{at_byte, at_bytes, comma_begins, opening_begins, closing_begins, open_bracket_begins}
+use Rattle.mql_parse.proofs.Firsts.{Spot, Begun, Meets, Before, First, NoMore, first_to, first_next, first_bind}
+use Rattle.mql_parse.proofs.Firsts.{first_unexpected, meets_then, meets_map, meets_of, meets_from, meets_to}
+use Rattle.mql_parse.proofs.Firsts.{meets_behind_pass, meets_up_to, before_skip, before_unexpected, before_next}
+use Rattle.mql_parse.proofs.Firsts.{before_bind, meets_ok, sign_to}
+use Rattle.mql_parse.proofs.FirstBytes.{at_byte, at_bytes, comma_begins, opening_begins, closing_begins}
+use Rattle.mql_parse.proofs.FirstBytes.{open_bracket_begins}
 use Rattle.mql_parse.proofs.FirstTokens.{all_solid, meets_name}
 use Rattle.mql_parse.proofs.FirstNumbers.{first_positive, meets_positive, first_duration, meets_duration}
 use Rattle.mql_parse.proofs.FirstSums.{items_meets}
 use Rattle.mql_parse.proofs.FirstFilters.{BarGoes, FilterGoes, predicate_meets, predicate_first}
 use Rattle.mql_parse.proofs.FirstFolds.{CommaGoes, names_meets, aggregates_meets}
-use Rattle.mql_parse.proofs.FirstKeywords.{Keyword, keyword, keyword_map, keyword_here, keyword_apart, first_keyword, before_keyword, first_map}
+use Rattle.mql_parse.proofs.FirstKeywords.{Keyword, keyword, keyword_map, keyword_here, keyword_apart, first_keyword}
+use Rattle.mql_parse.proofs.FirstKeywords.{before_keyword, first_map}
 
 -- what may go on an operation, where its bar was not read too: a comma behind aggregates, or another bar
 abbrev pub op_on : Bool → What
@@ -170,7 +175,8 @@ deed_first x d =
     (at_bytes x w w 116 111 refl refl)
     (first_keyword x G w 101 (codes "very") _ _ (duration_keyword x Every 101 (codes "very") refl refl)
     (λ h k. at_byte x w w 101 refl refl h)
-    (first_keyword x G w 119 (codes "ithin") _ (λ s. Err (unexpected w (skip s))) (duration_keyword x Within 119 (codes "ithin") refl refl)
+    (first_keyword x G w 119 (codes "ithin") _ (λ s. Err (unexpected w (skip s)))
+    (duration_keyword x Within 119 (codes "ithin") refl refl)
     (λ h k. at_byte x w w 119 refl refl h)
     (first_unexpected x next w))))))
 
@@ -183,7 +189,8 @@ deed_before x d =
     (before_keyword x G 118 (codes "alue") _ _ (value_keyword x d)
     (before_keyword x G 116 (codes "op") _ _ (top_keyword x)
     (before_keyword x G 101 (codes "very") _ _ (duration_keyword x Every 101 (codes "very") refl refl)
-    (before_keyword x G 119 (codes "ithin") _ (λ s. Err (unexpected what.Operation (skip s))) (duration_keyword x Within 119 (codes "ithin") refl refl)
+    (before_keyword x G 119 (codes "ithin") _ (λ s. Err (unexpected what.Operation (skip s)))
+    (duration_keyword x Within 119 (codes "ithin") refl refl)
     (before_skip x next G (λ t. Err (unexpected what.Operation t)) (before_unexpected x next G what.Operation)))))))
 
 -- filters
@@ -221,7 +228,8 @@ operation_first x d =
 operation_before : (x : Spot) (d : ℕ) → Before x next next (OpGoes x) (pipes.operation d)
 unfolding pipes.operation
 operation_before x d =
-    before_keyword x (OpGoes x) 102 (codes "ilter") (pipes.filter_here d) (λ s. other d (skip s).at s) (filter_keyword x d)
+    before_keyword x (OpGoes x) 102 (codes "ilter") (pipes.filter_here d) (λ s. other d (skip s).at s)
+    (filter_keyword x d)
     (before_next x next (OpGoes x) (other d)
     (λ n. before_bind x next next next (DeedGoes x) (OpGoes x) (λ s. pipes.deed_here d (skip s))
     (λ y. Ok (unbarred n y.0, y.1)) (deed_before x d) (λ deed. meets_ok x next (OpGoes x) (unbarred n deed))

@@ -1,5 +1,6 @@
 -- Where the first token of a pipe is at fault, `fetch` is expected.
-use Rattle.std.proofs.Common.{◌≡◌, ℕ, ◌+◌, ◌<◌, ◌≤◌, zero, suc, Bool, true, false, ◌==◌, List, [], ◌∷◌, codes, refl, sym, ◌∙◌, subst, arith, if◌then◌else◌, Ok, Err}
+use Rattle.std.proofs.Common.{◌≡◌, ℕ, ◌+◌, ◌<◌, ◌≤◌, zero, suc, Bool, true, false, ◌==◌, List, [], ◌∷◌, codes, refl}
+use Rattle.std.proofs.Common.{sym, ◌∙◌, subst, arith, if◌then◌else◌, Ok, Err}
 use Rattle.std.proofs.lemmas.Bool.{false≢true}
 use Rattle.mon_value.specs.Answers.{◌>>=◌}
 use Rattle.mql_ast.specs.Trees.{Flow}
@@ -13,7 +14,8 @@ use Rattle.mql_parse.specs.Outcomes.{Outcome, kind_of, unexpected, exact}
 use Rattle.mql_parse.specs.PipeReading as pipes
 use Rattle.mql_parse.specs.Steadiness.{next, Reaches}
 use Rattle.mql_parse.proofs.Steady.{skip_on, reaches_before, steady_to, steady_map}
-use Rattle.mql_parse.proofs.PipeSteady.{behind_fetch, fetch_steady_by, operations_steady, branches_steady_by, pipe_steady}
+use Rattle.mql_parse.proofs.PipeSteady.{behind_fetch, fetch_steady_by, operations_steady, branches_steady_by}
+use Rattle.mql_parse.proofs.PipeSteady.{pipe_steady}
 
 -- where the fault stands at this place and expects something, this is `fetch`
 abbrev pub FetchAt : ℕ → ParseFault → Type 0

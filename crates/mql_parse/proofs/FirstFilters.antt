@@ -1,5 +1,6 @@
 -- What negations, chains of conditions and filters expect comes first.
-use Rattle.std.proofs.Common.{◌≡◌, ℕ, zero, suc, Bool, true, false, ◌==◌, refl, sym, ap, ◌∙◌, subst, if◌then◌else◌, Ok, Err}
+use Rattle.std.proofs.Common.{◌≡◌, ℕ, zero, suc, Bool, true, false, ◌==◌, refl, sym, ap, ◌∙◌, subst, if◌then◌else◌, Ok}
+use Rattle.std.proofs.Common.{Err}
 use Rattle.mql_ast.specs.Trees.{PredicateTree, Not, And, Or}
 use Rattle.mql_ast.specs.Bytes.{is_letter}
 use Rattle.mql_ast.specs.Rests.{Rest, head, behind, skip}
@@ -14,12 +15,18 @@ use Rattle.mql_parse.specs.Steadiness.{here, next}
 use Rattle.mql_parse.proofs.PredicateSound.{and_turn_behind, or_turn_behind}
 use Rattle.mql_parse.proofs.PipeSound.{filter_turn_behind}
 use Rattle.mql_parse.proofs.Steady.{steady_from}
-use Rattle.mql_parse.proofs.PredicateSteady.{and_turn_steady, or_turn_steady, deeper_steady_by, negation_steady, filter_turn_steady}
+use Rattle.mql_parse.proofs.PredicateSteady.{and_turn_steady, or_turn_steady, deeper_steady_by, negation_steady}
+use Rattle.mql_parse.proofs.PredicateSteady.{filter_turn_steady}
 use Rattle.mql_parse.proofs.TurnSteady.{steady_repetition}
-use Rattle.mql_parse.proofs.Firsts.{Spot, Splits, Begun, begun_later, WentOutcome, Meets, Before, FirstOutcome, First, NoMore, passed_far, first_wider, first_bind, meets_bind, meets_ok, meets_map, meets_of, meets_from, meets_to, meets_by, meets_up_to, first_if, first_unexpected, before_of, before_if, before_skip, before_behind, before_behind_skip, before_unexpected, before_fault}
+use Rattle.mql_parse.proofs.Firsts.{Spot, Splits, Begun, begun_later, WentOutcome, Meets, Before, FirstOutcome, First}
+use Rattle.mql_parse.proofs.Firsts.{NoMore, passed_far, first_wider, first_bind, meets_bind, meets_ok, meets_map}
+use Rattle.mql_parse.proofs.Firsts.{meets_of, meets_from, meets_to, meets_by, meets_up_to, first_if, first_unexpected}
+use Rattle.mql_parse.proofs.Firsts.{before_of, before_if, before_skip, before_behind, before_behind_skip}
+use Rattle.mql_parse.proofs.Firsts.{before_unexpected, before_fault}
 use Rattle.mql_parse.proofs.FirstBytes.{at_byte, opening_begins, closing_begins, bar_begins, exclamation_begins}
 use Rattle.mql_parse.proofs.FirstTokens.{meets_unexpected, meets_if_here, far_behind}
-use Rattle.mql_parse.proofs.FirstTurns.{meets_either, went_either, skip_far, skip_went, turn_read, OfState, Stopped, turn_if_read, goes_on_read, meets_repetition, repetition_went}
+use Rattle.mql_parse.proofs.FirstTurns.{meets_either, went_either, skip_far, skip_went, turn_read, OfState, Stopped}
+use Rattle.mql_parse.proofs.FirstTurns.{turn_if_read, goes_on_read, meets_repetition, repetition_went}
 use Rattle.mql_parse.proofs.FirstPredicates.{condition_meets, condition_far}
 
 -- a sign that goes a level deeper is refused for the depth where it stands, or else behind it
@@ -53,7 +60,8 @@ negation_before_with x opposite group f g =
     (before_if x next NoMore (λ b. b == 40) _ _ (before_skip x next NoMore (λ t. group t (behind t)) g)
     (before_if x next NoMore is_letter (λ s. predicates.condition (skip s)) (λ s. Err (unexpected what.Name (skip s)))
     (before_skip x next NoMore predicates.condition
-    (before_of x here next NoMore predicates.condition (meets_to x here NoMore predicates.condition (condition_meets x))))
+    (before_of x here next NoMore predicates.condition (meets_to x here NoMore predicates.condition
+    (condition_meets x))))
     (before_skip x next NoMore (λ t. Err (unexpected what.Name t)) (before_unexpected x next NoMore what.Name))))
 
 -- what may go on a chain
@@ -133,7 +141,8 @@ conjunction_meets_by x d k =
     (predicates.negation d) refl refl (λ l y n. absurd n) (λ l h. and_begins x h) k left r in
     meets_bind x next next next NoMore (AndGoes x) (predicates.negation d)
     (λ first. repetition turn first.0 first.1) k
-    (meets_repetition x (AndGoes x) turn (and_turn_behind d) (and_turn_steady (predicates.negation d) k.steady) meets went)
+    (meets_repetition x (AndGoes x) turn (and_turn_behind d) (and_turn_steady (predicates.negation d) k.steady) meets
+    went)
     (λ a r n e. absurd n)
 
 and_then_bar : (x : Spot) → Begun x what.And → Begun x what.Bar
@@ -147,7 +156,8 @@ disjunction_meets_by x d k =
     let parts = conjunction_meets_by x d k in
     let turn = predicates.or_turn part in
     let meets = λ (left : PredicateTree) (s t : Rest) (c : Splits x s t). (double_meets x (AndGoes x) (OrGoes x) 124
-    what.Or Or part refl refl (λ l y g. and_then_bar x g) (λ l h. bar_begins x what.Bar refl h) parts left).agrees s t c in
+    what.Or Or part refl refl (λ l y g. and_then_bar x g) (λ l h. bar_begins x what.Bar refl h) parts left).agrees s t
+    c in
     let went = λ (left : PredicateTree) (r : Rest). double_went x (AndGoes x) (OrGoes x) 124 what.Or Or part refl refl
     (λ l y g. and_then_bar x g) (λ l h. bar_begins x what.Bar refl h) parts left r in
     meets_bind x next next next (AndGoes x) (OrGoes x) part (λ first. repetition turn first.0 first.1) parts

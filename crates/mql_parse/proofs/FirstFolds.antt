@@ -1,5 +1,6 @@
 -- What the names and aggregates of `group_by` expect comes first.
-use Rattle.std.proofs.Common.{◌≡◌, ◌⊎◌, inl, inr, ℕ, Bool, true, false, ◌==◌, List, [], ◌∷◌, ◌++◌, codes, refl, sym, ap, subst, if◌then◌else◌, Option, Some, None, Ok, Err}
+use Rattle.std.proofs.Common.{◌≡◌, ◌⊎◌, inl, inr, ℕ, Bool, true, false, ◌==◌, List, [], ◌∷◌, ◌++◌, codes, refl, sym}
+use Rattle.std.proofs.Common.{ap, subst, if◌then◌else◌, Option, Some, None, Ok, Err}
 use Rattle.mon_value.specs.Answers.{◌>>=◌}
 use Rattle.mql_ast.specs.declared.names.Name.{Name}
 use Rattle.mql_ast.specs.declared.operations.Aggregate.{Aggregate}
@@ -20,13 +21,22 @@ use Rattle.mql_parse.proofs.TokenEndings.{equal_byte}
 use Rattle.mql_parse.proofs.ListSound.{names_turn_behind, aggregates_turn_behind}
 use Rattle.mql_parse.proofs.Steady.{steady_from, steady_ok}
 use Rattle.mql_parse.proofs.FoldSteady.{aggregate_turn_steady}
-use Rattle.mql_parse.proofs.Firsts.{Spot, Begun, Failed, failed_bind, begun_later, WentOutcome, Meets, Before, First, NoMore, passed_far, first_went, first_to, first_next, first_bind, first_if, first_if_or, first_unexpected, meets_then, meets_ok, meets_map, meets_of, meets_to, meets_by, meets_behind_pass, meets_up_to, before_of, before_if, before_if_here, before_skip, before_behind, before_part_behind, before_unexpected, before_next, before_to, before_then, sign_to}
-use Rattle.mql_parse.proofs.FirstBytes.{at_byte, at_bytes, comma_begins, opening_begins, closing_begins, close_bracket_begins, colon_begins}
-use Rattle.mql_parse.proofs.FirstTokens.{all_solid, second_or, exact_fails, meets_unexpected, meets_if_here, far_behind, meets_exact, keyword_far, first_name, meets_name}
-use Rattle.mql_parse.proofs.FirstTurns.{meets_either, skip_far, turn_read, OfState, Stopped, turn_if_read, on_read_read, meets_repetition, meets_list, first_list, first_part}
+use Rattle.mql_parse.proofs.Firsts.{Spot, Begun, Failed, failed_bind, begun_later, WentOutcome, Meets, Before, First}
+use Rattle.mql_parse.proofs.Firsts.{NoMore, passed_far, first_went, first_to, first_next, first_bind, first_if}
+use Rattle.mql_parse.proofs.Firsts.{first_if_or, first_unexpected, meets_then, meets_ok, meets_map, meets_of, meets_to}
+use Rattle.mql_parse.proofs.Firsts.{meets_by, meets_behind_pass, meets_up_to, before_of, before_if, before_if_here}
+use Rattle.mql_parse.proofs.Firsts.{before_skip, before_behind, before_part_behind, before_unexpected, before_next}
+use Rattle.mql_parse.proofs.Firsts.{before_to, before_then, sign_to}
+use Rattle.mql_parse.proofs.FirstBytes.{at_byte, at_bytes, comma_begins, opening_begins, closing_begins}
+use Rattle.mql_parse.proofs.FirstBytes.{close_bracket_begins, colon_begins}
+use Rattle.mql_parse.proofs.FirstTokens.{all_solid, second_or, exact_fails, meets_unexpected, meets_if_here}
+use Rattle.mql_parse.proofs.FirstTokens.{far_behind, meets_exact, keyword_far, first_name, meets_name}
+use Rattle.mql_parse.proofs.FirstTurns.{meets_either, skip_far, turn_read, OfState, Stopped, turn_if_read}
+use Rattle.mql_parse.proofs.FirstTurns.{on_read_read, meets_repetition, meets_list, first_list, first_part}
 
 -- names between brackets
-listed_names : (x : Spot) → Meets x next next NoMore (λ s. repetition (list_turn 93 what.CloseBracket reading.name) [] s)
+listed_names : (x : Spot) → Meets x next next NoMore (λ s. repetition (list_turn 93 what.CloseBracket reading.name) []
+    s)
 listed_names x = meets_list x NoMore 93 what.CloseBracket reading.name refl
     (comma_begins x what.CloseBracket refl) (close_bracket_begins x what.CloseBracket refl)
     (λ n g. absurd g) (meets_to x next NoMore reading.name (meets_name x)) names_turn_behind
@@ -232,7 +242,8 @@ behind_label_meets x first =
     meets_of x next next NoMore (behind_name o) (λ r. behind_label (first, r))
     (first_if_or x next (behind_name o) (λ b. b == 58) (λ r. labelled (behind (skip r)))
     (λ r. folds.bare_fold first.at o (skip r))
-    (λ s e h. passed_far x next (behind_name o) (λ b. b == 58) refl labelled (steady_from next labelled there.steady) s e
+    (λ s e h. passed_far x next (behind_name o) (λ b. b == 58) refl labelled (steady_from next labelled there.steady) s
+    e
     h)
     (colon_allowed x first o) (bare_fold_first x first.at o))
     (before_if x next NoMore (λ b. b == 58) (λ r. labelled (behind (skip r)))

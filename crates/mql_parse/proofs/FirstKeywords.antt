@@ -9,8 +9,11 @@ use Rattle.mql_parse.specs.Outcomes.{Outcome, exact, apart, map_outcome}
 use Rattle.mql_parse.specs.PipeReading as pipes
 use Rattle.mql_parse.specs.Steadiness.{here, next}
 use Rattle.mql_parse.proofs.Steady.{steady_here, steady_ok}
-use Rattle.mql_parse.proofs.Firsts.{Spot, Begun, Failed, failed_bind, MeetsOutcome, Meets, Before, FirstOutcome, First, first_bind, first_if_or, meets_map, meets_by, meets_behind_pass, before_of, before_if, before_skip}
-use Rattle.mql_parse.proofs.FirstTokens.{all_solid, meets_exact, second, exact_fails, second_or, keyword_far, meets_apart}
+use Rattle.mql_parse.proofs.Firsts.{Spot, Begun, Failed, failed_bind, MeetsOutcome, Meets, Before, FirstOutcome, First}
+use Rattle.mql_parse.proofs.Firsts.{first_bind, first_if_or, meets_map, meets_by, meets_behind_pass, before_of}
+use Rattle.mql_parse.proofs.Firsts.{before_if, before_skip}
+use Rattle.mql_parse.proofs.FirstTokens.{all_solid, meets_exact, second, exact_fails, second_or, keyword_far}
+use Rattle.mql_parse.proofs.FirstTokens.{meets_apart}
 use Rattle.mql_parse.proofs.FirstNumbers.{map_first}
 
 -- a part that begins with a word of this first byte

@@ -1,5 +1,7 @@
 -- What numbers and metrics expect comes first.
-use Rattle.std.proofs.Common.{◌≡◌, ◌⊎◌, inl, inr, ℕ, ℤ, ◌+◌, ◌-◌, ◌*◌, ◌^◌, ◌<◌, ◌≤◌, pos, Bool, true, false, ◌==◌, ◌||◌, ◌&&◌, not, nat_le, List, [], ◌∷◌, ◌++◌, length, refl, sym, ap, subst, arith, if◌then◌else◌, Ok, Err}
+use Rattle.std.proofs.Common.{◌≡◌, ◌⊎◌, inl, inr, ℕ, ℤ, ◌+◌, ◌-◌, ◌*◌, ◌^◌, ◌<◌, ◌≤◌, pos, Bool, true, false, ◌==◌}
+use Rattle.std.proofs.Common.{◌||◌, ◌&&◌, not, nat_le, List, [], ◌∷◌, ◌++◌, length, refl, sym, ap, subst, arith}
+use Rattle.std.proofs.Common.{if◌then◌else◌, Ok, Err}
 use Rattle.std.proofs.lemmas.Bool.{false≢true}
 use Rattle.mql_ast.specs.Bytes.{is_digit, is_metric_byte}
 use Rattle.mql_ast.specs.Rests.{Rest, first_of, behind_first, head, behind, skip}
@@ -13,7 +15,12 @@ use Rattle.mql_parse.specs.Steadiness.{here, next, Reaches, Steady}
 use Rattle.mql_parse.proofs.Steady.{steady_from, steady_ok, steady_map}
 use Rattle.mql_parse.proofs.TokenSteady.{metric_from_steady, digits_steady, steady_head, number_steady, units_steady}
 use Rattle.mql_parse.proofs.TokenEndings.{equal_byte}
-use Rattle.mql_parse.proofs.Firsts.{Spot, instead, Splits, splits, over_splits, splits_head, splits_behind, splits_blank, Begun, Failed, failed_bind, ReadSame, MeetsOutcome, Meets, Before, FirstOutcome, First, NoMore, beyond_meets, passed_far, meets_then, meets_ok, meets_map, meets_of, by_place, if_same, first_if, first_bind, first_unexpected, before_of, before_if, before_if_here, before_skip, before_behind, before_behind_skip, before_part_behind, before_unexpected}
+use Rattle.mql_parse.proofs.Firsts.{Spot, instead, Splits, splits, over_splits, splits_head, splits_behind}
+use Rattle.mql_parse.proofs.Firsts.{splits_blank, Begun, Failed, failed_bind, ReadSame, MeetsOutcome, Meets, Before}
+use Rattle.mql_parse.proofs.Firsts.{FirstOutcome, First, NoMore, beyond_meets, passed_far, meets_then, meets_ok}
+use Rattle.mql_parse.proofs.Firsts.{meets_map, meets_of, by_place, if_same, first_if, first_bind, first_unexpected}
+use Rattle.mql_parse.proofs.Firsts.{before_of, before_if, before_if_here, before_skip, before_behind}
+use Rattle.mql_parse.proofs.Firsts.{before_behind_skip, before_part_behind, before_unexpected}
 use Rattle.mql_parse.proofs.FirstBytes.{digit_begins}
 
 -- readers that go byte by byte and keep a state
@@ -85,7 +92,8 @@ metric_spot x after at (b ∷ bs) e =
     by_tests false false =
         slash_meets x after at (b ∷ bs) (instead x) (splits x [] (b ∷ bs) at (omega (arith, e)))
 
-pub meets_metric_from : (x : Spot) (after : Bool) → Meets x here here NoMore (λ s. reading.metric_from after s.at s.bytes)
+pub meets_metric_from : (x : Spot) (after : Bool) → Meets x here here NoMore (λ s. reading.metric_from after s.at
+    s.bytes)
 meets_metric_from x = meets_bytes x reading.metric_from metric_from_steady (metric_spot x)
     (λ after at b bs cs c d ih. if_same x here NoMore (is_metric_byte b) (is_metric_byte b) _ _ _ _ refl
     (map_meets x (λ more. b ∷ more) _ _ (ih false))
@@ -200,7 +208,8 @@ unfolding reading.number reading.positive
 number_far x most w s e h =
     by_tests (head (skip s) == 48) (is_digit (head (skip s))) h
   where
-    far : {A : Type 0} (read : Rest → Outcome A) → Steady here here read → FirstOutcome x here w (read (behind (skip s)))
+    far : {A : Type 0} (read : Rest → Outcome A) → Steady here here read → FirstOutcome x here w
+        (read (behind (skip s)))
     far read k = passed_far x here w is_digit refl read k s e h
 
     by_tests : (t u : Bool) → u ≡ true → FirstOutcome x here w (if t then Ok (0, behind (skip s)) else
@@ -211,7 +220,8 @@ number_far x most w s e h =
         (digits_steady most (head (skip s) - 48))
     by_tests false false g = absurd (false≢true g)
 
-pub map_first : {A B : Type 0} (x : Spot) (to : Rest → ℕ) (w : What) (f : A → B) (o : Outcome A) → FirstOutcome x to w o →
+pub map_first : {A B : Type 0} (x : Spot) (to : Rest → ℕ) (w : What) (f : A → B) (o : Outcome A) → FirstOutcome x to w
+    o →
     FirstOutcome x to w (map_outcome f o)
 map_first x to w f (Ok y) h = h
 map_first x to w f (Err g) h = h

@@ -1,5 +1,6 @@
 -- What pipes expect comes first.
-use Rattle.std.proofs.Common.{◌≡◌, ℕ, zero, suc, Bool, true, false, ◌==◌, List, [], ◌∷◌, ◌++◌, codes, refl, sym, ap, ◌∙◌, subst, if◌then◌else◌, Ok, Err}
+use Rattle.std.proofs.Common.{◌≡◌, ℕ, zero, suc, Bool, true, false, ◌==◌, List, [], ◌∷◌, ◌++◌, codes, refl, sym, ap}
+use Rattle.std.proofs.Common.{◌∙◌, subst, if◌then◌else◌, Ok, Err}
 use Rattle.mon_value.specs.Answers.{◌>>=◌}
 use Rattle.mql_ast.specs.declared.names.Name.{Name}
 use Rattle.mql_ast.specs.declared.pipes.How.{How}
@@ -16,13 +17,21 @@ use Rattle.mql_parse.specs.PipeReading as pipes
 use Rattle.mql_parse.specs.Steadiness.{here, next, unit_read}
 use Rattle.mql_parse.proofs.PipeSound.{operation_turn_behind, branch_turn_behind}
 use Rattle.mql_parse.proofs.Steady.{steady_from}
-use Rattle.mql_parse.proofs.PipeSteady.{operation_turn_steady, branch_turn_steady, behind_fetch, pipe_steady, branches_steady_by}
+use Rattle.mql_parse.proofs.PipeSteady.{operation_turn_steady, branch_turn_steady, behind_fetch, pipe_steady}
+use Rattle.mql_parse.proofs.PipeSteady.{branches_steady_by}
 use Rattle.mql_parse.proofs.FirstWords.{admits}
-use Rattle.mql_parse.proofs.Firsts.{Spot, Begun, begun_later, WentOutcome, Meets, Before, FirstOutcome, First, NoMore, passed_far, first_went, first_to, first_next, first_bind, first_behind_pass, first_if, first_sign, first_unexpected, meets_then, meets_bind, meets_ok, meets_map, meets_of, meets_from, meets_to, meets_by, meets_behind_pass, before_of, before_if, before_skip, before_behind, before_part_behind, before_unexpected, before_fault, before_here, before_map, before_next, sign_to}
-use Rattle.mql_parse.proofs.FirstBytes.{at_byte, at_bytes, slash_begins, bar_begins, colon_begins, semicolon_begins, open_brace_begins, close_brace_begins}
+use Rattle.mql_parse.proofs.Firsts.{Spot, Begun, begun_later, WentOutcome, Meets, Before, FirstOutcome, First, NoMore}
+use Rattle.mql_parse.proofs.Firsts.{passed_far, first_went, first_to, first_next, first_bind, first_behind_pass}
+use Rattle.mql_parse.proofs.Firsts.{first_if, first_sign, first_unexpected, meets_then, meets_bind, meets_ok}
+use Rattle.mql_parse.proofs.Firsts.{meets_map, meets_of, meets_from, meets_to, meets_by, meets_behind_pass, before_of}
+use Rattle.mql_parse.proofs.Firsts.{before_if, before_skip, before_behind, before_part_behind, before_unexpected}
+use Rattle.mql_parse.proofs.Firsts.{before_fault, before_here, before_map, before_next, sign_to}
+use Rattle.mql_parse.proofs.FirstBytes.{at_byte, at_bytes, slash_begins, bar_begins, colon_begins, semicolon_begins}
+use Rattle.mql_parse.proofs.FirstBytes.{open_brace_begins, close_brace_begins}
 use Rattle.mql_parse.proofs.FirstTokens.{all_solid, meets_exact, first_exact, meets_apart, first_name, meets_name}
 use Rattle.mql_parse.proofs.FirstNumbers.{meets_metric_from}
-use Rattle.mql_parse.proofs.FirstTurns.{meets_either, went_either, skip_far, skip_went, turn_read, OfState, Stopped, turn_if_read, on_read_read, meets_repetition, list_state, part_meets}
+use Rattle.mql_parse.proofs.FirstTurns.{meets_either, went_either, skip_far, skip_went, turn_read, OfState, Stopped}
+use Rattle.mql_parse.proofs.FirstTurns.{turn_if_read, on_read_read, meets_repetition, list_state, part_meets}
 use Rattle.mql_parse.proofs.FirstKeywords.{Keyword, keyword, keyword_here, first_keyword, before_keyword, first_map}
 use Rattle.mql_parse.proofs.FirstDeeds.{op_on, OnBar, OpGoes, operation_meets}
 
@@ -81,7 +90,8 @@ bar_or_done x d ops =
     let G = OfState (BarredGoes x) in
     meets_either x G (λ b. b == 124) (λ s. further d ops (behind (skip s))) (λ s. Ok (((ops, false), false), s))
     (before_part_behind x next G (further d ops) (further_meets x d ops))
-    (skip_far x next G (λ b. b == 124) refl (further d ops) (steady_from next (further d ops) (further_meets x d ops).steady))
+    (skip_far x next G (λ b. b == 124) refl (further d ops) (steady_from next (further d ops)
+    (further_meets x d ops).steady))
     (meets_ok x next G ((ops, false), false))
     (λ h s e l. (e, bar_begins x (op_on (pipes.groups_last ops)) (op_on_admits (pipes.groups_last ops)) h))
 

@@ -18,9 +18,14 @@ use Rattle.mql_parse.specs.PredicateReading.{Compared, WithValue, WithPattern, D
 use Rattle.mql_parse.specs.Steadiness.{here, next}
 use Rattle.mql_parse.proofs.Steady.{steady_from, steady_ok, steady_map}
 use Rattle.mql_parse.proofs.TokenSteady.{text_steady}
-use Rattle.mql_parse.proofs.Firsts.{Spot, Begun, Meets, Before, First, FirstOutcome, NoMore, passed_far, first_next, first_bind, first_behind_pass, first_sign, meets_then, meets_ok, meets_map, meets_of, meets_to, meets_behind_pass, first_if, first_if_or, first_unexpected, before_of, before_if, before_skip, before_behind, before_behind_skip, before_unexpected, before_map, before_next, before_behind_pass, before_sign}
+use Rattle.mql_parse.proofs.Firsts.{Spot, Begun, Meets, Before, First, FirstOutcome, NoMore, passed_far, first_next}
+use Rattle.mql_parse.proofs.Firsts.{first_bind, first_behind_pass, first_sign, meets_then, meets_ok, meets_map}
+use Rattle.mql_parse.proofs.Firsts.{meets_of, meets_to, meets_behind_pass, first_if, first_if_or, first_unexpected}
+use Rattle.mql_parse.proofs.Firsts.{before_of, before_if, before_skip, before_behind, before_behind_skip}
+use Rattle.mql_parse.proofs.Firsts.{before_unexpected, before_map, before_next, before_behind_pass, before_sign}
 use Rattle.mql_parse.proofs.FirstBytes.{at_byte, at_bytes, exclamation_begins, quote_begins, minus_or_digit}
-use Rattle.mql_parse.proofs.FirstTokens.{all_solid, exact_fails, second_or, meets_unexpected, meets_if_here, far_behind, meets_exact, keyword_far, meets_word, first_word}
+use Rattle.mql_parse.proofs.FirstTokens.{all_solid, exact_fails, second_or, meets_unexpected, meets_if_here}
+use Rattle.mql_parse.proofs.FirstTokens.{far_behind, meets_exact, keyword_far, meets_word, first_word}
 use Rattle.mql_parse.proofs.FirstNumbers.{before_signed, signed_far, map_first}
 use Rattle.mql_parse.proofs.FirstQuotes.{meets_text, meets_pattern}
 
@@ -128,10 +133,12 @@ value_first x =
     (steady_map here here (λ y. field.Text y) reading.text text_steady) s e h)
     (quote_begins x what.Text refl)
     (first_if x here what.Text (λ b. b == 116) (λ s. exact what.Truth (codes "true") (skip s) >>= yes) _
-    (λ s e h. keyword_far x here what.Text what.Truth 116 (codes "rue") yes refl (steady_ok here (field.Bool true)) s e h)
+    (λ s e h. keyword_far x here what.Text what.Truth 116 (codes "rue") yes refl (steady_ok here (field.Bool true)) s e
+    h)
     (true_begins x)
     (first_if_or x here what.Text (λ b. b == 102) (λ s. exact what.Truth (codes "false") (skip s) >>= no) _
-    (λ s e h. keyword_far x here what.Text what.Truth 102 (codes "alse") no refl (steady_ok here (field.Bool false)) s e h)
+    (λ s e h. keyword_far x here what.Text what.Truth 102 (codes "alse") no refl (steady_ok here (field.Bool false)) s
+    e h)
     (second_or x what.Text 102 (codes "alse") (λ t. exact what.Truth (codes "false") t >>= no)
     (exact_fails what.Truth 102 (codes "alse") no) (at_bytes x what.Text what.Truth 102 97 refl refl))
     (first_if x here what.Text (λ b. b == 45 || is_digit b) (λ s. map_outcome (λ z. field.Int z) (reading.signed s))

@@ -1,9 +1,12 @@
 -- Texts in quotes and patterns: one that is open is refused at the end of a line, and behind one all is as before.
-use Rattle.std.proofs.Common.{◌≡◌, inl, inr, ℕ, ◌+◌, ◌<◌, true, false, ◌&&◌, nat_le, List, [], ◌∷◌, ◌++◌, refl, sym, ap, subst, arith, if◌then◌else◌, Option, Some, None, Ok}
+use Rattle.std.proofs.Common.{◌≡◌, inl, inr, ℕ, ◌+◌, ◌<◌, true, false, ◌&&◌, nat_le, List, [], ◌∷◌, ◌++◌, refl, sym}
+use Rattle.std.proofs.Common.{ap, subst, arith, if◌then◌else◌, Option, Some, None, Ok}
 use Rattle.std.proofs.lemmas.Bool.Decides.{nat_tests}
 use Rattle.mon_value.specs.Texts.{text_in}
 use Rattle.mql_ast.specs.Rests.{Rest}
-use Rattle.mql_ast.specs.Quotes.{Open, Whole, Escape, More, further, TextStep, TextEnd, TextPass, TextKeep, TextBad, text_step, Sign, Plain, Dot, Backslash, PatternStep, PatternEnd, PatternCut, PatternPass, PatternKeep, PatternUnfit, PatternBad, pattern_step}
+use Rattle.mql_ast.specs.Quotes.{Open, Whole, Escape, More, further, TextStep, TextEnd, TextPass, TextKeep, TextBad}
+use Rattle.mql_ast.specs.Quotes.{text_step, Sign, Plain, Dot, Backslash, PatternStep, PatternEnd, PatternCut}
+use Rattle.mql_ast.specs.Quotes.{PatternPass, PatternKeep, PatternUnfit, PatternBad, pattern_step}
 use Rattle.mql_parse.specs.Outcomes.{Outcome}
 use Rattle.mql_parse.specs.TokenReading as reading
 use Rattle.mql_parse.specs.Steadiness.{here, Reaches}
@@ -76,7 +79,8 @@ text_step_same x TextBad h b s s' rest rest' content go go' c ih = λ e w k. abs
 pub meets_text : (x : Spot) → Meets x here here NoMore reading.text
 unfolding reading.text
 meets_text x = meets_bytes x text_reading (λ state. text_from_steady state.0) (text_spot x)
-    (λ state at b bs cs c d ih. text_step_same x (text_step state.0.0 b) (text_step_high state.0.0 b) b _ _ _ _ state.0.1
+    (λ state at b bs cs c d ih. text_step_same x (text_step state.0.0 b) (text_step_high state.0.0 b) b
+    _ _ _ _ state.0.1
     _ _ d (λ next more h. ih ((next, more), h))) ((Whole, []), tt)
 
 -- patterns
@@ -91,7 +95,8 @@ piece_spot x (Some piece) s pieces go p g =
 pattern_step_spot : (x : Spot) (step : PatternStep) (b : ℕ) (s rest : Rest) (pieces : List (List ℕ))
     (content : List ℕ) (go : Open → Sign → List (List ℕ) → List ℕ → Outcome (List (List ℕ)))
     (p : Outcome (List (List ℕ))) → x.at < rest.at →
-    ((next : Open) (mark : Sign) (all : List (List ℕ)) (more : List ℕ) → Reaches here (x.at + 1) (go next mark all more))
+    ((next : Open) (mark : Sign) (all : List (List ℕ)) (more : List ℕ) → Reaches here (x.at + 1)
+    (go next mark all more))
     → MeetsOutcome x here NoMore (reading.after_pattern_step step b s rest pieces content go) p
 pattern_step_spot x PatternEnd b s rest pieces content go p h g =
     piece_spot x (text_in content) s pieces (λ all. Ok (all, rest)) p (λ all. omega (arith, h))
@@ -143,7 +148,8 @@ piece_same : (x : Spot) (o : Option (List ℕ)) (s s' : Rest) (pieces : List (Li
 piece_same x None s s' pieces go go' ih = λ e w k. absurd (cc)
 piece_same x (Some piece) s s' pieces go go' ih = ih (pieces ++ piece ∷ [])
 
-pattern_step_same : (x : Spot) (step : PatternStep) → SignHigh step → (b : ℕ) (s s' rest rest' : Rest) (pieces : List (List ℕ))
+pattern_step_same : (x : Spot) (step : PatternStep) → SignHigh step → (b : ℕ) (s s' rest rest' : Rest)
+    (pieces : List (List ℕ))
     (content : List ℕ) (go go' : Open → Sign → List (List ℕ) → List ℕ → Outcome (List (List ℕ))) →
     Splits x rest rest' →
     ((next : Open) (mark : Sign) (all : List (List ℕ)) (more : List ℕ) → High next →
@@ -156,7 +162,8 @@ pattern_step_same x PatternEnd h b s s' rest rest' pieces content go go' c ih =
 pattern_step_same x PatternCut h b s s' rest rest' pieces content go go' c ih =
     piece_same x (text_in content) s s' pieces (λ all. go Whole Plain all []) (λ all. go' Whole Plain all [])
     (λ all. ih Whole Plain all [] tt)
-pattern_step_same x (PatternPass next mark) h b s s' rest rest' pieces content go go' c ih = ih next mark pieces content h
+pattern_step_same x (PatternPass next mark) h b s s' rest rest' pieces content go go' c ih = ih next mark pieces
+    content h
 pattern_step_same x (PatternKeep next mark) h b s s' rest rest' pieces content go go' c ih =
     ih next mark pieces (content ++ b ∷ []) h
 pattern_step_same x PatternUnfit h b s s' rest rest' pieces content go go' c ih = λ e w k. absurd (cc)

@@ -1,5 +1,6 @@
 -- What sums and items expect comes first.
-use Rattle.std.proofs.Common.{◌≡◌, ℕ, zero, suc, Bool, true, false, ◌==◌, ◌||◌, refl, sym, ap, ◌∙◌, subst, if◌then◌else◌, Ok, Err}
+use Rattle.std.proofs.Common.{◌≡◌, ℕ, zero, suc, Bool, true, false, ◌==◌, ◌||◌, refl, sym, ap, ◌∙◌, subst}
+use Rattle.std.proofs.Common.{if◌then◌else◌, Ok, Err}
 use Rattle.mon_value.specs.Answers.{◌>>=◌}
 use Rattle.mql_ast.specs.declared.names.Name.{Name}
 use Rattle.mql_ast.specs.Trees.{ItemTree, Column, Number, Percentile}
@@ -20,11 +21,19 @@ use Rattle.mql_parse.proofs.ListSound.{items_turn_behind}
 use Rattle.mql_parse.proofs.Steady.{steady_from, steady_ok, steady_bind}
 use Rattle.mql_parse.proofs.SumSteady.{term_turn_steady, sum_end_steady, sum_steady}
 use Rattle.mql_parse.proofs.FirstWords.{admits, leads}
-use Rattle.mql_parse.proofs.Firsts.{Spot, Splits, Begun, begun_later, WentOutcome, Meets, Before, FirstOutcome, First, NoMore, passed_far, first_went, meets_then, meets_bind, meets_ok, meets_map, meets_of, meets_from, meets_to, meets_by, meets_behind_pass, first_if, first_to, first_wider, first_sign, first_behind_pass, first_unexpected, before_of, before_if, before_skip, before_behind, before_part_behind, before_unexpected, before_fault, before_map, before_next, before_to, sign_to}
-use Rattle.mql_parse.proofs.FirstBytes.{comma_begins, opening_begins, closing_begins, close_bracket_begins, colon_begins, plus_begins, minus_begins, minus_or_digit}
+use Rattle.mql_parse.proofs.Firsts.{Spot, Splits, Begun, begun_later, WentOutcome, Meets, Before, FirstOutcome, First}
+use Rattle.mql_parse.proofs.Firsts.{NoMore, passed_far, first_went, meets_then, meets_bind, meets_ok, meets_map}
+use Rattle.mql_parse.proofs.Firsts.{meets_of, meets_from, meets_to, meets_by, meets_behind_pass, first_if, first_to}
+use Rattle.mql_parse.proofs.Firsts.{first_wider, first_sign, first_behind_pass, first_unexpected, before_of, before_if}
+use Rattle.mql_parse.proofs.Firsts.{before_skip, before_behind, before_part_behind, before_unexpected, before_fault}
+use Rattle.mql_parse.proofs.Firsts.{before_map, before_next, before_to, sign_to}
+use Rattle.mql_parse.proofs.FirstBytes.{comma_begins, opening_begins, closing_begins, close_bracket_begins}
+use Rattle.mql_parse.proofs.FirstBytes.{colon_begins, plus_begins, minus_begins, minus_or_digit}
 use Rattle.mql_parse.proofs.FirstTokens.{meets_word, meets_name, first_word}
 use Rattle.mql_parse.proofs.FirstNumbers.{meets_positive, before_signed, signed_far, map_first}
-use Rattle.mql_parse.proofs.FirstTurns.{meets_either, went_either, meets_choice, skip_far, skip_went, turn_read, OfState, Stopped, turn_if_read, goes_on_read, meets_repetition, repetition_went, meets_list}
+use Rattle.mql_parse.proofs.FirstTurns.{meets_either, went_either, meets_choice, skip_far, skip_went, turn_read}
+use Rattle.mql_parse.proofs.FirstTurns.{OfState, Stopped, turn_if_read, goes_on_read, meets_repetition}
+use Rattle.mql_parse.proofs.FirstTurns.{repetition_went, meets_list}
 
 -- what may go on a sum: a sign, or a parenthesis behind a bare `percentile`
 abbrev pub sum_on : Bool → What
@@ -234,7 +243,8 @@ term_first x d = term_first_with x (sums.sum_group d) (group_far x d)
 sum_meets_with : (x : Spot) (d : ℕ) → Before x here next (SumGoes x) (λ t. sums.sum_group d t (behind t)) →
     Meets x next next (SumGoes x) (sums.sum d)
 sum_meets_with x d k = sum_meets_by x d
-    (meets_of x next next (SumGoes x) what.Name (sums.term d) (term_first x d) (term_before_with x (sums.sum_group d) k))
+    (meets_of x next next (SumGoes x) what.Name (sums.term d) (term_first x d) (term_before_with x (sums.sum_group d)
+    k))
 
 group_before : (x : Spot) (d : ℕ) → Before x here next (SumGoes x) (λ t. sums.sum_group d t (behind t))
 unfolding sums.sum_group

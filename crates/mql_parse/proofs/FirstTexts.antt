@@ -1,5 +1,7 @@
 -- What a text's fault expects is the first that may come.
-use Rattle.std.proofs.Common.{◌≡◌, ◌⊎◌, inl, inr, ℕ, ◌<◌, ◌≤◌, Bool, true, false, ◌==◌, ◌||◌, ◌&&◌, nat_le, List, codes, Some, None, [], ◌∷◌, ◌++◌, length, take, drop, refl, sym, ap, ◌∙◌, subst, arith, if◌then◌else◌, append_assoc, Result, Ok, Err}
+use Rattle.std.proofs.Common.{◌≡◌, ◌⊎◌, inl, inr, ℕ, ◌<◌, ◌≤◌, Bool, true, false, ◌==◌, ◌||◌, ◌&&◌, nat_le, List}
+use Rattle.std.proofs.Common.{codes, Some, None, [], ◌∷◌, ◌++◌, length, take, drop, refl, sym, ap, ◌∙◌, subst, arith}
+use Rattle.std.proofs.Common.{if◌then◌else◌, append_assoc, Result, Ok, Err}
 use Rattle.std.specs.Result.{IfErr}
 use Rattle.std.proofs.lemmas.Bool.{false≢true}
 use Rattle.std.proofs.lemmas.Bool.Decides.{nat_tests}
@@ -36,7 +38,8 @@ use Rattle.mql_parse.proofs.KindFits.{quotes_append}
 use Rattle.mql_parse.proofs.TextKinds.{spelled_closed}
 use Rattle.mql_parse.proofs.TokenEndings.{equal_byte}
 use Rattle.mql_parse.proofs.FirstWords.{told, Starts, StartsOn, bare_starts, allowed, allowed_of, some_by}
-use Rattle.mql_parse.proofs.Firsts.{Spot, instead, Splits, over_splits, splits_head, Begun, Failed, MeetsOutcome, kind_names}
+use Rattle.mql_parse.proofs.Firsts.{Spot, instead, Splits, over_splits, splits_head, Begun, Failed, MeetsOutcome}
+use Rattle.mql_parse.proofs.Firsts.{kind_names}
 use Rattle.mql_parse.proofs.FirstPipes.{PipeGoes, pipe_meets}
 
 -- some bytes are left of the second text
@@ -98,7 +101,8 @@ query_first d x text other tree f c l e place done w k =
 
     by_tests : (t u : Bool) → u ≡ t →
         (if t then (pipe d (start text) >>= query_end) else Err (fault (Expected what.Fetch) (start text))) ≡ Err f →
-        (if u then (pipe d (start other) >>= query_end) else Err (fault (Expected what.Fetch) (start other))) ≡ Ok tree →
+        (if u then (pipe d (start other) >>= query_end) else Err (fault (Expected what.Fetch) (start other))) ≡ Ok tree
+        →
         Begun x w
     by_tests true true h g q = pipe_end_first x (pipe d (start text)) (pipe d (start other)) tree f
         ((pipe_meets x d).agrees (start text) (start other) c) g place q w k
@@ -151,7 +155,8 @@ brace_first : (v : What) (b : ℕ) (rest : List ℕ) (m : Rest) → is_blank b �
     sign_at 123 (start (b ∷ rest)) ≡ Some m → allows what.Fetch v ≡ true
 brace_first v b rest m h k f =
     let first : (b == 123) ≡ true = ap (λ t. head t == 123) (sym (skip_off (start (b ∷ rest)) h)) ∙ some_by _ _ m f in
-    allowed_of what.Fetch what.OpenBrace v b (first_of rest) k (ap (λ n. told n (first_of rest)) (equal_byte b 123 first))
+    allowed_of what.Fetch what.OpenBrace v b (first_of rest) k (ap (λ n. told n (first_of rest))
+    (equal_byte b 123 first))
     refl
 
 source_first : {d : ℕ} {s r : Rest} {t : SourceTree} → Source d s r t → (v : What) (b : ℕ) (rest : List ℕ) →

@@ -1,5 +1,6 @@
 -- What tokens expect comes first.
-use Rattle.std.proofs.Common.{◌≡◌, ◌⊎◌, inl, inr, ℕ, ◌+◌, ◌<◌, ◌≤◌, Bool, true, false, ◌==◌, ◌||◌, ◌&&◌, not, List, [], ◌∷◌, ◌++◌, length, refl, sym, ap, ◌∙◌, subst, arith, if◌then◌else◌, Ok, Err}
+use Rattle.std.proofs.Common.{◌≡◌, ◌⊎◌, inl, inr, ℕ, ◌+◌, ◌<◌, ◌≤◌, Bool, true, false, ◌==◌, ◌||◌, ◌&&◌, not, List, []}
+use Rattle.std.proofs.Common.{◌∷◌, ◌++◌, length, refl, sym, ap, ◌∙◌, subst, arith, if◌then◌else◌, Ok, Err}
 use Rattle.std.proofs.lemmas.Bool.{false≢true}
 use Rattle.std.proofs.lemmas.Bool.Decides.{nat_tests}
 use Rattle.mon_value.specs.Answers.{◌>>=◌}
@@ -15,7 +16,11 @@ use Rattle.mql_parse.specs.Steadiness.{here, next, Steady, unit_read}
 use Rattle.mql_parse.proofs.RestLemmas.{skip_off}
 use Rattle.mql_parse.proofs.Steady.{steady_from, steady_unexpected, steady_if, steady_behind_pass, unit_if, head_test}
 use Rattle.mql_parse.proofs.TokenSteady.{exact_steady, word_steady, word_on}
-use Rattle.mql_parse.proofs.Firsts.{Spot, instead, Splits, splits, over_splits, splits_head, splits_blank, Begun, Failed, MeetsOutcome, Meets, Before, FirstOutcome, First, NoMore, beyond_meets, beyond_first, first_meets, kind_names, passed_far, meets_by, meets_ok, meets_of, by_place, if_same, first_by, first_if, first_unexpected, before_of, before_if_here, before_skip, before_behind, before_unexpected}
+use Rattle.mql_parse.proofs.Firsts.{Spot, instead, Splits, splits, over_splits, splits_head, splits_blank, Begun}
+use Rattle.mql_parse.proofs.Firsts.{Failed, MeetsOutcome, Meets, Before, FirstOutcome, First, NoMore, beyond_meets}
+use Rattle.mql_parse.proofs.Firsts.{beyond_first, first_meets, kind_names, passed_far, meets_by, meets_ok, meets_of}
+use Rattle.mql_parse.proofs.Firsts.{by_place, if_same, first_by, first_if, first_unexpected, before_of, before_if_here}
+use Rattle.mql_parse.proofs.Firsts.{before_skip, before_behind, before_unexpected}
 use Rattle.mql_parse.proofs.Spots.{beyond}
 
 -- a fault here, and a choice by the byte that stands here
@@ -105,7 +110,8 @@ exact_fails w c [] on r h = absurd (false≢true (sym h))
 exact_fails w c (next ∷ cs) on r h = either (head r == c)
   where
     either : (t : Bool) → Failed ((if t then exact w (next ∷ cs) (behind r) else Err (unexpected w r)) >>= on)
-    either true = subst (λ b. Failed ((if b then exact w cs (behind (behind r)) else Err (unexpected w (behind r))) >>= on))
+    either true = subst (λ b. Failed ((if b then exact w cs (behind (behind r)) else Err (unexpected w (behind r)))
+        >>= on))
         (sym h) tt
     either false = tt
 
@@ -241,7 +247,8 @@ first_word x to on w k s e h =
 
 pub first_name : (x : Spot) → First x next here what.Name reading.name
 unfolding reading.name
-first_name x = first_if x here what.Name is_letter (λ s. Ok (word_here (skip s))) (λ s. Err (unexpected what.Name (skip s)))
+first_name x = first_if x here what.Name is_letter (λ s. Ok (word_here (skip s)))
+    (λ s. Err (unexpected what.Name (skip s)))
     (λ s e h. word_far x (skip s).at (skip s).bytes e h) (λ h. refl) (first_unexpected x here what.Name)
 
 before_name : (x : Spot) → Before x next here NoMore reading.name

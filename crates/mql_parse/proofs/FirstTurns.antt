@@ -1,11 +1,13 @@
 -- Parts that are read as often as they come: what they expect comes first.
-use Rattle.std.proofs.Common.{◌≡◌, ◌⊎◌, inl, inr, ℕ, zero, suc, ◌+◌, ◌<◌, ◌≤◌, Bool, true, false, ◌==◌, List, [], ◌∷◌, ◌++◌, length, refl, sym, ap, ◌∙◌, subst, arith, if◌then◌else◌, Ok, Err}
+use Rattle.std.proofs.Common.{◌≡◌, ◌⊎◌, inl, inr, ℕ, zero, suc, ◌+◌, ◌<◌, ◌≤◌, Bool, true, false, ◌==◌, List, [], ◌∷◌}
+use Rattle.std.proofs.Common.{◌++◌, length, refl, sym, ap, ◌∙◌, subst, arith, if◌then◌else◌, Ok, Err}
 use Rattle.std.proofs.lemmas.Bool.{false≢true, cases_lt}
 use Rattle.mon_value.specs.Answers.{◌>>=◌}
 use Rattle.mql_ast.specs.Rests.{Rest, first_of, behind_first, head, behind, skip}
 use Rattle.mql_parse.specs.declared.faults.What.{What}
 use Rattle.mql_parse.specs.Outcomes.{Outcome, unexpected, map_outcome}
-use Rattle.mql_parse.specs.Repeats.{Turn, Done, Again, Stuck, turn_outcome, goes_on, repetition, list_or_end, on_read, list_turn}
+use Rattle.mql_parse.specs.Repeats.{Turn, Done, Again, Stuck, turn_outcome, goes_on, repetition, list_or_end, on_read}
+use Rattle.mql_parse.specs.Repeats.{list_turn}
 use Rattle.mql_parse.specs.Behind.{Behind}
 use Rattle.mql_parse.specs.Soundness.{OfTurn}
 use Rattle.mql_parse.specs.Steadiness.{here, next, Reaches, Steady, SteadyTurn}
@@ -14,7 +16,11 @@ use Rattle.mql_parse.proofs.Loops.{GoesBehind}
 use Rattle.mql_parse.proofs.Sound.{repeated_turn}
 use Rattle.mql_parse.proofs.Steady.{steady_by, steady_from, steady_if, steady_ok, next_test}
 use Rattle.mql_parse.proofs.TurnSteady.{turn_to, list_turn_steady, steady_repetition}
-use Rattle.mql_parse.proofs.Firsts.{Spot, Splits, splits_head, splits_skip, splits_beyond, Begun, Failed, MeetsOutcome, WentOutcome, went_meets, Meets, Before, FirstOutcome, First, NoMore, beyond_meets, beyond_went, beyond_first, first_bind, first_went, passed_far, meets_by, meets_bind, meets_ok, meets_of, by_place, if_same, first_by, first_if, first_unexpected, before_if, before_part_behind, before_skip, before_unexpected}
+use Rattle.mql_parse.proofs.Firsts.{Spot, Splits, splits_head, splits_skip, splits_beyond, Begun, Failed, MeetsOutcome}
+use Rattle.mql_parse.proofs.Firsts.{WentOutcome, went_meets, Meets, Before, FirstOutcome, First, NoMore, beyond_meets}
+use Rattle.mql_parse.proofs.Firsts.{beyond_went, beyond_first, first_bind, first_went, passed_far, meets_by}
+use Rattle.mql_parse.proofs.Firsts.{meets_bind, meets_ok, meets_of, by_place, if_same, first_by, first_if}
+use Rattle.mql_parse.proofs.Firsts.{first_unexpected, before_if, before_part_behind, before_skip, before_unexpected}
 
 -- what may be left out: behind it the second text goes on at the spot
 either_at : {A : Type 0} (x : Spot) (G : A → Type 0) (t u : Bool) (o o' q q' : Outcome A) →

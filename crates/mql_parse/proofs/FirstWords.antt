@@ -1,12 +1,15 @@
 -- Which word a token is of, by its first two bytes, and what each word allows beside it.
-use Rattle.std.proofs.Common.{◌≡◌, ◌⊎◌, inl, inr, ℕ, ◌≤◌, Bool, true, false, ◌==◌, ◌||◌, ◌&&◌, not, nat_le, List, [], ◌∷◌, ◌++◌, codes, refl, sym, ap, ◌∙◌, subst, arith, if◌then◌else◌, Option, Some, None, option_and_then}
+use Rattle.std.proofs.Common.{◌≡◌, ◌⊎◌, inl, inr, ℕ, ◌≤◌, Bool, true, false, ◌==◌, ◌||◌, ◌&&◌, not, nat_le, List, []}
+use Rattle.std.proofs.Common.{◌∷◌, ◌++◌, codes, refl, sym, ap, ◌∙◌, subst, arith, if◌then◌else◌, Option, Some, None}
+use Rattle.std.proofs.Common.{option_and_then}
 use Rattle.std.proofs.lemmas.Bool.{false≢true}
 use Rattle.std.proofs.lemmas.Bool.Decides.{nat_tests}
 use Rattle.mql_ast.specs.declared.predicates.Comparison.{Comparison}
 use Rattle.mql_ast.specs.declared.pipes.How.TheVariants as how
 use Rattle.mql_ast.specs.Bytes.{is_blank, is_digit}
 use Rattle.mql_ast.specs.Rests.{Rest, first_of, head, behind, skip}
-use Rattle.mql_ast.specs.Tokens.{sign_at, word_at, metric_at, metric_behind, positive_at, number_at, duration_at, longest, with_unit}
+use Rattle.mql_ast.specs.Tokens.{sign_at, word_at, metric_at, metric_behind, positive_at, number_at, duration_at}
+use Rattle.mql_ast.specs.Tokens.{longest, with_unit}
 use Rattle.mql_ast.specs.Quotes.{Whole, Plain, text_from, pattern_from}
 use Rattle.mql_ast.specs.Grammar.{start, comparison_at, how_word}
 use Rattle.mql_parse.specs.declared.faults.What.{What}
@@ -211,13 +214,25 @@ bare_starts what.Truth t more h =
     one_starts what.Truth more (codes "true" ∷ codes "false" ∷ []) t ((refl, inl refl), ((refl, inl refl), tt)) h
 bare_starts what.Comparison t more (inl h) = comparison_starts t more h
 bare_starts what.Comparison t more (inr h) = subst (StartsOn what.Comparison more) (sym h) (refl, inl refl)
-bare_starts what.Aligner t more h = one_starts what.Aligner more aligner_words t ((refl, inl refl), ((refl, inl refl), tt)) h
-bare_starts what.Aggregate t more h = one_starts what.Aggregate more fold_words t
-    ((refl, inl refl), ((refl, inl refl), ((refl, inl refl), ((refl, inl refl), ((refl, inl refl), ((refl, inl refl), ((refl, inl refl), tt))))))) h
-bare_starts what.Operation t more h = one_starts what.Operation more operation_words t
-    ((refl, inl refl), ((refl, inl refl), ((refl, inl refl), ((refl, inl refl), ((refl, inl refl), ((refl, inl refl), ((refl, inl refl), tt))))))) h
+bare_starts what.Aligner t more h = one_starts what.Aligner more aligner_words t
+    ((refl, inl refl), ((refl, inl refl), tt)) h
+bare_starts what.Aggregate t more h = one_starts what.Aggregate more fold_words t (
+  (refl, inl refl),
+  (
+    (refl, inl refl),
+    ((refl, inl refl), ((refl, inl refl), ((refl, inl refl), ((refl, inl refl), ((refl, inl refl), tt))))),
+  ),
+) h
+bare_starts what.Operation t more h = one_starts what.Operation more operation_words t (
+  (refl, inl refl),
+  (
+    (refl, inl refl),
+    ((refl, inl refl), ((refl, inl refl), ((refl, inl refl), ((refl, inl refl), ((refl, inl refl), tt))))),
+  ),
+) h
 bare_starts what.How t more h =
-    one_starts what.How more (how_word how.Join ∷ how_word how.Union ∷ []) t ((refl, inl refl), ((refl, inl refl), tt)) h
+    one_starts what.How more (how_word how.Join ∷ how_word how.Union ∷ []) t ((refl, inl refl), ((refl, inl refl), tt))
+    h
 bare_starts what.OpenBrace t more h = subst (StartsOn what.OpenBrace more) (sym h) (refl, inl refl)
 bare_starts what.CloseBrace t more h = subst (StartsOn what.CloseBrace more) (sym h) (refl, inl refl)
 bare_starts what.OpenBracket t more h = subst (StartsOn what.OpenBracket more) (sym h) (refl, inl refl)

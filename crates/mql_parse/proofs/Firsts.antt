@@ -1,5 +1,6 @@
 -- What a reader expects comes first, or a text that goes on there with a line's end and another token is refused.
-use Rattle.std.proofs.Common.{◌≡◌, ◌⊎◌, inl, inr, ℕ, ◌+◌, ◌<◌, ◌≤◌, Bool, true, false, ◌==◌, List, [], ◌∷◌, refl, sym, ap, ◌∙◌, subst, arith, if◌then◌else◌, Result, Ok, Err}
+use Rattle.std.proofs.Common.{◌≡◌, ◌⊎◌, inl, inr, ℕ, ◌+◌, ◌<◌, ◌≤◌, Bool, true, false, ◌==◌, List, [], ◌∷◌, refl, sym}
+use Rattle.std.proofs.Common.{ap, ◌∙◌, subst, arith, if◌then◌else◌, Result, Ok, Err}
 use Rattle.std.proofs.lemmas.Bool.{false≢true, cases_lt}
 use Rattle.std.proofs.Math.Nat.{eq-or-lt_of_le}
 use Rattle.mon_value.specs.Answers.{◌>>=◌}
@@ -13,8 +14,11 @@ use Rattle.mql_parse.specs.Outcomes.{Outcome, fault, kind_of, unexpected, sign, 
 use Rattle.mql_parse.specs.Steadiness.{here, next, Reaches, Steady, unit_read}
 use Rattle.mql_parse.proofs.FirstWords.{allowed, leads, allowed_later}
 use Rattle.mql_parse.proofs.Spots.{beyond}
-pub use Rattle.mql_parse.proofs.Spots.{Spot, instead, Splits, splits, over_splits, splits_head, splits_behind, splits_blank, splits_skip, splits_beyond}
-use Rattle.mql_parse.proofs.Steady.{skip_on, steady_by, steady_from, steady_to, steady_bind, steady_ok, steady_if, steady_skip, steady_behind, steady_unexpected, steady_fault, head_test, next_test, steady_here, steady_next, pass_bind, unit_if}
+pub use Rattle.mql_parse.proofs.Spots.{Spot, instead, Splits, splits, over_splits, splits_head, splits_behind}
+pub use Rattle.mql_parse.proofs.Spots.{splits_blank, splits_skip, splits_beyond}
+use Rattle.mql_parse.proofs.Steady.{skip_on, steady_by, steady_from, steady_to, steady_bind, steady_ok, steady_if}
+use Rattle.mql_parse.proofs.Steady.{steady_skip, steady_behind, steady_unexpected, steady_fault, head_test, next_test}
+use Rattle.mql_parse.proofs.Steady.{steady_here, steady_next, pass_bind, unit_if}
 
 -- this word allows the one at the spot
 abbrev pub Begun : Spot → What → Type 0
@@ -412,13 +416,6 @@ sign_far : (x : Spot) (b : ℕ) (w : What) → (0 == b) ≡ false → (s : Rest)
     (head (skip s) == b) ≡ true → FirstOutcome {A = Unit {0}} x here w (Ok (tt, behind (skip s)))
 sign_far x b w z s e k =
     passed_far {A = Unit {0}} x here w (λ c. c == b) z (λ s. Ok (tt, s)) (steady_ok here tt) s e k
-
-pub sign_names : (x : Spot) (b : ℕ) (w : What) → (0 == b) ≡ false → (s : Rest) → next s ≡ x.at →
-    FirstOutcome x here w (unit_read (sign b w s))
-sign_names x b w z s e =
-    subst (FirstOutcome x here w) (sym (sign_is b w s))
-    (if_first x here w (head (skip s) == b) (Ok (tt, behind (skip s))) (Err (unexpected w (skip s)))
-    (sign_far x b w z s e) (λ d v k. kind_names w (skip s).bytes v k))
 
 pub first_sign : (x : Spot) (b : ℕ) (w : What) → (0 == b) ≡ false → ((x.byte == b) ≡ true → Begun x w) →
     First x next here w (λ s. unit_read (sign b w s))

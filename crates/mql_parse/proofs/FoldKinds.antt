@@ -11,7 +11,9 @@ use Rattle.mql_parse.specs.Repeats.{Done, Again, repetition, list_turn}
 use Rattle.mql_parse.specs.TokenReading as reading
 use Rattle.mql_parse.specs.Folds as folds
 use Rattle.mql_parse.proofs.ListSound.{names_turn_behind, aggregates_turn_behind}
-use Rattle.mql_parse.proofs.KindFits.{Fits, TurnFits, outside_itself, bind_fits, map_fits, pass_then, if_fits, if_turn, part_outside, behind_fits, skip_fits, part_fits, unexpected_fits, sign_fits, up_to_fits, on_read_fits, list_turn_fits, repetition_fits}
+use Rattle.mql_parse.proofs.KindFits.{Fits, TurnFits, outside_itself, bind_fits, map_fits, pass_then, if_fits, if_turn}
+use Rattle.mql_parse.proofs.KindFits.{part_outside, behind_fits, skip_fits, part_fits, unexpected_fits, sign_fits}
+use Rattle.mql_parse.proofs.KindFits.{up_to_fits, on_read_fits, list_turn_fits, repetition_fits}
 use Rattle.mql_parse.proofs.TokenKinds.{plain_bytes, exact_fits, name_fits}
 
 pub names_fits : (s : Rest) → Fits None s (folds.names s)

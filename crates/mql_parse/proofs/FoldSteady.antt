@@ -13,8 +13,11 @@ use Rattle.mql_parse.specs.TokenReading as reading
 use Rattle.mql_parse.specs.Folds as folds
 use Rattle.mql_parse.specs.Steadiness.{here, next, Steady, SteadyTurn}
 use Rattle.mql_parse.proofs.ListSound.{names_turn_behind, aggregates_turn_behind}
-use Rattle.mql_parse.proofs.Steady.{steady_from, steady_to, steady_ok, steady_unexpected, steady_bind, steady_map, steady_behind_pass, sign_next, steady_up_to, head_test, next_test, steady_if, steady_skip, steady_behind, steady_behind_skip, steady_part_behind, steady_next}
-use Rattle.mql_parse.proofs.TurnSteady.{turn_done, turn_again, turn_from, turn_if, turn_behind_skip, turn_on_read, list_turn_steady, steady_repetition}
+use Rattle.mql_parse.proofs.Steady.{steady_from, steady_to, steady_ok, steady_unexpected, steady_bind, steady_map}
+use Rattle.mql_parse.proofs.Steady.{steady_behind_pass, sign_next, steady_up_to, head_test, next_test, steady_if}
+use Rattle.mql_parse.proofs.Steady.{steady_skip, steady_behind, steady_behind_skip, steady_part_behind, steady_next}
+use Rattle.mql_parse.proofs.TurnSteady.{turn_done, turn_again, turn_from, turn_if, turn_behind_skip, turn_on_read}
+use Rattle.mql_parse.proofs.TurnSteady.{list_turn_steady, steady_repetition}
 use Rattle.mql_parse.proofs.TokenSteady.{exact_steady, name_next}
 
 pub names_steady : Steady next here folds.names

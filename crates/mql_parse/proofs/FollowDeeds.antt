@@ -16,9 +16,13 @@ use Rattle.mql_parse.specs.Folds as folds
 use Rattle.mql_parse.specs.PipeReading as pipes
 use Rattle.mql_parse.specs.Steadiness.{here, next}
 use Rattle.mql_parse.proofs.PipeSound.{operation_turn_behind}
-use Rattle.mql_parse.proofs.Follows.{Swap, Any, Follows, FollowsPass, follows_unexpected, follows_from, follows_to, follows_then, follows_map, follows_map_by, follows_behind_pass, follows_passes, follows_skip, taken, follows_taken, follows_here, sign_follows, up_to_follows}
-use Rattle.mql_parse.proofs.FollowTurns.{FollowsTurn, follows_done, follows_again, turn_follows_from, turn_follows_if, turn_next_taken, follows_on_read, repetition_follows}
-use Rattle.mql_parse.proofs.FollowTokens.{no_counts, exact_follows, apart_follows, positive_next_follows, duration_follows}
+use Rattle.mql_parse.proofs.Follows.{Swap, Any, Follows, FollowsPass, follows_unexpected, follows_from, follows_to}
+use Rattle.mql_parse.proofs.Follows.{follows_then, follows_map, follows_map_by, follows_behind_pass, follows_passes}
+use Rattle.mql_parse.proofs.Follows.{follows_skip, taken, follows_taken, follows_here, sign_follows, up_to_follows}
+use Rattle.mql_parse.proofs.FollowTurns.{FollowsTurn, follows_done, follows_again, turn_follows_from, turn_follows_if}
+use Rattle.mql_parse.proofs.FollowTurns.{turn_next_taken, follows_on_read, repetition_follows}
+use Rattle.mql_parse.proofs.FollowTokens.{no_counts, exact_follows, apart_follows, positive_next_follows}
+use Rattle.mql_parse.proofs.FollowTokens.{duration_follows}
 use Rattle.mql_parse.proofs.FollowSums.{constant_tests, items_follows}
 use Rattle.mql_parse.proofs.FollowPredicates.{SameBar, predicate_follows}
 use Rattle.mql_parse.proofs.FollowFolds.{name_any, names_follows, aggregates_follows}

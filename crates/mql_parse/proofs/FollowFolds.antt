@@ -13,8 +13,12 @@ use Rattle.mql_parse.specs.TokenReading as reading
 use Rattle.mql_parse.specs.Folds as folds
 use Rattle.mql_parse.specs.Steadiness.{here, next}
 use Rattle.mql_parse.proofs.ListSound.{names_turn_behind, aggregates_turn_behind}
-use Rattle.mql_parse.proofs.Follows.{Swap, Any, Follows, follows_ok, ok_any, follows_unexpected, follows_to, follows_bind, follows_map, follows_any, follows_behind_pass, follows_skip, taken, behind_taken, part_taken, follows_taken, next_taken, follows_next, sign_follows, up_to_follows}
-use Rattle.mql_parse.proofs.FollowTurns.{FollowsTurn, follows_done, follows_again, turn_follows_from, turn_next_taken, follows_on_read, list_turn_follows, repetition_follows}
+use Rattle.mql_parse.proofs.Follows.{Swap, Any, Follows, follows_ok, ok_any, follows_unexpected, follows_to}
+use Rattle.mql_parse.proofs.Follows.{follows_bind, follows_map, follows_any, follows_behind_pass, follows_skip, taken}
+use Rattle.mql_parse.proofs.Follows.{behind_taken, part_taken, follows_taken, next_taken, follows_next, sign_follows}
+use Rattle.mql_parse.proofs.Follows.{up_to_follows}
+use Rattle.mql_parse.proofs.FollowTurns.{FollowsTurn, follows_done, follows_again, turn_follows_from, turn_next_taken}
+use Rattle.mql_parse.proofs.FollowTurns.{follows_on_read, list_turn_follows, repetition_follows}
 use Rattle.mql_parse.proofs.FollowTokens.{no_counts, AlikeNames, name_itself, exact_follows, name_next}
 
 -- a name of which nothing is asked further on

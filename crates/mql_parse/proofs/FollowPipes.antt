@@ -15,8 +15,12 @@ use Rattle.mql_parse.specs.PipeReading as pipes
 use Rattle.mql_parse.specs.Steadiness.{here, next}
 use Rattle.mql_parse.proofs.PipeSound.{branch_turn_behind}
 use Rattle.mql_parse.proofs.PipeSteady.{behind_fetch}
-use Rattle.mql_parse.proofs.Follows.{Swap, Any, Follows, Taken, ok_any, follows_fault, follows_unexpected, follows_from, follows_to, follows_then, follows_map, follows_behind_pass, follows_skip, taken, follows_taken, next_taken, follows_here, follows_next, sign_follows, part_taken}
-use Rattle.mql_parse.proofs.FollowTurns.{FollowsTurn, follows_done, follows_again, follows_stuck, turn_follows_from, turn_follows_skip, turn_next_taken, follows_on_read, repetition_follows}
+use Rattle.mql_parse.proofs.Follows.{Swap, Any, Follows, Taken, ok_any, follows_fault, follows_unexpected}
+use Rattle.mql_parse.proofs.Follows.{follows_from, follows_to, follows_then, follows_map, follows_behind_pass}
+use Rattle.mql_parse.proofs.Follows.{follows_skip, taken, follows_taken, next_taken, follows_here, follows_next}
+use Rattle.mql_parse.proofs.Follows.{sign_follows, part_taken}
+use Rattle.mql_parse.proofs.FollowTurns.{FollowsTurn, follows_done, follows_again, follows_stuck, turn_follows_from}
+use Rattle.mql_parse.proofs.FollowTurns.{turn_follows_skip, turn_next_taken, follows_on_read, repetition_follows}
 use Rattle.mql_parse.proofs.FollowTokens.{no_counts, exact_follows, apart_follows, metric_follows}
 use Rattle.mql_parse.proofs.FollowFolds.{name_any}
 use Rattle.mql_parse.proofs.FollowDeeds.{operations_follows}

@@ -1,5 +1,6 @@
 -- Predicates behind a number.
-use Rattle.std.proofs.Common.{◌≡◌, ℕ, zero, suc, Bool, true, false, ◌==◌, ◌||◌, List, codes, refl, subst, if◌then◌else◌, Ok, Err}
+use Rattle.std.proofs.Common.{◌≡◌, ℕ, zero, suc, Bool, true, false, ◌==◌, ◌||◌, List, codes, refl, subst}
+use Rattle.std.proofs.Common.{if◌then◌else◌, Ok, Err}
 use Rattle.mon_value.specs.Answers.{◌>>=◌}
 use Rattle.mon_value.specs.declared.values.FieldValue.TheVariants as field
 use Rattle.mql_ast.specs.declared.names.Name.{Name}
@@ -20,9 +21,15 @@ use Rattle.mql_parse.specs.PredicateReading.{Compared, WithValue, WithPattern, D
 use Rattle.mql_parse.specs.Steadiness.{here, next}
 use Rattle.mql_parse.proofs.PredicateSound.{and_turn_behind, or_turn_behind}
 use Rattle.mql_parse.proofs.PipeSound.{filter_turn_behind}
-use Rattle.mql_parse.proofs.Follows.{Swap, counts, Any, Follows, Taken, follows_ok, ok_any, follows_fault, follows_unexpected, follows_from, follows_to, follows_bind, follows_then, follows_map, follows_behind_pass, next_tests, follows_if, follows_skip, taken, behind_taken, part_taken, follows_taken, next_taken, follows_next, sign_here, up_to_follows}
-use Rattle.mql_parse.proofs.FollowTurns.{FollowsTurn, follows_done, follows_stuck, turn_follows_from, follows_goes_on, turn_taken, turn_next_taken, repetition_follows}
-use Rattle.mql_parse.proofs.FollowTokens.{no_counts, AlikeNames, name_itself, exact_follows, word_follows, signed_follows, blind_letter}
+use Rattle.mql_parse.proofs.Follows.{Swap, counts, Any, Follows, Taken, follows_ok, ok_any, follows_fault}
+use Rattle.mql_parse.proofs.Follows.{follows_unexpected, follows_from, follows_to, follows_bind, follows_then}
+use Rattle.mql_parse.proofs.Follows.{follows_map, follows_behind_pass, next_tests, follows_if, follows_skip, taken}
+use Rattle.mql_parse.proofs.Follows.{behind_taken, part_taken, follows_taken, next_taken, follows_next, sign_here}
+use Rattle.mql_parse.proofs.Follows.{up_to_follows}
+use Rattle.mql_parse.proofs.FollowTurns.{FollowsTurn, follows_done, follows_stuck, turn_follows_from, follows_goes_on}
+use Rattle.mql_parse.proofs.FollowTurns.{turn_taken, turn_next_taken, repetition_follows}
+use Rattle.mql_parse.proofs.FollowTokens.{no_counts, AlikeNames, name_itself, exact_follows, word_follows}
+use Rattle.mql_parse.proofs.FollowTokens.{signed_follows, blind_letter}
 use Rattle.mql_parse.proofs.FollowQuotes.{text_follows, pattern_follows}
 use Rattle.mql_parse.proofs.FollowSums.{blind_start}
 
@@ -254,7 +261,8 @@ filter_turn_follows : (x : Swap) (part : Rest → Outcome PredicateTree) → Fol
     FollowsTurn x next SameBar (predicates.filter_turn part one) (predicates.filter_turn part two)
 unfolding predicates.filter_turn
 filter_turn_follows x part k one two =
-    turn_next_taken x 124 SameBar (second one) (second two) (λ s. Done (one.0, false) s) (λ s. Done (two.0, false) s) refl
+    turn_next_taken x 124 SameBar (second one) (second two) (λ s. Done (one.0, false) s) (λ s. Done (two.0, false) s)
+    refl
     (turn_taken x 124 SameBar (λ u. goes_on (join one) (part u)) (λ u. goes_on (join two) (part u))
     (λ u. Done (one.0, true) u) (λ u. Done (two.0, true) u) refl
     (follows_goes_on x here SameBar (join one) (join two) part part (λ c d. refl)
@@ -280,4 +288,5 @@ predicate_follows x d =
     follows_then x next next next SameBar (predicates.conjunction d) (predicates.conjunction d) on on
     (conjunction_follows x d)
     (λ a b. repetition_follows x SameBar turn (filter_turn_behind d) (λ c. refl)
-    (λ c e g. filter_turn_follows x (predicates.conjunction d) (conjunction_follows x d) c e) (a, false) (b, false) refl)
+    (λ c e g. filter_turn_follows x (predicates.conjunction d) (conjunction_follows x d) c e) (a, false) (b, false)
+    refl)

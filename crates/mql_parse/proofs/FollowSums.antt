@@ -17,9 +17,14 @@ use Rattle.mql_parse.specs.SumReading.{SumSeen, seen_sum, is_percentile}
 use Rattle.mql_parse.specs.Steadiness.{here, next}
 use Rattle.mql_parse.proofs.SumSound.{term_turn_behind}
 use Rattle.mql_parse.proofs.ListSound.{items_turn_behind}
-use Rattle.mql_parse.proofs.Follows.{Swap, Blind, Any, Follows, Taken, ok_any, follows_fault, follows_unexpected, follows_from, follows_to, follows_bind, follows_then, follows_map, follows_behind_pass, AlikeTests, next_tests, follows_if, follows_skip, taken, part_taken, next_taken, follows_next, sign_follows}
-use Rattle.mql_parse.proofs.FollowTurns.{FollowsTurn, follows_done, follows_goes_on, turn_next_taken, list_turn_follows, repetition_follows}
-use Rattle.mql_parse.proofs.FollowTokens.{AlikeNames, name_itself, word_follows, name_next, positive_next_follows, signed_follows, blind_letter}
+use Rattle.mql_parse.proofs.Follows.{Swap, Blind, Any, Follows, Taken, ok_any, follows_fault, follows_unexpected}
+use Rattle.mql_parse.proofs.Follows.{follows_from, follows_to, follows_bind, follows_then, follows_map}
+use Rattle.mql_parse.proofs.Follows.{follows_behind_pass, AlikeTests, next_tests, follows_if, follows_skip, taken}
+use Rattle.mql_parse.proofs.Follows.{part_taken, next_taken, follows_next, sign_follows}
+use Rattle.mql_parse.proofs.FollowTurns.{FollowsTurn, follows_done, follows_goes_on, turn_next_taken}
+use Rattle.mql_parse.proofs.FollowTurns.{list_turn_follows, repetition_follows}
+use Rattle.mql_parse.proofs.FollowTokens.{AlikeNames, name_itself, word_follows, name_next, positive_next_follows}
+use Rattle.mql_parse.proofs.FollowTokens.{signed_follows, blind_letter}
 
 percentile_follows : (x : Swap) (m n : ℕ) → Follows x next next Any (sums.percentile m) (sums.percentile n)
 unfolding sums.percentile

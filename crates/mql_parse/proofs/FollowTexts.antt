@@ -1,5 +1,6 @@
 -- Where a byte could stand behind a smaller number, the number is too large.
-use Rattle.std.proofs.Common.{◌≡◌, ◌⊎◌, inl, inr, ℕ, ◌+◌, ◌≤◌, Bool, true, false, ◌==◌, List, [], ◌∷◌, ◌++◌, length, refl, sym, ap, ◌∙◌, arith, if◌then◌else◌, append_assoc, Result, Ok, Err}
+use Rattle.std.proofs.Common.{◌≡◌, ◌⊎◌, inl, inr, ℕ, ◌+◌, ◌≤◌, Bool, true, false, ◌==◌, List, [], ◌∷◌, ◌++◌, length}
+use Rattle.std.proofs.Common.{refl, sym, ap, ◌∙◌, arith, if◌then◌else◌, append_assoc, Result, Ok, Err}
 use Rattle.std.proofs.lemmas.Bool.{false≢true, eqb-true}
 use Rattle.std.proofs.lemmas.Bool.Decides.{nat_tests}
 use Rattle.mon_value.specs.Answers.{◌>>=◌}
@@ -81,7 +82,8 @@ query_too_large d x text other tree f c e place done =
 
     by_tests : (t u : Bool) → ((skip (start text)).at == 0) ≡ t → u ≡ t →
         (if t then (pipe d (start text) >>= query_end) else Err (fault (Expected what.Fetch) (start text))) ≡ Err f →
-        (if u then (pipe d (start other) >>= query_end) else Err (fault (Expected what.Fetch) (start other))) ≡ Ok tree →
+        (if u then (pipe d (start other) >>= query_end) else Err (fault (Expected what.Fetch) (start other))) ≡ Ok tree
+        →
         f.kind ≡ NumberTooLarge
     by_tests true true k h g q =
         let first : (skip (start text)).at ≡ 0 = eqb-true (skip (start text)).at 0 k in

@@ -1,5 +1,7 @@
 -- Tokens in front of a number, with it and behind it.
-use Rattle.std.proofs.Common.{◌≡◌, ◌⊎◌, inl, inr, ℕ, ℤ, pos, ◌+◌, ◌-◌, ◌*◌, ◌^◌, ◌≤◌, Bool, true, false, ◌==◌, ◌&&◌, not, nat_le, nat_eq, List, [], ◌∷◌, ◌++◌, length, codes, refl, sym, ap, ◌∙◌, subst, arith, if◌then◌else◌, Option, Some, None, Ok, Err}
+use Rattle.std.proofs.Common.{◌≡◌, ◌⊎◌, inl, inr, ℕ, ℤ, pos, ◌+◌, ◌-◌, ◌*◌, ◌^◌, ◌≤◌, Bool, true, false, ◌==◌, ◌&&◌}
+use Rattle.std.proofs.Common.{not, nat_le, nat_eq, List, [], ◌∷◌, ◌++◌, length, codes, refl, sym, ap, ◌∙◌, subst}
+use Rattle.std.proofs.Common.{arith, if◌then◌else◌, Option, Some, None, Ok, Err}
 use Rattle.std.specs.Cmp.Lexicographic.{pointwise}
 use Rattle.std.proofs.lemmas.Bool.{false≢true}
 use Rattle.std.proofs.lemmas.Bool.Decides.{nat_tests}
@@ -21,10 +23,15 @@ use Rattle.mql_parse.specs.Folds.{fold_of}
 use Rattle.mql_parse.specs.Steadiness.{here, next, Reaches, unit_read}
 use Rattle.mql_parse.proofs.SumSound.{same_word}
 use Rattle.mql_parse.proofs.Steady.{unit_if}
-use Rattle.mql_parse.proofs.TokenSteady.{word_on, word_steady, metric_from_steady, digits_steady, positive_steady, units_steady}
+use Rattle.mql_parse.proofs.TokenSteady.{word_on, word_steady, metric_from_steady, digits_steady, positive_steady}
+use Rattle.mql_parse.proofs.TokenSteady.{units_steady}
 use Rattle.mql_parse.proofs.Firsts.{Failed}
 use Rattle.mql_parse.proofs.Swaps.{numbered, with_one, rest_at, ahead, at_byte, over_pair, false_unless}
-use Rattle.mql_parse.proofs.Follows.{Swap, counts, Pair, Blind, skip_pair, Any, ReadToo, FollowsIn, Follows, FollowsPass, beyond, where_failed, ok_any, follows_unexpected, follows_by, follows_to, follows_then, follows_map, follows_behind_pass, if_follows, head_tests, follows_if, follows_skip, behind_taken, follows_taken, next_taken, follows_here, part_taken}
+use Rattle.mql_parse.proofs.Follows.{Swap, counts, Pair, Blind, skip_pair, Any, ReadToo, FollowsIn, Follows}
+use Rattle.mql_parse.proofs.Follows.{FollowsPass, beyond, where_failed, ok_any, follows_unexpected, follows_by}
+use Rattle.mql_parse.proofs.Follows.{follows_to, follows_then, follows_map, follows_behind_pass, if_follows}
+use Rattle.mql_parse.proofs.Follows.{head_tests, follows_if, follows_skip, behind_taken, follows_taken, next_taken}
+use Rattle.mql_parse.proofs.Follows.{follows_here, part_taken}
 
 -- words of letters and signs
 abbrev pub no_counts : List ℕ → Bool
@@ -297,7 +304,8 @@ module _ (x : Swap) where
   metric_end false m n bs cs c = λ l. inr ([], (rest_at n cs, (refl, (c, tt))))
 
   metric_at_byte : (after : Bool) (m n : ℕ) → m ≡ x.at →
-      FollowsIn x here Any (reading.metric_from after m (x.byte ∷ x.after)) (reading.metric_from after n (x.byte ∷ x.more))
+      FollowsIn x here Any (reading.metric_from after m (x.byte ∷ x.after))
+      (reading.metric_from after n (x.byte ∷ x.more))
   metric_at_byte after m n h =
       if_follows x here Any (is_metric_byte x.byte) (is_metric_byte x.byte) _ _ _ _ refl
       (λ _. metric_beyond x.byte false m x.after _ h)
@@ -446,7 +454,8 @@ module _ (x : Swap) (most : ℕ) where
       else Err (unexpected what.Number t)
 
   from_digit_ahead : (common : List ℕ) (m n : ℕ) → m + length common + 1 + length x.digits ≡ x.at →
-      FollowsIn x here Any (from_digit (rest_at m (common ++ numbered x))) (from_digit (rest_at n (common ++ with_one x)))
+      FollowsIn x here Any (from_digit (rest_at m (common ++ numbered x)))
+      (from_digit (rest_at n (common ++ with_one x)))
   from_digit_ahead [] m n h =
       subst (λ t. FollowsIn x here Any (if t then reading.digits most (x.digit - 48) (m + 1)
       (x.digits ++ x.byte ∷ x.after) else Err (unexpected what.Number (rest_at m (numbered x))))

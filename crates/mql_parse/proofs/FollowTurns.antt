@@ -1,11 +1,13 @@
 -- Turns behind a number, and readers that take them.
-use Rattle.std.proofs.Common.{◌≡◌, ◌⊎◌, inl, inr, ℕ, zero, suc, ◌<◌, ◌≤◌, Bool, true, false, ◌==◌, List, [], ◌∷◌, ◌++◌, length, refl, sym, ap, subst, arith, if◌then◌else◌, Ok, Err}
+use Rattle.std.proofs.Common.{◌≡◌, ◌⊎◌, inl, inr, ℕ, zero, suc, ◌<◌, ◌≤◌, Bool, true, false, ◌==◌, List, [], ◌∷◌, ◌++◌}
+use Rattle.std.proofs.Common.{length, refl, sym, ap, subst, arith, if◌then◌else◌, Ok, Err}
 use Rattle.std.proofs.lemmas.Bool.{cases_lt, eqb-true}
 use Rattle.mql_ast.specs.Rests.{Rest, head, behind, skip}
 use Rattle.mql_parse.specs.declared.faults.ParseKind.TheVariants.{NumberTooLarge}
 use Rattle.mql_parse.specs.declared.faults.What.{What}
 use Rattle.mql_parse.specs.Outcomes.{Outcome, unexpected}
-use Rattle.mql_parse.specs.Repeats.{Turn, Done, Again, Stuck, turn_outcome, goes_on, repetition, list_or_end, on_read, list_turn}
+use Rattle.mql_parse.specs.Repeats.{Turn, Done, Again, Stuck, turn_outcome, goes_on, repetition, list_or_end, on_read}
+use Rattle.mql_parse.specs.Repeats.{list_turn}
 use Rattle.mql_parse.specs.Behind.{Behind}
 use Rattle.mql_parse.specs.Soundness.{OfTurn}
 use Rattle.mql_parse.specs.Steadiness.{here, next, Reaches, TurnReaches}
@@ -15,7 +17,8 @@ use Rattle.mql_parse.proofs.Sound.{repeated_turn}
 use Rattle.mql_parse.proofs.Steady.{skip_on, behind_on, reaches_before}
 use Rattle.mql_parse.proofs.TurnSteady.{turn_reaches_before}
 use Rattle.mql_parse.proofs.Firsts.{Failed}
-use Rattle.mql_parse.proofs.Follows.{Swap, counts, Pair, blind_sign, head_alike, skip_pair, behind_pair, Any, ReadToo, FollowsIn, Follows, beyond, where_failed, AlikeTests, next_tests}
+use Rattle.mql_parse.proofs.Follows.{Swap, counts, Pair, blind_sign, head_alike, skip_pair, behind_pair, Any, ReadToo}
+use Rattle.mql_parse.proofs.Follows.{FollowsIn, Follows, beyond, where_failed, AlikeTests, next_tests}
 
 abbrev pub FailedTurn : {A : Type 0} → Turn A → Type 0
 FailedTurn (Done a r) = ⊥

@@ -1,5 +1,7 @@
--- Where reading is at fault behind a number, the text with 1 in its place is refused too, unless the number is too large.
-use Rattle.std.proofs.Common.{◌≡◌, ◌⊎◌, inl, inr, ℕ, ◌<◌, ◌≤◌, Bool, true, false, ◌==◌, refl, sym, subst, arith, if◌then◌else◌, Result, Ok, Err}
+-- Where reading is at fault behind a number, the text with 1 in its place is refused too, unless the number is too
+-- large.
+use Rattle.std.proofs.Common.{◌≡◌, ◌⊎◌, inl, inr, ℕ, ◌<◌, ◌≤◌, Bool, true, false, ◌==◌, refl, sym, subst, arith}
+use Rattle.std.proofs.Common.{if◌then◌else◌, Result, Ok, Err}
 use Rattle.std.proofs.lemmas.Bool.{cases_lt, eqb-true}
 use Rattle.mon_value.specs.Answers.{◌>>=◌}
 use Rattle.mql_ast.specs.Rests.{Rest, head, behind, skip}
@@ -148,7 +150,8 @@ pub follows_then : {A B : Type 0} (x : Swap) (from mid to : Rest → ℕ) (H : B
 follows_then x from mid to H read other on on' f g =
     follows_bind x from mid to Any H read other on on' (λ a. tt) f (λ a b k. g a b)
 
-pub follows_map_by : {A B : Type 0} (x : Swap) (from to : Rest → ℕ) (G : A → A → Type 0) (H : B → B → Type 0) (f g : A → B)
+pub follows_map_by : {A B : Type 0} (x : Swap) (from to : Rest → ℕ) (G : A → A → Type 0) (H : B → B → Type 0)
+    (f g : A → B)
     (read other : Rest → Outcome A) → ((a : A) → G a a) → ((a b : A) → G a b → H (f a) (g b)) →
     Follows x from to G read other → Follows x from to H (λ s. map_outcome f (read s)) (λ s. map_outcome g (other s))
 follows_map_by x from to G H f g read other itself h k =
@@ -156,7 +159,8 @@ follows_map_by x from to G H f g read other itself h k =
     (λ a b e. follows_ok x to H (f a) (g b) (h a b e))
 
 pub follows_map : {A B : Type 0} (x : Swap) (from to : Rest → ℕ) (f g : A → B) (read other : Rest → Outcome A) →
-    Follows x from to Any read other → Follows x from to Any (λ s. map_outcome f (read s)) (λ s. map_outcome g (other s))
+    Follows x from to Any read other → Follows x from to Any (λ s. map_outcome f (read s))
+    (λ s. map_outcome g (other s))
 follows_map x from to f g read other k =
     follows_then x from to to Any read other (λ y. Ok (f y.0, y.1)) (λ y. Ok (g y.0, y.1)) k
     (λ a b. ok_any x to (f a) (g b))
@@ -253,7 +257,8 @@ behind_follows x to G read other k s t c n = either (cases_lt x.at (behind s).at
     either (inl l) = beyond x to G (behind s).at (read (behind s)) (other (behind t)) (k.reaches (behind s)) l
     either (inr l) = k.follows (behind s) (behind t) (behind_pair x s t c n l) l
 
-pub behind_taken : {A : Type 0} (x : Swap) (b : ℕ) (to : Rest → ℕ) (G : A → A → Type 0) (read other : Rest → Outcome A) →
+pub behind_taken : {A : Type 0} (x : Swap) (b : ℕ) (to : Rest → ℕ) (G : A → A → Type 0) (read other : Rest → Outcome A)
+    →
     counts b ≡ false → Follows x here to G read other →
     Taken x b to G (λ s. read (behind s)) (λ s. other (behind s))
 behind_taken x b to G read other n k = record {

@@ -1,5 +1,7 @@
 -- What stands before a fault begins some query text.
-use Rattle.std.proofs.Common.{◌≡◌, ℕ, ◌+◌, ◌<◌, ◌≤◌, Bool, true, false, ◌==◌, List, [], ◌∷◌, ◌++◌, length, take, codes, refl, sym, ap, ◌∙◌, subst, arith, if◌then◌else◌, append_assoc, length-append, Result, Ok, Err}
+use Rattle.std.proofs.Common.{◌≡◌, ℕ, ◌+◌, ◌<◌, ◌≤◌, Bool, true, false, ◌==◌, List, [], ◌∷◌, ◌++◌, length, take, codes}
+use Rattle.std.proofs.Common.{refl, sym, ap, ◌∙◌, subst, arith, if◌then◌else◌, append_assoc, length-append, Result, Ok}
+use Rattle.std.proofs.Common.{Err}
 use Rattle.std.proofs.Math.Seq.{take-append_seam}
 use Rattle.std.proofs.lemmas.List.{append-nil}
 use Rattle.std.proofs.lemmas.Bool.{eqb-true}
@@ -16,12 +18,14 @@ use Rattle.mql_parse.specs.Outcomes.{Outcome, fault, unexpected}
 use Rattle.mql_parse.specs.FaultDepths.{SpellsWithin, BeginsWithin}
 use Rattle.mql_parse.specs.PipeReading as pipes
 use Rattle.mql_parse.proofs.RestLemmas.{skip_off}
-use Rattle.mql_parse.proofs.Endings.{Cut, Smaller, IfTooLarge, if_too_large, Comes, IfExpected, expected_by, Finish, EndsIn, behind_read, finish_before}
+use Rattle.mql_parse.proofs.Endings.{Cut, Smaller, IfTooLarge, if_too_large, Comes, IfExpected, expected_by, Finish}
+use Rattle.mql_parse.proofs.Endings.{EndsIn, behind_read, finish_before}
 use Rattle.mql_parse.proofs.TokenEndings.{at_place, skip_over, skip_cut, wrong}
 use Rattle.mql_parse.proofs.NumberEndings.{duration_default}
 use Rattle.mql_parse.proofs.ListEndings.{folding_default}
 use Rattle.mql_parse.proofs.FirstFaults.{FetchAt, FetchFirst, pipe_first}
-use Rattle.mql_parse.proofs.PipeEndings.{in_fetch, Longer, PipeSeen, PipeText, pipe_ends, pipe_default, one_more_operation}
+use Rattle.mql_parse.proofs.PipeEndings.{in_fetch, Longer, PipeSeen, PipeText, pipe_ends, pipe_default}
+use Rattle.mql_parse.proofs.PipeEndings.{one_more_operation}
 
 -- fronts of what begins a text begin it too
 pub shorter_begins : (d : ℕ) (v w : List ℕ) → BeginsWithin d (v ++ w) → BeginsWithin d v

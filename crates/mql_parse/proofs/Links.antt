@@ -1,14 +1,18 @@
 -- Each token is read exactly where the grammar has it.
-use Rattle.std.proofs.Common.{◌≡◌, ℕ, pos, ◌+◌, ◌-◌, ◌*◌, ◌^◌, Bool, true, false, ◌==◌, ◌&&◌, not, nat_le, List, [], ◌∷◌, ◌++◌, codes, refl, ap, ◌∙◌, if◌then◌else◌, Option, Some, None, option_and_then, Result, Ok, Err}
+use Rattle.std.proofs.Common.{◌≡◌, ℕ, pos, ◌+◌, ◌-◌, ◌*◌, ◌^◌, Bool, true, false, ◌==◌, ◌&&◌, not, nat_le, List, []}
+use Rattle.std.proofs.Common.{◌∷◌, ◌++◌, codes, refl, ap, ◌∙◌, if◌then◌else◌, Option, Some, None, option_and_then}
+use Rattle.std.proofs.Common.{Result, Ok, Err}
 use Rattle.std.specs.Result.{result_ok}
 use Rattle.mon_value.specs.Answers.{◌>>=◌}
 use Rattle.mon_value.specs.Texts.{text_in}
 use Rattle.mql_ast.specs.Bytes.{is_letter, is_digit, is_metric_byte}
 use Rattle.mql_ast.specs.Rests.{Rest, head, behind, skip}
 use Rattle.mql_ast.specs.Tokens as grammar
-use Rattle.mql_ast.specs.Tokens.{word_here, metric_name, minus, unit_seconds, longest}
+use Rattle.mql_ast.specs.Tokens.{word_here, minus, unit_seconds, longest}
 use Rattle.mql_ast.specs.Quotes as quotes
-use Rattle.mql_ast.specs.Quotes.{Open, Whole, TextStep, TextEnd, TextPass, TextKeep, TextBad, text_step, Sign, Plain, PatternStep, PatternEnd, PatternCut, PatternPass, PatternKeep, PatternUnfit, PatternBad, pattern_step}
+use Rattle.mql_ast.specs.Quotes.{Open, Whole, TextStep, TextEnd, TextPass, TextKeep, TextBad, text_step, Sign, Plain}
+use Rattle.mql_ast.specs.Quotes.{PatternStep, PatternEnd, PatternCut, PatternPass, PatternKeep, PatternUnfit}
+use Rattle.mql_ast.specs.Quotes.{PatternBad, pattern_step}
 use Rattle.mql_parse.specs.declared.faults.ParseFault.{ParseFault}
 use Rattle.mql_parse.specs.declared.faults.What.{What}
 use Rattle.mql_parse.specs.declared.faults.What.TheVariants as what
@@ -41,9 +45,6 @@ past_links w [] s = refl
 past_links w (c ∷ cs) s =
     either_links (head s == c) (grammar.past cs (behind s)) None (exact w cs (behind s)) (Err (unexpected w s))
     (past_links w cs (behind s)) refl
-
-pub word_links : (w : What) (cs : List ℕ) (s : Rest) → grammar.word_at cs s ≡ result_ok (exact w cs (skip s))
-word_links w cs s = past_links w cs (skip s)
 
 pub name_links : (s : Rest) → grammar.name_at s ≡ result_ok (reading.name s)
 unfolding reading.name

@@ -1,5 +1,6 @@
 -- Lists of the grammar are read as their parts.
-use Rattle.std.proofs.Common.{◌≡◌, ℕ, Bool, true, false, ◌==◌, List, [], ◌∷◌, ◌++◌, codes, refl, ap, ◌∙◌, Option, Some, None, Ok}
+use Rattle.std.proofs.Common.{◌≡◌, ℕ, Bool, true, false, ◌==◌, List, [], ◌∷◌, ◌++◌, codes, refl, ap, ◌∙◌, Option, Some}
+use Rattle.std.proofs.Common.{None, Ok}
 use Rattle.mql_ast.specs.declared.names.Name.{Name}
 use Rattle.mql_ast.specs.declared.operations.Aggregate.{Aggregate}
 use Rattle.mql_ast.specs.declared.operations.FoldWord.{FoldWord}
@@ -9,7 +10,9 @@ use Rattle.mql_ast.specs.Bytes.{is_letter}
 use Rattle.mql_ast.specs.Rests.{Rest, head, behind, skip}
 use Rattle.mql_ast.specs.Tokens.{sign_at, word_at, past, name_at}
 use Rattle.mql_ast.specs.Grammar as grammar
-use Rattle.mql_ast.specs.Grammar.{NameList, one_name, more_names, Grouping, no_names, some_names, fold_named, Folded, counted, Folding, unnamed, named, FoldingList, one_folding, more_foldings, ItemOf, single, labelled, ItemList, one_item, more_items}
+use Rattle.mql_ast.specs.Grammar.{NameList, one_name, more_names, Grouping, no_names, some_names, fold_named, Folded}
+use Rattle.mql_ast.specs.Grammar.{counted, Folding, unnamed, named, FoldingList, one_folding, more_foldings, ItemOf}
+use Rattle.mql_ast.specs.Grammar.{single, labelled, ItemList, one_item, more_items}
 use Rattle.mql_parse.specs.declared.faults.What.{What}
 use Rattle.mql_parse.specs.declared.faults.What.TheVariants as what
 use Rattle.mql_parse.specs.Outcomes.{Outcome, sign, exact, up_to}
@@ -22,7 +25,8 @@ use Rattle.mql_parse.proofs.BehindLemmas.{behind_behind, sign_behind, name_behin
 use Rattle.mql_parse.proofs.Sound.{repeated_again}
 use Rattle.mql_parse.proofs.PredicateSound.{if_true, if_false}
 use Rattle.mql_parse.proofs.ListSound.{item_behind, folding_behind}
-use Rattle.mql_parse.proofs.Complete.{bound, mapped, up_to_read, sign_read, exact_read, name_read, ends_here, other_byte, not_that_byte, other_sign, first_past}
+use Rattle.mql_parse.proofs.Complete.{bound, mapped, up_to_read, sign_read, exact_read, name_read, ends_here}
+use Rattle.mql_parse.proofs.Complete.{other_byte, not_that_byte, other_sign, first_past}
 use Rattle.mql_parse.proofs.SumComplete.{name_taken, place_of_name, SumEnds, sum_ends_before, sum_read}
 
 -- a list whose parts are read

@@ -1,5 +1,7 @@
 -- What was read of a list before its fault can be completed.
-use Rattle.std.proofs.Common.{◌≡◌, ℕ, ◌+◌, true, false, ◌==◌, ◌⊎◌, inl, inr, List, [], ◌∷◌, ◌++◌, length, codes, refl, sym, ap, ◌∙◌, subst, arith, append_assoc, length-append, Option, Some, None, IfSome, Ok, Err}
+use Rattle.std.proofs.Common.{◌≡◌, ℕ, ◌+◌, true, false, ◌==◌, ◌⊎◌, inl, inr, List, [], ◌∷◌, ◌++◌, length, codes, refl}
+use Rattle.std.proofs.Common.{sym, ap, ◌∙◌, subst, arith, append_assoc, length-append, Option, Some, None, IfSome, Ok}
+use Rattle.std.proofs.Common.{Err}
 use Rattle.std.proofs.lemmas.List.{append-nil}
 use Rattle.mon_value.specs.Answers.{◌>>=◌}
 use Rattle.mql_ast.specs.declared.names.Name.{Name}
@@ -9,7 +11,9 @@ use Rattle.mql_ast.specs.declared.operations.FoldWord.TheVariants as fold
 use Rattle.mql_ast.specs.Trees.{ItemTree}
 use Rattle.mql_ast.specs.Rests.{Rest, head, behind, skip}
 use Rattle.mql_ast.specs.Grammar as grammar
-use Rattle.mql_ast.specs.Grammar.{NameList, one_name, more_names, fold_named, Folded, counted, Folding, unnamed, named, FoldingList, one_folding, more_foldings, ItemOf, single, labelled, ItemList, one_item, more_items}
+use Rattle.mql_ast.specs.Grammar.{NameList, one_name, more_names, fold_named, Folded, counted, Folding, unnamed, named}
+use Rattle.mql_ast.specs.Grammar.{FoldingList, one_folding, more_foldings, ItemOf, single, labelled, ItemList}
+use Rattle.mql_ast.specs.Grammar.{one_item, more_items}
 use Rattle.mql_parse.specs.declared.faults.What.{What}
 use Rattle.mql_parse.specs.declared.faults.What.TheVariants as what
 use Rattle.mql_parse.specs.Outcomes.{Outcome, unexpected, exact, sign, map_outcome, up_to}
@@ -19,9 +23,17 @@ use Rattle.mql_parse.specs.TokenReading as reading
 use Rattle.mql_parse.specs.SumReading as sums
 use Rattle.mql_parse.specs.Folds as folds
 use Rattle.mql_parse.proofs.ListSound.{names_turn_behind, items_turn_behind, aggregates_turn_behind, fold_of_sound}
-use Rattle.mql_parse.proofs.Endings.{Anyhow, Worded, Parted, Text, Then, join, changed, worded, anyhow, NoQuotes, no_quotes_on, Default, Cut, Finish, Ends, behind_read, Reads, stay, as_it_is, cut_as, cut_then, bind_ends, ends_as, done_ends, if_ends, TurnEnds, if_turns, on_read_ends, loop_ends}
-use Rattle.mql_parse.proofs.TokenFronts.{Fronts, WordOf, count_word, sum_word, min_word, max_word, mean_word, merge_word, aggregate_word}
-use Rattle.mql_parse.proofs.TokenEndings.{at_place, AreBlanks, blank_last, skip_cut, exact_ends, word_from, begun_here, wrong, IsSign, SignSpan, sign_text, sign_cut, sign_ends, sign_default, WordSpan, word_text, all_nonzero, NamedSpan, NameSpan, some_name, named_ends, name_ends, name_default, open_parenthesis, close_parenthesis, close_bracket, comma, colon}
+use Rattle.mql_parse.proofs.Endings.{Anyhow, Worded, Parted, Text, Then, join, changed, worded, anyhow, NoQuotes}
+use Rattle.mql_parse.proofs.Endings.{no_quotes_on, Default, Cut, Finish, Ends, behind_read, Reads, stay, as_it_is}
+use Rattle.mql_parse.proofs.Endings.{cut_as, cut_then, bind_ends, ends_as, done_ends, if_ends, TurnEnds, if_turns}
+use Rattle.mql_parse.proofs.Endings.{on_read_ends, loop_ends}
+use Rattle.mql_parse.proofs.TokenFronts.{Fronts, WordOf, count_word, sum_word, min_word, max_word, mean_word}
+use Rattle.mql_parse.proofs.TokenFronts.{merge_word, aggregate_word}
+use Rattle.mql_parse.proofs.TokenEndings.{at_place, AreBlanks, blank_last, skip_cut, exact_ends, word_from, begun_here}
+use Rattle.mql_parse.proofs.TokenEndings.{wrong, IsSign, SignSpan, sign_text, sign_cut, sign_ends, sign_default}
+use Rattle.mql_parse.proofs.TokenEndings.{WordSpan, word_text, all_nonzero, NamedSpan, NameSpan, some_name, named_ends}
+use Rattle.mql_parse.proofs.TokenEndings.{name_ends, name_default, open_parenthesis, close_parenthesis, close_bracket}
+use Rattle.mql_parse.proofs.TokenEndings.{comma, colon}
 use Rattle.mql_parse.proofs.SumEndings.{SumText, sum_ends}
 use Rattle.mql_parse.proofs.ValueEndings.{FirstByte, first_is, byte_is}
 use Rattle.mql_parse.proofs.Loops.{GoesBehind}
@@ -192,11 +204,13 @@ AnyFoldWord w = (f : FoldWord) × FoldWordText f w
 -- the rest of a fold's word
 fold_from : (f : FoldWord) (cs : List ℕ) → all_nonzero cs ≡ true → (s m : Rest) (v before : List ℕ) (b : ℕ)
     (begun : List ℕ) → s.bytes ≡ v ++ m.bytes → m.at ≡ s.at + length v → v ≡ before ++ b ∷ begun →
-    Fronts what.Aggregate (b ∷ begun) cs → IsBare what.Aggregate (b ∷ (begun ++ cs)) → FoldWordText f (v ++ cs) → Ends behind_read
+    Fronts what.Aggregate (b ∷ begun) cs → IsBare what.Aggregate (b ∷ (begun ++ cs)) → FoldWordText f (v ++ cs)
+    → Ends behind_read
     (λ x. FoldWordText x.0) AnyFoldWord s (folds.read_as f cs m)
 fold_from f cs nonzero s m v before b begun e p q u k h =
     done_ends s (exact what.Aggregate cs m) (λ r. (f, r))
-    (ends_as s (exact what.Aggregate cs m) (word_from what.Aggregate cs (λ e. cc) nonzero s m v before b begun e p q u k)
+    (ends_as s (exact what.Aggregate cs m) (word_from what.Aggregate cs (λ e. cc) nonzero s m v before b begun e p q u
+    k)
     (λ r u g. subst (FoldWordText f) (sym g) h) (λ u g. (f, subst (FoldWordText f) (sym g) h))) (λ r. refl)
     (λ r u g. g)
 
@@ -384,7 +398,11 @@ fold_call_ends at label fold.Aggregate s v f = named_fold_ends at label fold.Agg
 in_named_fold : (w : FoldWord) → (w ≡ fold.Count → ⊥) → (v : List ℕ) → Text Parted true (SignSpan 40) v →
     Default (λ u. FoldedText w (v ++ u))
 in_named_fold w h v f = let n = name_default in let e = sign_default 41 close_parenthesis refl in
-    record { text = n.text ++ e.text; plain = e.plain; is = folded_text w h v n.text e.text f (worded n.text n.is) e.is }
+    record {
+      text = n.text ++ e.text;
+      plain = e.plain;
+      is = folded_text w h v n.text e.text f (worded n.text n.is) e.is;
+    }
 
 in_fold : (w : FoldWord) (v : List ℕ) → Text Parted true (SignSpan 40) v → Default (λ u. FoldedText w (v ++ u))
 in_fold fold.Count v f = let e = sign_default 41 close_parenthesis refl in
@@ -473,7 +491,8 @@ bare_fold_ends at text m w f (Some g) h =
         let c = skip_cut m in
         let v = c.front ++ 10 ∷ [] in
         let d = in_fold g (v ++ 40 ∷ []) (sign_text 40 open_parenthesis v (blank_last c.front c.is)) in
-        begun_here {L = λ u. FoldingText (w ++ u)} what.OpenParenthesis m (skip m) c.front c.front [] 10 (40 ∷ []) d.text
+        begun_here {L = λ u. FoldingText (w ++ u)} what.OpenParenthesis m (skip m) c.front c.front [] 10 (40 ∷ [])
+        d.text
         c.bytes c.place (sym (append-nil c.front)) (refl, refl) tt
         (subst (λ t. FoldingText (w ++ t))
         (ap (λ t. t ++ d.text) (append_assoc c.front (10 ∷ []) (40 ∷ []))
@@ -484,8 +503,12 @@ pub aggregate_ends : (s : Rest) → Reads FoldingText s (folds.aggregate s)
 unfolding folds.aggregate
 aggregate_ends s =
     bind_ends s (reading.name s) _ (named_ends s)
-    (λ w f. record
-    { text = 58 ∷ counting; plain = (folded_default fold.Count).plain; is = counting_text w (58 ∷ []) f (sign_text 58 colon [] tt) })
+    (λ w f. record {
+      text = 58 ∷ counting;
+      plain = (folded_default fold.Count).plain;
+      is = counting_text w (58 ∷ []) f
+          (sign_text 58 colon [] tt);
+    })
     (λ x w f. let m = behind (skip x.1) in
     if_ends x.1 (head (skip x.1) == 58) (folds.labelled_fold x.0 m) _
     (λ h. cut_then x.1 m (folds.labelled_fold x.0 m) (sign_cut 58 colon x.1 h)
@@ -541,7 +564,12 @@ folding_default = record {
 
 pub aggregates_default : Default FoldingsText
 aggregates_default =
-    record { text = folding_default.text; plain = folding_default.plain; is = foldings_grown [] folding_default.text (inl refl) folding_default.is }
+    record {
+      text = folding_default.text;
+      plain = folding_default.plain;
+      is = foldings_grown [] folding_default.text
+          (inl refl) folding_default.is;
+    }
 
 -- one more aggregate behind others
 pub one_more_folding : (x z : List ℕ) → Then FoldingsSpan (Then (SignSpan 44) FoldingSpan) x z → FoldingsSpan x z

@@ -1,5 +1,6 @@
 -- Lists that are read are those of the grammar.
-use Rattle.std.proofs.Common.{◌≡◌, ℕ, Bool, true, false, ◌==◌, ◌⊎◌, inl, inr, List, [], ◌∷◌, ◌++◌, codes, refl, sym, ap, ◌∙◌, subst, if◌then◌else◌, Option, Some, None, Ok, Err, IfSome, nat_eq}
+use Rattle.std.proofs.Common.{◌≡◌, ℕ, Bool, true, false, ◌==◌, ◌⊎◌, inl, inr, List, [], ◌∷◌, ◌++◌, codes, refl, sym}
+use Rattle.std.proofs.Common.{ap, ◌∙◌, subst, if◌then◌else◌, Option, Some, None, Ok, Err, IfSome, nat_eq}
 use Rattle.std.specs.Result.{IfOk}
 use Rattle.std.specs.Cmp.Lexicographic.{pointwise}
 use Rattle.mon_value.specs.Answers.{◌>>=◌}
@@ -12,7 +13,9 @@ use Rattle.mql_ast.specs.Bytes.{is_letter}
 use Rattle.mql_ast.specs.Rests.{Rest, head, behind, skip}
 use Rattle.mql_ast.specs.Tokens.{sign_at, word_at, past, name_at, word_here}
 use Rattle.mql_ast.specs.Grammar as grammar
-use Rattle.mql_ast.specs.Grammar.{NameList, one_name, more_names, fold_named, Folded, counted, Folding, unnamed, named, FoldingList, one_folding, more_foldings, ItemOf, single, labelled, ItemList, one_item, more_items}
+use Rattle.mql_ast.specs.Grammar.{NameList, one_name, more_names, fold_named, Folded, counted, Folding, unnamed, named}
+use Rattle.mql_ast.specs.Grammar.{FoldingList, one_folding, more_foldings, ItemOf, single, labelled, ItemList}
+use Rattle.mql_ast.specs.Grammar.{one_item, more_items}
 use Rattle.mql_parse.specs.declared.faults.What.{What}
 use Rattle.mql_parse.specs.declared.faults.What.TheVariants as what
 use Rattle.mql_parse.specs.Outcomes.{Outcome, sign, exact, map_outcome, up_to, unexpected}
@@ -23,7 +26,8 @@ use Rattle.mql_parse.specs.Folds as folds
 use Rattle.mql_parse.specs.Behind.{Behind}
 use Rattle.mql_parse.specs.Soundness.{OfTurn}
 use Rattle.mql_parse.proofs.BehindLemmas.{behind_behind, sign_behind, name_behind, word_behind, chosen}
-use Rattle.mql_parse.proofs.Sound.{if_sound, bind_sound, sign_sound, exact_sound, name_sound, sign_here, changed_sound, repeated_sound, if_turn, if_ok_weaker}
+use Rattle.mql_parse.proofs.Sound.{if_sound, bind_sound, sign_sound, exact_sound, name_sound, sign_here, changed_sound}
+use Rattle.mql_parse.proofs.Sound.{repeated_sound, if_turn, if_ok_weaker}
 use Rattle.mql_parse.proofs.SumSound.{IsSum, sum_sound, sum_behind, same_word}
 use Rattle.mql_parse.proofs.PredicateSound.{if_true}
 

@@ -1,5 +1,7 @@
 -- What was read of a metric's name before its fault can be completed.
-use Rattle.std.proofs.Common.{◌≡◌, ℕ, ◌+◌, Bool, true, false, ◌==◌, ◌&&◌, not, List, [], ◌∷◌, ◌++◌, codes, refl, sym, ap, ◌∙◌, subst, arith, if◌then◌else◌, append_assoc, Some, None, option_and_then, Result, Ok, Err}
+use Rattle.std.proofs.Common.{◌≡◌, ℕ, ◌+◌, Bool, true, false, ◌==◌, ◌&&◌, not, List, [], ◌∷◌, ◌++◌, codes, refl, sym}
+use Rattle.std.proofs.Common.{ap, ◌∙◌, subst, arith, if◌then◌else◌, append_assoc, Some, None, option_and_then, Result}
+use Rattle.std.proofs.Common.{Ok, Err}
 use Rattle.std.proofs.lemmas.List.{append-nil}
 use Rattle.mon_value.specs.Answers.{◌>>=◌}
 use Rattle.mql_ast.specs.declared.names.Name.{Name}
@@ -15,7 +17,8 @@ use Rattle.mql_parse.specs.TokenReading as reading
 use Rattle.mql_parse.proofs.Endings.{Stops, Anyhow, Text, Default, Finish, Ends, Reads, done_ends}
 use Rattle.mql_parse.proofs.TextFronts.{MetricOpen, slash_open, metric_byte_open, metric_slash_open, open_metric}
 use Rattle.mql_parse.proofs.TokenHalts.{Halts, halted_unexpected, if_halts, halts_on, halts_map, halts_end}
-use Rattle.mql_parse.proofs.TokenEndings.{at_place, AreBlanks, outer_no_metric, equal_byte, first_cut, wrong, Token, word_text, WordSpan}
+use Rattle.mql_parse.proofs.TokenEndings.{at_place, AreBlanks, outer_no_metric, equal_byte, first_cut, wrong, Token}
+use Rattle.mql_parse.proofs.TokenEndings.{word_text, WordSpan}
 
 -- a metric's name from behind a slash or another of its bytes
 abbrev MetricText : Bool → List ℕ → Type 0

@@ -1,5 +1,7 @@
 -- What was read of a number before its fault can be completed.
-use Rattle.std.proofs.Common.{◌≡◌, ℕ, pos, ◌+◌, ◌-◌, ◌*◌, ◌^◌, Bool, true, false, ◌==◌, ◌&&◌, not, nat_le, List, [], ◌∷◌, ◌++◌, length, refl, sym, ap, ◌∙◌, subst, arith, if◌then◌else◌, append_assoc, length-append, Option, Some, None, option_and_then, Ok, Err}
+use Rattle.std.proofs.Common.{◌≡◌, ℕ, pos, ◌+◌, ◌-◌, ◌*◌, ◌^◌, Bool, true, false, ◌==◌, ◌&&◌, not, nat_le, List, []}
+use Rattle.std.proofs.Common.{◌∷◌, ◌++◌, length, refl, sym, ap, ◌∙◌, subst, arith, if◌then◌else◌, append_assoc}
+use Rattle.std.proofs.Common.{length-append, Option, Some, None, option_and_then, Ok, Err}
 use Rattle.std.proofs.lemmas.Bool.{false≢true}
 use Rattle.std.proofs.lemmas.List.{append-nil}
 use Rattle.std.proofs.lemmas.Bool.Decides.{nat_tests}
@@ -17,8 +19,12 @@ use Rattle.mql_parse.specs.FaultTokens.{IsWhole, IsBare}
 use Rattle.mql_parse.specs.TokenReading as reading
 use Rattle.mql_parse.proofs.RestLemmas.{skip_off}
 use Rattle.mql_parse.proofs.BehindLemmas.{sign_taken}
-use Rattle.mql_parse.proofs.Endings.{Worded, Parted, OpensAs, opens_on, Text, join, changed, worded, Default, Cut, Smaller, known_smaller, Comes, IfExpected, Finish, finish_as, cut_before, cut_as, Ends, behind_read, Reads, ends_before_it, cut_then, ends_as, done_ends, if_ends}
-use Rattle.mql_parse.proofs.TokenEndings.{at_place, and_first, AreBlanks, blank_last, blanks_open, skip_over, digit_not_blank, digit_in_word, outer_no_digit, byte_cut, first_cut, begun_here, wrong_spaced, SignSpan, minus_sign, sign_cut, Token}
+use Rattle.mql_parse.proofs.Endings.{Worded, Parted, OpensAs, opens_on, Text, join, changed, worded, Default, Cut}
+use Rattle.mql_parse.proofs.Endings.{Smaller, known_smaller, Comes, IfExpected, Finish, finish_as, cut_before, cut_as}
+use Rattle.mql_parse.proofs.Endings.{Ends, behind_read, Reads, ends_before_it, cut_then, ends_as, done_ends, if_ends}
+use Rattle.mql_parse.proofs.TokenEndings.{at_place, and_first, AreBlanks, blank_last, blanks_open, skip_over}
+use Rattle.mql_parse.proofs.TokenEndings.{digit_not_blank, digit_in_word, outer_no_digit, byte_cut, first_cut}
+use Rattle.mql_parse.proofs.TokenEndings.{begun_here, wrong_spaced, SignSpan, minus_sign, sign_cut, Token}
 
 -- digits behind others: the number that they make
 abbrev IsDigits : ℕ → ℕ → ℕ → List ℕ → Type 0

@@ -1,5 +1,6 @@
 -- What was read of an operation before its fault can be completed.
-use Rattle.std.proofs.Common.{◌≡◌, ℕ, ℤ, Bool, true, false, ◌==◌, ◌⊎◌, inl, inr, List, [], ◌∷◌, ◌++◌, codes, refl, sym, ◌∙◌, subst, append_assoc, Ok, Err}
+use Rattle.std.proofs.Common.{◌≡◌, ℕ, ℤ, Bool, true, false, ◌==◌, ◌⊎◌, inl, inr, List, [], ◌∷◌, ◌++◌, codes, refl, sym}
+use Rattle.std.proofs.Common.{◌∙◌, subst, append_assoc, Ok, Err}
 use Rattle.std.specs.Result.{IfOk}
 use Rattle.std.proofs.lemmas.Bool.{false≢true}
 use Rattle.mon_value.specs.declared.aligners.Aligner.TheVariants as aligner
@@ -17,13 +18,23 @@ use Rattle.mql_parse.specs.SumReading.{items}
 use Rattle.mql_parse.specs.PredicateReading as predicates
 use Rattle.mql_parse.specs.Folds as folds
 use Rattle.mql_parse.specs.PipeReading as pipes
-use Rattle.mql_parse.proofs.Endings.{Anyhow, Worded, Parted, OpensAs, Text, Then, join, changed, worded, unended, Default, both, default_as, Ends, behind_read, ends_known, Reads, ends_as, done_ends, then_ends, if_ends}
-use Rattle.mql_parse.proofs.TokenFronts.{WordOf, filter_word, align_word, group_by_word, value_word, top_word, every_word, within_word, delta_word, next_older_word}
-use Rattle.mql_parse.proofs.TokenEndings.{at_place, AreBlanks, all_nonzero, sign_text, wrong, SignSpan, sign_ends, sign_default, WordSpan, word_text, word_ends, SpacedSpan, spaced, Token, NameSpan, name_ends, name_default, open_parenthesis, close_parenthesis, open_bracket, comma}
+use Rattle.mql_parse.proofs.Endings.{Anyhow, Worded, Parted, OpensAs, Text, Then, join, changed, worded, unended}
+use Rattle.mql_parse.proofs.Endings.{Default, both, default_as, Ends, behind_read, ends_known, Reads, ends_as}
+use Rattle.mql_parse.proofs.Endings.{done_ends, then_ends, if_ends}
+use Rattle.mql_parse.proofs.TokenFronts.{WordOf, filter_word, align_word, group_by_word, value_word, top_word}
+use Rattle.mql_parse.proofs.TokenFronts.{every_word, within_word, delta_word, next_older_word}
+use Rattle.mql_parse.proofs.TokenEndings.{at_place, AreBlanks, all_nonzero, sign_text, wrong, SignSpan, sign_ends}
+use Rattle.mql_parse.proofs.TokenEndings.{sign_default, WordSpan, word_text, word_ends, SpacedSpan, spaced, Token}
+use Rattle.mql_parse.proofs.TokenEndings.{NameSpan, name_ends, name_default, open_parenthesis, close_parenthesis}
+use Rattle.mql_parse.proofs.TokenEndings.{open_bracket, comma}
 use Rattle.mql_parse.proofs.SpacedEndings.{Opening, word_spaced_ends}
-use Rattle.mql_parse.proofs.NumberEndings.{number_token, positive_ends, positive_default, duration_ends, duration_default}
-use Rattle.mql_parse.proofs.PredicateEndings.{predicate_opening, DisjunctionSpan, FilterSpan, predicate_ends, predicate_default}
-use Rattle.mql_parse.proofs.ListEndings.{InGrouping, grouping_span, names_ends, names_default, ItemsSpan, items_ends, items_default, FoldingSpan, FoldingsSpan, folding_default, one_more_folding, aggregates_ends, aggregates_default}
+use Rattle.mql_parse.proofs.NumberEndings.{number_token, positive_ends, positive_default, duration_ends}
+use Rattle.mql_parse.proofs.NumberEndings.{duration_default}
+use Rattle.mql_parse.proofs.PredicateEndings.{predicate_opening, DisjunctionSpan, FilterSpan, predicate_ends}
+use Rattle.mql_parse.proofs.PredicateEndings.{predicate_default}
+use Rattle.mql_parse.proofs.ListEndings.{InGrouping, grouping_span, names_ends, names_default, ItemsSpan, items_ends}
+use Rattle.mql_parse.proofs.ListEndings.{items_default, FoldingSpan, FoldingsSpan, folding_default, one_more_folding}
+use Rattle.mql_parse.proofs.ListEndings.{aggregates_ends, aggregates_default}
 use Rattle.mql_parse.proofs.Sound.{if_sound, bind_sound}
 use Rattle.mql_parse.proofs.SumEndings.{any_ok}
 

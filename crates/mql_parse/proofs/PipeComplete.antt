@@ -1,5 +1,6 @@
 -- A pipe of the grammar is read as its tree.
-use Rattle.std.proofs.Common.{◌≡◌, ℕ, ℤ, suc, Bool, true, false, ◌==◌, List, [], ◌∷◌, ◌++◌, codes, refl, sym, ap, ◌∙◌, if◌then◌else◌, Some, Ok}
+use Rattle.std.proofs.Common.{◌≡◌, ℕ, ℤ, suc, Bool, true, false, ◌==◌, List, [], ◌∷◌, ◌++◌, codes, refl, sym, ap, ◌∙◌}
+use Rattle.std.proofs.Common.{if◌then◌else◌, Some, Ok}
 use Rattle.std.proofs.lemmas.Bool.{false≢true, eqb-true}
 use Rattle.mon_value.specs.Answers.{◌>>=◌}
 use Rattle.mon_value.specs.declared.aligners.Aligner.TheVariants as aligner
@@ -13,7 +14,9 @@ use Rattle.mql_ast.specs.Bytes.{is_blank, is_letter, is_word_byte}
 use Rattle.mql_ast.specs.Rests.{Rest, head, behind, skip}
 use Rattle.mql_ast.specs.Tokens.{sign_at, word_at, past, name_at, metric_at, positive_at, duration_at}
 use Rattle.mql_ast.specs.Grammar as grammar
-use Rattle.mql_ast.specs.Grammar.{Apart, Grouping, FoldingList, ItemList, Disjunction, Deed, align_delta, align_next_older, Ops, no_ops, more_ops, how_word, Pipe, flow, Source, PipeList, two_pipes, more_pipes}
+use Rattle.mql_ast.specs.Grammar.{Apart, Grouping, FoldingList, ItemList, Disjunction, Deed, align_delta}
+use Rattle.mql_ast.specs.Grammar.{align_next_older, Ops, no_ops, more_ops, how_word, Pipe, flow, Source, PipeList}
+use Rattle.mql_ast.specs.Grammar.{two_pipes, more_pipes}
 use Rattle.mql_parse.specs.declared.faults.What.{What}
 use Rattle.mql_parse.specs.declared.faults.What.TheVariants as what
 use Rattle.mql_parse.specs.Outcomes.{Outcome, sign, exact, apart}
@@ -29,7 +32,9 @@ use Rattle.mql_parse.proofs.Loops.{loop_goes_on}
 use Rattle.mql_parse.proofs.Sound.{sign_here}
 use Rattle.mql_parse.proofs.PredicateSound.{if_true, if_false}
 use Rattle.mql_parse.proofs.PipeSound.{operation_turn_behind, branch_turn_behind}
-use Rattle.mql_parse.proofs.Complete.{bound, mapped, up_to_read, sign_read, exact_read, name_read, metric_read, positive_read, duration_read, ends_here, other_byte, passes, other_sign, first_past}
+use Rattle.mql_parse.proofs.Complete.{bound, mapped, up_to_read, sign_read, exact_read, name_read, metric_read}
+use Rattle.mql_parse.proofs.Complete.{positive_read, duration_read, ends_here, other_byte, passes, other_sign}
+use Rattle.mql_parse.proofs.Complete.{first_past}
 use Rattle.mql_parse.proofs.ListComplete.{names_read, items_read, aggregates_read}
 use Rattle.mql_parse.proofs.PredicateComplete.{filter_ends, filter_ends_barred}
 

@@ -1,5 +1,6 @@
 -- Pipes are read with more levels as with fewer, but where fewer were too few.
-use Rattle.std.proofs.Common.{◌≡◌, ℕ, zero, suc, ◌<◌, Bool, true, false, ◌==◌, List, [], ◌∷◌, ◌++◌, codes, refl, arith, Err}
+use Rattle.std.proofs.Common.{◌≡◌, ℕ, zero, suc, ◌<◌, Bool, true, false, ◌==◌, List, [], ◌∷◌, ◌++◌, codes, refl, arith}
+use Rattle.std.proofs.Common.{Err}
 use Rattle.mql_ast.specs.Trees.{Filter, Value, Every, Within, OpTree, PipeTree, Flow, SourceTree}
 use Rattle.mql_ast.specs.Rests.{Rest, head, behind, skip}
 use Rattle.mql_parse.specs.declared.faults.What.TheVariants as what
@@ -12,10 +13,16 @@ use Rattle.mql_parse.specs.Steadiness.{next}
 use Rattle.mql_parse.proofs.PipeSound.{operation_turn_behind, branch_turn_behind}
 use Rattle.mql_parse.proofs.Steady.{steady_from, steady_to, steady_map}
 use Rattle.mql_parse.proofs.TurnSteady.{turn_again, turn_to}
-use Rattle.mql_parse.proofs.PipeSteady.{operations_steady, operation_turn_steady, branch_behind_steady, branch_turn_steady, branches_how_steady, behind_first_steady, branches_steady_by, pipe_steady}
-use Rattle.mql_parse.proofs.Shallow.{ShallowTurn, unexpected_shallow, if_shallow, exact_shallow, sign_shallow, if_turn_shallow, done_shallow, again_shallow, stuck_shallow}
-use Rattle.mql_parse.proofs.ShallowParts.{word_apart_shallow, align_shallow, group_by_shallow, top_shallow, duration_deed_shallow, branches_how_shallow, fetch_shallow}
-use Rattle.mql_parse.proofs.Deepens.{Deepens, TurnDeepens, deepens_same, deepens_if, deepens_bind, deepens_behind, deepens_map, deepens_to, deepens_fault, turn_deepens_same, turn_deepens_if, on_read_deepens, deepens_repetition}
+use Rattle.mql_parse.proofs.PipeSteady.{operations_steady, operation_turn_steady, branch_behind_steady}
+use Rattle.mql_parse.proofs.PipeSteady.{branch_turn_steady, branches_how_steady, behind_first_steady}
+use Rattle.mql_parse.proofs.PipeSteady.{branches_steady_by, pipe_steady}
+use Rattle.mql_parse.proofs.Shallow.{ShallowTurn, unexpected_shallow, if_shallow, exact_shallow, sign_shallow}
+use Rattle.mql_parse.proofs.Shallow.{if_turn_shallow, done_shallow, again_shallow, stuck_shallow}
+use Rattle.mql_parse.proofs.ShallowParts.{word_apart_shallow, align_shallow, group_by_shallow, top_shallow}
+use Rattle.mql_parse.proofs.ShallowParts.{duration_deed_shallow, branches_how_shallow, fetch_shallow}
+use Rattle.mql_parse.proofs.Deepens.{Deepens, TurnDeepens, deepens_same, deepens_if, deepens_bind, deepens_behind}
+use Rattle.mql_parse.proofs.Deepens.{deepens_map, deepens_to, deepens_fault, turn_deepens_same, turn_deepens_if}
+use Rattle.mql_parse.proofs.Deepens.{on_read_deepens, deepens_repetition}
 use Rattle.mql_parse.proofs.SumDepth.{items_deepens}
 use Rattle.mql_parse.proofs.PredicateDepth.{predicate_deepens}
 

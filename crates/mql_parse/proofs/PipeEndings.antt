@@ -1,5 +1,6 @@
 -- What was read of a pipe before its fault can be completed.
-use Rattle.std.proofs.Common.{◌≡◌, ℕ, zero, suc, Bool, true, false, ◌==◌, ◌⊎◌, inl, inr, List, [], ◌∷◌, ◌++◌, codes, refl, sym, ap, ◌∙◌, subst, if◌then◌else◌, append_assoc, Some, Ok, Err}
+use Rattle.std.proofs.Common.{◌≡◌, ℕ, zero, suc, Bool, true, false, ◌==◌, ◌⊎◌, inl, inr, List, [], ◌∷◌, ◌++◌, codes}
+use Rattle.std.proofs.Common.{refl, sym, ap, ◌∙◌, subst, if◌then◌else◌, append_assoc, Some, Ok, Err}
 use Rattle.std.proofs.lemmas.Bool.{false≢true}
 use Rattle.mon_value.specs.Answers.{◌>>=◌}
 use Rattle.mql_ast.specs.declared.pipes.How.{How}
@@ -17,14 +18,21 @@ use Rattle.mql_parse.specs.Repeats.{Done, Again, Stuck, repetition}
 use Rattle.mql_parse.specs.TokenReading as reading
 use Rattle.mql_parse.specs.PipeReading as pipes
 use Rattle.mql_parse.proofs.PipeSound.{operation_turn_behind, branch_turn_behind}
-use Rattle.mql_parse.proofs.Endings.{Anyhow, Parted, Text, Then, join, changed, anyhow, unended, NoQuotes, no_quotes_on, Default, both, Finish, Ends, behind_read, Reads, stay, as_it_is, cut_as, cut_then, bind_ends, ends_as, done_ends, then_ends, if_ends, TurnEnds, if_turns, turns_as, cut_turns, on_read_ends, loop_ends}
+use Rattle.mql_parse.proofs.Endings.{Anyhow, Parted, Text, Then, join, changed, anyhow, unended, NoQuotes}
+use Rattle.mql_parse.proofs.Endings.{no_quotes_on, Default, both, Finish, Ends, behind_read, Reads, stay, as_it_is}
+use Rattle.mql_parse.proofs.Endings.{cut_as, cut_then, bind_ends, ends_as, done_ends, then_ends, if_ends, TurnEnds}
+use Rattle.mql_parse.proofs.Endings.{if_turns, turns_as, cut_turns, on_read_ends, loop_ends}
 use Rattle.mql_parse.proofs.TokenFronts.{fetch_word, colons_word, join_word, union_word}
-use Rattle.mql_parse.proofs.TokenEndings.{at_place, AreBlanks, refused, wrong, SignSpan, sign_text, sign_cut, sign_ends, sign_default, WordSpan, word_text, word_default, word_ends, SpacedSpan, spaced, Token, NameSpan, name_ends, name_default, open_brace, close_brace, semicolon, bar}
+use Rattle.mql_parse.proofs.TokenEndings.{at_place, AreBlanks, refused, wrong, SignSpan, sign_text, sign_cut}
+use Rattle.mql_parse.proofs.TokenEndings.{sign_ends, sign_default, WordSpan, word_text, word_default, word_ends}
+use Rattle.mql_parse.proofs.TokenEndings.{SpacedSpan, spaced, Token, NameSpan, name_ends, name_default, open_brace}
+use Rattle.mql_parse.proofs.TokenEndings.{close_brace, semicolon, bar}
 use Rattle.mql_parse.proofs.SpacedEndings.{Opening, spaced_ends}
 use Rattle.mql_parse.proofs.MetricEndings.{if_bind, metric_ends, metric_default}
 use Rattle.mql_parse.proofs.NumberEndings.{duration_default}
 use Rattle.mql_parse.proofs.ListEndings.{folding_default}
-use Rattle.mql_parse.proofs.OperationEndings.{GroupedText, grouped_on, DeedSpan, every_text, OpSpan, OpText, operation_ends}
+use Rattle.mql_parse.proofs.OperationEndings.{GroupedText, grouped_on, DeedSpan, every_text, OpSpan, OpText}
+use Rattle.mql_parse.proofs.OperationEndings.{operation_ends}
 
 -- pipes, and the bar behind one where it was read
 abbrev pub PipeSpan : ℕ → List ℕ → List ℕ → Type 0
@@ -385,7 +393,12 @@ module _ (d : ℕ) (piped : (s : Rest) → ReadsPipe d s (pipes.pipe d s)) where
       (λ u k. bind_ends m (repetition (pipes.branch_turn (pipes.pipe d)) (first.0 ∷ []) m) _
       (loop_ends (pipes.branch_turn (pipes.pipe d)) (branch_turn_behind d) (λ a y. BegunText d y)
       (λ a y. ClosedText d y) (ClosedText d) branch_turn_ends (first.0 ∷ []) m (v ++ u)
-      (first_branch d v u g.0 k)) (λ y l. record { text = q.text; plain = q.plain; is = source_text d w v u y q.text f l q.is })
+      (first_branch d v u g.0 k)) (λ y l. record {
+        text = q.text;
+        plain = q.plain;
+        is = source_text d w v u y q.text f
+            l q.is;
+      })
       (λ all y l. ends_as all.1 (pipes.branches_how (skip s).at all.0 all.1)
       (branches_how_ends (skip s).at all.0 all.1) (λ x z p. source_text d w v u y z f l p)
       (λ z p. source_text d w v u y z f l p))))

@@ -1,10 +1,12 @@
 -- The kinds of faults in operations and pipes.
-use Rattle.std.proofs.Common.{◌≡◌, ℕ, ℤ, zero, suc, Bool, true, false, ◌==◌, List, [], ◌∷◌, ◌++◌, codes, refl, None, Ok, Err}
+use Rattle.std.proofs.Common.{◌≡◌, ℕ, ℤ, zero, suc, Bool, true, false, ◌==◌, List, [], ◌∷◌, ◌++◌, codes, refl, None}
+use Rattle.std.proofs.Common.{Ok, Err}
 use Rattle.mon_value.specs.Answers.{◌>>=◌}
 use Rattle.mon_value.specs.declared.aligners.Aligner.TheVariants as aligner
 use Rattle.mql_ast.specs.declared.pipes.How.{How}
 use Rattle.mql_ast.specs.declared.pipes.How.TheVariants as how
-use Rattle.mql_ast.specs.Trees.{PredicateTree, DeedTree, Filter, Align, GroupBy, Value, Top, Every, Within, OpTree, PipeTree, Flow, SourceTree, Fetch, Branches, branches}
+use Rattle.mql_ast.specs.Trees.{PredicateTree, DeedTree, Filter, Align, GroupBy, Value, Top, Every, Within, OpTree}
+use Rattle.mql_ast.specs.Trees.{PipeTree, Flow, SourceTree, Fetch, Branches, branches}
 use Rattle.mql_ast.specs.Rests.{Rest, head, behind, skip}
 use Rattle.mql_parse.specs.declared.faults.What.{What}
 use Rattle.mql_parse.specs.declared.faults.What.TheVariants as what
@@ -16,8 +18,12 @@ use Rattle.mql_parse.specs.PredicateReading as predicates
 use Rattle.mql_parse.specs.Folds as folds
 use Rattle.mql_parse.specs.PipeReading as pipes
 use Rattle.mql_parse.proofs.PipeSound.{operation_turn_behind, branch_turn_behind}
-use Rattle.mql_parse.proofs.KindFits.{Fits, TurnFits, outside_itself, turn_before, bind_fits, map_fits, pass_then, pass_pass, if_fits, if_turn, part_outside, behind_fits, skip_fits, unexpected_fits, unexpected_next, deep_fits, sign_fits, up_to_fits, on_read_fits, repetition_fits}
-use Rattle.mql_parse.proofs.TokenKinds.{plain_bytes, exact_fits, apart_fits, name_fits, metric_fits, positive_fits, duration_fits}
+use Rattle.mql_parse.proofs.KindFits.{Fits, TurnFits, outside_itself, turn_before, bind_fits, map_fits, pass_then}
+use Rattle.mql_parse.proofs.KindFits.{pass_pass, if_fits, if_turn, part_outside, behind_fits, skip_fits}
+use Rattle.mql_parse.proofs.KindFits.{unexpected_fits, unexpected_next, deep_fits, sign_fits, up_to_fits, on_read_fits}
+use Rattle.mql_parse.proofs.KindFits.{repetition_fits}
+use Rattle.mql_parse.proofs.TokenKinds.{plain_bytes, exact_fits, apart_fits, name_fits, metric_fits, positive_fits}
+use Rattle.mql_parse.proofs.TokenKinds.{duration_fits}
 use Rattle.mql_parse.proofs.SumKinds.{items_fits}
 use Rattle.mql_parse.proofs.PredicateKinds.{predicate_fits}
 use Rattle.mql_parse.proofs.FoldKinds.{names_fits, aggregates_fits}

@@ -1,5 +1,6 @@
 -- A pipe that is read is one of the grammar.
-use Rattle.std.proofs.Common.{◌≡◌, ℕ, ℤ, zero, suc, ◌-◌, Bool, true, false, ◌==◌, ◌⊎◌, inl, inr, List, [], ◌∷◌, ◌++◌, codes, refl, sym, ap, subst, Some, Ok, Err, arith}
+use Rattle.std.proofs.Common.{◌≡◌, ℕ, ℤ, zero, suc, ◌-◌, Bool, true, false, ◌==◌, ◌⊎◌, inl, inr, List, [], ◌∷◌, ◌++◌}
+use Rattle.std.proofs.Common.{codes, refl, sym, ap, subst, Some, Ok, Err, arith}
 use Rattle.std.specs.Result.{IfOk}
 use Rattle.mon_value.specs.declared.aligners.Aligner.TheVariants as aligner
 use Rattle.mql_ast.specs.declared.names.Name.{Name}
@@ -12,7 +13,9 @@ use Rattle.mql_ast.specs.Bytes.{is_word_byte}
 use Rattle.mql_ast.specs.Rests.{Rest, head, behind, skip}
 use Rattle.mql_ast.specs.Tokens.{sign_at, word_at, past, name_at, metric_at, positive_at, duration_at}
 use Rattle.mql_ast.specs.Grammar as grammar
-use Rattle.mql_ast.specs.Grammar.{Apart, NameList, Grouping, no_names, some_names, FoldingList, ItemList, Disjunction, one_conjunction, or, Deed, align_delta, align_next_older, Ops, no_ops, more_ops, how_word, Pipe, flow, Source, PipeList, two_pipes, more_pipes}
+use Rattle.mql_ast.specs.Grammar.{Apart, NameList, Grouping, no_names, some_names, FoldingList, ItemList, Disjunction}
+use Rattle.mql_ast.specs.Grammar.{one_conjunction, or, Deed, align_delta, align_next_older, Ops, no_ops, more_ops}
+use Rattle.mql_ast.specs.Grammar.{how_word, Pipe, flow, Source, PipeList, two_pipes, more_pipes}
 use Rattle.mql_parse.specs.declared.faults.ParseKind.TheVariants.{TooDeep}
 use Rattle.mql_parse.specs.declared.faults.What.{What}
 use Rattle.mql_parse.specs.declared.faults.What.TheVariants as what
@@ -25,11 +28,16 @@ use Rattle.mql_parse.specs.Folds as folds
 use Rattle.mql_parse.specs.PipeReading as pipes
 use Rattle.mql_parse.specs.Behind.{From, Behind}
 use Rattle.mql_parse.specs.Soundness.{OfTurn}
-use Rattle.mql_parse.proofs.BehindLemmas.{from_itself, from_trans, behind_from, behind_behind, to_from, sign_behind, word_behind, name_behind}
+use Rattle.mql_parse.proofs.BehindLemmas.{from_itself, from_trans, behind_from, behind_behind, to_from, sign_behind}
+use Rattle.mql_parse.proofs.BehindLemmas.{word_behind, name_behind}
 use Rattle.mql_parse.proofs.Within.{some_given, metric_within, positive_within, duration_within}
-use Rattle.mql_parse.proofs.Sound.{if_sound, bind_sound, sign_sound, exact_sound, name_sound, metric_sound, positive_sound, duration_sound, sign_here, changed_sound, repeated_sound, if_turn, if_ok_weaker}
-use Rattle.mql_parse.proofs.PredicateSound.{IsConjunction, conjunction_sound, conjunction_behind, disjunction_behind, doubled_here}
-use Rattle.mql_parse.proofs.ListSound.{on_read_of, IsName, some_names_sound, items_sound, aggregates_sound, item_behind, folding_behind}
+use Rattle.mql_parse.proofs.Sound.{if_sound, bind_sound, sign_sound, exact_sound, name_sound, metric_sound}
+use Rattle.mql_parse.proofs.Sound.{positive_sound, duration_sound, sign_here, changed_sound, repeated_sound, if_turn}
+use Rattle.mql_parse.proofs.Sound.{if_ok_weaker}
+use Rattle.mql_parse.proofs.PredicateSound.{IsConjunction, conjunction_sound, conjunction_behind, disjunction_behind}
+use Rattle.mql_parse.proofs.PredicateSound.{doubled_here}
+use Rattle.mql_parse.proofs.ListSound.{on_read_of, IsName, some_names_sound, items_sound, aggregates_sound}
+use Rattle.mql_parse.proofs.ListSound.{item_behind, folding_behind}
 
 -- a filter's predicate, and the bar behind it where it was read
 abbrev pub IsFiltered : ℕ → Rest → (PredicateTree × Bool) × Rest → Type 0

@@ -5,7 +5,8 @@ use Rattle.mon_value.specs.declared.aligners.Aligner.TheVariants as aligner
 use Rattle.mql_ast.specs.declared.names.Name.{Name}
 use Rattle.mql_ast.specs.declared.pipes.How.{How}
 use Rattle.mql_ast.specs.declared.pipes.How.TheVariants as how
-use Rattle.mql_ast.specs.Trees.{PredicateTree, DeedTree, Filter, Align, GroupBy, Value, Top, Every, Within, OpTree, PipeTree, Flow, SourceTree, Fetch, Branches, branches}
+use Rattle.mql_ast.specs.Trees.{PredicateTree, DeedTree, Filter, Align, GroupBy, Value, Top, Every, Within, OpTree}
+use Rattle.mql_ast.specs.Trees.{PipeTree, Flow, SourceTree, Fetch, Branches, branches}
 use Rattle.mql_ast.specs.Rests.{Rest, head, behind, skip}
 use Rattle.mql_parse.specs.declared.faults.ParseKind.TheVariants.{TooDeep}
 use Rattle.mql_parse.specs.declared.faults.What.{What}
@@ -19,9 +20,14 @@ use Rattle.mql_parse.specs.Folds as folds
 use Rattle.mql_parse.specs.PipeReading as pipes
 use Rattle.mql_parse.specs.Steadiness.{here, next, Steady, SteadyPass, SteadyTurn}
 use Rattle.mql_parse.proofs.PipeSound.{operation_turn_behind, branch_turn_behind}
-use Rattle.mql_parse.proofs.Steady.{steady_from, steady_to, steady_ok, steady_fault, steady_unexpected, steady_bind, steady_map, steady_behind_pass, steady_passes, steady_sign, sign_next, steady_up_to, head_test, next_test, constant_test, steady_if, steady_skip, steady_behind, steady_here, steady_next}
-use Rattle.mql_parse.proofs.TurnSteady.{turn_done, turn_again, turn_stuck, turn_from, turn_to, turn_if, turn_skip, turn_behind_skip, turn_on_read, steady_repetition}
-use Rattle.mql_parse.proofs.TokenSteady.{exact_steady, apart_steady, name_steady, name_next, metric_steady, positive_next, duration_steady}
+use Rattle.mql_parse.proofs.Steady.{steady_from, steady_to, steady_ok, steady_fault, steady_unexpected, steady_bind}
+use Rattle.mql_parse.proofs.Steady.{steady_map, steady_behind_pass, steady_passes, steady_sign, sign_next}
+use Rattle.mql_parse.proofs.Steady.{steady_up_to, head_test, next_test, constant_test, steady_if, steady_skip}
+use Rattle.mql_parse.proofs.Steady.{steady_behind, steady_here, steady_next}
+use Rattle.mql_parse.proofs.TurnSteady.{turn_done, turn_again, turn_stuck, turn_from, turn_to, turn_if, turn_skip}
+use Rattle.mql_parse.proofs.TurnSteady.{turn_behind_skip, turn_on_read, steady_repetition}
+use Rattle.mql_parse.proofs.TokenSteady.{exact_steady, apart_steady, name_steady, name_next, metric_steady}
+use Rattle.mql_parse.proofs.TokenSteady.{positive_next, duration_steady}
 use Rattle.mql_parse.proofs.SumSteady.{items_steady}
 use Rattle.mql_parse.proofs.PredicateSteady.{predicate_steady}
 use Rattle.mql_parse.proofs.FoldSteady.{names_steady, aggregates_steady}

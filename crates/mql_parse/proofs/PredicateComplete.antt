@@ -1,5 +1,6 @@
 -- A predicate of the grammar is read as its tree.
-use Rattle.std.proofs.Common.{◌≡◌, ℕ, suc, Bool, true, false, ◌==◌, ◌||◌, List, [], ◌∷◌, codes, refl, ap, ◌∙◌, if◌then◌else◌, Option, Some, None, option_and_then, Result, Ok, Err}
+use Rattle.std.proofs.Common.{◌≡◌, ℕ, suc, Bool, true, false, ◌==◌, ◌||◌, List, [], ◌∷◌, codes, refl, ap, ◌∙◌}
+use Rattle.std.proofs.Common.{if◌then◌else◌, Option, Some, None, option_and_then, Result, Ok, Err}
 use Rattle.std.specs.Result.{result_ok}
 use Rattle.mon_value.specs.Answers.{◌>>=◌}
 use Rattle.mon_value.specs.declared.values.FieldValue.{FieldValue}
@@ -14,7 +15,8 @@ use Rattle.mql_ast.specs.Rests.{Rest, head, behind, skip}
 use Rattle.mql_ast.specs.Tokens.{sign_at, word_at, name_at}
 use Rattle.mql_ast.specs.Quotes as quotes
 use Rattle.mql_ast.specs.Quotes.{pattern_at, Whole, Plain}
-use Rattle.mql_ast.specs.Grammar.{comparison_at, and_equal, or_equal, value_at, literal, Disjunction, one_conjunction, or, Conjunction, one_negation, and, Negation, not, in_parentheses, compare, like}
+use Rattle.mql_ast.specs.Grammar.{comparison_at, and_equal, or_equal, value_at, literal, Disjunction, one_conjunction}
+use Rattle.mql_ast.specs.Grammar.{or, Conjunction, one_negation, and, Negation, not, in_parentheses, compare, like}
 use Rattle.mql_parse.specs.declared.faults.ParseFault.{ParseFault}
 use Rattle.mql_parse.specs.declared.faults.What.{What}
 use Rattle.mql_parse.specs.declared.faults.What.TheVariants as what
@@ -28,7 +30,8 @@ use Rattle.mql_parse.proofs.BehindLemmas.{behind_behind, word_behind, sign_taken
 use Rattle.mql_parse.proofs.Links.{past_links, signed_links, text_from_links, pattern_from_links}
 use Rattle.mql_parse.proofs.Sound.{sign_here, repeated_again}
 use Rattle.mql_parse.proofs.PredicateSound.{if_true, if_false, negation_behind, conjunction_behind}
-use Rattle.mql_parse.proofs.Complete.{read_of, bound, mapped, up_to_read, sign_read, ends_here, other_byte, not_that_byte, other_sign, first_past, and_then_given}
+use Rattle.mql_parse.proofs.Complete.{read_of, bound, mapped, up_to_read, sign_read, ends_here, other_byte}
+use Rattle.mql_parse.proofs.Complete.{not_that_byte, other_sign, first_past, and_then_given}
 use Rattle.mql_parse.proofs.SumComplete.{name_taken}
 
 -- where the grammar chooses, the reading chooses so

@@ -14,10 +14,13 @@ use Rattle.mql_parse.proofs.PredicateSound.{and_turn_behind, or_turn_behind}
 use Rattle.mql_parse.proofs.PipeSound.{filter_turn_behind}
 use Rattle.mql_parse.proofs.Steady.{steady_from}
 use Rattle.mql_parse.proofs.TurnSteady.{steady_repetition}
-use Rattle.mql_parse.proofs.PredicateSteady.{negation_steady, and_turn_steady, or_turn_steady, conjunction_steady, deeper_steady_by, filter_turn_steady}
+use Rattle.mql_parse.proofs.PredicateSteady.{negation_steady, and_turn_steady, or_turn_steady, conjunction_steady}
+use Rattle.mql_parse.proofs.PredicateSteady.{deeper_steady_by, filter_turn_steady}
 use Rattle.mql_parse.proofs.Shallow.{unexpected_shallow, if_shallow, done_shallow, stuck_shallow}
 use Rattle.mql_parse.proofs.ShallowParts.{condition_shallow}
-use Rattle.mql_parse.proofs.Deepens.{Deepens, TurnDeepens, deepens_same, deepens_if, deepens_bind, deepens_map, deepens_up_to, deepens_fault, turn_deepens_same, turn_deepens_if, goes_on_deepens, deepens_repetition}
+use Rattle.mql_parse.proofs.Deepens.{Deepens, TurnDeepens, deepens_same, deepens_if, deepens_bind, deepens_map}
+use Rattle.mql_parse.proofs.Deepens.{deepens_up_to, deepens_fault, turn_deepens_same, turn_deepens_if, goes_on_deepens}
+use Rattle.mql_parse.proofs.Deepens.{deepens_repetition}
 
 negation_deepens_with : (opposite opposite' group group' : Rest → Rest → Outcome PredicateTree) →
     ((t : Rest) → (head t == 33) ≡ true → Deepens next (opposite t (behind t)) (opposite' t (behind t))) →

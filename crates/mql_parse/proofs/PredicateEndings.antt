@@ -1,5 +1,6 @@
 -- What was read of a predicate before its fault can be completed.
-use Rattle.std.proofs.Common.{◌≡◌, ℕ, zero, suc, Bool, true, false, ◌==◌, List, [], ◌∷◌, ◌++◌, codes, refl, sym, ap, ◌∙◌, subst, if◌then◌else◌, append_assoc, Err}
+use Rattle.std.proofs.Common.{◌≡◌, ℕ, zero, suc, Bool, true, false, ◌==◌, List, [], ◌∷◌, ◌++◌, codes, refl, sym, ap}
+use Rattle.std.proofs.Common.{◌∙◌, subst, if◌then◌else◌, append_assoc, Err}
 use Rattle.mql_ast.specs.declared.names.Name.{Name}
 use Rattle.mql_ast.specs.declared.predicates.Comparison.{Comparison}
 use Rattle.mql_ast.specs.declared.predicates.Comparison.TheVariants as comparison
@@ -8,7 +9,8 @@ use Rattle.mql_ast.specs.Trees.{PredicateTree}
 use Rattle.mql_ast.specs.Bytes.{is_letter}
 use Rattle.mql_ast.specs.Rests.{Rest, head, behind, skip}
 use Rattle.mql_ast.specs.Tokens.{word_here}
-use Rattle.mql_ast.specs.Grammar.{literal, Disjunction, one_conjunction, or, Conjunction, one_negation, and, Negation, not, in_parentheses, compare, like}
+use Rattle.mql_ast.specs.Grammar.{literal, Disjunction, one_conjunction, or, Conjunction, one_negation, and, Negation}
+use Rattle.mql_ast.specs.Grammar.{not, in_parentheses, compare, like}
 use Rattle.mql_parse.specs.declared.faults.ParseKind.TheVariants.{TooDeep}
 use Rattle.mql_parse.specs.declared.faults.What.{What}
 use Rattle.mql_parse.specs.declared.faults.What.TheVariants as what
@@ -19,15 +21,24 @@ use Rattle.mql_parse.specs.PredicateReading as predicates
 use Rattle.mql_parse.specs.PredicateReading.{Compared, WithValue, WithPattern, Opposite, Group}
 use Rattle.mql_parse.proofs.PredicateSound.{and_turn_behind, or_turn_behind}
 use Rattle.mql_parse.proofs.PipeSound.{filter_turn_behind}
-use Rattle.mql_parse.proofs.Endings.{Worded, Parted, opens_on, Text, Then, join, changed, worded, unended, NoQuotes, Default, default_as, Ends, behind_read, Reads, stay, as_it_is, cut_then, bind_ends, ends_as, done_ends, if_ends, TurnEnds, if_turns, cut_turns, goes_on_ends, loop_ends}
+use Rattle.mql_parse.proofs.Endings.{Worded, Parted, opens_on, Text, Then, join, changed, worded, unended, NoQuotes}
+use Rattle.mql_parse.proofs.Endings.{Default, default_as, Ends, behind_read, Reads, stay, as_it_is, cut_then}
+use Rattle.mql_parse.proofs.Endings.{bind_ends, ends_as, done_ends, if_ends, TurnEnds, if_turns, cut_turns}
+use Rattle.mql_parse.proofs.Endings.{goes_on_ends, loop_ends}
 use Rattle.mql_parse.proofs.TokenFronts.{WordOf, and_word, or_word}
 use Rattle.mql_parse.proofs.TextFronts.{open_text}
-use Rattle.mql_parse.proofs.TokenEndings.{at_place, AreBlanks, begun_here, refused, wrong, wrong_spaced, IsSign, SignSpan, sign_text, sign_cut, sign_ends, sign_default, WordSpan, word_text, NameSpan, some_name, name_cut, name_after, name_default, open_parenthesis, close_parenthesis, exclamation, quote, bar}
+use Rattle.mql_parse.proofs.TokenEndings.{at_place, AreBlanks, begun_here, refused, wrong, wrong_spaced, IsSign}
+use Rattle.mql_parse.proofs.TokenEndings.{SignSpan, sign_text, sign_cut, sign_ends, sign_default, WordSpan, word_text}
+use Rattle.mql_parse.proofs.TokenEndings.{NameSpan, some_name, name_cut, name_after, name_default, open_parenthesis}
+use Rattle.mql_parse.proofs.TokenEndings.{close_parenthesis, exclamation, quote, bar}
 use Rattle.mql_parse.proofs.SpacedEndings.{Opening}
 use Rattle.mql_parse.proofs.MetricEndings.{if_bind}
 use Rattle.mql_parse.proofs.TokenHalts.{halts_end}
 use Rattle.mql_parse.proofs.TextEndings.{pattern_rest_ends, no_pattern}
-use Rattle.mql_parse.proofs.ValueEndings.{PatternText, pattern_token, ComparedSpan, ComparedText, compared_text, equals, two_equals, FirstByte, first_is, byte_is, first_joined, AnyCompared, compared_ends, ValueText, value_ends, no_equals, value_default, PatternText, pattern_text}
+use Rattle.mql_parse.proofs.ValueEndings.{PatternText, pattern_token, ComparedSpan, ComparedText, compared_text}
+use Rattle.mql_parse.proofs.ValueEndings.{equals, two_equals, FirstByte, first_is, byte_is, first_joined, AnyCompared}
+use Rattle.mql_parse.proofs.ValueEndings.{compared_ends, ValueText, value_ends, no_equals, value_default, PatternText}
+use Rattle.mql_parse.proofs.ValueEndings.{pattern_text}
 
 -- conditions
 abbrev pub NegationSpan : ℕ → List ℕ → List ℕ → Type 0

@@ -1,5 +1,6 @@
 -- The kinds of faults in predicates.
-use Rattle.std.proofs.Common.{◌≡◌, ℕ, zero, suc, Bool, true, false, ◌==◌, ◌||◌, codes, refl, if◌then◌else◌, Some, None, Ok, Err}
+use Rattle.std.proofs.Common.{◌≡◌, ℕ, zero, suc, Bool, true, false, ◌==◌, ◌||◌, codes, refl, if◌then◌else◌, Some, None}
+use Rattle.std.proofs.Common.{Ok, Err}
 use Rattle.mon_value.specs.Answers.{◌>>=◌}
 use Rattle.mon_value.specs.declared.values.FieldValue.TheVariants as field
 use Rattle.mql_ast.specs.declared.names.Name.{Name}
@@ -20,7 +21,10 @@ use Rattle.mql_parse.specs.PredicateReading as predicates
 use Rattle.mql_parse.specs.PredicateReading.{Compared, WithValue, WithPattern, Deeper, Opposite, Group}
 use Rattle.mql_parse.proofs.PredicateSound.{and_turn_behind, or_turn_behind}
 use Rattle.mql_parse.proofs.PipeSound.{filter_turn_behind}
-use Rattle.mql_parse.proofs.KindFits.{Fits, TurnFits, outside_itself, fits_before, turn_before, bind_fits, map_fits, pass_then, if_fits, if_turn, byte_outside, part_outside, behind_fits, skip_fits, part_fits, quote_fits, unexpected_fits, unexpected_next, deep_fits, up_to_fits, goes_on_fits, repetition_fits}
+use Rattle.mql_parse.proofs.KindFits.{Fits, TurnFits, outside_itself, fits_before, turn_before, bind_fits, map_fits}
+use Rattle.mql_parse.proofs.KindFits.{pass_then, if_fits, if_turn, byte_outside, part_outside, behind_fits, skip_fits}
+use Rattle.mql_parse.proofs.KindFits.{part_fits, quote_fits, unexpected_fits, unexpected_next, deep_fits, up_to_fits}
+use Rattle.mql_parse.proofs.KindFits.{goes_on_fits, repetition_fits}
 use Rattle.mql_parse.proofs.TokenKinds.{exact_fits, word_outside, signed_fits}
 use Rattle.mql_parse.proofs.QuoteKinds.{text_fits, pattern_fits}
 

@@ -1,5 +1,6 @@
 -- A predicate that is read is one of the grammar.
-use Rattle.std.proofs.Common.{◌≡◌, ℕ, ℤ, zero, suc, ◌-◌, Bool, true, false, ◌==◌, ◌||◌, List, [], ◌∷◌, codes, refl, ap, ◌∙◌, cond, if◌then◌else◌, Option, Some, None, option_and_then, Ok, Err, IfSome, arith}
+use Rattle.std.proofs.Common.{◌≡◌, ℕ, ℤ, zero, suc, ◌-◌, Bool, true, false, ◌==◌, ◌||◌, List, [], ◌∷◌, codes, refl, ap}
+use Rattle.std.proofs.Common.{◌∙◌, cond, if◌then◌else◌, Option, Some, None, option_and_then, Ok, Err, IfSome, arith}
 use Rattle.std.specs.Result.{IfOk}
 use Rattle.mon_value.specs.declared.values.FieldValue.{FieldValue}
 use Rattle.mon_value.specs.declared.values.FieldValue.TheVariants as field
@@ -13,7 +14,8 @@ use Rattle.mql_ast.specs.Rests.{Rest, head, behind, skip}
 use Rattle.mql_ast.specs.Tokens.{sign_at, word_at, past, name_at, signed_at, word_here}
 use Rattle.mql_ast.specs.Quotes as quotes
 use Rattle.mql_ast.specs.Quotes.{text_at, pattern_at, Whole, Plain}
-use Rattle.mql_ast.specs.Grammar.{comparison_at, and_equal, or_equal, value_at, Disjunction, one_conjunction, or, Conjunction, one_negation, and, Negation, not, in_parentheses, compare, like}
+use Rattle.mql_ast.specs.Grammar.{comparison_at, and_equal, or_equal, value_at, Disjunction, one_conjunction, or}
+use Rattle.mql_ast.specs.Grammar.{Conjunction, one_negation, and, Negation, not, in_parentheses, compare, like}
 use Rattle.mql_parse.specs.declared.faults.ParseKind.TheVariants.{TooDeep}
 use Rattle.mql_parse.specs.declared.faults.What.{What}
 use Rattle.mql_parse.specs.declared.faults.What.TheVariants as what
@@ -24,10 +26,12 @@ use Rattle.mql_parse.specs.PredicateReading as predicates
 use Rattle.mql_parse.specs.PredicateReading.{Compared, WithValue, WithPattern, Opposite, Group}
 use Rattle.mql_parse.specs.Behind.{Behind}
 use Rattle.mql_parse.specs.Soundness.{OfTurn}
-use Rattle.mql_parse.proofs.BehindLemmas.{from_behind, behind_from, behind_behind, sign_behind, word_behind, name_behind, skip_from, one_from, tested_behind}
+use Rattle.mql_parse.proofs.BehindLemmas.{from_behind, behind_from, behind_behind, sign_behind, word_behind}
+use Rattle.mql_parse.proofs.BehindLemmas.{name_behind, skip_from, one_from, tested_behind}
 use Rattle.mql_parse.proofs.Within.{some_given, signed_within, text_within, pattern_within}
 use Rattle.mql_parse.proofs.Links.{text_from_links, pattern_from_links}
-use Rattle.mql_parse.proofs.Sound.{if_sound, bind_sound, linked, sign_sound, exact_sound, signed_sound, sign_here, changed_sound, repeated_sound, if_turn}
+use Rattle.mql_parse.proofs.Sound.{if_sound, bind_sound, linked, sign_sound, exact_sound, signed_sound, sign_here}
+use Rattle.mql_parse.proofs.Sound.{changed_sound, repeated_sound, if_turn}
 use Rattle.mql_parse.proofs.SumSound.{name_here}
 
 pub if_true : {A : Type 0} (t : Bool) (x y : A) → t ≡ true → (if t then x else y) ≡ x
@@ -321,9 +325,6 @@ negation_sound d =
 
 pub conjunction_sound : (d : ℕ) (s : Rest) → IfOk (predicates.conjunction d s) (IsConjunction d s)
 conjunction_sound d = conjunction_sound_with d (predicates.negation d) (negation_sound d)
-
-pub disjunction_sound : (d : ℕ) (s : Rest) → IfOk (predicates.disjunction d s) (IsDisjunction d s)
-disjunction_sound d = disjunction_sound_with d (predicates.negation d) (negation_sound d)
 
 -- each turn that goes on leaves less
 pub and_turn_behind : (d : ℕ) (l : PredicateTree) (m : Rest) →

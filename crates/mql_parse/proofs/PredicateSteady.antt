@@ -20,8 +20,11 @@ use Rattle.mql_parse.specs.PredicateReading.{Compared, WithValue, WithPattern, D
 use Rattle.mql_parse.specs.Steadiness.{here, next, Steady, SteadyTurn}
 use Rattle.mql_parse.proofs.PredicateSound.{and_turn_behind, or_turn_behind}
 use Rattle.mql_parse.proofs.PipeSound.{filter_turn_behind}
-use Rattle.mql_parse.proofs.Steady.{steady_from, steady_to, steady_ok, steady_fault, steady_unexpected, steady_bind, steady_map, steady_behind_pass, steady_sign, steady_up_to, head_test, next_test, steady_if, steady_skip, steady_behind, steady_behind_skip, steady_next}
-use Rattle.mql_parse.proofs.TurnSteady.{turn_done, turn_stuck, turn_from, turn_if, turn_behind_skip, turn_goes_on, steady_repetition}
+use Rattle.mql_parse.proofs.Steady.{steady_from, steady_to, steady_ok, steady_fault, steady_unexpected, steady_bind}
+use Rattle.mql_parse.proofs.Steady.{steady_map, steady_behind_pass, steady_sign, steady_up_to, head_test, next_test}
+use Rattle.mql_parse.proofs.Steady.{steady_if, steady_skip, steady_behind, steady_behind_skip, steady_next}
+use Rattle.mql_parse.proofs.TurnSteady.{turn_done, turn_stuck, turn_from, turn_if, turn_behind_skip, turn_goes_on}
+use Rattle.mql_parse.proofs.TurnSteady.{steady_repetition}
 use Rattle.mql_parse.proofs.TokenSteady.{exact_steady, word_steady, signed_steady, text_steady, pattern_steady}
 
 -- a byte that is read in any case
@@ -152,7 +155,8 @@ conjunction_steady_by d k = steady_bind next next next (predicates.negation d)
     (steady_repetition next (predicates.and_turn (predicates.negation d)) (and_turn_behind d)
     (and_turn_steady (predicates.negation d) k))
 
-pub disjunction_steady_by : (d : ℕ) → Steady next next (predicates.negation d) → Steady next next (predicates.disjunction d)
+pub disjunction_steady_by : (d : ℕ) → Steady next next (predicates.negation d) → Steady next next
+    (predicates.disjunction d)
 unfolding predicates.disjunction_with
 disjunction_steady_by d k = steady_bind next next next (predicates.conjunction d)
     (λ first. repetition (predicates.or_turn (predicates.conjunction d)) first.0 first.1) (conjunction_steady_by d k)

@@ -1,17 +1,22 @@
 -- The kinds of faults in texts in quotes and in patterns.
-use Rattle.std.proofs.Common.{◌≡◌, ℕ, ◌+◌, Bool, true, false, ◌==◌, ◌||◌, ◌&&◌, nat_le, List, [], ◌∷◌, ◌++◌, refl, sym, ap, ◌∙◌, subst, arith, if◌then◌else◌, Option, Some, None, Ok, Err}
+use Rattle.std.proofs.Common.{◌≡◌, ℕ, ◌+◌, Bool, true, false, ◌==◌, ◌||◌, ◌&&◌, nat_le, List, [], ◌∷◌, ◌++◌, refl, sym}
+use Rattle.std.proofs.Common.{ap, ◌∙◌, subst, arith, if◌then◌else◌, Option, Some, None, Ok, Err}
 use Rattle.std.proofs.lemmas.Bool.{eqb-true}
 use Rattle.std.proofs.lemmas.Bool.Decides.{nat_tests}
 use Rattle.std.proofs.lemmas.Str.{IsUtf8-nil}
 use Rattle.mon_value.specs.Texts.{text_in}
 use Rattle.mql_ast.specs.Rests.{Rest}
-use Rattle.mql_ast.specs.Quotes.{Open, Whole, Escape, More, begins_character, begins_long_character, further, TextStep, TextEnd, TextPass, TextKeep, TextBad, kept, text_step, Sign, Plain, Dot, Backslash, is_mark, PatternStep, PatternEnd, PatternCut, PatternPass, PatternKeep, PatternUnfit, PatternBad, kept_sign, unfit, pattern_step}
+use Rattle.mql_ast.specs.Quotes.{Open, Whole, Escape, More, begins_character, begins_long_character, further, TextStep}
+use Rattle.mql_ast.specs.Quotes.{TextEnd, TextPass, TextKeep, TextBad, kept, text_step, Sign, Plain, Dot, Backslash}
+use Rattle.mql_ast.specs.Quotes.{is_mark, PatternStep, PatternEnd, PatternCut, PatternPass, PatternKeep, PatternUnfit}
+use Rattle.mql_ast.specs.Quotes.{PatternBad, kept_sign, unfit, pattern_step}
 use Rattle.mql_parse.specs.declared.faults.ParseKind.TheVariants.{BadToken, BadPattern}
 use Rattle.mql_parse.specs.Outcomes.{Outcome, fault}
 use Rattle.mql_parse.specs.TokenReading as reading
 use Rattle.mql_parse.specs.FaultKinds.{open_behind, quotes_after, could_stand, QuotedKind}
 use Rattle.mql_parse.proofs.KindFits.{Outside, FaultFits, Fits}
-use Rattle.mql_parse.proofs.Utf8Steps.{LeavesOpen, StepOpens, text_step_opens, LeavesSign, PatternOpens, pattern_step_opens, text_may_end}
+use Rattle.mql_parse.proofs.Utf8Steps.{LeavesOpen, StepOpens, text_step_opens, LeavesSign, PatternOpens}
+use Rattle.mql_parse.proofs.Utf8Steps.{pattern_step_opens, text_may_end}
 
 -- a byte of a text
 byte_fits : {A : Type 0} (o : Option Open) (at b : ℕ) (bs : List ℕ) (x : Outcome A) → Fits (quotes_after o b)

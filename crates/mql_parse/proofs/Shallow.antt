@@ -1,18 +1,23 @@
 -- What is read with no regard to the levels is at no fault of the depth: tokens.
-use Rattle.std.proofs.Common.{◌≡◌, ℕ, zero, suc, ◌+◌, ◌-◌, ◌*◌, ◌^◌, Bool, true, false, ◌==◌, ◌&&◌, not, nat_le, List, [], ◌∷◌, ◌++◌, codes, if◌then◌else◌, Option, Some, None, Result, Ok, Err}
+use Rattle.std.proofs.Common.{◌≡◌, ℕ, zero, suc, ◌+◌, ◌-◌, ◌*◌, ◌^◌, Bool, true, false, ◌==◌, ◌&&◌, not, nat_le, List}
+use Rattle.std.proofs.Common.{[], ◌∷◌, ◌++◌, codes, if◌then◌else◌, Option, Some, None, Result, Ok, Err}
 use Rattle.std.specs.Result.{IfErr}
 use Rattle.mon_value.specs.Answers.{◌>>=◌}
 use Rattle.mon_value.specs.Texts.{text_in}
 use Rattle.mql_ast.specs.Bytes.{is_letter, is_digit, is_word_byte, is_metric_byte, is_alphabet}
 use Rattle.mql_ast.specs.Rests.{Rest, head, behind, skip}
-use Rattle.mql_ast.specs.Quotes.{Open, Whole, TextStep, TextEnd, TextPass, TextKeep, TextBad, text_step, Sign, Plain, PatternStep, PatternEnd, PatternCut, PatternPass, PatternKeep, PatternUnfit, PatternBad, pattern_step}
+use Rattle.mql_ast.specs.Quotes.{Open, Whole, TextStep, TextEnd, TextPass, TextKeep, TextBad, text_step, Sign, Plain}
+use Rattle.mql_ast.specs.Quotes.{PatternStep, PatternEnd, PatternCut, PatternPass, PatternKeep, PatternUnfit}
+use Rattle.mql_ast.specs.Quotes.{PatternBad, pattern_step}
 use Rattle.mql_parse.specs.declared.faults.ParseFault.{ParseFault}
 use Rattle.mql_parse.specs.declared.faults.ParseKind.{ParseKind}
-use Rattle.mql_parse.specs.declared.faults.ParseKind.TheVariants.{BadToken, BadPattern, Expected, NumberTooLarge, TooDeep}
+use Rattle.mql_parse.specs.declared.faults.ParseKind.TheVariants.{BadToken, BadPattern, Expected, NumberTooLarge}
+use Rattle.mql_parse.specs.declared.faults.ParseKind.TheVariants.{TooDeep}
 use Rattle.mql_parse.specs.declared.faults.What.{What}
 use Rattle.mql_parse.specs.declared.faults.What.TheVariants as what
 use Rattle.mql_parse.specs.Outcomes.{Outcome, kind_of, fault, unexpected, exact, sign, apart, map_outcome, up_to}
-use Rattle.mql_parse.specs.Repeats.{Turn, Done, Again, Stuck, turn_outcome, turns, repetition, on_read, list_or_end, list_turn}
+use Rattle.mql_parse.specs.Repeats.{Turn, Done, Again, Stuck, turn_outcome, turns, repetition, on_read, list_or_end}
+use Rattle.mql_parse.specs.Repeats.{list_turn}
 use Rattle.mql_parse.specs.TokenReading as reading
 
 -- a fault of another kind

@@ -20,7 +20,11 @@ use Rattle.mql_parse.specs.PredicateReading as predicates
 use Rattle.mql_parse.specs.PredicateReading.{Compared, WithValue, WithPattern}
 use Rattle.mql_parse.specs.Folds as folds
 use Rattle.mql_parse.specs.PipeReading as pipes
-use Rattle.mql_parse.proofs.Shallow.{Shallow, ShallowTurn, ok_shallow, unexpected_shallow, if_shallow, bind_shallow, map_shallow, exact_shallow, sign_shallow, apart_shallow, up_to_shallow, name_shallow, metric_shallow, positive_shallow, signed_shallow, duration_shallow, text_shallow, pattern_shallow, on_read_shallow, if_turn_shallow, done_shallow, again_shallow, repetition_shallow, list_turn_shallow}
+use Rattle.mql_parse.proofs.Shallow.{Shallow, ShallowTurn, ok_shallow, unexpected_shallow, if_shallow, bind_shallow}
+use Rattle.mql_parse.proofs.Shallow.{map_shallow, exact_shallow, sign_shallow, apart_shallow, up_to_shallow}
+use Rattle.mql_parse.proofs.Shallow.{name_shallow, metric_shallow, positive_shallow, signed_shallow, duration_shallow}
+use Rattle.mql_parse.proofs.Shallow.{text_shallow, pattern_shallow, on_read_shallow, if_turn_shallow, done_shallow}
+use Rattle.mql_parse.proofs.Shallow.{again_shallow, repetition_shallow, list_turn_shallow}
 
 -- sums
 percentile_shallow : (at : ℕ) (s : Rest) → Shallow (sums.percentile at s)

@@ -1,5 +1,6 @@
 -- What holds of what is read, part by part.
-use Rattle.std.proofs.Common.{◌≡◌, ℕ, ◌+◌, ◌-◌, ◌<◌, Bool, true, false, ◌==◌, List, [], ◌∷◌, ◌++◌, length, refl, sym, ap, ◌∙◌, subst, arith, if◌then◌else◌, length-append, Option, Some, None, Result, Ok, Err}
+use Rattle.std.proofs.Common.{◌≡◌, ℕ, ◌+◌, ◌-◌, ◌<◌, Bool, true, false, ◌==◌, List, [], ◌∷◌, ◌++◌, length, refl, sym}
+use Rattle.std.proofs.Common.{ap, ◌∙◌, subst, arith, if◌then◌else◌, length-append, Option, Some, None, Result, Ok, Err}
 use Rattle.std.specs.Result.{IfOk, result_ok}
 use Rattle.mon_value.specs.Answers.{◌>>=◌}
 use Rattle.mql_ast.specs.Rests.{Rest, head, behind, skip}
@@ -11,7 +12,8 @@ use Rattle.mql_parse.specs.TokenReading as reading
 use Rattle.mql_parse.specs.Behind.{Behind}
 use Rattle.mql_parse.specs.Soundness.{OfTurn}
 use Rattle.mql_parse.proofs.BehindLemmas.{behind_behind}
-use Rattle.mql_parse.proofs.Links.{sign_links, past_links, name_links, metric_links, positive_links, signed_links, duration_links}
+use Rattle.mql_parse.proofs.Links.{sign_links, past_links, name_links, metric_links, positive_links, signed_links}
+use Rattle.mql_parse.proofs.Links.{duration_links}
 
 pub if_sound : {A F : Type 0} (t : Bool) (x y : Result A F) (P : A → Type 0) → (t ≡ true → IfOk x P) →
     (t ≡ false → IfOk y P) → IfOk (if t then x else y) P

@@ -1,5 +1,6 @@
 -- What was read behind a keyword that no letter, digit or `_` may go on can be completed.
-use Rattle.std.proofs.Common.{◌≡◌, ℕ, ◌+◌, Bool, true, false, ◌==◌, not, List, [], ◌∷◌, ◌++◌, length, refl, sym, ap, ◌∙◌, subst, arith, if◌then◌else◌, Result, Ok, Err}
+use Rattle.std.proofs.Common.{◌≡◌, ℕ, ◌+◌, Bool, true, false, ◌==◌, not, List, [], ◌∷◌, ◌++◌, length, refl, sym, ap}
+use Rattle.std.proofs.Common.{◌∙◌, subst, arith, if◌then◌else◌, Result, Ok, Err}
 use Rattle.std.proofs.lemmas.Bool.{false≢true}
 use Rattle.mon_value.specs.Answers.{◌>>=◌}
 use Rattle.mql_ast.specs.Bytes.{is_blank, is_digit, is_word_byte}
@@ -10,8 +11,11 @@ use Rattle.mql_parse.specs.Outcomes.{unexpected, exact, apart}
 use Rattle.mql_parse.specs.FaultNumbers.{IsNumber}
 use Rattle.mql_parse.specs.FaultTokens.{IsBare}
 use Rattle.mql_parse.proofs.TokenFronts.{WordOf}
-use Rattle.mql_parse.proofs.Endings.{is_inner, Anyhow, Worded, Parted, Text, Then, join, Default, Smaller, IfTooLarge, if_too_large, ComesBy, Comes, IfExpected, if_expected, Finish, Ends, bind_ends, ends_as}
-use Rattle.mql_parse.proofs.TokenEndings.{digit_in_word, and_first, begun_here, all_nonzero, word_ends, SpacedSpan, spaced}
+use Rattle.mql_parse.proofs.Endings.{is_inner, Anyhow, Worded, Parted, Text, Then, join, Default, Smaller, IfTooLarge}
+use Rattle.mql_parse.proofs.Endings.{if_too_large, ComesBy, Comes, IfExpected, if_expected, Finish, Ends, bind_ends}
+use Rattle.mql_parse.proofs.Endings.{ends_as}
+use Rattle.mql_parse.proofs.TokenEndings.{digit_in_word, and_first, begun_here, all_nonzero, word_ends, SpacedSpan}
+use Rattle.mql_parse.proofs.TokenEndings.{spaced}
 
 no_parts : (a b : List ℕ) → [] ≡ a ++ b → b ≡ []
 no_parts [] b h = sym h

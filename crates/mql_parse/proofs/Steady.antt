@@ -1,5 +1,6 @@
 -- Readers that look no farther than they tell.
-use Rattle.std.proofs.Common.{◌≡◌, ℕ, ◌+◌, ◌<◌, ◌≤◌, Bool, true, false, ◌==◌, List, [], ◌∷◌, ◌++◌, length, refl, sym, ap, subst, arith, if◌then◌else◌, Result, Ok, Err}
+use Rattle.std.proofs.Common.{◌≡◌, ℕ, ◌+◌, ◌<◌, ◌≤◌, Bool, true, false, ◌==◌, List, [], ◌∷◌, ◌++◌, length, refl, sym}
+use Rattle.std.proofs.Common.{ap, subst, arith, if◌then◌else◌, Result, Ok, Err}
 use Rattle.mon_value.specs.Answers.{◌>>=◌}
 use Rattle.mql_ast.specs.Bytes.{is_blank}
 use Rattle.mql_ast.specs.Rests.{Rest, first_of, behind_first, behind_blanks, head, behind, skip}
@@ -7,7 +8,8 @@ use Rattle.mql_parse.specs.declared.faults.ParseFault.{ParseFault}
 use Rattle.mql_parse.specs.declared.faults.ParseKind.{ParseKind}
 use Rattle.mql_parse.specs.declared.faults.What.{What}
 use Rattle.mql_parse.specs.Outcomes.{Outcome, unexpected, fault, sign, map_outcome, up_to}
-use Rattle.mql_parse.specs.Steadiness.{Shares, here, next, ReadAlike, Agrees, Reaches, Steady, unit_read, SteadyPass, SteadyTest}
+use Rattle.mql_parse.specs.Steadiness.{Shares, here, next, ReadAlike, Agrees, Reaches, Steady, unit_read, SteadyPass}
+use Rattle.mql_parse.specs.Steadiness.{SteadyTest}
 
 -- what holds of any two rests that begin with the same bytes
 pub over_common : (e : ℕ) (P : Rest → Rest → Type 0) →

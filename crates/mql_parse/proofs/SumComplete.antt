@@ -1,5 +1,6 @@
 -- A sum of the grammar is read as its tree.
-use Rattle.std.proofs.Common.{◌≡◌, ℕ, ℤ, suc, Bool, true, false, ◌==◌, ◌||◌, codes, refl, sym, ap, ◌∙◌, arith, if◌then◌else◌, Some, Ok}
+use Rattle.std.proofs.Common.{◌≡◌, ℕ, ℤ, suc, Bool, true, false, ◌==◌, ◌||◌, codes, refl, sym, ap, ◌∙◌, arith}
+use Rattle.std.proofs.Common.{if◌then◌else◌, Some, Ok}
 use Rattle.std.proofs.lemmas.Bool.{or_from}
 use Rattle.std.proofs.lemmas.Bool.Decides.{nat_tests}
 use Rattle.mon_value.specs.Answers.{◌>>=◌}
@@ -20,7 +21,8 @@ use Rattle.mql_parse.proofs.BehindLemmas.{behind_behind, sign_behind, chosen, si
 use Rattle.mql_parse.proofs.Sound.{repeated_again}
 use Rattle.mql_parse.proofs.SumSound.{term_behind}
 use Rattle.mql_parse.proofs.PredicateSound.{if_true, if_false}
-use Rattle.mql_parse.proofs.Complete.{bound, mapped, sign_read, name_read, positive_read, signed_read, ends_here, not_that_byte, other_sign, signed_begins}
+use Rattle.mql_parse.proofs.Complete.{bound, mapped, sign_read, name_read, positive_read, signed_read, ends_here}
+use Rattle.mql_parse.proofs.Complete.{not_that_byte, other_sign, signed_begins}
 
 -- a name that stands here, and its place
 pub name_taken : (s r : Rest) (n : Name) → name_at s ≡ Some (n, r) →

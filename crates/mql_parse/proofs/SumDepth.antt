@@ -16,10 +16,14 @@ use Rattle.mql_parse.proofs.SumSound.{term_turn_behind}
 use Rattle.mql_parse.proofs.ListSound.{items_turn_behind}
 use Rattle.mql_parse.proofs.Steady.{steady_from, steady_bind}
 use Rattle.mql_parse.proofs.TurnSteady.{list_or_end_steady, list_turn_steady, steady_repetition}
-use Rattle.mql_parse.proofs.SumSteady.{term_steady_with, group_steady, term_turn_steady, sum_end_steady, sum_steady, item_steady}
-use Rattle.mql_parse.proofs.Shallow.{Shallow, ok_shallow, unexpected_shallow, if_shallow, bind_shallow, sign_shallow, name_shallow, done_shallow, list_or_end_shallow}
+use Rattle.mql_parse.proofs.SumSteady.{term_steady_with, group_steady, term_turn_steady, sum_end_steady, sum_steady}
+use Rattle.mql_parse.proofs.SumSteady.{item_steady}
+use Rattle.mql_parse.proofs.Shallow.{Shallow, ok_shallow, unexpected_shallow, if_shallow, bind_shallow, sign_shallow}
+use Rattle.mql_parse.proofs.Shallow.{name_shallow, done_shallow, list_or_end_shallow}
 use Rattle.mql_parse.proofs.ShallowParts.{word_read_shallow, number_term_shallow}
-use Rattle.mql_parse.proofs.Deepens.{Deepens, TurnDeepens, deepens_same, deepens_ok, deepens_if, deepens_bind, deepens_behind, deepens_map, deepens_fault, turn_deepens_same, turn_deepens_if, goes_on_deepens, on_read_deepens, deepens_repetition}
+use Rattle.mql_parse.proofs.Deepens.{Deepens, TurnDeepens, deepens_same, deepens_ok, deepens_if, deepens_bind}
+use Rattle.mql_parse.proofs.Deepens.{deepens_behind, deepens_map, deepens_fault, turn_deepens_same, turn_deepens_if}
+use Rattle.mql_parse.proofs.Deepens.{goes_on_deepens, on_read_deepens, deepens_repetition}
 
 term_deepens_with : (group group' : Rest → Rest → Outcome SumSeen) →
     ((t : Rest) → (head t == 40) ≡ true → Deepens next (group t (behind t)) (group' t (behind t))) →

@@ -1,5 +1,6 @@
 -- What was read of a sum before its fault can be completed.
-use Rattle.std.proofs.Common.{◌≡◌, ℕ, zero, suc, Bool, true, false, ◌==◌, ◌||◌, List, [], ◌∷◌, ◌++◌, codes, refl, sym, ap, ◌∙◌, subst, if◌then◌else◌, append_assoc, Result, Ok, Err}
+use Rattle.std.proofs.Common.{◌≡◌, ℕ, zero, suc, Bool, true, false, ◌==◌, ◌||◌, List, [], ◌∷◌, ◌++◌, codes, refl, sym}
+use Rattle.std.proofs.Common.{ap, ◌∙◌, subst, if◌then◌else◌, append_assoc, Result, Ok, Err}
 use Rattle.std.proofs.lemmas.Bool.{false≢true}
 use Rattle.std.specs.Result.{IfOk}
 use Rattle.mon_value.specs.Answers.{◌>>=◌}
@@ -20,8 +21,14 @@ use Rattle.mql_parse.specs.SumReading.{SumSeen, seen_sum, is_percentile}
 use Rattle.mql_parse.proofs.Sound.{bind_sound}
 use Rattle.mql_parse.proofs.MetricEndings.{if_bind}
 use Rattle.mql_parse.proofs.SumSound.{same_word, term_turn_behind}
-use Rattle.mql_parse.proofs.Endings.{Anyhow, Worded, Parted, Text, Then, join, changed, worded, anyhow, unended, Default, both, default_as, Finish, Ends, behind_read, ends_known, Reads, stay, as_it_is, cut_as, cut_then, bind_ends, ends_as, done_ends, then_ends, if_ends, TurnEnds, if_turns, cut_turns, goes_on_ends, loop_ends}
-use Rattle.mql_parse.proofs.TokenEndings.{at_place, AreBlanks, refused, wrong, wrong_spaced, SignSpan, sign_text, sign_cut, sign_ends, sign_default, Token, NamedSpan, NameSpan, some_name, name_cut, name_ends, name_after, name_default, plus_sign, minus_sign, open_parenthesis, close_parenthesis, comma}
+use Rattle.mql_parse.proofs.Endings.{Anyhow, Worded, Parted, Text, Then, join, changed, worded, anyhow, unended}
+use Rattle.mql_parse.proofs.Endings.{Default, both, default_as, Finish, Ends, behind_read, ends_known, Reads, stay}
+use Rattle.mql_parse.proofs.Endings.{as_it_is, cut_as, cut_then, bind_ends, ends_as, done_ends, then_ends, if_ends}
+use Rattle.mql_parse.proofs.Endings.{TurnEnds, if_turns, cut_turns, goes_on_ends, loop_ends}
+use Rattle.mql_parse.proofs.TokenEndings.{at_place, AreBlanks, refused, wrong, wrong_spaced, SignSpan, sign_text}
+use Rattle.mql_parse.proofs.TokenEndings.{sign_cut, sign_ends, sign_default, Token, NamedSpan, NameSpan, some_name}
+use Rattle.mql_parse.proofs.TokenEndings.{name_cut, name_ends, name_after, name_default, plus_sign, minus_sign}
+use Rattle.mql_parse.proofs.TokenEndings.{open_parenthesis, close_parenthesis, comma}
 use Rattle.mql_parse.proofs.NumberEndings.{positive_ends, positive_default, signed_ends}
 
 abbrev pub SumSpan : ℕ → List ℕ → List ℕ → Type 0
@@ -117,10 +124,12 @@ called_text d text w h f = λ _ bs e.
 percentile_ends : (at : ℕ) (m : Rest) → Reads (Text Worded true InPercentile) m (sums.percentile at m)
 unfolding sums.percentile
 percentile_ends at m =
-    then_ends m (reading.name m) _ refl (name_ends m) (both refl (sign_default 44 comma refl) rest_of_percentile) (λ column.
+    then_ends m (reading.name m) _ refl (name_ends m) (both refl (sign_default 44 comma refl) rest_of_percentile)
+    (λ column.
     then_ends column.1 (sign 44 what.Comma column.1) _ refl (sign_ends 44 what.Comma comma refl column.1)
     rest_of_percentile (λ k.
-    then_ends k (reading.positive 100 k) _ refl (positive_ends 100 refl k) (sign_default 41 close_parenthesis refl) (λ p.
+    then_ends k (reading.positive 100 k) _ refl (positive_ends 100 refl k) (sign_default 41 close_parenthesis refl)
+    (λ p.
     done_ends p.1 (sign 41 what.CloseParenthesis p.1) (λ r. (seen_sum (tree.Percentile at column.0 p.0) false, r))
     (sign_ends 41 what.CloseParenthesis close_parenthesis refl p.1) (λ r. refl) (λ r w f. f))))
 

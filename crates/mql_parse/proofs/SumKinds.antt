@@ -14,7 +14,10 @@ use Rattle.mql_parse.specs.SumReading as sums
 use Rattle.mql_parse.specs.SumReading.{SumSeen, seen_sum, is_percentile}
 use Rattle.mql_parse.proofs.SumSound.{term_turn_behind}
 use Rattle.mql_parse.proofs.ListSound.{items_turn_behind}
-use Rattle.mql_parse.proofs.KindFits.{Fits, TurnFits, outside_itself, outside_before, fits_before, bind_fits, map_fits, pass_then, if_fits, if_turn, skip_outside, behind_fits, skip_fits, part_fits, unexpected_next, deep_fits, sign_fits, turn_part_fits, list_turn_fits, repetition_fits}
+use Rattle.mql_parse.proofs.KindFits.{Fits, TurnFits, outside_itself, outside_before, fits_before, bind_fits, map_fits}
+use Rattle.mql_parse.proofs.KindFits.{pass_then, if_fits, if_turn, skip_outside, behind_fits, skip_fits, part_fits}
+use Rattle.mql_parse.proofs.KindFits.{unexpected_next, deep_fits, sign_fits, turn_part_fits, list_turn_fits}
+use Rattle.mql_parse.proofs.KindFits.{repetition_fits}
 use Rattle.mql_parse.proofs.TokenKinds.{word_outside, name_fits, positive_fits, signed_fits}
 
 percentile_fits : (at : ℕ) (s : Rest) → Fits None s (sums.percentile at s)

@@ -1,5 +1,6 @@
 -- A sum that is read is one of the grammar.
-use Rattle.std.proofs.Common.{◌≡◌, ℕ, zero, suc, ◌-◌, arith, Bool, true, false, ◌==◌, ◌||◌, ◌&&◌, List, [], ◌∷◌, codes, refl, ap, if◌then◌else◌, Some, None, Ok, Err, nat_eq}
+use Rattle.std.proofs.Common.{◌≡◌, ℕ, zero, suc, ◌-◌, arith, Bool, true, false, ◌==◌, ◌||◌, ◌&&◌, List, [], ◌∷◌, codes}
+use Rattle.std.proofs.Common.{refl, ap, if◌then◌else◌, Some, None, Ok, Err, nat_eq}
 use Rattle.std.specs.Result.{IfOk}
 use Rattle.std.proofs.lemmas.Bool.{eqb-true}
 use Rattle.std.specs.Cmp.Lexicographic.{pointwise}
@@ -21,7 +22,8 @@ use Rattle.mql_parse.specs.Behind.{Behind}
 use Rattle.mql_parse.specs.Soundness.{OfTurn}
 use Rattle.mql_parse.proofs.BehindLemmas.{behind_behind, sign_behind, name_behind}
 use Rattle.mql_parse.proofs.Within.{some_given, positive_within, signed_within}
-use Rattle.mql_parse.proofs.Sound.{if_sound, bind_sound, sign_sound, name_sound, positive_sound, signed_sound, sign_here, changed_sound, repeated_sound, if_turn, if_ok_weaker, goes_on_behind}
+use Rattle.mql_parse.proofs.Sound.{if_sound, bind_sound, sign_sound, name_sound, positive_sound, signed_sound}
+use Rattle.mql_parse.proofs.Sound.{sign_here, changed_sound, repeated_sound, if_turn, if_ok_weaker, goes_on_behind}
 
 -- what is left behind a sum and a term
 mutual

@@ -16,7 +16,9 @@ use Rattle.mql_parse.specs.SumReading.{SumSeen, seen_sum, is_percentile}
 use Rattle.mql_parse.specs.Steadiness.{here, next, Steady, SteadyTurn}
 use Rattle.mql_parse.proofs.SumSound.{term_turn_behind}
 use Rattle.mql_parse.proofs.ListSound.{items_turn_behind}
-use Rattle.mql_parse.proofs.Steady.{steady_from, steady_to, steady_ok, steady_fault, steady_unexpected, steady_bind, steady_map, steady_behind_pass, steady_sign, sign_next, next_test, constant_test, steady_if, steady_skip, steady_behind, steady_part_behind, steady_next}
+use Rattle.mql_parse.proofs.Steady.{steady_from, steady_to, steady_ok, steady_fault, steady_unexpected, steady_bind}
+use Rattle.mql_parse.proofs.Steady.{steady_map, steady_behind_pass, steady_sign, sign_next, next_test, constant_test}
+use Rattle.mql_parse.proofs.Steady.{steady_if, steady_skip, steady_behind, steady_part_behind, steady_next}
 use Rattle.mql_parse.proofs.TurnSteady.{turn_done, turn_if, turn_part_behind, list_turn_steady, steady_repetition}
 use Rattle.mql_parse.proofs.TokenSteady.{word_steady, name_next, positive_next, signed_steady}
 

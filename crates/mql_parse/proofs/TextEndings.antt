@@ -1,12 +1,15 @@
 -- What was read of a text in quotes before its fault can be completed.
-use Rattle.std.proofs.Common.{◌≡◌, ℕ, zero, suc, ◌+◌, ◌≤◌, true, false, ◌==◌, ◌&&◌, nat_le, List, [], ◌∷◌, ◌++◌, refl, ap, ◌∙◌, subst, arith, if◌then◌else◌, Option, Some, None, option_and_then, Ok, Err}
+use Rattle.std.proofs.Common.{◌≡◌, ℕ, zero, suc, ◌+◌, ◌≤◌, true, false, ◌==◌, ◌&&◌, nat_le, List, [], ◌∷◌, ◌++◌, refl}
+use Rattle.std.proofs.Common.{ap, ◌∙◌, subst, arith, if◌then◌else◌, Option, Some, None, option_and_then, Ok, Err}
 use Rattle.std.specs.Str.{IsUtf8}
 use Rattle.std.proofs.lemmas.Bool.Decides.{nat_tests}
 use Rattle.std.proofs.lemmas.Str.{IsUtf8-nil}
 use Rattle.mon_value.specs.Texts.{text_in}
 use Rattle.mql_ast.specs.Rests.{Rest}
 use Rattle.mql_ast.specs.Quotes as quotes
-use Rattle.mql_ast.specs.Quotes.{Open, Whole, Escape, More, further, TextStep, TextEnd, TextPass, TextKeep, TextBad, text_step, Sign, Plain, Dot, Backslash, PatternStep, PatternEnd, PatternCut, PatternPass, PatternKeep, PatternUnfit, PatternBad, pattern_step}
+use Rattle.mql_ast.specs.Quotes.{Open, Whole, Escape, More, further, TextStep, TextEnd, TextPass, TextKeep, TextBad}
+use Rattle.mql_ast.specs.Quotes.{text_step, Sign, Plain, Dot, Backslash, PatternStep, PatternEnd, PatternCut}
+use Rattle.mql_ast.specs.Quotes.{PatternPass, PatternKeep, PatternUnfit, PatternBad, pattern_step}
 use Rattle.mql_parse.specs.declared.faults.ParseKind.{ParseKind}
 use Rattle.mql_parse.specs.declared.faults.ParseKind.TheVariants.{BadToken, BadPattern, Expected}
 use Rattle.mql_parse.specs.declared.faults.What.TheVariants as what
@@ -18,7 +21,8 @@ use Rattle.mql_parse.proofs.TokenEndings.{at_place}
 use Rattle.mql_parse.proofs.QuoteKinds.{SameStep, same_step}
 use Rattle.mql_parse.proofs.TextFronts.{QuotesOpen, quotes_on}
 use Rattle.mql_parse.proofs.TokenHalts.{Halts, halted_at, halts_on}
-use Rattle.mql_parse.proofs.Utf8Steps.{IsCompleted, LeavesOpen, several_further, StepOpens, text_step_opens, LeavesSign, PatternOpens, pattern_step_opens, kept_ascii, text_may_end}
+use Rattle.mql_parse.proofs.Utf8Steps.{IsCompleted, LeavesOpen, several_further, StepOpens, text_step_opens}
+use Rattle.mql_parse.proofs.Utf8Steps.{LeavesSign, PatternOpens, pattern_step_opens, kept_ascii, text_may_end}
 
 -- a text of which this content was read
 abbrev TextOf : Open → List ℕ → List ℕ → Type 0
@@ -60,7 +64,8 @@ opened_behind b w h e = ap (λ t. open_quotes (if t then Some Whole else None) w
 stopped : {A : Type 0} {L : List ℕ → Type 0} (u : Open) (kind : ParseKind) (s : Rest) → IfTooLarge kind ⊥ →
     IfExpected kind (λ x. x ≡ what.Text) → Closing L →
     Halts {A = A} what.Text (QuotesOpen u) L s (Err (fault kind s))
-stopped {L = L} u kind s k e d = halted_at {K = QuotesOpen u} {L = L} what.Text kind s d.0 d.1.0 (u, refl) d.1.1.0 (λ same. d.1.1.1) k e
+stopped {L = L} u kind s k e d = halted_at {K = QuotesOpen u} {L = L} what.Text kind s d.0 d.1.0 (u, refl) d.1.1.0
+    (λ same. d.1.1.1) k e
 
 -- texts, byte by byte
 text_after : ℕ → List ℕ → ℕ → List ℕ → TextStep → Option (List ℕ × Rest)
@@ -90,7 +95,8 @@ text_keeps u next b t w e f = λ z at. let n = f z (at + 1) in (n.0, ap (text_af
 close_whole : (t : List ℕ) → IsUtf8 t → Closing (TextOf Whole t)
 close_whole t h = (34, ([], (text_ends Whole 34 t refl h, refl)))
 
-close_more : (n low high : ℕ) (t : List ℕ) → (nat_le 128 low && nat_le low high) ≡ true → IsCompleted (suc n) low high t →
+close_more : (n low high : ℕ) (t : List ℕ) → (nat_le 128 low && nat_le low high) ≡ true → IsCompleted (suc n) low high
+    t →
     Closing (TextOf (More (suc n) low high) t)
 close_more zero low high t h c =
     let l = low_within low high h in
@@ -232,7 +238,8 @@ close_more_plain : (n low high : ℕ) (mark : Sign) (ps : List (List ℕ)) (t : 
     IsCompleted (suc n) low high t → Closing (PatternOf (More (suc n) low high) mark ps t)
 close_more_plain zero low high mark ps t h c =
     let l = low_within low high h in
-    close_kept (More 1 low high) mark low ps t (no_quote low high h) (ap (λ b. if b then PatternKeep (further 1) Plain else PatternBad)
+    close_kept (More 1 low high) mark low ps t (no_quote low high h)
+    (ap (λ b. if b then PatternKeep (further 1) Plain else PatternBad)
     l.1.1) (c low l.0 l.1.0)
 close_more_plain (suc n) low high mark ps t h c =
     let l = low_within low high h in

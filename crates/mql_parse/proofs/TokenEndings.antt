@@ -1,5 +1,7 @@
 -- What was read of a token before its fault can be completed to a whole token.
-use Rattle.std.proofs.Common.{◌≡◌, ℕ, ◌+◌, Bool, true, false, ◌==◌, ◌||◌, ◌&&◌, not, List, [], ◌∷◌, ◌++◌, length, refl, sym, ap, ◌∙◌, subst, arith, if◌then◌else◌, append_assoc, length-append, Option, Some, None, Ok, Err}
+use Rattle.std.proofs.Common.{◌≡◌, ℕ, ◌+◌, Bool, true, false, ◌==◌, ◌||◌, ◌&&◌, not, List, [], ◌∷◌, ◌++◌, length, refl}
+use Rattle.std.proofs.Common.{sym, ap, ◌∙◌, subst, arith, if◌then◌else◌, append_assoc, length-append, Option, Some}
+use Rattle.std.proofs.Common.{None, Ok, Err}
 use Rattle.std.proofs.lemmas.Bool.{false≢true}
 use Rattle.std.proofs.lemmas.List.{append-nil}
 use Rattle.std.proofs.lemmas.Bool.Decides.{nat_tests}
@@ -16,7 +18,9 @@ use Rattle.mql_parse.specs.TokenReading as reading
 use Rattle.mql_parse.proofs.RestLemmas.{skip_off}
 use Rattle.mql_parse.proofs.WordLemmas.{word_bytes_on, word_bytes_off, behind_word_off}
 use Rattle.mql_parse.proofs.TokenFronts.{both_hold, Fronts, WordOf}
-use Rattle.mql_parse.proofs.Endings.{is_inner, Front, Anyhow, Worded, Parted, OpensAs, Text, changed, worded, NoQuotes, Default, Cut, Smaller, IfTooLarge, ComesBy, Closes, Comes, IfExpected, Finish, Ends, behind_read, Reads, Leaves, cut_before, cut_as, ends_as, if_ends}
+use Rattle.mql_parse.proofs.Endings.{is_inner, Front, Anyhow, Worded, Parted, OpensAs, Text, changed, worded, NoQuotes}
+use Rattle.mql_parse.proofs.Endings.{Default, Cut, Smaller, IfTooLarge, ComesBy, Closes, Comes, IfExpected, Finish}
+use Rattle.mql_parse.proofs.Endings.{Ends, behind_read, Reads, Leaves, cut_before, cut_as, ends_as, if_ends}
 
 abbrev pub at_place : ℕ → List ℕ → Rest
 at_place at bs = record { at = at; bytes = bs }
@@ -267,7 +271,8 @@ all_nonzero [] = true
 all_nonzero (c ∷ cs) = not (0 == c) && all_nonzero cs
 
 -- a word that is read on behind what was read, which ends in a part of it
-pub word_from : (w : What) (cs : List ℕ) → (w ≡ what.Text → ⊥) → all_nonzero cs ≡ true → (s m : Rest) (v before : List ℕ) (b : ℕ)
+pub word_from : (w : What) (cs : List ℕ) → (w ≡ what.Text → ⊥) → all_nonzero cs ≡ true
+    → (s m : Rest) (v before : List ℕ) (b : ℕ)
     (begun : List ℕ) → s.bytes ≡ v ++ m.bytes → m.at ≡ s.at + length v → v ≡ before ++ b ∷ begun →
     Fronts w (b ∷ begun) cs → IsBare w (b ∷ (begun ++ cs)) → Leaves (λ u. u ≡ v ++ cs) s (exact w cs m)
 word_from w [] o h s m v before b begun e p q u k =
@@ -303,7 +308,8 @@ exact_ends {L = L} w c cs h k f s =
     let whole : (u : List ℕ) → u ≡ next.front ++ cs → L u = λ u e. subst L
     (sym (e ∙ ap (λ t. t ++ cs) front ∙ append_assoc next.is.0 (c ∷ []) cs)) (f next.is.0 next.is.1.0) in
     ends_as s (exact w cs (behind (skip s)))
-    (word_from w cs k.other nonzero.1 s (behind (skip s)) next.front next.is.0 c [] next.bytes next.place front k.fronts k.bare)
+    (word_from w cs k.other nonzero.1 s (behind (skip s)) next.front next.is.0 c [] next.bytes next.place front
+    k.fronts k.bare)
     (λ r u e. whole u e) (λ u e. whole u e))
     (λ g. record {
       way = wrong w s c cs [] k.bare (λ bs e. subst (λ t. L (bs ++ c ∷ t)) (sym (append-nil cs)) (f bs e));

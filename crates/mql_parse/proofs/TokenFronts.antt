@@ -1,5 +1,6 @@
 -- Fronts of a token that are no tokens themselves.
-use Rattle.std.proofs.Common.{◌≡◌, inl, inr, ℕ, Bool, true, false, ◌||◌, ◌&&◌, not, List, [], ◌∷◌, ◌++◌, codes, refl, sym, ap, ◌∙◌, arith, Option, Some, None, nat_eq}
+use Rattle.std.proofs.Common.{◌≡◌, inl, inr, ℕ, Bool, true, false, ◌||◌, ◌&&◌, not, List, [], ◌∷◌, ◌++◌, codes, refl}
+use Rattle.std.proofs.Common.{sym, ap, ◌∙◌, arith, Option, Some, None, nat_eq}
 use Rattle.std.specs.Cmp.Lexicographic.{pointwise}
 use Rattle.std.proofs.lemmas.Bool.{false≢true}
 use Rattle.std.proofs.lemmas.Bool.Decides.{nat_tests}
@@ -89,19 +90,24 @@ pub align_word : WordOf what.Operation 97 (codes "lign")
 align_word = word_of what.Operation operation_words (λ t h. h) 97 (codes "lign") (λ e. cc) (inr (inl refl)) refl
 
 pub group_by_word : WordOf what.Operation 103 (codes "roup_by")
-group_by_word = word_of what.Operation operation_words (λ t h. h) 103 (codes "roup_by") (λ e. cc) (inr (inr (inl refl))) refl
+group_by_word = word_of what.Operation operation_words (λ t h. h) 103 (codes "roup_by") (λ e. cc)
+    (inr (inr (inl refl))) refl
 
 pub value_word : WordOf what.Operation 118 (codes "alue")
-value_word = word_of what.Operation operation_words (λ t h. h) 118 (codes "alue") (λ e. cc) (inr (inr (inr (inl refl)))) refl
+value_word = word_of what.Operation operation_words (λ t h. h) 118 (codes "alue") (λ e. cc)
+    (inr (inr (inr (inl refl)))) refl
 
 pub top_word : WordOf what.Operation 116 (codes "op")
-top_word = word_of what.Operation operation_words (λ t h. h) 116 (codes "op") (λ e. cc) (inr (inr (inr (inr (inl refl))))) refl
+top_word = word_of what.Operation operation_words (λ t h. h) 116 (codes "op") (λ e. cc)
+    (inr (inr (inr (inr (inl refl))))) refl
 
 pub every_word : WordOf what.Operation 101 (codes "very")
-every_word = word_of what.Operation operation_words (λ t h. h) 101 (codes "very") (λ e. cc) (inr (inr (inr (inr (inr (inl refl)))))) refl
+every_word = word_of what.Operation operation_words (λ t h. h) 101 (codes "very") (λ e. cc)
+    (inr (inr (inr (inr (inr (inl refl)))))) refl
 
 pub within_word : WordOf what.Operation 119 (codes "ithin")
-within_word = word_of what.Operation operation_words (λ t h. h) 119 (codes "ithin") (λ e. cc) (inr (inr (inr (inr (inr (inr (inl refl))))))) refl
+within_word = word_of what.Operation operation_words (λ t h. h) 119 (codes "ithin") (λ e. cc)
+    (inr (inr (inr (inr (inr (inr (inl refl))))))) refl
 
 pub delta_word : WordOf what.Aligner 100 (codes "elta")
 delta_word = word_of what.Aligner aligner_words (λ t h. h) 100 (codes "elta") (λ e. cc) (inl refl) refl
@@ -140,13 +146,16 @@ pub max_word : WordOf what.Aggregate 109 (codes "ax")
 max_word = word_of what.Aggregate fold_words (λ t h. h) 109 (codes "ax") (λ e. cc) (inr (inr (inr (inl refl)))) refl
 
 pub mean_word : WordOf what.Aggregate 109 (codes "ean")
-mean_word = word_of what.Aggregate fold_words (λ t h. h) 109 (codes "ean") (λ e. cc) (inr (inr (inr (inr (inl refl))))) refl
+mean_word = word_of what.Aggregate fold_words (λ t h. h) 109 (codes "ean") (λ e. cc) (inr (inr (inr (inr (inl refl)))))
+    refl
 
 pub merge_word : WordOf what.Aggregate 109 (codes "erge")
-merge_word = word_of what.Aggregate fold_words (λ t h. h) 109 (codes "erge") (λ e. cc) (inr (inr (inr (inr (inr (inl refl)))))) refl
+merge_word = word_of what.Aggregate fold_words (λ t h. h) 109 (codes "erge") (λ e. cc)
+    (inr (inr (inr (inr (inr (inl refl)))))) refl
 
 pub aggregate_word : WordOf what.Aggregate 97 (codes "ggregate")
-aggregate_word = word_of what.Aggregate fold_words (λ t h. h) 97 (codes "ggregate") (λ e. cc) (inr (inr (inr (inr (inr (inr (inl refl))))))) refl
+aggregate_word = word_of what.Aggregate fold_words (λ t h. h) 97 (codes "ggregate") (λ e. cc)
+    (inr (inr (inr (inr (inr (inr (inl refl))))))) refl
 
 -- one sign of a comparison that needs a second
 pub one_equals : IsBare what.Comparison (61 ∷ []) → ⊥

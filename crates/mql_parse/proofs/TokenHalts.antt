@@ -1,5 +1,6 @@
 -- Readers within one token: what was read of it before a fault is a part of the token.
-use Rattle.std.proofs.Common.{◌≡◌, ℕ, ◌+◌, Bool, true, false, List, [], ◌∷◌, ◌++◌, length, refl, sym, ap, ◌∙◌, subst, arith, if◌then◌else◌, append_assoc, length-append, Some, None, Ok, Err}
+use Rattle.std.proofs.Common.{◌≡◌, ℕ, ◌+◌, Bool, true, false, List, [], ◌∷◌, ◌++◌, length, refl, sym, ap, ◌∙◌, subst}
+use Rattle.std.proofs.Common.{arith, if◌then◌else◌, append_assoc, length-append, Some, None, Ok, Err}
 use Rattle.std.proofs.lemmas.List.{append-nil}
 use Rattle.mql_ast.specs.Rests.{Rest}
 use Rattle.mql_ast.specs.Quotes.{Whole}
@@ -10,7 +11,8 @@ use Rattle.mql_parse.specs.Outcomes.{Outcome, kind_of, fault, unexpected, map_ou
 use Rattle.mql_parse.specs.declared.faults.What.TheVariants as what
 use Rattle.mql_parse.specs.FaultKinds.{open_quotes}
 use Rattle.mql_parse.specs.FaultTokens.{IsBare}
-use Rattle.mql_parse.proofs.Endings.{Cut, Comes, IfTooLarge, if_too_large, IfExpected, if_expected, Ends, behind_read, cut_before, cut_as}
+use Rattle.mql_parse.proofs.Endings.{Cut, Comes, IfTooLarge, if_too_large, IfExpected, if_expected, Ends, behind_read}
+use Rattle.mql_parse.proofs.Endings.{cut_before, cut_as}
 use Rattle.mql_parse.proofs.TokenEndings.{none_too_large, expected_of}
 
 -- what stands before a fault is the front of a token of this kind, and not the whole of it

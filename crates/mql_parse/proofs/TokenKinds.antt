@@ -1,5 +1,6 @@
 -- The kinds of faults in tokens outside quotes.
-use Rattle.std.proofs.Common.{◌≡◌, ℕ, ◌+◌, ◌-◌, ◌*◌, ◌^◌, pos, Bool, true, false, ◌==◌, ◌||◌, ◌&&◌, not, nat_le, List, [], ◌∷◌, codes, refl, sym, ap, subst, if◌then◌else◌, None, Ok, Err}
+use Rattle.std.proofs.Common.{◌≡◌, ℕ, ◌+◌, ◌-◌, ◌*◌, ◌^◌, pos, Bool, true, false, ◌==◌, ◌||◌, ◌&&◌, not, nat_le, List}
+use Rattle.std.proofs.Common.{[], ◌∷◌, codes, refl, sym, ap, subst, if◌then◌else◌, None, Ok, Err}
 use Rattle.std.proofs.lemmas.Bool.{false≢true, eqb-true, and_parts}
 use Rattle.mon_value.specs.Answers.{◌>>=◌}
 use Rattle.mql_ast.specs.Bytes.{is_blank, is_letter, is_digit, is_word_byte, is_metric_byte, is_sign, is_alphabet}
@@ -11,7 +12,9 @@ use Rattle.mql_parse.specs.declared.faults.What.TheVariants as what
 use Rattle.mql_parse.specs.Outcomes.{fault, unexpected, exact, apart, map_outcome}
 use Rattle.mql_parse.specs.TokenReading as reading
 use Rattle.mql_parse.specs.FaultKinds.{OutsideKind}
-use Rattle.mql_parse.proofs.KindFits.{Outside, Fits, PassFits, outside_itself, outside_before, pass_before, bind_fits, map_fits, pass_then, if_fits, if_pass, byte_outside, skip_outside, part_outside, behind_fits, skip_fits, part_fits, unexpected_fits, unexpected_next, fault_fits}
+use Rattle.mql_parse.proofs.KindFits.{Outside, Fits, PassFits, outside_itself, outside_before, pass_before, bind_fits}
+use Rattle.mql_parse.proofs.KindFits.{map_fits, pass_then, if_fits, if_pass, byte_outside, skip_outside, part_outside}
+use Rattle.mql_parse.proofs.KindFits.{behind_fits, skip_fits, part_fits, unexpected_fits, unexpected_next, fault_fits}
 
 -- neither a quote nor none
 abbrev pub plain_bytes : List ℕ → Bool

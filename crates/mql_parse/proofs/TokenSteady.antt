@@ -1,11 +1,15 @@
 -- Each token is read without looking behind it.
-use Rattle.std.proofs.Common.{◌≡◌, ℕ, ◌+◌, ◌-◌, ◌*◌, ◌^◌, ◌<◌, ◌≤◌, pos, Bool, true, false, ◌==◌, ◌&&◌, not, nat_le, List, [], ◌∷◌, ◌++◌, length, codes, refl, sym, ap, subst, arith, if◌then◌else◌, Option, Some, None, Ok, Err}
+use Rattle.std.proofs.Common.{◌≡◌, ℕ, ◌+◌, ◌-◌, ◌*◌, ◌^◌, ◌<◌, ◌≤◌, pos, Bool, true, false, ◌==◌, ◌&&◌, not, nat_le}
+use Rattle.std.proofs.Common.{List, [], ◌∷◌, ◌++◌, length, codes, refl, sym, ap, subst, arith, if◌then◌else◌, Option}
+use Rattle.std.proofs.Common.{Some, None, Ok, Err}
 use Rattle.mon_value.specs.Answers.{◌>>=◌}
 use Rattle.mon_value.specs.Texts.{text_in}
 use Rattle.mql_ast.specs.Bytes.{is_letter, is_digit, is_word_byte, is_metric_byte}
 use Rattle.mql_ast.specs.Rests.{Rest, head, behind, skip}
 use Rattle.mql_ast.specs.Tokens.{word_bytes, behind_word, word_here, metric_name, minus, unit_seconds, longest}
-use Rattle.mql_ast.specs.Quotes.{Open, Whole, TextStep, TextEnd, TextPass, TextKeep, TextBad, text_step, Sign, Plain, PatternStep, PatternEnd, PatternCut, PatternPass, PatternKeep, PatternUnfit, PatternBad, pattern_step}
+use Rattle.mql_ast.specs.Quotes.{Open, Whole, TextStep, TextEnd, TextPass, TextKeep, TextBad, text_step, Sign, Plain}
+use Rattle.mql_ast.specs.Quotes.{PatternStep, PatternEnd, PatternCut, PatternPass, PatternKeep, PatternUnfit}
+use Rattle.mql_ast.specs.Quotes.{PatternBad, pattern_step}
 use Rattle.mql_parse.specs.declared.faults.ParseFault.{ParseFault}
 use Rattle.mql_parse.specs.declared.faults.ParseKind.TheVariants.{BadToken, NumberTooLarge, BadPattern}
 use Rattle.mql_parse.specs.declared.faults.What.{What}
@@ -13,7 +17,11 @@ use Rattle.mql_parse.specs.declared.faults.What.TheVariants as what
 use Rattle.mql_parse.specs.Outcomes.{Outcome, fault, unexpected, exact, apart, map_outcome}
 use Rattle.mql_parse.specs.TokenReading as reading
 use Rattle.mql_parse.specs.Steadiness.{Shares, here, next, ReadAlike, Agrees, Reaches, Steady, unit_read, SteadyPass}
-use Rattle.mql_parse.proofs.Steady.{over_common, shares, passed_on, passed_shared, shares_head, reaches_before, agrees_within, steady_by, steady_from, steady_ok, steady_fault, steady_unexpected, steady_bind, steady_map, steady_behind_pass, unit_if, head_test, next_test, steady_if, if_reaches, if_agrees, steady_skip, steady_behind, steady_here, constant_test, steady_to}
+use Rattle.mql_parse.proofs.Steady.{over_common, shares, passed_on, passed_shared, shares_head, reaches_before}
+use Rattle.mql_parse.proofs.Steady.{agrees_within, steady_by, steady_from, steady_ok, steady_fault, steady_unexpected}
+use Rattle.mql_parse.proofs.Steady.{steady_bind, steady_map, steady_behind_pass, unit_if, head_test, next_test}
+use Rattle.mql_parse.proofs.Steady.{steady_if, if_reaches, if_agrees, steady_skip, steady_behind, steady_here}
+use Rattle.mql_parse.proofs.Steady.{constant_test, steady_to}
 
 pub exact_steady : (w : What) (cs : List ℕ) → SteadyPass here here (exact w cs)
 exact_steady w [] = steady_ok here tt

@@ -1,16 +1,20 @@
 -- Turns that look no farther than they tell, and readers that take them.
-use Rattle.std.proofs.Common.{◌≡◌, ℕ, zero, suc, ◌<◌, ◌≤◌, Bool, true, false, ◌==◌, List, [], ◌∷◌, ◌++◌, length, refl, sym, ap, subst, arith, if◌then◌else◌, Ok, Err}
+use Rattle.std.proofs.Common.{◌≡◌, ℕ, zero, suc, ◌<◌, ◌≤◌, Bool, true, false, ◌==◌, List, [], ◌∷◌, ◌++◌, length, refl}
+use Rattle.std.proofs.Common.{sym, ap, subst, arith, if◌then◌else◌, Ok, Err}
 use Rattle.mql_ast.specs.Rests.{Rest, head, behind, skip}
 use Rattle.mql_parse.specs.declared.faults.What.{What}
 use Rattle.mql_parse.specs.Outcomes.{Outcome, unexpected}
-use Rattle.mql_parse.specs.Repeats.{Turn, Done, Again, Stuck, turn_outcome, goes_on, repetition, list_or_end, on_read, list_turn}
+use Rattle.mql_parse.specs.Repeats.{Turn, Done, Again, Stuck, turn_outcome, goes_on, repetition, list_or_end, on_read}
+use Rattle.mql_parse.specs.Repeats.{list_turn}
 use Rattle.mql_parse.specs.Behind.{Behind}
 use Rattle.mql_parse.specs.Soundness.{OfTurn}
-use Rattle.mql_parse.specs.Steadiness.{Shares, here, next, ReadAlike, Agrees, Reaches, Steady, TurnAgrees, TurnReaches, SteadyTurn, SteadyTest}
+use Rattle.mql_parse.specs.Steadiness.{Shares, here, next, ReadAlike, Agrees, Reaches, Steady, TurnAgrees, TurnReaches}
+use Rattle.mql_parse.specs.Steadiness.{SteadyTurn, SteadyTest}
 use Rattle.mql_parse.proofs.BehindLemmas.{behind_is_shorter}
 use Rattle.mql_parse.proofs.Loops.{GoesBehind}
 use Rattle.mql_parse.proofs.Sound.{repeated_turn}
-use Rattle.mql_parse.proofs.Steady.{skip_on, behind_on, shares_skip, shares_behind, shares_unexpected, next_test, reaches_before, agrees_within, steady_part_behind}
+use Rattle.mql_parse.proofs.Steady.{skip_on, behind_on, shares_skip, shares_behind, shares_unexpected, next_test}
+use Rattle.mql_parse.proofs.Steady.{reaches_before, agrees_within, steady_part_behind}
 
 pub turn_reaches_before : {A : Type 0} (to : Rest → ℕ) (n m : ℕ) (u : Turn A) → n ≤ m → TurnReaches to m u →
     TurnReaches to n u

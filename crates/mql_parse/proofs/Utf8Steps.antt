@@ -1,5 +1,7 @@
 -- What was read of a text in quotes is UTF-8, up to the bytes that its last character still wants.
-use Rattle.std.proofs.Common.{◌≡◌, ℕ, zero, suc, ◌+◌, ◌-◌, ◌*◌, ◌/◌, ◌%◌, ◌<◌, ◌≤◌, Bool, true, false, ◌==◌, ◌||◌, ◌&&◌, nat_le, List, [], ◌∷◌, ◌++◌, refl, sym, ap, ◌∙◌, subst, arith, if◌then◌else◌, append_assoc, Option, Some, None, IfSome}
+use Rattle.std.proofs.Common.{◌≡◌, ℕ, zero, suc, ◌+◌, ◌-◌, ◌*◌, ◌/◌, ◌%◌, ◌<◌, ◌≤◌, Bool, true, false, ◌==◌, ◌||◌}
+use Rattle.std.proofs.Common.{◌&&◌, nat_le, List, [], ◌∷◌, ◌++◌, refl, sym, ap, ◌∙◌, subst, arith, if◌then◌else◌}
+use Rattle.std.proofs.Common.{append_assoc, Option, Some, None, IfSome}
 use Rattle.std.specs.Str.{IsUtf8}
 use Rattle.std.specs.Char.{IsScalar, encode_utf8}
 use Rattle.std.proofs.lemmas.Bool.{le-ltb, lt-ltb}
@@ -7,7 +9,10 @@ use Rattle.std.proofs.lemmas.Bool.Decides.{nat_tests}
 use Rattle.std.proofs.lemmas.Str.{IsUtf8-append, IsUtf8-encode}
 use Rattle.mon_value.specs.Texts.{text_in}
 use Rattle.mon_value.proofs.TextLemmas.{text_in-IsUtf8}
-use Rattle.mql_ast.specs.Quotes.{Open, Whole, Escape, More, begins_long_character, begins_character, further, TextStep, TextEnd, TextPass, TextKeep, TextBad, kept, text_step, Sign, Plain, Dot, Backslash, is_mark, PatternStep, PatternEnd, PatternCut, PatternPass, PatternKeep, PatternUnfit, PatternBad, kept_sign, unfit, pattern_step}
+use Rattle.mql_ast.specs.Quotes.{Open, Whole, Escape, More, begins_long_character, begins_character, further, TextStep}
+use Rattle.mql_ast.specs.Quotes.{TextEnd, TextPass, TextKeep, TextBad, kept, text_step, Sign, Plain, Dot, Backslash}
+use Rattle.mql_ast.specs.Quotes.{is_mark, PatternStep, PatternEnd, PatternCut, PatternPass, PatternKeep, PatternUnfit}
+use Rattle.mql_ast.specs.Quotes.{PatternBad, kept_sign, unfit, pattern_step}
 
 -- the bytes of one character
 utf8_of_1 : (b : ℕ) → b < 128 → IsUtf8 (b ∷ [])
@@ -129,7 +134,8 @@ long_opens b t u =
     (λ h. let r = between 241 b 243 h in (
       refl,
       λ c l k d m j e n i. behind_4 t b c d e u
-          (utf8_of_4 b c d e (omega arith) (omega arith) l k (λ q. absurd (omega arith)) (λ q. absurd (omega arith)) m j n
+          (utf8_of_4 b c d e (omega arith) (omega arith) l k (λ q. absurd (omega arith)) (λ q. absurd (omega arith)) m
+          j n
           i),
     ))
     (λ _. some_test (b == 244) _ None (λ o. LeavesOpen o (t ++ b ∷ []))

@@ -1,5 +1,7 @@
 -- What was read of a comparison or a value before its fault can be completed.
-use Rattle.std.proofs.Common.{◌≡◌, inl, inr, ℕ, ℤ, ◌+◌, Bool, true, false, ◌==◌, ◌||◌, ◌&&◌, not as not', pos, ◌-◌, ◌^◌, List, [], ◌∷◌, ◌++◌, length, codes, refl, sym, ap, ◌∙◌, subst, if◌then◌else◌, append_assoc, Option, Some, None, option_and_then, Ok, Err, arith}
+use Rattle.std.proofs.Common.{◌≡◌, inl, inr, ℕ, ℤ, ◌+◌, Bool, true, false, ◌==◌, ◌||◌, ◌&&◌, not as not', pos, ◌-◌}
+use Rattle.std.proofs.Common.{◌^◌, List, [], ◌∷◌, ◌++◌, length, codes, refl, sym, ap, ◌∙◌, subst, if◌then◌else◌}
+use Rattle.std.proofs.Common.{append_assoc, Option, Some, None, option_and_then, Ok, Err, arith}
 use Rattle.std.proofs.lemmas.List.{append-nil}
 use Rattle.std.proofs.lemmas.Bool.Decides.{nat_tests}
 use Rattle.mon_value.specs.Answers.{◌>>=◌}
@@ -20,10 +22,13 @@ use Rattle.mql_parse.specs.TokenReading as reading
 use Rattle.mql_parse.specs.PredicateReading as predicates
 use Rattle.mql_parse.specs.PredicateReading.{Compared, WithValue, WithPattern}
 use Rattle.mql_parse.proofs.RestLemmas.{skip_off}
-use Rattle.mql_parse.proofs.Endings.{Anyhow, Worded, Parted, Text, changed, worded, anyhow, Default, Cut, Finish, Ends, behind_read, Reads, stay, cut_as, cut_then, ends_as, done_ends, if_ends}
+use Rattle.mql_parse.proofs.Endings.{Anyhow, Worded, Parted, Text, changed, worded, anyhow, Default, Cut, Finish, Ends}
+use Rattle.mql_parse.proofs.Endings.{behind_read, Reads, stay, cut_as, cut_then, ends_as, done_ends, if_ends}
 use Rattle.mql_parse.proofs.TokenFronts.{one_equals, one_exclamation, true_word, false_word}
 use Rattle.mql_parse.proofs.TextFronts.{open_text}
-use Rattle.mql_parse.proofs.TokenEndings.{at_place, AreBlanks, skip_over, blanks_open, begun_here, wrong, byte_cut, first_cut, IsSign, SignSpan, sign_text, WordSpan, word_text, exact_ends, Token, exclamation, quote}
+use Rattle.mql_parse.proofs.TokenEndings.{at_place, AreBlanks, skip_over, blanks_open, begun_here, wrong, byte_cut}
+use Rattle.mql_parse.proofs.TokenEndings.{first_cut, IsSign, SignSpan, sign_text, WordSpan, word_text, exact_ends}
+use Rattle.mql_parse.proofs.TokenEndings.{Token, exclamation, quote}
 use Rattle.mql_parse.proofs.NumberEndings.{signed_ends, signed_default}
 use Rattle.mql_parse.proofs.MetricEndings.{if_bind}
 use Rattle.mql_parse.proofs.TextEndings.{TextRest, PatternRest, text_rest_ends, no_text}

@@ -1,12 +1,20 @@
 -- What is left behind the tokens of several bytes.
-use Rattle.std.proofs.Common.{◌≡◌, ℕ, ◌+◌, ◌-◌, ◌*◌, ◌^◌, Bool, true, false, ◌==◌, ◌&&◌, not, nat_le, List, [], ◌∷◌, ◌++◌, codes, refl, if◌then◌else◌, Option, Some, None, option_and_then, IfSome, subst, pos}
+use Rattle.std.proofs.Common.{◌≡◌, ℕ, ◌+◌, ◌-◌, ◌*◌, ◌^◌, Bool, true, false, ◌==◌, ◌&&◌, not, nat_le, List, [], ◌∷◌}
+use Rattle.std.proofs.Common.{◌++◌, codes, refl, if◌then◌else◌, Option, Some, None, option_and_then, IfSome, subst}
+use Rattle.std.proofs.Common.{pos}
 use Rattle.mon_value.specs.Texts.{text_in}
 use Rattle.mql_ast.specs.Bytes.{is_digit, is_metric_byte}
 use Rattle.mql_ast.specs.Rests.{Rest, head, behind, skip}
-use Rattle.mql_ast.specs.Tokens.{sign_at, word_at, with_byte, metric_from, metric_behind, metric_at, digits_from, positive_at, number_at, signed_at, minus, unit_seconds, longest, with_unit, duration_at}
-use Rattle.mql_ast.specs.Quotes.{Open, Whole, TextStep, TextEnd, TextPass, TextKeep, TextBad, text_step, after_text_step, text_from, text_at, Sign, Plain, PatternStep, PatternEnd, PatternCut, PatternPass, PatternKeep, PatternUnfit, PatternBad, pattern_step, with_piece, after_pattern_step, pattern_from, pattern_at}
+use Rattle.mql_ast.specs.Tokens.{sign_at, word_at, with_byte, metric_from, metric_behind, metric_at, digits_from}
+use Rattle.mql_ast.specs.Tokens.{positive_at, number_at, signed_at, minus, unit_seconds, longest, with_unit}
+use Rattle.mql_ast.specs.Tokens.{duration_at}
+use Rattle.mql_ast.specs.Quotes.{Open, Whole, TextStep, TextEnd, TextPass, TextKeep, TextBad, text_step}
+use Rattle.mql_ast.specs.Quotes.{after_text_step, text_from, text_at, Sign, Plain, PatternStep, PatternEnd, PatternCut}
+use Rattle.mql_ast.specs.Quotes.{PatternPass, PatternKeep, PatternUnfit, PatternBad, pattern_step, with_piece}
+use Rattle.mql_ast.specs.Quotes.{after_pattern_step, pattern_from, pattern_at}
 use Rattle.mql_parse.specs.Behind.{From, Behind}
-use Rattle.mql_parse.proofs.BehindLemmas.{from_itself, from_trans, behind_from, from_behind, to_from, tested_behind, skip_from, sign_behind, word_behind, one_from}
+use Rattle.mql_parse.proofs.BehindLemmas.{from_itself, from_trans, behind_from, from_behind, to_from, tested_behind}
+use Rattle.mql_parse.proofs.BehindLemmas.{skip_from, sign_behind, word_behind, one_from}
 
 some_if : {A : Type 0} (t : Bool) (o p : Option A) (P : A → Type 0) → IfSome o P → IfSome p P →
     IfSome (if t then o else p) P

@@ -17,11 +17,6 @@ pub word_bytes_on : (at : ℕ) (bs : List ℕ) → is_word_byte (first_of bs) �
 word_bytes_on at [] h = absurd (false≢true h)
 word_bytes_on at (b ∷ bs) h = ap (λ t. if t then b ∷ word_bytes bs else []) h
 
-pub behind_word_on : (at : ℕ) (bs : List ℕ) → is_word_byte (first_of bs) ≡ true →
-    behind_word at bs ≡ behind_word (behind_first at bs).at (behind_first at bs).bytes
-behind_word_on at [] h = refl
-behind_word_on at (b ∷ bs) h = ap (λ t. if t then behind_word (at + 1) bs else record { at = at; bytes = b ∷ bs }) h
-
 pub word_bytes_off : (bs : List ℕ) → is_word_byte (first_of bs) ≡ false → word_bytes bs ≡ []
 word_bytes_off [] h = refl
 word_bytes_off (b ∷ bs) h = ap (λ t. if t then b ∷ word_bytes bs else []) h

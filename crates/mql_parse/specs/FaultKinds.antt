@@ -1,11 +1,13 @@
 -- Which kinds a fault has by its byte: in a text in quotes, outside the alphabet, and at the end of the text.
-use Rattle.std.specs.Prelude.{◌≡◌, ℕ, Bool, true, false, ◌==◌, ◌||◌, not, List, [], ◌∷◌, take, drop, Option, Some, None, if◌then◌else◌}
+use Rattle.std.specs.Prelude.{◌≡◌, ℕ, Bool, true, false, ◌==◌, ◌||◌, not, List, [], ◌∷◌, take, drop, Option, Some}
+use Rattle.std.specs.Prelude.{None, if◌then◌else◌}
 use Rattle.mql_ast.specs.Bytes.{is_digit, is_alphabet}
 use Rattle.mql_ast.specs.Tokens.{unit_seconds}
 use Rattle.mql_ast.specs.Quotes.{Open, Whole, TextStep, TextEnd, TextPass, TextKeep, TextBad, text_step}
 use Rattle.mql_parse.specs.declared.faults.ParseFault.{ParseFault}
 use Rattle.mql_parse.specs.declared.faults.ParseKind.{ParseKind}
-use Rattle.mql_parse.specs.declared.faults.ParseKind.TheVariants.{BadToken, BadPattern, Expected, NumberTooLarge, TooDeep, TooLong}
+use Rattle.mql_parse.specs.declared.faults.ParseKind.TheVariants.{BadToken, BadPattern, Expected, NumberTooLarge}
+use Rattle.mql_parse.specs.declared.faults.ParseKind.TheVariants.{TooDeep, TooLong}
 use Rattle.mql_parse.specs.declared.faults.What.TheVariants as what
 
 -- what of a text in quotes is open behind a byte of it: nothing, where the byte ends it

@@ -1,10 +1,12 @@
 -- How operations, pipes and whole texts are read.
-use Rattle.std.specs.Prelude.{ℕ, ℤ, zero, suc, Bool, true, false, ◌==◌, nat_lt, List, [], ◌∷◌, ◌++◌, length, codes, Result, Ok, Err, if◌then◌else◌}
+use Rattle.std.specs.Prelude.{ℕ, ℤ, zero, suc, Bool, true, false, ◌==◌, nat_lt, List, [], ◌∷◌, ◌++◌, length, codes}
+use Rattle.std.specs.Prelude.{Result, Ok, Err, if◌then◌else◌}
 use Rattle.mon_value.specs.Answers.{◌>>=◌}
 use Rattle.mon_value.specs.declared.aligners.Aligner.TheVariants as aligner
 use Rattle.mql_ast.specs.declared.pipes.How.{How}
 use Rattle.mql_ast.specs.declared.pipes.How.TheVariants as how
-use Rattle.mql_ast.specs.Trees.{DeedTree, Filter, Align, GroupBy, Value, Top, Every, Within, OpTree, PipeTree, Flow, SourceTree, Fetch, Branches, branches}
+use Rattle.mql_ast.specs.Trees.{DeedTree, Filter, Align, GroupBy, Value, Top, Every, Within, OpTree, PipeTree, Flow}
+use Rattle.mql_ast.specs.Trees.{SourceTree, Fetch, Branches, branches}
 use Rattle.mql_ast.specs.Rests.{Rest, head, behind, skip}
 use Rattle.mql_ast.specs.Grammar.{start, levels, longest_text}
 use Rattle.mql_parse.specs.declared.faults.ParseFault.{ParseFault}

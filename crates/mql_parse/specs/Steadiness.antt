@@ -37,8 +37,8 @@ abbrev pub Reaches : {A : Type 0} → (Rest → ℕ) → ℕ → Outcome A → T
 Reaches to n (Ok x) = n ≤ to x.1
 Reaches to n (Err f) = n ≤ f.at
 
--- a reader that looks at a first place at least, at no place behind that of its fault, and, where it reads something, at
--- none behind a place in what it leaves
+-- a reader that looks at a first place at least, at no place behind that of its fault, and, where it reads something,
+-- at none behind a place in what it leaves
 pub record Steady {A : Type 0} (from to : Rest → ℕ) (read : Rest → Outcome A) : Type 0 where
   pub reaches : (s : Rest) → Reaches to (from s) (read s)
   pub agrees : (e : ℕ) (s t : Rest) → Shares e s t → Agrees to e (read s) (read t)

@@ -1,12 +1,15 @@
 -- How the tokens of a text are read, and where one is at fault.
-use Rattle.std.specs.Prelude.{ℕ, ℤ, pos, ◌+◌, ◌-◌, ◌*◌, ◌^◌, Bool, true, false, ◌==◌, ◌&&◌, not, nat_le, List, [], ◌∷◌, ◌++◌, codes, Option, Some, None, Ok, Err, if◌then◌else◌}
+use Rattle.std.specs.Prelude.{ℕ, ℤ, pos, ◌+◌, ◌-◌, ◌*◌, ◌^◌, Bool, true, false, ◌==◌, ◌&&◌, not, nat_le, List, [], ◌∷◌}
+use Rattle.std.specs.Prelude.{◌++◌, codes, Option, Some, None, Ok, Err, if◌then◌else◌}
 use Rattle.mon_value.specs.Answers.{◌>>=◌}
 use Rattle.mon_value.specs.Texts.{text_in}
 use Rattle.mql_ast.specs.declared.names.Name.{Name}
 use Rattle.mql_ast.specs.Bytes.{is_letter, is_digit, is_metric_byte}
 use Rattle.mql_ast.specs.Rests.{Rest, head, behind, skip}
 use Rattle.mql_ast.specs.Tokens.{word_here, minus, unit_seconds, longest}
-use Rattle.mql_ast.specs.Quotes.{Open, Whole, TextStep, TextEnd, TextPass, TextKeep, TextBad, text_step, Sign, Plain, PatternStep, PatternEnd, PatternCut, PatternPass, PatternKeep, PatternUnfit, PatternBad, pattern_step}
+use Rattle.mql_ast.specs.Quotes.{Open, Whole, TextStep, TextEnd, TextPass, TextKeep, TextBad, text_step, Sign, Plain}
+use Rattle.mql_ast.specs.Quotes.{PatternStep, PatternEnd, PatternCut, PatternPass, PatternKeep, PatternUnfit}
+use Rattle.mql_ast.specs.Quotes.{PatternBad, pattern_step}
 use Rattle.mql_parse.specs.declared.faults.ParseKind.TheVariants.{BadToken, Expected, NumberTooLarge, BadPattern}
 use Rattle.mql_parse.specs.declared.faults.What.TheVariants as what
 use Rattle.mql_parse.specs.Outcomes.{Outcome, fault, unexpected, exact, map_outcome}
@@ -110,7 +113,8 @@ abbrev pub pattern_from : Open → Sign → List (List ℕ) → List ℕ → ℕ
 pattern_from unfinished mark pieces content at [] = Err (fault (Expected what.Text) (record { at = at; bytes = [] }))
 pattern_from unfinished mark pieces content at (b ∷ bs) =
     after_pattern_step (pattern_step unfinished mark b) b (record { at = at; bytes = b ∷ bs })
-    (record { at = at + 1; bytes = bs }) pieces content (λ next sign all more. pattern_from next sign all more (at + 1) bs)
+    (record { at = at + 1; bytes = bs }) pieces content (λ next sign all more. pattern_from next sign all more (at + 1)
+    bs)
 
 -- a pattern from behind its first quote
 unfoldable pub pattern : Rest → Outcome (List (List ℕ))

@@ -5,7 +5,8 @@ use Rattle.std.specs.declared.vec.Vec.{Vec}
 use Rattle.mql_ast.specs.declared.operations.Item.{Item}
 use Rattle.mql_ast.specs.declared.operations.Op.{Op}
 use Rattle.mql_ast.specs.declared.pipes.Pipe.{Pipe}
-use Rattle.mql_ast.specs.Trees.{sum_tree, ItemTree, item_tree, PredicateTree, predicate_tree, OpTree, op_tree, PipeTree, pipe_tree}
+use Rattle.mql_ast.specs.Trees.{sum_tree, ItemTree, item_tree, PredicateTree, predicate_tree, OpTree, op_tree}
+use Rattle.mql_ast.specs.Trees.{PipeTree, pipe_tree}
 use Rattle.mql_parse.specs.declared.sums.SumRead.{SumRead}
 use Rattle.mql_parse.specs.declared.filters.FilterRead.{FilterRead}
 use Rattle.mql_parse.specs.declared.operations.OpRead.{OpRead}

@@ -1,5 +1,6 @@
 -- The rows of alignments: types, and widths.
-use Rattle.std.proofs.Common.{◌≡◌, ◌∙◌, ◌≤◌, ℕ, ℤ, zero, suc, ◌+◌, ◌*◌, ◌^◌, Bool, true, false, not, cond, Option, Some, None, List, [], ◌∷◌, ◌++◌, map, length, subst, refl, ap, sym, arith}
+use Rattle.std.proofs.Common.{◌≡◌, ◌∙◌, ◌≤◌, ℕ, ℤ, zero, suc, ◌+◌, ◌*◌, ◌^◌, Bool, true, false, not, cond, Option}
+use Rattle.std.proofs.Common.{Some, None, List, [], ◌∷◌, ◌++◌, map, length, subst, refl, ap, sym, arith}
 use Rattle.std.specs.Prelude.{slice_get}
 use Rattle.std.specs.List.{AllByRecursion, filter, sum_by}
 use Rattle.std.specs.Option.{option_map_or}
@@ -42,12 +43,16 @@ use Rattle.mon_schema.specs.HeldMetrics.{HasNumbers}
 use Rattle.mql_types.specs.Soundness.{FitTable}
 use Rattle.mql_types.specs.Typing.{aligned_column, aligned_width}
 use Rattle.mql_types.specs.Widths.{with_width}
-use Rattle.mql_types.proofs.AlignedValues.{PointFits, Takes, aligned_fit, grid_reach, can_add_all, most_of, reached, series_within, sum_of_values, valued, weight, window_weight}
-use Rattle.mql_types.proofs.FetchedPoints.{IsRowOf, IsSeriesOf, series_columns, series_small, series_typed, value_small, value_typed}
+use Rattle.mql_types.proofs.AlignedValues.{PointFits, Takes, aligned_fit, grid_reach, can_add_all, most_of, reached}
+use Rattle.mql_types.proofs.AlignedValues.{series_within, sum_of_values, valued, weight, window_weight}
+use Rattle.mql_types.proofs.FetchedPoints.{IsRowOf, IsSeriesOf, series_columns, series_small, series_typed}
+use Rattle.mql_types.proofs.FetchedPoints.{value_small, value_typed}
 use Rattle.mql_types.proofs.GroupSums.{key_sums_within, keys_apart}
-use Rattle.mql_types.proofs.JoinedRows.{FitColumns-append, FitWidths-append, IsRowWide, all-both, all-flat_map, all-made, all-map, column_of_all, place_bound}
+use Rattle.mql_types.proofs.JoinedRows.{FitColumns-append, FitWidths-append, IsRowWide, all-both, all-flat_map}
+use Rattle.mql_types.proofs.JoinedRows.{all-made, all-map, column_of_all, place_bound}
 use Rattle.mql_types.proofs.KeptRows.{all-append, all-filter, sum_by-flat_map}
-use Rattle.mql_types.proofs.MadeCells.{Side, back, front, get_back, length_fit, nothing_is, same_item, side_of, sums_less}
+use Rattle.mql_types.proofs.MadeCells.{Side, back, front, get_back, length_fit, nothing_is, same_item, side_of}
+use Rattle.mql_types.proofs.MadeCells.{sums_less}
 use Rattle.mql_types.proofs.SumBounds.{AreLawful, IsSound}
 use Rattle.mql_types.proofs.Totals.{counted, sum_by-filter-le, totals_from}
 use Rattle.mql_types.proofs.ValueRows.{FitsBoth}

@@ -1,5 +1,7 @@
 -- What a series comes to once it is aligned: of the metric's type, and no larger than its points in reach together.
-use Rattle.std.proofs.Common.{◌≡◌, ◌∙◌, ◌≤◌, ℕ, ℤ, pos, zero, suc, ◌+◌, ◌-◌, ◌*◌, ◌^◌, ◌-ℤ◌, ◌≤ℤ◌, ◌<ℤ◌, Bool, true, false, ◌&&◌, cond, int_le, int_lt, Option, Some, None, List, [], ◌∷◌, ◌++◌, subst, refl, ap, sym, arith, unsigned_abs}
+use Rattle.std.proofs.Common.{◌≡◌, ◌∙◌, ◌≤◌, ℕ, ℤ, pos, zero, suc, ◌+◌, ◌-◌, ◌*◌, ◌^◌, ◌-ℤ◌, ◌≤ℤ◌, ◌<ℤ◌, Bool, true}
+use Rattle.std.proofs.Common.{false, ◌&&◌, cond, int_le, int_lt, Option, Some, None, List, [], ◌∷◌, ◌++◌, subst, refl}
+use Rattle.std.proofs.Common.{ap, sym, arith, unsigned_abs}
 use Rattle.std.specs.Prelude.{option_map}
 use Rattle.std.specs.List.{AllByRecursion, flat_map, sum_by}
 use Rattle.std.specs.Option.{option_or}
@@ -9,7 +11,8 @@ use Rattle.std.proofs.lemmas.Bool.Decides.{Decides-int_eq}
 use Rattle.std.proofs.lemmas.Int.{ints}
 use Rattle.std.proofs.lemmas.List.Sums.{sum_by-append, sum_by-cons}
 use Rattle.mon_value.specs.Aggregates.{sum_of, where_any}
-use Rattle.mon_value.specs.Alignments.{CanAdd, CanAddAll, aligned_values, newest_point, seconds_of, timed_values, value_at, value_made, values_of}
+use Rattle.mon_value.specs.Alignments.{CanAdd, CanAddAll, aligned_values, newest_point, seconds_of, timed_values}
+use Rattle.mon_value.specs.Alignments.{value_at, value_made, values_of}
 use Rattle.mon_value.specs.Columns.{HasType}
 use Rattle.mon_value.specs.Grids.{IsLawful, grid_times, least_time, time_count, times_back}
 use Rattle.mon_value.specs.Groups.{merge_in, numbers_in, sum_in, total_of}

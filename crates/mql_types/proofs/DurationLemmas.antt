@@ -3,7 +3,9 @@ use Rattle.std.proofs.Common.{◌≡◌, ℕ, ℤ, pos, negsuc, List, [], ◌∷
 use Rattle.std.proofs.lemmas.Int.{ints}
 use Rattle.std.specs.List.{AllByRecursion}
 use Rattle.mon_value.specs.Grids.{IsDuration}
-use Rattle.mql_ast.specs.Grammar.{Deed, filter, align_delta, align_next_older, group_by, value, top, every, within, Ops, no_ops, more_ops, Pipe, flow, Source, fetch, join, PipeList, two_pipes, more_pipes, Spells}
+use Rattle.mql_ast.specs.Grammar.{Deed, filter, align_delta, align_next_older, group_by, value, top, every, within}
+use Rattle.mql_ast.specs.Grammar.{Ops, no_ops, more_ops, Pipe, flow, Source, fetch, join, PipeList, two_pipes}
+use Rattle.mql_ast.specs.Grammar.{more_pipes, Spells}
 use Rattle.mql_ast.specs.Rests.{Rest, skip}
 use Rattle.mql_ast.specs.Tokens.{duration_at}
 use Rattle.mql_ast.specs.Trees.{DeedTree, OpTree, PipeTree, SourceTree, branches}

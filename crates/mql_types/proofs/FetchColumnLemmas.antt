@@ -14,7 +14,10 @@ use Rattle.mql_types.specs.Nodes as node
 use Rattle.mql_types.specs.Nodes.{NodeTree, TypedTree, columns_of, level_of}
 use Rattle.mql_types.specs.Plans.{HasFetchColumns, fetches}
 use Rattle.mql_types.specs.Times.{every_said, pipe_order_faults, query_times, times_faults}
-use Rattle.mql_types.specs.Typing.{Part, align_faults, align_node, aligned_tree, branch_faults, branch_node, branches_faults, branches_node, deed_faults, deed_part, further_faults, further_node, info, ops_faults, ops_part, pipe_faults, pipe_part, query_faults, source_faults, source_part, typed_query, typing, unless}
+use Rattle.mql_types.specs.Typing.{Part, align_faults, align_node, aligned_tree, branch_faults, branch_node}
+use Rattle.mql_types.specs.Typing.{branches_faults, branches_node, deed_faults, deed_part, further_faults}
+use Rattle.mql_types.specs.Typing.{further_node, info, ops_faults, ops_part, pipe_faults, pipe_part, query_faults}
+use Rattle.mql_types.specs.Typing.{source_faults, source_part, typed_query, typing, unless}
 
 -- ---- no faults
 
@@ -107,7 +110,8 @@ mutual
   pipe_has : (held : SchemaLists) (every : ℤ) (pipe : PipeTree) → pipe_faults held every pipe ≡ []
       → Has held (pipe_part held every pipe)
   pipe_has held every (tree.Flow source ops) none =
-      let nones = both_none (source_faults held every source) (ops_faults held every (source_part held every source) ops)
+      let nones = both_none (source_faults held every source) (ops_faults held every (source_part held every source)
+      ops)
       none in
       ops_have held every (source_part held every source) ops (source_has held every source nones.0) nones.1
 

@@ -1,5 +1,6 @@
 -- Parts that aren't aligned: which points reach them, and how many are in reach.
-use Rattle.std.proofs.Common.{◌≡◌, ◌∙◌, ◌≤◌, Bool, true, false, ◌&&◌, cond, Some, List, [], ◌∷◌, length, subst, refl, ap, sym, arith}
+use Rattle.std.proofs.Common.{◌≡◌, ◌∙◌, ◌≤◌, Bool, true, false, ◌&&◌, cond, Some, List, [], ◌∷◌, length, subst, refl}
+use Rattle.std.proofs.Common.{ap, sym, arith}
 use Rattle.std.specs.List.{AllByRecursion, filter}
 use Rattle.mon_value.specs.declared.aligners.Aligner.{Aligner}
 use Rattle.mon_value.specs.declared.grids.Grid.{Grid}

@@ -1,5 +1,6 @@
 -- The columns of aggregates, and what stands in them.
-use Rattle.std.proofs.Common.{◌≡◌, ◌∙◌, ◌≤◌, ◌<◌, ℕ, ℤ, ◌+◌, ◌^◌, Bool, true, false, not, cond, nat_lt, Option, Some, None, List, [], ◌∷◌, length, subst, refl, ap, sym, arith}
+use Rattle.std.proofs.Common.{◌≡◌, ◌∙◌, ◌≤◌, ◌<◌, ℕ, ℤ, ◌+◌, ◌^◌, Bool, true, false, not, cond, nat_lt, Option, Some}
+use Rattle.std.proofs.Common.{None, List, [], ◌∷◌, length, subst, refl, ap, sym, arith}
 use Rattle.std.specs.Prelude.{option_and_then, option_map, slice_get}
 use Rattle.std.specs.List.{AllByRecursion, cons_option, sum_by}
 use Rattle.std.specs.Option.{option_map_or}
@@ -25,12 +26,14 @@ use Rattle.mql_ast.specs.declared.names.Name.{Name}
 use Rattle.mql_ast.specs.declared.operations.FoldWord.{FoldWord}
 use Rattle.mql_ast.specs.declared.operations.FoldWord.TheVariants as fold
 use Rattle.mql_types.specs.Filters.{column_faults}
-use Rattle.mql_types.specs.Groupings.{aggregate_at, aggregate_column, aggregate_over, fold_kind, fold_takes, fold_width, folded_column, folded_faults, place_found, wanted_word}
+use Rattle.mql_types.specs.Groupings.{aggregate_at, aggregate_column, aggregate_over, fold_kind, fold_takes}
+use Rattle.mql_types.specs.Groupings.{fold_width, folded_column, folded_faults, place_found, wanted_word}
 use Rattle.mql_types.specs.Groupings as grouping
 use Rattle.mql_types.specs.Items.{plain_column}
 use Rattle.mql_types.specs.Soundness.{CountsRows, TotalsFit}
 use Rattle.mql_types.specs.Widths.{count_width, width_of}
-use Rattle.mql_types.proofs.FoldedValues.{Folded, folded_more, greatest_folded, least_folded, mean_folded, merge_folded, sum_folded}
+use Rattle.mql_types.proofs.FoldedValues.{Folded, folded_more, greatest_folded, least_folded, mean_folded}
+use Rattle.mql_types.proofs.FoldedValues.{merge_folded, sum_folded}
 use Rattle.mql_types.proofs.JoinedRows.{all-map, column_of_all}
 use Rattle.mql_types.proofs.KnownSums.{cell_of}
 use Rattle.mql_types.proofs.MadeCells.{IsThere, MadeCell, all-filter_map, is_there, same_item}
@@ -340,7 +343,7 @@ pub place_is : (columns : List Column) (name : List ℕ) (c : Column) → column
 place_is columns name c e =
     found_by (place_of name columns) (length columns) (slice_get_within columns (place_of name columns) c e)
 
-over_is : (columns : List Column) (how : FoldWord) (name : List ℕ) (c : Column) → column_named name columns ≡ Some c
+pub over_is : (columns : List Column) (how : FoldWord) (name : List ℕ) (c : Column) → column_named name columns ≡ Some c
     → option_and_then (aggregate_at columns how) (place_found name columns)
     ≡ Some (grouping.aggregate_made how c.of (place_of name columns))
 over_is columns how name c e =

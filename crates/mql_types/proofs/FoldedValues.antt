@@ -1,5 +1,6 @@
 -- What the values of a group come to: of their type, and no larger than they are.
-use Rattle.std.proofs.Common.{◌≡◌, ◌≤◌, ◌<◌, ℕ, ℤ, pos, negsuc, suc, ◌+◌, ◌*◌, ◌/◌, Option, Some, List, [], ◌∷◌, length, fold, sum, subst, refl, arith, unsigned_abs}
+use Rattle.std.proofs.Common.{◌≡◌, ◌≤◌, ◌<◌, ℕ, ℤ, pos, negsuc, suc, ◌+◌, ◌*◌, ◌/◌, Option, Some, List, [], ◌∷◌}
+use Rattle.std.proofs.Common.{length, fold, sum, subst, refl, arith, unsigned_abs}
 use Rattle.std.specs.Prelude.{option_map}
 use Rattle.std.specs.Int.{int_div_euclid, int_max, int_min}
 use Rattle.std.specs.List.{AllByRecursion, sum_by}

@@ -1,5 +1,6 @@
 -- The rows of `group_by`: types, and widths.
-use Rattle.std.proofs.Common.{◌≡◌, ◌∙◌, ◌≤◌, ◌<◌, ℕ, ℤ, ◌+◌, ◌^◌, Bool, true, false, not, cond, nat_lt, zero, suc, Option, Some, None, List, [], ◌∷◌, ◌++◌, map, length, subst, refl, ap, sym, arith}
+use Rattle.std.proofs.Common.{◌≡◌, ◌∙◌, ◌≤◌, ◌<◌, ℕ, ℤ, ◌+◌, ◌^◌, Bool, true, false, not, cond, nat_lt, zero, suc}
+use Rattle.std.proofs.Common.{Option, Some, None, List, [], ◌∷◌, ◌++◌, map, length, subst, refl, ap, sym, arith}
 use Rattle.std.specs.Prelude.{option_and_then, option_map, slice_get}
 use Rattle.std.specs.List.{AllByRecursion, cons_option, filter_map, flat_map, sum_by}
 use Rattle.std.specs.Ordering.{int_eq}
@@ -21,7 +22,9 @@ use Rattle.mon_value.proofs.SameLemmas.{same_row-Decides}
 use Rattle.mql_ast.specs.SumWidths.{FitWidths}
 use Rattle.mql_ast.specs.declared.names.Name.{Name}
 use Rattle.mql_ast.specs.declared.operations.Aggregate.{Aggregate}
-use Rattle.mql_types.specs.Groupings.{aggregate_columns, aggregate_faults, aggregate_name, aggregate_of, aggregates_over, as_key, column_made, group_columns, key_at, key_columns_at, listed, listed_places, new_place, place_found}
+use Rattle.mql_types.specs.Groupings.{aggregate_columns, aggregate_faults, aggregate_name, aggregate_of}
+use Rattle.mql_types.specs.Groupings.{aggregates_over, as_key, column_made, group_columns, key_at, key_columns_at}
+use Rattle.mql_types.specs.Groupings.{listed, listed_places, new_place, place_found}
 use Rattle.mql_types.specs.Items.{is_taken, reserved_names, with_name}
 use Rattle.mql_types.specs.Soundness.{CountsRows, FitTable, TotalsFit}
 use Rattle.mql_types.proofs.FoldedColumns.{FoldMade, IsGroup, fold_made, value_fits}
@@ -29,7 +32,9 @@ use Rattle.mql_types.proofs.GroupSums.{group_sums_within}
 use Rattle.mql_types.proofs.JoinedRows.{FitColumns-append, FitWidths-append, all-both, all-made, all-map, column_of_all}
 use Rattle.mql_types.proofs.KeptRows.{all-append, all-filter}
 use Rattle.mql_types.proofs.KnownSums.{cell_of}
-use Rattle.mql_types.proofs.MadeCells.{IsThere, MadeCell, Side, all-filter_map, back, cell_there, from_item, front, get_back, get_front, get_made, is_there, length_fit, made_shaped, made_within, nothing_is, same_item, side_of, sums_less}
+use Rattle.mql_types.proofs.MadeCells.{IsThere, MadeCell, Side, all-filter_map, back, cell_there, from_item, front}
+use Rattle.mql_types.proofs.MadeCells.{get_back, get_front, get_made, is_there, length_fit, made_shaped, made_within}
+use Rattle.mql_types.proofs.MadeCells.{nothing_is, same_item, side_of, sums_less}
 use Rattle.mql_types.proofs.RowCounts.{length-filter-le}
 use Rattle.mql_types.proofs.SumBounds.{AreLawful, IsSound, amount, no_faults}
 use Rattle.mql_types.proofs.Totals.{TotalsFit-fewer, counted, sum_by-filter-le, total-counted, totals_from}
@@ -216,7 +221,7 @@ first_by : {A : Type 0} (b : Bool) (x : A) (xs : List A) → b ≡ true → 0 < 
 first_by true x xs e = omega arith
 first_by false x xs e = absurd cc
 
-each_has_rows : (by : List ℕ) (rows : List TimedRow)
+pub each_has_rows : (by : List ℕ) (rows : List TimedRow)
     → AllByRecursion (λ row. 0 < length (rows_in by (group_key by row) rows)) rows
 each_has_rows by [] = tt
 each_has_rows by (row ∷ rows) = (

@@ -1,5 +1,6 @@
 -- The rows of joins: types, and widths.
-use Rattle.std.proofs.Common.{◌≡◌, ◌≤◌, ℕ, ℤ, ◌+◌, ◌*◌, ◌^◌, Bool, not, Option, Some, None, zero, suc, List, [], ◌∷◌, ◌++◌, map, length, subst, refl, sym, arith}
+use Rattle.std.proofs.Common.{◌≡◌, ◌≤◌, ℕ, ℤ, ◌+◌, ◌*◌, ◌^◌, Bool, not, Option, Some, None, zero, suc, List, [], ◌∷◌}
+use Rattle.std.proofs.Common.{◌++◌, map, length, subst, refl, sym, arith}
 use Rattle.std.specs.Prelude.{slice_get, unwrap_or, option_map}
 use Rattle.std.specs.List.{AllByRecursion, filter, flat_map, sum_by}
 use Rattle.std.specs.Option.{option_map_or}
@@ -128,7 +129,7 @@ abbrev is_own : List Column → Column → Bool
 is_own lefts column = not (has_name column.name lefts)
 
 -- a pair of fitting rows fits the join's columns
-pair_fits : (held : SchemaLists) (lefts rights : List Column) (left right : TimedRow) → FitColumns lefts left.cells
+pub pair_fits : (held : SchemaLists) (lefts rights : List Column) (left right : TimedRow) → FitColumns lefts left.cells
     → FitColumns rights right.cells
     → FitColumns (join_columns held lefts rights) (pair_of lefts rights left right).cells
 pair_fits held lefts rights left right fit other =

@@ -1,5 +1,6 @@
 -- Sums without a fault have a width, and come to a number unless a percentile meets a distribution without values.
-use Rattle.std.proofs.Common.{◌≡◌, ◌∙◌, ℕ, ℤ, zero, suc, ◌+ℤ◌, ◌-ℤ◌, ◌==◌, ◌||◌, Bool, true, false, not, cond, Option, Some, None, List, [], ◌∷◌, subst, refl, ap, sym}
+use Rattle.std.proofs.Common.{◌≡◌, ◌∙◌, ℕ, ℤ, zero, suc, ◌+ℤ◌, ◌-ℤ◌, ◌==◌, ◌||◌, Bool, true, false, not, cond, Option}
+use Rattle.std.proofs.Common.{Some, None, List, [], ◌∷◌, subst, refl, ap, sym}
 use Rattle.std.specs.Prelude.{option_and_then, option_map, slice_get, sum}
 use Rattle.std.specs.Option.{option_map_or}
 use Rattle.mon_value.specs.Columns.{FitColumns, HasType}
@@ -11,13 +12,15 @@ use Rattle.mon_value.specs.declared.values.Value.TheVariants as value
 use Rattle.mon_value.specs.declared.values.ValueType.{ValueType}
 use Rattle.mon_value.specs.declared.values.ValueType.TheVariants as type
 use Rattle.mql_ast.specs.NamedCells.{column_named, place_of}
-use Rattle.mql_ast.specs.Sums.{bucket_bounds, is_without_values, meets_no_values, percentile_in, put_together, sum_value}
+use Rattle.mql_ast.specs.Sums.{bucket_bounds, is_without_values, meets_no_values, percentile_in, put_together}
+use Rattle.mql_ast.specs.Sums.{sum_value}
 use Rattle.mql_ast.specs.Trees as tree
 use Rattle.mql_ast.specs.Trees.{SumTree}
 use Rattle.mql_types.specs.declared.faults.TypeWord.TheVariants as word
 use Rattle.mql_types.specs.declared.widths.Width.{Width}
 use Rattle.mql_types.specs.Filters.{column_faults}
-use Rattle.mql_types.specs.Items.{is_number, operand_faults, percentile_faults, percentile_faults_of, sum_width, width_of_type, width_together}
+use Rattle.mql_types.specs.Items.{is_number, operand_faults, percentile_faults, percentile_faults_of, sum_width}
+use Rattle.mql_types.specs.Items.{width_of_type, width_together}
 use Rattle.mql_types.specs.Widths.{added_width, number_width, width_of}
 use Rattle.mql_types.proofs.SumBounds.{bounds_in, no_faults, none_where}
 

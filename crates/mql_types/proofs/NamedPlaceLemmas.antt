@@ -1,5 +1,7 @@
 -- The places of columns, kept under their names.
-use Rattle.std.proofs.Common.{◌≡◌, ◌∙◌, ℕ, ◌+◌, ◌≤◌, ◌<◌, Bool, true, false, not, cond, ◌||◌, is_none, is_some, nat_lt, nat_eq, List, [], ◌∷◌, ◌++◌, length, Option, Some, None, refl, ap, sym, subst, arith, Bor, length-append}
+use Rattle.std.proofs.Common.{◌≡◌, ◌∙◌, ℕ, ◌+◌, ◌≤◌, ◌<◌, Bool, true, false, not, cond, ◌||◌, is_none, is_some, nat_lt}
+use Rattle.std.proofs.Common.{nat_eq, List, [], ◌∷◌, ◌++◌, length, Option, Some, None, refl, ap, sym, subst, arith}
+use Rattle.std.proofs.Common.{Bor, length-append}
 use Rattle.std.proofs.lemmas.Bool.{lt-ltb, le-ltb, eqb-true}
 use Rattle.std.proofs.lemmas.Bool.Decides.{nat_tests}
 use Rattle.std.proofs.lemmas.List.Folds.{position_or_len_push}
@@ -58,7 +60,8 @@ by_first false p n any e =
     e ∙ is_some-cond (nat_lt p n) p ∙ grind (arith, nat_tests) ∙ sym (is_some-cond (nat_lt (1 + p) (n + 1)) (1 + p))
 
 -- a name stands somewhere exactly where it has a place
-pub has_name-place : (name : List ℕ) (columns : List Column) → has_name name columns ≡ is_some (place_found name columns)
+pub has_name-place : (name : List ℕ) (columns : List Column) → has_name name columns
+    ≡ is_some (place_found name columns)
 has_name-place name [] = refl
 has_name-place name (x ∷ xs) =
     let test : Column → Bool = λ c. same_text name c.name in
@@ -83,12 +86,14 @@ is_false false h = refl
 same_text-back : (s t : List ℕ) (b : Bool) → same_text s t ≡ b → same_text t s ≡ b
 same_text-back s t true e = (same_text-Decides t s).1 (sym ((same_text-Decides s t).0 e))
 same_text-back s t false e =
-    is_false (same_text t s) (λ h. let back : same_text s t ≡ true = (same_text-Decides s t).1 (sym ((same_text-Decides t s).0 h)) in cc)
+    is_false (same_text t s) (λ h. let back : same_text s t ≡ true = (same_text-Decides s t).1
+    (sym ((same_text-Decides t s).0 h)) in cc)
 
 one_place : {S : Type 0} (places : PlaceMap S) (a b : Bor (List ℕ)) → same_text a.now b.now ≡ true
     → get same_name places a ≡ get same_name places b
 one_place places a b same =
-    ap (λ (text : List ℕ). get_by (λ (k : Bor (List ℕ)). same_text text k.now) places) ((same_text-Decides a.now b.now).0 same)
+    ap (λ (text : List ℕ). get_by (λ (k : Bor (List ℕ)). same_text text k.now) places)
+    ((same_text-Decides a.now b.now).0 same)
 
 put : (b : Bool) (before after : Option ℕ) (place : ℕ) → (b ≡ true → before ≡ None)
     → after ≡ cond b (Some place) before → after ≡ option_or before (cond b (Some place) None)
@@ -107,14 +112,8 @@ adds_place before after name place none updates other =
     (λ same. one_place before other name same ∙ none)
     (updates.0 other ∙ ap (λ c. cond c (Some place) (get same_name before other)) back)
 
-kept : (b : Bool) (o : Option ℕ) (place : ℕ) → (b ≡ true → is_some o ≡ true) → o ≡ option_or o (cond b (Some place) None)
+kept : (b : Bool) (o : Option ℕ) (place : ℕ) → (b ≡ true → is_some o ≡ true) → o ≡ option_or o
+    (cond b (Some place) None)
 kept true None place there = absurd (let e = there refl in cc)
 kept false None place there = refl
 kept b (Some x) place there = refl
-
--- a name that has a place keeps it
-pub keeps_places : {S : Type 0} (places : PlaceMap S) (name : Bor (List ℕ)) (place : ℕ)
-    → is_some (get same_name places name) ≡ true → AddsPlace places places name.now place
-keeps_places places name place there other =
-    kept (same_text other.now name.now) (get same_name places other) place
-    (λ same. ap is_some (one_place places other name same) ∙ there)

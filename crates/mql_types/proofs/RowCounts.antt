@@ -1,5 +1,6 @@
 -- How many rows tables have.
-use Rattle.std.proofs.Common.{◌≡◌, ◌∙◌, ◌≤◌, ℕ, ◌+◌, Bool, not, Option, Some, None, List, [], ◌∷◌, length, take, refl, ap, sym, arith, length-append}
+use Rattle.std.proofs.Common.{◌≡◌, ◌∙◌, ◌≤◌, ℕ, ◌+◌, Bool, not, Option, Some, None, List, [], ◌∷◌, length, take, refl}
+use Rattle.std.proofs.Common.{ap, sym, arith, length-append}
 use Rattle.std.specs.List.{cons_option, filter, filter_map, flat_map, sum_by}
 use Rattle.std.proofs.lemmas.List.{length-map, length-take}
 use Rattle.std.proofs.lemmas.List.Sorted.{length_permutation}

@@ -1,11 +1,13 @@
 -- The numbers, percentiles and counts of a query that a text spells are as the grammar has them.
-use Rattle.std.proofs.Common.{◌≡◌, ℕ, ℤ, pos, negsuc, ◌^◌, true, neg_ℤ, int_le, int_lt, List, [], ◌∷◌, Option, Some, refl, arith}
+use Rattle.std.proofs.Common.{◌≡◌, ℕ, ℤ, pos, negsuc, ◌^◌, true, neg_ℤ, int_le, int_lt, List, [], ◌∷◌, Option, Some}
+use Rattle.std.proofs.Common.{refl, arith}
 use Rattle.std.specs.List.{AllByRecursion}
 use Rattle.std.proofs.lemmas.Int.{ints}
 use Rattle.mon_schema.specs.Fits.{is_number}
 use Rattle.mon_value.proofs.SameLemmas.{join}
 use Rattle.mql_ast.specs.Grammar as grammar
-use Rattle.mql_ast.specs.Grammar.{Deed, Folded, Folding, FoldingList, ItemList, ItemOf, Ops, Pipe, PipeList, Source, Spells, Sum, Term}
+use Rattle.mql_ast.specs.Grammar.{Deed, Folded, Folding, FoldingList, ItemList, ItemOf, Ops, Pipe, PipeList, Source}
+use Rattle.mql_ast.specs.Grammar.{Spells, Sum, Term}
 use Rattle.mql_ast.specs.Rests.{Rest, skip}
 use Rattle.mql_ast.specs.SumWidths.{HasShares}
 use Rattle.mql_ast.specs.Trees.{DeedTree, ItemTree, OpTree, PipeTree, SourceTree, SumTree, branches}
@@ -14,7 +16,8 @@ use Rattle.mql_ast.specs.declared.operations.Aggregate.{Aggregate}
 use Rattle.mql_ast.specs.declared.operations.FoldWord.{FoldWord}
 use Rattle.mql_ast.specs.declared.operations.FoldWord.TheVariants as fold
 use Rattle.mql_ast.proofs.NumbersPrinted as printed
-use Rattle.mql_types.specs.Soundness.{AreBranchesSpelled, AreOpsSpelled, CountsRows, HasLiterals, IsDeedSpelled, IsPipeSpelled, IsSourceSpelled}
+use Rattle.mql_types.specs.Soundness.{AreBranchesSpelled, AreOpsSpelled, CountsRows, HasLiterals, IsDeedSpelled}
+use Rattle.mql_types.specs.Soundness.{IsPipeSpelled, IsSourceSpelled}
 use Rattle.mql_types.proofs.KeptRows.{all-append}
 
 in_range : (z : ℤ) → printed.InRange z → is_number z ≡ true

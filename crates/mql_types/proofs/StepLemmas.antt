@@ -1,5 +1,6 @@
 -- Up to which place the operations of a pipe have steps.
-use Rattle.std.proofs.Common.{◌≡◌, ◌∙◌, ℕ, ◌+◌, ◌||◌, Bool, true, false, zero, suc, cond, nat_lt, List, [], ◌∷◌, ◌++◌, Option, map, drop, refl, ap, sym, arith}
+use Rattle.std.proofs.Common.{◌≡◌, ◌∙◌, ℕ, ◌+◌, ◌||◌, Bool, true, false, zero, suc, cond, nat_lt, List, [], ◌∷◌, ◌++◌}
+use Rattle.std.proofs.Common.{Option, map, drop, refl, ap, sym, arith}
 use Rattle.std.proofs.lemmas.Bool.Decides.{nat_tests}
 use Rattle.mql_types.proofs.FaultLemmas.{first_with-append}
 use Rattle.mql_ast.specs.declared.operations.Op.{Op}

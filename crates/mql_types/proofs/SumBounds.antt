@@ -1,5 +1,7 @@
 -- What sums come to is within their widths.
-use Rattle.std.proofs.Common.{◌≡◌, ◌≤◌, ℕ, ℤ, pos, zero, suc, ◌+◌, ◌^◌, ◌+ℤ◌, ◌-ℤ◌, ◌==◌, Bool, true, false, cond, nat_lt, int_le, int_lt, neg_ℤ, Option, Some, None, List, [], ◌∷◌, ◌++◌, max, subst, refl, sym, arith, unsigned_abs, ltb-false}
+use Rattle.std.proofs.Common.{◌≡◌, ◌≤◌, ℕ, ℤ, pos, zero, suc, ◌+◌, ◌^◌, ◌+ℤ◌, ◌-ℤ◌, ◌==◌, Bool, true, false, cond}
+use Rattle.std.proofs.Common.{nat_lt, int_le, int_lt, neg_ℤ, Option, Some, None, List, [], ◌∷◌, ◌++◌, max, subst, refl}
+use Rattle.std.proofs.Common.{sym, arith, unsigned_abs, ltb-false}
 use Rattle.std.specs.Prelude.{option_and_then, option_map, slice_get, slice_index_or, sum}
 use Rattle.std.specs.List.{AllByRecursion}
 use Rattle.std.specs.Option.{option_map_or}

@@ -1,5 +1,6 @@
 -- What sums come to in all rows of a time is within their widths.
-use Rattle.std.proofs.Common.{◌≡◌, ◌≤◌, ℕ, ℤ, ◌+◌, ◌*◌, ◌^◌, ◌+ℤ◌, ◌-ℤ◌, Bool, true, false, cond, Option, Some, None, List, [], ◌∷◌, length, max, subst, refl, sym, arith, unsigned_abs}
+use Rattle.std.proofs.Common.{◌≡◌, ◌≤◌, ℕ, ℤ, ◌+◌, ◌*◌, ◌^◌, ◌+ℤ◌, ◌-ℤ◌, Bool, true, false, cond, Option, Some, None}
+use Rattle.std.proofs.Common.{List, [], ◌∷◌, length, max, subst, refl, sym, arith, unsigned_abs}
 use Rattle.std.specs.Prelude.{option_and_then, slice_get}
 use Rattle.std.specs.List.{sum_by}
 use Rattle.std.specs.Ordering.{int_eq}
@@ -17,7 +18,9 @@ use Rattle.mql_types.specs.Items.{operand_faults, optional_width_faults, sum_wid
 use Rattle.mql_types.specs.Soundness.{HasLiterals, TotalsFit}
 use Rattle.mql_types.specs.Widths.{added_width, number_width, width_of}
 use Rattle.mql_types.proofs.JoinedRows.{column_of_all, row_wide}
-use Rattle.mql_types.proofs.SumBounds.{AreLawful, IsLawful, IsSound, added_by, amount, both_by, column_by, lawful_sum, no_faults, not_wide, number_within, numbers_at, percentile_column, taken_by, together_within}
+use Rattle.mql_types.proofs.SumBounds.{AreLawful, IsLawful, IsSound, added_by, amount, both_by, column_by, lawful_sum}
+use Rattle.mql_types.proofs.SumBounds.{no_faults, not_wide, number_within, numbers_at, percentile_column, taken_by}
+use Rattle.mql_types.proofs.SumBounds.{together_within}
 use Rattle.mql_types.proofs.Totals.{counted, total_at}
 use Rattle.mql_types.proofs.UnitedRows.{both_sums}
 use Rattle.mql_types.proofs.MadeCells.{same_item}

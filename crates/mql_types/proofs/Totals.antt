@@ -1,5 +1,6 @@
 -- The sums of columns at a time, as sums over the rows.
-use Rattle.std.proofs.Common.{◌≡◌, ◌∙◌, ◌≤◌, ℕ, ℤ, ◌+◌, ◌^◌, Bool, true, false, not, cond, Option, Some, None, List, [], ◌∷◌, zero, suc, ◌*◌, length, subst, refl, ap, sym, arith}
+use Rattle.std.proofs.Common.{◌≡◌, ◌∙◌, ◌≤◌, ℕ, ℤ, ◌+◌, ◌^◌, Bool, true, false, not, cond, Option, Some, None, List}
+use Rattle.std.proofs.Common.{[], ◌∷◌, zero, suc, ◌*◌, length, subst, refl, ap, sym, arith}
 use Rattle.std.specs.List.{AllByRecursion, cons_option, filter, sum_by}
 use Rattle.std.specs.Option.{option_map_or}
 use Rattle.std.specs.Ordering.{int_eq}

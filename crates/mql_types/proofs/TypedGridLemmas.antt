@@ -1,5 +1,7 @@
 -- The times of a query that has a type are those of a grid.
-use Rattle.std.proofs.Common.{◌≡◌, ℕ, suc, ℤ, pos, negsuc, ◌+◌, ◌-◌, ◌*◌, ◌/◌, ◌<◌, ◌≤◌, ◌*ℤ◌, ◌≤ℤ◌, Bool, true, false, cond, int_lt, unsigned_abs, List, [], ◌∷◌, ◌++◌, Option, Some, None, Ok, unwrap_or, refl, subst, arith}
+use Rattle.std.proofs.Common.{◌≡◌, ℕ, suc, ℤ, pos, negsuc, ◌+◌, ◌-◌, ◌*◌, ◌/◌, ◌<◌, ◌≤◌, ◌*ℤ◌, ◌≤ℤ◌, Bool, true, false}
+use Rattle.std.proofs.Common.{cond, int_lt, unsigned_abs, List, [], ◌∷◌, ◌++◌, Option, Some, None, Ok, unwrap_or, refl}
+use Rattle.std.proofs.Common.{subst, arith}
 use Rattle.std.proofs.Math.Nat.{div-lt_iff_lt-mul, mul_comm}
 use Rattle.std.proofs.lemmas.Int.{ints}
 use Rattle.std.specs.Option.{IfSome, option_or}
@@ -12,7 +14,8 @@ use Rattle.mql_types.specs.Durations.{HasDuration, HasDurations}
 use Rattle.mql_types.specs.Faults.{earlier_fault, fault_where, first_fault, first_with}
 use Rattle.mql_types.specs.Meaning.{grid_of}
 use Rattle.mql_types.specs.Nodes.{TypedTree}
-use Rattle.mql_types.specs.Times.{are_too_many, every_said, longer, nothing_said, pipe_ops, pipe_order_faults, query_times, said_by, said_of, times_faults, within_said}
+use Rattle.mql_types.specs.Times.{are_too_many, every_said, longer, nothing_said, pipe_ops, pipe_order_faults}
+use Rattle.mql_types.specs.Times.{query_times, said_by, said_of, times_faults, within_said}
 use Rattle.mql_types.specs.Typing.{pipe_faults, query_faults, typed_query, typing, unless}
 use Rattle.mql_types.specs.declared.faults.TypeFault.{TypeFault}
 use Rattle.mql_types.specs.declared.faults.TypeKind.{TypeKind}

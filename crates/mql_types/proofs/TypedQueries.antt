@@ -1,5 +1,6 @@
 -- A query without a fault: its tree's nodes have the columns of their rules.
-use Rattle.std.proofs.Common.{◌≡◌, ◌∙◌, ℕ, ℤ, Bool, true, false, not, cond, Option, Some, None, Ok, List, [], ◌∷◌, ◌++◌, map, subst, refl, ap, sym}
+use Rattle.std.proofs.Common.{◌≡◌, ◌∙◌, ℕ, ℤ, Bool, true, false, not, cond, Option, Some, None, Ok, List, [], ◌∷◌}
+use Rattle.std.proofs.Common.{◌++◌, map, subst, refl, ap, sym}
 use Rattle.std.specs.Prelude.{is_none}
 use Rattle.std.specs.List.{AllByRecursion, flat_map}
 use Rattle.mon_value.specs.Alignments.{seconds_of}
@@ -33,9 +34,14 @@ use Rattle.mql_types.specs.Items.{item_sum_faults, reserved_names, taken_faults,
 use Rattle.mql_types.specs.Nodes as node
 use Rattle.mql_types.specs.Nodes.{NodeTree, TypedTree, columns_of}
 use Rattle.mon_schema.specs.HeldMetrics.{IsHeld}
-use Rattle.mql_types.specs.Soundness.{AreBranchesSpelled, AreOpsSpelled, HasLiterals, IsDeedSpelled, IsPipeSpelled, IsSourceSpelled}
-use Rattle.mql_types.specs.Times.{branch_ops, every_said, pipe_ops, pipe_order_faults, query_times, source_ops, times_faults}
-use Rattle.mql_types.specs.Typing.{Part, align_faults, align_node, aligned_by_default, aligned_tree, branch_faults, branch_node, branches_faults, branches_node, deed_faults, deed_part, default_aligner, fetch_part, further_faults, further_node, ops_faults, ops_part, pipe_faults, pipe_part, source_faults, source_part, typing}
+use Rattle.mql_types.specs.Soundness.{AreBranchesSpelled, AreOpsSpelled, HasLiterals, IsDeedSpelled, IsPipeSpelled}
+use Rattle.mql_types.specs.Soundness.{IsSourceSpelled}
+use Rattle.mql_types.specs.Times.{branch_ops, every_said, pipe_ops, pipe_order_faults, query_times, source_ops}
+use Rattle.mql_types.specs.Times.{times_faults}
+use Rattle.mql_types.specs.Typing.{Part, align_faults, align_node, aligned_by_default, aligned_tree, branch_faults}
+use Rattle.mql_types.specs.Typing.{branch_node, branches_faults, branches_node, deed_faults, deed_part}
+use Rattle.mql_types.specs.Typing.{default_aligner, fetch_part, further_faults, further_node, ops_faults, ops_part}
+use Rattle.mql_types.specs.Typing.{pipe_faults, pipe_part, source_faults, source_part, typing}
 use Rattle.mql_types.specs.Widths.{wide_faults, width_faults, width_of}
 use Rattle.mql_types.proofs.AlignedValues.{Takes}
 use Rattle.mql_types.proofs.FetchedTrees.{ArePoints, columns_fetched_are}

@@ -1,5 +1,6 @@
 -- Sums without a fault are typed as computing them asks.
-use Rattle.std.proofs.Common.{◌≡◌, ◌∙◌, ◌≤◌, ℕ, ◌+◌, not, cond, nat_le, Option, Some, None, List, [], ◌∷◌, max, subst, refl, ap, sym, arith}
+use Rattle.std.proofs.Common.{◌≡◌, ◌∙◌, ◌≤◌, ℕ, ◌+◌, not, cond, nat_le, Option, Some, None, List, [], ◌∷◌, max, subst}
+use Rattle.std.proofs.Common.{refl, ap, sym, arith}
 use Rattle.std.specs.Prelude.{IsSome, IsSomeAnd, is_none, option_and_then}
 use Rattle.std.specs.List.{AllByRecursion, flat_map}
 use Rattle.mon_value.specs.declared.columns.Column.{Column}
@@ -15,7 +16,8 @@ use Rattle.mql_ast.specs.declared.names.Name.{Name}
 use Rattle.mql_types.specs.declared.faults.TypeKind.TheVariants.{UnknownColumn}
 use Rattle.mql_types.specs.declared.widths.Width.{Width}
 use Rattle.mql_types.specs.Faults.{fault_where}
-use Rattle.mql_types.specs.Items.{item_sum_faults, operand_faults, optional_width_faults, percentile_faults, percentile_faults_of, sum_width, width_of_type, width_together}
+use Rattle.mql_types.specs.Items.{item_sum_faults, operand_faults, optional_width_faults, percentile_faults}
+use Rattle.mql_types.specs.Items.{percentile_faults_of, sum_width, width_of_type, width_together}
 use Rattle.mql_types.specs.Soundness.{HasLiterals}
 use Rattle.mql_types.specs.Widths.{added_width, number_width, width_of}
 use Rattle.mql_types.proofs.FoldedColumns.{not_false}

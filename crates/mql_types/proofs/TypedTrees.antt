@@ -1,5 +1,6 @@
 -- Trees whose nodes have the columns of their rules: their tables fit, and each operation's input meets what it asks.
-use Rattle.std.proofs.Common.{◌≡◌, ◌∙◌, ◌≤◌, ℕ, ℤ, ◌+◌, ◌^◌, true, Option, Some, None, List, [], ◌∷◌, map, length, subst, ap, sym, arith}
+use Rattle.std.proofs.Common.{◌≡◌, ◌∙◌, ◌≤◌, ℕ, ℤ, ◌+◌, ◌^◌, true, Option, Some, None, List, [], ◌∷◌, map, length}
+use Rattle.std.proofs.Common.{subst, ap, sym, arith}
 use Rattle.std.specs.Prelude.{option_map, unwrap_or}
 use Rattle.std.specs.List.{AllByRecursion, flat_map}
 use Rattle.std.proofs.lemmas.Bool.{leb-true}
@@ -29,7 +30,8 @@ use Rattle.mql_ast.specs.Truths.{predicate_truth}
 use Rattle.mql_ast.specs.declared.names.Name.{Name}
 use Rattle.mql_ast.specs.declared.operations.Aggregate.{Aggregate}
 use Rattle.mql_types.specs.declared.nodes.NodeInfo.{NodeInfo}
-use Rattle.mql_types.specs.Branches.{anchored_with, as_joined, join_columns, left_column, same_columns, union_columns, united_column}
+use Rattle.mql_types.specs.Branches.{anchored_with, as_joined, join_columns, left_column, same_columns, union_columns}
+use Rattle.mql_types.specs.Branches.{united_column}
 use Rattle.mql_types.specs.Fetches.{columns_fetched}
 use Rattle.mql_types.specs.Groupings.{aggregate_faults, aggregates_over, group_columns, listed_places}
 use Rattle.mql_types.specs.Items.{item_sum_faults, reserved_names, value_columns}

@@ -1,5 +1,6 @@
 -- The rows of unions: types, and widths.
-use Rattle.std.proofs.Common.{◌≡◌, ◌≤◌, ℕ, ℤ, zero, suc, ◌+◌, ◌*◌, ◌-◌, ◌^◌, inl, inr, true, ◌&&◌, Some, List, [], ◌∷◌, ◌++◌, length, min, max, subst, refl, ap, sym, arith}
+use Rattle.std.proofs.Common.{◌≡◌, ◌≤◌, ℕ, ℤ, zero, suc, ◌+◌, ◌*◌, ◌-◌, ◌^◌, inl, inr, true, ◌&&◌, Some, List, [], ◌∷◌}
+use Rattle.std.proofs.Common.{◌++◌, length, min, max, subst, refl, ap, sym, arith}
 use Rattle.std.specs.Prelude.{slice_get}
 use Rattle.std.specs.Cmp.Lexicographic.{pointwise}
 use Rattle.std.specs.List.{AllByRecursion, sum_by}
@@ -36,7 +37,7 @@ same_length (x ∷ xs) (y ∷ ys) same =
     ap (λ n. suc n) (same_length xs ys (both (int_eq x y) (pointwise int_eq xs ys) same).1)
 
 -- a value of a type is of the same type
-same_type-HasType : (a b : ValueType) (x : Value) → same_type a b ≡ true → HasType b x → HasType a x
+pub same_type-HasType : (a b : ValueType) (x : Value) → same_type a b ≡ true → HasType b x → HasType a x
 same_type-HasType type.Int type.Int x same has = has
 same_type-HasType type.Bool type.Bool x same has = has
 same_type-HasType type.Text type.Text x same has = has
@@ -64,7 +65,7 @@ types_same left right same =
     (both (same_text left.name right.name) (same_type left.of right.of && same_truth left.key right.key)
     same).1).0
 
-left_fits : (held : SchemaLists) (lefts rights : List Column) (xs : List Value) → same_columns lefts rights ≡ true
+pub left_fits : (held : SchemaLists) (lefts rights : List Column) (xs : List Value) → same_columns lefts rights ≡ true
     → FitColumns lefts xs → FitColumns (union_columns held lefts rights) xs
 left_fits held [] rights [] same fit = tt
 left_fits held [] rights (x ∷ xs) same fit = absurd fit

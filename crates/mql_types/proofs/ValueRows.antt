@@ -1,5 +1,6 @@
 -- The rows of `value`: types, and widths.
-use Rattle.std.proofs.Common.{◌≡◌, ◌∙◌, ◌≤◌, ℕ, ℤ, ◌+◌, ◌^◌, Bool, true, false, cond, Option, Some, None, List, [], ◌∷◌, ◌++◌, length, subst, refl, ap, sym, arith}
+use Rattle.std.proofs.Common.{◌≡◌, ◌∙◌, ◌≤◌, ℕ, ℤ, ◌+◌, ◌^◌, Bool, true, false, cond, Option, Some, None, List, []}
+use Rattle.std.proofs.Common.{◌∷◌, ◌++◌, length, subst, refl, ap, sym, arith}
 use Rattle.std.specs.Prelude.{option_map, slice_get, is_none}
 use Rattle.std.specs.List.{AllByRecursion, filter_map, flat_map, list_any, sum_by}
 use Rattle.std.specs.Option.{option_map_or}
@@ -21,13 +22,16 @@ use Rattle.mql_ast.specs.declared.names.Name.{Name}
 use Rattle.mql_types.specs.declared.faults.TypeKind.TheVariants.{UnknownColumn}
 use Rattle.mql_types.specs.declared.widths.Width.{Width}
 use Rattle.mql_types.specs.Faults.{fault_where}
-use Rattle.mql_types.specs.Items.{item_column, item_name, item_sum_faults, key_columns, operand_faults, plain_column, renamed_column, sum_width, value_columns}
+use Rattle.mql_types.specs.Items.{item_column, item_name, item_sum_faults, key_columns, operand_faults, plain_column}
+use Rattle.mql_types.specs.Items.{renamed_column, sum_width, value_columns}
 use Rattle.mql_types.specs.Meaning.{key_cells, value_row}
 use Rattle.mql_types.specs.Soundness.{FitTable, HasLiterals, TotalsFit}
 use Rattle.mql_types.proofs.JoinedRows.{FitColumns-append, FitWidths-append, all-both, all-map, column_of_all}
 use Rattle.mql_types.proofs.KeptRows.{all-append, all-filter}
 use Rattle.mql_types.proofs.KnownSums.{KnownNumber, cell_of, number_known, or_false, width_known}
-use Rattle.mql_types.proofs.MadeCells.{IsThere, MadeCell, all-filter_map, cell_there, from_item, get_back, get_front, get_made, is_there, kept_at, kept_shaped, kept_within, length_fit, made_shaped, made_sums, made_within, nothing_is, same_item, Side, side_of, front, back}
+use Rattle.mql_types.proofs.MadeCells.{IsThere, MadeCell, all-filter_map, cell_there, from_item, get_back, get_front}
+use Rattle.mql_types.proofs.MadeCells.{get_made, is_there, kept_at, kept_shaped, kept_within, length_fit, made_shaped}
+use Rattle.mql_types.proofs.MadeCells.{made_sums, made_within, nothing_is, same_item, Side, side_of, front, back}
 use Rattle.mql_types.proofs.SumBounds.{AreLawful, IsLawful, IsSound, amount, no_faults, sum_within}
 use Rattle.mql_types.proofs.SumTotals.{summed, total_within}
 use Rattle.mql_types.proofs.Totals.{cell_within, counted, total_at, totals_from}

@@ -1,5 +1,6 @@
 -- What explains a query: a line for each source and operation, in the order of its text.
-use Rattle.std.specs.Prelude.{ℕ, ◌==◌, ◌&&◌, Bool, true, false, not, is_some, List, [], ◌∷◌, ◌++◌, Option, Some, None, if◌then◌else◌}
+use Rattle.std.specs.Prelude.{ℕ, ◌==◌, ◌&&◌, Bool, true, false, not, is_some, List, [], ◌∷◌, ◌++◌, Option, Some, None}
+use Rattle.std.specs.Prelude.{if◌then◌else◌}
 use Rattle.mql_types.specs.declared.explanations.OpLevel.{OpLevel}
 use Rattle.mql_types.specs.declared.explanations.OpWord.{OpWord}
 use Rattle.mql_types.specs.declared.explanations.OpWord.TheVariants as word

@@ -1,5 +1,6 @@
 -- What `group_by` gives: the columns that it lists, as keys, and its aggregates.
-use Rattle.std.specs.Prelude.{ℕ, ◌||◌, Bool, true, false, List, [], ◌∷◌, ◌++◌, codes, map, position, slice_get, Option, Some, None, option_map, option_and_then, unwrap_or, if◌then◌else◌}
+use Rattle.std.specs.Prelude.{ℕ, ◌||◌, Bool, true, false, List, [], ◌∷◌, ◌++◌, codes, map, position, slice_get, Option}
+use Rattle.std.specs.Prelude.{Some, None, option_map, option_and_then, unwrap_or, if◌then◌else◌}
 use Rattle.std.specs.List.{filter_map, flat_map}
 use Rattle.mon_value.specs.Same.{same_text}
 use Rattle.mon_value.specs.declared.aggregates.Aggregate as made

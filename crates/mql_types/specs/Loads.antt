@@ -1,5 +1,6 @@
 -- How much work a query is: the points in its reach, and the rows of its alignments and joins.
-use Rattle.std.specs.Prelude.{ℕ, ℤ, ◌+◌, ◌-ℤ◌, ◌&&◌, ◌||◌, int_le, int_lt, not, Bool, false, List, ◌++◌, map, filter, length}
+use Rattle.std.specs.Prelude.{ℕ, ℤ, ◌+◌, ◌-ℤ◌, ◌&&◌, ◌||◌, int_le, int_lt, not, Bool, false, List, ◌++◌, map, filter}
+use Rattle.std.specs.Prelude.{length}
 use Rattle.std.specs.Option.{option_map_or}
 use Rattle.mon_value.specs.Alignments.{seconds_of}
 use Rattle.mon_value.specs.Grids.{least_time}
@@ -7,6 +8,7 @@ use Rattle.mon_value.specs.Order.{field_as_value}
 use Rattle.mon_value.specs.declared.aligners.Aligner.{Aligner}
 use Rattle.mon_value.specs.declared.columns.Column.{Column}
 use Rattle.mon_value.specs.declared.grids.Grid.{Grid}
+use Rattle.mon_value.specs.declared.rows.Point.{Point}
 use Rattle.mon_value.specs.declared.rows.Row.{Row}
 use Rattle.mon_value.specs.declared.rows.SeriesKey.{SeriesKey}
 use Rattle.mon_value.specs.declared.values.Value.{Value}
@@ -53,9 +55,12 @@ meets (node.Union info left right) key = false
 -- ---- the load
 
 -- whether a point ends where an alignment may see it, from the least time of the grid on
+abbrev pub is_in_reach : Grid → Aligner → Point → Bool
+is_in_reach grid by point =
+    int_lt (least_time grid -ℤ seconds_of by) point.end && int_le point.end grid.moment
+
 abbrev pub is_reached : Grid → Aligner → Row → Bool
-is_reached grid by row =
-    int_lt (least_time grid -ℤ seconds_of by) row.point.end && int_le row.point.end grid.moment
+is_reached grid by row = is_in_reach grid by row.point
 
 -- the points in reach of the series that meet a fetch
 abbrev pub points_reached : Grid → Aligner → NodeTree → List Row → List Row

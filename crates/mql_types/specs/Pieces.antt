@@ -1,7 +1,7 @@
--- What a leaf and a zone hand up of a query. Each evaluates, over the rows that it has, the parts of the tree that are
--- done at its level or below. Of each part that is topmost among these one piece goes up: the rows of the part; or
--- their groups, where a `group_by` that is done higher up stands directly above the part; or the rows that come first at
--- each time, where a `top` does.
+-- What a leaf and a zone hand up of a query. Each evaluates, over the rows that it has, the parts of the tree that
+-- are done at its level or below. Of each part that is topmost among these one piece goes up: the rows of the part;
+-- or their groups, where a `group_by` that is done higher up stands directly above the part; or the rows that come
+-- first at each time, where a `top` does.
 use Rattle.std.specs.Prelude.{ℕ, ℤ, Bool, not, sum_by, List, [], ◌∷◌, ◌++◌, length, map, if◌then◌else◌}
 use Rattle.mon_value.specs.Groups.{group_keys}
 use Rattle.mon_value.specs.Tops.{top_rows}

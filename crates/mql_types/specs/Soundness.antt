@@ -1,6 +1,7 @@
 -- What typing promises of the rows that a query means: their types, the widths of their columns, and that what flows
 -- into each operation meets what the operation asks.
-use Rattle.std.specs.Prelude.{◌≡◌, ◌≤◌, ◌≤ℤ◌, ℕ, ℤ, pos, ◌+◌, ◌^◌, true, sum_by, List, [], ◌∷◌, length, Option, Some, Ok}
+use Rattle.std.specs.Prelude.{◌≡◌, ◌≤◌, ◌≤ℤ◌, ℕ, ℤ, pos, ◌+◌, ◌^◌, true, sum_by, List, [], ◌∷◌, length, Option, Some}
+use Rattle.std.specs.Prelude.{Ok}
 use Rattle.std.specs.List.{AllByRecursion}
 use Rattle.mon_value.specs.Alignments.{CanAlign, seconds_of}
 use Rattle.mon_value.specs.Columns.{FitColumns, IsWhole}
@@ -19,6 +20,7 @@ use Rattle.mon_value.specs.declared.tables.Table.{Table}
 use Rattle.mon_value.specs.declared.tables.TimedRow.{TimedRow}
 use Rattle.mon_schema.specs.Fits.{fits, is_number}
 use Rattle.mon_schema.specs.HeldMetrics.{AreHeld}
+use Rattle.mon_schema.specs.HeldTargets.{AllTellLocations}
 use Rattle.mon_schema.specs.SchemaLists.{SchemaLists}
 use Rattle.mql_ast.specs.SumWidths.{CanCompute, FitWidths, HasShares, IsTypedSum}
 use Rattle.mql_ast.specs.Trees as tree
@@ -90,6 +92,15 @@ abbrev mutual
   pub AreBranchesSpelled : BranchTrees → Type 0
   AreBranchesSpelled tree.NoBranch = Unit {0}
   AreBranchesSpelled (tree.Branch first rest) = IsPipeSpelled first × AreBranchesSpelled rest
+
+-- the type of some query over lawful schemas
+pub record IsQueryType (held : SchemaLists) (typed : TypedTree) : Type 0 where
+  pub query : PipeTree
+  pub metrics : AreHeld held.metrics
+  pub targets : AllTellLocations held.targets
+  pub spelled : IsPipeSpelled query
+  pub durations : HasDurations query
+  pub is : typing held query ≡ Ok typed
 
 -- the type of some query over schemas that the rows fit
 pub record IsTyped (typed : TypedTree) (rows : List Row) : Type 0 where

@@ -1,5 +1,6 @@
 -- The grid of a query's times, and where `every` and `within` may stand.
-use Rattle.std.specs.Prelude.{ℕ, ℤ, pos, ◌*ℤ◌, ◌||◌, Bool, true, false, int_lt, List, [], ◌∷◌, ◌++◌, Option, Some, None, unwrap_or, ◌+◌, if◌then◌else◌}
+use Rattle.std.specs.Prelude.{ℕ, ℤ, pos, ◌*ℤ◌, ◌||◌, Bool, true, false, int_lt, List, [], ◌∷◌, ◌++◌, Option, Some}
+use Rattle.std.specs.Prelude.{None, unwrap_or, ◌+◌, if◌then◌else◌}
 use Rattle.std.specs.Int.{int_max}
 use Rattle.std.specs.List.{list_any}
 use Rattle.std.specs.Option.{option_or}

@@ -1,6 +1,7 @@
 -- The type of a query: its typed tree, or the first of its faults. Each form has its columns here as far as its names
 -- are known, and its faults beside them; a query without a fault has the tree.
-use Rattle.std.specs.Prelude.{ℕ, ℤ, false, List, [], ◌∷◌, ◌++◌, map, Option, Some, None, Result, Ok, Err, unwrap_or, if◌then◌else◌}
+use Rattle.std.specs.Prelude.{ℕ, ℤ, false, List, [], ◌∷◌, ◌++◌, map, Option, Some, None, Result, Ok, Err, unwrap_or}
+use Rattle.std.specs.Prelude.{if◌then◌else◌}
 use Rattle.mon_value.specs.declared.aligners.Aligner.{Aligner}
 use Rattle.mon_value.specs.declared.aligners.Aligner.TheVariants as aligner
 use Rattle.mon_value.specs.declared.columns.Column.{Column}
@@ -23,7 +24,8 @@ use Rattle.mql_types.specs.Branches.{common_columns, join_columns, join_faults, 
 use Rattle.mql_types.specs.Faults.{fault_at, first_fault}
 use Rattle.mql_types.specs.Fetches.{fetch_columns, fetch_faults, kind_of}
 use Rattle.mql_types.specs.Filters.{condition_faults, predicate_faults}
-use Rattle.mql_types.specs.Groupings.{aggregates_over, group_columns, group_faults, listed_columns, listed_places, place_found}
+use Rattle.mql_types.specs.Groupings.{aggregates_over, group_columns, group_faults, listed_columns, listed_places}
+use Rattle.mql_types.specs.Groupings.{place_found}
 use Rattle.mql_types.specs.Items.{is_number, reserved_names, value_columns, value_faults}
 use Rattle.mql_types.specs.Levels.{higher_level, meeting_level}
 use Rattle.mql_types.specs.Nodes.{NodeTree, TypedTree, columns_of, level_of}

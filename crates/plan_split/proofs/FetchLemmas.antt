@@ -1,5 +1,6 @@
 -- Where a series meets a fetch, the fetch's formula holds of the series' buckets.
-use Rattle.std.proofs.Common.{◌≡◌, ◌∙◌, ℕ, Bool, true, false, not, ◌||◌, List, [], ◌∷◌, ◌++◌, map, Some, cond, refl, ap, sym, subst}
+use Rattle.std.proofs.Common.{◌≡◌, ◌∙◌, ℕ, Bool, true, false, not, ◌||◌, List, [], ◌∷◌, ◌++◌, map, Some, cond, refl}
+use Rattle.std.proofs.Common.{ap, sym, subst}
 use Rattle.std.specs.List.{AllByRecursion}
 use Rattle.std.proofs.lemmas.Bool.{and_from, and_parts, false≢true}
 use Rattle.mon_value.proofs.SameLemmas.{same_text-Decides}
@@ -114,7 +115,12 @@ met_promise held buckets (node.Union info left right) target metric key has of e
 pub fetch_promise : (held : SchemaLists) (buckets : ℕ) (fetch : NodeTree) → HasFetchColumns held fetch
     → HoldsWhereMet held buckets fetch (fetch_formula buckets fetch)
 fetch_promise held buckets fetch has target metric key named of fields e =
-    met_promise held buckets fetch target metric key has (record { of_target = named; of_metric = of; fields = fields }) e
+    met_promise held buckets fetch target metric key has (record {
+      of_target = named;
+      of_metric = of;
+      fields =
+          fields;
+    }) e
 
 pub fetches_promise : (held : SchemaLists) (buckets : ℕ) (fetches : List NodeTree)
     → AllByRecursion (HasFetchColumns held) fetches

@@ -1,5 +1,7 @@
 -- The buckets of a field of a series are among those of the series.
-use Rattle.std.proofs.Common.{◌≡◌, ◌∙◌, ◌⊎◌, ℕ, ◌+◌, ◌==◌, Bool, true, false, not, List, [], ◌∷◌, ◌++◌, map, length, slice_get, Option, Some, None, cond, refl, ap, sym, subst, inl, inr, append-nil, eq-eqb, arith}
+use Rattle.std.proofs.Common.{◌≡◌, ◌∙◌, ◌⊎◌, ℕ, ◌+◌, ◌==◌, Bool, true, false, not, List, [], ◌∷◌, ◌++◌, map, length}
+use Rattle.std.proofs.Common.{slice_get, Option, Some, None, cond, refl, ap, sym, subst, inl, inr, append-nil, eq-eqb}
+use Rattle.std.proofs.Common.{arith}
 use Rattle.std.proofs.Math.Numerals.{one-add}
 use Rattle.std.specs.List.{list_all, position_or_len}
 use Rattle.std.proofs.lemmas.Bool.{and_from, or_left, or_right}
@@ -147,8 +149,10 @@ field_hinted buckets target metric key name cell fits e =
       | inr later ↦
           let placed_behind : slice_get (cells ++ []) (position_or_len (same_text name) names) ≡ Some cell =
           ap (λ all. slice_get all (position_or_len (same_text name) names)) (append-nil cells) ∙ later in
-          elim (found buckets schema name cell metric.fields key.fields (metric.column ∷ []) [] fits.of_metric placed_behind) [
-            | inl hinted ↦ with_more buckets schema name cell of_metric (series_buckets buckets target metric key) hinted
+          elim (found buckets schema name cell metric.fields key.fields (metric.column ∷ []) [] fits.of_metric
+          placed_behind) [
+            | inl hinted ↦ with_more buckets schema name cell of_metric (series_buckets buckets target metric key)
+                hinted
                 (λ n h. among-right (first ∷ []) (of_target ++ of_metric) n (among-right of_target of_metric n h))
             | inr none ↦ absurd (cc)
           ]

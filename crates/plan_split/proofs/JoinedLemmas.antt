@@ -6,7 +6,8 @@ use Rattle.std.specs.declared.vec.Vec.{Vec}
 use Rattle.std.proofs.lemmas.List.{map-append}
 use Rattle.std.proofs.lemmas.List.Folds.{list_all-append, list_any-append}
 use Rattle.mon_hints.proofs.FormulaLemmas.{and_tree, or_tree}
-use Rattle.mon_hints.specs.Formulas.{FormulaTree, All, Bucket, And, Or, FormulaTrees, NoFormula, Then, all_hold, any_holds, formulas, formula_tree, holds}
+use Rattle.mon_hints.specs.Formulas.{FormulaTree, All, Bucket, And, Or, FormulaTrees, NoFormula, Then, all_hold}
+use Rattle.mon_hints.specs.Formulas.{any_holds, formulas, formula_tree, holds}
 use Rattle.mon_hints.specs.declared.formulas.Formula.{Formula}
 use Rattle.mon_hints.specs.declared.formulas.Formula.TheVariants as formula
 use Rattle.plan_split.specs.JoinedFormulas.{all_of, both, choices, is_all, listed, one_of, wanted}

@@ -6,7 +6,7 @@ use Rattle.std.specs.declared.cmp.Ordering.{Ordering}
 use Rattle.std.specs.declared.cmp.Ordering.TheVariants.{Less, Equal, Greater}
 use Rattle.std.proofs.lemmas.Bool.{and_from, and_parts, or_cases, or_left, or_right}
 use Rattle.std.proofs.lemmas.List.Folds.{list_all-map}
-use Rattle.mon_value.proofs.OrderLemmas.{exact_values}
+use Rattle.mon_value.proofs.OrderLemmas.{exact_values, same_fields}
 use Rattle.mon_value.specs.Order.{field_as_value, value_cmp}
 use Rattle.mon_value.specs.declared.rows.SeriesKey.{SeriesKey}
 use Rattle.mon_value.specs.declared.schemas.MetricSchema.{MetricSchema}
@@ -54,22 +54,11 @@ is_eq-Equal Less e = cc
 is_eq-Equal Equal e = refl
 is_eq-Equal Greater e = cc
 
-same_field : (a b : FieldValue) → field_as_value a ≡ field_as_value b → a ≡ b
-same_field (field.Int y) (field.Int z) h = cc
-same_field (field.Int y) (field.Bool q) h = cc
-same_field (field.Int y) (field.Text t) h = cc
-same_field (field.Bool p) (field.Int z) h = cc
-same_field (field.Bool p) (field.Bool q) h = cc
-same_field (field.Bool p) (field.Text t) h = cc
-same_field (field.Text s) (field.Int z) h = cc
-same_field (field.Text s) (field.Bool q) h = cc
-same_field (field.Text s) (field.Text t) h = cc
-
 equal_hinted : (buckets : ℕ) (schema name hints : List ℕ) (cell : Value) (literal : FieldValue)
     → IsHinted buckets schema name cell hints → is_compared comparison.Equal literal cell ≡ true
     → has_excerpts buckets schema name hints (value_excerpts literal) ≡ true
 equal_hinted buckets schema name hints cell literal hinted e =
-    let same : hinted.value ≡ literal = same_field hinted.value literal
+    let same : hinted.value ≡ literal = same_fields hinted.value literal
     (sym hinted.is
     ∙ exact_values cell (field_as_value literal) (is_eq-Equal (value_cmp cell (field_as_value literal)) e)) in
     subst (λ (held : FieldValue). has_excerpts buckets schema name hints (value_excerpts held) ≡ true) same

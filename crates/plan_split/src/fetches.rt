@@ -17,8 +17,8 @@ use mql_ast::Predicate;
 use mql_types::{Node, names_keys};
 use std::alloc::Global;
 
-/// Which buckets, among so many, a series has where it meets a fetch: that of its metric, and what the filters want that
-/// name its keys alone. The filters are kept in a list, since a fetch may have many thousand.
+/// Which buckets, among so many, a series has where it meets a fetch: that of its metric, and what the filters want
+/// that name its keys alone. The filters are kept in a list, since a fetch may have many thousand.
 pub(crate) fn fetch_formula(
     alloc: Global,
     fetch: &Node,

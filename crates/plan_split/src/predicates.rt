@@ -44,7 +44,7 @@ pub(crate) struct Setting<'a> {
     pub(crate) buckets: u32,
 }
 
-// An operator, and what stands on its right.
+/// An operator, and what stands on its right.
 #[derive(Clone, Copy)]
 pub(crate) enum Link<'a> {
     And(&'a Predicate),

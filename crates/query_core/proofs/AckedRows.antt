@@ -1,5 +1,7 @@
 -- Rows that were acknowledged are in the history of the leaf of each replica that serves.
-use Rattle.std.proofs.Common.{◌≡◌, ◌∙◌, ℕ, zero, suc, ◌+◌, ◌<◌, ◌≤◌, Bool, true, false, not, cond, ◌||◌, nat_eq, List, [], ◌∷◌, ◌++◌, length, map, take, slice_get, Some, ◌⊎◌, inl, inr, refl, sym, ap, subst, append-nil, append_assoc, length-append, arith}
+use Rattle.std.proofs.Common.{◌≡◌, ◌∙◌, ℕ, zero, suc, ◌+◌, ◌<◌, ◌≤◌, Bool, true, false, not, cond, ◌||◌, nat_eq, List}
+use Rattle.std.proofs.Common.{[], ◌∷◌, ◌++◌, length, map, take, slice_get, Some, ◌⊎◌, inl, inr, refl, sym, ap, subst}
+use Rattle.std.proofs.Common.{append-nil, append_assoc, length-append, arith}
 use Rattle.std.specs.Prelude.{filter, Contains}
 use Rattle.std.specs.List.{AllByRecursion as All, flat_map}
 use Rattle.std.proofs.lemmas.Bool.{and_from, cases_lt, eq-eqb, or_parts}
@@ -71,7 +73,8 @@ opened_at r other slot place pass rows history rest = by (same_replica r slot ot
 
 opened_behind : (r : Range) (slot : Slot) (e : Entry) (history : List Entry)
     → is_opened r slot history ≡ true → is_opened r slot (e ∷ history) ≡ true
-opened_behind r slot (entry.Opened pass other place rows) history rest = opened_at r other slot place pass rows history rest
+opened_behind r slot (entry.Opened pass other place rows) history rest = opened_at r other slot place pass rows history
+    rest
 opened_behind r slot (entry.Put pass other place row) history rest = rest
 opened_behind r slot (entry.Down pass) history rest = rest
 opened_behind r slot (entry.Up pass) history rest = rest
@@ -89,7 +92,8 @@ rows_opened : (r : Range) (slot : Slot) (pass : ℕ) (rows : List Row) (history 
     → Contains history (entry.Opened pass r slot rows) → All (Contains (replica_rows r slot history)) rows
 rows_opened r slot pass rows history there =
     all_in_flat_map (entry_rows r slot) history (entry.Opened pass r slot rows) rows there
-    (subst (λ (own : List Row). All (Contains own) rows) (sym (ap (λ b. cond b rows []) (same_itself r slot))) (all_of_itself rows))
+    (subst (λ (own : List Row). All (Contains own) rows) (sym (ap (λ b. cond b rows []) (same_itself r slot)))
+    (all_of_itself rows))
 
 row_put : (r : Range) (slot : Slot) (pass : ℕ) (row : Row) (history : List Entry)
     → Contains history (entry.Put pass r slot row) → Contains (replica_rows r slot history) row
@@ -145,7 +149,12 @@ none_missed replica (miss ∷ missed) e =
     let both = or_parts (same_slot miss.slot replica.slot) (is_missed missed replica) e in
     let here : one_if (same_slot replica.slot miss.slot) ≡ one_if false =
     ap one_if (eq_turned miss.slot.0 replica.slot.0 both.0) in
-    omega (arith, one_time replica.slot miss.slot (map (λ (miss : Miss). miss.slot) missed), here, none_missed replica missed both.1)
+    omega (
+      arith,
+      one_time replica.slot miss.slot (map (λ (miss : Miss). miss.slot) missed),
+      here,
+      none_missed replica missed both.1,
+    )
 
 slot_there : (replica : SlotLeaf) (replicas : List SlotLeaf) → Contains replicas replica
     → Contains (map (λ (one : SlotLeaf). one.slot) replicas) replica.slot
@@ -159,7 +168,8 @@ took_it : (range : Range) (replicas : List SlotLeaf) (ack : Ack) (replica : Slot
     → Contains replicas replica → is_missed ack.missed replica ≡ false → Contains ack.took replica.slot
 took_it range replicas ack replica is there missed_not =
     let slot = replica.slot in
-    let all = sum_by-append (λ other. cond (same_slot slot other) 1 0) ack.took (map (λ (miss : Miss). miss.slot) ack.missed) in
+    let all = sum_by-append (λ other. cond (same_slot slot other) 1 0) ack.took (map (λ (miss : Miss). miss.slot)
+    ack.missed) in
     found slot ack.took
     (omega (
       arith,
@@ -189,7 +199,8 @@ module _ (zones : List ZoneSpec) (seen : Histories) (r : Range) where
   abbrev ServeAll : List RangeEntry → Type 0
   ServeAll history = All (HasRows history) (serving history)
 
-  acked_more : (history : List RangeEntry) (e : RangeEntry) → acked (history ++ e ∷ []) ≡ acked history ++ (acked_row e ++ [])
+  acked_more : (history : List RangeEntry) (e : RangeEntry) → acked (history ++ e ∷ []) ≡ acked history
+      ++ (acked_row e ++ [])
   acked_more history e = flat_map-append acked_row history (e ∷ [])
 
   opened_step : (history : List RangeEntry) (pass : ℕ) (slot : Slot) (leaf : Leaf) → ServeAll history
@@ -198,7 +209,8 @@ module _ (zones : List ZoneSpec) (seen : Histories) (r : Range) where
   opened_step history pass slot leaf all there whose zoned =
       let replica : SlotLeaf = record { slot = slot; leaf = leaf } in
       let more = history ++ range_entry.Opened whose slot leaf ∷ [] in
-      let same : acked more ≡ acked history = acked_more history (range_entry.Opened whose slot leaf) ∙ append-nil (acked history) in
+      let same : acked more ≡ acked history = acked_more history (range_entry.Opened whose slot leaf)
+      ∙ append-nil (acked history) in
       let to : (one : SlotLeaf) → HasRows history one → HasRows more one = λ one has. record {
         zoned = has.zoned;
         opened = has.opened;
@@ -225,7 +237,8 @@ module _ (zones : List ZoneSpec) (seen : Histories) (r : Range) where
         let own = replica_rows r replica.slot (leaf_history seen replica.leaf) in
         let there = put replica known (took_it r (serving history) ack replica is serves e) in
         let here : Contains own row = row_put r replica.slot pass row (leaf_history seen replica.leaf)
-        (subst (λ (range : Range). Contains (leaf_history seen replica.leaf) (entry.Put pass range replica.slot row)) is.ranged there) in (
+        (subst (λ (range : Range). Contains (leaf_history seen replica.leaf) (entry.Put pass range replica.slot row))
+        is.ranged there) in (
           record {
             zoned = has.zoned;
             opened = has.opened;
@@ -241,7 +254,8 @@ module _ (zones : List ZoneSpec) (seen : Histories) (r : Range) where
         (filter (λ replica. not (is_missed ack.missed replica)) replicas)
     taken_all [] has known serve = record {}
     taken_all (replica ∷ replicas) has known serve =
-        taken_by replica (filter (λ replica. not (is_missed ack.missed replica)) replicas) (is_missed ack.missed replica) refl
+        taken_by replica (filter (λ replica. not (is_missed ack.missed replica)) replicas)
+        (is_missed ack.missed replica) refl
         has.0 known.0 serve.0 (taken_all replicas has.1 known.1 serve.1)
 
     acked_step : ServeAll history → AreNumbered history → ServeAll (history ++ range_entry.Acked pass row ack ∷ [])
@@ -251,7 +265,8 @@ module _ (zones : List ZoneSpec) (seen : Histories) (r : Range) where
         (taken_all (serving history) all numbers.among (all_of_itself (serving history)))
 
   module _ (held : SchemaLists) (points : ℕ) (replicas : HasReplicas zones r) where
-    placed_by : (slot : ℕ) (leaf : Leaf) (few : (slot < length (first_replicas zones r.0)) ⊎ (length (first_replicas zones r.0) ≤ slot))
+    placed_by : (slot : ℕ) (leaf : Leaf) (few : (slot < length (first_replicas zones r.0))
+        ⊎ (length (first_replicas zones r.0) ≤ slot))
         → (serve : List SlotLeaf) → spec.IsPlaced zones r slot leaf serve → spec.IsInZoneOf zones r leaf
     placed_by slot leaf (inl first) serve placed =
         at_place (spec.IsInZoneOf zones r) (first_replicas zones r.0) slot leaf replicas.zoned (placed.0 first)
@@ -262,7 +277,8 @@ module _ (zones : List ZoneSpec) (seen : Histories) (r : Range) where
         → ServeAll history → IsBorneOut seen r (history ++ e ∷ more) (length history) e → ServeAll (history ++ e ∷ [])
     one_step history (range_entry.Opened pass slot leaf) more legal may all out =
         opened_step history out.pass slot leaf all
-        (subst (λ (front : List RangeEntry). Contains (leaf_history seen leaf) (entry.Opened out.pass r slot (acked front)))
+        (subst (λ (front : List RangeEntry). Contains (leaf_history seen leaf)
+        (entry.Opened out.pass r slot (acked front)))
         (take_at history (range_entry.Opened pass slot leaf ∷ more) (length history) refl) out.entered) pass
         (placed_by slot.0 leaf (cases_lt slot.0 (length (first_replicas zones r.0))) (serving history) may.2)
     one_step history (range_entry.Acked pass row ack) more legal may all out =

@@ -1,5 +1,6 @@
 -- What an answer makes of what a query keeps of its leaves' answers.
-use Rattle.std.proofs.Common.{◌≡◌, ◌∙◌, ◌<◌, ◌+◌, inl, ℕ, ℤ, zero, suc, true, List, [], ◌∷◌, length, map, take, set, get_or, refl, ap, subst, arith}
+use Rattle.std.proofs.Common.{◌≡◌, ◌∙◌, ◌<◌, ◌+◌, inl, ℕ, ℤ, zero, suc, true, List, [], ◌∷◌, length, map, take, set}
+use Rattle.std.proofs.Common.{get_or, refl, ap, subst, arith}
 use Rattle.std.proofs.lemmas.List.{length-set}
 use Rattle.mon_meaning.specs.LeafAnswers.{IsOverLeaf}
 use Rattle.mon_topo.specs.HeldHistories.{Histories, leaf_history}
@@ -37,7 +38,8 @@ use Rattle.query_core.proofs.SegmentFacts.{SeenSo, seen_so}
 use Rattle.query_core.proofs.StageLemmas.{slots_here}
 use Rattle.query_core.proofs.PartClaims.{CourseIn, LeafOver, LoadedSo, RoundWhole, StageParts, StepParts, VisitSo}
 use Rattle.query_core.proofs.VisitParts.{in_on, looks_at, read_so, reloaded_by, unread_so, visit_on, visiting_so}
-use Rattle.query_core.proofs.ZoneParts.{entered_by, loaded_more, nothing_resolved, resolving_so, root_by, slot_so, word_seen}
+use Rattle.query_core.proofs.ZoneParts.{entered_by, loaded_more, nothing_resolved, resolving_so, root_by, slot_so}
+use Rattle.query_core.proofs.ZoneParts.{word_seen}
 
 get_set : (looks : List Look) (place : ℕ) (look : Look) → place < length looks
     → get_or (map (λ (look : Look). look.cut) (set looks place look)) place 0 ≡ look.cut
@@ -84,7 +86,8 @@ module _ (store : Store) (setting : Setting) (moment : ℤ) where
         told = ap (λ (some : List Look). get_or (map (λ (look : Look). look.cut) some) so.place 0) same
             ∙ get_set visits.looks so.place (unread cut) (omega (arith, so.there, all.count));
         over = record { load = over };
-        is = subst (λ (some : List Row). IsOverLeaf (typed_of setting) some moment setting.limit (record { load = over }))
+        is = subst (λ (some : List Row). IsOverLeaf (typed_of setting) some moment setting.limit
+            (record { load = over }))
             rows is;
       }
 
@@ -95,20 +98,24 @@ module _ (store : Store) (setting : Setting) (moment : ℤ) (Tells : Histories �
       → CourseIn store setting moment after.seen course area
   inside_then = in_on store setting moment before.seen after.seen grown
 
-  visit_then : (round : Round) (visits : Visits) (leaf : Leaf) → VisitSo store setting moment before.seen round visits leaf
+  visit_then : (round : Round) (visits : Visits) (leaf : Leaf) → VisitSo store setting moment before.seen round visits
+      leaf
       → VisitSo store setting moment after.seen round visits leaf
   visit_then = visit_on store setting moment before.seen after.seen grown
 
   word_so : (loading : Loading) (word : ℕ) (seen : Seen) → LoadedSo store setting moment loading.words loading.seen
       → session.IsSeenSo before.seen seen → SeenSo store.zones (with_word loading word seen).seen
   word_so loading word seen loaded is =
-      word_seen store setting moment loading.words loading.seen seen loaded (seen_so store before.seen seen sound.held is)
+      word_seen store setting moment loading.words loading.seen seen loaded (seen_so store before.seen seen sound.held
+      is)
 
   more_so : (loading : Loading) (word : ℕ) (seen : Seen) → SeenSo store.zones (with_word loading word seen).seen
       → LoadedSo store setting moment (with_word loading word seen).words (with_word loading word seen).seen
-  more_so loading word seen so = loaded_more store setting moment loading.words word (with_word loading word seen).seen so
+  more_so loading word seen so = loaded_more store setting moment loading.words word (with_word loading word seen).seen
+      so
 
-  found_so : (course : Course) (area : Area) (leaf : Leaf) (cut : ℕ) → CourseIn store setting moment after.seen course area
+  found_so : (course : Course) (area : Area) (leaf : Leaf) (cut : ℕ) → CourseIn store setting moment after.seen course
+      area
       → CourseIn store setting moment after.seen (with_found course leaf cut) area
   found_so course area leaf cut inside = record {
     segments = inside.segments;
@@ -126,7 +133,8 @@ module _ (store : Store) (setting : Setting) (moment : ℤ) (Tells : Histories �
   }
 
   pub answer_parts : (stage : Stage) (answer : Told) → StageParts store setting moment Tells before.seen stage
-      → session.IsTrueAnswer store setting moment before after avoided (slots_visited stage) (ask_of setting stage) answer
+      → session.IsTrueAnswer store setting moment before after avoided (slots_visited stage) (ask_of setting stage)
+      answer
       → StepParts store setting moment Tells after.seen (spec.after setting stage answer)
   answer_parts (at.Rooting loading) (told.Word word seen) so is =
       let whole = word_so loading word seen so is.seen_so in
@@ -144,7 +152,8 @@ module _ (store : Store) (setting : Setting) (moment : ℤ) (Tells : Histories �
       (is_whole setting.plan (with_word loading word seen))
       (inside_then course round.area so.0) so.1 whole (more_so loading word seen whole)
   answer_parts (at.Resolving course round range) (told.Slot slot leaf) so is =
-      slot_so store setting moment Tells after.seen course round range slot leaf (inside_then course round.area so.0) so.1
+      slot_so store setting moment Tells after.seen course round range slot leaf (inside_then course round.area so.0)
+      so.1
       so.2 so.3
   answer_parts (at.Resolving course round range) told.NoSlot so is = tt
   answer_parts (at.Visiting course round visits leaf) (told.Down cut) so is =
@@ -153,7 +162,8 @@ module _ (store : Store) (setting : Setting) (moment : ℤ) (Tells : Histories �
       (nothing_resolved store setting moment (round_of round.area) refl)
   answer_parts (at.Visiting course round visits leaf) (told.Unread cut) so is =
       let visit_now = visit_then round visits leaf so.2 in
-      visiting_so store setting moment Tells after.seen course round (looked visits leaf (unread cut)) (visit_now.place + 1)
+      visiting_so store setting moment Tells after.seen course round (looked visits leaf (unread cut)) (visit_now.place
+      + 1)
       (unread_so store setting moment after.seen round visits leaf cut visit_now)
       (inside_then course round.area so.0) so.1
   answer_parts (at.Visiting course round visits leaf) (told.Read cut answer) so is =

@@ -1,5 +1,6 @@
 -- Some leaves of some zones, in ascending order; and where the ranges before a zone, and behind it, have their leaves.
-use Rattle.std.proofs.Common.{◌≡◌, ◌∙◌, ◌<◌, ◌≤◌, ◌+◌, ◌-◌, ◌⊎◌, ◌||◌, inl, inr, ℕ, zero, suc, Bool, true, false, Some, List, [], ◌∷◌, ◌++◌, length, take, nat_eq, slice_get, refl, sym, ap, arith}
+use Rattle.std.proofs.Common.{◌≡◌, ◌∙◌, ◌<◌, ◌≤◌, ◌+◌, ◌-◌, ◌⊎◌, ◌||◌, inl, inr, ℕ, zero, suc, Bool, true, false, Some}
+use Rattle.std.proofs.Common.{List, [], ◌∷◌, ◌++◌, length, take, nat_eq, slice_get, refl, sym, ap, arith}
 use Rattle.std.specs.List.{AllByRecursion, flat_map, list_any}
 use Rattle.std.proofs.lemmas.Bool.{cases_lt, or_left, or_right}
 use Rattle.std.proofs.lemmas.Bool.Decides.{nat_tests}
@@ -16,7 +17,8 @@ use Rattle.mon_value.specs.declared.positions.Zone.{Zone}
 use Rattle.mql_types.proofs.JoinedRows.{all-map}
 use Rattle.query_core.specs.Areas.{area_of}
 use Rattle.query_core.proofs.DividedRows.{AreLeavesOf, AreOtherLeaves, AreOtherZones, SomeLeaves, all_leaves}
-use Rattle.query_core.proofs.ReadLeaves.{Ascend, among_from, ascend_append, ascend_before, ascend_once, ascend_within, leaves_ascend, leaves_from}
+use Rattle.query_core.proofs.ReadLeaves.{Ascend, among_from, ascend_append, ascend_before, ascend_once, ascend_within}
+use Rattle.query_core.proofs.ReadLeaves.{leaves_ascend, leaves_from}
 use Rattle.query_core.proofs.ZoneFacts.{leaves_next, ranges_next, zone_of_leaf_at}
 
 -- ---- the parts of the zones before one
@@ -28,7 +30,12 @@ parts_up parts xs (suc a) zero less = absurd (omega (arith, less))
 parts_up parts [] (suc a) (suc b) less = omega arith
 parts_up parts (x ∷ xs) (suc a) (suc b) less =
     let rest = parts_up parts xs a b (omega (arith, less)) in
-    omega (arith, rest, length-append (parts x) (flat_map parts (take a xs)), length-append (parts x) (flat_map parts (take b xs)))
+    omega (
+      arith,
+      rest,
+      length-append (parts x) (flat_map parts (take a xs)),
+      length-append (parts x) (flat_map parts (take b xs)),
+    )
 
 module _ (zones : List ZoneSpec) where
   pub leaves_up : (a b : ℕ) → a ≤ b → first_leaf zones a ≤ first_leaf zones b
@@ -61,7 +68,8 @@ module _ (zones : List ZoneSpec) where
       → Ascend (first_leaf zones from) (all_leaves chosen) (first_leaf zones to)
   all_ascend from [] to all = leaves_up from to all
   all_ascend from (some ∷ chosen) to all =
-      ascend_append (first_leaf zones from) some.1 (first_leaf zones (some.0 + 1)) (all_leaves chosen) (first_leaf zones to)
+      ascend_append (first_leaf zones from) some.1 (first_leaf zones (some.0 + 1)) (all_leaves chosen)
+      (first_leaf zones to)
       (ascend_before (first_leaf zones from) (first_leaf zones some.0) some.1 (first_leaf zones (some.0 + 1))
       (leaves_up from some.0 all.0) all.2)
       (all_ascend (some.0 + 1) chosen to all.3)
@@ -111,7 +119,8 @@ module _ (zones : List ZoneSpec) where
     chosen_zoned (some.0 + 1) chosen to all.3,
   )
 
-  pub chosen_leaves : (from : ℕ) (chosen : List SomeLeaves) (to : ℕ) → ChosenAscend from chosen to → AreLeavesOf zones chosen
+  pub chosen_leaves : (from : ℕ) (chosen : List SomeLeaves) (to : ℕ) → ChosenAscend from chosen to → AreLeavesOf zones
+      chosen
   chosen_leaves from chosen to all = record {
     zones_once = zones_once from chosen to all;
     leaves_once = leaves_once from chosen to all;
@@ -128,9 +137,11 @@ module _ (zones : List ZoneSpec) where
   zones_from k (suc count) = zone_leaves k ∷ zones_from (k + 1) count
 
   pub zone_ascends : (k : ℕ) → k < length zones
-      → Ascend (first_leaf zones k) (leaves_from (first_leaf zones k) (area_of zones k).leaves) (first_leaf zones (k + 1))
+      → Ascend (first_leaf zones k) (leaves_from (first_leaf zones k) (area_of zones k).leaves)
+      (first_leaf zones (k + 1))
   zone_ascends k there =
-      leaves_ascend (first_leaf zones k) (area_of zones k).leaves (first_leaf zones (k + 1)) (sym (leaves_next zones k there))
+      leaves_ascend (first_leaf zones k) (area_of zones k).leaves (first_leaf zones (k + 1))
+      (sym (leaves_next zones k there))
 
   pub zones_ascend : (k count to : ℕ) → k + count ≡ to → to ≤ length zones → ChosenAscend k (zones_from k count) to
   zones_ascend k zero to e within = omega (arith, e)
@@ -158,10 +169,13 @@ module _ (zones : List ZoneSpec) where
       → (leaf.0 < first_leaf zones (k + 1)) ⊎ (first_leaf zones (k + 1) ≤ leaf.0)
       → list_any (same_leaf leaf) (all_leaves (zones_from k (suc count))) ≡ true
   among_by leaf k count there from later (inl below) =
-      front_among leaf (leaves_from (first_leaf zones k) (area_of zones k).leaves) (all_leaves (zones_from (k + 1) count))
-      (among_from leaf (first_leaf zones k) (area_of zones k).leaves from (omega (arith, below, leaves_next zones k there)))
+      front_among leaf (leaves_from (first_leaf zones k) (area_of zones k).leaves)
+      (all_leaves (zones_from (k + 1) count))
+      (among_from leaf (first_leaf zones k) (area_of zones k).leaves from
+      (omega (arith, below, leaves_next zones k there)))
   among_by leaf k count there from later (inr past) =
-      back_among leaf (leaves_from (first_leaf zones k) (area_of zones k).leaves) (all_leaves (zones_from (k + 1) count))
+      back_among leaf (leaves_from (first_leaf zones k) (area_of zones k).leaves)
+      (all_leaves (zones_from (k + 1) count))
       (later past)
 
   -- a leaf of some zones is among them
@@ -177,7 +191,8 @@ module _ (zones : List ZoneSpec) where
 
   among_first : (leaf : Leaf) (first : SomeLeaves) (some more : List SomeLeaves) (b : Bool)
       → list_any (same_leaf leaf) first.1 ≡ b
-      → (list_any (same_leaf leaf) (all_leaves some) ≡ true → list_any (same_leaf leaf) (all_leaves (some ++ more)) ≡ true)
+      → (list_any (same_leaf leaf) (all_leaves some) ≡ true → list_any (same_leaf leaf) (all_leaves (some ++ more))
+      ≡ true)
       → list_any (same_leaf leaf) (all_leaves (first ∷ some)) ≡ true
       → list_any (same_leaf leaf) (all_leaves (first ∷ (some ++ more))) ≡ true
   among_first leaf first some more true e later there = front_among leaf first.1 (all_leaves (some ++ more)) e
@@ -187,13 +202,15 @@ module _ (zones : List ZoneSpec) where
       ∙ ap (λ b. b || list_any (same_leaf leaf) (all_leaves some)) e) ∙ there))
 
   pub among_append : (leaf : Leaf) (some more : List SomeLeaves)
-      → list_any (same_leaf leaf) (all_leaves some) ≡ true → list_any (same_leaf leaf) (all_leaves (some ++ more)) ≡ true
+      → list_any (same_leaf leaf) (all_leaves some) ≡ true → list_any (same_leaf leaf) (all_leaves (some ++ more))
+      ≡ true
   among_append leaf [] more there = absurd cc
   among_append leaf (first ∷ some) more there =
       among_first leaf first some more (list_any (same_leaf leaf) first.1) refl (among_append leaf some more) there
 
   pub among_behind : (leaf : Leaf) (some more : List SomeLeaves)
-      → list_any (same_leaf leaf) (all_leaves more) ≡ true → list_any (same_leaf leaf) (all_leaves (some ++ more)) ≡ true
+      → list_any (same_leaf leaf) (all_leaves more) ≡ true → list_any (same_leaf leaf) (all_leaves (some ++ more))
+      ≡ true
   among_behind leaf [] more there = there
   among_behind leaf (first ∷ some) more there =
       back_among leaf first.1 (all_leaves (some ++ more)) (among_behind leaf some more there)
@@ -222,7 +239,8 @@ module _ (zones : List ZoneSpec) where
       part_at ranges zones no_zone range.0 (omega (arith, zoned.1, length-zones_of ranges 0 zones)) in
       let of_leaf : slice_get (leaf_zones zones) (first_leaf zones own.i + own.j) ≡ Some (zone_numbered (0 + own.i)) =
       zone_of_part leaves 0 zones own.i own.j own.there own.within in
-      let of_range : slice_get (range_zones zones) (first_range zones other.i + other.j) ≡ Some (zone_numbered (0 + other.i)) =
+      let of_range : slice_get (range_zones zones) (first_range zones other.i + other.j)
+      ≡ Some (zone_numbered (0 + other.i)) =
       zone_of_part ranges 0 zones other.i other.j other.there other.within in
       let same : Some (zone_numbered (0 + own.i)) ≡ Some (zone_numbered (0 + other.i)) =
       sym of_leaf ∙ ap (slice_get (leaf_zones zones)) (sym own.is) ∙ zoned.2
@@ -245,9 +263,11 @@ module _ (zones : List ZoneSpec) where
       → leaf.0 < first_leaf zones k
   leaf_before k range leaf zoned before = by_zone (cases_lt (zone_of range leaf zoned).zone k)
     where
-      by_zone : ((zone_of range leaf zoned).zone < k) ⊎ (k ≤ (zone_of range leaf zoned).zone) → leaf.0 < first_leaf zones k
+      by_zone : ((zone_of range leaf zoned).zone < k) ⊎ (k ≤ (zone_of range leaf zoned).zone) → leaf.0
+          < first_leaf zones k
       by_zone (inl less) =
-          let of = zone_of range leaf zoned in omega (arith, of.leaf_to, leaves_up (of.zone + 1) k (omega (arith, less)))
+          let of = zone_of range leaf zoned in
+          omega (arith, of.leaf_to, leaves_up (of.zone + 1) k (omega (arith, less)))
       by_zone (inr more) =
           let of = zone_of range leaf zoned in absurd (omega (arith, before, of.range_from, ranges_up k of.zone more))
 
@@ -256,7 +276,8 @@ module _ (zones : List ZoneSpec) where
       → first_leaf zones k ≤ leaf.0
   leaf_behind k range leaf zoned behind = by_zone (cases_lt (zone_of range leaf zoned).zone k)
     where
-      by_zone : ((zone_of range leaf zoned).zone < k) ⊎ (k ≤ (zone_of range leaf zoned).zone) → first_leaf zones k ≤ leaf.0
+      by_zone : ((zone_of range leaf zoned).zone < k) ⊎ (k ≤ (zone_of range leaf zoned).zone) → first_leaf zones k
+          ≤ leaf.0
       by_zone (inl less) =
           let of = zone_of range leaf zoned in
           absurd (omega (arith, behind, of.range_to, ranges_up (of.zone + 1) k (omega (arith, less))))

@@ -1,5 +1,6 @@
 -- Rows of ranges, each on one leaf, divided into zones and leaves: leaves share no target, and zones no location.
-use Rattle.std.proofs.Common.{◌≡◌, ◌∙◌, ◌||◌, ◌&&◌, ℕ, Bool, true, false, cond, Option, Some, None, List, [], ◌∷◌, ◌++◌, map, nat_eq, slice_get, refl, sym, ap, subst, append-nil, arith}
+use Rattle.std.proofs.Common.{◌≡◌, ◌∙◌, ◌||◌, ◌&&◌, ℕ, Bool, true, false, cond, Option, Some, None, List, [], ◌∷◌}
+use Rattle.std.proofs.Common.{◌++◌, map, nat_eq, slice_get, refl, sym, ap, subst, append-nil, arith}
 use Rattle.std.specs.List.{AllByRecursion, filter, flat_map, list_any}
 use Rattle.std.specs.Option.{option_map_or}
 use Rattle.std.proofs.lemmas.Bool.{or_parts}
@@ -25,7 +26,8 @@ use Rattle.mon_topo.specs.RangeHistories.{IsInZoneOf}
 use Rattle.mon_topo.specs.Replicas.{same_leaf}
 use Rattle.mon_topo.specs.Zones.{leaf_zones, zone_numbered, zone_of}
 use Rattle.mon_topo.specs.declared.zones.ZoneSpec.{ZoneSpec}
-use Rattle.mixer.specs.Divisions.{AreApart, ShareNoLocation, ShareNoTarget, all_rows, has_location, has_target, together}
+use Rattle.mixer.specs.Divisions.{AreApart, ShareNoLocation, ShareNoTarget, all_rows, has_location, has_target}
+use Rattle.mixer.specs.Divisions.{together}
 use Rattle.mql_types.proofs.JoinedRows.{all-map}
 use Rattle.mql_types.proofs.KeptRows.{all-append, all-filter}
 use Rattle.query_core.specs.declared.answers.Resolved.{Resolved}
@@ -90,7 +92,8 @@ pub all_mapped : {A B : Type 0} (P : B → Type 0) (f : A → B) (xs : List A) �
 all_mapped P f [] all = tt
 all_mapped P f (x ∷ xs) all = (all.0, all_mapped P f xs all.1)
 
-pub points_append : (key : SeriesKey) (xs ys : List Row) → points_of key (xs ++ ys) ≡ points_of key xs ++ points_of key ys
+pub points_append : (key : SeriesKey) (xs ys : List Row) → points_of key (xs ++ ys) ≡ points_of key xs
+    ++ points_of key ys
 points_append key xs ys =
     ap (map (λ (row : Row). row.point)) (filter-append (λ (row : Row). same_series key row.key) xs ys)
     ∙ map-append (λ (row : Row). row.point) (rows_of key xs) (rows_of key ys)
@@ -128,7 +131,8 @@ AreOtherLeaves (leaf ∷ leaves) = (list_any (same_leaf leaf) leaves ≡ false) 
 
 abbrev pub AreOtherZones : List SomeLeaves → Type 0
 AreOtherZones [] = Unit {0}
-AreOtherZones (some ∷ zones) = AllByRecursion (λ (other : SomeLeaves). nat_eq some.0 other.0 ≡ false) zones × AreOtherZones zones
+AreOtherZones (some ∷ zones) = AllByRecursion (λ (other : SomeLeaves). nat_eq some.0 other.0 ≡ false) zones
+    × AreOtherZones zones
 
 -- leaves are those of their zones, each once
 pub record AreLeavesOf (zones : List ZoneSpec) (chosen : List SomeLeaves) : Type 0 where
@@ -152,7 +156,8 @@ module _ (own : Resolved → List Row) (resolved : List Resolved) where
   divided_rows chosen = map zone_rows chosen
 
 -- the rows of each range lie in it, and each range is on one leaf of its zone
-pub record AreResolvedIn (held : SchemaLists) (zones : List ZoneSpec) (own : Resolved → List Row) (resolved : List Resolved)
+pub record AreResolvedIn (held : SchemaLists) (zones : List ZoneSpec) (own : Resolved → List Row)
+    (resolved : List Resolved)
     : Type 0 where
   pub once : AreOthers resolved
   pub zoned : AllByRecursion (λ (one : Resolved). IsInZoneOf zones one.range one.leaf) resolved
@@ -173,7 +178,8 @@ module _ (held : SchemaLists) (zones : List ZoneSpec) (own : Resolved → List R
       let number : a.0 ≡ b.0 = let test : nat_eq a.0 b.0 ≡ true = same in grind (arith, nat_tests) in
       ap (λ (n : ℕ). (let leaf : Leaf = record { 0 = n } in leaf)) number
 
-  lie_at : (leaf : Leaf) (one : Resolved) → leaf_for resolved one.range ≡ Some one.leaf → IsInZoneOf zones one.range one.leaf
+  lie_at : (leaf : Leaf) (one : Resolved) → leaf_for resolved one.range ≡ Some one.leaf → IsInZoneOf zones one.range
+      one.leaf
       → AllByRecursion (IsAtHome held zones one.range) (own one) → same_leaf one.leaf leaf ≡ true
       → AllByRecursion (LiesOn leaf) (own one)
   lie_at leaf one first zoned home here =
@@ -193,7 +199,8 @@ module _ (held : SchemaLists) (zones : List ZoneSpec) (own : Resolved → List R
   lie_if leaf one rest true here more = all-append (LiesOn leaf) (own one) (flat_map own rest) (here refl) more
   lie_if leaf one rest false here more = more
 
-  lie_among : (leaf : Leaf) (some : List Resolved) → AllByRecursion (λ one. leaf_for resolved one.range ≡ Some one.leaf) some
+  lie_among : (leaf : Leaf) (some : List Resolved) → AllByRecursion (λ one. leaf_for resolved one.range
+      ≡ Some one.leaf) some
       → AllByRecursion (λ (one : Resolved). IsInZoneOf zones one.range one.leaf) some
       → AllByRecursion (λ (one : Resolved). AllByRecursion (IsAtHome held zones one.range) (own one)) some
       → AllByRecursion (LiesOn leaf) (flat_map own (filter (λ one. same_leaf one.leaf leaf) some))
@@ -211,7 +218,8 @@ module _ (held : SchemaLists) (zones : List ZoneSpec) (own : Resolved → List R
 
   -- the rows of a leaf fit
   pub fit_on : (leaf : Leaf) → AllByRecursion (λ row. fits held row ≡ true) (rows_at own resolved leaf)
-  fit_on leaf = all-map (LiesOn leaf) (λ row. fits held row ≡ true) (rows_at own resolved leaf) (λ row lies. lies.fit) (lie_on leaf)
+  fit_on leaf = all-map (LiesOn leaf) (λ row. fits held row ≡ true) (rows_at own resolved leaf) (λ row lies. lies.fit)
+      (lie_on leaf)
 
   pub fit_in_zone : (leaves : List Leaf)
       → AllByRecursion (λ row. fits held row ≡ true) (together (map (rows_at own resolved) leaves))
@@ -224,7 +232,8 @@ module _ (held : SchemaLists) (zones : List ZoneSpec) (own : Resolved → List R
   fit_in_all chosen =
       all_together (λ row. fits held row ≡ true) (map together (divided_rows own resolved chosen))
       (all_mapped (AllByRecursion (λ row. fits held row ≡ true)) together (divided_rows own resolved chosen)
-      (all_mapped (λ lists. AllByRecursion (λ row. fits held row ≡ true) (together lists)) (zone_rows own resolved) chosen
+      (all_mapped (λ lists. AllByRecursion (λ row. fits held row ≡ true) (together lists)) (zone_rows own resolved)
+      chosen
       (every _ (λ (some : SomeLeaves). fit_in_zone some.1) chosen)))
 
   -- ---- leaves share no target
@@ -254,7 +263,8 @@ module _ (held : SchemaLists) (zones : List ZoneSpec) (own : Resolved → List R
         (target_by row other (same_target other.key.target row.key.target) refl here all.0)
         ∙ no_target row others here all.1
 
-    no_targets : (rows others : List Row) → AllByRecursion (LiesOn leaf) rows → AllByRecursion (LiesOn other_leaf) others
+    no_targets : (rows others : List Row) → AllByRecursion (LiesOn leaf) rows → AllByRecursion (LiesOn other_leaf)
+        others
         → ShareNoTarget rows others
     no_targets [] others all more = tt
     no_targets (row ∷ rows) others all more = (no_target row others all.0 more, no_targets rows others all.1 more)
@@ -264,11 +274,13 @@ module _ (held : SchemaLists) (zones : List ZoneSpec) (own : Resolved → List R
   leaf_apart leaf [] apart = tt
   leaf_apart leaf (other ∷ leaves) apart =
       let parts = or_parts (same_leaf leaf other) (list_any (same_leaf leaf) leaves) apart in (
-        no_targets leaf other parts.0 (rows_at own resolved leaf) (rows_at own resolved other) (lie_on leaf) (lie_on other),
+        no_targets leaf other parts.0 (rows_at own resolved leaf) (rows_at own resolved other) (lie_on leaf)
+            (lie_on other),
         leaf_apart leaf leaves parts.1,
       )
 
-  pub leaves_apart : (leaves : List Leaf) → AreOtherLeaves leaves → AreApart ShareNoTarget (map (rows_at own resolved) leaves)
+  pub leaves_apart : (leaves : List Leaf) → AreOtherLeaves leaves → AreApart ShareNoTarget
+      (map (rows_at own resolved) leaves)
   leaves_apart [] once = tt
   leaves_apart (leaf ∷ leaves) once = (leaf_apart leaf leaves once.0, leaves_apart leaves once.1)
 
@@ -282,7 +294,8 @@ module _ (held : SchemaLists) (zones : List ZoneSpec) (own : Resolved → List R
   one_zone : (z y : ℕ) → Some (zone_numbered z) ≡ Some (zone_numbered y) → z ≡ y
   one_zone z y same = let is : zone_numbered z ≡ zone_numbered y = cc in ap (λ (zone : Zone). zone.0) is
 
-  in_zone : (z : ℕ) (leaf : Leaf) → slice_get (leaf_zones zones) leaf.0 ≡ Some (zone_numbered z) → (row : Row) → LiesOn leaf row
+  in_zone : (z : ℕ) (leaf : Leaf) → slice_get (leaf_zones zones) leaf.0 ≡ Some (zone_numbered z) → (row : Row)
+      → LiesOn leaf row
       → LiesIn z row
   in_zone z leaf zone row lies =
       let placed = is_placed held zones row.key.target lies.range lies.at in
@@ -301,7 +314,8 @@ module _ (held : SchemaLists) (zones : List ZoneSpec) (own : Resolved → List R
       (all_mapped (AllByRecursion (LiesIn z)) (rows_at own resolved) leaves
       (all-map (λ (leaf : Leaf). slice_get (leaf_zones zones) leaf.0 ≡ Some (zone_numbered z))
       (λ leaf. AllByRecursion (LiesIn z) (rows_at own resolved leaf)) leaves
-      (λ leaf zone. all-map (LiesOn leaf) (LiesIn z) (rows_at own resolved leaf) (in_zone z leaf zone) (lie_on leaf)) zoned))
+      (λ leaf zone. all-map (LiesOn leaf) (LiesIn z) (rows_at own resolved leaf) (in_zone z leaf zone) (lie_on leaf))
+      zoned))
 
   module _ (z y : ℕ) (apart : nat_eq z y ≡ false) where
     text_by : (location other : List ℕ) (b : Bool) → same_text location other ≡ b
@@ -336,12 +350,14 @@ module _ (held : SchemaLists) (zones : List ZoneSpec) (own : Resolved → List R
       AllByRecursion (λ (leaf : Leaf). slice_get (leaf_zones zones) leaf.0 ≡ Some (zone_numbered some.0)) some.1
 
   zone_apart : (some : SomeLeaves) (chosen : List SomeLeaves) → in_its_zone some
-      → AllByRecursion (λ (other : SomeLeaves). nat_eq some.0 other.0 ≡ false) chosen → AllByRecursion in_its_zone chosen
+      → AllByRecursion (λ (other : SomeLeaves). nat_eq some.0 other.0 ≡ false) chosen → AllByRecursion in_its_zone
+      chosen
       → AllByRecursion (ShareNoLocation held (together (zone_rows own resolved some)))
       (map together (divided_rows own resolved chosen))
   zone_apart some [] zoned apart each = tt
   zone_apart some (other ∷ chosen) zoned apart each = (
-    no_locations some.0 other.0 apart.0 (together (zone_rows own resolved some)) (together (zone_rows own resolved other))
+    no_locations some.0 other.0 apart.0 (together (zone_rows own resolved some))
+        (together (zone_rows own resolved other))
         (lie_in some.0 some.1 zoned) (lie_in other.0 other.1 each.0),
     zone_apart some chosen zoned apart.1 each.1,
   )
@@ -405,7 +421,8 @@ module _ (held : SchemaLists) (zones : List ZoneSpec) (own : Resolved → List R
         → points_at one ≡ []
     no_points one out all = none_out one.range (own one) (other_range home one out) all
 
-    others_by : (o : Option Range) (one other : Resolved) → is_of o one ≡ true → IsOther one other → is_of o other ≡ false
+    others_by : (o : Option Range) (one other : Resolved) → is_of o one ≡ true → IsOther one other → is_of o other
+        ≡ false
     others_by None one other is apart = absurd cc
     others_by (Some range) one other is apart =
         let here : nat_eq one.range.0 range.0 ≡ true = is in
@@ -438,7 +455,8 @@ module _ (held : SchemaLists) (zones : List ZoneSpec) (own : Resolved → List R
     alone_by one some true none = ap (λ rest. points_at one ++ rest) none ∙ append-nil (points_at one)
     alone_by one some false none = none
 
-    alone : (one : Resolved) (some : List Resolved) (leaves : List Leaf) → AllByRecursion (λ one. points_at one ≡ []) some
+    alone : (one : Resolved) (some : List Resolved) (leaves : List Leaf) → AllByRecursion (λ one. points_at one ≡ [])
+        some
         → sifted (one ∷ some) leaves ≡ flat_map (λ leaf. cond (same_leaf one.leaf leaf) (points_at one) []) leaves
     alone one some [] none = refl
     alone one some (leaf ∷ leaves) none =
@@ -456,7 +474,8 @@ module _ (held : SchemaLists) (zones : List ZoneSpec) (own : Resolved → List R
 
     picked_by : (leaf other : Leaf) (points : List Point) (leaves : List Leaf) (b : Bool) → same_leaf leaf other ≡ b
         → list_any (same_leaf other) leaves ≡ false
-        → flat_map (λ other. cond (same_leaf leaf other) points []) leaves ≡ cond (list_any (same_leaf leaf) leaves) points []
+        → flat_map (λ other. cond (same_leaf leaf other) points []) leaves ≡ cond (list_any (same_leaf leaf) leaves)
+        points []
         → cond b points [] ++ flat_map (λ other. cond (same_leaf leaf other) points []) leaves
         ≡ cond (b || list_any (same_leaf leaf) leaves) points []
     picked_by leaf other points leaves true same once rest =
@@ -467,7 +486,8 @@ module _ (held : SchemaLists) (zones : List ZoneSpec) (own : Resolved → List R
     picked_by leaf other points leaves false same once rest = rest
 
     picked : (leaf : Leaf) (points : List Point) (leaves : List Leaf) → AreOtherLeaves leaves
-        → flat_map (λ other. cond (same_leaf leaf other) points []) leaves ≡ cond (list_any (same_leaf leaf) leaves) points []
+        → flat_map (λ other. cond (same_leaf leaf other) points []) leaves ≡ cond (list_any (same_leaf leaf) leaves)
+        points []
     picked leaf points [] once = refl
     picked leaf points (other ∷ leaves) once =
         picked_by leaf other points leaves (same_leaf leaf other) refl once.0 (picked leaf points leaves once.1)

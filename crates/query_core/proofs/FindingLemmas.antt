@@ -1,5 +1,6 @@
 -- Leaves that a session found down, and ranges all of whose replicas are on such leaves.
-use Rattle.std.proofs.Common.{◌≡◌, ◌∙◌, ◌||◌, ℕ, Bool, true, false, not, List, [], ◌∷◌, ◌++◌, cond, filter, length, nat_eq, take, inl, inr, refl, sym, ap, subst, arith, Some, None, slice_get, true≢false}
+use Rattle.std.proofs.Common.{◌≡◌, ◌∙◌, ◌||◌, ℕ, Bool, true, false, not, List, [], ◌∷◌, ◌++◌, cond, filter, length}
+use Rattle.std.proofs.Common.{nat_eq, take, inl, inr, refl, sym, ap, subst, arith, Some, None, slice_get, true≢false}
 use Rattle.std.specs.List.{AllByRecursion, list_any}
 use Rattle.std.proofs.lemmas.Bool.{or_cases, or_left, or_right}
 use Rattle.std.proofs.lemmas.Bool.Decides.{nat_tests}
@@ -57,18 +58,21 @@ AllDown avoided replicas = AllByRecursion (λ replica. is_avoided avoided replic
 some_not_none : {X : Type 0} (x : X) → Some x ≡ None → ⊥
 some_not_none x e = absurd (cc)
 
-free_at : (avoided : List Leaf) (replica : SlotLeaf) (replicas : List SlotLeaf) (b : Bool) → is_avoided avoided replica ≡ b
+free_at : (avoided : List Leaf) (replica : SlotLeaf) (replicas : List SlotLeaf) (b : Bool) → is_avoided avoided replica
+    ≡ b
     → free avoided (replica ∷ replicas) ≡ cond (not b) (replica ∷ free avoided replicas) (free avoided replicas)
 free_at avoided replica replicas b e =
     ap (λ b. cond (not b) (replica ∷ free avoided replicas) (free avoided replicas)) e
 
-none_at : (avoided : List Leaf) (replica : SlotLeaf) (replicas : List SlotLeaf) (b : Bool) → is_avoided avoided replica ≡ b
+none_at : (avoided : List Leaf) (replica : SlotLeaf) (replicas : List SlotLeaf) (b : Bool) → is_avoided avoided replica
+    ≡ b
     → (slice_get (free avoided replicas) 0 ≡ None → AllDown avoided replicas)
     → slice_get (free avoided (replica ∷ replicas)) 0 ≡ None → AllDown avoided (replica ∷ replicas)
 none_at avoided replica replicas true e rest none =
     (e, rest (sym (ap (λ some. slice_get some 0) (free_at avoided replica replicas true e)) ∙ none))
 none_at avoided replica replicas false e rest none =
-    absurd (some_not_none replica (sym (ap (λ some. slice_get some 0) (free_at avoided replica replicas false e)) ∙ none))
+    absurd (some_not_none replica (sym (ap (λ some. slice_get some 0) (free_at avoided replica replicas false e))
+    ∙ none))
 
 none_left : (avoided : List Leaf) (replicas : List SlotLeaf) → slice_get (free avoided replicas) 0 ≡ None
     → AllDown avoided replicas
@@ -121,8 +125,10 @@ pub record KeepsFounds (at_entry now : Histories) (avoided : List Leaf) (founds 
   pub were_found : AreFoundThen at_entry now founds
   pub avoids : avoided ≡ found_leaves founds
 
-pub no_replica_on : (zones : List ZoneSpec) (at_entry before after : Histories) → AreWithin before after → (range : Range)
-    (named : List FoundDown) → HasNoReplica zones at_entry before range named → HasNoReplica zones at_entry after range named
+pub no_replica_on : (zones : List ZoneSpec) (at_entry before after : Histories) → AreWithin before after
+    → (range : Range)
+    (named : List FoundDown) → HasNoReplica zones at_entry before range named → HasNoReplica zones at_entry after range
+    named
 no_replica_on zones at_entry before after grown range named none =
     let begins = grown.ranges range in
     let was = range_history before range in
@@ -167,7 +173,8 @@ module _ (at_entry : Histories) (before after : View) (since : AreWithin at_entr
           to = is.between.to;
         };
         all_down = all_named (area_of zones zone) founds replicas here
-            (subst (λ (leaves : List Leaf). AllDown leaves replicas) keeps.avoids (none_left avoided replicas is.first));
+            (subst (λ (leaves : List Leaf). AllDown leaves replicas) keeps.avoids
+            (none_left avoided replicas is.first));
       }
 
   pub one_found : (avoided : List Leaf) (course : Course) (leaf : Leaf) (cut : ℕ)
@@ -186,7 +193,8 @@ module _ (at_entry : Histories) (before after : View) (since : AreWithin at_entr
         down = record { seen_by_then = is.between.to; down = is.is };
       } in
       record {
-        were_found = all_append (IsFoundThen at_entry after.seen) course.founds (found_down leaf cut ∷ []) keeps.were_found
+        were_found = all_append (IsFoundThen at_entry after.seen) course.founds (found_down leaf cut ∷ [])
+            keeps.were_found
             (found, record {});
         avoids = ap (λ leaves. leaves ++ leaf ∷ []) keeps.avoids
             ∙ sym (map-append (λ (one : FoundDown). one.leaf) course.founds (found_down leaf cut ∷ []));

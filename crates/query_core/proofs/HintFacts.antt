@@ -1,9 +1,11 @@
 -- What words that are loaded say of a child: whatever it wants is let in.
-use Rattle.std.proofs.Common.{◌≡◌, ◌∙◌, ℕ, zero, suc, ◌<◌, ◌≤◌, Bool, true, false, cond, List, [], ◌∷◌, ◌++◌, length, get_or, eqb, Contains, refl, sym, ap, subst, inl, inr, arith}
+use Rattle.std.proofs.Common.{◌≡◌, ◌∙◌, ℕ, zero, suc, ◌<◌, ◌≤◌, Bool, true, false, cond, List, [], ◌∷◌, ◌++◌, length}
+use Rattle.std.proofs.Common.{get_or, eqb, Contains, refl, sym, ap, subst, inl, inr, arith}
 use Rattle.std.specs.List.{AllByRecursion as All}
 use Rattle.std.proofs.lemmas.Bool.{and_from, and_parts, eq-eqb, eqb-true, or_cases, or_left, or_right}
 use Rattle.std.proofs.lemmas.List.Folds.{list_any-append}
-use Rattle.mon_hints.specs.Formulas.{All as Always, And, Bucket, FormulaTree, FormulaTrees, NoFormula, Or, Then, all_hold, all_named, any_holds, holds, named_buckets}
+use Rattle.mon_hints.specs.Formulas.{All as Always, And, Bucket, FormulaTree, FormulaTrees, NoFormula, Or, Then}
+use Rattle.mon_hints.specs.Formulas.{all_hold, all_named, any_holds, holds, named_buckets}
 use Rattle.mon_hints.specs.HistoryBuckets.{rows_buckets}
 use Rattle.mon_hints.specs.Listings.{AreAmong, is_among}
 use Rattle.mon_hints.specs.Words.{buckets_of_child, has_bit}
@@ -70,7 +72,8 @@ either_way false bucket first rest here = here
 
 known_found : (known : ℕ → ℕ → Bool) (count : ℕ) (named words : List ℕ) (child bucket : ℕ)
     → AreKnown known count named words → child < count → length named ≤ length words
-    → is_among bucket named ≡ true → known child bucket ≡ true → is_among bucket (buckets_of_child named words child) ≡ true
+    → is_among bucket named ≡ true → known child bucket ≡ true → is_among bucket (buckets_of_child named words child)
+    ≡ true
 known_found known count [] words child bucket all lt long here is = absurd (cc)
 known_found known count (first ∷ named) [] child bucket all lt long here is = absurd (omega (arith, long))
 known_found known count (first ∷ named) (word ∷ words) child bucket all lt long here is =
@@ -78,10 +81,12 @@ known_found known count (first ∷ named) (word ∷ words) child bucket all lt l
       | inl same ↦ (let e : bucket ≡ first = eqb-true bucket first same in
           let bit : has_bit word child ≡ true =
           all zero (omega arith) child lt (subst (λ n. known child n ≡ true) e is) in
-          ap (λ b. is_among bucket (cond b (first ∷ buckets_of_child named words child) (buckets_of_child named words child))) bit
+          ap (λ b. is_among bucket (cond b (first ∷ buckets_of_child named words child)
+          (buckets_of_child named words child))) bit
           ∙ or_left (eqb bucket first) (is_among bucket (buckets_of_child named words child)) same)
       | inr later ↦ either_way (has_bit word child) bucket first (buckets_of_child named words child)
-          (known_found known count named words child bucket (λ i l. all (suc i) (omega (arith, l))) lt (omega (arith, long)) later is)
+          (known_found known count named words child bucket (λ i l. all (suc i) (omega (arith, l))) lt
+          (omega (arith, long)) later is)
     ]
 
 not_true : (a b : Bool) → (a ≡ true → b ≡ true) → b ≡ false → a ≡ false

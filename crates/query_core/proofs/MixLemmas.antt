@@ -1,8 +1,11 @@
--- Answers that are mixed: those of a zone's leaves make that of the zone, which goes behind those of the zones before it.
-use Rattle.std.proofs.Common.{◌≡◌, ℕ, ℤ, Bool, true, false, List, [], ◌∷◌, ◌++◌, cond, drop, sym, ap, ◌∙◌, subst, Result, Ok, Err, IfOk}
+-- Answers that are mixed: those of a zone's leaves make that of the zone, which goes behind those of the zones before
+-- it.
+use Rattle.std.proofs.Common.{◌≡◌, ℕ, ℤ, Bool, true, false, List, [], ◌∷◌, ◌++◌, cond, drop, sym, ap, ◌∙◌, subst}
+use Rattle.std.proofs.Common.{Result, Ok, Err, IfOk}
 use Rattle.std.specs.List.{AllByRecursion}
 use Rattle.mixer.specs.Divisions.{AreApart, ShareNoTarget, all_rows, together}
-use Rattle.mixer.specs.ZoneAnswers.{AllZoneParts, AreLeafParts, AreZoneParts, HasLeafParts, HasZoneParts, IsZoneAnswer, IsZonePart}
+use Rattle.mixer.specs.ZoneAnswers.{AllZoneParts, AreLeafParts, AreZoneParts, HasLeafParts, HasZoneParts, IsZoneAnswer}
+use Rattle.mixer.specs.ZoneAnswers.{IsZonePart}
 use Rattle.mixer.specs.declared.zone_answers.ZoneAnswer.{ZoneAnswer}
 use Rattle.mon_fold.specs.declared.answers.LeafAnswer.{LeafAnswer}
 use Rattle.mon_meaning.specs.declared.meter.OverLimit.{OverLimit}
@@ -88,11 +91,13 @@ module _ (setting : Setting) where
   zone_parts_more (zone ∷ zones) leaves moment (other ∷ answers) answer all one =
       (all.0, zone_parts_more zones leaves moment answers answer all.1 one)
 
-  zone_part : (leaves : List (List Row)) (moment : ℤ) (result : Result ZoneAnswer (Refusal OverLimit)) (answer : ZoneAnswer)
+  zone_part : (leaves : List (List Row)) (moment : ℤ) (result : Result ZoneAnswer (Refusal OverLimit))
+      (answer : ZoneAnswer)
       → result ≡ Ok answer → IsZoneAnswer (typed_of setting) leaves moment setting.limit result
       → IsZonePart (typed_of setting) leaves moment setting.limit answer
   zone_part leaves moment result answer is given =
-      subst (λ (r : Result ZoneAnswer (Refusal OverLimit)). IsZoneAnswer (typed_of setting) leaves moment setting.limit r)
+      subst (λ (r : Result ZoneAnswer (Refusal OverLimit)). IsZoneAnswer (typed_of setting) leaves moment setting.limit
+      r)
       is given
 
   zone_more : (answers : List ZoneAnswer) (parts : List LeafAnswer) (answer : ZoneAnswer)
@@ -136,7 +141,8 @@ module _ (setting : Setting) where
 
 -- ---- what a plan and a limit are handed to, where they are those of the setting
 
-module _ (setting : Setting) (plan : Plan) (limit : ℕ) (same_plan : plan ≡ setting.plan) (same_limit : limit ≡ setting.limit) where
+module _ (setting : Setting) (plan : Plan) (limit : ℕ) (same_plan : plan ≡ setting.plan) (same_limit : limit
+    ≡ setting.limit) where
   pub asked_leaves : (answers : List ZoneAnswer) (parts : List LeafAnswer) → HasParts setting answers parts
       → HasLeafParts (typed_tree plan.typed) limit parts
   asked_leaves answers parts has =
@@ -156,7 +162,8 @@ module _ (setting : Setting) (plan : Plan) (limit : ℕ) (same_plan : plan ≡ s
       → AreLeafParts typed leaves moment most parts → IsZoneAnswer typed leaves moment most result
 
   pub leaves_mixed : (parts : List LeafAnswer) (result : Result ZoneAnswer (Refusal OverLimit))
-      → MixesLeaves (typed_tree plan.typed) limit parts result → MixesLeaves (typed_of setting) setting.limit parts result
+      → MixesLeaves (typed_tree plan.typed) limit parts result → MixesLeaves (typed_of setting) setting.limit parts
+      result
   leaves_mixed parts result mixes =
       subst (λ (p : Plan). MixesLeaves (typed_tree p.typed) setting.limit parts result) same_plan
       (subst (λ (most : ℕ). MixesLeaves (typed_tree plan.typed) most parts result) same_limit mixes)
@@ -166,7 +173,8 @@ module _ (setting : Setting) (plan : Plan) (limit : ℕ) (same_plan : plan ≡ s
       → AreZoneParts typed zones moment most answers → IsAnswer typed (all_rows zones) moment most result
 
   pub zones_mixed : (answers : List ZoneAnswer) (result : Result Table (Refusal OverLimit))
-      → MixesZones (typed_tree plan.typed) limit answers result → MixesZones (typed_of setting) setting.limit answers result
+      → MixesZones (typed_tree plan.typed) limit answers result → MixesZones (typed_of setting) setting.limit answers
+      result
   zones_mixed answers result mixes =
       subst (λ (p : Plan). MixesZones (typed_tree p.typed) setting.limit answers result) same_plan
       (subst (λ (most : ℕ). MixesZones (typed_tree plan.typed) most answers result) same_limit mixes)
@@ -190,7 +198,8 @@ module _ (setting : Setting) (plan : Plan) (limit : ℕ) (same_plan : plan ≡ s
   zone_is_mixed course parts result answer stage is mixes settles = record {
     mixed = Ok answer;
     mixes = λ leaves moment are.
-        subst (λ (r : Result ZoneAnswer (Refusal OverLimit)). IsZoneAnswer (typed_of setting) leaves moment setting.limit r) is
+        subst (λ (r : Result ZoneAnswer (Refusal OverLimit)). IsZoneAnswer (typed_of setting) leaves moment
+        setting.limit r) is
         (leaves_mixed parts result mixes leaves moment are);
     settles = settles;
   }
@@ -203,7 +212,8 @@ module _ (setting : Setting) (plan : Plan) (limit : ℕ) (same_plan : plan ≡ s
   zone_is_over course parts result over stage is mixes ended = record {
     mixed = Err over;
     mixes = λ leaves moment are.
-        subst (λ (r : Result ZoneAnswer (Refusal OverLimit)). IsZoneAnswer (typed_of setting) leaves moment setting.limit r) is
+        subst (λ (r : Result ZoneAnswer (Refusal OverLimit)). IsZoneAnswer (typed_of setting) leaves moment
+        setting.limit r) is
         (leaves_mixed parts result mixes leaves moment are);
     settles = ended;
   }
@@ -216,9 +226,11 @@ module _ (setting : Setting) (plan : Plan) (limit : ℕ) (same_plan : plan ≡ s
   root_is_mixed course answers result table stage same is mixes ended = record {
     mixed = Ok table;
     mixes = λ zones moment are.
-        subst (λ (r : Result Table (Refusal OverLimit)). IsAnswer (typed_of setting) (all_rows zones) moment setting.limit r) is
+        subst (λ (r : Result Table (Refusal OverLimit)). IsAnswer (typed_of setting) (all_rows zones) moment
+        setting.limit r) is
         (zones_mixed answers result mixes zones moment
-        (subst (λ (some : List ZoneAnswer). AreZoneParts (typed_of setting) zones moment setting.limit some) (sym same) are));
+        (subst (λ (some : List ZoneAnswer). AreZoneParts (typed_of setting) zones moment setting.limit some) (sym same)
+        are));
     stage_is = ended;
   }
 
@@ -230,9 +242,11 @@ module _ (setting : Setting) (plan : Plan) (limit : ℕ) (same_plan : plan ≡ s
   root_is_over course answers result over stage same is mixes ended = record {
     mixed = Err over;
     mixes = λ zones moment are.
-        subst (λ (r : Result Table (Refusal OverLimit)). IsAnswer (typed_of setting) (all_rows zones) moment setting.limit r) is
+        subst (λ (r : Result Table (Refusal OverLimit)). IsAnswer (typed_of setting) (all_rows zones) moment
+        setting.limit r) is
         (zones_mixed answers result mixes zones moment
-        (subst (λ (some : List ZoneAnswer). AreZoneParts (typed_of setting) zones moment setting.limit some) (sym same) are));
+        (subst (λ (some : List ZoneAnswer). AreZoneParts (typed_of setting) zones moment setting.limit some) (sym same)
+        are));
     stage_is = ended;
   }
 
@@ -246,7 +260,8 @@ module _ (setting : Setting) (plan : Plan) (limit : ℕ) (same_plan : plan ≡ s
       ∙ ap (λ (l : List OpLevel). at.Ended (Ok (record { table = table; trace = trace_of course; levels = l })))
       (same_levels ∙ ap (λ (p : Plan). op_levels (typed_tree p.typed)) same_plan)
 
-  pub root_stops : {E : Type 0} (course : Course) (answers : List ZoneAnswer) (result : Result Table (Refusal OverLimit))
+  pub root_stops : {E : Type 0} (course : Course) (answers : List ZoneAnswer)
+      (result : Result Table (Refusal OverLimit))
       (over : OverLimit) (ended : Result Stage E) → answers ≡ course.answers → result ≡ Err (refusal.Fault over)
       → MixesZones (typed_tree plan.typed) limit answers result
       → IfOk ended (λ stage. stage ≡ stopped setting course) → IfOk ended (IsRootMixed setting course)
@@ -254,11 +269,13 @@ module _ (setting : Setting) (plan : Plan) (limit : ℕ) (same_plan : plan ≡ s
       root_is_over course answers result over stage same is mixes ends
   root_stops course answers result over (Err why) same is mixes ends = record {}
 
-  pub zone_stops : {E : Type 0} (course : Course) (parts : List LeafAnswer) (result : Result ZoneAnswer (Refusal OverLimit))
+  pub zone_stops : {E : Type 0} (course : Course) (parts : List LeafAnswer)
+      (result : Result ZoneAnswer (Refusal OverLimit))
       (over : OverLimit) (ended : Result Stage E) → result ≡ Err (refusal.Fault over)
       → MixesLeaves (typed_tree plan.typed) limit parts result
       → IfOk ended (λ stage. stage ≡ stopped setting course) → IfOk ended (IsZoneMixed setting course parts)
-  zone_stops course parts result over (Ok stage) is mixes ends = zone_is_over course parts result over stage is mixes ends
+  zone_stops course parts result over (Ok stage) is mixes ends = zone_is_over course parts result over stage is mixes
+      ends
   zone_stops course parts result over (Err why) is mixes ends = record {}
 
   pub zone_goes_on : {E : Type 0} (course : Course) (parts : List LeafAnswer)

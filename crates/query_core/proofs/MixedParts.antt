@@ -1,5 +1,6 @@
 -- Where the leaves of a zone were visited, what is mixed are answers over rows that are divided.
-use Rattle.std.proofs.Common.{◌∙◌, ◌≤ℤ◌, ◌+◌, ℕ, ℤ, pos, List, [], ◌∷◌, ◌++◌, length, map, drop, sym, ap, subst, append_assoc, arith}
+use Rattle.std.proofs.Common.{◌∙◌, ◌≤ℤ◌, ◌+◌, ℕ, ℤ, pos, List, [], ◌∷◌, ◌++◌, length, map, drop, sym, ap, subst}
+use Rattle.std.proofs.Common.{append_assoc, arith}
 use Rattle.std.specs.List.{flat_map}
 use Rattle.std.proofs.lemmas.List.{map-append}
 use Rattle.mixer.specs.Divisions.{IsDivided}

@@ -1,5 +1,6 @@
 -- The next of some places that pass a test.
-use Rattle.std.proofs.Common.{◌≡◌, ◌∙◌, ◌≤◌, ◌+◌, ◌⊎◌, inl, inr, ℕ, zero, suc, Bool, true, false, cond, [], ◌∷◌, filter, refl, ap, arith}
+use Rattle.std.proofs.Common.{◌≡◌, ◌∙◌, ◌≤◌, ◌+◌, ◌⊎◌, inl, inr, ℕ, zero, suc, Bool, true, false, cond, [], ◌∷◌}
+use Rattle.std.proofs.Common.{filter, refl, ap, arith}
 use Rattle.std.specs.List.{range_with_len}
 
 pub record IsNextPlace (test : ℕ → Bool) (from count place : ℕ) : Type 0 where
@@ -13,13 +14,15 @@ place_here test from count e = record {
   later = omega arith;
   rest = count;
   all = omega arith;
-  is = ap (λ b. cond b (from ∷ filter test (range_with_len (from + 1) count)) (filter test (range_with_len (from + 1) count))) e;
+  is = ap (λ b. cond b (from ∷ filter test (range_with_len (from + 1) count))
+      (filter test (range_with_len (from + 1) count))) e;
 }
 
 past_here : (test : ℕ → Bool) (from count : ℕ) → test from ≡ false
     → filter test (range_with_len from (suc count)) ≡ filter test (range_with_len (from + 1) count)
 past_here test from count e =
-    ap (λ b. cond b (from ∷ filter test (range_with_len (from + 1) count)) (filter test (range_with_len (from + 1) count))) e
+    ap (λ b. cond b (from ∷ filter test (range_with_len (from + 1) count))
+    (filter test (range_with_len (from + 1) count))) e
 
 place_later : (test : ℕ → Bool) (from count place : ℕ) → test from ≡ false → IsNextPlace test (from + 1) count place
     → IsNextPlace test from (suc count) place

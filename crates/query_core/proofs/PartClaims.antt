@@ -1,5 +1,6 @@
 -- What is known of the answers of leaves at each of a query's stages.
-use Rattle.std.proofs.Common.{◌≡◌, ◌<◌, ◌≤◌, ◌+◌, ◌⊎◌, ℕ, ℤ, Bool, List, [], ◌∷◌, length, map, filter, take, drop, get_or, Result, Ok, Err}
+use Rattle.std.proofs.Common.{◌≡◌, ◌<◌, ◌≤◌, ◌+◌, ◌⊎◌, ℕ, ℤ, Bool, List, [], ◌∷◌, length, map, filter, take, drop}
+use Rattle.std.proofs.Common.{get_or, Result, Ok, Err}
 use Rattle.std.specs.List.{AllByRecursion, range_with_len}
 use Rattle.mixer.specs.Divisions.{all_rows}
 use Rattle.mixer.specs.ZoneAnswers.{AreLeafParts, AreZoneParts, IsOverZone}
@@ -142,7 +143,8 @@ module _ (store : Store) (setting : Setting) (moment : ℤ) (Tells : Histories �
     pub tells : Tells now course
     pub trace_is : trace ≡ trace_of course
     pub over : OverLimit
-    pub mixes : (zones : List (List (List Row))) → AreZoneParts (typed_of setting) zones moment setting.limit course.answers
+    pub mixes : (zones : List (List (List Row))) → AreZoneParts (typed_of setting) zones moment setting.limit
+        course.answers
         → IsOver (typed_of setting) (all_rows zones) moment setting.limit over
 
   -- a table
@@ -152,7 +154,8 @@ module _ (store : Store) (setting : Setting) (moment : ℤ) (Tells : Histories �
     pub tells : Tells now course
     pub trace_is : answer.trace ≡ trace_of course
     pub levels : answer.levels ≡ op_levels (typed_of setting)
-    pub mixes : (zones : List (List (List Row))) → AreZoneParts (typed_of setting) zones moment setting.limit course.answers
+    pub mixes : (zones : List (List (List Row))) → AreZoneParts (typed_of setting) zones moment setting.limit
+        course.answers
         → IsMeant (typed_of setting) (all_rows zones) moment setting.limit answer.table
 
   abbrev pub OverSo : Histories → Trace → Type 0

@@ -16,7 +16,8 @@ use Rattle.query_core.specs.declared.courses.Course.{Course}
 use Rattle.query_core.specs.declared.stages.Stage.{Stage}
 use Rattle.query_core.specs.declared.stages.Stage.TheVariants as at
 use Rattle.query_core.proofs.TraceClaims as claim
-use Rattle.query_core.proofs.ZoneFacts.{leaves_next, so_far}
+use Rattle.mon_topo.proofs.SizeLemmas.{parts_so_far}
+use Rattle.query_core.proofs.ZoneFacts.{leaves_next}
 
 module _ (store : Store) (setting : Setting) (at_entry : Histories) (now : View) (avoided : List Leaf) where
   zone_there : (below k : ℕ) (course : Course) (round : Round)
@@ -32,7 +33,7 @@ module _ (store : Store) (setting : Setting) (at_entry : Histories) (now : View)
         arith,
         is.more,
         ap (λ (r : Range). r.0) is.next,
-        so_far (λ (zone : ZoneSpec). zone.ranges) store.zones is.k no_zone is.zone.there,
+        parts_so_far (λ (zone : ZoneSpec). zone.ranges) store.zones is.k no_zone is.zone.there,
       )
   is_there (at.Reloading course round loading) is = zone_there _ is.k course round is.zone
   is_there (at.Visiting course round visits leaf) is =
@@ -40,6 +41,6 @@ module _ (store : Store) (setting : Setting) (at_entry : Histories) (now : View)
         arith,
         is.visits_are.ours.0.1,
         leaves_next store.zones is.k is.zone.there,
-        so_far (λ (zone : ZoneSpec). zone.leaves) store.zones is.k no_zone is.zone.there,
+        parts_so_far (λ (zone : ZoneSpec). zone.leaves) store.zones is.k no_zone is.zone.there,
       )
   is_there (at.Ended end) is = tt

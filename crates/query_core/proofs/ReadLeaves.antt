@@ -1,5 +1,6 @@
 -- Which leaves were read, by what a query knows of each leaf; and leaves in ascending order.
-use Rattle.std.proofs.Common.{◌≡◌, ◌∙◌, ◌<◌, ◌≤◌, ◌+◌, ℕ, zero, suc, Bool, true, false, cond, List, [], ◌∷◌, ◌++◌, length, map, nat_eq, set, drop, get_or, refl, sym, ap, subst, append_assoc, arith}
+use Rattle.std.proofs.Common.{◌≡◌, ◌∙◌, ◌<◌, ◌≤◌, ◌+◌, ℕ, zero, suc, Bool, true, false, cond, List, [], ◌∷◌, ◌++◌}
+use Rattle.std.proofs.Common.{length, map, nat_eq, set, drop, get_or, refl, sym, ap, subst, append_assoc, arith}
 use Rattle.std.specs.List.{AllByRecursion, list_any}
 use Rattle.std.proofs.lemmas.Bool.{false≢true, or_from, or_left, or_right}
 use Rattle.std.proofs.lemmas.Bool.Decides.{nat_tests}
@@ -61,7 +62,8 @@ reads_append n (look ∷ looks) more =
 
 pub set_read : (n : ℕ) (looks : List Look) (place cut sent : ℕ) → place < length looks
     → AllByRecursion IsUnread (drop place looks)
-    → reads_from n (set looks place (read_at cut sent)) ≡ reads_from n looks ++ leaf_read (n + place) (read_at cut sent) ∷ []
+    → reads_from n (set looks place (read_at cut sent)) ≡ reads_from n looks ++ leaf_read (n + place)
+    (read_at cut sent) ∷ []
 set_read n [] place cut sent there all = absurd (omega (arith, there))
 set_read n (look ∷ looks) zero cut sent there all =
     let same : n ≡ n + 0 = omega arith in
@@ -72,7 +74,8 @@ set_read n (look ∷ looks) (suc place) cut sent there all =
     ap (λ rest. cond look.read (leaf_read n look ∷ rest) rest)
     (set_read (suc n) looks place cut sent (omega (arith, there)) all
     ∙ ap (λ k. reads_from (suc n) looks ++ leaf_read k (read_at cut sent) ∷ []) same)
-    ∙ front_by look.read (leaf_read n look) (reads_from (suc n) looks) (leaf_read (n + suc place) (read_at cut sent) ∷ [])
+    ∙ front_by look.read (leaf_read n look) (reads_from (suc n) looks) (leaf_read (n + suc place) (read_at cut sent)
+    ∷ [])
 
 pub set_unread : (n : ℕ) (looks : List Look) (place cut : ℕ) → place < length looks
     → AllByRecursion IsUnread (drop place looks) → reads_from n (set looks place (unread cut)) ≡ reads_from n looks
@@ -80,7 +83,8 @@ set_unread n [] place cut there all = absurd (omega (arith, there))
 set_unread n (look ∷ looks) zero cut there all =
     sym (ap (λ b. cond b (leaf_read n look ∷ reads_from (suc n) looks) (reads_from (suc n) looks)) all.0)
 set_unread n (look ∷ looks) (suc place) cut there all =
-    ap (λ rest. cond look.read (leaf_read n look ∷ rest) rest) (set_unread (suc n) looks place cut (omega (arith, there)) all)
+    ap (λ rest. cond look.read (leaf_read n look ∷ rest) rest) (set_unread (suc n) looks place cut
+    (omega (arith, there)) all)
 
 pub all_set : (P : Look → Type 0) (looks : List Look) (place : ℕ) (look : Look) → AllByRecursion P looks → P look
     → AllByRecursion P (set looks place look)
@@ -100,7 +104,8 @@ behind_set (first ∷ looks) zero (suc later) look past all = fewer looks later 
     fewer looks zero all = all
     fewer [] (suc later) all = tt
     fewer (first ∷ looks) (suc later) all = fewer looks later all.1
-behind_set (first ∷ looks) (suc place) (suc later) look past all = behind_set looks place later look (omega (arith, past)) all
+behind_set (first ∷ looks) (suc place) (suc later) look past all = behind_set looks place later look
+    (omega (arith, past)) all
 
 pub fewer_unread : (looks : List Look) (place later : ℕ) → place ≤ later → AllByRecursion IsUnread (drop place looks)
     → AllByRecursion IsUnread (drop later looks)
@@ -138,7 +143,8 @@ told_cuts front [] = tt
 told_cuts front (look ∷ looks) =
     let whole : (front ++ look ∷ []) ++ looks ≡ front ++ look ∷ looks = append_assoc front (look ∷ []) looks in
     let count : length (front ++ look ∷ []) ≡ suc (length front) = grind (arith, longer front look) in
-    told_by (IsTold (front ++ look ∷ looks)) look.read (leaf_read (length front) look) (reads_from (suc (length front)) looks)
+    told_by (IsTold (front ++ look ∷ looks)) look.read (leaf_read (length front) look) (reads_from (suc (length front))
+    looks)
     (told_at front look looks)
     (subst (λ (all : List Look). AllByRecursion (IsTold all) (reads_from (suc (length front)) looks)) whole
     (subst (λ (n : ℕ). AllByRecursion (IsTold ((front ++ look ∷ []) ++ looks)) (reads_from n looks)) count
@@ -153,13 +159,15 @@ leaves_read reads = map (λ (one : LeafRead). one.leaf) reads
 
 first_by : (leaf : Leaf) (b : Bool) (one : LeafRead) (rest : List LeafRead) → b ≡ true → same_leaf leaf one.leaf ≡ true
     → list_any (same_leaf leaf) (leaves_read (cond b (one ∷ rest) rest)) ≡ true
-first_by leaf true one rest e same = or_left (same_leaf leaf one.leaf) (list_any (same_leaf leaf) (leaves_read rest)) same
+first_by leaf true one rest e same = or_left (same_leaf leaf one.leaf) (list_any (same_leaf leaf) (leaves_read rest))
+    same
 first_by leaf false one rest e same = absurd (false≢true e)
 
 rest_by : (leaf : Leaf) (b : Bool) (one : LeafRead) (rest : List LeafRead)
     → list_any (same_leaf leaf) (leaves_read rest) ≡ true
     → list_any (same_leaf leaf) (leaves_read (cond b (one ∷ rest) rest)) ≡ true
-rest_by leaf true one rest there = or_right (same_leaf leaf one.leaf) (list_any (same_leaf leaf) (leaves_read rest)) there
+rest_by leaf true one rest there = or_right (same_leaf leaf one.leaf) (list_any (same_leaf leaf) (leaves_read rest))
+    there
 rest_by leaf false one rest there = there
 
 -- a leaf that the flags tell as read is among those that were
@@ -184,7 +192,8 @@ abbrev pub Ascend : ℕ → List Leaf → ℕ → Type 0
 Ascend from [] to = from ≤ to
 Ascend from (leaf ∷ leaves) to = (from ≤ leaf.0) × Ascend (suc leaf.0) leaves to
 
-pub ascend_before : (from first : ℕ) (leaves : List Leaf) (to : ℕ) → from ≤ first → Ascend first leaves to → Ascend from leaves to
+pub ascend_before : (from first : ℕ) (leaves : List Leaf) (to : ℕ) → from ≤ first → Ascend first leaves to
+    → Ascend from leaves to
 ascend_before from first [] to before all = omega (arith, before, all)
 ascend_before from first (leaf ∷ leaves) to before all = (omega (arith, before, all.0), all.1)
 
@@ -232,7 +241,8 @@ reads_by n true look rest to all = (omega arith, all)
 reads_by n false look rest to all = ascend_before n (suc n) (leaves_read rest) to (omega arith) all
 
 -- those that were read do
-pub reads_ascend : (n : ℕ) (looks : List Look) (to : ℕ) → n + length looks ≡ to → Ascend n (leaves_read (reads_from n looks)) to
+pub reads_ascend : (n : ℕ) (looks : List Look) (to : ℕ) → n + length looks ≡ to
+    → Ascend n (leaves_read (reads_from n looks)) to
 reads_ascend n [] to e = omega (arith, e)
 reads_ascend n (look ∷ looks) to e =
     reads_by n look.read look (reads_from (suc n) looks) to (reads_ascend (suc n) looks to (omega (arith, e)))

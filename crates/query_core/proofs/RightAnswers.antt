@@ -1,5 +1,6 @@
 -- What a licensed session keeps of its trace and of its leaves' answers together, and so how it ends.
-use Rattle.std.proofs.Common.{◌≡◌, ◌∙◌, ◌≤ℤ◌, ◌-◌, ◌⊎◌, inl, inr, ℕ, ℤ, pos, zero, suc, false, List, [], ◌∷◌, length, map, take, get_or, refl, sym, ap, subst, arith, Result, Ok, Err}
+use Rattle.std.proofs.Common.{◌≡◌, ◌∙◌, ◌≤ℤ◌, ◌-◌, ◌⊎◌, inl, inr, ℕ, ℤ, pos, zero, suc, false, List, [], ◌∷◌, length}
+use Rattle.std.proofs.Common.{map, take, get_or, refl, sym, ap, subst, arith, Result, Ok, Err}
 use Rattle.std.specs.List.{AllByRecursion}
 use Rattle.mon_hints.specs.Formulas.{all_named, formula_tree, formulas}
 use Rattle.mon_hints.specs.Listings.{AreAmong}
@@ -73,10 +74,12 @@ module _ (store : Store) (setting : Setting) (moment : ℤ) (asked : IsAskedOf s
   module _ (now : View) (avoided : List Leaf) where
     told_by : (leaf : Leaf) (course : Course)
         → ⊥ ⊎ Tells (claim.wanted store setting) (claim.met store setting) store.buckets_of
-        (up_to now.seen leaf (look_at 0 course.looks leaf)) (slots_on leaf course.resolved) (look_at 0 course.looks leaf)
+        (up_to now.seen leaf (look_at 0 course.looks leaf)) (slots_on leaf course.resolved)
+        (look_at 0 course.looks leaf)
         → (look_at 0 course.looks leaf).read ≡ false
         → AllByRecursion (λ row. is_wanted (typed_of setting) row ≡ false)
-        (slot_rows (take (look_at 0 course.looks leaf).cut (leaf_history now.seen leaf)) (slots_on leaf course.resolved))
+        (slot_rows (take (look_at 0 course.looks leaf).cut (leaf_history now.seen leaf))
+        (slots_on leaf course.resolved))
     told_by leaf course (inl none) flag = absurd none
     told_by leaf course (inr tells) flag = tells.unread flag
 
@@ -104,7 +107,8 @@ module _ (store : Store) (setting : Setting) (moment : ℤ) (asked : IsAskedOf s
     step_tells (step.Gathered course parts) so = (
       course_tells (first_leaf store.zones so.k) so.k course so.course_is,
       λ mixed. turn_tells (zone_turn setting course mixed)
-          (zone_so store setting moment at_entry asked.replicas asked.areas (listed store setting asked) (unmet_rows store setting asked)
+          (zone_so store setting moment at_entry asked.replicas asked.areas (listed store setting asked)
+          (unmet_rows store setting asked)
           now avoided course mixed so),
     )
 
@@ -135,7 +139,8 @@ module _ (store : Store) (setting : Setting) (moment : ℤ) (asked : IsAskedOf s
       step_tells event.view (avoided_after query.avoided query.stage event.answer)
           (spec.after setting query.stage event.answer)
           (answer_so store setting moment at_entry asked.replicas asked.areas (listed store setting asked)
-          (unmet_rows store setting asked) before event.view licensed.grown also.since also.sound licensed.sound query.avoided
+          (unmet_rows store setting asked) before event.view licensed.grown also.since also.sound licensed.sound
+          query.avoided
           (slots_at query) query.stage event.answer also.stage licensed.true_then),
     );
   }
@@ -217,6 +222,7 @@ module _ (store : Store) (setting : Setting) (moment : ℤ) (asked : IsAskedOf s
         above = above store setting asked moment from exit.seen held trace so.1 in_zones;
       }
 
-  pub none_rightly : (range : Range) (named : List FoundDown) → last.stage ≡ at.Ended (Err (fault.NoReplica range named))
+  pub none_rightly : (range : Range) (named : List FoundDown) → last.stage
+      ≡ at.Ended (Err (fault.NoReplica range named))
       → HasNoReplica store.zones view.seen exit.seen range named
   none_rightly range named ended = claim_at (Err (fault.NoReplica range named)) ended

@@ -1,5 +1,7 @@
 -- Slots by leaf.
-use Rattle.std.proofs.Common.{◌≡◌, ℕ, zero, suc, ◌+◌, ◌-◌, ◌<◌, ◌≤◌, Bool, true, false, List, [], ◌∷◌, ◌++◌, append_assoc, cond, if◌then◌else◌, filter, get_or, length, map, set, refl, sym, ap, ◌∙◌, arith, ◌&&◌, true≢false}
+use Rattle.std.proofs.Common.{◌≡◌, ℕ, zero, suc, ◌+◌, ◌-◌, ◌<◌, ◌≤◌, Bool, true, false, List, [], ◌∷◌, ◌++◌}
+use Rattle.std.proofs.Common.{append_assoc, cond, if◌then◌else◌, filter, get_or, length, map, set, refl, sym, ap, ◌∙◌}
+use Rattle.std.proofs.Common.{arith, ◌&&◌, true≢false}
 use Rattle.std.specs.Prelude.{nat_le, nat_lt}
 use Rattle.std.proofs.lemmas.Bool.{ne_eqb}
 use Rattle.std.proofs.lemmas.Bool.Decides.{nat_tests}
@@ -23,7 +25,8 @@ slots_more : (leaf : Leaf) (resolved : List Resolved) (one : Resolved)
     ≡ slots_on leaf resolved ++ map slot_of (cond (same_leaf one.leaf leaf) (one ∷ []) [])
 slots_more leaf resolved one =
     ap (map slot_of) (filter-append (λ (x : Resolved). same_leaf x.leaf leaf) resolved (one ∷ []))
-    ∙ map-append slot_of (filter (λ (x : Resolved). same_leaf x.leaf leaf) resolved) (cond (same_leaf one.leaf leaf) (one ∷ []) [])
+    ∙ map-append slot_of (filter (λ (x : Resolved). same_leaf x.leaf leaf) resolved) (cond (same_leaf one.leaf leaf)
+    (one ∷ []) [])
 
 -- one more lies there
 slots_added : (leaf : Leaf) (resolved : List Resolved) (one : Resolved) → same_leaf one.leaf leaf ≡ true
@@ -100,7 +103,8 @@ slot_here area resolved one from within =
     let place : ℕ = one.leaf.0 - area.first_leaf.0 in
     let none_before : 0 + place ≡ place = omega arith in
     let here : get_or (map f (range_with_len 0 area.leaves)) place [] ++ slot_of one ∷ [] ≡ g (0 + place) =
-    ap (λ (slots : List RangeSlot). slots ++ slot_of one ∷ []) (get_changed f 0 area.leaves place [] within ∙ ap f none_before)
+    ap (λ (slots : List RangeSlot). slots ++ slot_of one ∷ []) (get_changed f 0 area.leaves place [] within
+    ∙ ap f none_before)
     ∙ sym (slots_added (leaf_at area place) resolved one (together area one.leaf from))
     ∙ ap g (sym none_before) in
     ap (λ slots. set (map f (range_with_len 0 area.leaves)) place slots) here
@@ -117,7 +121,8 @@ slot_elsewhere area resolved one other =
     (λ place. slots_on (leaf_at area place) (resolved ++ one ∷ [])) 0 area.leaves
     (λ i from to. slots_kept (leaf_at area i) resolved one (other i (omega arith)))
 
-pub has_at : (area : Area) (leaf : Leaf) (i : ℕ) → i < area.leaves → leaf.0 ≡ area.first_leaf.0 + i → has_leaf area leaf ≡ true
+pub has_at : (area : Area) (leaf : Leaf) (i : ℕ) → i < area.leaves → leaf.0 ≡ area.first_leaf.0 + i
+    → has_leaf area leaf ≡ true
 has_at area leaf i there e =
     let from : nat_le area.first_leaf.0 leaf.0 ≡ true = grind (arith, nat_tests) in
     let to : nat_lt leaf.0 (area.first_leaf.0 + area.leaves) ≡ true = grind (arith, nat_tests) in
@@ -157,11 +162,13 @@ pub slots_at : (area : Area) (resolved : List Resolved) (leaf : Leaf) → has_le
 slots_at area resolved leaf has =
     let at = has_place area leaf has in
     let same : area.first_leaf.0 + (0 + (leaf.0 - area.first_leaf.0)) ≡ leaf.0 = omega (arith, at.from) in
-    get_changed (λ place. slots_on (leaf_at area place) resolved) 0 area.leaves (leaf.0 - area.first_leaf.0) [] at.within
+    get_changed (λ place. slots_on (leaf_at area place) resolved) 0 area.leaves (leaf.0 - area.first_leaf.0) []
+    at.within
     ∙ ap (λ n. slots_on (leaf_numbered n) resolved) same
 
 added_by : (area : Area) (resolved : List Resolved) (one : Resolved) (has : Bool) → has_leaf area one.leaf ≡ has
-    → slot_added_at area (slots_by_leaf area resolved) one.leaf (slot_of one) ≡ slots_by_leaf area (resolved ++ one ∷ [])
+    → slot_added_at area (slots_by_leaf area resolved) one.leaf (slot_of one) ≡ slots_by_leaf area
+    (resolved ++ one ∷ [])
 added_by area resolved one true e =
     let at = has_place area one.leaf e in
     ap (λ b. cond b (set (slots_by_leaf area resolved) (one.leaf.0 - area.first_leaf.0)

@@ -1,7 +1,10 @@
 -- What is known of ranges that resolve, and of zones that stand as they had been seen.
-use Rattle.std.proofs.Common.{◌≡◌, ◌∙◌, ℕ, zero, suc, ◌+◌, ◌-◌, ◌<◌, ◌≤◌, Bool, true, false, not, cond, List, [], ◌∷◌, ◌++◌, length, map, take, drop, filter, get_or, slice_get, Some, Contains, ◌⊎◌, inl, inr, refl, sym, ap, subst, arith}
+use Rattle.std.proofs.Common.{◌≡◌, ◌∙◌, ℕ, zero, suc, ◌+◌, ◌-◌, ◌<◌, ◌≤◌, Bool, true, false, not, cond, List, [], ◌∷◌}
+use Rattle.std.proofs.Common.{◌++◌, length, map, take, drop, filter, get_or, slice_get, Some, Contains, ◌⊎◌, inl, inr}
+use Rattle.std.proofs.Common.{refl, sym, ap, subst, arith}
 use Rattle.std.specs.List.{AllByRecursion as All, range_with_len}
-use Rattle.std.proofs.lemmas.List.{get_or-drop, get_or-map, get_or-take, length-drop, length-map, length-take-le, drop-map, take-map, take-take, take_all}
+use Rattle.std.proofs.lemmas.List.{get_or-drop, get_or-map, get_or-take, length-drop, length-map, length-take-le}
+use Rattle.std.proofs.lemmas.List.{drop-map, take-map, take-take, take_all}
 use Rattle.std.proofs.lemmas.List.Elements.{Contains-append_right}
 use Rattle.std.proofs.lemmas.List.FromFn.{length-map-range_with_len}
 use Rattle.mon_hints.specs.HistoryBuckets.{history_buckets}
@@ -27,8 +30,10 @@ use Rattle.mon_value.specs.declared.positions.SlotLeaf.{SlotLeaf}
 use Rattle.mon_value.specs.declared.rows.Row.{Row}
 use Rattle.mon_value.specs.declared.rows.SeriesKey.{SeriesKey}
 use Rattle.query_core.proofs.AckedRows.{HasRows, serve_at}
-use Rattle.query_core.proofs.Spans.{IsLookedAt, ResolvedSo, SpanSo, StandsAt, StandsIn, Tells, look_at, more_avoided, outside, range_of, resolved_on, up_to}
-use Rattle.query_core.proofs.ZoneFacts.{leaf_zoned, leaves_next, ranges_next, so_far}
+use Rattle.query_core.proofs.Spans.{IsLookedAt, ResolvedSo, SpanSo, StandsAt, StandsIn, Tells, look_at, more_avoided}
+use Rattle.query_core.proofs.Spans.{outside, range_of, resolved_on, up_to}
+use Rattle.mon_topo.proofs.SizeLemmas.{parts_so_far}
+use Rattle.query_core.proofs.ZoneFacts.{leaf_zoned, leaves_next, ranges_next}
 use Rattle.query_core.specs.Areas.{area_of}
 use Rattle.query_core.specs.Looks.{unread}
 use Rattle.query_core.specs.Rounds.{slots_on}
@@ -77,7 +82,8 @@ numbers_of (x ∷ xs) a (suc m) e =
           (λ one within. (omega (arith, within.0), omega (arith, within.1))) xs (numbers_of xs (a + 1) m rest),
     )
 
-begins_before : {X : Type 0} (all was : List X) (n : ℕ) → BeginsWith all was → length was ≤ n → BeginsWith (take n all) was
+begins_before : {X : Type 0} (all was : List X) (n : ℕ) → BeginsWith all was → length was ≤ n → BeginsWith (take n all)
+    was
 begins_before all was n h short = take-take (length was) n all short ∙ h
 
 -- ---- rows of a history
@@ -150,17 +156,19 @@ first_there avoided one (replica ∷ replicas) e =
     free_by avoided replica one replicas (not (is_avoided avoided replica)) (first_there avoided one replicas) e
 
 module _ (held : SchemaLists) (zones : List ZoneSpec) (points : ℕ)
-    (replicated : (r : ℕ) → r < length (ranges_in zones) → HasReplicas zones (range_numbered r)) (at_entry seen : Histories)
+    (replicated : (r : ℕ) → r < length (ranges_in zones) → HasReplicas zones (range_numbered r))
+    (at_entry seen : Histories)
     (holds : AreHeld held zones points seen) (since : AreWithin at_entry seen) (k : ℕ) (there : k < length zones) where
   ranges_within : first_range zones k + (area_of zones k).ranges ≤ length seen.ranges
   ranges_within =
-      omega (arith, so_far (λ (zone : ZoneSpec). zone.ranges) zones k no_zone there, holds.all_ranges)
+      omega (arith, parts_so_far (λ (zone : ZoneSpec). zone.ranges) zones k no_zone there, holds.all_ranges)
 
   abbrev IsOfZone : Range → Type 0
   IsOfZone range = (first_range zones k ≤ range.0) × (range.0 < first_range zones k + (area_of zones k).ranges)
 
   abbrev AreNear : List SlotLeaf → Type 0
-  AreNear = All (λ (replica : SlotLeaf). (first_leaf zones k ≤ replica.leaf.0) × (replica.leaf.0 < first_leaf zones (k + 1)))
+  AreNear = All (λ (replica : SlotLeaf). (first_leaf zones k ≤ replica.leaf.0)
+      × (replica.leaf.0 < first_leaf zones (k + 1)))
 
   serve_near : (range : Range) → IsOfZone range → (n : ℕ)
       → All (HasRows zones seen range (take n (range_history seen range))) (serving (take n (range_history seen range)))
@@ -189,8 +197,10 @@ module _ (held : SchemaLists) (zones : List ZoneSpec) (points : ℕ)
       let history = range_history seen one.range in
       let front = take is.found history in
       let was = range_history at_entry one.range in
-      let serves : Contains (serving front) (replica_of one) = first_there avoided (replica_of one) (serving front) is.first in
-      let near = all_at (λ (replica : SlotLeaf). (first_leaf zones k ≤ replica.leaf.0) × (replica.leaf.0 < first_leaf zones (k + 1)))
+      let serves : Contains (serving front) (replica_of one) = first_there avoided (replica_of one) (serving front)
+      is.first in
+      let near = all_at (λ (replica : SlotLeaf). (first_leaf zones k ≤ replica.leaf.0)
+      × (replica.leaf.0 < first_leaf zones (k + 1)))
       (serving front) (replica_of one) (near_at one.range in_zone is.found) serves in
       let has = all_at (HasRows zones seen one.range front) (serving front) (replica_of one)
       (serve_near one.range in_zone is.found) serves in
@@ -218,7 +228,8 @@ module _ (held : SchemaLists) (zones : List ZoneSpec) (points : ℕ)
       → ((e : Entry) → Contains history e → AreAtHome held zones e) → look.read ≡ false
       → met (history_buckets buckets_of history) ≡ false → Tells wanted met buckets_of history slots look
   tells_unmet history slots look home left out = record {
-    unread = λ e. slots_among (λ row. wanted row ≡ false) history slots (unmet history (home_rows held zones history home) out);
+    unread = λ e. slots_among (λ row. wanted row ≡ false) history slots
+        (unmet history (home_rows held zones history home) out);
     read = λ e. absurd (cc);
   }
 
@@ -227,7 +238,8 @@ module _ (held : SchemaLists) (zones : List ZoneSpec) (points : ℕ)
       (below : All (λ (leaf : Leaf). leaf.0 < first_leaf zones k) avoided) (cuts : List ℕ) (firsts : List Resolved)
       (cuts_are : cuts ≡ map length seen.leaves)
       (ranges_are : map range_of firsts ≡ map range_numbered (range_with_len 0 (length seen.ranges)))
-      (firsts_are : All (λ (one : Resolved). first_serving [] (range_history seen one.range) ≡ Some (replica_of one)) firsts) where
+      (firsts_are : All (λ (one : Resolved). first_serving [] (range_history seen one.range) ≡ Some (replica_of one))
+      firsts) where
     abbrev low : ℕ
     low = first_leaf zones k
 
@@ -250,7 +262,7 @@ module _ (held : SchemaLists) (zones : List ZoneSpec) (points : ℕ)
     cuts_long =
         omega (
           arith,
-          so_far (λ (zone : ZoneSpec). zone.leaves) zones k no_zone there,
+          parts_so_far (λ (zone : ZoneSpec). zone.leaves) zones k no_zone there,
           holds.all_leaves,
           ap length cuts_are,
           length-map seen.leaves (λ (history : List Entry). length history),
@@ -290,10 +302,19 @@ module _ (held : SchemaLists) (zones : List ZoneSpec) (points : ℕ)
         let place : low + i ≡ leaf.0 = omega (arith, from) in
         let here : i < leaves = omega (arith, from, to) in
         get_or-map unread own_cuts i 0 (unread 0) (omega (arith, here, own_cuts_long))
-        ∙ ap unread (get_or-take leaves (drop low cuts) i 0 here ∙ get_or-drop low cuts i 0 ∙ ap (λ n. get_or cuts n 0) place
+        ∙ ap unread (get_or-take leaves (drop low cuts) i 0 here ∙ get_or-drop low cuts i 0 ∙ ap (λ n. get_or cuts n 0)
+        place
         ∙ ap (λ all. get_or all leaf.0 0) cuts_are
         ∙ get_or-map (λ (history : List Entry). length history) seen.leaves leaf.0 [] 0
-        (omega (arith, from, to, cuts_long, ap length cuts_are, length-map seen.leaves (λ (history : List Entry). length history))))
+        (omega (
+          arith,
+          from,
+          to,
+          cuts_long,
+          ap length cuts_are,
+          length-map seen.leaves (λ (history : List Entry).
+              length history),
+        )))
 
     whole : (leaf : Leaf) → up_to now leaf (unread (length (leaf_history seen leaf))) ≡ leaf_history seen leaf
     whole leaf = until.leaves leaf
@@ -304,9 +325,11 @@ module _ (held : SchemaLists) (zones : List ZoneSpec) (points : ℕ)
     first_is one in_zone is =
         let history = range_history seen one.range in
         let all : take (length history) history ≡ history = take_all (length history) history (omega arith) in
-        let near = near_at held zones points replicated at_entry seen holds since k there one.range in_zone (length history) in
+        let near = near_at held zones points replicated at_entry seen holds since k there one.range in_zone
+        (length history) in
         let apart : All (λ (replica : SlotLeaf). is_avoided avoided replica ≡ false) (serving history) =
-        subst (λ (front : List RangeEntry). All (λ (replica : SlotLeaf). is_avoided avoided replica ≡ false) (serving front)) all
+        subst (λ (front : List RangeEntry). All (λ (replica : SlotLeaf). is_avoided avoided replica ≡ false)
+        (serving front)) all
         (all_on (λ (replica : SlotLeaf). (low ≤ replica.leaf.0) × (replica.leaf.0 < first_leaf zones (k + 1)))
         (λ (replica : SlotLeaf). is_avoided avoided replica ≡ false)
         (λ replica within. outside low (first_leaf zones (k + 1)) avoided replica within
@@ -378,9 +401,11 @@ module _ (held : SchemaLists) (zones : List ZoneSpec) (points : ℕ)
           (first_range zones (k + 1)) own_firsts (map unread own_cuts)
       seen_span =
           let within = numbers_of own_firsts first count own_ranges in
-          let serve = all_taken (λ (one : Resolved). first_serving [] (range_history seen one.range) ≡ Some (replica_of one)) count
+          let serve = all_taken (λ (one : Resolved). first_serving [] (range_history seen one.range)
+          ≡ Some (replica_of one)) count
           (drop first firsts)
-          (all_left (λ (one : Resolved). first_serving [] (range_history seen one.range) ≡ Some (replica_of one)) first firsts
+          (all_left (λ (one : Resolved). first_serving [] (range_history seen one.range) ≡ Some (replica_of one)) first
+          firsts
           firsts_are) in
           let next = leaves_next zones k there in
           record {

@@ -1,6 +1,7 @@
 -- What a query keeps of the zones that it is through with: what their ranges resolved to, and the answers of the leaves
 -- that it read there, each over the rows of its slots.
-use Rattle.std.proofs.Common.{◌≡◌, ◌∙◌, ◌<◌, ◌≤◌, ◌+◌, ℕ, ℤ, zero, suc, List, [], ◌∷◌, ◌++◌, length, map, take, drop, refl, sym, ap, subst, append-nil, arith}
+use Rattle.std.proofs.Common.{◌≡◌, ◌∙◌, ◌<◌, ◌≤◌, ◌+◌, ℕ, ℤ, zero, suc, List, [], ◌∷◌, ◌++◌, length, map, take, drop}
+use Rattle.std.proofs.Common.{refl, sym, ap, subst, append-nil, arith}
 use Rattle.std.specs.List.{AllByRecursion, flat_map, range_with_len}
 use Rattle.std.proofs.lemmas.List.{length-map, length-take-le, length-drop}
 use Rattle.std.proofs.lemmas.List.Concat.{flat_map-append}
@@ -32,7 +33,7 @@ use Rattle.query_core.specs.Rounds.{slots_on}
 use Rattle.query_core.specs.Sessions.{IsSeenSo}
 use Rattle.query_core.specs.Settings.{Setting}
 use Rattle.query_core.specs.Traces.{slot_rows}
-use Rattle.query_core.proofs.ZoneFacts.{so_far}
+use Rattle.mon_topo.proofs.SizeLemmas.{parts_so_far}
 use Rattle.query_core.proofs.DividedRows.{all_both}
 use Rattle.query_core.proofs.ReadLeaves.{IsUnread, LeafRead, SendsNothing, reads_from}
 
@@ -50,7 +51,8 @@ ranges_append n (one ∷ some) more all rest =
     let same : n + suc (length some) ≡ n + 1 + length some = omega arith in
     (all.0, ranges_append (n + 1) some more all.1 (subst (λ (k : ℕ). RangesFrom k more) same rest))
 
-pub ranges_behind : (n count : ℕ) (resolved : List Resolved) → RangesFrom n resolved → RangesFrom (n + count) (drop count resolved)
+pub ranges_behind : (n count : ℕ) (resolved : List Resolved) → RangesFrom n resolved → RangesFrom (n + count)
+    (drop count resolved)
 ranges_behind n zero resolved all =
     let same : n ≡ n + 0 = omega arith in subst (λ (k : ℕ). RangesFrom k resolved) same all
 ranges_behind n (suc count) [] all = tt
@@ -69,7 +71,8 @@ record AreListed (n count : ℕ) (resolved : List Resolved) : Type 0 where
   many : length resolved ≡ count
 
 listed : (n count : ℕ) (resolved : List Resolved)
-    → map (λ (one : Resolved). one.range) resolved ≡ map range_numbered (range_with_len n count) → AreListed n count resolved
+    → map (λ (one : Resolved). one.range) resolved ≡ map range_numbered (range_with_len n count) → AreListed n count
+    resolved
 listed n zero [] e = record { from = tt; many = refl }
 listed n zero (one ∷ resolved) e = absurd cc
 listed n (suc count) [] e = absurd cc
@@ -137,7 +140,8 @@ seen_so store seen told held is =
       ranges = ranges.many ∙ held.all_ranges;
     }
 
-part_long : {X : Type 0} (xs : List X) (first count : ℕ) → first + count ≤ length xs → length (take count (drop first xs)) ≡ count
+part_long : {X : Type 0} (xs : List X) (first count : ℕ) → first + count ≤ length xs
+    → length (take count (drop first xs)) ≡ count
 part_long xs first count within =
     length-take-le count (drop first xs) (omega (arith, within, length-drop first xs))
 
@@ -155,8 +159,8 @@ pub seen_whole : (zones : List ZoneSpec) (k : ℕ) (area : Area) (seen : Seen) �
 seen_whole zones k area seen there is so =
     subst (λ (one : Area). IsWhole one (firsts_seen seen one) (map unread (cuts_seen seen one))) (sym is)
     (let here = area_of zones k in
-    let leaves = so_far (λ (zone : ZoneSpec). zone.leaves) zones k no_zone there in
-    let ranges = so_far (λ (zone : ZoneSpec). zone.ranges) zones k no_zone there in
+    let leaves = parts_so_far (λ (zone : ZoneSpec). zone.leaves) zones k no_zone there in
+    let ranges = parts_so_far (λ (zone : ZoneSpec). zone.ranges) zones k no_zone there in
     let number : 0 + here.first_range.0 ≡ here.first_range.0 = omega arith in
     record {
       ranges = ranges_front here.first_range.0 here.ranges (drop here.first_range.0 seen.firsts)
@@ -181,10 +185,12 @@ module _ (setting : Setting) (moment : ℤ) where
   IsSent now resolved one = one.sent ≡ sent (typed_of setting) (read_rows now resolved one) moment
 
   -- each leaf that was read has its answer
-  pub record PartsSo (now : Histories) (resolved : List Resolved) (first : ℕ) (looks : List Look) (parts : List LeafAnswer)
+  pub record PartsSo (now : Histories) (resolved : List Resolved) (first : ℕ) (looks : List Look)
+      (parts : List LeafAnswer)
       : Type 0 where
     pub within : AllByRecursion (IsWithin now) (reads_from first looks)
-    pub each : AllLeafParts (typed_of setting) (map (read_rows now resolved) (reads_from first looks)) moment setting.limit parts
+    pub each : AllLeafParts (typed_of setting) (map (read_rows now resolved) (reads_from first looks)) moment
+        setting.limit parts
     pub sends : AllByRecursion (IsSent now resolved) (reads_from first looks)
     pub silent : AllByRecursion SendsNothing looks
 
@@ -204,7 +210,8 @@ module _ (setting : Setting) (moment : ℤ) where
     rows_same : (one : LeafRead) → IsWithin before one → read_rows before resolved one ≡ read_rows after resolved one
     rows_same one within =
         ap (λ (history : List Entry). slot_rows history (slots_on one.leaf resolved))
-        (sym (take_on (leaf_history after one.leaf) (leaf_history before one.leaf) one.cut (grown.leaves one.leaf) within))
+        (sym (take_on (leaf_history after one.leaf) (leaf_history before one.leaf) one.cut (grown.leaves one.leaf)
+        within))
 
     all_rows_same : (reads : List LeafRead) → AllByRecursion (IsWithin before) reads
         → map (read_rows before resolved) reads ≡ map (read_rows after resolved) reads
@@ -225,7 +232,8 @@ module _ (setting : Setting) (moment : ℤ) where
           each = subst (λ (rows : List (List Row)). AllLeafParts (typed_of setting) rows moment setting.limit parts)
               (all_rows_same reads so.within) so.each;
           sends = all_both (IsWithin before) (IsSent before resolved) (IsSent after resolved) reads
-              (λ one within told. told ∙ ap (λ (rows : List Row). sent (typed_of setting) rows moment) (rows_same one within))
+              (λ one within told. told ∙ ap (λ (rows : List Row). sent (typed_of setting) rows moment)
+              (rows_same one within))
               so.within so.sends;
           silent = so.silent;
         }
@@ -263,21 +271,25 @@ module _ (setting : Setting) (moment : ℤ) where
     pub more_answers : next.answers ≡ course.answers ++ answers_in one
     pub same_seen : next.seen ≡ course.seen
 
-  pub behind_push : (zones : List ZoneSpec) (now : Histories) (segments : List Segment) (course next : Course) (one : Segment)
+  pub behind_push : (zones : List ZoneSpec) (now : Histories) (segments : List Segment) (course next : Course)
+      (one : Segment)
       → Behind zones now segments course → IsNext course next one → area_in one ≡ area_of zones (length segments)
       → SegmentSo now one → Behind zones now (segments ++ one ∷ []) next
   behind_push zones now segments course next one behind is area so =
       let number : 0 + length segments ≡ length segments = omega arith in
       record {
-        resolved = is.more_resolved ∙ ap (λ front. front ++ resolved_in one) behind.resolved ∙ flat_push resolved_in segments one;
+        resolved = is.more_resolved ∙ ap (λ front. front ++ resolved_in one) behind.resolved ∙ flat_push resolved_in
+            segments one;
         looks = is.more_looks ∙ ap (λ front. front ++ looks_in one) behind.looks ∙ flat_push looks_in segments one;
-        answers = is.more_answers ∙ ap (λ front. front ++ answers_in one) behind.answers ∙ flat_push answers_in segments one;
+        answers = is.more_answers ∙ ap (λ front. front ++ answers_in one) behind.answers ∙ flat_push answers_in
+            segments one;
         areas = areas_push zones 0 segments one behind.areas (area ∙ ap (area_of zones) (sym number));
         each = all-append (SegmentSo now) segments (one ∷ []) behind.each (so, tt);
         seen = subst (SeenSo zones) (sym is.same_seen) behind.seen;
       }
 
-  pub behind_on : (zones : List ZoneSpec) (before after : Histories) → AreWithin before after → (segments : List Segment)
+  pub behind_on : (zones : List ZoneSpec) (before after : Histories) → AreWithin before after
+      → (segments : List Segment)
       (course : Course) → Behind zones before segments course → Behind zones after segments course
   behind_on zones before after grown segments course behind = record {
     resolved = behind.resolved;

@@ -1,5 +1,6 @@
 -- What each leaf sent, over the rows on it.
-use Rattle.std.proofs.Common.{◌≡◌, ◌∙◌, ◌<◌, ◌≤◌, ◌≤ℤ◌, ◌+◌, ◌-◌, ◌⊎◌, inl, inr, ℕ, ℤ, pos, zero, suc, Bool, true, false, cond, List, [], ◌∷◌, ◌++◌, length, map, drop, get_or, refl, sym, ap, subst, arith}
+use Rattle.std.proofs.Common.{◌≡◌, ◌∙◌, ◌<◌, ◌≤◌, ◌≤ℤ◌, ◌+◌, ◌-◌, ◌⊎◌, inl, inr, ℕ, ℤ, pos, zero, suc, Bool, true}
+use Rattle.std.proofs.Common.{false, cond, List, [], ◌∷◌, ◌++◌, length, map, drop, get_or, refl, sym, ap, subst, arith}
 use Rattle.std.specs.List.{AllByRecursion, flat_map}
 use Rattle.std.proofs.lemmas.Bool.{cases_lt}
 use Rattle.std.proofs.lemmas.List.{map-append}
@@ -26,8 +27,10 @@ use Rattle.query_core.specs.Traces.{rows_on, sent_by, sent_if, was_read}
 use Rattle.query_core.proofs.DividedRows.{all_both}
 use Rattle.query_core.proofs.MixedParts.{stand_before}
 use Rattle.query_core.proofs.PartClaims.{CourseIn, CourseThrough}
-use Rattle.query_core.proofs.ReadLeaves.{LeafRead, SendsNothing, flags_of, leaf_read, no_reads, reads_append, reads_from}
-use Rattle.query_core.proofs.SegmentFacts.{AreFrom, IsSent, IsWhole, Mixed, PartsSo, Passed, RangesFrom, Segment, SegmentSo, area_in, looks_in, read_rows, resolved_in}
+use Rattle.query_core.proofs.ReadLeaves.{LeafRead, SendsNothing, flags_of, leaf_read, no_reads, reads_append}
+use Rattle.query_core.proofs.ReadLeaves.{reads_from}
+use Rattle.query_core.proofs.SegmentFacts.{AreFrom, IsSent, IsWhole, Mixed, PartsSo, Passed, RangesFrom, Segment}
+use Rattle.query_core.proofs.SegmentFacts.{SegmentSo, area_in, looks_in, read_rows, resolved_in}
 use Rattle.query_core.proofs.StoppedTraces.{before_so, ranges_of, stands_so}
 use Rattle.query_core.proofs.ThroughZones.{none_first}
 use Rattle.query_core.proofs.WholeTraces.{AllStand, first_stands, others_stand, ranges_all, stand}
@@ -44,7 +47,8 @@ module _ (most : Leaf → ℕ) where
   SendsSo one = one.sent ≡ most one.leaf
 
   first_by : (n : ℕ) (look : Look) (rest : List LeafRead) (b : Bool) → look.read ≡ b → SendsNothing look
-      → AllByRecursion SendsSo (cond b (leaf_read n look ∷ rest) rest) → look.sent ≡ sent_if look.read (most (leaf_numbered n))
+      → AllByRecursion SendsSo (cond b (leaf_read n look ∷ rest) rest) → look.sent ≡ sent_if look.read
+      (most (leaf_numbered n))
   first_by n look rest true e silent all = all.0 ∙ sym (ap (λ b. sent_if b (most (leaf_numbered n))) e)
   first_by n look rest false e silent all = silent e ∙ sym (ap (λ b. sent_if b (most (leaf_numbered n))) e)
 
@@ -53,7 +57,8 @@ module _ (most : Leaf → ℕ) where
   rest_by n look rest true all = all.1
   rest_by n look rest false all = all
 
-  sent_at : (n : ℕ) (looks : List Look) → AllByRecursion SendsSo (reads_from n looks) → AllByRecursion SendsNothing looks
+  sent_at : (n : ℕ) (looks : List Look) → AllByRecursion SendsSo (reads_from n looks) → AllByRecursion SendsNothing
+      looks
       → (i : ℕ) → i < length looks
       → get_or (sents_of looks) i 0 ≡ sent_if (get_or (flags_of looks) i false) (most (leaf_numbered (n + i)))
   sent_at n [] all silent i there = absurd (omega (arith, there))
@@ -104,7 +109,8 @@ module _ (most : Leaf → ℕ) where
     by_place (inl there) =
         let number : 0 + leaf.0 ≡ leaf.0 = omega arith in
         ap (λ sents. get_or sents leaf.0 0) sents_are
-        ∙ get_front (sents_of course.looks) (sents_of (map unread rest)) leaf.0 0 (omega (arith, there, sents_long course.looks))
+        ∙ get_front (sents_of course.looks) (sents_of (map unread rest)) leaf.0 0
+        (omega (arith, there, sents_long course.looks))
         ∙ sent_at 0 course.looks all silent leaf.0 there
         ∙ ap (λ n. sent_if (get_or (flags_of course.looks) leaf.0 false) (most (leaf_numbered n))) number
         ∙ sym (ap (λ b. sent_if b (most leaf)) (ap (λ flags. get_or flags leaf.0 false) flags_are
@@ -113,7 +119,8 @@ module _ (most : Leaf → ℕ) where
     by_place (inr past) =
         let i : ℕ = leaf.0 - length course.looks in
         ap (λ sents. get_or sents leaf.0 0) sents_are
-        ∙ get_back (sents_of course.looks) (sents_of (map unread rest)) leaf.0 i 0 (omega (arith, past, sents_long course.looks))
+        ∙ get_back (sents_of course.looks) (sents_of (map unread rest)) leaf.0 i 0
+        (omega (arith, past, sents_long course.looks))
         ∙ nothing_sent rest i
         ∙ sym (ap (λ b. sent_if b (most leaf)) (ap (λ flags. get_or flags leaf.0 false) flags_are
         ∙ get_back (flags_of course.looks) (flags_of (map unread rest)) leaf.0 i false
@@ -157,7 +164,8 @@ module _ (store : Store) (setting : Setting) (asked : IsAskedOf store setting) (
     all_sent k [] areas each within stands = tt
     all_sent k (one ∷ segments) areas each within stands =
         let there : k < length store.zones = omega (arith, within) in
-        let own = first_stands store setting asked moment from exit held of ranges zoned k one segments there areas.0 each.0
+        let own = first_stands store setting asked moment from exit held of ranges zoned k one segments there areas.0
+        each.0
         stands in
         let rest = all_sent (suc k) segments areas.1 each.1 (omega (arith, within))
         (others_stand store setting asked moment from exit held of ranges zoned k one segments own stands) in
@@ -169,7 +177,8 @@ module _ (store : Store) (setting : Setting) (asked : IsAskedOf store setting) (
         (all-append (SendsSo (most_of of)) (reads_from (first_leaf store.zones k) (looks_in one))
         (reads_from (first_leaf store.zones k + length (looks_in one)) (flat_map looks_in segments))
         (segment_sent k one areas.0 each.0 own)
-        (subst (λ (n : ℕ). AllByRecursion (SendsSo (most_of of)) (reads_from n (flat_map looks_in segments))) after rest))
+        (subst (λ (n : ℕ). AllByRecursion (SendsSo (most_of of)) (reads_from n (flat_map looks_in segments))) after
+        rest))
 
   silent_in : (one : Segment) → SegmentSo setting moment exit one → AllByRecursion SendsNothing (looks_in one)
   silent_in (Passed area resolved looks) so = so.2
@@ -179,7 +188,8 @@ module _ (store : Store) (setting : Setting) (asked : IsAskedOf store setting) (
       → AllByRecursion SendsNothing (flat_map looks_in segments)
   all_silent [] each = tt
   all_silent (one ∷ segments) each =
-      all-append SendsNothing (looks_in one) (flat_map looks_in segments) (silent_in one each.0) (all_silent segments each.1)
+      all-append SendsNothing (looks_in one) (flat_map looks_in segments) (silent_in one each.0)
+      (all_silent segments each.1)
 
   -- each leaf sent as much as it was to send
   abbrev pub AllSent : Trace → Type 0
@@ -195,8 +205,10 @@ module _ (store : Store) (setting : Setting) (asked : IsAskedOf store setting) (
       through.segments through.behind.areas through.behind.each (omega (arith, through.all))
       (stand store setting asked moment from exit held course through zoned) in
       sent_so (most_of of) course
-      (subst (λ (looks : List Look). AllByRecursion (SendsSo (most_of of)) (reads_from 0 looks)) (sym through.behind.looks)
-      (subst (λ (n : ℕ). AllByRecursion (SendsSo (most_of of)) (reads_from n (flat_map looks_in through.segments))) none.1 reads))
+      (subst (λ (looks : List Look). AllByRecursion (SendsSo (most_of of)) (reads_from 0 looks))
+      (sym through.behind.looks)
+      (subst (λ (n : ℕ). AllByRecursion (SendsSo (most_of of)) (reads_from n (flat_map looks_in through.segments)))
+      none.1 reads))
       (subst (AllByRecursion SendsNothing) (sym through.behind.looks) (all_silent through.segments through.behind.each))
       leaf
 
@@ -220,7 +232,8 @@ module _ (store : Store) (setting : Setting) (asked : IsAskedOf store setting) (
         let number : 0 + length before.looks ≡ first_leaf store.zones k =
         omega (
           arith,
-          (before_so store setting asked moment from exit held before area resolved looks inside whole zoned).leaves_count,
+          (before_so store setting asked moment from exit held before area resolved looks inside whole
+              zoned).leaves_count,
         ) in
         let earlier = all_sent of_course ranges_so zoned 0 inside.segments inside.behind.areas inside.behind.each
         (omega (arith, inside.there))
@@ -230,11 +243,15 @@ module _ (store : Store) (setting : Setting) (asked : IsAskedOf store setting) (
         (subst (λ (a : Area). PartsSo setting moment exit resolved a.first_leaf.0 looks parts) inside.here so) in
         sent_so (most_of of_course) course
         (subst (AllByRecursion (SendsSo (most_of of_course))) (sym (reads_append 0 before.looks looks))
-        (all-append (SendsSo (most_of of_course)) (reads_from 0 before.looks) (reads_from (0 + length before.looks) looks)
-        (subst (λ (some : List Look). AllByRecursion (SendsSo (most_of of_course)) (reads_from 0 some)) (sym inside.behind.looks)
-        (subst (λ (n : ℕ). AllByRecursion (SendsSo (most_of of_course)) (reads_from n (flat_map looks_in inside.segments))) none.1
+        (all-append (SendsSo (most_of of_course)) (reads_from 0 before.looks) (reads_from (0 + length before.looks)
+        looks)
+        (subst (λ (some : List Look). AllByRecursion (SendsSo (most_of of_course)) (reads_from 0 some))
+        (sym inside.behind.looks)
+        (subst (λ (n : ℕ). AllByRecursion (SendsSo (most_of of_course))
+        (reads_from n (flat_map looks_in inside.segments))) none.1
         earlier))
         (subst (λ (n : ℕ). AllByRecursion (SendsSo (most_of of_course)) (reads_from n looks)) (sym number) own)))
         (all-append SendsNothing before.looks looks
-        (subst (AllByRecursion SendsNothing) (sym inside.behind.looks) (all_silent inside.segments inside.behind.each)) so.silent)
+        (subst (AllByRecursion SendsNothing) (sym inside.behind.looks) (all_silent inside.segments inside.behind.each))
+        so.silent)
         leaf

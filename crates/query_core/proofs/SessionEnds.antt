@@ -14,7 +14,8 @@ use Rattle.query_core.proofs.UnreadLeaves.{TellsOf}
 
 module _ (store : Store) (setting : Setting) (moment : ℤ) where
   -- what was seen at the end of a session is sound
-  pub sound_then : (events : List (session.Event store setting moment)) (before : View) (query : Query) → IsSound store before
+  pub sound_then : (events : List (session.Event store setting moment)) (before : View) (query : Query)
+      → IsSound store before
       → session.IsLicensed store setting moment before query events
       → IsSound store (session.view_after store setting moment before events)
   sound_then [] before query sound licensed = sound
@@ -44,5 +45,6 @@ module _ (store : Store) (setting : Setting) (moment : ℤ) where
 
     pub stage_last : StageParts store setting moment (TellsOf setting) exit.seen last.stage
     stage_last =
-        session_parts store setting moment (TellsOf setting) areas Also keeps events view (new_query setting) sound also tt
+        session_parts store setting moment (TellsOf setting) areas Also keeps events view (new_query setting) sound
+        also tt
         licensed

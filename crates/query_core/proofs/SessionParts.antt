@@ -1,5 +1,6 @@
 -- A licensed session keeps its leaves' answers, and ends with what was mixed of them.
-use Rattle.std.proofs.Common.{◌≡◌, ◌∙◌, inl, inr, ℤ, List, [], ◌∷◌, ◌++◌, drop, refl, sym, ap, subst, arith, Result, Ok, Err}
+use Rattle.std.proofs.Common.{◌≡◌, ◌∙◌, inl, inr, ℤ, List, [], ◌∷◌, ◌++◌, drop, refl, sym, ap, subst, arith, Result}
+use Rattle.std.proofs.Common.{Ok, Err}
 use Rattle.std.proofs.lemmas.List.{length-append}
 use Rattle.mixer.specs.ZoneAnswers.{AreLeafParts, AreZoneParts, IsZonePart}
 use Rattle.mixer.specs.declared.zone_answers.ZoneAnswer.{ZoneAnswer}
@@ -42,7 +43,8 @@ module _ (store : Store) (setting : Setting) (moment : ℤ) (Tells : Histories �
 
   root_parts : (now : Histories) (course : Course) → CourseThrough store setting moment now course
       → Tells now course → (mixed : Result Table OverLimit)
-      → ((zones : List (List (List Row))) (at_moment : ℤ) → AreZoneParts (typed_of setting) zones at_moment setting.limit course.answers
+      → ((zones : List (List (List Row))) (at_moment : ℤ) → AreZoneParts (typed_of setting) zones at_moment
+      setting.limit course.answers
       → RootMixes setting zones at_moment mixed)
       → StageParts store setting moment Tells now (root_stage setting course mixed)
   root_parts now course through tells (Ok table) mixes =
@@ -68,7 +70,8 @@ module _ (store : Store) (setting : Setting) (moment : ℤ) (Tells : Histories �
 
   turn_parts : (now : Histories) (some : Turn) (new : Stage) → TurnParts store setting moment Tells now some
       → TurnTells now some → TurnSettles setting some new → StageParts store setting moment Tells now new
-  turn_parts now (turn.Goes stage) new so tells is = subst (λ (one : Stage). StageParts store setting moment Tells now one) (sym is) so
+  turn_parts now (turn.Goes stage) new so tells is = subst (λ (one : Stage). StageParts store setting moment Tells now
+      one) (sym is) so
   turn_parts now (turn.Through course) new so tells is =
       subst (λ (one : Stage). StageParts store setting moment Tells now one) (sym is.stage_is)
       (root_parts now course so tells is.mixed is.mixes)
@@ -84,7 +87,8 @@ module _ (store : Store) (setting : Setting) (moment : ℤ) (Tells : Histories �
       let one : Segment = Mixed so.area so.resolved so.looks parts answer in
       record {
         segments = inside.segments ++ one ∷ [];
-        behind = behind_push setting moment store.zones now inside.segments so.before (kept course answer) one inside.behind
+        behind = behind_push setting moment store.zones now inside.segments so.before (kept course answer) one
+            inside.behind
             (record {
               more_resolved = ap (λ (course : Course). course.resolved) so.is;
               more_looks = ap (λ (course : Course). course.looks) so.is;
@@ -97,9 +101,11 @@ module _ (store : Store) (setting : Setting) (moment : ℤ) (Tells : Histories �
         few = omega (arith, inside.there, length-append inside.segments (one ∷ []));
       }
 
-  zone_parts : (now : Histories) (course : Course) (parts : List LeafAnswer) → GatheredSo store setting moment now course parts
+  zone_parts : (now : Histories) (course : Course) (parts : List LeafAnswer) → GatheredSo store setting moment now
+      course parts
       → Tells now course → (mixed : Result ZoneAnswer OverLimit)
-      → ((leaves : List (List Row)) (at_moment : ℤ) → AreLeafParts (typed_of setting) leaves at_moment setting.limit parts
+      → ((leaves : List (List Row)) (at_moment : ℤ) → AreLeafParts (typed_of setting) leaves at_moment setting.limit
+      parts
       → ZoneMixes setting leaves at_moment mixed)
       → TurnParts store setting moment Tells now (zone_turn setting course mixed)
   zone_parts now course parts so tells (Ok answer) mixes =
@@ -143,7 +149,8 @@ module _ (store : Store) (setting : Setting) (moment : ℤ) (Tells : Histories �
   session_parts Also keeps (event ∷ events) before query sound also so licensed =
       let one = licensed.0 in
       let next = keeps.on before query event also one in
-      let some = answer_parts store setting moment Tells areas before event.view sound one.grown.seen query.avoided query.stage
+      let some = answer_parts store setting moment Tells areas before event.view sound one.grown.seen query.avoided
+      query.stage
       event.answer so one.true_then in
       session_parts Also keeps events event.view (session.told_then store setting moment query event) one.sound next.0
       (step_parts event.view.seen (spec.after setting query.stage event.answer) event.stage some next.1 one.goes_on)

@@ -1,5 +1,7 @@
 -- What is known of the leaves and the ranges from one zone to another, once a query is through with them.
-use Rattle.std.proofs.Common.{◌≡◌, ◌∙◌, ℕ, zero, suc, ◌+◌, ◌-◌, ◌<◌, ◌≤◌, Bool, true, false, not, cond, ◌||◌, List, [], ◌∷◌, ◌++◌, length, map, take, drop, filter, get_or, Contains, ◌⊎◌, inl, inr, refl, sym, ap, subst, append-nil, length-append, arith}
+use Rattle.std.proofs.Common.{◌≡◌, ◌∙◌, ℕ, zero, suc, ◌+◌, ◌-◌, ◌<◌, ◌≤◌, Bool, true, false, not, cond, ◌||◌, List, []}
+use Rattle.std.proofs.Common.{◌∷◌, ◌++◌, length, map, take, drop, filter, get_or, Contains, ◌⊎◌, inl, inr, refl, sym}
+use Rattle.std.proofs.Common.{ap, subst, append-nil, length-append, arith}
 use Rattle.std.specs.List.{AllByRecursion as All, list_any, range_with_len}
 use Rattle.std.proofs.lemmas.Bool.{cases_lt}
 use Rattle.std.proofs.lemmas.Bool.Decides.{nat_tests}
@@ -74,7 +76,8 @@ module _ (at_entry : Histories) where
       let begins = grown.ranges one.range in
       let was = range_history before one.range in
       let now = range_history after one.range in
-      let same : take is.first.found now ≡ take is.first.found was = take_on now was is.first.found begins is.first.between.to in
+      let same : take is.first.found now ≡ take is.first.found was = take_on now was is.first.found begins
+      is.first.between.to in
       record {
         first = record {
           found = is.first.found;
@@ -119,7 +122,8 @@ more_avoided avoided more (replica ∷ replicas) all =
     ∙ same_free (is_avoided avoided replica) (is_avoided more replica) all.0 in
     ap (λ b. cond b (replica ∷ filter (λ replica. not (is_avoided (avoided ++ more) replica)) replicas)
     (filter (λ replica. not (is_avoided (avoided ++ more) replica)) replicas)) test
-    ∙ ap (λ rest. cond (not (is_avoided avoided replica)) (replica ∷ rest) rest) (more_avoided avoided more replicas all.1)
+    ∙ ap (λ rest. cond (not (is_avoided avoided replica)) (replica ∷ rest) rest) (more_avoided avoided more replicas
+    all.1)
 
 apart_test : (a b : Leaf) → (a.0 ≡ b.0 → ⊥) → same_leaf a b ≡ false
 apart_test a b differ = grind (arith, nat_tests)
@@ -138,7 +142,8 @@ outside low high (leaf ∷ more) replica near all =
 
 -- ---- from one zone to another
 
-counted_on : (first n m next : ℕ) → first + n ≡ next → range_with_len first n ++ range_with_len next m ≡ range_with_len first (n + m)
+counted_on : (first n m next : ℕ) → first + n ≡ next → range_with_len first n ++ range_with_len next m ≡ range_with_len
+    first (n + m)
 counted_on first zero m next e =
     let start : next ≡ first = omega (arith, e) in
     let whole : m ≡ 0 + m = omega arith in
@@ -177,7 +182,8 @@ module _ (at_entry : Histories) (wanted : Row → Bool) (met : List ℕ → Bool
     pub stand : All (StandsAt at_entry now low looks) resolved
     pub tells : (leaf : Leaf) → low ≤ leaf.0 → leaf.0 < high
         → Skip leaf
-        ⊎ Tells wanted met buckets_of (up_to now leaf (look_at low looks leaf)) (slots_on leaf resolved) (look_at low looks leaf)
+        ⊎ Tells wanted met buckets_of (up_to now leaf (look_at low looks leaf)) (slots_on leaf resolved)
+        (look_at low looks leaf)
 
   -- ---- as histories grow
 
@@ -189,17 +195,20 @@ module _ (at_entry : Histories) (wanted : Row → Bool) (met : List ℕ → Bool
   looked_on : (before after : Histories) → AreWithin before after → (leaf : Leaf) (look : Look)
       → IsLookedAt at_entry before leaf look → IsLookedAt at_entry after leaf look
   looked_on before after grown leaf look is =
-      between_on (length (leaf_history at_entry leaf)) (length (leaf_history before leaf)) (length (leaf_history after leaf))
+      between_on (length (leaf_history at_entry leaf)) (length (leaf_history before leaf))
+      (length (leaf_history after leaf))
       look.cut (begins_length (leaf_history after leaf) (leaf_history before leaf) (grown.leaves leaf)) is
 
   stand_all_on : (before after : Histories) → AreWithin before after → (avoided : List Leaf) (low high : ℕ)
-      (looks : List Look) → ((leaf : Leaf) → low ≤ leaf.0 → leaf.0 < high → IsLookedAt at_entry before leaf (look_at low looks leaf))
+      (looks : List Look) → ((leaf : Leaf) → low ≤ leaf.0 → leaf.0 < high → IsLookedAt at_entry before leaf
+      (look_at low looks leaf))
       → (resolved : List Resolved) → All (ResolvedSo at_entry before avoided low high) resolved
       → All (StandsAt at_entry before low looks) resolved → All (StandsAt at_entry after low looks) resolved
   stand_all_on before after grown avoided low high looks cuts [] each stand = record {}
   stand_all_on before after grown avoided low high looks cuts (one ∷ resolved) each stand = (
     subst (λ (history : List Entry). StandsIn (acked (range_history at_entry one.range)) history one)
-        (sym (same_up_to before after grown one.leaf (look_at low looks one.leaf) (cuts one.leaf each.0.from each.0.to)))
+        (sym (same_up_to before after grown one.leaf (look_at low looks one.leaf)
+        (cuts one.leaf each.0.from each.0.to)))
         stand.0,
     stand_all_on before after grown avoided low high looks cuts resolved each.1 stand.1,
   )
@@ -219,13 +228,15 @@ module _ (at_entry : Histories) (wanted : Row → Bool) (met : List ℕ → Bool
     tells = λ leaf from to. elim (is.tells leaf from to) [
       | inl skip ↦ inl skip
       | inr tells ↦ inr (subst
-          (λ (history : List Entry). Tells wanted met buckets_of history (slots_on leaf resolved) (look_at low looks leaf))
+          (λ (history : List Entry). Tells wanted met buckets_of history (slots_on leaf resolved)
+          (look_at low looks leaf))
           (sym (same_up_to before after grown leaf (look_at low looks leaf) (is.cuts leaf from to))) tells)
     ];
   }
 
   pub span_skips : (now : Histories) (avoided : List Leaf) (Skip More : Leaf → Type 0)
-      → ((leaf : Leaf) → Skip leaf → More leaf) → (low high first last : ℕ) (resolved : List Resolved) (looks : List Look)
+      → ((leaf : Leaf) → Skip leaf → More leaf) → (low high first last : ℕ) (resolved : List Resolved)
+      (looks : List Look)
       → SpanSo now avoided Skip low high first last resolved looks
       → SpanSo now avoided More low high first last resolved looks
   span_skips now avoided Skip More weaker low high first last resolved looks is = record {
@@ -255,7 +266,8 @@ module _ (at_entry : Histories) (wanted : Row → Bool) (met : List ℕ → Bool
       ∙ ap (λ n. get_or more n (unread 0)) (omega (arith, long, from))
 
   none_on : (leaf : Leaf) (low high : ℕ) (now : Histories) (avoided : List Leaf) → (leaf.0 < low) ⊎ (high ≤ leaf.0)
-      → (resolved : List Resolved) → All (ResolvedSo at_entry now avoided low high) resolved → slots_on leaf resolved ≡ []
+      → (resolved : List Resolved) → All (ResolvedSo at_entry now avoided low high) resolved → slots_on leaf resolved
+      ≡ []
   none_on leaf low high now avoided outside [] each = refl
   none_on leaf low high now avoided outside (one ∷ resolved) each =
       let differ : same_leaf one.leaf leaf ≡ false = apart_test one.leaf leaf (λ e. elim outside [
@@ -270,7 +282,8 @@ module _ (at_entry : Histories) (wanted : Row → Bool) (met : List ℕ → Bool
       → slots_on leaf (resolved ++ more) ≡ slots_on leaf resolved ++ slots_on leaf more
   both_on leaf resolved more =
       ap (map slot_of) (filter-append (λ one. same_leaf one.leaf leaf) resolved more)
-      ∙ map-append slot_of (filter (λ one. same_leaf one.leaf leaf) resolved) (filter (λ one. same_leaf one.leaf leaf) more)
+      ∙ map-append slot_of (filter (λ one. same_leaf one.leaf leaf) resolved) (filter (λ one. same_leaf one.leaf leaf)
+      more)
 
   module _ (now : Histories) (avoided : List Leaf) (Skip : Leaf → Type 0) (low middle high first between last : ℕ)
       (resolved more : List Resolved) (looks others : List Look)
@@ -279,7 +292,8 @@ module _ (at_entry : Histories) (wanted : Row → Bool) (met : List ℕ → Bool
     longer_front : All (StandsAt at_entry now low (looks ++ others)) resolved
     longer_front = by resolved one.each one.stand
       where
-        by : (some : List Resolved) → All (ResolvedSo at_entry now avoided low middle) some → All (StandsAt at_entry now low looks) some
+        by : (some : List Resolved) → All (ResolvedSo at_entry now avoided low middle) some
+            → All (StandsAt at_entry now low looks) some
             → All (StandsAt at_entry now low (looks ++ others)) some
         by [] each stand = record {}
         by (x ∷ some) each stand = (
@@ -296,7 +310,8 @@ module _ (at_entry : Histories) (wanted : Row → Bool) (met : List ℕ → Bool
         by [] each stand = record {}
         by (x ∷ some) each stand = (
           subst (λ (look : Look). StandsIn (acked (range_history at_entry x.range)) (up_to now x.leaf look) x)
-              (sym (back_look low middle looks others x.leaf one.long each.0.from (omega (arith, two.long, each.0.to)))) stand.0,
+              (sym (back_look low middle looks others x.leaf one.long each.0.from
+              (omega (arith, two.long, each.0.to)))) stand.0,
           by some each.1 stand.1,
         )
 
@@ -319,20 +334,25 @@ module _ (at_entry : Histories) (wanted : Row → Bool) (met : List ℕ → Bool
         (sym (both_on leaf resolved more ∙ ap (λ slots. slots ++ slots_on leaf more)
         (none_on leaf low middle now avoided (inr from) resolved one.each)))
         (subst (λ (look : Look). AtLeaf leaf look (slots_on leaf more))
-        (sym (back_look low middle looks others leaf one.long from (omega (arith, two.long, to)))) (two.tells leaf from to))
+        (sym (back_look low middle looks others leaf one.long from (omega (arith, two.long, to))))
+        (two.tells leaf from to))
 
-    looked_front : (leaf : Leaf) → low ≤ leaf.0 → leaf.0 < middle → IsLookedAt at_entry now leaf (look_at low (looks ++ others) leaf)
+    looked_front : (leaf : Leaf) → low ≤ leaf.0 → leaf.0 < middle → IsLookedAt at_entry now leaf
+        (look_at low (looks ++ others) leaf)
     looked_front leaf from to =
         subst (IsLookedAt at_entry now leaf) (sym (front_look low looks others leaf from (omega (arith, one.long, to))))
         (one.cuts leaf from to)
 
-    looked_back : (leaf : Leaf) → middle ≤ leaf.0 → leaf.0 < high → IsLookedAt at_entry now leaf (look_at low (looks ++ others) leaf)
+    looked_back : (leaf : Leaf) → middle ≤ leaf.0 → leaf.0 < high → IsLookedAt at_entry now leaf
+        (look_at low (looks ++ others) leaf)
     looked_back leaf from to =
         subst (IsLookedAt at_entry now leaf)
-        (sym (back_look low middle looks others leaf one.long from (omega (arith, two.long, to)))) (two.cuts leaf from to)
+        (sym (back_look low middle looks others leaf one.long from (omega (arith, two.long, to))))
+        (two.cuts leaf from to)
 
     more_ranges : (n : ℕ) → first + length resolved ≡ n
-        → map range_numbered (range_with_len first (length resolved)) ++ map range_numbered (range_with_len n (length more))
+        → map range_numbered (range_with_len first (length resolved)) ++ map range_numbered
+        (range_with_len n (length more))
         ≡ map range_numbered (range_with_len first (length resolved + length more))
     more_ranges n e =
         sym (map-append range_numbered (range_with_len first (length resolved)) (range_with_len n (length more)))
@@ -349,9 +369,11 @@ module _ (at_entry : Histories) (wanted : Row → Bool) (met : List ℕ → Bool
           ∙ ap (λ n. map range_numbered (range_with_len first n)) (sym (length-append resolved more));
       each = all_append (ResolvedSo at_entry now avoided low high) resolved more
           (all_on (ResolvedSo at_entry now avoided low middle) (ResolvedSo at_entry now avoided low high)
-          (λ x. resolved_wider at_entry now avoided low middle low high (omega arith) (omega (arith, two.long)) x) resolved one.each)
+          (λ x. resolved_wider at_entry now avoided low middle low high (omega arith) (omega (arith, two.long)) x)
+          resolved one.each)
           (all_on (ResolvedSo at_entry now avoided middle high) (ResolvedSo at_entry now avoided low high)
-          (λ x. resolved_wider at_entry now avoided middle high low high (omega (arith, one.long)) (omega arith) x) more two.each);
+          (λ x. resolved_wider at_entry now avoided middle high low high (omega (arith, one.long)) (omega arith) x)
+          more two.each);
       cuts = λ leaf from to. elim (cases_lt leaf.0 middle) [
         | inl before ↦ looked_front leaf from before
         | inr behind ↦ looked_back leaf behind to

@@ -1,5 +1,6 @@
 -- Zones that are begun one after another, and visits.
-use Rattle.std.proofs.Common.{◌≡◌, ℕ, zero, suc, ◌+◌, ◌≤◌, Bool, true, List, [], ◌∷◌, cond, drop, length, refl, sym, ap, ◌∙◌, arith, None, slice_get, subst, Result, Ok, Err, IfOk}
+use Rattle.std.proofs.Common.{◌≡◌, ℕ, zero, suc, ◌+◌, ◌≤◌, Bool, true, List, [], ◌∷◌, cond, drop, length, refl, sym}
+use Rattle.std.proofs.Common.{ap, ◌∙◌, arith, None, slice_get, subst, Result, Ok, Err, IfOk}
 use Rattle.std.proofs.lemmas.List.{drop_all}
 use Rattle.mon_value.specs.declared.positions.Leaf.{Leaf}
 use Rattle.query_core.specs.declared.areas.Area.{Area}
@@ -55,7 +56,8 @@ no_leaf_left leaves i done = ap first_left (drop_all i leaves done)
 
 -- ---- a word that is loaded again
 
-pub word_again : {E : Type 0} (setting : Setting) (stage : Stage) (course : Course) (round : Round) (loading loaded : Loading)
+pub word_again : {E : Type 0} (setting : Setting) (stage : Stage) (course : Course) (round : Round)
+    (loading loaded : Loading)
     (word : ℕ) (seen : Seen) (result : Result Step E) → stage ≡ at.Reloading course round loading
     → loaded ≡ with_word loading word seen
     → IfOk result (λ step. step ≡ loaded_again setting course round loaded)
@@ -70,8 +72,10 @@ pub may_settle : (setting : Setting) (stage : Stage) (answer : Told) (step : Ste
     → MayBeTold setting stage answer → MayMix setting step
 may_settle setting stage answer step is may = subst (λ (s : Step). MayMix setting s) (sym is) may.may_mix
 
-pub settles_so : {E : Type 0} (setting : Setting) (stage : Stage) (answer : Told) (step : Step) (result : Result Stage E)
-    → step ≡ after setting stage answer → IfOk result (Settles setting step) → IfOk result (LeadsTo setting stage answer)
+pub settles_so : {E : Type 0} (setting : Setting) (stage : Stage) (answer : Told) (step : Step)
+    (result : Result Stage E)
+    → step ≡ after setting stage answer → IfOk result (Settles setting step)
+    → IfOk result (LeadsTo setting stage answer)
 settles_so setting stage answer step (Ok new) is settles =
     record { settles = subst (λ (s : Step). Settles setting s new) is settles }
 settles_so setting stage answer step (Err why) is settles = record {}

@@ -1,5 +1,7 @@
 -- A query that met its limit in a zone: so much is the load over the rows of its trace, too.
-use Rattle.std.proofs.Common.{◌≡◌, ◌∙◌, ◌<◌, ◌≤◌, ◌≤ℤ◌, ◌+◌, ◌-◌, ◌⊎◌, inl, inr, ℕ, ℤ, pos, suc, Bool, true, false, List, [], ◌∷◌, ◌++◌, length, map, take, drop, get_or, refl, sym, ap, subst, append_assoc, arith}
+use Rattle.std.proofs.Common.{◌≡◌, ◌∙◌, ◌<◌, ◌≤◌, ◌≤ℤ◌, ◌+◌, ◌-◌, ◌⊎◌, inl, inr, ℕ, ℤ, pos, suc, Bool, true, false}
+use Rattle.std.proofs.Common.{List, [], ◌∷◌, ◌++◌, length, map, take, drop, get_or, refl, sym, ap, subst, append_assoc}
+use Rattle.std.proofs.Common.{arith}
 use Rattle.std.specs.List.{AllByRecursion, list_any}
 use Rattle.std.proofs.lemmas.Bool.{cases_lt}
 use Rattle.std.proofs.lemmas.List.{map-append}
@@ -32,16 +34,20 @@ use Rattle.query_core.specs.Mixtures.{typed_of}
 use Rattle.query_core.specs.Rounds.{slots_on}
 use Rattle.query_core.specs.Settings.{Setting}
 use Rattle.query_core.specs.Traces.{slot_rows, source_of}
-use Rattle.query_core.proofs.ChosenLeaves.{ChosenAscend, among_append, among_behind, among_zones, front_among, chosen_append, chosen_leaves, chosen_once, zone_ascends, zones_ascend, zones_from}
+use Rattle.query_core.proofs.ChosenLeaves.{ChosenAscend, among_append, among_behind, among_zones, front_among}
+use Rattle.query_core.proofs.ChosenLeaves.{chosen_append, chosen_leaves, chosen_once, zone_ascends, zones_ascend}
+use Rattle.query_core.proofs.ChosenLeaves.{zones_from}
 use Rattle.query_core.proofs.DividedRows.{SomeLeaves, all_leaves, divided_rows, rows_at, zone_rows}
 use Rattle.query_core.proofs.PartClaims.{CourseIn}
-use Rattle.query_core.proofs.ReadLeaves.{Ascend, LeafRead, among_from, cuts_of, flags_of, leaves_append, leaves_from, leaves_read, read_among, reads_from}
+use Rattle.query_core.proofs.ReadLeaves.{Ascend, LeafRead, among_from, cuts_of, flags_of, leaves_append, leaves_from}
+use Rattle.query_core.proofs.ReadLeaves.{leaves_read, read_among, reads_from}
 use Rattle.query_core.proofs.SegmentFacts.{IsWhole, PartsSo, RangesFrom}
 use Rattle.query_core.proofs.TraceRows.{IsLeftOut, is_divided, over_load, own_rows}
 use Rattle.query_core.proofs.ZoneFacts.{leaves_next}
 use Rattle.query_core.proofs.ThroughZones.{IsThrough, closed_so, none_first, through_so, trace_ranges}
 use Rattle.query_core.proofs.UnreadLeaves.{TellsOf, left_out_by}
-use Rattle.query_core.proofs.ZoneRows.{AllZoned, IsZoned, Stands, cut_there, get_back, leaf_rows, leaves_below, reads_up, rows_there}
+use Rattle.query_core.proofs.ZoneRows.{AllZoned, IsZoned, Stands, cut_there, get_back, leaf_rows, leaves_below}
+use Rattle.query_core.proofs.ZoneRows.{reads_up, rows_there}
 
 module _ (store : Store) (setting : Setting) (asked : IsAskedOf store setting) (moment : ℤ) (from : pos 0 ≤ℤ moment)
     (exit : Histories) (held : AreHeld store.held store.zones store.points exit) where
@@ -81,7 +87,8 @@ module _ (store : Store) (setting : Setting) (asked : IsAskedOf store setting) (
       count = whole.all_ranges ∙ ap (λ (area : Area). area.ranges) inside.here;
       looks_front = before.looks;
       looks_back = map unread (drop (length course.looks) course.seen.cuts);
-      cuts_are = ap cuts_of (append_assoc before.looks looks (map unread (drop (length course.looks) course.seen.cuts)));
+      cuts_are = ap cuts_of (append_assoc before.looks looks
+          (map unread (drop (length course.looks) course.seen.cuts)));
       looks_front_count = before_so.leaves_count;
       looks_count = whole.all_leaves ∙ ap (λ (area : Area). area.leaves) inside.here;
     }
@@ -90,98 +97,109 @@ module _ (store : Store) (setting : Setting) (asked : IsAskedOf store setting) (
     abbrev chosen_with : List Leaf → List SomeLeaves
     chosen_with leaves = zones_from store.zones 0 k ++ (k, leaves) ∷ zones_from store.zones (k + 1) after
 
-    module _ (leaves : List Leaf) (ascends : Ascend (first_leaf store.zones k) leaves (first_leaf store.zones (k + 1))) where
-      chosen_ascend : ChosenAscend store.zones 0 (chosen_with leaves) (length store.zones)
-      chosen_ascend =
-          chosen_append store.zones 0 (zones_from store.zones 0 k) k ((k, leaves) ∷ zones_from store.zones (k + 1) after)
-          (length store.zones) (zones_ascend store.zones 0 k k (omega arith) (omega (arith, inside.there))) (
-            omega arith,
-            inside.there,
-            ascends,
-            zones_ascend store.zones (k + 1) after (length store.zones) (omega (arith, inside.there)) (omega arith),
-          )
+    module _ (leaves : List Leaf) (ascends : Ascend (first_leaf store.zones k) leaves (first_leaf store.zones (k + 1)))
+      where
+        chosen_ascend : ChosenAscend store.zones 0 (chosen_with leaves) (length store.zones)
+        chosen_ascend =
+            chosen_append store.zones 0 (zones_from store.zones 0 k) k ((k, leaves) ∷ zones_from store.zones (k + 1)
+            after)
+            (length store.zones) (zones_ascend store.zones 0 k k (omega arith) (omega (arith, inside.there))) (
+              omega arith,
+              inside.there,
+              ascends,
+              zones_ascend store.zones (k + 1) after (length store.zones) (omega (arith, inside.there)) (omega arith),
+            )
 
-      -- a leaf that is not among them is one of the zone's
-      record IsMissing (leaf : Leaf) : Type 0 where
-        low : first_leaf store.zones k ≤ leaf.0
-        high : leaf.0 < first_leaf store.zones (k + 1)
-        lacks : list_any (same_leaf leaf) leaves ≡ false
+        -- a leaf that is not among them is one of the zone's
+        record IsMissing (leaf : Leaf) : Type 0 where
+          low : first_leaf store.zones k ≤ leaf.0
+          high : leaf.0 < first_leaf store.zones (k + 1)
+          lacks : list_any (same_leaf leaf) leaves ≡ false
 
-      module _ (leaf : Leaf) (there : leaf.0 < length (leaf_zones store.zones))
-          (out : list_any (same_leaf leaf) (all_leaves (chosen_with leaves)) ≡ false) where
-        none_low : first_leaf store.zones 0 ≤ leaf.0
-        none_low = omega (arith, (none_first setting moment store.zones exit).1)
+        module _ (leaf : Leaf) (there : leaf.0 < length (leaf_zones store.zones))
+            (out : list_any (same_leaf leaf) (all_leaves (chosen_with leaves)) ≡ false) where
+          none_low : first_leaf store.zones 0 ≤ leaf.0
+          none_low = omega (arith, (none_first setting moment store.zones exit).1)
 
-        not_earlier : leaf.0 < first_leaf store.zones k → ⊥
-        not_earlier below =
-            let clash : list_any (same_leaf leaf) (all_leaves (chosen_with leaves)) ≡ true =
-            among_append store.zones leaf (zones_from store.zones 0 k) ((k, leaves) ∷ zones_from store.zones (k + 1) after)
-            (among_zones store.zones leaf 0 k k (omega arith) (omega (arith, inside.there)) none_low below) in
-            absurd cc
+          not_earlier : leaf.0 < first_leaf store.zones k → ⊥
+          not_earlier below =
+              let clash : list_any (same_leaf leaf) (all_leaves (chosen_with leaves)) ≡ true =
+              among_append store.zones leaf (zones_from store.zones 0 k) ((k, leaves) ∷ zones_from store.zones (k + 1)
+              after)
+              (among_zones store.zones leaf 0 k k (omega arith) (omega (arith, inside.there)) none_low below) in
+              absurd cc
 
-        not_later : first_leaf store.zones (k + 1) ≤ leaf.0 → ⊥
-        not_later past =
-            let last = leaves_below store.zones (length store.zones) leaf refl there in
-            let clash : list_any (same_leaf leaf) (all_leaves (chosen_with leaves)) ≡ true =
-            among_behind store.zones leaf (zones_from store.zones 0 k) ((k, leaves) ∷ zones_from store.zones (k + 1) after)
-            (among_behind store.zones leaf ((k, leaves) ∷ []) (zones_from store.zones (k + 1) after)
-            (among_zones store.zones leaf (k + 1) after (length store.zones) (omega (arith, inside.there)) (omega arith) past last)) in
-            absurd cc
+          not_later : first_leaf store.zones (k + 1) ≤ leaf.0 → ⊥
+          not_later past =
+              let last = leaves_below store.zones (length store.zones) leaf refl there in
+              let clash : list_any (same_leaf leaf) (all_leaves (chosen_with leaves)) ≡ true =
+              among_behind store.zones leaf (zones_from store.zones 0 k) ((k, leaves) ∷ zones_from store.zones (k + 1)
+              after)
+              (among_behind store.zones leaf ((k, leaves) ∷ []) (zones_from store.zones (k + 1) after)
+              (among_zones store.zones leaf (k + 1) after (length store.zones) (omega (arith, inside.there))
+              (omega arith) past last)) in
+              absurd cc
 
-        lacks_by : (b : Bool) → list_any (same_leaf leaf) leaves ≡ b → b ≡ false
-        lacks_by true e =
-            let clash : list_any (same_leaf leaf) (all_leaves (chosen_with leaves)) ≡ true =
-            among_behind store.zones leaf (zones_from store.zones 0 k) ((k, leaves) ∷ zones_from store.zones (k + 1) after)
-            (front_among store.zones leaf leaves (all_leaves (zones_from store.zones (k + 1) after)) e) in
-            absurd cc
-        lacks_by false e = refl
+          lacks_by : (b : Bool) → list_any (same_leaf leaf) leaves ≡ b → b ≡ false
+          lacks_by true e =
+              let clash : list_any (same_leaf leaf) (all_leaves (chosen_with leaves)) ≡ true =
+              among_behind store.zones leaf (zones_from store.zones 0 k) ((k, leaves) ∷ zones_from store.zones (k + 1)
+              after)
+              (front_among store.zones leaf leaves (all_leaves (zones_from store.zones (k + 1) after)) e) in
+              absurd cc
+          lacks_by false e = refl
 
-        low_by : (leaf.0 < first_leaf store.zones k) ⊎ (first_leaf store.zones k ≤ leaf.0) → first_leaf store.zones k ≤ leaf.0
-        low_by (inl below) = absurd (not_earlier below)
-        low_by (inr from) = from
+          low_by : (leaf.0 < first_leaf store.zones k) ⊎ (first_leaf store.zones k ≤ leaf.0) → first_leaf store.zones k
+              ≤ leaf.0
+          low_by (inl below) = absurd (not_earlier below)
+          low_by (inr from) = from
 
-        high_by : (leaf.0 < first_leaf store.zones (k + 1)) ⊎ (first_leaf store.zones (k + 1) ≤ leaf.0)
-            → leaf.0 < first_leaf store.zones (k + 1)
-        high_by (inl below) = below
-        high_by (inr past) = absurd (not_later past)
+          high_by : (leaf.0 < first_leaf store.zones (k + 1)) ⊎ (first_leaf store.zones (k + 1) ≤ leaf.0)
+              → leaf.0 < first_leaf store.zones (k + 1)
+          high_by (inl below) = below
+          high_by (inr past) = absurd (not_later past)
 
-        is_missing : IsMissing leaf
-        is_missing = record {
-          low = low_by (cases_lt leaf.0 (first_leaf store.zones k));
-          high = high_by (cases_lt leaf.0 (first_leaf store.zones (k + 1)));
-          lacks = lacks_by (list_any (same_leaf leaf) leaves) refl;
-        }
+          is_missing : IsMissing leaf
+          is_missing = record {
+            low = low_by (cases_lt leaf.0 (first_leaf store.zones k));
+            high = high_by (cases_lt leaf.0 (first_leaf store.zones (k + 1)));
+            lacks = lacks_by (list_any (same_leaf leaf) leaves) refl;
+          }
 
-      abbrev front_rows : List (List (List Row))
-      front_rows = divided_rows (own_rows exit whole_trace) whole_trace.resolved (zones_from store.zones 0 k)
+        abbrev front_rows : List (List (List Row))
+        front_rows = divided_rows (own_rows exit whole_trace) whole_trace.resolved (zones_from store.zones 0 k)
 
-      abbrev back_rows : List (List (List Row))
-      back_rows = divided_rows (own_rows exit whole_trace) whole_trace.resolved (zones_from store.zones (k + 1) after)
+        abbrev back_rows : List (List (List Row))
+        back_rows = divided_rows (own_rows exit whole_trace) whole_trace.resolved (zones_from store.zones (k + 1) after)
 
-      abbrev own_zone : List (List Row)
-      own_zone = map (rows_at (own_rows exit whole_trace) whole_trace.resolved) leaves
+        abbrev own_zone : List (List Row)
+        own_zone = map (rows_at (own_rows exit whole_trace) whole_trace.resolved) leaves
 
-      rows_split : divided_rows (own_rows exit whole_trace) whole_trace.resolved (chosen_with leaves) ≡ front_rows ++ own_zone ∷ back_rows
-      rows_split =
-          map-append (zone_rows (own_rows exit whole_trace) whole_trace.resolved) (zones_from store.zones 0 k)
-          ((k, leaves) ∷ zones_from store.zones (k + 1) after)
+        rows_split : divided_rows (own_rows exit whole_trace) whole_trace.resolved (chosen_with leaves) ≡ front_rows
+            ++ own_zone ∷ back_rows
+        rows_split =
+            map-append (zone_rows (own_rows exit whole_trace) whole_trace.resolved) (zones_from store.zones 0 k)
+            ((k, leaves) ∷ zones_from store.zones (k + 1) after)
 
-      divided_split : IsDivided (typed_of setting) (front_rows ++ own_zone ∷ back_rows)
-      divided_split =
-          subst (IsDivided (typed_of setting)) rows_split
-          (is_divided store setting asked moment from exit held whole_trace ranges_of zoned (chosen_with leaves)
-          (chosen_leaves store.zones 0 (chosen_with leaves) (length store.zones) chosen_ascend))
+        divided_split : IsDivided (typed_of setting) (front_rows ++ own_zone ∷ back_rows)
+        divided_split =
+            subst (IsDivided (typed_of setting)) rows_split
+            (is_divided store setting asked moment from exit held whole_trace ranges_of zoned (chosen_with leaves)
+            (chosen_leaves store.zones 0 (chosen_with leaves) (length store.zones) chosen_ascend))
 
-      over_split : AllByRecursion (IsLeftOut (typed_of setting) exit whole_trace (chosen_with leaves)) whole_trace.resolved
-          → (over : OverLimit)
-          → IsOver (typed_of setting) (all_rows (front_rows ++ own_zone ∷ back_rows)) moment setting.limit over
-          → setting.limit < load (typed_of setting) (source_of exit whole_trace) moment
-      over_split left_out over is =
-          over_load store setting asked moment from exit held whole_trace ranges_of zoned (chosen_with leaves)
-          (chosen_leaves store.zones 0 (chosen_with leaves) (length store.zones) chosen_ascend)
-          (chosen_once store.zones 0 (chosen_with leaves) (length store.zones) chosen_ascend) left_out setting.limit over
-          (subst (λ (zones : List (List (List Row))). IsOver (typed_of setting) (all_rows zones) moment setting.limit over)
-          (sym rows_split) is)
+        over_split : AllByRecursion (IsLeftOut (typed_of setting) exit whole_trace (chosen_with leaves))
+            whole_trace.resolved
+            → (over : OverLimit)
+            → IsOver (typed_of setting) (all_rows (front_rows ++ own_zone ∷ back_rows)) moment setting.limit over
+            → setting.limit < load (typed_of setting) (source_of exit whole_trace) moment
+        over_split left_out over is =
+            over_load store setting asked moment from exit held whole_trace ranges_of zoned (chosen_with leaves)
+            (chosen_leaves store.zones 0 (chosen_with leaves) (length store.zones) chosen_ascend)
+            (chosen_once store.zones 0 (chosen_with leaves) (length store.zones) chosen_ascend) left_out setting.limit
+            over
+            (subst (λ (zones : List (List (List Row))). IsOver (typed_of setting) (all_rows zones) moment setting.limit
+            over)
+            (sym rows_split) is)
 
     -- ---- a zone's
 
@@ -211,7 +229,8 @@ module _ (store : Store) (setting : Setting) (asked : IsAskedOf store setting) (
         flags_long (look ∷ looks) = ap suc (flags_long looks)
     flag_by leaf low lacks false flag = refl
 
-    pub zone_over : (parts : List LeafAnswer) (over : OverLimit) → PartsSo setting moment exit resolved area.first_leaf.0 looks parts
+    pub zone_over : (parts : List LeafAnswer) (over : OverLimit) → PartsSo setting moment exit resolved
+        area.first_leaf.0 looks parts
         → TellsOf setting exit course
         → ((leaves : List (List Row)) → AreLeafParts (typed_of setting) leaves moment setting.limit parts
         → IsOverZone (typed_of setting) leaves moment setting.limit over)
@@ -276,20 +295,27 @@ module _ (store : Store) (setting : Setting) (asked : IsAskedOf store setting) (
         subst (λ (own : List (List Row)). IsDivided (typed_of setting) (front ++ own ∷ back)) split
         (divided_split every_leaf every_ascends) in
         let low : first ≤ leaf.0 = omega arith in
-        let high : leaf.0 < first_leaf store.zones (k + 1) = omega (arith, within, leaves_next store.zones k inside.there) in
+        let high : leaf.0 < first_leaf store.zones (k + 1) =
+        omega (arith, within, leaves_next store.zones k inside.there) in
         let same : leaf_at area place ≡ leaf = ap (λ (a : Area). leaf_at a place) inside.here in
-        let rows : slot_rows (take cut (leaf_history exit (leaf_at area place))) (slots_on (leaf_at area place) resolved)
+        let rows : slot_rows (take cut (leaf_history exit (leaf_at area place)))
+        (slots_on (leaf_at area place) resolved)
         ≡ rows_on_leaf leaf =
         ap (λ (l : Leaf). slot_rows (take cut (leaf_history exit l)) (slots_on l resolved)) same
-        ∙ sym (leaf_rows store.zones k resolved looks whole_trace ranges_of zoned stands_so setting moment exit leaf cut low high
+        ∙ sym (leaf_rows store.zones k resolved looks whole_trace ranges_of zoned stands_so setting moment exit leaf
+        cut low high
         (cut_there store.zones k resolved looks whole_trace ranges_of zoned stands_so place within ∙ told)) in
         let own_over : IsOverLeaf (typed_of setting) (rows_on_leaf leaf) moment setting.limit over =
         subst (λ (some : List Row). IsOverLeaf (typed_of setting) some moment setting.limit over) rows is in
         over_split every_leaf every_ascends
-        (all-map (IsZoned store.zones) (IsLeftOut (typed_of setting) exit whole_trace (chosen_with every_leaf)) whole_trace.resolved
-        (λ one zone out. absurd (none_missing one.leaf (is_missing every_leaf every_ascends one.leaf zone.0 out))) zoned)
+        (all-map (IsZoned store.zones) (IsLeftOut (typed_of setting) exit whole_trace (chosen_with every_leaf))
+        whole_trace.resolved
+        (λ one zone out. absurd (none_missing one.leaf (is_missing every_leaf every_ascends one.leaf zone.0 out)))
+        zoned)
         over
-        (subst (λ (own : List (List Row)). IsOver (typed_of setting) (all_rows (front ++ own ∷ back)) moment setting.limit over)
+        (subst (λ (own : List (List Row)). IsOver (typed_of setting) (all_rows (front ++ own ∷ back)) moment
+        setting.limit over)
         (sym split)
-        (leaf_refused (typed_of setting) front earlier (rows_on_leaf leaf) later back moment setting.limit (refusal.Fault over)
+        (leaf_refused (typed_of setting) front earlier (rows_on_leaf leaf) later back moment setting.limit
+        (refusal.Fault over)
         from divided own_over))

@@ -1,5 +1,6 @@
 -- A query that is through with so many zones has their ranges and their leaves, in order.
-use Rattle.std.proofs.Common.{◌≡◌, ◌∙◌, ◌<◌, ◌≤◌, ◌+◌, ℕ, ℤ, suc, List, [], ◌∷◌, length, drop, refl, sym, ap, subst, arith}
+use Rattle.std.proofs.Common.{◌≡◌, ◌∙◌, ◌<◌, ◌≤◌, ◌+◌, ℕ, ℤ, suc, List, [], ◌∷◌, length, drop, refl, sym, ap, subst}
+use Rattle.std.proofs.Common.{arith}
 use Rattle.std.specs.List.{AllByRecursion, flat_map}
 use Rattle.std.proofs.lemmas.List.{length-append}
 use Rattle.mon_topo.specs.HeldHistories.{Histories}
@@ -12,21 +13,25 @@ use Rattle.query_core.specs.declared.looks.Look.{Look}
 use Rattle.query_core.specs.Areas.{area_of}
 use Rattle.query_core.specs.Courses.{closed, trace_of}
 use Rattle.query_core.specs.Settings.{Setting}
-use Rattle.query_core.proofs.SegmentFacts.{AreFrom, Behind, IsWhole, Mixed, Passed, RangesFrom, Segment, SegmentSo, SeenSo, area_in, looks_in, ranges_append, ranges_behind, resolved_in}
+use Rattle.query_core.proofs.SegmentFacts.{AreFrom, Behind, IsWhole, Mixed, Passed, RangesFrom, Segment, SegmentSo}
+use Rattle.query_core.proofs.SegmentFacts.{SeenSo, area_in, looks_in, ranges_append, ranges_behind, resolved_in}
 use Rattle.query_core.proofs.ZoneFacts.{leaves_next, ranges_next}
 
 module _ (setting : Setting) (moment : ℤ) (zones : List ZoneSpec) (now : Histories) where
-  pub whole_in : (one : Segment) → SegmentSo setting moment now one → IsWhole (area_in one) (resolved_in one) (looks_in one)
+  pub whole_in : (one : Segment) → SegmentSo setting moment now one → IsWhole (area_in one) (resolved_in one)
+      (looks_in one)
   whole_in (Passed area resolved looks) so = so.0
   whole_in (Mixed area resolved looks parts answer) so = so.0
 
   -- as many ranges and leaves as their zones have, in order
   record AreWhole (k : ℕ) (segments : List Segment) : Type 0 where
     ranges : RangesFrom (first_range zones k) (flat_map resolved_in segments)
-    ranges_count : first_range zones k + length (flat_map resolved_in segments) ≡ first_range zones (k + length segments)
+    ranges_count : first_range zones k + length (flat_map resolved_in segments) ≡ first_range zones
+        (k + length segments)
     leaves_count : first_leaf zones k + length (flat_map looks_in segments) ≡ first_leaf zones (k + length segments)
 
-  are_whole : (k : ℕ) (segments : List Segment) → AreFrom zones k segments → AllByRecursion (SegmentSo setting moment now) segments
+  are_whole : (k : ℕ) (segments : List Segment) → AreFrom zones k segments
+      → AllByRecursion (SegmentSo setting moment now) segments
       → k + length segments ≤ length zones → AreWhole k segments
   are_whole k [] areas each within =
       let last : k + 0 ≡ k = omega arith in
@@ -51,7 +56,8 @@ module _ (setting : Setting) (moment : ℤ) (zones : List ZoneSpec) (now : Histo
       omega (arith, ap (first_leaf zones) next, leaves_next zones k there, leaves) in
       record {
         ranges = ranges_append (first_range zones k) (resolved_in one) (flat_map resolved_in segments)
-            (subst (λ (n : ℕ). RangesFrom n (resolved_in one)) (ap (λ (area : Area). area.first_range.0) areas.0) own.ranges)
+            (subst (λ (n : ℕ). RangesFrom n (resolved_in one)) (ap (λ (area : Area). area.first_range.0) areas.0)
+            own.ranges)
             (subst (λ (n : ℕ). RangesFrom n (flat_map resolved_in segments)) ranges_after rest.ranges);
         ranges_count = omega (
           arith,
@@ -99,19 +105,33 @@ module _ (setting : Setting) (moment : ℤ) (zones : List ZoneSpec) (now : Histo
       }
 
   -- one zone more
-  pub closed_so : (k : ℕ) (before : Course) (area : Area) (resolved : List Resolved) (looks : List Look) → k < length zones
+  pub closed_so : (k : ℕ) (before : Course) (area : Area) (resolved : List Resolved) (looks : List Look)
+      → k < length zones
       → area ≡ area_of zones k → IsThrough k before → IsWhole area resolved looks
       → IsThrough (k + 1) (closed before resolved looks)
   closed_so k before area resolved looks there is so whole =
-      let count : length resolved ≡ (area_of zones k).ranges = whole.all_ranges ∙ ap (λ (area : Area). area.ranges) is in
+      let count : length resolved ≡ (area_of zones k).ranges = whole.all_ranges ∙ ap (λ (area : Area). area.ranges)
+      is in
       let leaves : length looks ≡ (area_of zones k).leaves = whole.all_leaves ∙ ap (λ (area : Area). area.leaves) is in
       let first : area.first_range.0 ≡ 0 + length before.resolved =
       ap (λ (area : Area). area.first_range.0) is ∙ sym so.ranges_count ∙ omega arith in
       record {
         ranges = ranges_append 0 before.resolved resolved so.ranges
             (subst (λ (n : ℕ). RangesFrom n resolved) first whole.ranges);
-        ranges_count = omega (arith, length-append before.resolved resolved, so.ranges_count, count, ranges_next zones k there);
-        leaves_count = omega (arith, length-append before.looks looks, so.leaves_count, leaves, leaves_next zones k there);
+        ranges_count = omega (
+          arith,
+          length-append before.resolved resolved,
+          so.ranges_count,
+          count,
+          ranges_next zones k there,
+        );
+        leaves_count = omega (
+          arith,
+          length-append before.looks looks,
+          so.leaves_count,
+          leaves,
+          leaves_next zones k there,
+        );
         seen = so.seen;
       }
 

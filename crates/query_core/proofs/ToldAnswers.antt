@@ -61,99 +61,102 @@ all_there store setting moment asked from view events sound licensed =
 module _ (store : Store) (setting : Setting) (moment : ℤ) (asked : IsAskedOf store setting) (from : pos 0 ≤ℤ moment)
     (view : View) (events : List (session.Event store setting moment)) (sound : IsSound store view)
     (licensed : session.IsLicensed store setting moment view (new_query setting) events) (after : View)
-    (grown : IsGrown (session.view_after store setting moment view events) after) (sound_after : IsSound store after) where
-  abbrev now : View
-  now = session.view_after store setting moment view events
+    (grown : IsGrown (session.view_after store setting moment view events) after) (sound_after : IsSound store after)
+  where
+    abbrev now : View
+    now = session.view_after store setting moment view events
 
-  abbrev last : Query
-  last = session.query_after store setting moment (new_query setting) events
+    abbrev last : Query
+    last = session.query_after store setting moment (new_query setting) events
 
-  sound_now : IsSound store now
-  sound_now = sound_then store setting moment events view (new_query setting) sound licensed
+    sound_now : IsSound store now
+    sound_now = sound_then store setting moment events view (new_query setting) sound licensed
 
-  since : AreWithin view.seen now.seen
-  since = seen_since store setting moment events view (new_query setting) licensed
+    since : AreWithin view.seen now.seen
+    since = seen_since store setting moment events view (new_query setting) licensed
 
-  -- ---- what is mixed
+    -- ---- what is mixed
 
-  behind_zoned : (avoided : List Leaf) (course : Course) → claim.BehindSo store setting view.seen after avoided course
-      → AllZoned store.zones (trace_of course).resolved
-  behind_zoned avoided course is =
-      trace_zoned store setting moment asked view.seen after sound_after.held Anybody (trace_of course)
-      (stops_so store setting moment view.seen asked.replicas asked.areas (listed store setting asked)
-      (unmet_rows store setting asked) after avoided course is)
+    behind_zoned : (avoided : List Leaf) (course : Course) → claim.BehindSo store setting view.seen after avoided course
+        → AllZoned store.zones (trace_of course).resolved
+    behind_zoned avoided course is =
+        trace_zoned store setting moment asked view.seen after sound_after.held Anybody (trace_of course)
+        (stops_so store setting moment view.seen asked.replicas asked.areas (listed store setting asked)
+        (unmet_rows store setting asked) after avoided course is)
 
-  turn_mixes : (avoided : List Leaf) (some : Turn) → TurnParts store setting moment (TellsOf setting) after.seen some
-      → claim.TurnSo store setting view.seen after avoided some → MayMixRoot setting some
-  turn_mixes avoided (turn.Goes stage) so is = tt
-  turn_mixes avoided (turn.Through course) so is =
-      zones_mix store setting asked moment from after.seen sound_after.held course so
-      (behind_zoned avoided course is.behind)
+    turn_mixes : (avoided : List Leaf) (some : Turn) → TurnParts store setting moment (TellsOf setting) after.seen some
+        → claim.TurnSo store setting view.seen after avoided some → MayMixRoot setting some
+    turn_mixes avoided (turn.Goes stage) so is = tt
+    turn_mixes avoided (turn.Through course) so is =
+        zones_mix store setting asked moment from after.seen sound_after.held course so
+        (behind_zoned avoided course is.behind)
 
-  step_mixes : (avoided : List Leaf) (some : Step) → StepParts store setting moment (TellsOf setting) after.seen some
-      → claim.StepSo store setting view.seen after avoided some → MayMix setting some
-  step_mixes avoided (step.Takes turn) so is = turn_mixes avoided turn so is
-  step_mixes avoided (step.Gathered course parts) so is =
-      subst (λ (one : Course). HasParts setting one.answers parts) (sym so.is)
-      (zone_mixes store setting asked moment from after.seen sound_after.held so.before so.area so.resolved so.looks
-      so.in_zone so.whole
-      (subst (λ (one : Course). AllZoned store.zones (trace_of one).resolved) so.is (behind_zoned avoided course is))
-      parts so.parts_so)
+    step_mixes : (avoided : List Leaf) (some : Step) → StepParts store setting moment (TellsOf setting) after.seen some
+        → claim.StepSo store setting view.seen after avoided some → MayMix setting some
+    step_mixes avoided (step.Takes turn) so is = turn_mixes avoided turn so is
+    step_mixes avoided (step.Gathered course parts) so is =
+        subst (λ (one : Course). HasParts setting one.answers parts) (sym so.is)
+        (zone_mixes store setting asked moment from after.seen sound_after.held so.before so.area so.resolved so.looks
+        so.in_zone so.whole
+        (subst (λ (one : Course). AllZoned store.zones (trace_of one).resolved) so.is (behind_zoned avoided course is))
+        parts so.parts_so)
 
-  pub may_be_told : (answer : Told)
-      → session.IsTrueAnswer store setting moment now after last.avoided (slots_at last) (ask_of setting last.stage) answer
-      → MayBeTold setting last.stage answer
-  may_be_told answer true_then = record {
-    may_mix = step_mixes (avoided_after last.avoided last.stage answer) (spec.after setting last.stage answer)
-        (answer_parts store setting moment (TellsOf setting) asked.areas now after sound_now grown.seen last.avoided
-        last.stage answer (parts_now store setting moment asked from view events sound licensed) true_then)
-        (answer_so store setting moment view.seen asked.replicas asked.areas (listed store setting asked)
-        (unmet_rows store setting asked) now after grown since sound_now sound_after last.avoided (slots_at last) last.stage
-        answer (claim_now store setting moment asked from view events sound licensed) true_then);
-  }
+    pub may_be_told : (answer : Told)
+        → session.IsTrueAnswer store setting moment now after last.avoided (slots_at last) (ask_of setting last.stage)
+        answer
+        → MayBeTold setting last.stage answer
+    may_be_told answer true_then = record {
+      may_mix = step_mixes (avoided_after last.avoided last.stage answer) (spec.after setting last.stage answer)
+          (answer_parts store setting moment (TellsOf setting) asked.areas now after sound_now grown.seen last.avoided
+          last.stage answer (parts_now store setting moment asked from view events sound licensed) true_then)
+          (answer_so store setting moment view.seen asked.replicas asked.areas (listed store setting asked)
+          (unmet_rows store setting asked) now after grown since sound_now sound_after last.avoided (slots_at last)
+          last.stage
+          answer (claim_now store setting moment asked from view events sound licensed) true_then);
+    }
 
-  -- ---- what is read
+    -- ---- what is read
 
-  module _ (leaf : Leaf) (cut : ℕ)
-      (between : IsBetween (length (leaf_history now.seen leaf)) (length (leaf_history after.seen leaf)) cut) where
-    abbrev Readable : List RangeSlot → Type 0
-    Readable slots = CanBeRead (typed_of setting) (take cut (leaf_history after.seen leaf)) slots
+    module _ (leaf : Leaf) (cut : ℕ)
+        (between : IsBetween (length (leaf_history now.seen leaf)) (length (leaf_history after.seen leaf)) cut) where
+      abbrev Readable : List RangeSlot → Type 0
+      Readable slots = CanBeRead (typed_of setting) (take cut (leaf_history after.seen leaf)) slots
 
-    visited_read : (course : Course) (round : Round) (visits : Visits)
-        → StageParts store setting moment (TellsOf setting) now.seen (at.Visiting course round visits leaf)
-        → claim.StageSo store setting view.seen now last.avoided (at.Visiting course round visits leaf)
-        → Readable (slots_in round leaf)
-    visited_read course round visits so is =
-        let ours = is.visits_are.ours.0 in
-        let low = first_leaf store.zones is.k in
-        let visit = so.2 in
-        let here : has_leaf round.area leaf ≡ true =
-        has_at round.area leaf visit.place visit.there (ap (λ (one : Leaf). one.0) visit.is) in
-        subst Readable (sym (slots_here round leaf here))
-        (can_be_read store setting asked (take cut (leaf_history after.seen leaf))
-        (front_home store after.seen sound_after.held leaf cut) leaf round.resolved
-        (ranges_once round.area.first_range.0 round.resolved so.1.ranges)
-        (all_opened view.seen now.seen after.seen grown.seen low visits.looks leaf
-        (is.visits_are.span.cuts leaf ours.0 ours.1) cut between round.resolved is.visits_are.span.stand))
+      visited_read : (course : Course) (round : Round) (visits : Visits)
+          → StageParts store setting moment (TellsOf setting) now.seen (at.Visiting course round visits leaf)
+          → claim.StageSo store setting view.seen now last.avoided (at.Visiting course round visits leaf)
+          → Readable (slots_in round leaf)
+      visited_read course round visits so is =
+          let ours = is.visits_are.ours.0 in
+          let low = first_leaf store.zones is.k in
+          let visit = so.2 in
+          let here : has_leaf round.area leaf ≡ true =
+          has_at round.area leaf visit.place visit.there (ap (λ (one : Leaf). one.0) visit.is) in
+          subst Readable (sym (slots_here round leaf here))
+          (can_be_read store setting asked (take cut (leaf_history after.seen leaf))
+          (front_home store after.seen sound_after.held leaf cut) leaf round.resolved
+          (ranges_once round.area.first_range.0 round.resolved so.1.ranges)
+          (all_opened view.seen now.seen after.seen grown.seen low visits.looks leaf
+          (is.visits_are.span.cuts leaf ours.0 ours.1) cut between round.resolved is.visits_are.span.stand))
 
-    read_by : (stage : Stage) → StageParts store setting moment (TellsOf setting) now.seen stage
-        → claim.StageSo store setting view.seen now last.avoided stage → ask_of setting stage ≡ ask.Visit leaf
-        → Readable (slots_visited stage)
-    read_by (at.Rooting loading) so is e = absurd cc
-    read_by (at.Entering course round loading) so is e = absurd cc
-    read_by (at.Resolving course round range) so is e = absurd cc
-    read_by (at.Reloading course round loading) so is e = absurd cc
-    read_by (at.Visiting course round visits other) so is e =
-        let same : other ≡ leaf = cc in
-        subst (λ (one : Leaf). Readable (slots_in round one)) (sym same)
-        (visited_read course round visits
-        (subst (λ (one : Leaf). StageParts store setting moment (TellsOf setting) now.seen
-        (at.Visiting course round visits one)) same so)
-        (subst (λ (one : Leaf). claim.StageSo store setting view.seen now last.avoided
-        (at.Visiting course round visits one)) same is))
-    read_by (at.Ended end) so is e = absurd cc
+      read_by : (stage : Stage) → StageParts store setting moment (TellsOf setting) now.seen stage
+          → claim.StageSo store setting view.seen now last.avoided stage → ask_of setting stage ≡ ask.Visit leaf
+          → Readable (slots_visited stage)
+      read_by (at.Rooting loading) so is e = absurd cc
+      read_by (at.Entering course round loading) so is e = absurd cc
+      read_by (at.Resolving course round range) so is e = absurd cc
+      read_by (at.Reloading course round loading) so is e = absurd cc
+      read_by (at.Visiting course round visits other) so is e =
+          let same : other ≡ leaf = cc in
+          subst (λ (one : Leaf). Readable (slots_in round one)) (sym same)
+          (visited_read course round visits
+          (subst (λ (one : Leaf). StageParts store setting moment (TellsOf setting) now.seen
+          (at.Visiting course round visits one)) same so)
+          (subst (λ (one : Leaf). claim.StageSo store setting view.seen now last.avoided
+          (at.Visiting course round visits one)) same is))
+      read_by (at.Ended end) so is e = absurd cc
 
-    pub can_read : ask_of setting last.stage ≡ ask.Visit leaf → Readable (slots_at last)
-    can_read =
-        read_by last.stage (parts_now store setting moment asked from view events sound licensed)
-        (claim_now store setting moment asked from view events sound licensed)
+      pub can_read : ask_of setting last.stage ≡ ask.Visit leaf → Readable (slots_at last)
+      can_read =
+          read_by last.stage (parts_now store setting moment asked from view events sound licensed)
+          (claim_now store setting moment asked from view events sound licensed)

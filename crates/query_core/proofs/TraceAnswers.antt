@@ -1,5 +1,6 @@
 -- What is known of the trace with which a query ends.
-use Rattle.std.proofs.Common.{◌≡◌, ◌∙◌, ℕ, ℤ, zero, suc, ◌+◌, ◌<◌, true, false, List, [], ◌∷◌, length, map, take, get_or, Option, Some, None, Contains, inl, inr, refl, sym, ap, subst, arith}
+use Rattle.std.proofs.Common.{◌≡◌, ◌∙◌, ℕ, ℤ, zero, suc, ◌+◌, ◌<◌, true, false, List, [], ◌∷◌, length, map, take}
+use Rattle.std.proofs.Common.{get_or, Option, Some, None, Contains, inl, inr, refl, sym, ap, subst, arith}
 use Rattle.std.specs.List.{AllByRecursion as All, list_any, range_with_len}
 use Rattle.std.proofs.lemmas.Bool.{or_cases, or_left, or_right}
 use Rattle.std.proofs.lemmas.List.{get_or-map, length-map}
@@ -42,7 +43,8 @@ use Rattle.query_core.specs.Openings.{is_met}
 use Rattle.query_core.specs.Rounds.{slots_on}
 use Rattle.query_core.specs.Sessions.{View}
 use Rattle.query_core.specs.Settings.{Setting}
-use Rattle.query_core.specs.Traces.{IsFirst, IsFresh, IsReadRightly, IsTraceOf, cut_of, is_wanted, looked_at, rows_of, rows_on, sent_by, sent_if, slot_rows, source_of, was_read}
+use Rattle.query_core.specs.Traces.{IsFirst, IsFresh, IsReadRightly, IsTraceOf, cut_of, is_wanted, looked_at, rows_of}
+use Rattle.query_core.specs.Traces.{rows_on, sent_by, sent_if, slot_rows, source_of, was_read}
 use Rattle.query_core.specs.declared.answers.Resolved.{Resolved}
 use Rattle.query_core.specs.declared.answers.Trace.{Trace}
 use Rattle.query_core.specs.declared.looks.Look.{Look}
@@ -56,27 +58,37 @@ record AreNamed (t : Option TargetSchema) (m : Option MetricSchema) (row : Row) 
   pub metric_is : m ≡ Some metric
   pub is : row_fits target metric row ≡ true
 
-are_named : (t : Option TargetSchema) (m : Option MetricSchema) (row : Row) → fits_both t m row ≡ true → AreNamed t m row
-are_named (Some target) (Some metric) row e = record { target = target; metric = metric; target_is = refl; metric_is = refl; is = e }
+are_named : (t : Option TargetSchema) (m : Option MetricSchema) (row : Row) → fits_both t m row ≡ true
+    → AreNamed t m row
+are_named (Some target) (Some metric) row e = record {
+  target = target;
+  metric = metric;
+  target_is = refl;
+  metric_is =
+      refl;
+  is = e;
+}
 are_named None metric row e = absurd (cc)
 are_named (Some target) None row e = absurd (cc)
 
 module _ (held : SchemaLists) (buckets : ℕ) (row : Row)
-    (is : AreNamed (target_named row.key.target.schema held.targets) (metric_named row.key.metric held.metrics) row) where
-  abbrev own : List ℕ
-  own = series_buckets buckets is.target is.metric row.key
+    (is : AreNamed (target_named row.key.target.schema held.targets) (metric_named row.key.metric held.metrics) row)
+  where
+    abbrev own : List ℕ
+    own = series_buckets buckets is.target is.metric row.key
 
-  one_holds : (wanted : List NodeTree) (trees : List FormulaTree) → AllHoldWhereMet held buckets wanted trees
-      → list_any (λ fetch. meets fetch row.key) wanted ≡ true → any_holds (formulas trees) own ≡ true
-  one_holds [] [] all e = absurd (cc)
-  one_holds [] (tree ∷ trees) all e = absurd all
-  one_holds (fetch ∷ wanted) [] all e = absurd all
-  one_holds (fetch ∷ wanted) (tree ∷ trees) all e =
-      elim (or_cases (meets fetch row.key) (list_any (λ fetch. meets fetch row.key) wanted) e) [
-        | inl first ↦ or_left (holds tree own) (any_holds (formulas trees) own)
-            (all.0 is.target is.metric row.key is.target_is is.metric_is (fields_of_fitting is.target is.metric row is.is) first)
-        | inr rest ↦ or_right (holds tree own) (any_holds (formulas trees) own) (one_holds wanted trees all.1 rest)
-      ]
+    one_holds : (wanted : List NodeTree) (trees : List FormulaTree) → AllHoldWhereMet held buckets wanted trees
+        → list_any (λ fetch. meets fetch row.key) wanted ≡ true → any_holds (formulas trees) own ≡ true
+    one_holds [] [] all e = absurd (cc)
+    one_holds [] (tree ∷ trees) all e = absurd all
+    one_holds (fetch ∷ wanted) [] all e = absurd all
+    one_holds (fetch ∷ wanted) (tree ∷ trees) all e =
+        elim (or_cases (meets fetch row.key) (list_any (λ fetch. meets fetch row.key) wanted) e) [
+          | inl first ↦ or_left (holds tree own) (any_holds (formulas trees) own)
+              (all.0 is.target is.metric row.key is.target_is is.metric_is (fields_of_fitting is.target is.metric row
+              is.is) first)
+          | inr rest ↦ or_right (holds tree own) (any_holds (formulas trees) own) (one_holds wanted trees all.1 rest)
+        ]
 
 -- where no formula holds of a leaf's buckets, none of its rows is wanted
 pub unmet_rows : (store : Store) (setting : Setting) → IsAskedOf store setting → (history : List Entry)
@@ -84,12 +96,15 @@ pub unmet_rows : (store : Store) (setting : Setting) → IsAskedOf store setting
     → claim.met store setting (history_buckets store.buckets_of history) ≡ false
     → All (λ row. claim.wanted store setting row ≡ false) (leaf_rows history)
 unmet_rows store setting asked history good out =
-    none_wanted (formulas (map formula_tree setting.plan.formulas)) store.buckets_of (fits store.held) (claim.wanted store setting)
+    none_wanted (formulas (map formula_tree setting.plan.formulas)) store.buckets_of (fits store.held)
+    (claim.wanted store setting)
     (λ row fit wanted.
-    (let is = are_named (target_named row.key.target.schema store.held.targets) (metric_named row.key.metric store.held.metrics) row fit in
+    (let is = are_named (target_named row.key.target.schema store.held.targets)
+    (metric_named row.key.metric store.held.metrics) row fit in
     subst (λ (own : List ℕ). any_holds (formulas (map formula_tree setting.plan.formulas)) own ≡ true)
     (sym (asked.hinted is.target is.metric row.key is.target_is is.metric_is))
-    (one_holds store.held asked.buckets row is (fetches (typed_of setting).tree) (map formula_tree setting.plan.formulas)
+    (one_holds store.held asked.buckets row is (fetches (typed_of setting).tree)
+    (map formula_tree setting.plan.formulas)
     asked.promise wanted)))
     (leaf_rows history) good out
 
@@ -129,27 +144,36 @@ module _ (store : Store) (setting : Setting) (moment : ℤ) (at_entry : Historie
   looks_long = omega (arith, is.span.long, leaves_are)
 
   resolved_long : length trace.resolved ≡ length now.seen.ranges
-  resolved_long = omega (arith, is.span.count, all_ranges store.zones (length store.zones) (omega arith), held.all_ranges)
+  resolved_long = omega (
+    arith,
+    is.span.count,
+    all_ranges store.zones (length store.zones) (omega arith),
+    held.all_ranges,
+  )
 
   cut_is : (leaf : Leaf) → leaf.0 < all → cut_of trace leaf ≡ (look_at 0 is.looks leaf).cut
   cut_is leaf within =
       ap (λ cuts. get_or cuts leaf.0 0) is.cuts
-      ∙ get_or-map (λ (look : Look). look.cut) is.looks leaf.0 (unread 0) 0 (omega (arith, within, leaves_are, looks_long))
+      ∙ get_or-map (λ (look : Look). look.cut) is.looks leaf.0 (unread 0) 0
+      (omega (arith, within, leaves_are, looks_long))
       ∙ ap (λ n. (get_or is.looks n (unread 0)).cut) (omega arith)
 
   read_is : (leaf : Leaf) → leaf.0 < all → was_read trace leaf ≡ (look_at 0 is.looks leaf).read
   read_is leaf within =
       ap (λ flags. get_or flags leaf.0 false) is.read
-      ∙ get_or-map (λ (look : Look). look.read) is.looks leaf.0 (unread 0) false (omega (arith, within, leaves_are, looks_long))
+      ∙ get_or-map (λ (look : Look). look.read) is.looks leaf.0 (unread 0) false
+      (omega (arith, within, leaves_are, looks_long))
       ∙ ap (λ n. (get_or is.looks n (unread 0)).read) (omega arith)
 
-  looked_is : (leaf : Leaf) → leaf.0 < all → looked_at now.seen trace leaf ≡ up_to now.seen leaf (look_at 0 is.looks leaf)
+  looked_is : (leaf : Leaf) → leaf.0 < all → looked_at now.seen trace leaf ≡ up_to now.seen leaf
+      (look_at 0 is.looks leaf)
   looked_is leaf within = ap (λ n. take n (leaf_history now.seen leaf)) (cut_is leaf within)
 
   stand_by : (some : List Resolved) → All (ResolvedSo at_entry now.seen is.avoided 0 all) some
       → All (StandsAt at_entry now.seen 0 is.looks) some
       → All (λ (one : Resolved). is_opened one.range one.slot (looked_at now.seen trace one.leaf) ≡ true) some
-      × All (λ (one : Resolved). All (Contains (rows_of now.seen trace one)) (acked (range_history at_entry one.range))) some
+      × All (λ (one : Resolved). All (Contains (rows_of now.seen trace one))
+      (acked (range_history at_entry one.range))) some
   stand_by [] each stand = (record {}, record {})
   stand_by (one ∷ some) each stand =
       let rest = stand_by some each.1 stand.1 in
@@ -165,7 +189,8 @@ module _ (store : Store) (setting : Setting) (moment : ℤ) (at_entry : Historie
 
   -- it is of the histories that were seen, but for how much was sent
   pub trace_of_histories : ((leaf : Leaf) → leaf.0 < length now.seen.leaves
-      → sent_by trace leaf ≡ sent_if (was_read trace leaf) (sent (typed_of setting) (rows_on now.seen trace leaf) moment))
+      → sent_by trace leaf ≡ sent_if (was_read trace leaf) (sent (typed_of setting) (rows_on now.seen trace leaf)
+      moment))
       → IsTraceOf (typed_of setting) moment at_entry now.seen trace
   trace_of_histories sends = record {
     ranges = is.span.ranges ∙ ap (λ n. map range_numbered (range_with_len 0 n)) resolved_long;
@@ -173,7 +198,8 @@ module _ (store : Store) (setting : Setting) (moment : ℤ) (at_entry : Historie
     flags = ap length is.read ∙ length-map is.looks (λ (look : Look). look.read) ∙ looks_long;
     counts = is.counts ∙ looks_long;
     resolved = subst (λ (leaves : List Leaf). All (IsFirst at_entry now.seen leaves) trace.resolved) is.founds.avoids
-        (all_on (ResolvedSo at_entry now.seen is.avoided 0 all) (IsFirst at_entry now.seen is.avoided) (λ one so. so.first)
+        (all_on (ResolvedSo at_entry now.seen is.avoided 0 all) (IsFirst at_entry now.seen is.avoided)
+        (λ one so. so.first)
         trace.resolved is.span.each);
     within = λ leaf within.
         (let low : leaf.0 < all = omega (arith, within, leaves_are) in
@@ -193,9 +219,11 @@ module _ (store : Store) (setting : Setting) (moment : ℤ) (at_entry : Historie
         let is_looked = is.span.cuts leaf (omega arith) low in
         omega (arith, is_looked.from, cut_is leaf low));
     rows = λ range within.
-        (let one = of_range trace.resolved 0 (length trace.resolved) range.0 is.span.ranges (omega (arith, within, resolved_long)) in
+        (let one = of_range trace.resolved 0 (length trace.resolved) range.0 is.span.ranges
+        (omega (arith, within, resolved_long)) in
         let same : one.one.range ≡ range = one.is ∙ ap range_numbered (omega arith) in
-        let rows = all_at (λ (one : Resolved). All (Contains (rows_of now.seen trace one)) (acked (range_history at_entry one.range)))
+        let rows = all_at (λ (one : Resolved). All (Contains (rows_of now.seen trace one))
+        (acked (range_history at_entry one.range)))
         trace.resolved one.one (stand_by trace.resolved is.span.each is.span.stand).1 one.there in
         subst (λ (r : Range). All (Contains (source_of now.seen trace)) (acked (range_history at_entry r))) same
         (all_on (Contains (rows_of now.seen trace one.one)) (Contains (source_of now.seen trace))
@@ -214,7 +242,8 @@ module _ (store : Store) (setting : Setting) (moment : ℤ) (at_entry : Historie
         | inr tells ↦ record {
           unread = λ e. subst (λ (history : List Entry). All (λ row. is_wanted (typed_of setting) row ≡ false)
               (slot_rows history (slots_on leaf trace.resolved))) same (tells.unread (sym (read_is leaf low) ∙ e));
-          read = λ e. subst (λ (history : List Entry). is_met setting.plan (history_buckets store.buckets_of history) ≡ true) same
+          read = λ e. subst (λ (history : List Entry). is_met setting.plan (history_buckets store.buckets_of history)
+              ≡ true) same
               (tells.read (sym (read_is leaf low) ∙ e));
         }
       ]

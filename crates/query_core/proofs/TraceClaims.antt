@@ -122,15 +122,17 @@ module _ (store : Store) (setting : Setting) (at_entry : Histories) where
     pub course_is : CourseSo now avoided (first_leaf zones k) k course
 
   -- in a zone
-  pub record InZone (now : View) (avoided : List Leaf) (below : ℕ) (k : ℕ) (course : Course) (round : Round) : Type 0 where
-    pub course_is : CourseSo now avoided below k course
-    pub begun : course.begun ≡ k + 1
-    pub there : k < length zones
-    pub area : round.area ≡ area_of zones k
+  pub record InZone (now : View) (avoided : List Leaf) (below : ℕ) (k : ℕ) (course : Course) (round : Round) : Type 0
+    where
+      pub course_is : CourseSo now avoided below k course
+      pub begun : course.begun ≡ k + 1
+      pub there : k < length zones
+      pub area : round.area ≡ area_of zones k
 
   abbrev pub Opened : List Resolved → Histories → Type 0
   Opened resolved seen =
-      All (λ (one : Resolved). StandsIn (acked (range_history at_entry one.range)) (leaf_history seen one.leaf) one) resolved
+      All (λ (one : Resolved). StandsIn (acked (range_history at_entry one.range)) (leaf_history seen one.leaf) one)
+      resolved
 
   abbrev pub Resolves : View → List Leaf → ℕ → List Resolved → Type 0
   Resolves now avoided k = All (ResolvedSo at_entry now.seen avoided (first_leaf zones k) (first_leaf zones (k + 1)))
@@ -173,7 +175,8 @@ module _ (store : Store) (setting : Setting) (at_entry : Histories) where
     pub zone : InZone now avoided (first_leaf zones (k + 1)) k course round
     pub round_is : RoundSo now avoided k round.resolved
     pub whole : length round.resolved ≡ (area_of zones k).ranges
-    pub loaded : LoadingSo now (zone_known zones k) (area_of zones k).leaves (Opened round.resolved) loading.words loading.seen
+    pub loaded : LoadingSo now (zone_known zones k) (area_of zones k).leaves (Opened round.resolved) loading.words
+        loading.seen
 
   pub record VisitingSo (now : View) (avoided : List Leaf) (course : Course) (round : Round) (visits : Visits)
       (pending : List Leaf) : Type 0 where
@@ -206,7 +209,8 @@ module _ (store : Store) (setting : Setting) (at_entry : Histories) where
   StageSo now avoided (at.Entering course round loading) = EnteringSo now avoided course round loading
   StageSo now avoided (at.Resolving course round range) = ResolvingSo now avoided course round range
   StageSo now avoided (at.Reloading course round loading) = ReloadingSo now avoided course round loading
-  StageSo now avoided (at.Visiting course round visits leaf) = VisitingSo now avoided course round visits (leaf ∷ visits.left)
+  StageSo now avoided (at.Visiting course round visits leaf) = VisitingSo now avoided course round visits
+      (leaf ∷ visits.left)
   StageSo now avoided (at.Ended end) = EndSo now end
 
   pub record ThroughSo (now : View) (avoided : List Leaf) (course : Course) : Type 0 where
@@ -256,7 +260,8 @@ module _ (store : Store) (setting : Setting) (at_entry : Histories) where
     span_grown : (avoided : List Leaf) (Skip : Leaf → Type 0) (low high first last : ℕ) (resolved : List Resolved)
         (looks : List Look) → Span before.seen avoided Skip low high first last resolved looks
         → Span after.seen avoided Skip low high first last resolved looks
-    span_grown = span_on at_entry (wanted store setting) (met store setting) store.buckets_of before.seen after.seen grown.seen
+    span_grown = span_on at_entry (wanted store setting) (met store setting) store.buckets_of before.seen after.seen
+        grown.seen
 
     founds_kept : (avoided : List Leaf) (founds : List FoundDown) → KeepsFounds at_entry before.seen avoided founds
         → KeepsFounds at_entry after.seen avoided founds
@@ -268,7 +273,8 @@ module _ (store : Store) (setting : Setting) (at_entry : Histories) where
     pub course_on : (avoided : List Leaf) (below k : ℕ) (course : Course) → CourseSo before avoided below k course
         → CourseSo after avoided below k course
     course_on avoided below k course is = record {
-      span = span_grown avoided Nobody 0 (first_leaf zones k) 0 (first_range zones k) course.resolved course.looks is.span;
+      span = span_grown avoided Nobody 0 (first_leaf zones k) 0 (first_range zones k) course.resolved course.looks
+          is.span;
       founds = founds_kept avoided course.founds is.founds;
       below_is = is.below_is;
       then = is.then;
@@ -292,11 +298,14 @@ module _ (store : Store) (setting : Setting) (at_entry : Histories) where
       ranges = is.ranges;
       each = all_on (ResolvedSo at_entry before.seen avoided (first_leaf zones k) (first_leaf zones (k + 1)))
           (ResolvedSo at_entry after.seen avoided (first_leaf zones k) (first_leaf zones (k + 1)))
-          (λ one. resolved_on at_entry before.seen after.seen grown.seen avoided (first_leaf zones k) (first_leaf zones (k + 1)) one)
+          (λ one. resolved_on at_entry before.seen after.seen grown.seen avoided (first_leaf zones k)
+          (first_leaf zones (k + 1)) one)
           resolved is.each;
       opened = all_on
-          (λ (one : Resolved). StandsIn (acked (range_history at_entry one.range)) (leaf_history before.seen one.leaf) one)
-          (λ (one : Resolved). StandsIn (acked (range_history at_entry one.range)) (leaf_history after.seen one.leaf) one)
+          (λ (one : Resolved). StandsIn (acked (range_history at_entry one.range)) (leaf_history before.seen one.leaf)
+          one)
+          (λ (one : Resolved). StandsIn (acked (range_history at_entry one.range)) (leaf_history after.seen one.leaf)
+          one)
           (λ one. stands_on (acked (range_history at_entry one.range)) (leaf_history after.seen one.leaf)
           (leaf_history before.seen one.leaf) one (grown.seen.leaves one.leaf))
           resolved is.opened;
@@ -329,7 +338,8 @@ module _ (store : Store) (setting : Setting) (at_entry : Histories) where
       k = is.k;
       zone = zone_on avoided (first_leaf zones is.k) is.k course round is.zone;
       none = is.none;
-      loaded = loading_on (zone_known zones is.k) (area_of zones is.k).leaves Anyhow loading.words loading.seen is.loaded;
+      loaded = loading_on (zone_known zones is.k) (area_of zones is.k).leaves Anyhow loading.words loading.seen
+          is.loaded;
     }
     stage_on avoided (at.Resolving course round range) is = record {
       k = is.k;

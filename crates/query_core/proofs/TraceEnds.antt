@@ -26,7 +26,8 @@ module _ (store : Store) (setting : Setting) (asked : IsAskedOf store setting) (
       → AllZoned store.zones answer.trace.resolved
       → IsMeant (typed_of setting) (source_of exit answer.trace) moment setting.limit answer.table
   answered answer so zoned =
-      subst (λ (of : Trace). IsMeant (typed_of setting) (source_of exit of) moment setting.limit answer.table) (sym so.trace_is)
+      subst (λ (of : Trace). IsMeant (typed_of setting) (source_of exit of) moment setting.limit answer.table)
+      (sym so.trace_is)
       (table_meant store setting asked moment from exit held so.course so.through
       (subst (λ (of : Trace). AllZoned store.zones of.resolved) so.trace_is zoned) so.tells answer.table so.mixes)
 
@@ -37,18 +38,22 @@ module _ (store : Store) (setting : Setting) (asked : IsAskedOf store setting) (
   leaf_above of so zoned =
       subst IsAbove (sym so.trace_is)
       (leaf_over store setting asked moment from exit held so.before so.area so.resolved so.looks so.in_zone so.whole
-      (subst (λ (of : Trace). AllZoned store.zones of.resolved) so.trace_is zoned) so.place so.cut so.over so.there so.told so.is)
+      (subst (λ (of : Trace). AllZoned store.zones of.resolved) so.trace_is zoned) so.place so.cut so.over so.there
+      so.told so.is)
 
-  zone_above : (of : Trace) → ZoneOver store setting moment (TellsOf setting) exit of → AllZoned store.zones of.resolved → IsAbove of
+  zone_above : (of : Trace) → ZoneOver store setting moment (TellsOf setting) exit of → AllZoned store.zones
+      of.resolved → IsAbove of
   zone_above of so zoned =
       let own = so.gathered in
       let trace_is : of ≡ trace_of (closed own.before own.resolved own.looks) = so.trace_is ∙ ap trace_of own.is in
       subst IsAbove (sym trace_is)
-      (zone_over store setting asked moment from exit held own.before own.area own.resolved own.looks own.in_zone own.whole
+      (zone_over store setting asked moment from exit held own.before own.area own.resolved own.looks own.in_zone
+      own.whole
       (subst (λ (of : Trace). AllZoned store.zones of.resolved) trace_is zoned) so.parts so.over own.parts_so
       (subst (λ (course : Course). TellsOf setting exit course) own.is so.tells) so.mixes)
 
-  root_above : (of : Trace) → RootOver store setting moment (TellsOf setting) exit of → AllZoned store.zones of.resolved → IsAbove of
+  root_above : (of : Trace) → RootOver store setting moment (TellsOf setting) exit of → AllZoned store.zones
+      of.resolved → IsAbove of
   root_above of so zoned =
       subst IsAbove (sym so.trace_is)
       (root_over store setting asked moment from exit held so.course so.through
@@ -75,7 +80,8 @@ module _ (store : Store) (setting : Setting) (asked : IsAskedOf store setting) (
   leaf_sends : (of : Trace) → LeafOver store setting moment exit of → AllZoned store.zones of.resolved → IsSent of
   leaf_sends of so zoned =
       subst IsSent (sym so.trace_is)
-      (stopped_sends store setting asked moment from exit held so.before so.area so.resolved so.looks so.in_zone so.whole
+      (stopped_sends store setting asked moment from exit held so.before so.area so.resolved so.looks so.in_zone
+      so.whole
       (subst (λ (of : Trace). AllZoned store.zones of.resolved) so.trace_is zoned) so.parts so.parts_so)
 
   zone_sends : (of : Trace) → ZoneOver store setting moment (TellsOf setting) exit of → AllZoned store.zones of.resolved
@@ -84,7 +90,8 @@ module _ (store : Store) (setting : Setting) (asked : IsAskedOf store setting) (
       let own = so.gathered in
       let trace_is : of ≡ trace_of (closed own.before own.resolved own.looks) = so.trace_is ∙ ap trace_of own.is in
       subst IsSent (sym trace_is)
-      (stopped_sends store setting asked moment from exit held own.before own.area own.resolved own.looks own.in_zone own.whole
+      (stopped_sends store setting asked moment from exit held own.before own.area own.resolved own.looks own.in_zone
+      own.whole
       (subst (λ (of : Trace). AllZoned store.zones of.resolved) trace_is zoned) so.parts own.parts_so)
 
   root_sends : (of : Trace) → RootOver store setting moment (TellsOf setting) exit of → AllZoned store.zones of.resolved
@@ -94,7 +101,8 @@ module _ (store : Store) (setting : Setting) (asked : IsAskedOf store setting) (
       (whole_sends store setting asked moment from exit held so.course so.through
       (subst (λ (of : Trace). AllZoned store.zones of.resolved) so.trace_is zoned))
 
-  pub over_sends : (of : Trace) → OverSo store setting moment (TellsOf setting) exit of → AllZoned store.zones of.resolved
+  pub over_sends : (of : Trace) → OverSo store setting moment (TellsOf setting) exit of → AllZoned store.zones
+      of.resolved
       → IsSent of
   over_sends of (inl leaf) zoned = leaf_sends of leaf zoned
   over_sends of (inr (inl zone)) zoned = zone_sends of zone zoned

@@ -1,5 +1,7 @@
 -- What a query knows once it has looked at a leaf, and at its end.
-use Rattle.std.proofs.Common.{◌≡◌, ◌∙◌, ℕ, zero, suc, ◌+◌, ◌-◌, ◌<◌, ◌≤◌, true, false, cond, nat_le, List, [], ◌∷◌, ◌++◌, length, map, drop, set, get_or, Contains, ◌⊎◌, inl, inr, refl, sym, ap, subst, arith}
+use Rattle.std.proofs.Common.{◌≡◌, ◌∙◌, ℕ, zero, suc, ◌+◌, ◌-◌, ◌<◌, ◌≤◌, true, false, cond, nat_le, List, [], ◌∷◌}
+use Rattle.std.proofs.Common.{◌++◌, length, map, drop, set, get_or, Contains, ◌⊎◌, inl, inr, refl, sym, ap, subst}
+use Rattle.std.proofs.Common.{arith}
 use Rattle.std.specs.List.{AllByRecursion as All}
 use Rattle.std.proofs.lemmas.Bool.{cases_eq}
 use Rattle.std.proofs.lemmas.Bool.Decides.{nat_tests}
@@ -17,7 +19,8 @@ use Rattle.mon_topo.specs.Zones.{first_leaf, first_range, range_numbered, ranges
 use Rattle.mon_value.specs.LeafHistories.{leaf_rows}
 use Rattle.mon_value.specs.declared.histories.Entry.{Entry}
 use Rattle.mon_value.specs.declared.positions.Leaf.{Leaf}
-use Rattle.query_core.proofs.Spans.{IsLookedAt, ResolvedSo, StandsAt, StandsIn, Tells, look_at, span_on, stands_on, up_to}
+use Rattle.query_core.proofs.Spans.{IsLookedAt, ResolvedSo, StandsAt, StandsIn, Tells, look_at, span_on, stands_on}
+use Rattle.query_core.proofs.Spans.{up_to}
 use Rattle.query_core.proofs.FindingLemmas.{KeepsFounds}
 use Rattle.query_core.proofs.TraceClaims as claim
 use Rattle.query_core.proofs.TraceVisits.{fronts_begin}
@@ -38,7 +41,8 @@ use Rattle.query_core.specs.declared.looks.Look.{Look}
 module _ (store : Store) (setting : Setting) (at_entry : Histories) (before after : View) (grown : IsGrown before after)
     (since : AreWithin at_entry before.seen) (avoided : List Leaf) (Skip : Leaf → Type 0) (low high first last : ℕ)
     (resolved : List Resolved) (looks : List Look) (leaf : Leaf) (left : List Leaf) (look : Look)
-    (was : claim.Span store setting at_entry before.seen avoided (Contains (leaf ∷ left)) low high first last resolved looks)
+    (was : claim.Span store setting at_entry before.seen avoided (Contains (leaf ∷ left)) low high first last resolved
+    looks)
     (from : low ≤ leaf.0) (to : leaf.0 < high)
     (between : IsBetween (length (leaf_history before.seen leaf)) (length (leaf_history after.seen leaf)) look.cut)
     (others : (other : Leaf) → Contains left other → Skip other)
@@ -52,7 +56,8 @@ module _ (store : Store) (setting : Setting) (at_entry : Histories) (before afte
       (up_to after.seen other it) (slots_on other resolved) it
 
   is : claim.Span store setting at_entry after.seen avoided (Contains (leaf ∷ left)) low high first last resolved looks
-  is = span_on at_entry (claim.wanted store setting) (claim.met store setting) store.buckets_of before.seen after.seen grown.seen
+  is = span_on at_entry (claim.wanted store setting) (claim.met store setting) store.buckets_of before.seen after.seen
+      grown.seen
       avoided (Contains (leaf ∷ left)) low high first last resolved looks was
 
   look_here : (other : Leaf) → other.0 ≡ leaf.0 → look_at low now_looks other ≡ look
@@ -60,22 +65,31 @@ module _ (store : Store) (setting : Setting) (at_entry : Histories) (before afte
       ap (λ n. get_or now_looks (n - low) (unread 0)) e
       ∙ get_or-set_same looks (leaf.0 - low) look (unread 0) (omega (arith, from, to, was.long))
 
-  look_there : (other : Leaf) → low ≤ other.0 → (other.0 ≡ leaf.0 → ⊥) → look_at low now_looks other ≡ look_at low looks other
+  look_there : (other : Leaf) → low ≤ other.0 → (other.0 ≡ leaf.0 → ⊥) → look_at low now_looks other ≡ look_at low
+      looks other
   look_there other above differ =
       get_or-set_other looks (leaf.0 - low) (other.0 - low) look (unread 0)
       (λ e. differ (omega (arith, e, from, above)))
 
   looked_here : IsLookedAt at_entry after.seen leaf look
   looked_here = record {
-    from = omega (arith, between.from, begins_length (leaf_history before.seen leaf) (leaf_history at_entry leaf) (since.leaves leaf));
+    from = omega (
+      arith,
+      between.from,
+      begins_length (leaf_history before.seen leaf) (leaf_history at_entry leaf)
+          (since.leaves leaf),
+    );
     to = between.to;
   }
 
-  cut_of : (other : Leaf) → low ≤ other.0 → other.0 < high → IsLookedAt at_entry after.seen other (look_at low now_looks other)
+  cut_of : (other : Leaf) → low ≤ other.0 → other.0 < high → IsLookedAt at_entry after.seen other
+      (look_at low now_looks other)
   cut_of other above below = elim (cases_eq other.0 leaf.0) [
-    | inl e ↦ subst (λ (it : Leaf). IsLookedAt at_entry after.seen it (look_at low now_looks other)) (leaf_same leaf other (sym e))
+    | inl e ↦ subst (λ (it : Leaf). IsLookedAt at_entry after.seen it (look_at low now_looks other))
+        (leaf_same leaf other (sym e))
         (subst (IsLookedAt at_entry after.seen leaf) (sym (look_here other e)) looked_here)
-    | inr differ ↦ subst (IsLookedAt at_entry after.seen other) (sym (look_there other above differ)) (is.cuts other above below)
+    | inr differ ↦ subst (IsLookedAt at_entry after.seen other) (sym (look_there other above differ))
+        (is.cuts other above below)
   ]
 
   stand_here : (one : Resolved) → low ≤ one.leaf.0 → one.leaf.0 < high → one.leaf.0 ≡ leaf.0
@@ -149,7 +163,8 @@ module _ (store : Store) (setting : Setting) (at_entry : Histories)
     (now : View) (avoided : List Leaf) (Skip : Leaf → Type 0) where
   -- leaves and ranges that the query did not come to stand as they had been seen by the first root word
   pub trace_so : (course : Course) (k n : ℕ) → k + n ≡ length store.zones → (0 < n → (leaf : Leaf) → Skip leaf)
-      → claim.Span store setting at_entry now.seen avoided Skip 0 (first_leaf store.zones k) 0 (first_range store.zones k)
+      → claim.Span store setting at_entry now.seen avoided Skip 0 (first_leaf store.zones k) 0
+      (first_range store.zones k)
       course.resolved course.looks
       → KeepsFounds at_entry now.seen avoided course.founds → claim.Below (first_leaf store.zones k) avoided
       → (then : View) → claim.SeenThen store setting at_entry now course.seen then
@@ -157,15 +172,20 @@ module _ (store : Store) (setting : Setting) (at_entry : Histories)
   trace_so course k n e skips span founds below then is =
       let ranges : first_range store.zones k ≡ length course.resolved = omega (arith, span.count) in
       let leaves : first_leaf store.zones k ≡ length course.looks = omega (arith, span.long) in
-      let all = rest_seen store setting at_entry replicated unmet now avoided Skip course.seen then is n k course.resolved
+      let all = rest_seen store setting at_entry replicated unmet now avoided Skip course.seen then is n k
+      course.resolved
       course.looks e skips below span in
       record {
         looks = all_looks course;
         avoided = avoided;
-        span = subst (λ (a : ℕ). claim.Span store setting at_entry now.seen avoided Skip 0 (first_leaf store.zones (length store.zones)) 0
-            (first_range store.zones (length store.zones)) (course.resolved ++ drop a course.seen.firsts) (all_looks course)) ranges
-            (subst (λ (b : ℕ). claim.Span store setting at_entry now.seen avoided Skip 0 (first_leaf store.zones (length store.zones)) 0
-            (first_range store.zones (length store.zones)) (course.resolved ++ drop (first_range store.zones k) course.seen.firsts)
+        span = subst (λ (a : ℕ). claim.Span store setting at_entry now.seen avoided Skip 0
+            (first_leaf store.zones (length store.zones)) 0
+            (first_range store.zones (length store.zones)) (course.resolved ++ drop a course.seen.firsts)
+            (all_looks course)) ranges
+            (subst (λ (b : ℕ). claim.Span store setting at_entry now.seen avoided Skip 0
+            (first_leaf store.zones (length store.zones)) 0
+            (first_range store.zones (length store.zones)) (course.resolved ++ drop (first_range store.zones k)
+            course.seen.firsts)
             (course.looks ++ map unread (drop b course.seen.cuts))) leaves all);
         cuts = refl;
         read = refl;

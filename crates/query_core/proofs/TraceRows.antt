@@ -1,6 +1,7 @@
--- The rows that a query stands on, divided: what it means over those of some leaves, where the rows of the others meet no
--- fetch, is what it means over all of them.
-use Rattle.std.proofs.Common.{◌≡◌, ◌∙◌, ◌<◌, ◌≤ℤ◌, ◌+◌, ◌&&◌, ℕ, ℤ, pos, Bool, true, false, cond, List, [], ◌∷◌, ◌++◌, map, nat_eq, refl, sym, ap, subst, arith}
+-- The rows that a query stands on, divided: what it means over those of some leaves, where the rows of the others
+-- meet no fetch, is what it means over all of them.
+use Rattle.std.proofs.Common.{◌≡◌, ◌∙◌, ◌<◌, ◌≤ℤ◌, ◌+◌, ◌&&◌, ℕ, ℤ, pos, Bool, true, false, cond, List, [], ◌∷◌, ◌++◌}
+use Rattle.std.proofs.Common.{map, nat_eq, refl, sym, ap, subst, arith}
 use Rattle.std.specs.Prelude.{Contains, IsPermutation}
 use Rattle.std.specs.List.{AllByRecursion, filter, flat_map, list_any}
 use Rattle.std.proofs.lemmas.Bool.Decides.{nat_tests}
@@ -45,7 +46,9 @@ use Rattle.query_core.specs.Rounds.{slot_of, slots_on}
 use Rattle.query_core.specs.Settings.{Setting}
 use Rattle.query_core.specs.Traces as trace
 use Rattle.query_core.specs.Traces.{is_wanted, looked_at, rows_on, slot_rows, source_of}
-use Rattle.query_core.proofs.DividedRows.{AreLeavesOf, AreOtherLeaves, AreOthers, AreResolvedIn, IsOther, SomeLeaves, all_flat, all_leaves, all_leaves_apart, divided_points, divided_rows, fit_in_all, rows_at, zones_apart}
+use Rattle.query_core.proofs.DividedRows.{AreLeavesOf, AreOtherLeaves, AreOthers, AreResolvedIn, IsOther, SomeLeaves}
+use Rattle.query_core.proofs.DividedRows.{all_flat, all_leaves, all_leaves_apart, divided_points, divided_rows}
+use Rattle.query_core.proofs.DividedRows.{fit_in_all, rows_at, zones_apart}
 use Rattle.mon_meaning.proofs.MeaningOrderLemmas.{load_in_order, meaning_in_order}
 use Rattle.query_core.proofs.SegmentFacts.{RangesFrom}
 use Rattle.mon_meaning.proofs.SeriesOrderLemmas.{series_in_order}
@@ -83,7 +86,8 @@ module _ (held : SchemaLists) (zones : List ZoneSpec) (range : Range) (slot : Sl
   if_at_home true rows h = h refl
   if_at_home false rows h = tt
 
-  entry_at_home : (one : Entry) → AreAtHome held zones one → AllByRecursion (IsAtHome held zones range) (entry_rows range slot one)
+  entry_at_home : (one : Entry) → AreAtHome held zones one → AllByRecursion (IsAtHome held zones range)
+      (entry_rows range slot one)
   entry_at_home (entry.Opened pass other place rows) home =
       if_at_home (same_replica range slot other place) rows
       (λ same. all_from (IsAtHome held zones range) rows
@@ -103,7 +107,8 @@ module _ (held : SchemaLists) (zones : List ZoneSpec) (range : Range) (slot : Sl
       → AllByRecursion (IsAtHome held zones range) (replica_rows range slot history)
   replica_at_home history home =
       all_flat (IsAtHome held zones range) (entry_rows range slot) history
-      (all-map (AreAtHome held zones) (λ one. AllByRecursion (IsAtHome held zones range) (entry_rows range slot one)) history
+      (all-map (AreAtHome held zones) (λ one. AllByRecursion (IsAtHome held zones range) (entry_rows range slot one))
+      history
       entry_at_home home)
 
 -- ---- the rows of a trace
@@ -119,7 +124,8 @@ module _ (exit : Histories) (of : Trace) where
 
   slots_by : (leaf : Leaf) (one : Resolved) (rest : List Resolved) (b : Bool) → (b ≡ true → one.leaf ≡ leaf)
       → flat_map own_rows rest ≡ slot_rows (looked_at exit of leaf) (map slot_of rest)
-      → flat_map own_rows (cond b (one ∷ rest) rest) ≡ slot_rows (looked_at exit of leaf) (map slot_of (cond b (one ∷ rest) rest))
+      → flat_map own_rows (cond b (one ∷ rest) rest) ≡ slot_rows (looked_at exit of leaf)
+      (map slot_of (cond b (one ∷ rest) rest))
   slots_by leaf one rest true is same =
       λ i. replica_rows one.range one.slot (looked_at exit of (is refl i)) ++ same i
   slots_by leaf one rest false is same = same
@@ -158,7 +164,8 @@ module _ (store : Store) (setting : Setting) (asked : IsAskedOf store setting) (
     (ranges : RangesFrom 0 of.resolved)
     (zoned : AllByRecursion (λ (one : Resolved). IsInZoneOf store.zones one.range one.leaf) of.resolved) where
   homes : (some : List Resolved)
-      → AllByRecursion (λ (one : Resolved). AllByRecursion (IsAtHome store.held store.zones one.range) (own_rows exit of one)) some
+      → AllByRecursion (λ (one : Resolved). AllByRecursion (IsAtHome store.held store.zones one.range)
+      (own_rows exit of one)) some
   homes [] = tt
   homes (one ∷ some) = (
     replica_at_home store.held store.zones one.range one.slot (looked_at exit of one.leaf)
@@ -175,7 +182,8 @@ module _ (store : Store) (setting : Setting) (asked : IsAskedOf store setting) (
       all_flat (λ row. fits store.held row ≡ true) (own_rows exit of) of.resolved
       (all-map (λ (one : Resolved). AllByRecursion (IsAtHome store.held store.zones one.range) (own_rows exit of one))
       (λ one. AllByRecursion (λ row. fits store.held row ≡ true) (own_rows exit of one)) of.resolved
-      (λ one home. all-map (IsAtHome store.held store.zones one.range) (λ row. fits store.held row ≡ true) (own_rows exit of one)
+      (λ one home. all-map (IsAtHome store.held store.zones one.range) (λ row. fits store.held row ≡ true)
+      (own_rows exit of one)
       (λ row at. at.0) home) (homes of.resolved))
 
   -- rows of some leaves
@@ -198,12 +206,14 @@ module _ (store : Store) (setting : Setting) (asked : IsAskedOf store setting) (
     abbrev is_own : Row → Bool
     is_own row = same_series key row.key
 
-    wants_same : (row : Row) (b : Bool) → is_own row ≡ b → wants key ≡ true → (b && is_wanted (typed_of setting) row) ≡ b
+    wants_same : (row : Row) (b : Bool) → is_own row ≡ b → wants key ≡ true → (b && is_wanted (typed_of setting) row)
+        ≡ b
     wants_same row true e want =
         sym (ap wants ((same_series-Decides key row.key).0 e)) ∙ want
     wants_same row false e want = refl
 
-    unwanted_same : (row : Row) (b : Bool) → is_own row ≡ b → wants key ≡ false → (b && is_wanted (typed_of setting) row) ≡ false
+    unwanted_same : (row : Row) (b : Bool) → is_own row ≡ b → wants key ≡ false
+        → (b && is_wanted (typed_of setting) row) ≡ false
     unwanted_same row true e none = sym (ap wants ((same_series-Decides key row.key).0 e)) ∙ none
     unwanted_same row false e none = refl
 
@@ -211,7 +221,8 @@ module _ (store : Store) (setting : Setting) (asked : IsAskedOf store setting) (
     every P each [] = tt
     every P each (row ∷ rows) = (each row, every P each rows)
 
-    points_wanted : (rows : List Row) → wants key ≡ true → points_of key (wanted (typed_of setting) rows) ≡ points_of key rows
+    points_wanted : (rows : List Row) → wants key ≡ true → points_of key (wanted (typed_of setting) rows)
+        ≡ points_of key rows
     points_wanted rows want =
         ap (map (λ (row : Row). row.point))
         (filter_twice (is_wanted (typed_of setting)) is_own rows
@@ -227,7 +238,8 @@ module _ (store : Store) (setting : Setting) (asked : IsAskedOf store setting) (
         (every (λ row. (is_own row && is_wanted (typed_of setting) row) ≡ false)
         (λ row. unwanted_same row (is_own row) refl none) rows))
 
-    not_own : (row : Row) (b : Bool) → is_own row ≡ b → wants key ≡ true → is_wanted (typed_of setting) row ≡ false → b ≡ false
+    not_own : (row : Row) (b : Bool) → is_own row ≡ b → wants key ≡ true → is_wanted (typed_of setting) row ≡ false
+        → b ≡ false
     not_own row true e want none =
         let clash : is_wanted (typed_of setting) row ≡ true =
         sym (ap wants ((same_series-Decides key row.key).0 e)) ∙ want in
@@ -245,7 +257,8 @@ module _ (store : Store) (setting : Setting) (asked : IsAskedOf store setting) (
 
   -- ---- the rows of leaves, of which the others have none that is wanted
 
-  module _ (chosen : List SomeLeaves) (leaves : AreLeavesOf store.zones chosen) (once : AreOtherLeaves (all_leaves chosen))
+  module _ (chosen : List SomeLeaves) (leaves : AreLeavesOf store.zones chosen)
+      (once : AreOtherLeaves (all_leaves chosen))
       (left_out : AllByRecursion (IsLeftOut (typed_of setting) exit of chosen) of.resolved) where
     abbrev some : List Row
     some = all_rows (divided_rows (own_rows exit of) of.resolved chosen)
@@ -259,7 +272,8 @@ module _ (store : Store) (setting : Setting) (asked : IsAskedOf store setting) (
         points_wanted key some want
         ∙ divided_points store.held store.zones (own_rows exit of) of.resolved are_resolved key chosen once
         (all-map (IsLeftOut (typed_of setting) exit of chosen)
-        (λ one. list_any (same_leaf one.leaf) (all_leaves chosen) ≡ false → points_of key (own_rows exit of one) ≡ []) of.resolved
+        (λ one. list_any (same_leaf one.leaf) (all_leaves chosen) ≡ false → points_of key (own_rows exit of one) ≡ [])
+        of.resolved
         (λ one out lacks. none_there key (own_rows exit of one) want (out lacks)) left_out)
         ∙ sym (points_wanted key source want)
     points_by key false none = points_unwanted key some none ∙ sym (points_unwanted key source none)
@@ -272,7 +286,8 @@ module _ (store : Store) (setting : Setting) (asked : IsAskedOf store setting) (
 
     some_typed : IsTyped (typed_of setting) some
     some_typed =
-        typed_for store setting asked some (fit_in_all store.held store.zones (own_rows exit of) of.resolved are_resolved chosen)
+        typed_for store setting asked some (fit_in_all store.held store.zones (own_rows exit of) of.resolved
+        are_resolved chosen)
 
     source_typed : IsTyped (typed_of setting) source
     source_typed = typed_for store setting asked source source_fits
@@ -298,7 +313,8 @@ module _ (store : Store) (setting : Setting) (asked : IsAskedOf store setting) (
     meant limit table is = record {
       columns = is.columns;
       rows = IsPermutation-trans _ _ _
-          (IsPermutation-sym (meaning (typed_of setting) some moment) (meaning (typed_of setting) source moment) same_meaning)
+          (IsPermutation-sym (meaning (typed_of setting) some moment) (meaning (typed_of setting) source moment)
+          same_meaning)
           is.rows;
       within = omega (arith, is.within, same_load);
     }

@@ -1,5 +1,7 @@
 -- What a licensed session keeps of a query's looks.
-use Rattle.std.proofs.Common.{◌≡◌, ◌∙◌, ℕ, ℤ, zero, suc, ◌+◌, ◌-◌, ◌<◌, ◌≤◌, Bool, true, false, cond, nat_le, List, [], ◌∷◌, length, map, take, drop, get_or, Some, Ok, Err, Result, Contains, ◌⊎◌, inl, inr, refl, sym, ap, subst, arith}
+use Rattle.std.proofs.Common.{◌≡◌, ◌∙◌, ℕ, ℤ, zero, suc, ◌+◌, ◌-◌, ◌<◌, ◌≤◌, Bool, true, false, cond, nat_le, List, []}
+use Rattle.std.proofs.Common.{◌∷◌, length, map, take, drop, get_or, Some, Ok, Err, Result, Contains, ◌⊎◌, inl, inr}
+use Rattle.std.proofs.Common.{refl, sym, ap, subst, arith}
 use Rattle.std.specs.List.{AllByRecursion as All, list_any}
 use Rattle.std.proofs.lemmas.Bool.{or_parts}
 use Rattle.std.proofs.lemmas.Bool.Decides.{nat_tests}
@@ -122,9 +124,11 @@ module _ (store : Store) (setting : Setting) (moment : ℤ) (at_entry : Historie
         → claim.EndSo store setting at_entry now (Err (fault.StepLimit setting.limit (trace_of course)))
     stops_so course is =
         let so = is.course_is in
-        trace_so store setting at_entry replicated unmet now avoided Anybody course is.k (length zs - is.k) (omega (arith, is.within))
+        trace_so store setting at_entry replicated unmet now avoided Anybody course is.k (length zs - is.k)
+        (omega (arith, is.within))
         (λ some leaf. record {})
-        (span_skips at_entry (claim.wanted store setting) (claim.met store setting) store.buckets_of now.seen avoided Nobody Anybody
+        (span_skips at_entry (claim.wanted store setting) (claim.met store setting) store.buckets_of now.seen avoided
+        Nobody Anybody
         (λ leaf none. record {}) 0 (first_leaf zs is.k) 0 (first_range zs is.k) course.resolved course.looks so.span)
         so.founds so.below_is so.then so.is
 
@@ -133,25 +137,30 @@ module _ (store : Store) (setting : Setting) (moment : ℤ) (at_entry : Historie
     ends_so course is =
         let so = is.behind.course_is in
         trace_so store setting at_entry replicated unmet now avoided Nobody course is.behind.k 0
-        (omega (arith, is.all, is.behind.within)) (λ some leaf. absurd (omega (arith, some))) so.span so.founds so.below_is so.then so.is
+        (omega (arith, is.all, is.behind.within)) (λ some leaf. absurd (omega (arith, some))) so.span so.founds
+        so.below_is so.then so.is
 
-    root_so : (course : Course) (mixed : Result Table OverLimit) → claim.ThroughSo store setting at_entry now avoided course
+    root_so : (course : Course) (mixed : Result Table OverLimit) → claim.ThroughSo store setting at_entry now avoided
+        course
         → StageSo now avoided (root_stage setting course mixed)
     root_so course (Ok table) is = ends_so course is
     root_so course (Err over) is = stops_so course is.behind
 
-    turn_so : (some : Turn) (new : Stage) → claim.TurnSo store setting at_entry now avoided some → TurnSettles setting some new
+    turn_so : (some : Turn) (new : Stage) → claim.TurnSo store setting at_entry now avoided some → TurnSettles setting
+        some new
         → StageSo now avoided new
     turn_so (turn.Goes stage) new so is = subst (λ (one : Stage). StageSo now avoided one) (sym is) so
     turn_so (turn.Through course) new so is =
         subst (λ (one : Stage). StageSo now avoided one) (sym is.stage_is) (root_so course is.mixed so)
 
-    pub zone_so : (course : Course) (mixed : Result ZoneAnswer OverLimit) → claim.BehindSo store setting at_entry now avoided course
+    pub zone_so : (course : Course) (mixed : Result ZoneAnswer OverLimit) → claim.BehindSo store setting at_entry now
+        avoided course
         → claim.TurnSo store setting at_entry now avoided (zone_turn setting course mixed)
     zone_so course (Ok answer) is = behind_next (kept course answer) (kept_so course answer is)
     zone_so course (Err over) is = stops_so course is
 
-    pub settles_so : (some : Step) (new : Stage) → StepSo now avoided some → Settles setting some new → StageSo now avoided new
+    pub settles_so : (some : Step) (new : Stage) → StepSo now avoided some → Settles setting some new
+        → StageSo now avoided new
     settles_so (step.Takes turn) new so is = turn_so turn new so is
     settles_so (step.Gathered course parts) new so is =
         turn_so (zone_turn setting course is.mixed) new (zone_so course is.mixed so) is.settles
@@ -162,15 +171,19 @@ module _ (store : Store) (setting : Setting) (moment : ℤ) (at_entry : Historie
       (sound_before : IsSound store before) (sound : IsSound store after) (avoided : List Leaf) where
     root_by : (loading : Loading) (whole : Bool) → is_whole setting.plan loading ≡ whole → avoided ≡ []
         → claim.LoadedSo store setting at_entry after claim.root_known (length zs) Anyhow loading.words loading.seen
-        → StepSo after avoided (cond whole (spec.on_from setting (course_of setting loading)) (spec.going (at.Rooting loading)))
+        → StepSo after avoided (cond whole (spec.on_from setting (course_of setting loading))
+        (spec.going (at.Rooting loading)))
     root_by loading false e none loaded = record {
       none = none;
-      loaded = loading_from store setting at_entry after claim.root_known (length zs) Anyhow loading.words loading.seen loaded;
+      loaded = loading_from store setting at_entry after claim.root_known (length zs) Anyhow loading.words loading.seen
+          loaded;
     }
     root_by loading true e none loaded =
         let all_words = enough (length setting.plan.buckets) (length loading.words) e in
-        let count : length setting.areas ≡ length zs = ap length areas ∙ length-map-range_with_len (area_of zs) 0 (length zs) in
-        next_so store setting at_entry replicated unmet after avoided (drop 0 setting.areas) (course_of setting loading) 0
+        let count : length setting.areas ≡ length zs = ap length areas ∙ length-map-range_with_len (area_of zs) 0
+        (length zs) in
+        next_so store setting at_entry replicated unmet after avoided (drop 0 setting.areas)
+        (course_of setting loading) 0
         (ap (drop 0) areas) (omega arith) refl (record {
           span = record {
             long = omega arith;
@@ -185,7 +198,8 @@ module _ (store : Store) (setting : Setting) (moment : ℤ) (at_entry : Historie
           below_is = subst (claim.Below (first_leaf zs 0)) (sym none) (record {});
           then = loaded.then;
           is = loaded.is;
-          shut = λ z there out leaf from to. root_shut store setting listed loaded.then loaded.is.sound z there leaf from to
+          shut = λ z there out leaf from to. root_shut store setting listed loaded.then loaded.is.sound z there leaf
+              from to
               loading.words loaded.known all_words
               (subst (λ n. flag_at (let_in setting.plan loading.words n) z ≡ false) count out);
         })
@@ -193,9 +207,12 @@ module _ (store : Store) (setting : Setting) (moment : ℤ) (at_entry : Historie
     -- a zone's first words
     open_by : (course : Course) (round : Round) (loading : Loading) (k : ℕ)
         → claim.InZone store setting at_entry after avoided (first_leaf zs k) k course round → round.resolved ≡ []
-        → claim.LoadedSo store setting at_entry after (claim.zone_known zs k) (area_of zs k).leaves Anyhow loading.words loading.seen
-        → length setting.plan.buckets ≤ length loading.words → (some : Bool) → let_some_in setting round.area loading ≡ some
-        → StepSo after avoided (cond some (resolving course round) (spec.on_from setting (left course round.area loading.seen)))
+        → claim.LoadedSo store setting at_entry after (claim.zone_known zs k) (area_of zs k).leaves Anyhow
+        loading.words loading.seen
+        → length setting.plan.buckets ≤ length loading.words → (some : Bool) → let_some_in setting round.area loading
+        ≡ some
+        → StepSo after avoided (cond some (resolving course round)
+        (spec.on_from setting (left course round.area loading.seen)))
     open_by course round loading k zone none loaded all_words true e =
         let is = zone.course_is in
         resolving_so store setting at_entry replicated unmet after avoided course round k
@@ -203,7 +220,8 @@ module _ (store : Store) (setting : Setting) (moment : ℤ) (at_entry : Historie
           course_is = record {
             span = is.span;
             founds = is.founds;
-            below_is = below_more (first_leaf zs k) (first_leaf zs (k + 1)) (omega (arith, leaves_next zs k zone.there)) avoided
+            below_is = below_more (first_leaf zs k) (first_leaf zs (k + 1))
+                (omega (arith, leaves_next zs k zone.there)) avoided
                 is.below_is;
             then = is.then;
             is = is.is;
@@ -217,14 +235,17 @@ module _ (store : Store) (setting : Setting) (moment : ℤ) (at_entry : Historie
         (record { few = omega arith; ranges = refl; each = record {}; opened = record {} }))
     open_by course round loading k zone none loaded all_words false e =
         let shut : list_any (λ flag. flag) (let_in setting.plan loading.words (area_of zs k).leaves) ≡ false =
-        subst (λ (area : Area). list_any (λ flag. flag) (let_in setting.plan loading.words area.leaves) ≡ false) zone.area e in
+        subst (λ (area : Area). list_any (λ flag. flag) (let_in setting.plan loading.words area.leaves) ≡ false)
+        zone.area e in
         let next : claim.CourseSo store setting at_entry after avoided (first_leaf zs (k + 1)) (k + 1)
         (left course round.area loading.seen) =
         subst (λ (area : Area). claim.CourseSo store setting at_entry after avoided (first_leaf zs (k + 1)) (k + 1)
         (left course area loading.seen))
         (sym zone.area)
-        (left_so store setting at_entry replicated unmet after avoided course k zone.there zone.course_is loading.seen loaded.then loaded.is
-        (λ leaf from to. zone_shut store setting listed loaded.then loaded.is.sound k zone.there leaf from to loading.words
+        (left_so store setting at_entry replicated unmet after avoided course k zone.there zone.course_is loading.seen
+        loaded.then loaded.is
+        (λ leaf from to. zone_shut store setting listed loaded.then loaded.is.sound k zone.there leaf from to
+        loading.words
         loaded.known all_words
         (no_flag (let_in setting.plan loading.words (area_of zs k).leaves) shut (leaf.0 - first_leaf zs k)))) in
         behind_next after avoided (left course round.area loading.seen)
@@ -232,7 +253,8 @@ module _ (store : Store) (setting : Setting) (moment : ℤ) (at_entry : Historie
 
     zone_by : (course : Course) (round : Round) (loading : Loading) (k : ℕ)
         → claim.InZone store setting at_entry after avoided (first_leaf zs k) k course round → round.resolved ≡ []
-        → claim.LoadedSo store setting at_entry after (claim.zone_known zs k) (area_of zs k).leaves Anyhow loading.words loading.seen
+        → claim.LoadedSo store setting at_entry after (claim.zone_known zs k) (area_of zs k).leaves Anyhow
+        loading.words loading.seen
         → (whole : Bool) → is_whole setting.plan loading ≡ whole
         → StepSo after avoided (cond whole (cond (let_some_in setting round.area loading) (resolving course round)
         (spec.on_from setting (left course round.area loading.seen))) (spec.going (at.Entering course round loading)))
@@ -240,7 +262,8 @@ module _ (store : Store) (setting : Setting) (moment : ℤ) (at_entry : Historie
       k = k;
       zone = zone;
       none = none;
-      loaded = loading_from store setting at_entry after (claim.zone_known zs k) (area_of zs k).leaves Anyhow loading.words
+      loaded = loading_from store setting at_entry after (claim.zone_known zs k) (area_of zs k).leaves Anyhow
+          loading.words
           loading.seen loaded;
     }
     zone_by course round loading k zone none loaded true e =
@@ -253,7 +276,8 @@ module _ (store : Store) (setting : Setting) (moment : ℤ) (at_entry : Historie
 
     again_by : (course : Course) (round : Round) (loading : Loading) (k : ℕ)
         → claim.InZone store setting at_entry after avoided (first_leaf zs (k + 1)) k course round
-        → claim.RoundSo store setting at_entry after avoided k round.resolved → length round.resolved ≡ (area_of zs k).ranges
+        → claim.RoundSo store setting at_entry after avoided k round.resolved → length round.resolved
+        ≡ (area_of zs k).ranges
         → claim.LoadedSo store setting at_entry after (claim.zone_known zs k) (area_of zs k).leaves
         (claim.Opened store setting at_entry round.resolved) loading.words loading.seen
         → (whole : Bool) → is_whole setting.plan loading ≡ whole
@@ -269,14 +293,19 @@ module _ (store : Store) (setting : Setting) (moment : ℤ) (at_entry : Historie
     }
     again_by course round loading k zone is all loaded true e =
         let begun : claim.VisitsSo store setting at_entry after avoided k (own (area_of zs k) round)
-        (begin_visits setting (own (area_of zs k) round) loading) (begin_visits setting (own (area_of zs k) round) loading).left =
-        visits_begun store setting at_entry replicated listed unmet after avoided k zone.there round.resolved loading is all loaded
+        (begin_visits setting (own (area_of zs k) round) loading) (begin_visits setting (own (area_of zs k) round)
+        loading).left =
+        visits_begun store setting at_entry replicated listed unmet after avoided k zone.there round.resolved loading
+        is all loaded
         (enough (length setting.plan.buckets) (length loading.words) e) in
-        visiting_so store setting at_entry replicated unmet after avoided course round (begin_visits setting round loading) k zone
+        visiting_so store setting at_entry replicated unmet after avoided course round
+        (begin_visits setting round loading) k zone
         (subst (λ (area : Area). claim.VisitsSo store setting at_entry after avoided k (own area round)
-        (begin_visits setting (own area round) loading) (begin_visits setting (own area round) loading).left) (sym zone.area) begun)
+        (begin_visits setting (own area round) loading) (begin_visits setting (own area round) loading).left)
+        (sym zone.area) begun)
 
-    root_stays : (some others : Bits) → AreBitsWithin some others → (child bucket : ℕ) → claim.root_known some child bucket ≡ true
+    root_stays : (some others : Bits) → AreBitsWithin some others → (child bucket : ℕ) → claim.root_known some child
+        bucket ≡ true
         → claim.root_known others child bucket ≡ true
     root_stays some others within child bucket is = within.root child bucket is
 
@@ -296,29 +325,39 @@ module _ (store : Store) (setting : Setting) (moment : ℤ) (at_entry : Historie
         (tells.known leaf (zone_of_leaf_at zs k child there lt ∙ ap Some (sym zone)) known)
 
     pub word_so : (slots : List RangeSlot) (stage : Stage) (word : ℕ) (seen : Seen) → StageSo before avoided stage
-        → session.IsTrueAnswer store setting moment before after avoided slots (ask_of setting stage) (told.Word word seen)
+        → session.IsTrueAnswer store setting moment before after avoided slots (ask_of setting stage)
+        (told.Word word seen)
         → StepSo after avoided (spec.told_word setting stage word seen)
     word_so slots (at.Rooting loading) word seen is true_then =
         root_by (with_word loading word seen) (is_whole setting.plan (with_word loading word seen)) refl is.none
-        (word_loaded store setting at_entry before after grown since sound_before claim.root_known root_stays (length zs) Anyhow
-        loading.words loading.seen word seen is.loaded true_then.seen_so (λ child lt known. true_then.known child known) (record {}))
+        (word_loaded store setting at_entry before after grown since sound_before claim.root_known root_stays
+        (length zs) Anyhow
+        loading.words loading.seen word seen is.loaded true_then.seen_so (λ child lt known. true_then.known child
+        known) (record {}))
     word_so slots (at.Entering course round loading) word seen is true_then =
         zone_by course round (with_word loading word seen) is.k
-        (claim.zone_on store setting at_entry before after grown avoided (first_leaf zs is.k) is.k course round is.zone) is.none
-        (word_loaded store setting at_entry before after grown since sound_before (claim.zone_known zs is.k) (zone_stays is.k)
+        (claim.zone_on store setting at_entry before after grown avoided (first_leaf zs is.k) is.k course round
+        is.zone) is.none
+        (word_loaded store setting at_entry before after grown since sound_before (claim.zone_known zs is.k)
+        (zone_stays is.k)
         (area_of zs is.k).leaves Anyhow loading.words loading.seen word seen is.loaded true_then.seen_so
-        (zone_tells is.k is.zone.there round.area is.zone.area (get_or setting.plan.buckets (length loading.words) 0) word seen
+        (zone_tells is.k is.zone.there round.area is.zone.area (get_or setting.plan.buckets (length loading.words) 0)
+        word seen
         true_then) (record {}))
         (is_whole setting.plan (with_word loading word seen)) refl
     word_so slots (at.Resolving course round range) word seen is true_then = absurd true_then
     word_so slots (at.Reloading course round loading) word seen is true_then =
         again_by course round (with_word loading word seen) is.k
-        (claim.zone_on store setting at_entry before after grown avoided (first_leaf zs (is.k + 1)) is.k course round is.zone)
+        (claim.zone_on store setting at_entry before after grown avoided (first_leaf zs (is.k + 1)) is.k course round
+        is.zone)
         (claim.round_on store setting at_entry before after grown avoided is.k round.resolved is.round_is) is.whole
-        (word_loaded store setting at_entry before after grown since sound_before (claim.zone_known zs is.k) (zone_stays is.k)
-        (area_of zs is.k).leaves (claim.Opened store setting at_entry round.resolved) loading.words loading.seen word seen is.loaded
+        (word_loaded store setting at_entry before after grown since sound_before (claim.zone_known zs is.k)
+        (zone_stays is.k)
+        (area_of zs is.k).leaves (claim.Opened store setting at_entry round.resolved) loading.words loading.seen word
+        seen is.loaded
         true_then.seen_so
-        (zone_tells is.k is.zone.there round.area is.zone.area (get_or setting.plan.buckets (length loading.words) 0) word seen true_then)
+        (zone_tells is.k is.zone.there round.area is.zone.area (get_or setting.plan.buckets (length loading.words) 0)
+        word seen true_then)
         is.round_is.opened)
         (is_whole setting.plan (with_word loading word seen)) refl
     word_so slots (at.Visiting course round visits leaf) word seen is true_then = absurd true_then
@@ -338,23 +377,29 @@ module _ (store : Store) (setting : Setting) (moment : ℤ) (at_entry : Historie
       first = ap (λ (one : Leaf). one.0) is.visits_are.first ∙ ap (λ (area : Area). area.first_leaf.0) is.zone.area
 
       zone : claim.InZone store setting at_entry after avoided (first_leaf zs (k + 1)) k course round
-      zone = claim.zone_on store setting at_entry before after grown avoided (first_leaf zs (k + 1)) k course round is.zone
+      zone = claim.zone_on store setting at_entry before after grown avoided (first_leaf zs (k + 1)) k course round
+          is.zone
 
       looked_span : (Skip : Leaf → Type 0) (look : Look)
           → IsBetween (length (leaf_history before.seen leaf)) (length (leaf_history after.seen leaf)) look.cut
           → ((other : Leaf) → Contains visits.left other → Skip other)
           → (Skip leaf ⊎ Tells (claim.wanted store setting) (claim.met store setting) store.buckets_of
           (up_to after.seen leaf look) (slots_on leaf round.resolved) look)
-          → claim.Span store setting at_entry after.seen avoided Skip (first_leaf zs k) (first_leaf zs (k + 1)) (first_range zs k)
+          → claim.Span store setting at_entry after.seen avoided Skip (first_leaf zs k) (first_leaf zs (k + 1))
+          (first_range zs k)
           (first_range zs (k + 1)) round.resolved (looked visits leaf look).looks
       looked_span Skip look between others own =
-          subst (claim.Span store setting at_entry after.seen avoided Skip (first_leaf zs k) (first_leaf zs (k + 1)) (first_range zs k)
+          subst (claim.Span store setting at_entry after.seen avoided Skip (first_leaf zs k) (first_leaf zs (k + 1))
+          (first_range zs k)
           (first_range zs (k + 1)) round.resolved) (sym (looked_is visits leaf look (first_leaf zs k) first ours.0))
-          (look_so store setting at_entry before after grown since avoided Skip (first_leaf zs k) (first_leaf zs (k + 1))
-          (first_range zs k) (first_range zs (k + 1)) round.resolved visits.looks leaf visits.left look is.visits_are.span
+          (look_so store setting at_entry before after grown since avoided Skip (first_leaf zs k)
+          (first_leaf zs (k + 1))
+          (first_range zs k) (first_range zs (k + 1)) round.resolved visits.looks leaf visits.left look
+          is.visits_are.span
           ours.0 ours.1 between others own)
 
-      looked_so : (look : Look) → IsBetween (length (leaf_history before.seen leaf)) (length (leaf_history after.seen leaf)) look.cut
+      looked_so : (look : Look) → IsBetween (length (leaf_history before.seen leaf))
+          (length (leaf_history after.seen leaf)) look.cut
           → Tells (claim.wanted store setting) (claim.met store setting) store.buckets_of (up_to after.seen leaf look)
           (slots_on leaf round.resolved) look
           → claim.VisitsSo store setting at_entry after avoided k round (looked visits leaf look) visits.left
@@ -368,38 +413,48 @@ module _ (store : Store) (setting : Setting) (moment : ℤ) (at_entry : Historie
       home cut e there =
           sound.held.at_home leaf e
           (contains_on (leaf_history after.seen leaf) (take cut (leaf_history after.seen leaf)) e
-          (begins_from (leaf_history after.seen leaf) (take cut (leaf_history after.seen leaf)) (drop cut (leaf_history after.seen leaf))
+          (begins_from (leaf_history after.seen leaf) (take cut (leaf_history after.seen leaf))
+          (drop cut (leaf_history after.seen leaf))
           (sym (take-append-drop cut (leaf_history after.seen leaf)))) there)
 
       unread_so : (cut : ℕ) → IsFoundSo before after leaf cut false
           → session.is_met_at store setting moment after leaf cut ≡ false
           → StepSo after avoided (visiting course round (looked visits leaf (unread cut)))
       unread_so cut found out =
-          visiting_so store setting at_entry replicated unmet after avoided course round (looked visits leaf (unread cut)) k zone
+          visiting_so store setting at_entry replicated unmet after avoided course round
+          (looked visits leaf (unread cut)) k zone
           (looked_so (unread cut) found.between
-          (tells_unmet store.held zs store.points replicated (claim.wanted store setting) (claim.met store setting) store.buckets_of unmet
+          (tells_unmet store.held zs store.points replicated (claim.wanted store setting) (claim.met store setting)
+          store.buckets_of unmet
           (take cut (leaf_history after.seen leaf)) (slots_on leaf round.resolved) (unread cut) (home cut) refl out))
 
       read_so : (cut : ℕ) (answer : LeafAnswer) → IsFoundSo before after leaf cut false
           → session.is_met_at store setting moment after leaf cut ≡ true
-          → StepSo after avoided (visiting course round (visit.kept (looked visits leaf (read_at cut answer.sent)) answer))
+          → StepSo after avoided (visiting course round (visit.kept (looked visits leaf (read_at cut answer.sent))
+          answer))
       read_so cut answer found holds =
-          let looks = looked_so (read_at cut answer.sent) found.between (record { unread = λ e. absurd (cc); read = λ e. holds }) in
+          let looks = looked_so (read_at cut answer.sent) found.between
+          (record { unread = λ e. absurd (cc); read = λ e. holds }) in
           visiting_so store setting at_entry replicated unmet after avoided course round
           (visit.kept (looked visits leaf (read_at cut answer.sent)) answer) k zone
           (record { first = looks.first; span = looks.span; ours = looks.ours })
 
       over_so : (cut : ℕ) → IsFoundSo before after leaf cut false
-          → claim.TraceSo store setting at_entry after Anybody (trace_of (with_zone course round (looked visits leaf (unread cut))))
+          → claim.TraceSo store setting at_entry after Anybody
+          (trace_of (with_zone course round (looked visits leaf (unread cut))))
       over_so cut found =
           let so = zone.course_is in
           trace_so store setting at_entry replicated unmet after avoided Anybody
-          (with_zone course round (looked visits leaf (unread cut))) (k + 1) (length zs - (k + 1)) (omega (arith, is.zone.there))
+          (with_zone course round (looked visits leaf (unread cut))) (k + 1) (length zs - (k + 1))
+          (omega (arith, is.zone.there))
           (λ some one. record {})
-          (span_append at_entry (claim.wanted store setting) (claim.met store setting) store.buckets_of after.seen avoided Anybody 0
-          (first_leaf zs k) (first_leaf zs (k + 1)) 0 (first_range zs k) (first_range zs (k + 1)) course.resolved round.resolved
+          (span_append at_entry (claim.wanted store setting) (claim.met store setting) store.buckets_of after.seen
+          avoided Anybody 0
+          (first_leaf zs k) (first_leaf zs (k + 1)) 0 (first_range zs k) (first_range zs (k + 1)) course.resolved
+          round.resolved
           course.looks (looked visits leaf (unread cut)).looks
-          (span_skips at_entry (claim.wanted store setting) (claim.met store setting) store.buckets_of after.seen avoided Nobody Anybody
+          (span_skips at_entry (claim.wanted store setting) (claim.met store setting) store.buckets_of after.seen
+          avoided Nobody Anybody
           (λ one none. record {}) 0 (first_leaf zs k) 0 (first_range zs k) course.resolved course.looks so.span)
           (looked_span Anybody (unread cut) found.between (λ other there. record {}) (inl (record {}))))
           so.founds so.below_is so.then so.is
@@ -411,8 +466,10 @@ module _ (store : Store) (setting : Setting) (moment : ℤ) (at_entry : Historie
         → StepSo after (avoided_after avoided stage answer) (spec.after setting stage answer)
     answer_so slots stage (told.Word word seen) is true_then = word_so slots stage word seen is true_then
     answer_so slots (at.Resolving course round range) (told.Slot slot leaf) is true_then =
-        slot_so store setting at_entry replicated listed unmet before after grown since sound avoided course round range slot leaf
-        (claim.stage_on store setting at_entry before after grown avoided (at.Resolving course round range) is) true_then
+        slot_so store setting at_entry replicated listed unmet before after grown since sound avoided course round
+        range slot leaf
+        (claim.stage_on store setting at_entry before after grown avoided (at.Resolving course round range) is)
+        true_then
     answer_so slots (at.Rooting loading) (told.Slot slot leaf) is true_then = absurd true_then
     answer_so slots (at.Entering course round loading) (told.Slot slot leaf) is true_then = absurd true_then
     answer_so slots (at.Reloading course round loading) (told.Slot slot leaf) is true_then = absurd true_then
@@ -420,15 +477,18 @@ module _ (store : Store) (setting : Setting) (moment : ℤ) (at_entry : Historie
     answer_so slots (at.Ended end) (told.Slot slot leaf) is true_then = absurd true_then
     answer_so slots (at.Resolving course round range) told.NoSlot is true_then =
         none_so store setting at_entry replicated listed unmet before after grown since sound avoided course round range
-        (claim.stage_on store setting at_entry before after grown avoided (at.Resolving course round range) is) true_then
+        (claim.stage_on store setting at_entry before after grown avoided (at.Resolving course round range) is)
+        true_then
     answer_so slots (at.Rooting loading) told.NoSlot is true_then = absurd true_then
     answer_so slots (at.Entering course round loading) told.NoSlot is true_then = absurd true_then
     answer_so slots (at.Reloading course round loading) told.NoSlot is true_then = absurd true_then
     answer_so slots (at.Visiting course round visits leaf) told.NoSlot is true_then = absurd true_then
     answer_so slots (at.Ended end) told.NoSlot is true_then = absurd true_then
     answer_so slots (at.Visiting course round visits leaf) (told.Down cut) is true_then =
-        down_so store setting at_entry replicated listed unmet before after grown since sound avoided course round visits leaf cut
-        (claim.stage_on store setting at_entry before after grown avoided (at.Visiting course round visits leaf) is) true_then
+        down_so store setting at_entry replicated listed unmet before after grown since sound avoided course round
+        visits leaf cut
+        (claim.stage_on store setting at_entry before after grown avoided (at.Visiting course round visits leaf) is)
+        true_then
     answer_so slots (at.Rooting loading) (told.Down cut) is true_then = absurd true_then
     answer_so slots (at.Entering course round loading) (told.Down cut) is true_then = absurd true_then
     answer_so slots (at.Resolving course round range) (told.Down cut) is true_then = absurd true_then
@@ -459,14 +519,16 @@ module _ (store : Store) (setting : Setting) (moment : ℤ) (at_entry : Historie
   -- ---- sessions
 
   -- one licensed answer
-  pub event_so : (before : View) (query : Query) (event : session.Event store setting moment) → AreWithin at_entry before.seen
+  pub event_so : (before : View) (query : Query) (event : session.Event store setting moment) → AreWithin at_entry
+      before.seen
       → IsSound store before → StageSo before query.avoided query.stage
       → session.IsLicensedEvent store setting moment before query event
       → StageSo event.view (avoided_after query.avoided query.stage event.answer) event.stage
   event_so before query event since sound is licensed =
       let avoided = avoided_after query.avoided query.stage event.answer in
       settles_so event.view avoided (spec.after setting query.stage event.answer) event.stage
-      (answer_so before event.view licensed.grown since sound licensed.sound query.avoided (slots_at query) query.stage event.answer is
+      (answer_so before event.view licensed.grown since sound licensed.sound query.avoided (slots_at query) query.stage
+      event.answer is
       licensed.true_then) licensed.goes_on
 
   session_so : (events : List (session.Event store setting moment)) (before : View) (query : Query)
@@ -483,7 +545,8 @@ module _ (store : Store) (setting : Setting) (moment : ℤ) (at_entry : Historie
       (event_so before query event since sound is one) licensed.1
 
   -- where a query ends
-  pub ended_so : (view : View) → view.seen ≡ at_entry → IsSound store view → (events : List (session.Event store setting moment))
+  pub ended_so : (view : View) → view.seen ≡ at_entry → IsSound store view
+      → (events : List (session.Event store setting moment))
       → session.IsLicensed store setting moment view (new_query setting) events
       → StageSo (session.view_after store setting moment view events)
       (session.query_after store setting moment (new_query setting) events).avoided

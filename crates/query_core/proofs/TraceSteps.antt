@@ -1,5 +1,6 @@
 -- What an answer makes of what is known of a query's looks.
-use Rattle.std.proofs.Common.{◌≡◌, ◌∙◌, ℕ, ◌+◌, ◌<◌, ◌≤◌, Bool, true, false, cond, nat_lt, List, [], ◌∷◌, length, drop, Some, None, Contains, inr, refl, sym, ap, subst, arith}
+use Rattle.std.proofs.Common.{◌≡◌, ◌∙◌, ℕ, ◌+◌, ◌<◌, ◌≤◌, Bool, true, false, cond, nat_lt, List, [], ◌∷◌, length, drop}
+use Rattle.std.proofs.Common.{Some, None, Contains, inr, refl, sym, ap, subst, arith}
 use Rattle.std.specs.List.{AllByRecursion as All}
 use Rattle.std.proofs.lemmas.Bool.{ltb-false, ltb-true}
 use Rattle.std.proofs.lemmas.List.{length-drop}
@@ -37,7 +38,8 @@ use Rattle.query_core.specs.declared.stages.Turn.TheVariants as turn
 
 pub below_more : (n m : ℕ) → n ≤ m → (leaves : List Leaf) → Below n leaves → Below m leaves
 below_more n m le leaves below =
-    all_on (λ (leaf : Leaf). leaf.0 < n) (λ (leaf : Leaf). leaf.0 < m) (λ leaf less. omega (arith, less, le)) leaves below
+    all_on (λ (leaf : Leaf). leaf.0 < n) (λ (leaf : Leaf). leaf.0 < m) (λ leaf less. omega (arith, less, le)) leaves
+    below
 
 module _ (store : Store) (setting : Setting) (at_entry : Histories)
     (replicated : (r : ℕ) → r < length (ranges_in store.zones) → HasReplicas store.zones (range_numbered r))
@@ -63,19 +65,23 @@ module _ (store : Store) (setting : Setting) (at_entry : Histories)
       shut = is.shut;
     }
 
-    pub left_so : (course : Course) (k : ℕ) (there : k < length zs) → CourseSo (first_leaf zs k) k course → (seen : Seen)
+    pub left_so : (course : Course) (k : ℕ) (there : k < length zs) → CourseSo (first_leaf zs k) k course
+        → (seen : Seen)
         (then : View) → claim.SeenThen store setting at_entry now seen then
         → ((leaf : Leaf) → first_leaf zs k ≤ leaf.0 → leaf.0 < first_leaf zs (k + 1)
         → claim.met store setting (history_buckets store.buckets_of (leaf_history then.seen leaf)) ≡ false)
         → CourseSo (first_leaf zs (k + 1)) (k + 1) (left course (area_of zs k) seen)
     left_so course k there is seen then was shut = record {
-      span = span_append at_entry (claim.wanted store setting) (claim.met store setting) store.buckets_of now.seen avoided
-          Nobody 0 (first_leaf zs k) (first_leaf zs (k + 1)) 0 (first_range zs k) (first_range zs (k + 1)) course.resolved
+      span = span_append at_entry (claim.wanted store setting) (claim.met store setting) store.buckets_of now.seen
+          avoided
+          Nobody 0 (first_leaf zs k) (first_leaf zs (k + 1)) 0 (first_range zs k) (first_range zs (k + 1))
+          course.resolved
           _ course.looks _ is.span
           (zone_seen store setting at_entry replicated unmet now avoided Nobody seen then was k there is.below_is
           (λ leaf from to. inr (shut leaf from to)));
       founds = is.founds;
-      below_is = below_more (first_leaf zs k) (first_leaf zs (k + 1)) (omega (arith, leaves_next zs k there)) avoided is.below_is;
+      below_is = below_more (first_leaf zs k) (first_leaf zs (k + 1)) (omega (arith, leaves_next zs k there)) avoided
+          is.below_is;
       then = is.then;
       is = is.is;
       shut = is.shut;
@@ -106,7 +112,13 @@ module _ (store : Store) (setting : Setting) (at_entry : Histories)
         → claim.TurnSo store setting at_entry now avoided (next_zone areas course)
     next_so [] course k e within at_k is = record {
       behind = record { k = k; begun = at_k; within = within; course_is = is };
-      all = omega (arith, ap length e, length-drop k (areas_of zs), length-map-range_with_len (area_of zs) 0 (length zs));
+      all = omega (
+        arith,
+        ap length e,
+        length-drop k (areas_of zs),
+        length-map-range_with_len (area_of zs) 0
+            (length zs),
+      );
     }
     next_so (area ∷ areas) course k e within at_k is =
         let there : k < length zs =
@@ -115,8 +127,10 @@ module _ (store : Store) (setting : Setting) (at_entry : Histories)
         let head : area ≡ area_of zs k = cc in
         let rest : areas ≡ drop (k + 1) (areas_of zs) = cc in
         enters course area areas k there head at_k is (is_entered course) (ap (flag_at course.entered) (sym at_k))
-        (λ shut. next_so areas (left (begun course) area course.seen) (k + 1) rest (omega (arith, there)) (ap (λ n. n + 1) at_k)
-        (subst (λ (one : Area). CourseSo (first_leaf zs (k + 1)) (k + 1) (left (begun course) one course.seen)) (sym head)
+        (λ shut. next_so areas (left (begun course) area course.seen) (k + 1) rest (omega (arith, there))
+        (ap (λ n. n + 1) at_k)
+        (subst (λ (one : Area). CourseSo (first_leaf zs (k + 1)) (k + 1) (left (begun course) one course.seen))
+        (sym head)
         (left_so (begun course) k there (begun_so (first_leaf zs k) k course is) course.seen is.then is.is
         (λ leaf from to. is.shut k there shut leaf from to))))
 
@@ -162,10 +176,13 @@ module _ (store : Store) (setting : Setting) (at_entry : Histories)
       begun = zone.begun;
       within = omega (arith, zone.there);
       course_is = record {
-        span = span_append at_entry (claim.wanted store setting) (claim.met store setting) store.buckets_of now.seen avoided
-            Nobody 0 (first_leaf zs k) (first_leaf zs (k + 1)) 0 (first_range zs k) (first_range zs (k + 1)) course.resolved
+        span = span_append at_entry (claim.wanted store setting) (claim.met store setting) store.buckets_of now.seen
+            avoided
+            Nobody 0 (first_leaf zs k) (first_leaf zs (k + 1)) 0 (first_range zs k) (first_range zs (k + 1))
+            course.resolved
             round.resolved course.looks visits.looks zone.course_is.span
-            (span_skips at_entry (claim.wanted store setting) (claim.met store setting) store.buckets_of now.seen avoided
+            (span_skips at_entry (claim.wanted store setting) (claim.met store setting) store.buckets_of now.seen
+            avoided
             (Contains []) Nobody none_pending (first_leaf zs k) (first_leaf zs (k + 1)) (first_range zs k)
             (first_range zs (k + 1)) round.resolved visits.looks is.span);
         founds = zone.course_is.founds;

@@ -1,5 +1,7 @@
 -- What a query knows as ranges resolve and leaves are visited.
-use Rattle.std.proofs.Common.{◌≡◌, ◌∙◌, ℕ, zero, suc, ◌+◌, ◌-◌, ◌<◌, ◌≤◌, Bool, true, false, not, cond, List, [], ◌∷◌, ◌++◌, length, map, filter, take, drop, get_or, slice_get, Some, None, Contains, ◌⊎◌, inl, inr, refl, sym, ap, subst, length-append, arith}
+use Rattle.std.proofs.Common.{◌≡◌, ◌∙◌, ℕ, zero, suc, ◌+◌, ◌-◌, ◌<◌, ◌≤◌, Bool, true, false, not, cond, List, [], ◌∷◌}
+use Rattle.std.proofs.Common.{◌++◌, length, map, filter, take, drop, get_or, slice_get, Some, None, Contains, ◌⊎◌, inl}
+use Rattle.std.proofs.Common.{inr, refl, sym, ap, subst, length-append, arith}
 use Rattle.std.specs.List.{AllByRecursion as All, range_with_len}
 use Rattle.std.proofs.lemmas.Bool.{and_cases}
 use Rattle.std.proofs.lemmas.List.{map-append, take-append-drop, take-take}
@@ -29,7 +31,8 @@ use Rattle.mon_value.specs.declared.positions.SlotLeaf.{SlotLeaf}
 use Rattle.query_core.proofs.FindingLemmas.{no_replica, one_found}
 use Rattle.query_core.proofs.RoundLemmas.{has_at}
 use Rattle.query_core.proofs.SeenSpans.{near_at, resolves_so, seen_cut, tells_unmet}
-use Rattle.query_core.proofs.Spans.{ResolvedSo, StandsAt, StandsIn, Tells, look_at, more_avoided, outside, range_of, up_to}
+use Rattle.query_core.proofs.Spans.{ResolvedSo, StandsAt, StandsIn, Tells, look_at, more_avoided, outside, range_of}
+use Rattle.query_core.proofs.Spans.{up_to}
 use Rattle.query_core.proofs.TraceClaims as claim
 use Rattle.query_core.proofs.TraceClaims.{Anybody, Below}
 use Rattle.query_core.proofs.TraceSteps.{resolving_so}
@@ -41,7 +44,8 @@ use Rattle.query_core.specs.Findings.{HasNoReplica}
 use Rattle.query_core.specs.Looks.{unread}
 use Rattle.query_core.specs.Openings.{flag_at, let_in}
 use Rattle.query_core.specs.Program.{resolving}
-use Rattle.query_core.specs.Rounds.{Round, is_none, is_to_visit, leaves_to_visit, resolution, round_of, slots_by_leaf, slots_on, with_slot}
+use Rattle.query_core.specs.Rounds.{Round, is_none, is_to_visit, leaves_to_visit, resolution, round_of, slots_by_leaf}
+use Rattle.query_core.specs.Rounds.{slots_on, with_slot}
 use Rattle.query_core.specs.Sessions.{IsFoundSo, IsGrown, IsResolvedSo, IsSound, View}
 use Rattle.query_core.specs.Settings.{Setting}
 use Rattle.query_core.specs.Traces.{IsFirst, is_avoided, slot_rows}
@@ -57,9 +61,11 @@ use Rattle.query_core.specs.declared.looks.Look.{Look}
 in_map : {X Y : Type 0} (f : X → Y) (xs : List X) (x : X) → Contains xs x → Contains (map f xs) (f x)
 in_map f [] x there = absurd (omega (arith, there.1))
 in_map f (first ∷ xs) x (zero, l, e) = (zero, omega arith, ap f e)
-in_map f (first ∷ xs) x (suc k, l, e) = Contains-append_right (f first ∷ []) (map f xs) (f x) (in_map f xs x (k, omega (arith, l), e))
+in_map f (first ∷ xs) x (suc k, l, e) = Contains-append_right (f first ∷ []) (map f xs) (f x)
+    (in_map f xs x (k, omega (arith, l), e))
 
-in_filter_by : {X : Type 0} (p : X → Bool) (first x : X) (xs : List X) (b : Bool) → p first ≡ b → (first ≡ x) ⊎ Contains (filter p xs) x
+in_filter_by : {X : Type 0} (p : X → Bool) (first x : X) (xs : List X) (b : Bool) → p first ≡ b → (first ≡ x)
+    ⊎ Contains (filter p xs) x
     → p x ≡ true → Contains (cond b (first ∷ filter p xs) (filter p xs)) x
 in_filter_by p first x xs true e (inl same) h = (zero, omega arith, same)
 in_filter_by p first x xs true e (inr there) h = Contains-append_right (first ∷ []) (filter p xs) x there
@@ -85,7 +91,8 @@ numbers_below base zero = record {}
 numbers_below base (suc n) = (
   (omega arith, omega arith),
   all_on (λ (i : ℕ). (base + 1 ≤ i) × (i < base + 1 + n)) (λ (i : ℕ). (base ≤ i) × (i < base + suc n))
-      (λ i within. (omega (arith, within.0), omega (arith, within.1))) (range_with_len (base + 1) n) (numbers_below (base + 1) n),
+      (λ i within. (omega (arith, within.0), omega (arith, within.1))) (range_with_len (base + 1) n)
+      (numbers_below (base + 1) n),
 )
 
 all_mapped : {X Y : Type 0} (P : Y → Type 0) (f : X → Y) (xs : List X) → All (λ x. P (f x)) xs → All P (map f xs)
@@ -163,7 +170,8 @@ module _ (store : Store) (setting : Setting) (at_entry : Histories)
           };
           first = found.first;
         } in
-        let so = resolves_so store.held zs store.points replicated at_entry after.seen sound.held entry_within k zone.there avoided
+        let so = resolves_so store.held zs store.points replicated at_entry after.seen sound.held entry_within k
+        zone.there avoided
         one (omega (arith, number), omega (arith, number, is.more)) first in
         let count : length round.resolved + 1 ≡ length (round.resolved ++ one ∷ []) =
         omega (arith, length-append round.resolved (one ∷ [])) in
@@ -173,14 +181,17 @@ module _ (store : Store) (setting : Setting) (at_entry : Histories)
           few = omega (arith, is.more, length-append round.resolved (one ∷ []));
           ranges = map-append range_of round.resolved (one ∷ [])
               ∙ ap (λ front. front ++ range ∷ []) is.round_is.ranges
-              ∙ ap (λ (r : Range). map range_numbered (range_with_len (first_range zs k) (length round.resolved)) ++ r ∷ []) is.next
+              ∙ ap (λ (r : Range). map range_numbered (range_with_len (first_range zs k) (length round.resolved))
+              ++ r ∷ []) is.next
               ∙ sym (map-range_with_len_more range_numbered (first_range zs k) (length round.resolved)
               (first_range zs k + length round.resolved) refl)
               ∙ ap (λ n. map range_numbered (range_with_len (first_range zs k) n)) count;
-          each = all_append (ResolvedSo at_entry after.seen avoided (first_leaf zs k) (first_leaf zs (k + 1))) round.resolved
+          each = all_append (ResolvedSo at_entry after.seen avoided (first_leaf zs k) (first_leaf zs (k + 1)))
+              round.resolved
               (one ∷ []) is.round_is.each (so.resolved, record {});
           opened = all_append
-              (λ (one : Resolved). StandsIn (acked (range_history at_entry one.range)) (leaf_history after.seen one.leaf) one)
+              (λ (one : Resolved). StandsIn (acked (range_history at_entry one.range))
+              (leaf_history after.seen one.leaf) one)
               round.resolved (one ∷ []) is.round_is.opened (so.stands, record {});
         })
 
@@ -192,7 +203,8 @@ module _ (store : Store) (setting : Setting) (at_entry : Histories)
         let k = is.k in
         let zone = is.zone in
         let number : range.0 ≡ first_range zs k + length round.resolved = ap (λ (r : Range). r.0) is.next in
-        let zoned = ap (slice_get (range_zones zs)) number ∙ zone_of_range_at zs k (length round.resolved) zone.there is.more in
+        let zoned = ap (slice_get (range_zones zs)) number ∙ zone_of_range_at zs k (length round.resolved) zone.there
+        is.more in
         subst (λ (area : Area). HasNoReplica zs at_entry after.seen range (founds_in course area)) (sym zone.area)
         (no_replica at_entry before after since zs k avoided course.founds range zoned zone.course_is.founds found
         (all_on (λ (replica : SlotLeaf). (first_leaf zs k ≤ replica.leaf.0) × (replica.leaf.0 < first_leaf zs (k + 1)))
@@ -206,7 +218,8 @@ module _ (store : Store) (setting : Setting) (at_entry : Histories)
     pub down_so : (course : Course) (round : Round) (visits : Visits) (leaf : Leaf) (cut : ℕ)
         → claim.VisitingSo store setting at_entry after avoided course round visits (leaf ∷ visits.left)
         → IsFoundSo before after leaf cut true
-        → claim.StepSo store setting at_entry after (avoided ++ leaf ∷ []) (resolving (with_found course leaf cut) (round_of round.area))
+        → claim.StepSo store setting at_entry after (avoided ++ leaf ∷ []) (resolving (with_found course leaf cut)
+        (round_of round.area))
     down_so course round visits leaf cut is found =
         let k = is.k in
         let zone = is.zone in
@@ -223,14 +236,16 @@ module _ (store : Store) (setting : Setting) (at_entry : Histories)
               ranges = span.ranges;
               each = all_on (ResolvedSo at_entry after.seen avoided 0 (first_leaf zs k))
                   (ResolvedSo at_entry after.seen (avoided ++ leaf ∷ []) 0 (first_leaf zs k))
-                  (λ one. resolved_avoiding at_entry after.seen avoided (leaf ∷ []) 0 (first_leaf zs k) (inr ours.0, record {}) one)
+                  (λ one. resolved_avoiding at_entry after.seen avoided (leaf ∷ []) 0 (first_leaf zs k)
+                  (inr ours.0, record {}) one)
                   course.resolved span.each;
               cuts = span.cuts;
               stand = span.stand;
               tells = span.tells;
             };
             founds = one_found at_entry before after since avoided course leaf cut was.founds found;
-            below_is = all_append (λ (one : Leaf). one.0 < first_leaf zs (k + 1)) avoided (leaf ∷ []) was.below_is (ours.1, record {});
+            below_is = all_append (λ (one : Leaf). one.0 < first_leaf zs (k + 1)) avoided (leaf ∷ []) was.below_is
+                (ours.1, record {});
             then = was.then;
             is = was.is;
             shut = was.shut;
@@ -243,8 +258,10 @@ module _ (store : Store) (setting : Setting) (at_entry : Histories)
 
   -- ---- visits begin
 
-  module _ (now : View) (avoided : List Leaf) (k : ℕ) (there : k < length zs) (resolved : List Resolved) (loading : Loading)
-      (is : claim.RoundSo store setting at_entry now avoided k resolved) (whole : length resolved ≡ (area_of zs k).ranges)
+  module _ (now : View) (avoided : List Leaf) (k : ℕ) (there : k < length zs) (resolved : List Resolved)
+      (loading : Loading)
+      (is : claim.RoundSo store setting at_entry now avoided k resolved) (whole : length resolved
+      ≡ (area_of zs k).ranges)
       (loaded : claim.LoadedSo store setting at_entry now (claim.zone_known zs k) (area_of zs k).leaves
       (claim.Opened store setting at_entry resolved) loading.words loading.seen)
       (all_words : length setting.plan.buckets ≤ length loading.words) where
@@ -265,13 +282,15 @@ module _ (store : Store) (setting : Setting) (at_entry : Histories)
 
     base_span : claim.Span store setting at_entry now.seen [] Anybody (first_leaf zs k) (first_leaf zs (k + 1))
         (first_range zs k) (first_range zs (k + 1)) (firsts_seen loading.seen area) (map unread cuts)
-    base_span = zone_seen store setting at_entry replicated unmet now [] Anybody loading.seen loaded.then loaded.is k there
+    base_span = zone_seen store setting at_entry replicated unmet now [] Anybody loading.seen loaded.then loaded.is k
+        there
         (record {}) (λ leaf from to. inl (record {}))
 
     cut_is : (leaf : Leaf) → first_leaf zs k ≤ leaf.0 → leaf.0 < first_leaf zs (k + 1)
         → look_at (first_leaf zs k) (map unread cuts) leaf ≡ unread (length (leaf_history loaded.then.seen leaf))
     cut_is leaf from to =
-        seen_cut store.held zs store.points replicated (claim.wanted store setting) (claim.met store setting) store.buckets_of unmet
+        seen_cut store.held zs store.points replicated (claim.wanted store setting) (claim.met store setting)
+        store.buckets_of unmet
         at_entry loaded.then.seen now.seen loaded.is.sound.held loaded.is.since loaded.is.until [] k there (record {})
         loading.seen.cuts loading.seen.firsts loaded.is.so.cuts loaded.is.so.ranges loaded.is.so.firsts leaf from
         (omega (arith, to, leaves_next zs k there))
@@ -282,8 +301,10 @@ module _ (store : Store) (setting : Setting) (at_entry : Histories)
     stand_by [] each opened = record {}
     stand_by (one ∷ some) each opened =
         let rows = acked (range_history at_entry one.range) in (
-          subst (λ (look : Look). StandsIn rows (up_to now.seen one.leaf look) one) (sym (cut_is one.leaf each.0.from each.0.to))
-              (subst (λ (history : List Entry). StandsIn rows history one) (sym (loaded.is.until.leaves one.leaf)) opened.0),
+          subst (λ (look : Look). StandsIn rows (up_to now.seen one.leaf look) one)
+              (sym (cut_is one.leaf each.0.from each.0.to))
+              (subst (λ (history : List Entry). StandsIn rows history one) (sym (loaded.is.until.leaves one.leaf))
+              opened.0),
           stand_by some each.1 opened.1,
         )
 
@@ -305,25 +326,34 @@ module _ (store : Store) (setting : Setting) (at_entry : Histories)
           → Told (slots_on leaf resolved) (look_at (first_leaf zs k) (map unread cuts) leaf)
       then_told told = subst (Told (slots_on leaf resolved)) (sym (cut_is leaf from to)) told
 
-      bare_told : slots_on leaf resolved ≡ [] → Told (slots_on leaf resolved) (unread (length (leaf_history loaded.then.seen leaf)))
+      bare_told : slots_on leaf resolved ≡ [] → Told (slots_on leaf resolved)
+          (unread (length (leaf_history loaded.then.seen leaf)))
       bare_told none = record {
         unread = λ e. subst (λ (slots : List RangeSlot). All (λ row. claim.wanted store setting row ≡ false)
-            (slot_rows (up_to now.seen leaf (unread (length (leaf_history loaded.then.seen leaf)))) slots)) (sym none) (record {});
+            (slot_rows (up_to now.seen leaf (unread (length (leaf_history loaded.then.seen leaf)))) slots)) (sym none)
+            (record {});
         read = λ e. absurd (cc);
       }
 
-      shut_told : flag_at flags j ≡ false → Told (slots_on leaf resolved) (unread (length (leaf_history loaded.then.seen leaf)))
+      shut_told : flag_at flags j ≡ false → Told (slots_on leaf resolved)
+          (unread (length (leaf_history loaded.then.seen leaf)))
       shut_told out =
-          subst (λ (history : List Entry). Tells (claim.wanted store setting) (claim.met store setting) store.buckets_of history
-          (slots_on leaf resolved) (unread (length (leaf_history loaded.then.seen leaf)))) (sym (loaded.is.until.leaves leaf))
-          (tells_unmet store.held zs store.points replicated (claim.wanted store setting) (claim.met store setting) store.buckets_of unmet
-          (leaf_history loaded.then.seen leaf) (slots_on leaf resolved) (unread (length (leaf_history loaded.then.seen leaf)))
+          subst (λ (history : List Entry). Tells (claim.wanted store setting) (claim.met store setting)
+          store.buckets_of history
+          (slots_on leaf resolved) (unread (length (leaf_history loaded.then.seen leaf))))
+          (sym (loaded.is.until.leaves leaf))
+          (tells_unmet store.held zs store.points replicated (claim.wanted store setting) (claim.met store setting)
+          store.buckets_of unmet
+          (leaf_history loaded.then.seen leaf) (slots_on leaf resolved)
+          (unread (length (leaf_history loaded.then.seen leaf)))
           (λ e here. loaded.is.sound.held.at_home leaf e here) refl
-          (zone_shut store setting listed loaded.then loaded.is.sound k there leaf from to loading.words loaded.known all_words out))
+          (zone_shut store setting listed loaded.then loaded.is.sound k there leaf from to loading.words loaded.known
+          all_words out))
 
       slots_here : get_or (slots_by_leaf area resolved) j [] ≡ slots_on leaf resolved
       slots_here =
-          get_or-map-range_with_len (λ place. slots_on (leaf_at area place) resolved) 0 area.leaves j j [] within (omega arith)
+          get_or-map-range_with_len (λ place. slots_on (leaf_at area place) resolved) 0 area.leaves j j [] within
+          (omega arith)
           ∙ ap (λ (one : Leaf). slots_on one resolved) leaf_is
 
       told_by : (b : Bool) → is_to_visit own flags j ≡ b
@@ -337,7 +367,8 @@ module _ (store : Store) (setting : Setting) (at_entry : Histories)
           (in_filter (is_to_visit own flags) (range_with_len 0 area.leaves) j number e)))
       told_by false e =
           elim (and_cases (not (is_none (get_or (slots_by_leaf area resolved) j []))) (flag_at flags j) e) [
-            | inl none ↦ inr (then_told (bare_told (sym slots_here ∙ none_is (get_or (slots_by_leaf area resolved) j []) none)))
+            | inl none ↦ inr (then_told
+                (bare_told (sym slots_here ∙ none_is (get_or (slots_by_leaf area resolved) j []) none)))
             | inr out ↦ inr (then_told (shut_told out))
           ]
 
@@ -356,7 +387,8 @@ module _ (store : Store) (setting : Setting) (at_entry : Histories)
       };
       ours = all_mapped (λ (leaf : Leaf). (first_leaf zs k ≤ leaf.0) × (leaf.0 < first_leaf zs (k + 1))) (leaf_at area)
           (filter (is_to_visit own flags) (range_with_len 0 area.leaves))
-          (all_filter (λ (i : ℕ). (first_leaf zs k ≤ first_leaf zs k + i) × (first_leaf zs k + i < first_leaf zs (k + 1)))
+          (all_filter (λ (i : ℕ). (first_leaf zs k ≤ first_leaf zs k + i)
+          × (first_leaf zs k + i < first_leaf zs (k + 1)))
           (is_to_visit own flags) (range_with_len 0 area.leaves)
           (all_on (λ (i : ℕ). (0 ≤ i) × (i < 0 + area.leaves))
           (λ (i : ℕ). (first_leaf zs k ≤ first_leaf zs k + i) × (first_leaf zs k + i < first_leaf zs (k + 1)))

@@ -1,8 +1,11 @@
 -- What a query knows once it has loaded words, and of zones that stand as they had been seen.
-use Rattle.std.proofs.Common.{◌≡◌, ◌∙◌, ℕ, zero, suc, ◌+◌, ◌-◌, ◌<◌, ◌≤◌, Bool, true, false, List, [], ◌∷◌, ◌++◌, length, map, take, drop, get_or, slice_get, Some, ◌⊎◌, inl, inr, sym, ap, subst, append_assoc, append-nil, length-append, arith}
+use Rattle.std.proofs.Common.{◌≡◌, ◌∙◌, ℕ, zero, suc, ◌+◌, ◌-◌, ◌<◌, ◌≤◌, Bool, true, false, List, [], ◌∷◌, ◌++◌}
+use Rattle.std.proofs.Common.{length, map, take, drop, get_or, slice_get, Some, ◌⊎◌, inl, inr, sym, ap, subst}
+use Rattle.std.proofs.Common.{append_assoc, append-nil, length-append, arith}
 use Rattle.std.specs.List.{AllByRecursion as All}
 use Rattle.std.proofs.lemmas.Bool.{cases_lt}
-use Rattle.std.proofs.lemmas.List.{drop-drop, drop_all, get_or_append_left, get_or_at, length-map, map-append, take-append-drop}
+use Rattle.std.proofs.lemmas.List.{drop-drop, drop_all, get_or_append_left, get_or_at, length-map, map-append}
+use Rattle.std.proofs.lemmas.List.{take-append-drop}
 use Rattle.std.proofs.lemmas.List.FromFn.{get_or-map-range_with_len, length-map-range_with_len}
 use Rattle.mon_hints.specs.Covers.{AreBitsWithin, Bits}
 use Rattle.mon_hints.specs.Formulas.{all_named, formula_tree, formulas}
@@ -25,8 +28,10 @@ use Rattle.mon_value.specs.declared.positions.Zone.{Zone}
 use Rattle.query_core.proofs.HintFacts.{AreKnown, shut_out}
 use Rattle.query_core.proofs.SeenSpans.{seen_span}
 use Rattle.query_core.proofs.Spans.{span_append}
-use Rattle.query_core.proofs.TraceClaims.{Below, KnownOf, LoadedSo, LoadingSo, SeenThen, Span, met, root_known, then_on, wanted, zone_known}
-use Rattle.query_core.proofs.ZoneFacts.{all_leaves, all_ranges, leaves_next, ranges_next, so_far, zone_of_leaf_at}
+use Rattle.query_core.proofs.TraceClaims.{Below, KnownOf, LoadedSo, LoadingSo, SeenThen, Span, met, root_known}
+use Rattle.query_core.proofs.TraceClaims.{then_on, wanted, zone_known}
+use Rattle.mon_topo.proofs.SizeLemmas.{parts_so_far}
+use Rattle.query_core.proofs.ZoneFacts.{all_leaves, all_ranges, leaves_next, ranges_next, zone_of_leaf_at}
 use Rattle.query_core.specs.Areas.{area_of}
 use Rattle.query_core.specs.Courses.{cuts_seen, firsts_seen}
 use Rattle.query_core.specs.Loadings.{seen_first}
@@ -59,7 +64,8 @@ more_words known count named words word all tells i l child lt is =
     ]
 
 module _ (store : Store) (setting : Setting) (at_entry : Histories) where
-  pub loading_from : (now : View) (known_of : KnownOf) (count : ℕ) (Also : Histories → Type 0) (words : List ℕ) (seen : Seen)
+  pub loading_from : (now : View) (known_of : KnownOf) (count : ℕ) (Also : Histories → Type 0) (words : List ℕ)
+      (seen : Seen)
       → LoadedSo store setting at_entry now known_of count Also words seen
       → LoadingSo store setting at_entry now known_of count Also words seen
   loading_from now known_of count Also [] seen is = record {}
@@ -73,7 +79,8 @@ module _ (store : Store) (setting : Setting) (at_entry : Histories) where
     -- what had been seen by the first word is what counts
     pub word_loaded : (words : List ℕ) (seen : Seen) (word : ℕ) (told : Seen)
         → LoadingSo store setting at_entry before known_of count Also words seen → IsSeenSo before.seen told
-        → ((child : ℕ) → child < count → known_of before.bits child (get_or setting.plan.buckets (length words) 0) ≡ true
+        → ((child : ℕ) → child < count → known_of before.bits child (get_or setting.plan.buckets (length words) 0)
+        ≡ true
         → has_bit word child ≡ true)
         → Also before.seen
         → LoadedSo store setting at_entry after known_of count Also (words ++ word ∷ []) (seen_first words seen told)
@@ -124,20 +131,23 @@ module _ (store : Store) (setting : Setting)
           arith,
           to,
           leaves_next store.zones z there,
-          so_far (λ (zone : ZoneSpec). zone.leaves) store.zones z no_zone there,
+          parts_so_far (λ (zone : ZoneSpec). zone.leaves) store.zones z no_zone there,
           sound.held.all_leaves,
         ) in
         let is = sound.covered leaf within bucket here in
         (subst (λ (n : ℕ). then.bits.root n bucket ≡ true) zone_is is.at_root, is.in_zone)
 
     pub root_shut : (words : List ℕ) → AreKnown (root_known then.bits) (length store.zones) setting.plan.buckets words
-        → length setting.plan.buckets ≤ length words → flag_at (let_in setting.plan words (length store.zones)) z ≡ false
+        → length setting.plan.buckets ≤ length words → flag_at (let_in setting.plan words (length store.zones)) z
+        ≡ false
         → met store setting (history_buckets store.buckets_of (leaf_history then.seen leaf)) ≡ false
     root_shut words known long out =
         shut_out (formulas (map formula_tree setting.plan.formulas)) (root_known then.bits) (length store.zones)
-        setting.plan.buckets words (history_buckets store.buckets_of (leaf_history then.seen leaf)) z listed known there long
+        setting.plan.buckets words (history_buckets store.buckets_of (leaf_history then.seen leaf)) z listed known
+        there long
         (λ bucket here. (covered bucket here).0)
-        (sym (get_or-map-range_with_len (lets_in setting.plan words) 0 (length store.zones) z z false there (omega arith)) ∙ out)
+        (sym (get_or-map-range_with_len (lets_in setting.plan words) 0 (length store.zones) z z false there
+        (omega arith)) ∙ out)
 
     pub zone_shut : (words : List ℕ)
         → AreKnown (zone_known store.zones z then.bits) (area_of store.zones z).leaves setting.plan.buckets words
@@ -150,7 +160,8 @@ module _ (store : Store) (setting : Setting)
         (area_of store.zones z).leaves setting.plan.buckets words
         (history_buckets store.buckets_of (leaf_history then.seen leaf)) place listed known in_zone long
         (λ bucket here. subst (λ (n : ℕ). then.bits.zone n bucket ≡ true) same (covered bucket here).1)
-        (sym (get_or-map-range_with_len (lets_in setting.plan words) 0 (area_of store.zones z).leaves place place false in_zone
+        (sym (get_or-map-range_with_len (lets_in setting.plan words) 0 (area_of store.zones z).leaves place place false
+        in_zone
         (omega arith)) ∙ out)
 
 -- ---- zones that stand as they had been seen
@@ -169,9 +180,12 @@ module _ (store : Store) (setting : Setting) (at_entry : Histories)
       (first_range store.zones k) (first_range store.zones (k + 1)) (firsts_seen seen (area_of store.zones k))
       (map unread (cuts_seen seen (area_of store.zones k)))
   zone_seen k there below shut =
-      seen_span store.held store.zones store.points replicated (wanted store setting) (met store setting) store.buckets_of
-      unmet at_entry then.seen now.seen is.sound.held is.since is.until avoided k there below seen.cuts seen.firsts is.so.cuts
-      is.so.ranges is.so.firsts Skip (λ leaf from to. shut leaf from (omega (arith, to, leaves_next store.zones k there)))
+      seen_span store.held store.zones store.points replicated (wanted store setting) (met store setting)
+      store.buckets_of
+      unmet at_entry then.seen now.seen is.sound.held is.since is.until avoided k there below seen.cuts seen.firsts
+      is.so.cuts
+      is.so.ranges is.so.firsts Skip (λ leaf from to. shut leaf from
+      (omega (arith, to, leaves_next store.zones k there)))
 
   split : {X : Type 0} (n m next : ℕ) (xs : List X) → n + m ≡ next → drop n xs ≡ take m (drop n xs) ++ drop next xs
   split n m next xs e =
@@ -188,7 +202,8 @@ module _ (store : Store) (setting : Setting) (at_entry : Histories)
   pub rest_seen : (n k : ℕ) (resolved : List Resolved) (looks : List Look) → k + n ≡ length store.zones
       → (0 < n → (leaf : Leaf) → Skip leaf)
       → Below (first_leaf store.zones k) avoided
-      → Span store setting at_entry now.seen avoided Skip 0 (first_leaf store.zones k) 0 (first_range store.zones k) resolved looks
+      → Span store setting at_entry now.seen avoided Skip 0 (first_leaf store.zones k) 0 (first_range store.zones k)
+      resolved looks
       → Span store setting at_entry now.seen avoided Skip 0 (first_leaf store.zones (length store.zones)) 0
       (first_range store.zones (length store.zones)) (resolved ++ rest_resolved k) (looks ++ rest_looks k)
   rest_seen zero k resolved looks e skips below span =
@@ -217,7 +232,8 @@ module _ (store : Store) (setting : Setting) (at_entry : Histories)
       (subst (λ (more : List Resolved). Span store setting at_entry now.seen avoided Skip 0 (first_leaf store.zones k) 0
       (first_range store.zones k) more (looks ++ rest_looks k))
       (sym (append-nil resolved) ∙ ap (λ more. resolved ++ more) (sym no_firsts))
-      (subst (Span store setting at_entry now.seen avoided Skip 0 (first_leaf store.zones k) 0 (first_range store.zones k) resolved)
+      (subst (Span store setting at_entry now.seen avoided Skip 0 (first_leaf store.zones k) 0
+      (first_range store.zones k) resolved)
       (sym (append-nil looks) ∙ ap (λ more. looks ++ more) (sym no_cuts)) span))
   rest_seen (suc n) k resolved looks e skips below span =
       let there : k < length store.zones = omega (arith, e) in
@@ -225,8 +241,10 @@ module _ (store : Store) (setting : Setting) (at_entry : Histories)
       let own = firsts_seen seen area in
       let own_looks = map unread (cuts_seen seen area) in
       let own_span = zone_seen k there below (λ leaf from to. inl (skips (omega arith) leaf)) in
-      let both = span_append at_entry (wanted store setting) (met store setting) store.buckets_of now.seen avoided Skip 0
-      (first_leaf store.zones k) (first_leaf store.zones (k + 1)) 0 (first_range store.zones k) (first_range store.zones (k + 1))
+      let both = span_append at_entry (wanted store setting) (met store setting) store.buckets_of now.seen avoided Skip
+      0
+      (first_leaf store.zones k) (first_leaf store.zones (k + 1)) 0 (first_range store.zones k)
+      (first_range store.zones (k + 1))
       resolved own looks own_looks span own_span in
       let next_range : first_range store.zones k + area.ranges ≡ first_range store.zones (k + 1) =
       sym (ranges_next store.zones k there) in
@@ -238,14 +256,17 @@ module _ (store : Store) (setting : Setting) (at_entry : Histories)
       (sym (split (first_range store.zones k) area.ranges (first_range store.zones (k + 1)) seen.firsts next_range)) in
       let looks_same : (looks ++ own_looks) ++ rest_looks (k + 1) ≡ looks ++ rest_looks k =
       append_assoc looks own_looks (rest_looks (k + 1))
-      ∙ ap (λ more. looks ++ more) (sym (map-append unread (cuts_seen seen area) (drop (first_leaf store.zones (k + 1)) seen.cuts)))
+      ∙ ap (λ more. looks ++ more)
+      (sym (map-append unread (cuts_seen seen area) (drop (first_leaf store.zones (k + 1)) seen.cuts)))
       ∙ ap (λ more. looks ++ map unread more)
       (sym (split (first_leaf store.zones k) area.leaves (first_leaf store.zones (k + 1)) seen.cuts next_leaf)) in
       subst (λ (more : List Resolved). Span store setting at_entry now.seen avoided Skip 0
-      (first_leaf store.zones (length store.zones)) 0 (first_range store.zones (length store.zones)) more (looks ++ rest_looks k))
+      (first_leaf store.zones (length store.zones)) 0 (first_range store.zones (length store.zones)) more
+      (looks ++ rest_looks k))
       resolved_same
       (subst (Span store setting at_entry now.seen avoided Skip 0 (first_leaf store.zones (length store.zones)) 0
       (first_range store.zones (length store.zones)) ((resolved ++ own) ++ rest_resolved (k + 1))) looks_same
       (rest_seen n (k + 1) (resolved ++ own) (looks ++ own_looks) (omega (arith, e)) (λ some. skips (omega arith))
-      (all_on (λ (leaf : Leaf). leaf.0 < first_leaf store.zones k) (λ (leaf : Leaf). leaf.0 < first_leaf store.zones (k + 1))
+      (all_on (λ (leaf : Leaf). leaf.0 < first_leaf store.zones k) (λ (leaf : Leaf). leaf.0 < first_leaf store.zones
+      (k + 1))
       (λ leaf less. omega (arith, less, next_leaf)) avoided below) both))

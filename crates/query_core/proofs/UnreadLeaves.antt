@@ -1,5 +1,6 @@
 -- Rows on leaves that were not read, of which none is wanted.
-use Rattle.std.proofs.Common.{◌≡◌, ◌∙◌, ◌<◌, ◌+◌, ℕ, ℤ, suc, Bool, true, false, cond, List, [], ◌∷◌, ◌++◌, length, map, take, drop, get_or, refl, sym, ap, subst, append-nil, arith}
+use Rattle.std.proofs.Common.{◌≡◌, ◌∙◌, ◌<◌, ◌+◌, ℕ, ℤ, suc, Bool, true, false, cond, List, [], ◌∷◌, ◌++◌, length, map}
+use Rattle.std.proofs.Common.{take, drop, get_or, refl, sym, ap, subst, append-nil, arith}
 use Rattle.std.specs.List.{AllByRecursion, filter, flat_map, list_any}
 use Rattle.std.proofs.lemmas.Bool.{false≢true}
 use Rattle.std.proofs.lemmas.Bool.Decides.{nat_tests}
@@ -25,7 +26,8 @@ use Rattle.query_core.proofs.DividedRows.{SomeLeaves, all_both, all_leaves, rows
 use Rattle.query_core.proofs.ReadLeaves.{cuts_of, flags_of}
 use Rattle.query_core.proofs.TraceRows.{IsLeftOut, on_leaf, own_rows}
 use Rattle.query_core.proofs.ThroughZones.{IsThrough, trace_ranges}
-use Rattle.query_core.proofs.ZoneRows.{AllZoned, IsZoned, get_front, no_slots, none_behind, ranges_above, ranges_later, slots_append}
+use Rattle.query_core.proofs.ZoneRows.{AllZoned, IsZoned, get_front, no_slots, none_behind, ranges_above, ranges_later}
+use Rattle.query_core.proofs.ZoneRows.{slots_append}
 
 -- ---- rows that are not wanted
 
@@ -34,7 +36,8 @@ module _ (exit : Histories) (of : Trace) (P : Row → Type 0) where
   AllOnLeaf some leaf = AllByRecursion P (rows_at (own_rows exit of) some leaf)
 
   front_by : (one : Resolved) (some : List Resolved) (b : Bool) → b ≡ true
-      → AllByRecursion P (flat_map (own_rows exit of) (cond b (one ∷ some) some)) → AllByRecursion P (own_rows exit of one)
+      → AllByRecursion P (flat_map (own_rows exit of) (cond b (one ∷ some) some)) → AllByRecursion P
+      (own_rows exit of one)
   front_by one some true e all = (all-front P (own_rows exit of one) (flat_map (own_rows exit of) some) all).0
   front_by one some false e all = absurd (false≢true e)
 
@@ -50,7 +53,8 @@ module _ (exit : Histories) (of : Trace) (P : Row → Type 0) where
   own_on_leaf [] = tt
   own_on_leaf (one ∷ some) =
       let same : same_leaf one.leaf one.leaf ≡ true = grind (arith, nat_tests) in (
-        front_by one (filter (λ (other : Resolved). same_leaf other.leaf one.leaf) some) (same_leaf one.leaf one.leaf) same,
+        front_by one (filter (λ (other : Resolved). same_leaf other.leaf one.leaf) some) (same_leaf one.leaf one.leaf)
+            same,
         all-map (λ (other : Resolved). AllOnLeaf some other.leaf → AllByRecursion P (own_rows exit of other))
             (λ (other : Resolved). AllOnLeaf (one ∷ some) other.leaf → AllByRecursion P (own_rows exit of other)) some
             (λ other holds all. holds (rest_by one (filter (λ (own : Resolved). same_leaf own.leaf other.leaf) some)
@@ -72,7 +76,8 @@ module _ (store : Store) (setting : Setting) (moment : ℤ) (exit : Histories) w
   -- ---- what a course knows of the leaves that it did not read, by its trace
 
   tells_on_leaf : (k : ℕ) (course : Course) → IsThrough setting moment store.zones exit k course
-      → AllZoned store.zones (trace_of course).resolved → TellsOf setting exit course → (leaf : Leaf) → leaf.0 < first_leaf store.zones k
+      → AllZoned store.zones (trace_of course).resolved → TellsOf setting exit course → (leaf : Leaf) → leaf.0
+      < first_leaf store.zones k
       → get_or (flags_of course.looks) leaf.0 false ≡ false
       → AllByRecursion Unwanted (rows_at (own_rows exit (trace_of course)) (trace_of course).resolved leaf)
   tells_on_leaf k course so zoned tells leaf below flag =
@@ -94,7 +99,8 @@ module _ (store : Store) (setting : Setting) (moment : ℤ) (exit : Histories) w
       let cut : get_or (cuts_of course.looks) leaf.0 0 ≡ cut_of of leaf =
       sym (ap (λ cuts. get_or cuts leaf.0 0) (map-append (λ (look : Look). look.cut) course.looks rest)
       ∙ get_front (cuts_of course.looks) (cuts_of rest) leaf.0 0 within) in
-      let rows : slot_rows (take (get_or (cuts_of course.looks) leaf.0 0) (leaf_history exit leaf)) (slots_on leaf course.resolved)
+      let rows : slot_rows (take (get_or (cuts_of course.looks) leaf.0 0) (leaf_history exit leaf))
+      (slots_on leaf course.resolved)
       ≡ rows_at (own_rows exit of) of.resolved leaf =
       (λ i. slot_rows (take (cut i) (leaf_history exit leaf)) (slots i)) ∙ sym (on_leaf exit of leaf) in
       subst (AllByRecursion Unwanted) rows (tells leaf (omega (arith, below, so.leaves_count)) flag)
@@ -106,13 +112,15 @@ module _ (store : Store) (setting : Setting) (moment : ℤ) (exit : Histories) w
   -- leaves that are not among some, which have all that were read
   pub left_out_by : (k : ℕ) (course : Course) → IsThrough setting moment store.zones exit k course
       → AllZoned store.zones (trace_of course).resolved → TellsOf setting exit course → (chosen : List SomeLeaves)
-      → ((leaf : Leaf) → list_any (same_leaf leaf) (all_leaves chosen) ≡ false → leaf.0 < length (leaf_zones store.zones)
+      → ((leaf : Leaf) → list_any (same_leaf leaf) (all_leaves chosen) ≡ false → leaf.0
+      < length (leaf_zones store.zones)
       → (leaf.0 < first_leaf store.zones k) × (get_or (flags_of course.looks) leaf.0 false ≡ false))
       → AllByRecursion (IsLeftOut (typed_of setting) exit (trace_of course) chosen) (trace_of course).resolved
   left_out_by k course so zoned tells chosen rest =
       let of = trace_of course in
       all_both (IsZoned store.zones)
-      (λ (one : Resolved). AllOnLeaf exit of Unwanted of.resolved one.leaf → AllByRecursion Unwanted (own_rows exit of one))
+      (λ (one : Resolved). AllOnLeaf exit of Unwanted of.resolved one.leaf → AllByRecursion Unwanted
+      (own_rows exit of one))
       (IsLeftOut (typed_of setting) exit of chosen) of.resolved
       (λ one zone on lacks. (let known = rest one.leaf lacks zone.0 in
       on (tells_on_leaf k course so zoned tells one.leaf known.0 known.1)))

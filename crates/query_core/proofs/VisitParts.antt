@@ -1,5 +1,6 @@
 -- What a query keeps of its leaves' answers as leaves are visited.
-use Rattle.std.proofs.Common.{◌≡◌, ◌∙◌, ◌≤◌, ◌+◌, ◌-◌, inl, inr, ℕ, ℤ, Bool, true, false, cond, Option, List, [], ◌∷◌, ◌++◌, length, map, filter, take, drop, set, nat_le, refl, sym, ap, subst, arith}
+use Rattle.std.proofs.Common.{◌≡◌, ◌∙◌, ◌≤◌, ◌+◌, ◌-◌, inl, inr, ℕ, ℤ, Bool, true, false, cond, Option, List, [], ◌∷◌}
+use Rattle.std.proofs.Common.{◌++◌, length, map, filter, take, drop, set, nat_le, refl, sym, ap, subst, arith}
 use Rattle.std.specs.List.{AllByRecursion, range_with_len}
 use Rattle.std.proofs.lemmas.Bool.Decides.{nat_tests}
 use Rattle.std.proofs.lemmas.List.{length-set, map-append}
@@ -31,7 +32,8 @@ use Rattle.query_core.specs.Settings.{Setting}
 use Rattle.query_core.specs.Traces.{slot_rows}
 use Rattle.query_core.specs.Visits as visit
 use Rattle.query_core.specs.Visits.{Visits, looked}
-use Rattle.query_core.proofs.ReadLeaves.{IsUnread, LeafRead, SendsNothing, all_set, behind_set, fewer_unread, leaf_read, no_reads, reads_from, set_read, set_unread}
+use Rattle.query_core.proofs.ReadLeaves.{IsUnread, LeafRead, SendsNothing, all_set, behind_set, fewer_unread}
+use Rattle.query_core.proofs.ReadLeaves.{leaf_read, no_reads, reads_from, set_read, set_unread}
 use Rattle.query_core.proofs.RoundLemmas.{has_at}
 use Rattle.query_core.proofs.SegmentFacts.{PartsSo, SeenSo, IsSent, IsWithin, behind_on, parts_on, passed_so, read_rows}
 use Rattle.query_core.proofs.StageLemmas.{slots_here}
@@ -42,7 +44,8 @@ module _ (store : Store) (setting : Setting) (moment : ℤ) where
   -- ---- a leaf is looked at
 
   -- what is known of the leaves is set at the leaf's place
-  pub looks_at : (round : Round) (visits : Visits) (leaf : Leaf) (place : ℕ) (look : Look) → visits.first ≡ round.area.first_leaf
+  pub looks_at : (round : Round) (visits : Visits) (leaf : Leaf) (place : ℕ) (look : Look) → visits.first
+      ≡ round.area.first_leaf
       → leaf ≡ leaf_at round.area place → (looked visits leaf look).looks ≡ set visits.looks place look
   looks_at round visits leaf place look first is =
       let from : visits.first.0 ≡ round.area.first_leaf.0 = ap (λ (leaf : Leaf). leaf.0) first in
@@ -62,11 +65,14 @@ module _ (store : Store) (setting : Setting) (moment : ℤ) where
       let is : looks ≡ (looked visits leaf (unread cut)).looks =
       sym (looks_at round visits leaf so.place (unread cut) all.first so.is) in
       let same : reads_from round.area.first_leaf.0 visits.looks ≡ reads_from round.area.first_leaf.0 looks =
-      sym (set_unread round.area.first_leaf.0 visits.looks so.place cut (omega (arith, so.there, all.count)) all.not_yet) in
+      sym (set_unread round.area.first_leaf.0 visits.looks so.place cut (omega (arith, so.there, all.count))
+      all.not_yet) in
       let parts : PartsSo setting moment now round.resolved round.area.first_leaf.0 looks visits.answers = record {
-        within = subst (λ (reads : List LeafRead). AllByRecursion (IsWithin setting moment now) reads) same all.parts.within;
+        within = subst (λ (reads : List LeafRead). AllByRecursion (IsWithin setting moment now) reads) same
+            all.parts.within;
         each = subst (λ (reads : List LeafRead). AllLeafParts (typed_of setting)
-            (map (read_rows setting moment now round.resolved) reads) moment setting.limit visits.answers) same all.parts.each;
+            (map (read_rows setting moment now round.resolved) reads) moment setting.limit visits.answers) same
+            all.parts.each;
         sends = subst (λ (reads : List LeafRead). AllByRecursion (IsSent setting moment now round.resolved) reads) same
             all.parts.sends;
         silent = all_set SendsNothing visits.looks so.place (unread cut) all.parts.silent (λ e. refl);
@@ -112,18 +118,21 @@ module _ (store : Store) (setting : Setting) (moment : ℤ) where
         ap (λ (slots : List RangeSlot). slot_rows (take cut (leaf_history now leaf)) slots) (slots_here round leaf here)
         ∙ ap (λ (l : Leaf). slot_rows (take cut (leaf_history now l)) (slots_on l round.resolved)) leaf_is
 
-    own_part : IsLeafPart (typed_of setting) (read_rows setting moment now round.resolved one) moment setting.limit answer
+    own_part : IsLeafPart (typed_of setting) (read_rows setting moment now round.resolved one) moment setting.limit
+        answer
     own_part = subst (λ (rows : List Row). IsLeafPart (typed_of setting) rows moment setting.limit answer) own_rows is
 
     abbrev looks_now : List Look
     looks_now = set visits.looks so.place (read_at cut answer.sent)
 
-    reads_more : reads_from round.area.first_leaf.0 visits.looks ++ one ∷ [] ≡ reads_from round.area.first_leaf.0 looks_now
+    reads_more : reads_from round.area.first_leaf.0 visits.looks ++ one ∷ [] ≡ reads_from round.area.first_leaf.0
+        looks_now
     reads_more =
         sym (set_read round.area.first_leaf.0 visits.looks so.place cut answer.sent
         (omega (arith, so.there, so.visits_so.count)) so.visits_so.not_yet)
 
-    parts_more : PartsSo setting moment now round.resolved round.area.first_leaf.0 looks_now (visits.answers ++ answer ∷ [])
+    parts_more : PartsSo setting moment now round.resolved round.area.first_leaf.0 looks_now (visits.answers
+        ++ answer ∷ [])
     parts_more =
         let before = so.visits_so.parts in
         let reads = reads_from round.area.first_leaf.0 visits.looks in
@@ -132,19 +141,23 @@ module _ (store : Store) (setting : Setting) (moment : ℤ) where
               (all-append (IsWithin setting moment now) reads (one ∷ []) before.within
               (subst (λ (l : Leaf). cut ≤ length (leaf_history now l)) leaf_is within, tt));
           each = subst (λ (reads : List LeafRead). AllLeafParts (typed_of setting)
-              (map (read_rows setting moment now round.resolved) reads) moment setting.limit (visits.answers ++ answer ∷ []))
+              (map (read_rows setting moment now round.resolved) reads) moment setting.limit (visits.answers
+              ++ answer ∷ []))
               reads_more
               (subst (λ (rows : List (List Row)).
               AllLeafParts (typed_of setting) rows moment setting.limit (visits.answers ++ answer ∷ []))
               (sym (map-append (read_rows setting moment now round.resolved) reads (one ∷ [])))
               (parts_push (map (read_rows setting moment now round.resolved) reads) visits.answers
               (read_rows setting moment now round.resolved one) answer before.each own_part));
-          sends = subst (λ (reads : List LeafRead). AllByRecursion (IsSent setting moment now round.resolved) reads) reads_more
-              (all-append (IsSent setting moment now round.resolved) reads (one ∷ []) before.sends (own_part.sent_is, tt));
+          sends = subst (λ (reads : List LeafRead). AllByRecursion (IsSent setting moment now round.resolved) reads)
+              reads_more
+              (all-append (IsSent setting moment now round.resolved) reads (one ∷ []) before.sends
+              (own_part.sent_is, tt));
           silent = all_set SendsNothing visits.looks so.place (read_at cut answer.sent) before.silent (λ e. absurd cc);
         }
 
-    pub read_so : VisitsSo store setting moment now round (visit.kept (looked visits leaf (read_at cut answer.sent)) answer)
+    pub read_so : VisitsSo store setting moment now round (visit.kept (looked visits leaf (read_at cut answer.sent))
+        answer)
         (so.place + 1) (so.place + 1)
     read_so =
         let all = so.visits_so in
@@ -176,7 +189,8 @@ module _ (store : Store) (setting : Setting) (moment : ℤ) where
       here = inside.here;
     }
 
-    pub visit_on : (round : Round) (visits : Visits) (leaf : Leaf) → VisitSo store setting moment before round visits leaf
+    pub visit_on : (round : Round) (visits : Visits) (leaf : Leaf) → VisitSo store setting moment before round visits
+        leaf
         → VisitSo store setting moment after round visits leaf
     visit_on round visits leaf so =
         let all = so.visits_so in
@@ -199,12 +213,14 @@ module _ (store : Store) (setting : Setting) (moment : ℤ) where
 
 module _ (store : Store) (setting : Setting) (moment : ℤ) (Tells : Histories → Course → Type 0) where
   leaf_by : (now : Histories) (course : Course) (round : Round) (visits : Visits) (from place : ℕ)
-      (so : VisitsSo store setting moment now round visits from from) → CourseIn store setting moment now course round.area
+      (so : VisitsSo store setting moment now round visits from from) → CourseIn store setting moment now course
+      round.area
       → RoundWhole store setting moment round → IsNextPlace so.test from so.more place
       → StepParts store setting moment Tells now (visiting course round visits)
   leaf_by now course round visits from place so inside whole next =
       let rest : List Leaf = map (leaf_at round.area) (filter so.test (range_with_len (place + 1) next.rest)) in
-      let left_is : visits.left ≡ leaf_at round.area place ∷ rest = so.left_is ∙ ap (map (leaf_at round.area)) next.is in
+      let left_is : visits.left ≡ leaf_at round.area place ∷ rest = so.left_is ∙ ap (map (leaf_at round.area))
+      next.is in
       subst (λ (o : Option Leaf). StepParts store setting moment Tells now (spec.visiting_at course round visits o))
       (sym (ap visit.first_left left_is)) (
         inside,
@@ -227,7 +243,8 @@ module _ (store : Store) (setting : Setting) (moment : ℤ) (Tells : Histories �
       )
 
   visiting_by : (now : Histories) (course : Course) (round : Round) (visits : Visits) (from : ℕ)
-      (so : VisitsSo store setting moment now round visits from from) → CourseIn store setting moment now course round.area
+      (so : VisitsSo store setting moment now round visits from from) → CourseIn store setting moment now course
+      round.area
       → RoundWhole store setting moment round → MaybePlace so.test from so.more
       → StepParts store setting moment Tells now (visiting course round visits)
   visiting_by now course round visits from so inside whole (inl none) =
@@ -257,10 +274,12 @@ module _ (store : Store) (setting : Setting) (moment : ℤ) (Tells : Histories �
       → CourseIn store setting moment now course round.area → SeenSo store.zones loading.seen
       → VisitsSo store setting moment now round (begin_visits setting round loading) 0 0
   begin_so now course round loading inside so =
-      let passed = passed_so setting moment store.zones now (length inside.segments) round.area loading.seen inside.there
+      let passed = passed_so setting moment store.zones now (length inside.segments) round.area loading.seen
+      inside.there
       inside.here so in
       let looks : List Look = map unread (cuts_seen loading.seen round.area) in
-      let none : [] ≡ reads_from round.area.first_leaf.0 looks = sym (no_reads round.area.first_leaf.0 looks passed.1) in
+      let none : [] ≡ reads_from round.area.first_leaf.0 looks =
+      sym (no_reads round.area.first_leaf.0 looks passed.1) in
       record {
         first = refl;
         count = passed.0.all_leaves;
@@ -269,7 +288,8 @@ module _ (store : Store) (setting : Setting) (moment : ℤ) (Tells : Histories �
           within = subst (λ (reads : List LeafRead). AllByRecursion (IsWithin setting moment now) reads) none tt;
           each = subst (λ (reads : List LeafRead). AllLeafParts (typed_of setting)
               (map (read_rows setting moment now round.resolved) reads) moment setting.limit []) none tt;
-          sends = subst (λ (reads : List LeafRead). AllByRecursion (IsSent setting moment now round.resolved) reads) none tt;
+          sends = subst (λ (reads : List LeafRead). AllByRecursion (IsSent setting moment now round.resolved) reads)
+              none tt;
           silent = passed.2;
         };
         test = is_to_visit round (let_in setting.plan loading.words round.area.leaves);
@@ -281,8 +301,10 @@ module _ (store : Store) (setting : Setting) (moment : ℤ) (Tells : Histories �
   pub reloaded_by : (now : Histories) (course : Course) (round : Round) (loading : Loading) (whole : Bool)
       → CourseIn store setting moment now course round.area → RoundWhole store setting moment round
       → SeenSo store.zones loading.seen → LoadedSo store setting moment loading.words loading.seen
-      → StepParts store setting moment Tells now (cond whole (visiting course round (begin_visits setting round loading))
+      → StepParts store setting moment Tells now
+      (cond whole (visiting course round (begin_visits setting round loading))
       (spec.going (at.Reloading course round loading)))
   reloaded_by now course round loading true inside all so loaded =
-      visiting_so now course round (begin_visits setting round loading) 0 (begin_so now course round loading inside so) inside all
+      visiting_so now course round (begin_visits setting round loading) 0 (begin_so now course round loading inside so)
+      inside all
   reloaded_by now course round loading false inside all so loaded = (inside, all, loaded)

@@ -1,5 +1,6 @@
 -- The slots that resolved to a leaf can be read together at its visit.
-use Rattle.std.proofs.Common.{◌≡◌, ◌∙◌, ◌||◌, ℕ, Bool, true, false, cond, Some, List, [], ◌∷◌, length, map, filter, nat_eq, take, sym, ap, subst, refl, arith}
+use Rattle.std.proofs.Common.{◌≡◌, ◌∙◌, ◌||◌, ℕ, Bool, true, false, cond, Some, List, [], ◌∷◌, length, map, filter}
+use Rattle.std.proofs.Common.{nat_eq, take, sym, ap, subst, refl, arith}
 use Rattle.std.specs.List.{AllByRecursion}
 use Rattle.mixer.specs.Divisions.{AreApart, ShareNoTarget, has_target}
 use Rattle.mon_schema.specs.Fits.{fits}
@@ -39,7 +40,8 @@ module _ (store : Store) (a b : Range) (apart : nat_eq a.0 b.0 ≡ false) where
   abbrev LiesIn : Range → Row → Type 0
   LiesIn = IsAtHome store.held store.zones
 
-  target_by : (row other : Row) (c : Bool) → same_target other.key.target row.key.target ≡ c → LiesIn a row → LiesIn b other
+  target_by : (row other : Row) (c : Bool) → same_target other.key.target row.key.target ≡ c → LiesIn a row
+      → LiesIn b other
       → c ≡ false
   target_by row other true same here there =
       let alike = one_target other.key.target row.key.target same in
@@ -113,12 +115,14 @@ module _ (store : Store) (setting : Setting) (asked : IsAskedOf store setting) (
     apart = slots_apart (filter (λ (one : Resolved). same_leaf one.leaf leaf) resolved)
         (fewer_others (λ (one : Resolved). same_leaf one.leaf leaf) resolved others);
     of = typed_for store setting asked (slot_rows history (slots_on leaf resolved))
-        (all_flat (λ row. fits store.held row ≡ true) own_rows (slots_on leaf resolved) (slots_home (slots_on leaf resolved)));
+        (all_flat (λ row. fits store.held row ≡ true) own_rows (slots_on leaf resolved)
+        (slots_home (slots_on leaf resolved)));
   }
 
 -- ---- each slot that resolved to the leaf was opened there
 
-module _ (at_entry before after : Histories) (grown : AreWithin before after) (low : ℕ) (looks : List Look) (leaf : Leaf)
+module _ (at_entry before after : Histories) (grown : AreWithin before after) (low : ℕ) (looks : List Look)
+    (leaf : Leaf)
     (looked : IsLookedAt at_entry before leaf (look_at low looks leaf)) (cut : ℕ)
     (between : IsBetween (length (leaf_history before leaf)) (length (leaf_history after leaf)) cut) where
   abbrev IsOpened : RangeSlot → Type 0

@@ -1,5 +1,6 @@
 -- Rows whose series meet no fetch of a query change neither what it means nor its load.
-use Rattle.std.proofs.Common.{◌≡◌, ◌∙◌, ◌+◌, ℤ, Bool, true, false, ◌&&◌, cond, Option, Some, None, List, [], ◌∷◌, ◌++◌, length, refl, sym, ap}
+use Rattle.std.proofs.Common.{◌≡◌, ◌∙◌, ◌+◌, ℤ, Bool, true, false, ◌&&◌, cond, Option, Some, None, List, [], ◌∷◌, ◌++◌}
+use Rattle.std.proofs.Common.{length, refl, sym, ap}
 use Rattle.std.specs.List.{AllByRecursion, filter, filter_map, flat_map, list_any}
 use Rattle.std.proofs.lemmas.Bool.{and_from, and_parts, false≢true, or_left, or_right}
 use Rattle.mon_value.proofs.SameLemmas.{same_text-Decides}
@@ -18,7 +19,8 @@ use Rattle.mon_schema.specs.SchemaLists.{SchemaLists, metric_named, target_named
 use Rattle.mql_ast.specs.Truths.{predicate_truth}
 use Rattle.mql_types.specs.Fetches.{columns_fetched, fetch_columns}
 use Rattle.mql_types.specs.Loads.{is_reached, lets_in, load, load_of, meets, points_reached}
-use Rattle.mql_types.specs.Meaning.{aligned_rows, grid_of, is_fetched, is_point_kept, meaning, points_meant, rows_meant, value_row}
+use Rattle.mql_types.specs.Meaning.{aligned_rows, grid_of, is_fetched, is_point_kept, meaning, points_meant}
+use Rattle.mql_types.specs.Meaning.{rows_meant, value_row}
 use Rattle.mql_types.specs.Nodes as node
 use Rattle.mql_types.specs.Nodes.{NodeTree, TypedTree, columns_of}
 use Rattle.mql_types.specs.Plans.{HasFetchColumns, fetches}
@@ -36,7 +38,8 @@ if_so : {A : Type 0} (b c : Bool) (x : A) (xs ys : List A) → b ≡ c → xs �
 if_so b c x xs ys same rest = λ i. cond (same i) (x ∷ rest i) (rest i)
 
 -- tests that agree on each item
-pub filter_alike : {A : Type 0} (p q : A → Bool) (xs : List A) → AllByRecursion (λ x. p x ≡ q x) xs → filter p xs ≡ filter q xs
+pub filter_alike : {A : Type 0} (p q : A → Bool) (xs : List A) → AllByRecursion (λ x. p x ≡ q x) xs → filter p xs
+    ≡ filter q xs
 filter_alike p q [] all = refl
 filter_alike p q (x ∷ xs) all = if_so (p x) (q x) x (filter p xs) (filter q xs) all.0 (filter_alike p q xs all.1)
 
@@ -96,9 +99,11 @@ schemas_by held row None None targeted measured fit = absurd (false≢true fit)
 
 schemas : (held : SchemaLists) (row : Row) → fits held row ≡ true → HasSchemas held row
 schemas held row fit =
-    schemas_by held row (target_named row.key.target.schema held.targets) (metric_named row.key.metric held.metrics) refl refl fit
+    schemas_by held row (target_named row.key.target.schema held.targets) (metric_named row.key.metric held.metrics)
+    refl refl fit
 
-columns_below : (held : SchemaLists) (input : NodeTree) (row : Row) (has : HasSchemas held row) → HasFetchColumns held input
+columns_below : (held : SchemaLists) (input : NodeTree) (row : Row) (has : HasSchemas held row) → HasFetchColumns held
+    input
     → meets input row.key ≡ true → columns_of input ≡ columns_fetched has.target has.metric
 columns_below held (node.Fetch info schema metric) row has named met =
     let names = and_parts (same_text schema row.key.target.schema) (same_text metric row.key.metric) met in
@@ -108,7 +113,8 @@ columns_below held (node.Fetch info schema metric) row has named met =
     ∙ (λ i. fetch_columns (target_named (one i) held.targets) (metric_named (two i) held.metrics))
     ∙ (λ i. fetch_columns (has.targeted i) (has.measured i))
 columns_below held (node.Filter info by input) row has named met =
-    named.0 ∙ columns_below held input row has named.1 (and_parts (lets_in by info.columns row.key) (meets input row.key) met).1
+    named.0 ∙ columns_below held input row has named.1 (and_parts (lets_in by info.columns row.key)
+    (meets input row.key) met).1
 columns_below held (node.Align info by input) row has named met = absurd (false≢true met)
 columns_below held (node.GroupBy info by with input) row has named met = absurd (false≢true met)
 columns_below held (node.Value info items input) row has named met = absurd (false≢true met)
@@ -122,9 +128,11 @@ flows_met held row has (node.Fetch info schema metric) named flow = flow
 flows_met held row has (node.Filter info by input) named flow =
     let parts = and_parts (is_point_kept by info.columns row) (flows input row) flow in
     let below = flows_met held row has input named.1 parts.1 in
-    let columns : info.columns ≡ columns_fetched has.target has.metric = named.0 ∙ columns_below held input row has named.1 below in
+    let columns : info.columns ≡ columns_fetched has.target has.metric = named.0 ∙ columns_below held input row has
+    named.1 below in
     and_from (lets_in by info.columns row.key) (meets input row.key)
-    (kept_let_in has.target has.metric row (row_of_schemas has.target has.metric row has.of) by info.columns columns parts.0)
+    (kept_let_in has.target has.metric row (row_of_schemas has.target has.metric row has.of) by info.columns columns
+    parts.0)
     below
 flows_met held row has (node.Align info by input) named flow = absurd (false≢true flow)
 flows_met held row has (node.GroupBy info by with input) named flow = absurd (false≢true flow)
@@ -155,7 +163,8 @@ module _ (held : SchemaLists) (keep : Row → Bool) (rows : List Row) (fit : All
       points_flow input (filter keep rows)
       ∙ filter_twice keep (flows input) rows
       ∙ filter_alike (λ row. flows input row && keep row) (flows input) rows
-      (all-map (λ (row : Row). fits held row ≡ true) (λ (row : Row). (flows input row && keep row) ≡ flows input row) rows
+      (all-map (λ (row : Row). fits held row ≡ true) (λ (row : Row). (flows input row && keep row) ≡ flows input row)
+      rows
       (λ row fit. both_if (flows input row) (keep row)
       (λ flow. keeps row (flows_met held row (schemas held row fit) input named flow))) fit)
       ∙ sym (points_flow input rows)
@@ -170,7 +179,8 @@ module _ (held : SchemaLists) (keep : Row → Bool) (rows : List Row) (fit : All
       filter_twice keep (λ row. is_reached grid by row && meets input row.key) rows
       ∙ filter_alike (λ row. (is_reached grid by row && meets input row.key) && keep row)
       (λ row. is_reached grid by row && meets input row.key) rows
-      (every (λ row. ((is_reached grid by row && meets input row.key) && keep row) ≡ (is_reached grid by row && meets input row.key))
+      (every (λ row. ((is_reached grid by row && meets input row.key) && keep row)
+      ≡ (is_reached grid by row && meets input row.key))
       (λ row. reached_if (is_reached grid by row) (meets input row.key) (keep row) (keeps row)) rows)
 
   kept_rows : (grid : Grid) (tree : NodeTree) → AllByRecursion (HasFetchColumns held) (fetches tree)
@@ -181,10 +191,12 @@ module _ (held : SchemaLists) (keep : Row → Bool) (rows : List Row) (fit : All
       ap (filter (λ (row : TimedRow). predicate_truth by info.columns row.cells)) (kept_rows grid input named keeps)
   kept_rows grid (node.Align info by input) named keeps =
       ap (aligned_rows by grid) (kept_points input named.0 keeps.0)
-  kept_rows grid (node.GroupBy info by with input) named keeps = ap (group_rows by with) (kept_rows grid input named keeps)
+  kept_rows grid (node.GroupBy info by with input) named keeps = ap (group_rows by with)
+      (kept_rows grid input named keeps)
   kept_rows grid (node.Value info items input) named keeps =
       ap (filter_map (value_row (columns_of input) items)) (kept_rows grid input named keeps)
-  kept_rows grid (node.Top info most column input) named keeps = ap (top_rows most column) (kept_rows grid input named keeps)
+  kept_rows grid (node.Top info most column input) named keeps = ap (top_rows most column)
+      (kept_rows grid input named keeps)
   kept_rows grid (node.Join info left right) named keeps =
       let names = all-front (HasFetchColumns held) (fetches left) (fetches right) named in
       let kept = all-front (KeepsMet keep) (fetches left) (fetches right) keeps in
@@ -201,7 +213,8 @@ module _ (held : SchemaLists) (keep : Row → Bool) (rows : List Row) (fit : All
   kept_load grid (node.Fetch info schema metric) named keeps = refl
   kept_load grid (node.Filter info by input) named keeps = kept_load grid input named keeps
   kept_load grid (node.Align info by input) named keeps =
-      λ i. length (kept_reached grid by input keeps.0 i) + length (kept_rows grid (node.Align info by input) named keeps i)
+      λ i. length (kept_reached grid by input keeps.0 i) + length (kept_rows grid (node.Align info by input) named
+      keeps i)
   kept_load grid (node.GroupBy info by with input) named keeps = kept_load grid input named keeps
   kept_load grid (node.Value info items input) named keeps = kept_load grid input named keeps
   kept_load grid (node.Top info most column input) named keeps = kept_load grid input named keeps
@@ -224,7 +237,8 @@ keeps_each (part ∷ parts) = (
   (λ row met. or_left (meets part row.key) (list_any (λ fetch. meets fetch row.key) parts) met),
   all-map (KeepsMet (λ row. list_any (λ fetch. meets fetch row.key) parts))
       (KeepsMet (λ row. list_any (λ fetch. meets fetch row.key) (part ∷ parts))) parts
-      (λ fetch keeps row met. or_right (meets part row.key) (list_any (λ fetch. meets fetch row.key) parts) (keeps row met))
+      (λ fetch keeps row met. or_right (meets part row.key) (list_any (λ fetch. meets fetch row.key) parts)
+      (keeps row met))
       (keeps_each parts),
 )
 

@@ -1,5 +1,6 @@
 -- A query that is through with all zones: what it mixed are its leaves' parts over the rows of its trace.
-use Rattle.std.proofs.Common.{◌≡◌, ◌∙◌, ◌<◌, ◌≤◌, ◌≤ℤ◌, ◌+◌, ℕ, ℤ, pos, suc, Bool, true, false, List, [], ◌∷◌, ◌++◌, length, map, drop, get_or, refl, sym, ap, subst, append-nil, append_assoc, arith}
+use Rattle.std.proofs.Common.{◌≡◌, ◌∙◌, ◌<◌, ◌≤◌, ◌≤ℤ◌, ◌+◌, ℕ, ℤ, pos, suc, Bool, true, false, List, [], ◌∷◌, ◌++◌}
+use Rattle.std.proofs.Common.{length, map, drop, get_or, refl, sym, ap, subst, append-nil, append_assoc, arith}
 use Rattle.std.specs.List.{AllByRecursion, flat_map, list_any}
 use Rattle.std.proofs.lemmas.List.{length-append, map-append}
 use Rattle.std.proofs.lemmas.List.Concat.{flat_map-append}
@@ -33,8 +34,10 @@ use Rattle.query_core.specs.Traces.{source_of}
 use Rattle.query_core.proofs.ChosenLeaves.{ChosenAscend, chosen_append, chosen_leaves, chosen_once}
 use Rattle.query_core.proofs.DividedRows.{SomeLeaves, all_leaves, divided_rows, rows_at, zone_rows}
 use Rattle.query_core.proofs.PartClaims.{CourseThrough}
-use Rattle.query_core.proofs.ReadLeaves.{LeafRead, cuts_of, flags_of, leaves_read, no_reads, read_among, reads_append, reads_from}
-use Rattle.query_core.proofs.SegmentFacts.{AreFrom, MixesSo, Mixed, Passed, PartsSo, RangesFrom, Segment, SegmentSo, answers_in, area_in, looks_in, resolved_in}
+use Rattle.query_core.proofs.ReadLeaves.{LeafRead, cuts_of, flags_of, leaves_read, no_reads, read_among, reads_append}
+use Rattle.query_core.proofs.ReadLeaves.{reads_from}
+use Rattle.query_core.proofs.SegmentFacts.{AreFrom, MixesSo, Mixed, Passed, PartsSo, RangesFrom, Segment, SegmentSo}
+use Rattle.query_core.proofs.SegmentFacts.{answers_in, area_in, looks_in, resolved_in}
 use Rattle.query_core.proofs.TraceRows.{IsLeftOut, is_divided, meant, over_load, own_rows}
 use Rattle.query_core.proofs.ZoneFacts.{leaves_next, ranges_next}
 use Rattle.query_core.proofs.ThroughZones.{IsThrough, none_first, through_so, trace_ranges, whole_in}
@@ -74,7 +77,8 @@ module _ (store : Store) (setting : Setting) (asked : IsAskedOf store setting) (
           → all_leaves (chosen_in one) ≡ leaves_read (reads_from (first_leaf store.zones k) (looks_in one))
       head (Passed area resolved looks) so first = sym (ap leaves_read (no_reads (first_leaf store.zones k) looks so.1))
       head (Mixed area resolved looks parts answer) so first =
-          append-nil (leaves_read (reads_from area.first_leaf.0 looks)) ∙ ap (λ n. leaves_read (reads_from n looks)) first
+          append-nil (leaves_read (reads_from area.first_leaf.0 looks)) ∙ ap (λ n. leaves_read (reads_from n looks))
+          first
 
   module _ (of : Trace) (ranges : RangesFrom 0 of.resolved) (zoned : AllZoned store.zones of.resolved) where
     abbrev pub rows_of_zones : List SomeLeaves → List (List (List Row))
@@ -92,20 +96,23 @@ module _ (store : Store) (setting : Setting) (asked : IsAskedOf store setting) (
 
     zone_part : (k : ℕ) (resolved : List Resolved) (looks : List Look) (parts : List LeafAnswer) (answer : ZoneAnswer)
         → Stands store.zones k resolved looks of
-        → PartsSo setting moment exit resolved (first_leaf store.zones k) looks parts → MixesSo setting moment parts answer
+        → PartsSo setting moment exit resolved (first_leaf store.zones k) looks parts → MixesSo setting moment parts
+        answer
         → PartsIn k ((k, leaves_read (reads_from (first_leaf store.zones k) looks)) ∷ []) (k + 1) (answer ∷ [])
     zone_part k resolved looks parts answer stands so mixes =
         let leaves = leaves_read (reads_from (first_leaf store.zones k) looks) in
         let ascends : ChosenAscend store.zones k ((k, leaves) ∷ []) (k + 1) =
         (omega arith, stands.there, reads_up store.zones k resolved looks of ranges zoned stands, omega arith) in
-        let each : AllLeafParts (typed_of setting) (map (rows_at (own_rows exit of) of.resolved) leaves) moment setting.limit parts =
+        let each : AllLeafParts (typed_of setting) (map (rows_at (own_rows exit of) of.resolved) leaves) moment
+        setting.limit parts =
         subst (λ (rows : List (List Row)). AllLeafParts (typed_of setting) rows moment setting.limit parts)
         (rows_there store.zones k resolved looks of ranges zoned stands setting moment exit) so.each in
         record {
           ascend = ascends;
           each = (
             mixes (map (rows_at (own_rows exit of) of.resolved) leaves)
-                (zone_asked (typed_of setting) [] (map (rows_at (own_rows exit of) of.resolved) leaves) [] moment setting.limit
+                (zone_asked (typed_of setting) [] (map (rows_at (own_rows exit of) of.resolved) leaves) [] moment
+                setting.limit
                 parts from (divided_so k ((k, leaves) ∷ []) (k + 1) ascends) each),
             tt,
           );
@@ -115,7 +122,8 @@ module _ (store : Store) (setting : Setting) (asked : IsAskedOf store setting) (
         → Stands store.zones k (resolved_in one) (looks_in one) of → PartsIn k (chosen_in one) (k + 1) (answers_in one)
     segment_part k (Passed area resolved looks) is so stands = record { ascend = omega arith; each = tt }
     segment_part k (Mixed area resolved looks parts answer) is so stands =
-        subst (λ (a : Area). PartsIn k ((a.zone.0, leaves_read (reads_from a.first_leaf.0 looks)) ∷ []) (k + 1) (answer ∷ []))
+        subst (λ (a : Area). PartsIn k ((a.zone.0, leaves_read (reads_from a.first_leaf.0 looks)) ∷ []) (k + 1)
+        (answer ∷ []))
         (sym is)
         (zone_part k resolved looks parts answer stands
         (subst (λ (a : Area). PartsSo setting moment exit resolved a.first_leaf.0 looks parts) is so.1) so.2)
@@ -131,10 +139,12 @@ module _ (store : Store) (setting : Setting) (asked : IsAskedOf store setting) (
         (all.0, all_parts_append some more answers rest all.1 later)
 
     parts_append : (k middle to : ℕ) (chosen more : List SomeLeaves) (answers rest : List ZoneAnswer)
-        → PartsIn k chosen middle answers → PartsIn middle more to rest → PartsIn k (chosen ++ more) to (answers ++ rest)
+        → PartsIn k chosen middle answers → PartsIn middle more to rest → PartsIn k (chosen ++ more) to
+        (answers ++ rest)
     parts_append k middle to chosen more answers rest all later = record {
       ascend = chosen_append store.zones k chosen middle more to all.ascend later.ascend;
-      each = subst (λ (zones : List (List (List Row))). AllZoneParts (typed_of setting) zones moment setting.limit (answers ++ rest))
+      each = subst (λ (zones : List (List (List Row))). AllZoneParts (typed_of setting) zones moment setting.limit
+          (answers ++ rest))
           (sym (map-append (zone_rows (own_rows exit of) of.resolved) chosen more))
           (all_parts_append (rows_of_zones chosen) (rows_of_zones more) answers rest all.each later.each);
     }
@@ -160,7 +170,8 @@ module _ (store : Store) (setting : Setting) (asked : IsAskedOf store setting) (
           front = all.front;
           back = flat_map resolved_in segments ++ all.back;
           resolved_is = all.resolved_is
-              ∙ ap (λ rest. all.front ++ rest) (append_assoc (resolved_in one) (flat_map resolved_in segments) all.back);
+              ∙ ap (λ rest. all.front ++ rest) (append_assoc (resolved_in one) (flat_map resolved_in segments)
+              all.back);
           front_count = all.front_count;
           count = own.all_ranges ∙ ap (λ (area : Area). area.ranges) is;
           looks_front = all.looks_front;
@@ -173,7 +184,8 @@ module _ (store : Store) (setting : Setting) (asked : IsAskedOf store setting) (
         }
 
     pub others_stand : (k : ℕ) (one : Segment) (segments : List Segment)
-        → Stands store.zones k (resolved_in one) (looks_in one) of → AllStand k (one ∷ segments) → AllStand (suc k) segments
+        → Stands store.zones k (resolved_in one) (looks_in one) of → AllStand k (one ∷ segments) → AllStand (suc k)
+        segments
     others_stand k one segments own all =
         let next : suc k ≡ k + 1 = omega arith in
         record {
@@ -195,7 +207,8 @@ module _ (store : Store) (setting : Setting) (asked : IsAskedOf store setting) (
           cuts_are = all.cuts_are
               ∙ ap (λ rest. cuts_of (all.looks_front ++ rest))
               (append_assoc (looks_in one) (flat_map looks_in segments) all.looks_back)
-              ∙ ap cuts_of (sym (append_assoc all.looks_front (looks_in one) (flat_map looks_in segments ++ all.looks_back)));
+              ∙ ap cuts_of (sym (append_assoc all.looks_front (looks_in one) (flat_map looks_in segments
+              ++ all.looks_back)));
           looks_front_count = omega (
             arith,
             length-append all.looks_front (looks_in one),
@@ -214,12 +227,15 @@ module _ (store : Store) (setting : Setting) (asked : IsAskedOf store setting) (
     all_parts k (one ∷ segments) areas each within stand =
         let there : k < length store.zones = omega (arith, within) in
         let own = first_stands k one segments there areas.0 each.0 stand in
-        let rest = all_parts (suc k) segments areas.1 each.1 (omega (arith, within)) (others_stand k one segments own stand) in
+        let rest = all_parts (suc k) segments areas.1 each.1 (omega (arith, within)) (others_stand k one segments own
+        stand) in
         let next : suc k ≡ k + 1 = omega arith in
         let last : suc k + length segments ≡ k + suc (length segments) = omega arith in
-        parts_append k (k + 1) (k + suc (length segments)) (chosen_in one) (flat_map chosen_in segments) (answers_in one)
+        parts_append k (k + 1) (k + suc (length segments)) (chosen_in one) (flat_map chosen_in segments)
+        (answers_in one)
         (flat_map answers_in segments) (segment_part k one areas.0 each.0 own)
-        (subst (λ (n : ℕ). PartsIn n (flat_map chosen_in segments) (k + suc (length segments)) (flat_map answers_in segments)) next
+        (subst (λ (n : ℕ). PartsIn n (flat_map chosen_in segments) (k + suc (length segments))
+        (flat_map answers_in segments)) next
         (subst (λ (n : ℕ). PartsIn (suc k) (flat_map chosen_in segments) n (flat_map answers_in segments)) last rest))
 
   -- ---- a table, and a whole load that is above the limit
@@ -258,13 +274,15 @@ module _ (store : Store) (setting : Setting) (asked : IsAskedOf store setting) (
         all_parts (trace_of course) ranges_all zoned 0 through.segments through.behind.areas through.behind.each
         (omega (arith, through.all)) stand
 
-    zones_asked : AreZoneParts (typed_of setting) (rows_of_zones (trace_of course) ranges_all zoned chosen) moment setting.limit
+    zones_asked : AreZoneParts (typed_of setting) (rows_of_zones (trace_of course) ranges_all zoned chosen) moment
+        setting.limit
         course.answers
     zones_asked = record {
       from = from;
       divided = divided_so (trace_of course) ranges_all zoned 0 chosen (0 + count) parts_all.ascend;
       each = subst (λ (answers : List ZoneAnswer). AllZoneParts (typed_of setting)
-          (rows_of_zones (trace_of course) ranges_all zoned chosen) moment setting.limit answers) (sym through.behind.answers)
+          (rows_of_zones (trace_of course) ranges_all zoned chosen) moment setting.limit answers)
+          (sym through.behind.answers)
           parts_all.each;
     }
 
@@ -278,7 +296,8 @@ module _ (store : Store) (setting : Setting) (asked : IsAskedOf store setting) (
     chosen_are : all_leaves chosen ≡ leaves_read (reads_from 0 course.looks)
     chosen_are =
         chosen_reads 0 through.segments through.behind.areas through.behind.each (omega (arith, through.all))
-        ∙ ap (λ n. leaves_read (reads_from n (flat_map looks_in through.segments))) (none_first setting moment store.zones exit).1
+        ∙ ap (λ n. leaves_read (reads_from n (flat_map looks_in through.segments)))
+        (none_first setting moment store.zones exit).1
         ∙ ap (λ looks. leaves_read (reads_from 0 looks)) (sym through.behind.looks)
 
     not_read : (leaf : Leaf) → list_any (same_leaf leaf) (all_leaves chosen) ≡ false → (b : Bool)
@@ -286,9 +305,11 @@ module _ (store : Store) (setting : Setting) (asked : IsAskedOf store setting) (
     not_read leaf lacks true flag =
         let number : 0 + leaf.0 ≡ leaf.0 = omega arith in
         let there : list_any (same_leaf leaf) (leaves_read (reads_from 0 course.looks)) ≡ true =
-        subst (λ (n : ℕ). list_any (same_leaf (leaf_numbered n)) (leaves_read (reads_from 0 course.looks)) ≡ true) number
+        subst (λ (n : ℕ). list_any (same_leaf (leaf_numbered n)) (leaves_read (reads_from 0 course.looks)) ≡ true)
+        number
         (read_among 0 course.looks leaf.0 flag) in
-        let clash : list_any (same_leaf leaf) (all_leaves chosen) ≡ true = ap (list_any (same_leaf leaf)) chosen_are ∙ there in
+        let clash : list_any (same_leaf leaf) (all_leaves chosen) ≡ true = ap (list_any (same_leaf leaf)) chosen_are
+        ∙ there in
         absurd cc
     not_read leaf lacks false flag = refl
 
@@ -302,7 +323,8 @@ module _ (store : Store) (setting : Setting) (asked : IsAskedOf store setting) (
           ))
 
       pub table_meant : (table : Table)
-          → ((zones : List (List (List Row))) → AreZoneParts (typed_of setting) zones moment setting.limit course.answers
+          → ((zones : List (List (List Row))) → AreZoneParts (typed_of setting) zones moment setting.limit
+          course.answers
           → IsMeant (typed_of setting) (all_rows zones) moment setting.limit table)
           → IsMeant (typed_of setting) (source_of exit (trace_of course)) moment setting.limit table
       table_meant table mixes =
@@ -312,7 +334,8 @@ module _ (store : Store) (setting : Setting) (asked : IsAskedOf store setting) (
           (mixes (rows_of_zones (trace_of course) ranges_all zoned chosen) zones_asked)
 
       pub root_over : (over : OverLimit)
-          → ((zones : List (List (List Row))) → AreZoneParts (typed_of setting) zones moment setting.limit course.answers
+          → ((zones : List (List (List Row))) → AreZoneParts (typed_of setting) zones moment setting.limit
+          course.answers
           → IsOver (typed_of setting) (all_rows zones) moment setting.limit over)
           → setting.limit < load (typed_of setting) (source_of exit (trace_of course)) moment
       root_over over mixes =

@@ -1,30 +1,19 @@
 -- Where the leaves and the ranges of each zone stand.
-use Rattle.std.proofs.Common.{◌≡◌, ◌∙◌, ℕ, zero, suc, ◌+◌, ◌<◌, ◌≤◌, ◌-◌, List, [], ◌∷◌, length, take, drop, get_or, slice_get, Some, sym, ap, length-append, arith}
+use Rattle.std.proofs.Common.{◌≡◌, ◌∙◌, ℕ, zero, suc, ◌+◌, ◌<◌, ◌≤◌, ◌-◌, List, [], ◌∷◌, length, take, drop, get_or}
+use Rattle.std.proofs.Common.{slice_get, Some, sym, ap, length-append, arith}
 use Rattle.std.specs.List.{flat_map}
 use Rattle.std.proofs.lemmas.List.{drop_more, take_all}
 use Rattle.std.proofs.lemmas.List.FromFn.{get_or-map-range_with_len, length-map-range_with_len}
 use Rattle.mon_topo.proofs.PartLemmas.{IsPart, length-zones_of, part_at, zone_of_part}
 use Rattle.mon_topo.specs.RangeHistories.{IsInZoneOf}
-use Rattle.mon_topo.specs.Zones.{first_leaf, first_range, leaf_zones, leaves_in, no_zone, range_zones, ranges_in, zone_at, zone_numbered}
+use Rattle.mon_topo.specs.Zones.{first_leaf, first_range, leaf_zones, leaves_in, no_zone, range_zones, ranges_in}
+use Rattle.mon_topo.specs.Zones.{zone_at, zone_numbered}
 use Rattle.mon_topo.specs.declared.zones.ZoneSpec.{ZoneSpec}
 use Rattle.mon_value.specs.declared.positions.Leaf.{Leaf}
 use Rattle.mon_value.specs.declared.positions.Range.{Range}
 use Rattle.mon_value.specs.declared.positions.Zone.{Zone}
 use Rattle.query_core.specs.Areas.{area_of, areas_of}
 use Rattle.query_core.specs.declared.areas.Area.{Area}
-
--- the parts of an element, and those of all before it, are no more than those of all
-pub so_far : {X Y : Type 0} (parts : X → List Y) (xs : List X) (i : ℕ) (d : X) → i < length xs
-    → length (flat_map parts (take i xs)) + length (parts (get_or xs i d)) ≤ length (flat_map parts xs)
-so_far parts [] i d there = absurd (omega arith)
-so_far parts (x ∷ xs) zero d there = omega (arith, length-append (parts x) (flat_map parts xs))
-so_far parts (x ∷ xs) (suc i) d there =
-    omega (
-      arith,
-      so_far parts xs i d (omega arith),
-      length-append (parts x) (flat_map parts xs),
-      length-append (parts x) (flat_map parts (take i xs)),
-    )
 
 parts_next : {X Y : Type 0} (parts : X → List Y) (xs : List X) (i : ℕ) (d : X) → i < length xs
     → length (flat_map parts (take (suc i) xs)) ≡ length (flat_map parts (take i xs)) + length (parts (get_or xs i d))
@@ -39,12 +28,15 @@ suc_is : (k : ℕ) → k + 1 ≡ suc k
 suc_is k = omega arith
 
 module _ (zones : List ZoneSpec) where
-  pub leaves_next : (k : ℕ) → k < length zones → first_leaf zones (k + 1) ≡ first_leaf zones k + (area_of zones k).leaves
-  leaves_next k there = ap (first_leaf zones) (suc_is k) ∙ parts_next (λ (zone : ZoneSpec). zone.leaves) zones k no_zone there
+  pub leaves_next : (k : ℕ) → k < length zones → first_leaf zones (k + 1) ≡ first_leaf zones k
+      + (area_of zones k).leaves
+  leaves_next k there = ap (first_leaf zones) (suc_is k) ∙ parts_next (λ (zone : ZoneSpec). zone.leaves) zones k
+      no_zone there
 
   pub ranges_next : (k : ℕ) → k < length zones
       → first_range zones (k + 1) ≡ first_range zones k + (area_of zones k).ranges
-  ranges_next k there = ap (first_range zones) (suc_is k) ∙ parts_next (λ (zone : ZoneSpec). zone.ranges) zones k no_zone there
+  ranges_next k there = ap (first_range zones) (suc_is k) ∙ parts_next (λ (zone : ZoneSpec). zone.ranges) zones k
+      no_zone there
 
   pub all_leaves : (k : ℕ) → length zones ≤ k → first_leaf zones k ≡ length (leaves_in zones)
   all_leaves k past = ap (λ (some : List ZoneSpec). length (leaves_in some)) (take_all k zones past)
@@ -53,7 +45,8 @@ module _ (zones : List ZoneSpec) where
   all_ranges k past = ap (λ (some : List ZoneSpec). length (ranges_in some)) (take_all k zones past)
 
   -- the zones from one on
-  pub areas_from : (k : ℕ) → k < length zones → drop k (areas_of zones) ≡ area_of zones k ∷ drop (k + 1) (areas_of zones)
+  pub areas_from : (k : ℕ) → k < length zones → drop k (areas_of zones) ≡ area_of zones k ∷ drop (k + 1)
+      (areas_of zones)
   areas_from k there =
       drop_more (areas_of zones) k (area_of zones k)
       (omega (arith, there, length-map-range_with_len (area_of zones) 0 (length zones)))
@@ -89,7 +82,8 @@ module _ (zones : List ZoneSpec) where
       let j = range.0 - first_range zones k in
       let of_range : slice_get (range_zones zones) (first_range zones k + j) ≡ Some (zone_numbered (0 + k)) =
       zone_of_part ranges 0 zones k j there (omega (arith, from, to)) in
-      let of_leaf : slice_get (leaf_zones zones) (first_leaf zones part.i + part.j) ≡ Some (zone_numbered (0 + part.i)) =
+      let of_leaf : slice_get (leaf_zones zones) (first_leaf zones part.i + part.j)
+      ≡ Some (zone_numbered (0 + part.i)) =
       zone_of_part leaves 0 zones part.i part.j part.there part.within in
       let place : range.0 ≡ first_range zones k + j = omega (arith, from) in
       let same : Some (zone_numbered (0 + part.i)) ≡ Some (zone_numbered (0 + k)) =

@@ -1,5 +1,6 @@
 -- What a query keeps of its leaves' answers as zones are behind, words are loaded and ranges resolve.
-use Rattle.std.proofs.Common.{◌≡◌, ◌∙◌, ◌<◌, ◌≤◌, ◌+◌, ◌-◌, ℕ, ℤ, Bool, true, false, cond, Some, None, List, [], ◌∷◌, ◌++◌, length, map, drop, nat_lt, refl, sym, ap, subst, append-nil, arith}
+use Rattle.std.proofs.Common.{◌≡◌, ◌∙◌, ◌<◌, ◌≤◌, ◌+◌, ◌-◌, ℕ, ℤ, Bool, true, false, cond, Some, None, List, [], ◌∷◌}
+use Rattle.std.proofs.Common.{◌++◌, length, map, drop, nat_lt, refl, sym, ap, subst, append-nil, arith}
 use Rattle.std.proofs.lemmas.Bool.Decides.{nat_tests}
 use Rattle.std.proofs.lemmas.List.{length-append, length-drop}
 use Rattle.std.proofs.lemmas.List.FromFn.{length-map-range_with_len}
@@ -34,13 +35,15 @@ module _ (store : Store) (setting : Setting) (moment : ℤ) where
   -- ---- the next zone
 
   -- a zone that stands as it had been seen is behind
-  left_so : (now : Histories) (course : Course) (area : Area) (seen : Seen) → CourseIn store setting moment now course area
+  left_so : (now : Histories) (course : Course) (area : Area) (seen : Seen) → CourseIn store setting moment now course
+      area
       → SeenSo store.zones seen → CourseAt store setting moment now (left course area seen)
   left_so now course area seen inside so =
       let one : Segment = Passed area (firsts_seen seen area) (map unread (cuts_seen seen area)) in
       record {
         segments = inside.segments ++ one ∷ [];
-        behind = behind_push setting moment store.zones now inside.segments course (left course area seen) one inside.behind
+        behind = behind_push setting moment store.zones now inside.segments course (left course area seen) one
+            inside.behind
             (record {
               more_resolved = refl;
               more_looks = refl;
@@ -101,12 +104,14 @@ module _ (store : Store) (setting : Setting) (moment : ℤ) (Tells : Histories �
   enters_by : (now : Histories) (course : Course) (area : Area) (areas : List Area) (enter : Bool)
       → CourseIn store setting moment now (begun course) area
       → TurnParts store setting moment Tells now (next_zone areas (left (begun course) area course.seen))
-      → TurnParts store setting moment Tells now (cond enter (turn.Goes (at.Entering (begun course) (round_of area) no_word))
+      → TurnParts store setting moment Tells now
+      (cond enter (turn.Goes (at.Entering (begun course) (round_of area) no_word))
       (next_zone areas (left (begun course) area course.seen)))
   enters_by now course area areas true here later = (here, refl, tt)
   enters_by now course area areas false here later = later
 
-  pub next_so : (now : Histories) (areas : List Area) (course : Course) → areas ≡ drop course.begun (areas_of store.zones)
+  pub next_so : (now : Histories) (areas : List Area) (course : Course) → areas ≡ drop course.begun
+      (areas_of store.zones)
       → CourseAt store setting moment now course → TurnParts store setting moment Tells now (next_zone areas course)
   next_so now [] course is before = record {
     segments = before.segments;
@@ -139,7 +144,8 @@ module _ (store : Store) (setting : Setting) (moment : ℤ) (Tells : Histories �
       let past : round.area.ranges ≤ length round.resolved = grind (arith, nat_tests) in
       (inside, record { ranges = so.ranges; all = omega (arith, past, so.few) }, tt)
 
-  pub resolving_so : (now : Histories) (course : Course) (round : Round) → CourseIn store setting moment now course round.area
+  pub resolving_so : (now : Histories) (course : Course) (round : Round) → CourseIn store setting moment now course
+      round.area
       → RoundSo store setting moment round → StepParts store setting moment Tells now (resolving course round)
   resolving_so now course round inside so =
       resolving_by now course round (nat_lt (length round.resolved) round.area.ranges) refl inside so
@@ -184,5 +190,6 @@ module _ (store : Store) (setting : Setting) (moment : ℤ) (Tells : Histories �
     entered_by now course round loading true true inside none so loaded =
         resolving_so now course round inside (nothing_resolved store setting moment round none)
     entered_by now course round loading true false inside none so loaded =
-        on_so now (left course round.area loading.seen) (left_so store setting moment now course round.area loading.seen inside so)
+        on_so now (left course round.area loading.seen) (left_so store setting moment now course round.area
+        loading.seen inside so)
     entered_by now course round loading false some inside none so loaded = (inside, none, loaded)

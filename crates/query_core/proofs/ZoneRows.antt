@@ -1,5 +1,6 @@
 -- The rows of a zone in a trace: those of the slots that its own ranges resolved to, at the cuts of its leaves.
-use Rattle.std.proofs.Common.{◌≡◌, ◌∙◌, ◌<◌, ◌≤◌, ◌+◌, ◌⊎◌, inl, inr, ℕ, ℤ, zero, suc, false, List, [], ◌∷◌, ◌++◌, length, map, take, nat_eq, get_or, refl, sym, ap, subst, append-nil, arith}
+use Rattle.std.proofs.Common.{◌≡◌, ◌∙◌, ◌<◌, ◌≤◌, ◌+◌, ◌⊎◌, inl, inr, ℕ, ℤ, zero, suc, false, List, [], ◌∷◌, ◌++◌}
+use Rattle.std.proofs.Common.{length, map, take, nat_eq, get_or, refl, sym, ap, subst, append-nil, arith}
 use Rattle.std.specs.List.{AllByRecursion, filter}
 use Rattle.std.proofs.lemmas.Bool.Decides.{nat_tests}
 use Rattle.std.proofs.lemmas.List.{map-append}
@@ -21,7 +22,8 @@ use Rattle.query_core.specs.Settings.{Setting}
 use Rattle.query_core.specs.Traces.{rows_on, cut_of, slot_rows}
 use Rattle.query_core.proofs.ChosenLeaves.{leaf_before, leaf_behind}
 use Rattle.query_core.proofs.DividedRows.{rows_at}
-use Rattle.query_core.proofs.ReadLeaves.{Ascend, IsTold, LeafRead, ascend_within, cuts_of, leaves_read, reads_append, reads_ascend, reads_from, told_cuts}
+use Rattle.query_core.proofs.ReadLeaves.{Ascend, IsTold, LeafRead, ascend_within, cuts_of, leaves_read, reads_append}
+use Rattle.query_core.proofs.ReadLeaves.{reads_ascend, reads_from, told_cuts}
 use Rattle.query_core.proofs.SegmentFacts.{RangesFrom, read_rows}
 use Rattle.query_core.proofs.TraceRows.{on_leaf, own_rows}
 use Rattle.query_core.proofs.WantedRows.{filter_empty}
@@ -40,7 +42,8 @@ get_front [] ys i d there = absurd (omega (arith, there))
 get_front (x ∷ xs) ys zero d there = refl
 get_front (x ∷ xs) ys (suc i) d there = get_front xs ys i d (omega (arith, there))
 
-pub get_back : {A : Type 0} (xs ys : List A) (n i : ℕ) (d : A) → n ≡ length xs + i → get_or (xs ++ ys) n d ≡ get_or ys i d
+pub get_back : {A : Type 0} (xs ys : List A) (n i : ℕ) (d : A) → n ≡ length xs + i → get_or (xs ++ ys) n d
+    ≡ get_or ys i d
 get_back [] ys n i d e = ap (λ k. get_or ys k d) (omega (arith, e))
 get_back (x ∷ xs) ys zero i d e = absurd (omega (arith, e))
 get_back (x ∷ xs) ys (suc n) i d e = get_back xs ys n i d (omega (arith, e))
@@ -70,13 +73,15 @@ ranges_above n m (one ∷ some) all within =
 
 -- ---- slots on a leaf
 
-pub slots_append : (leaf : Leaf) (some more : List Resolved) → slots_on leaf (some ++ more) ≡ slots_on leaf some ++ slots_on leaf more
+pub slots_append : (leaf : Leaf) (some more : List Resolved) → slots_on leaf (some ++ more) ≡ slots_on leaf some
+    ++ slots_on leaf more
 slots_append leaf some more =
     ap (map slot_of) (filter-append (λ (one : Resolved). same_leaf one.leaf leaf) some more)
     ∙ map-append slot_of (filter (λ (one : Resolved). same_leaf one.leaf leaf) some)
     (filter (λ (one : Resolved). same_leaf one.leaf leaf) more)
 
-pub no_slots : (leaf : Leaf) (some : List Resolved) → AllByRecursion (λ (one : Resolved). same_leaf one.leaf leaf ≡ false) some
+pub no_slots : (leaf : Leaf) (some : List Resolved) → AllByRecursion (λ (one : Resolved). same_leaf one.leaf leaf
+    ≡ false) some
     → slots_on leaf some ≡ []
 no_slots leaf some none = ap (map slot_of) (filter_empty (λ (one : Resolved). same_leaf one.leaf leaf) some none)
 
@@ -142,7 +147,8 @@ module _ (zones : List ZoneSpec) where
         let back = stands.back in
         let next = ranges_next zones k stands.there in
         let listed : RangesFrom 0 (front ++ (resolved ++ back)) = subst (RangesFrom 0) stands.resolved_is ranges in
-        let all : AllByRecursion IsZoned (front ++ (resolved ++ back)) = subst (AllByRecursion IsZoned) stands.resolved_is zoned in
+        let all : AllByRecursion IsZoned (front ++ (resolved ++ back)) = subst (AllByRecursion IsZoned)
+        stands.resolved_is zoned in
         let rest = (all-front IsZoned front (resolved ++ back) all).1 in
         let before : slots_on leaf front ≡ [] =
         no_slots leaf front
@@ -171,7 +177,8 @@ module _ (zones : List ZoneSpec) where
         ap (λ cuts. get_or cuts (first_leaf zones k + place) 0) stands.cuts_are
         ∙ ap (λ cuts. get_or cuts (first_leaf zones k + place) 0)
         (map-append (λ (look : Look). look.cut) stands.looks_front (looks ++ stands.looks_back))
-        ∙ get_back (cuts_of stands.looks_front) (cuts_of (looks ++ stands.looks_back)) (first_leaf zones k + place) place 0 number
+        ∙ get_back (cuts_of stands.looks_front) (cuts_of (looks ++ stands.looks_back)) (first_leaf zones k + place)
+        place 0 number
         ∙ ap (λ cuts. get_or cuts place 0) (map-append (λ (look : Look). look.cut) looks stands.looks_back)
         ∙ get_front (cuts_of looks) (cuts_of stands.looks_back) place 0
         (omega (arith, within, stands.looks_count, length_cuts looks))
@@ -180,7 +187,8 @@ module _ (zones : List ZoneSpec) where
         length_cuts [] = refl
         length_cuts (look ∷ looks) = ap suc (length_cuts looks)
 
-    cuts_there : AllByRecursion (λ (one : LeafRead). cut_of of one.leaf ≡ one.cut) (reads_from (first_leaf zones k) looks)
+    cuts_there : AllByRecursion (λ (one : LeafRead). cut_of of one.leaf ≡ one.cut) (reads_from (first_leaf zones k)
+        looks)
     cuts_there =
         let all = stands.looks_front ++ (looks ++ stands.looks_back) in
         let told : AllByRecursion (IsTold all) (reads_from (length stands.looks_front) looks) =
@@ -192,30 +200,35 @@ module _ (zones : List ZoneSpec) where
         (reads_from (first_leaf zones k) looks)) (sym stands.cuts_are)
         (subst (λ (n : ℕ). AllByRecursion (IsTold all) (reads_from n looks)) stands.looks_front_count told)
 
-    pub reads_up : Ascend (first_leaf zones k) (leaves_read (reads_from (first_leaf zones k) looks)) (first_leaf zones (k + 1))
+    pub reads_up : Ascend (first_leaf zones k) (leaves_read (reads_from (first_leaf zones k) looks))
+        (first_leaf zones (k + 1))
     reads_up =
         reads_ascend (first_leaf zones k) looks (first_leaf zones (k + 1))
         (omega (arith, stands.looks_count, leaves_next zones k stands.there))
 
-    reads_within : AllByRecursion (λ (one : LeafRead). (first_leaf zones k ≤ one.leaf.0) × (one.leaf.0 < first_leaf zones (k + 1)))
+    reads_within : AllByRecursion (λ (one : LeafRead). (first_leaf zones k ≤ one.leaf.0)
+        × (one.leaf.0 < first_leaf zones (k + 1)))
         (reads_from (first_leaf zones k) looks)
     reads_within =
         all_unmapped (λ (leaf : Leaf). (first_leaf zones k ≤ leaf.0) × (leaf.0 < first_leaf zones (k + 1)))
         (λ (one : LeafRead). one.leaf) (reads_from (first_leaf zones k) looks)
-        (ascend_within (first_leaf zones k) (leaves_read (reads_from (first_leaf zones k) looks)) (first_leaf zones (k + 1))
+        (ascend_within (first_leaf zones k) (leaves_read (reads_from (first_leaf zones k) looks))
+        (first_leaf zones (k + 1))
         reads_up)
 
     module _ (setting : Setting) (moment : ℤ) (exit : Histories) where
       -- the rows on a leaf of the zone, and on those that were read
       pub leaf_rows : (leaf : Leaf) (cut : ℕ) → first_leaf zones k ≤ leaf.0 → leaf.0 < first_leaf zones (k + 1)
           → cut_of of leaf ≡ cut
-          → rows_at (own_rows exit of) of.resolved leaf ≡ slot_rows (take cut (leaf_history exit leaf)) (slots_on leaf resolved)
+          → rows_at (own_rows exit of) of.resolved leaf ≡ slot_rows (take cut (leaf_history exit leaf))
+          (slots_on leaf resolved)
       leaf_rows leaf cut from to told =
           on_leaf exit of leaf
           ∙ (λ i. slot_rows (take (told i) (leaf_history exit leaf)) (slots_there leaf from to i))
 
       rows_each : (reads : List LeafRead) → AllByRecursion (λ (one : LeafRead). cut_of of one.leaf ≡ one.cut) reads
-          → AllByRecursion (λ (one : LeafRead). (first_leaf zones k ≤ one.leaf.0) × (one.leaf.0 < first_leaf zones (k + 1))) reads
+          → AllByRecursion (λ (one : LeafRead). (first_leaf zones k ≤ one.leaf.0)
+          × (one.leaf.0 < first_leaf zones (k + 1))) reads
           → map (read_rows setting moment exit resolved) reads
           ≡ map (rows_at (own_rows exit of) of.resolved) (leaves_read reads)
       rows_each [] told within = refl
@@ -227,14 +240,17 @@ module _ (zones : List ZoneSpec) where
       rows_there = rows_each (reads_from (first_leaf zones k) looks) cuts_there reads_within
 
       on_each : (reads : List LeafRead) → AllByRecursion (λ (one : LeafRead). cut_of of one.leaf ≡ one.cut) reads
-          → AllByRecursion (λ (one : LeafRead). (first_leaf zones k ≤ one.leaf.0) × (one.leaf.0 < first_leaf zones (k + 1))) reads
-          → AllByRecursion (λ (one : LeafRead). read_rows setting moment exit resolved one ≡ rows_on exit of one.leaf) reads
+          → AllByRecursion (λ (one : LeafRead). (first_leaf zones k ≤ one.leaf.0)
+          × (one.leaf.0 < first_leaf zones (k + 1))) reads
+          → AllByRecursion (λ (one : LeafRead). read_rows setting moment exit resolved one ≡ rows_on exit of one.leaf)
+          reads
       on_each [] told within = tt
       on_each (one ∷ reads) told within = (
         sym (leaf_rows one.leaf one.cut within.0.0 within.0.1 told.0) ∙ on_leaf exit of one.leaf,
         on_each reads told.1 within.1,
       )
 
-      pub rows_on_each : AllByRecursion (λ (one : LeafRead). read_rows setting moment exit resolved one ≡ rows_on exit of one.leaf)
+      pub rows_on_each : AllByRecursion (λ (one : LeafRead). read_rows setting moment exit resolved one
+          ≡ rows_on exit of one.leaf)
           (reads_from (first_leaf zones k) looks)
       rows_on_each = on_each (reads_from (first_leaf zones k) looks) cuts_there reads_within

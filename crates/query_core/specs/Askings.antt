@@ -23,8 +23,8 @@ use Rattle.query_core.specs.Areas.{areas_of}
 use Rattle.query_core.specs.Mixtures.{typed_of}
 use Rattle.query_core.specs.Settings.{Setting}
 
--- the zones of the store, and the plan of a query that has a type over its schemas: a formula for each fetch, which holds
--- of the buckets of every series that meets it
+-- the zones of the store, and the plan of a query that has a type over its schemas: a formula for each fetch, which
+-- holds of the buckets of every series that meets it
 pub record IsAskedOf (store : Store) (setting : Setting) : Type 0 where
   pub lawful : IsLawful store.zones
   pub replicas : (range : ℕ) → range < length (ranges_in store.zones) → HasReplicas store.zones (range_numbered range)
@@ -40,5 +40,6 @@ pub record IsAskedOf (store : Store) (setting : Setting) : Type 0 where
       → target_named key.target.schema store.held.targets ≡ Some target
       → metric_named key.metric store.held.metrics ≡ Some metric
       → store.buckets_of key ≡ series_buckets buckets target metric key
-  pub promise : AllHoldWhereMet store.held buckets (fetches (typed_of setting).tree) (map formula_tree setting.plan.formulas)
+  pub promise : AllHoldWhereMet store.held buckets (fetches (typed_of setting).tree)
+      (map formula_tree setting.plan.formulas)
   pub listed : IsListing (all_named (formulas (map formula_tree setting.plan.formulas))) setting.plan.buckets

@@ -14,7 +14,8 @@ use Rattle.query_core.specs.Traces.{IsBetween, found_leaves, is_avoided}
 
 -- a leaf was found down between two moments, at a length of its history that was found then
 pub record IsFoundThen (at_entry at_exit : Histories) (found : FoundDown) : Type 0 where
-  pub between : IsBetween (length (leaf_history at_entry found.leaf)) (length (leaf_history at_exit found.leaf)) found.cut
+  pub between : IsBetween (length (leaf_history at_entry found.leaf)) (length (leaf_history at_exit found.leaf))
+      found.cut
   pub down : IsDownAt (leaf_history at_exit found.leaf) found.cut
 
 abbrev pub AreFoundThen : Histories → Histories → List FoundDown → Type 0

@@ -1,7 +1,8 @@
 -- How a query goes on once answers are mixed: those of a zone's leaves, or those of all zones.
 use Rattle.std.specs.Prelude.{◌≡◌, ◌≤ℤ◌, ℤ, pos, List, [], ◌∷◌, ◌++◌, drop, Result, Ok, Err}
 use Rattle.mixer.specs.Divisions.{IsDivided, all_rows}
-use Rattle.mixer.specs.ZoneAnswers.{AllLeafParts, AllZoneParts, AreLeafParts, AreZoneParts, HasZoneParts, IsOverZone, IsZonePart}
+use Rattle.mixer.specs.ZoneAnswers.{AllLeafParts, AllZoneParts, AreLeafParts, AreZoneParts, HasZoneParts, IsOverZone}
+use Rattle.mixer.specs.ZoneAnswers.{IsZonePart}
 use Rattle.mixer.specs.declared.zone_answers.ZoneAnswer.{ZoneAnswer}
 use Rattle.mon_fold.specs.declared.answers.LeafAnswer.{LeafAnswer}
 use Rattle.mon_meaning.specs.Central.{IsMeant, IsOver}

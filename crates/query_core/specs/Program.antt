@@ -21,7 +21,8 @@ use Rattle.query_core.specs.declared.stages.Step.{Step}
 use Rattle.query_core.specs.declared.stages.Step.TheVariants as step
 use Rattle.query_core.specs.declared.stages.Turn.{Turn}
 use Rattle.query_core.specs.declared.stages.Turn.TheVariants as turn
-use Rattle.query_core.specs.Courses.{begun, closed, course_of, cuts_seen, founds_in, is_entered, left, trace_of, with_found}
+use Rattle.query_core.specs.Courses.{begun, closed, course_of, cuts_seen, founds_in, is_entered, left, trace_of}
+use Rattle.query_core.specs.Courses.{with_found}
 use Rattle.query_core.specs.Loadings.{is_whole, next_bucket, no_word, with_word}
 use Rattle.query_core.specs.Looks.{read_at, unread}
 use Rattle.query_core.specs.Openings.{let_in}

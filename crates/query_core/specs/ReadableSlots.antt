@@ -9,7 +9,8 @@ use Rattle.mql_types.specs.Nodes.{TypedTree}
 use Rattle.mql_types.specs.Soundness.{IsTyped}
 use Rattle.query_core.specs.Traces.{slot_rows}
 
--- each was opened in the leaf's history, no target has rows in two of them, and the query has its type over all their rows
+-- each was opened in the leaf's history, no target has rows in two of them, and the query has its type over all their
+-- rows
 pub record CanBeRead (typed : TypedTree) (history : List Entry) (slots : List RangeSlot) : Type 0 where
   pub opened : AllByRecursion (λ (one : RangeSlot). is_opened one.range one.slot history ≡ true) slots
   pub apart : AreApart ShareNoTarget (map (λ (one : RangeSlot). replica_rows one.range one.slot history) slots)

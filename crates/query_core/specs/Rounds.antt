@@ -1,5 +1,6 @@
 -- What the ranges of a zone resolve to in a round.
-use Rattle.std.specs.Prelude.{ℕ, ◌-◌, nat_lt, set, Bool, true, false, not, ◌&&◌, List, [], ◌∷◌, ◌++◌, length, map, filter, get_or}
+use Rattle.std.specs.Prelude.{ℕ, ◌-◌, nat_lt, set, Bool, true, false, not, ◌&&◌, List, [], ◌∷◌, ◌++◌, length, map}
+use Rattle.std.specs.Prelude.{filter, get_or}
 use Rattle.std.specs.Prelude.{Option, Some, None, if◌then◌else◌}
 use Rattle.std.specs.List.{range_with_len}
 use Rattle.mon_value.specs.declared.positions.Leaf.{Leaf}
@@ -22,7 +23,8 @@ round_of area = record { area = area; resolved = [] }
 
 abbrev pub next_range : Round → Option Range
 next_range round =
-    if nat_lt (length round.resolved) round.area.ranges then Some (range_at round.area (length round.resolved)) else None
+    if nat_lt (length round.resolved) round.area.ranges then Some (range_at round.area (length round.resolved))
+    else None
 
 abbrev pub resolution : Range → Slot → Leaf → Resolved
 resolution range slot leaf = record { range = range; slot = slot; leaf = leaf }

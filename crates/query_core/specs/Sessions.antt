@@ -1,5 +1,6 @@
 -- The session of a query: what it is told, and what its caller has seen and knows by then.
-use Rattle.std.specs.Prelude.{◌≡◌, ◌<◌, ◌-◌, ℕ, ℤ, Bool, true, false, List, [], ◌∷◌, length, map, take, slice_get, Option, Some, None}
+use Rattle.std.specs.Prelude.{◌≡◌, ◌<◌, ◌-◌, ℕ, ℤ, Bool, true, false, List, [], ◌∷◌, length, map, take, slice_get}
+use Rattle.std.specs.Prelude.{Option, Some, None}
 use Rattle.std.specs.List.{AllByRecursion, range_with_len}
 use Rattle.mon_hints.specs.Covers.{AreBitsWithin, Bits, Covers}
 use Rattle.mon_hints.specs.HistoryBuckets.{history_buckets}
@@ -131,7 +132,8 @@ module _ (store : Store) (setting : Setting) (moment : ℤ) where
   pub record IsLicensedEvent (before : View) (query : Query) (event : Event) : Type 0 where
     pub grown : IsGrown before event.view
     pub sound : IsSound store event.view
-    pub true_then : IsTrueAnswer before event.view query.avoided (slots_at query) (ask_of setting query.stage) event.answer
+    pub true_then : IsTrueAnswer before event.view query.avoided (slots_at query) (ask_of setting query.stage)
+        event.answer
     pub goes_on : Settles setting (after setting query.stage event.answer) event.stage
 
   -- a licensed session, from a query and what its caller has seen and knows

@@ -1,5 +1,6 @@
 -- What a query looked at, against the histories of leaves and ranges that were seen.
-use Rattle.std.specs.Prelude.{◌≡◌, ◌≤◌, ◌<◌, ℕ, ℤ, Bool, true, false, not, List, length, map, filter, take, get_or, slice_get, Option, Some, Contains, if◌then◌else◌}
+use Rattle.std.specs.Prelude.{◌≡◌, ◌≤◌, ◌<◌, ℕ, ℤ, Bool, true, false, not, List, length, map, filter, take, get_or}
+use Rattle.std.specs.Prelude.{slice_get, Option, Some, Contains, if◌then◌else◌}
 use Rattle.std.specs.List.{AllByRecursion, flat_map, list_any, range_with_len}
 use Rattle.mon_hints.specs.HistoryBuckets.{history_buckets}
 use Rattle.mon_topo.specs.HeldHistories.{Histories, leaf_history, range_history}

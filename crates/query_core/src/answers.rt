@@ -42,8 +42,8 @@ pub struct Answer {
 /// Why a query has no table.
 #[derive(Drop)]
 pub enum RoundFault {
-    /// Each slot of the range that serves is on a leaf that was found down; the leaves of the range's zone that were, in
-    /// the order in which they were found.
+    /// Each slot of the range that serves is on a leaf that was found down; the leaves of the range's zone that were,
+    /// in the order in which they were found.
     NoReplica(Range, Founds),
     /// The load is above the limit.
     StepLimit(u64, Trace),

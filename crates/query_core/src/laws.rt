@@ -13,7 +13,8 @@ ghost use Rattle.query_core.specs.Machine.{Query, new_query, slots_at};
 ghost use Rattle.query_core.specs.Mixtures.{MayBeTold, typed_of};
 ghost use Rattle.query_core.specs.Program.{ask_of};
 ghost use Rattle.query_core.specs.ReadableSlots.{CanBeRead};
-ghost use Rattle.query_core.specs.Sessions.{Event, IsGrown, IsLicensed, IsSound, IsTrueAnswer, View, query_after, view_after};
+ghost use Rattle.query_core.specs.Sessions.{Event, IsGrown, IsLicensed, IsSound, IsTrueAnswer, View, query_after};
+ghost use Rattle.query_core.specs.Sessions.{view_after};
 ghost use Rattle.query_core.specs.Settings.{Setting};
 ghost use Rattle.query_core.specs.Traces.{IsBetween};
 ghost use Rattle.query_core.specs.declared.answers.Answer.{Answer as AnswerOf};
@@ -23,13 +24,13 @@ ghost use Rattle.query_core.specs.declared.asks.Ask.TheVariants.{Visit};
 ghost use Rattle.query_core.specs.declared.asks.Told.{Told as ToldOf};
 ghost use Rattle.query_core.specs.declared.stages.Stage.TheVariants.{Ended};
 
-/// Every licensed session of a query that is asked of a store ends rightly. A table is what the query means, evaluated in
-/// one place, over the rows of the trace: each target's are those of one replica at one cut of its leaf's history. The trace
-/// is of the histories that were seen; it holds each row that had been acknowledged by the time of the first event; and a leaf
-/// that was not read has no row there that the query wants. The query stops for its load only where the load over the rows
-/// of its trace is above the limit. Where it ends because a range has no replica, each slot that served at a length of the
-/// range's history that was found in the session is on a leaf of the range's zone that was found down in it, and all these are
-/// named.
+/// Every licensed session of a query that is asked of a store ends rightly. A table is what the query means,
+/// evaluated in one place, over the rows of the trace: each target's are those of one replica at one cut of its
+/// leaf's history. The trace is of the histories that were seen; it holds each row that had been acknowledged by the
+/// time of the first event; and a leaf that was not read has no row there that the query wants. The query stops for
+/// its load only where the load over the rows of its trace is above the limit. Where it ends because a range has no
+/// replica, each slot that served at a length of the range's history that was found in the session is on a leaf of
+/// the range's zone that was found down in it, and all these are named.
 pub fn sessions_answer_rightly()
     ensures answered { (store : Store) (setting : Setting) (moment : ℤ) (view : View)
         (events : List (Event store setting moment)) (answer : AnswerOf)
@@ -42,7 +43,8 @@ pub fn sessions_answer_rightly()
         → IsAskedOf store setting → pos 0 ≤ℤ moment → IsSound store view
         → IsLicensed store setting moment view (new_query setting) events
         → (query_after store setting moment (new_query setting) events).stage ≡ Ended (Err (StepLimit limit trace))
-        → IsStoppedRightly store setting moment view.seen (view_after store setting moment view events).seen limit trace }
+        → IsStoppedRightly store setting moment view.seen (view_after store setting moment view events).seen limit
+        trace }
     ensures no_replica { (store : Store) (setting : Setting) (moment : ℤ) (view : View)
         (events : List (Event store setting moment)) (range : RangeOf) (named : List Found)
         → IsAskedOf store setting → pos 0 ≤ℤ moment → IsSound store view
@@ -51,10 +53,10 @@ pub fn sessions_answer_rightly()
         → HasNoReplica store.zones view.seen (view_after store setting moment view events).seen range named }
 {}
 
-/// What a licensed session of a query that is asked of a store asks next may be told truly, by what is seen and known then:
-/// the answers that this leads to mix are over divided rows. And where it visits a leaf, the slots that resolved to it can be
-/// read together, at each length of the leaf's history that is found then. The zones, ranges and leaves that it asks of are
-/// there.
+/// What a licensed session of a query that is asked of a store asks next may be told truly, by what is seen and known
+/// then: the answers that this leads to mix are over divided rows. And where it visits a leaf, the slots that
+/// resolved to it can be read together, at each length of the leaf's history that is found then. The zones, ranges
+/// and leaves that it asks of are there.
 pub fn sessions_may_go_on()
     ensures told { (store : Store) (setting : Setting) (moment : ℤ) (view : View)
         (events : List (Event store setting moment)) (later : View) (answer : ToldOf)
@@ -62,8 +64,8 @@ pub fn sessions_may_go_on()
         → IsLicensed store setting moment view (new_query setting) events
         → IsGrown (view_after store setting moment view events) later → IsSound store later
         → let query : Query = query_after store setting moment (new_query setting) events in
-        IsTrueAnswer store setting moment (view_after store setting moment view events) later query.avoided (slots_at query)
-        (ask_of setting query.stage) answer
+        IsTrueAnswer store setting moment (view_after store setting moment view events) later query.avoided
+        (slots_at query) (ask_of setting query.stage) answer
         → MayBeTold setting query.stage answer }
     ensures read { (store : Store) (setting : Setting) (moment : ℤ) (view : View)
         (events : List (Event store setting moment)) (later : View) (leaf : LeafOf) (cut : ℕ)

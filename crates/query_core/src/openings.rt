@@ -49,7 +49,8 @@ fn children_let_in(plan: &Plan, words: &Words) -> u64
     any_child(plan.formulas.as_slice(), &plan.buckets, words)
 }
 
-/// Whether the words of a plan's buckets let a child in: some formula of the plan holds of the buckets whose word has its bit.
+/// Whether the words of a plan's buckets let a child in: some formula of the plan holds of the buckets whose word has
+/// its bit.
 pub fn is_let_in(plan: &Plan, words: &Words, child: u32) -> bool
     requires { child < 64 }
     ensures let_in { result ≡ spec.lets_in plan.now words.now child }

@@ -8,8 +8,8 @@ use mon_value::{Leaf, Leaves, OutOfMemory};
 use std::alloc::Global;
 use std::marker::Model;
 
-/// The leaves that are to be visited, how many of them were begun, what is known of each leaf of the zone from its first
-/// one on, and the answers of those that were read.
+/// The leaves that are to be visited, how many of them were begun, what is known of each leaf of the zone from its
+/// first one on, and the answers of those that were read.
 #[derive(Drop)]
 pub(crate) struct Visits {
     leaves: Leaves,

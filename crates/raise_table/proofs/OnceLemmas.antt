@@ -1,5 +1,6 @@
 -- Each leaf stands at most once among the leaves of the zones.
-use Rattle.std.proofs.Common.{◌≡◌, ℕ, zero, suc, ◌+◌, ◌<◌, ◌≤◌, ◌≢◌, Bool, List, [], ◌∷◌, ◌&&◌, ◌==◌, true, false, refl, ◌∙◌, arith, cond}
+use Rattle.std.proofs.Common.{◌≡◌, ℕ, zero, suc, ◌+◌, ◌<◌, ◌≤◌, ◌≢◌, Bool, List, [], ◌∷◌, ◌&&◌, ◌==◌, true, false}
+use Rattle.std.proofs.Common.{refl, ◌∙◌, arith, cond}
 use Rattle.std.proofs.lemmas.List.Sums.{sum_by_push, sum_by-append}
 use Rattle.std.proofs.lemmas.Bool.Decides.{nat_tests}
 use mathlib.Core.Logic.{dite}
@@ -29,15 +30,18 @@ other_child true n m apart = let e : (n == m) ≡ false = grind (arith, nat_test
 
 none_past : (zone count : ℕ) (leaf : ZoneLeaf) → count ≤ leaf.child → times leaf (leaves_of_zone zone count) ≡ 0
 none_past zone zero leaf past = refl
-none_past zone (suc count) leaf past = sum_by_push (one_if_same leaf) (leaves_of_zone zone count) (zone_leaf zone count) ∙ (
+none_past zone (suc count) leaf past = sum_by_push (one_if_same leaf) (leaves_of_zone zone count)
+    (zone_leaf zone count) ∙ (
     let before : times leaf (leaves_of_zone zone count) ≡ 0 = none_past zone count leaf (omega arith) in
-    let last : one_if_same leaf (zone_leaf zone count) ≡ 0 = other_child (leaf.zone.0 == zone) leaf.child count (λ e. omega arith) in
+    let last : one_if_same leaf (zone_leaf zone count) ≡ 0 = other_child (leaf.zone.0 == zone) leaf.child count
+    (λ e. omega arith) in
     omega arith
     )
 
 none_elsewhere : (zone count : ℕ) (leaf : ZoneLeaf) → leaf.zone.0 ≢ zone → times leaf (leaves_of_zone zone count) ≡ 0
 none_elsewhere zone zero leaf apart = refl
-none_elsewhere zone (suc count) leaf apart = sum_by_push (one_if_same leaf) (leaves_of_zone zone count) (zone_leaf zone count) ∙ (
+none_elsewhere zone (suc count) leaf apart = sum_by_push (one_if_same leaf) (leaves_of_zone zone count)
+    (zone_leaf zone count) ∙ (
     let before : times leaf (leaves_of_zone zone count) ≡ 0 = none_elsewhere zone count leaf apart in
     let last : one_if_same leaf (zone_leaf zone count) ≡ 0 = other_zone leaf.zone.0 zone (leaf.child == count) apart in
     omega arith
@@ -46,7 +50,8 @@ none_elsewhere zone (suc count) leaf apart = sum_by_push (one_if_same leaf) (lea
 once_in_zone : (zone count : ℕ) (leaf : ZoneLeaf) → times leaf (leaves_of_zone zone count) ≤ 1
 once_in_zone zone zero leaf = omega arith
 once_in_zone zone (suc count) leaf =
-    let all : times leaf (leaves_of_zone zone (suc count)) ≡ times leaf (leaves_of_zone zone count) + one_if_same leaf (zone_leaf zone count)
+    let all : times leaf (leaves_of_zone zone (suc count)) ≡ times leaf (leaves_of_zone zone count) + one_if_same leaf
+    (zone_leaf zone count)
     = sum_by_push (one_if_same leaf) (leaves_of_zone zone count) (zone_leaf zone count) in
     dite (ℕ_discrete leaf.child count)
     (λ e.
@@ -60,9 +65,11 @@ once_in_zone zone (suc count) leaf =
 
 -- ---- the leaves of all zones
 
-none_before : (first : ℕ) (counts : List ℕ) (leaf : ZoneLeaf) → leaf.zone.0 < first → times leaf (leaves_from first counts) ≡ 0
+none_before : (first : ℕ) (counts : List ℕ) (leaf : ZoneLeaf) → leaf.zone.0 < first
+    → times leaf (leaves_from first counts) ≡ 0
 none_before first [] leaf low = refl
-none_before first (count ∷ counts) leaf low = sum_by-append (one_if_same leaf) (leaves_of_zone first count) (leaves_from (first + 1) counts) ∙ (
+none_before first (count ∷ counts) leaf low = sum_by-append (one_if_same leaf) (leaves_of_zone first count)
+    (leaves_from (first + 1) counts) ∙ (
     let here : times leaf (leaves_of_zone first count) ≡ 0 = none_elsewhere first count leaf (λ e. omega arith) in
     let later : times leaf (leaves_from (first + 1) counts) ≡ 0 = none_before (first + 1) counts leaf (omega arith) in
     omega arith
@@ -71,7 +78,8 @@ none_before first (count ∷ counts) leaf low = sum_by-append (one_if_same leaf)
 once_from : (first : ℕ) (counts : List ℕ) (leaf : ZoneLeaf) → times leaf (leaves_from first counts) ≤ 1
 once_from first [] leaf = omega arith
 once_from first (count ∷ counts) leaf =
-    let all : times leaf (leaves_from first (count ∷ counts)) ≡ times leaf (leaves_of_zone first count) + times leaf (leaves_from (first + 1) counts)
+    let all : times leaf (leaves_from first (count ∷ counts)) ≡ times leaf (leaves_of_zone first count)
+    + times leaf (leaves_from (first + 1) counts)
     = sum_by-append (one_if_same leaf) (leaves_of_zone first count) (leaves_from (first + 1) counts) in
     dite (ℕ_discrete leaf.zone.0 first)
     (λ e.

@@ -54,4 +54,7 @@ Loads step before found after =
 
 -- the seat raised the bucket at the place of the word
 abbrev pub Raises : Step (Unit {0}) → Seated → ℕ → Seated → Type 0
-Raises step before found after = after ≡ (raising (place_of step.word) (bucket_of step.word) step.first before.0, before.1)
+Raises step before found after = after ≡ (
+  raising (place_of step.word) (bucket_of step.word) step.first before.0,
+  before.1,
+)

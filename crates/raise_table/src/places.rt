@@ -25,7 +25,7 @@ pub struct ZoneLeaf {
 }
 
 impl ZoneLeaf {
-    // The leaf's bit: at the root that of its zone, in its zone its own.
+    /// The leaf's bit: at the root that of its zone, in its zone its own.
     pub(crate) fn bit_of(self, place: Place) -> u32
         ensures bit { result ≡ bit_of self place }
     {
@@ -36,7 +36,7 @@ impl ZoneLeaf {
     }
 }
 
-// The number of the word of a place and a bucket.
+/// The number of the word of a place and a bucket.
 pub(crate) fn word_number(place: Place, bucket: u32) -> usize
     ensures number { result ≡ word_number place bucket }
 {
@@ -47,7 +47,7 @@ pub(crate) fn word_number(place: Place, bucket: u32) -> usize
     number * MOST_BUCKETS as usize + bucket as usize
 }
 
-// The leaves of all zones, in order.
+/// The leaves of all zones, in order.
 pub(crate) fn leaves_of_all(
     alloc: Global,
     zones: &LeafCounts,

@@ -1,5 +1,6 @@
 -- A write's turn at its acknowledgement: its range is told what became of the row.
-use Rattle.std.proofs.Common.{◌≡◌, ℕ, ◌<◌, ◌<ℤ◌, ◌≢◌, Bool, true, false, cond, None, List, [], ◌∷◌, ◌++◌, length, refl, sym, ap, subst, ◌∙◌}
+use Rattle.std.proofs.Common.{◌≡◌, ℕ, ◌<◌, ◌<ℤ◌, ◌≢◌, Bool, true, false, cond, None, List, [], ◌∷◌, ◌++◌, length, refl}
+use Rattle.std.proofs.Common.{sym, ap, subst, ◌∙◌}
 use Rattle.std.specs.Prelude.{IfSome}
 use Rattle.std.specs.List.{flat_map}
 use Rattle.mon_config.specs.declared.config.Config.{Config}
@@ -18,18 +19,18 @@ use Rattle.mon_value.specs.declared.positions.Range.{Range}
 use Rattle.weave_core.proofs.AtWorkLemmas.{own, range_in_truth}
 use Rattle.weave_core.proofs.MeetingLemmas.{range_met}
 use Rattle.weave_core.proofs.SeatLemmas.{shared_at_range}
-use Rattle.weave_core.proofs.SightLemmas.{range_noted_over, range_seen}
+use Rattle.mon_topo.proofs.SightLemmas.{range_noted_over, range_seen}
 use Rattle.weave_core.proofs.WriteTurnLemmas.{can_come, step_is}
 use Rattle.weave_core.specs.Agreements.{AreShared, IsRangeSo}
 use Rattle.weave_core.specs.Meetings.{met_at_range}
-use Rattle.weave_core.specs.Sights.{range_sight, sight_of, with_range_sight}
+use Rattle.mon_topo.specs.Sights.{range_sight, sight_of, with_range_sight}
 use Rattle.weave_core.specs.States.{store_of}
 use Rattle.weave_core.specs.WriteEvents.{ChangesRange, IfWritten, LetsGo}
 use Rattle.weave_core.specs.WriteEvents as events
 use Rattle.weave_core.specs.WriteTurns.{IsAtWork, WriteEnded, ended_write}
 use Rattle.weave_core.specs.Writers.{writer_of}
 use Rattle.weave_core.specs.declared.ranges.RangeSeat.{RangeSeat}
-use Rattle.weave_core.specs.declared.sights.Sight.{Sight}
+use Rattle.mon_topo.specs.declared.sights.Sight.{Sight}
 use Rattle.weave_core.specs.declared.store.Store.{Store}
 use Rattle.weave_core.specs.declared.writes.Writing.{Writing}
 use Rattle.write_core.proofs.KeepsLemmas.{changed_same}
@@ -51,7 +52,8 @@ if_written true ack founds P p = p
 if_written false ack founds P p = tt
 
 module _ (config : Config) (world : World) (i : ℕ) (store : Store) (writing : Writing) (sight : Sight)
-    (work : IsAtWork config world i store writing sight) (verdict : Verdict) (at : writing.machine.stage ≡ Acking verdict)
+    (work : IsAtWork config world i store writing sight) (verdict : Verdict) (at : writing.machine.stage
+    ≡ Acking verdict)
     (seat : RangeSeat) (so : IsRangeSo world writing.range.0 seat) where
   abbrev setting : Setting
   setting = store_of config
@@ -85,13 +87,15 @@ module _ (config : Config) (world : World) (i : ℕ) (store : Store) (writing : 
   later_by (Not (refused.Old last)) h = tt
   later_by (Not (refused.Full count)) h = tt
   later_by (Marked marks) h =
-      if_written (some_took marks) (ack_of range marks) (flat_map found_down marks) (IsLater (of_range world.truth range))
+      if_written (some_took marks) (ack_of range marks) (flat_map found_down marks)
+      (IsLater (of_range world.truth range))
       (source_later (acked (of_range world.truth range)) writing.row h.going.source)
 
   pub later : (last : WriteEnd) → last ≡ end_of_verdict range verdict → IfWritten last (IsLater seat.state)
   later last is =
       subst (λ (e : WriteEnd). IfWritten e (IsLater seat.state)) (sym is)
-      (subst (λ (history : List RangeEntry). IfWritten (end_of_verdict range verdict) (IsLater history)) (sym so.history)
+      (subst (λ (history : List RangeEntry). IfWritten (end_of_verdict range verdict) (IsLater history))
+      (sym so.history)
       (later_by verdict acking))
 
   -- ---- what it appends
@@ -124,7 +128,8 @@ module _ (config : Config) (world : World) (i : ℕ) (store : Store) (writing : 
   appends ack =
       let entry : RangeEntry = range_entry.Acked i writing.row ack in
       let there : range.0 < length world.truth.seen.ranges = range_in_truth config world i store writing sight work in
-      let grown : seat.state ++ range_entry.Acked writing.number writing.row ack ∷ [] ≡ of_range world.truth range ++ entry ∷ []
+      let grown : seat.state ++ range_entry.Acked writing.number writing.row ack ∷ [] ≡ of_range world.truth range
+      ++ entry ∷ []
       = (λ k. so.history k ++ range_entry.Acked (work.writer.number k) writing.row ack ∷ []) in
       let whole : of_range met range ≡ of_range world.truth range
       = joined_whole_range view (world.ranges range.0) world.truth
@@ -140,7 +145,8 @@ module _ (config : Config) (world : World) (i : ℕ) (store : Store) (writing : 
             ∙ range_noted_over range (range_sight (of_range world.truth range))
             (range_sight (of_range world.truth range ++ entry ∷ [])) (sight_of view.seen)
             (sight_of (world.ranges range.0).seen) (sight_of met.seen) met_is
-            ∙ ap (λ (history : List RangeEntry). with_range_sight range (range_sight (history ++ entry ∷ [])) (sight_of met.seen))
+            ∙ ap (λ (history : List RangeEntry). with_range_sight range (range_sight (history ++ entry ∷ []))
+            (sight_of met.seen))
             (sym whole)
             ∙ sym (range_seen range entry met.seen);
       }
@@ -158,7 +164,8 @@ module _ (config : Config) (world : World) (i : ℕ) (store : Store) (writing : 
 
   -- ---- it has ended
 
-  module _ (last : WriteEnd) (last_is : last ≡ end_of_verdict range verdict) (new : Store) (other : RangeSeat) (now : Sight)
+  module _ (last : WriteEnd) (last_is : last ≡ end_of_verdict range verdict) (new : Store) (other : RangeSeat)
+      (now : Sight)
       (changes : ChangesRange range other store new)
       (goes : LetsGo last writing.number writing.row range seat other sight now) where
     abbrev change : View → View
@@ -175,7 +182,8 @@ module _ (config : Config) (world : World) (i : ℕ) (store : Store) (writing : 
 
     seen_is : now ≡ sight_of (change met).seen
     seen_is =
-        goes.seen ∙ ap (λ (history : List RangeEntry). met_at_range range history sight seat.sight) goes.state ∙ is_change.seen
+        goes.seen ∙ ap (λ (history : List RangeEntry). met_at_range range history sight seat.sight) goes.state
+        ∙ is_change.seen
 
     doer_is : (step setting world i told.Done).actors i ≡ Writes (ended_write i writing verdict (change met))
     doer_is =
@@ -191,8 +199,10 @@ module _ (config : Config) (world : World) (i : ℕ) (store : Store) (writing : 
       came = record {
         can = can_come config world i store writing sight work (Acking verdict) told.Done at refl;
         shared = subst (λ (w : World). AreShared config w new) (sym is_then)
-            (shared_at_range config world i view range change is_change.bits is_change.leaves_same is_change.ranges_same None
-            (writes_on writer (Ended verdict)) store new other work.shared changes (goes.state ∙ is_change.history) goes.holder
+            (shared_at_range config world i view range change is_change.bits is_change.leaves_same
+            is_change.ranges_same None
+            (writes_on writer (Ended verdict)) store new other work.shared changes (goes.state ∙ is_change.history)
+            goes.holder
             (goes.sight_there ∙ seen_is));
       };
       verdict = verdict;

@@ -18,7 +18,7 @@ use Rattle.weave_core.specs.declared.calls.Stepped.TheVariants as stepped
 use Rattle.weave_core.specs.declared.queries.QueryTurn.{QueryTurn}
 use Rattle.weave_core.specs.declared.queries.QueryTurn.TheVariants as query_turn
 use Rattle.weave_core.specs.declared.queries.Querying.{Querying}
-use Rattle.weave_core.specs.declared.sights.Sight.{Sight}
+use Rattle.mon_topo.specs.declared.sights.Sight.{Sight}
 use Rattle.weave_core.specs.declared.store.Store.{Store}
 use Rattle.weave_core.specs.declared.writes.WriteTurn.{WriteTurn}
 use Rattle.weave_core.specs.declared.writes.WriteTurn.TheVariants as write_turn
@@ -39,14 +39,17 @@ module _ (config : Config) (state : State (store_of config)) (i : ℕ) where
     abbrev Reader' : Reader (store_of config)
     Reader' = state.core.readers i
 
-    refused_by : (role : Role) → state.roles i ≡ role → IsCourseSo config i Doer' Reader' role (course.Refused text) begun sight
-        → HasStepped config state i store (record { course = course.Ended; sight = sight; begun = true }) (stepped.Ended text)
+    refused_by : (role : Role) → state.roles i ≡ role → IsCourseSo config i Doer' Reader' role (course.Refused text)
+        begun sight
+        → HasStepped config state i store (record { course = course.Ended; sight = sight; begun = true })
+        (stepped.Ended text)
     refused_by Undeclared e h = absurd h
     refused_by (Eventless own) e h = record {
       fault = ap (fault_in (store_of config) state i) e;
       after = with_role (store_of config) state i Dismissed;
       steps = subst (λ (role : Role). StepsIn (store_of config) role state i (stepped.Ended text)
-          (with_role (store_of config) state i Dismissed)) (sym e) (ap (λ (t : List ℕ). stepped.Ended t) h.text_is, refl);
+          (with_role (store_of config) state i Dismissed)) (sym e)
+          (ap (λ (t : List ℕ). stepped.Ended t) h.text_is, refl);
       shared = here.shared;
       actor = subst (λ (role : Role). IsActorSo config i Doer' Reader' role
           (Some (record { course = course.Ended; sight = sight; begun = true })))
@@ -59,7 +62,8 @@ module _ (config : Config) (state : State (store_of config)) (i : ℕ) where
     pub refused_steps : (own : Actor) → own ≡ record { course = course.Ended; sight = sight; begun = true }
         → ActorSteps config state i store (record { course = course.Refused text; sight = sight; begun = begun }) own
         (Some (stepped.Ended text))
-    refused_steps own same = subst (λ (one : Actor). HasStepped config state i store one (stepped.Ended text)) (sym same)
+    refused_steps own same = subst (λ (one : Actor). HasStepped config state i store one (stepped.Ended text))
+        (sym same)
         (refused_by (state.roles i) refl here.actor)
 
 -- ---- what a step asks for
@@ -90,7 +94,12 @@ queried_config config core i querying new before now (query_turn.Ended end) h = 
 
 -- ---- by the course of an actor
 
-own_is : (own : Actor) (one : Course) → own.course ≡ one → own ≡ record { course = one; sight = own.sight; begun = own.begun }
+own_is : (own : Actor) (one : Course) → own.course ≡ one → own ≡ record {
+  course = one;
+  sight = own.sight;
+  begun =
+      own.begun;
+}
 own_is own one e = λ k. record { course = e k; sight = own.sight; begun = own.begun }
 
 pub query_asks_for : (store : Store) (own : Actor) (querying : Querying) → own.course ≡ course.Queries querying
@@ -111,7 +120,8 @@ module _ (config : Config) (state : State (store_of config)) (i : ℕ) (store : 
   refused_step text e next same = refused_steps config state i store text own.sight own.begun
       (as_course (course.Refused text) e) next same
 
-  pub write_step : (writing : Write) → own.course ≡ course.Writes writing → (new : Store) (now : Sight) (turn : WriteTurn)
+  pub write_step : (writing : Write) → own.course ≡ course.Writes writing → (new : Store) (now : Sight)
+      (turn : WriteTurn)
       (next : Actor) (how : Option Stepped)
       → ((at : IsAtWork config state.core.world i store writing own.sight)
       → WritesSo config state.core.world i writing new own.sight now turn)
@@ -120,11 +130,14 @@ module _ (config : Config) (state : State (store_of config)) (i : ℕ) (store : 
       let so : WritesSo config state.core.world i writing new own.sight now turn
       = writes (at_work config state i store writing own.sight own.begun (as_course (course.Writes writing) e)) in
       subst (λ (one : Actor). ActorSteps config state i new one next how) (sym (own_is own (course.Writes writing) e))
-      (write_steps config state i store writing own.sight own.begun (as_course (course.Writes writing) e) new.config.topology new
+      (write_steps config state i store writing own.sight own.begun (as_course (course.Writes writing) e)
+      new.config.topology new
       now turn next how
-      (ap (λ (c : Config). c.topology) (written_config config state.core.world i writing new own.sight now turn so)) so h)
+      (ap (λ (c : Config). c.topology) (written_config config state.core.world i writing new own.sight now turn so)) so
+      h)
 
-  pub query_step : (querying : Querying) → own.course ≡ course.Queries querying → (new : Store) (now : Sight) (turn : QueryTurn)
+  pub query_step : (querying : Querying) → own.course ≡ course.Queries querying → (new : Store) (now : Sight)
+      (turn : QueryTurn)
       (next : Actor) (how : Option Stepped)
       → ((asking : IsAsking config state.core i store querying own.sight)
       → QueriesSo config state.core i querying new own.sight now turn)
@@ -133,6 +146,7 @@ module _ (config : Config) (state : State (store_of config)) (i : ℕ) (store : 
       let so : QueriesSo config state.core i querying new own.sight now turn
       = queries (at_asking config state i store querying own.sight own.begun (as_course (course.Queries querying) e)) in
       subst (λ (one : Actor). ActorSteps config state i new one next how) (sym (own_is own (course.Queries querying) e))
-      (query_steps config state i store querying own.sight own.begun (as_course (course.Queries querying) e) new.config.topology
+      (query_steps config state i store querying own.sight own.begun (as_course (course.Queries querying) e)
+      new.config.topology
       new now turn next how
       (ap (λ (c : Config). c.topology) (queried_config config state.core i querying new own.sight now turn so)) so h)

@@ -18,10 +18,10 @@ use Rattle.weave_core.specs.Core.{Core, IsTold, Reader, asked_now, query_now, vi
 use Rattle.weave_core.specs.Licensed.{IsReader}
 use Rattle.weave_core.specs.QueryLooks.{seen_of}
 use Rattle.weave_core.specs.QueryTurns.{IsAnswered, IsAsking, QueryWaits}
-use Rattle.weave_core.specs.Sights.{sight_of}
+use Rattle.mon_topo.specs.Sights.{sight_of}
 use Rattle.weave_core.specs.States.{holder_for_query, store_of}
 use Rattle.weave_core.specs.declared.queries.Querying.{Querying}
-use Rattle.weave_core.specs.declared.sights.Sight.{Sight}
+use Rattle.mon_topo.specs.declared.sights.Sight.{Sight}
 use Rattle.weave_core.specs.declared.store.Store.{Store}
 use Rattle.write_core.specs.Invariant.{IsKept}
 use Rattle.write_core.specs.World.{Actor, Stander, Stands, World}
@@ -86,17 +86,20 @@ module _ (config : Config) (core : Core (store_of config)) (k : ℕ) (store : St
   pub seen_here : IsSeenSo reader.view.seen (seen_of sight)
   seen_here =
       subst (λ (s : Sight). IsSeenSo reader.view.seen (seen_of s)) (sym asking.reader.seen)
-      (seen_told config.schemas config.topology config.range_points reader.view.seen own.part.sound.held asking.reader.since
+      (seen_told config.schemas config.topology config.range_points reader.view.seen own.part.sound.held
+      asking.reader.since
       asking.shared.served.replicas)
 
   -- ---- answers, by what is asked
 
   pub record AnsweredAt (some : Ask) (new : Store) (now : Sight) (answer : Told) : Type 0 where
-    pub told : IsTold (store_of config) reader.setting reader.moment world reader.view query.avoided (slots_at query) some answer
+    pub told : IsTold (store_of config) reader.setting reader.moment world reader.view query.avoided (slots_at query)
+        some answer
     pub shared : AreShared config (world_then (store_of config) reader.setting reader.moment world reader.view some) new
     pub sight_is : now ≡ sight_of (view_then (store_of config) reader.setting reader.moment world reader.view some).seen
 
-  pub answered : (some : Ask) → asks ≡ some → (new : Store) (now : Sight) (answer : Told) → AnsweredAt some new now answer
+  pub answered : (some : Ask) → asks ≡ some → (new : Store) (now : Sight) (answer : Told) → AnsweredAt some new now
+      answer
       → IsAnswered config core k new now answer
   answered some e new now answer so =
       let then = subst (λ (one : Ask). AnsweredAt one new now answer) (sym (asks_then some e)) so in

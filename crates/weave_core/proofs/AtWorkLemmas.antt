@@ -1,32 +1,30 @@
 -- A write at work: at which replica it is, and what is known of the seat that its next event needs.
-use Rattle.std.proofs.Common.{◌≡◌, ℕ, ◌<◌, Bool, true, false, cond, None, List, [], ◌∷◌, ◌++◌, length, map, get_or, refl, sym, ap, subst, ◌∙◌, inl, inr, arith}
+use Rattle.write_core.proofs.StepLemmas.{writer_of as kept_writer}
+use Rattle.std.proofs.Common.{◌≡◌, ℕ, ◌<◌, Bool, true, false, cond, None, List, [], ◌∷◌, ◌++◌, length, map}
+use Rattle.std.proofs.Common.{refl, sym, ap, subst, ◌∙◌, arith}
 use Rattle.std.specs.Prelude.{◌≢◌}
-use Rattle.std.proofs.lemmas.Bool.{cases_lt}
-use Rattle.std.proofs.lemmas.List.{get_or_past, length-map}
+use Rattle.std.proofs.lemmas.List.{length-map}
 use Rattle.mon_config.specs.declared.config.Config.{Config}
 use Rattle.mon_topo.proofs.RangeHistoryLemmas.{all_back}
 use Rattle.mon_topo.specs.Zones.{leaves_in, ranges_in}
-use Rattle.mon_value.specs.LeafHistories.{is_opened}
-use Rattle.mon_value.specs.declared.histories.Entry.{Entry}
 use Rattle.mon_value.specs.declared.positions.Leaf.{Leaf}
-use Rattle.mon_value.specs.declared.positions.Range.{Range}
 use Rattle.mon_value.specs.declared.positions.Slot.{Slot}
 use Rattle.weave_core.proofs.SeatLemmas.{parts_alike}
 use Rattle.weave_core.specs.Writers.{LooksAtOne, RaisesBelow, writer_of}
 use Rattle.weave_core.specs.Agreements.{IsLeafSo, IsRangeSo}
 use Rattle.weave_core.specs.Holders.{leaf_inside}
-use Rattle.weave_core.specs.Sights.{AreAlike, range_sight, sight_of}
+use Rattle.mon_topo.specs.Sights.{AreAlike, range_sight, sight_of}
 use Rattle.weave_core.specs.States.{store_of}
 use Rattle.weave_core.specs.WriteTurns.{IsAtWork}
 use Rattle.weave_core.specs.declared.leaves.LeafSeat.{LeafSeat}
 use Rattle.weave_core.specs.declared.ranges.RangeSeat.{RangeSeat}
-use Rattle.weave_core.specs.declared.sights.Sight.{Sight}
+use Rattle.mon_topo.specs.declared.sights.Sight.{Sight}
 use Rattle.weave_core.specs.declared.store.Store.{Store}
 use Rattle.weave_core.specs.declared.writes.Writing.{Writing}
-use Rattle.write_core.proofs.StepLemmas.{writer_of as kept_writer}
 use Rattle.write_core.specs.Invariant.{IsGoing, IsMark, IsWriter}
 use Rattle.write_core.specs.Marks.{waiting}
-use Rattle.write_core.specs.Program.{Acking, Ended, Entering, Inside, Locking, Marked, Not, Reserving, Stage, Verdict, after, ask_of, done_inside, enter, entering, inside, reserve, reserving}
+use Rattle.write_core.specs.Program.{Acking, Ended, Entering, Inside, Locking, Marked, Not, Reserving, Stage, Verdict}
+use Rattle.write_core.specs.Program.{after, ask_of, done_inside, enter, entering, inside, reserve, reserving}
 use Rattle.write_core.specs.Rounds.{Round, again, is_none_left, is_through, looked, marks_of, round_of, skipped}
 use Rattle.write_core.specs.Views.{View}
 use Rattle.write_core.specs.World.{World, Writer, view_of}
@@ -37,6 +35,7 @@ use Rattle.write_core.specs.declared.asks.WriteTold.TheVariants as told
 use Rattle.write_core.specs.declared.marks.Fate.TheVariants as fate
 use Rattle.write_core.specs.declared.marks.Mark.{Mark}
 use Rattle.write_core.specs.declared.marks.Refused.TheVariants as refused
+use Rattle.write_core.proofs.InsideLemmas.{opened_there}
 
 -- ---- where a write is, by what it asks
 
@@ -61,7 +60,8 @@ abbrev pub StandsAt : WriteAsk → Stage → Type 0
 StandsAt ask.Lock stage = stage ≡ Locking
 StandsAt (ask.Reserve slot leaf) stage = StandsBefore Reserving stage slot leaf
 StandsAt (ask.Enter slot leaf) stage = StandsBefore Entering stage slot leaf
-StandsAt (ask.RaiseRoot bucket) stage = (at_root : List ℕ) × (in_zone : List ℕ) × StandsInside stage (bucket ∷ at_root) in_zone
+StandsAt (ask.RaiseRoot bucket) stage = (at_root : List ℕ) × (in_zone : List ℕ) × StandsInside stage (bucket ∷ at_root)
+    in_zone
 StandsAt (ask.RaiseZone bucket) stage = (in_zone : List ℕ) × StandsInside stage [] (bucket ∷ in_zone)
 StandsAt (ask.Put slot leaf) stage = StandsBefore (λ round. Inside round [] []) stage slot leaf
 StandsAt ask.Ack stage = (verdict : Verdict) × (stage ≡ Acking verdict)
@@ -210,7 +210,8 @@ going_locked told.Done = λ e. cc
 
 -- ---- where it is inside of no leaf
 
-none_entering_by : (b : Bool) (round : Round) → leaf_inside (cond b (Acking (Marked (marks_of round))) (Entering round)) ≡ None
+none_entering_by : (b : Bool) (round : Round) → leaf_inside (cond b (Acking (Marked (marks_of round)))
+    (Entering round)) ≡ None
 none_entering_by true round = refl
 none_entering_by false round = refl
 
@@ -243,7 +244,8 @@ module _ (count : ℕ) where
   pub below_entering : (round : Round) → RaisesBelow count (entering round)
   below_entering round = below_entering_by (is_through (skipped round)) (skipped round)
 
-  below_reserving_by : (b : Bool) (round : Round) → RaisesBelow count (cond b (entering (again round)) (Reserving round))
+  below_reserving_by : (b : Bool) (round : Round) → RaisesBelow count (cond b (entering (again round))
+      (Reserving round))
   below_reserving_by true round = below_entering (again round)
   below_reserving_by false round = tt
 
@@ -259,18 +261,6 @@ module _ (count : ℕ) where
   below_locked told.Done = tt
 
 -- ---- the seat that it needs
-
--- a leaf with an opened replica is there
-opened_there : (leaves : List (List Entry)) (n : ℕ) (range : Range) (slot : Slot)
-    → is_opened range slot (get_or leaves n []) ≡ true → n < length leaves
-opened_there leaves n range slot h =
-    elim (cases_lt n (length leaves)) [
-      | inl here ↦ here
-      | inr past ↦ absurd (nothing (sym (ap (is_opened range slot) (get_or_past leaves n [] past)) ∙ h))
-    ]
-  where
-    nothing : false ≡ true → ⊥
-    nothing e = cc
 
 module _ (config : Config) (world : World) (i : ℕ) (store : Store) (writing : Writing) (sight : Sight)
     (work : IsAtWork config world i store writing sight) where
@@ -299,13 +289,15 @@ module _ (config : Config) (world : World) (i : ℕ) (store : Store) (writing : 
   range_alike seat so =
       subst (λ (s : Sight). AreAlike s seat.sight) (sym work.writer.seen)
       (subst (λ (s : Sight). AreAlike (sight_of view.seen) s) (sym so.sight)
-      (parts_alike (store_of config) world view (world.ranges writing.range.0) own.part (work.kept.ranges writing.range)))
+      (parts_alike (store_of config) world view (world.ranges writing.range.0) own.part
+      (work.kept.ranges writing.range)))
 
   pub range_in_sight : (seat : RangeSeat) → IsRangeSo world writing.range.0 seat
       → writing.range.0 < length seat.sight.ranges
   range_in_sight seat so =
       let same : length seat.sight.ranges ≡ length (world.ranges writing.range.0).seen.ranges
-      = ap (λ (s : Sight). length s.ranges) so.sight ∙ length-map (world.ranges writing.range.0).seen.ranges range_sight in
+      = ap (λ (s : Sight). length s.ranges) so.sight ∙ length-map (world.ranges writing.range.0).seen.ranges
+      range_sight in
       let there : length (world.ranges writing.range.0).seen.ranges ≡ length (ranges_in config.topology)
       = (work.kept.ranges writing.range).sound.held.all_ranges in
       let all : length world.truth.seen.ranges ≡ length (ranges_in config.topology) = work.kept.truth.held.all_ranges in
@@ -325,7 +317,8 @@ module _ (config : Config) (world : World) (i : ℕ) (store : Store) (writing : 
   module _ (leaf : Leaf) (here : leaf.0 < length world.truth.seen.leaves) where
     pub leaf_there : leaf.0 < length store.leaves.items
     leaf_there =
-        let all : length world.truth.seen.leaves ≡ length (leaves_in config.topology) = work.kept.truth.held.all_leaves in
+        let all : length world.truth.seen.leaves ≡ length (leaves_in config.topology) =
+        work.kept.truth.held.all_leaves in
         let count : length store.leaves.items ≡ length (leaves_in config.topology) = work.shared.leaves.count in
         omega (arith, all, count, here)
 
@@ -341,5 +334,6 @@ module _ (config : Config) (world : World) (i : ℕ) (store : Store) (writing : 
         = ap (λ (s : Sight). length s.leaves) so.sight ∙ length-map (world.leaves leaf.0).seen.leaves length in
         let there : length (world.leaves leaf.0).seen.leaves ≡ length (leaves_in config.topology)
         = (work.kept.leaves leaf).sound.held.all_leaves in
-        let all : length world.truth.seen.leaves ≡ length (leaves_in config.topology) = work.kept.truth.held.all_leaves in
+        let all : length world.truth.seen.leaves ≡ length (leaves_in config.topology) =
+        work.kept.truth.held.all_leaves in
         omega (arith, same, there, all, here)

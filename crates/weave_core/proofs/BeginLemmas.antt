@@ -1,5 +1,7 @@
 -- A new weave is as a core in which nobody is declared.
-use Rattle.std.proofs.Common.{◌≡◌, ◌∙◌, ◌<◌, ◌≤◌, ◌+◌, ℕ, suc, zero, Bool, true, false, cond, ◌||◌, ◌&&◌, Option, Some, None, List, [], ◌∷◌, ◌++◌, length, replicate, refl, sym, ap, subst, arith, slice_get, inl, inr, nat_eq}
+use Rattle.std.proofs.Common.{◌≡◌, ◌∙◌, ◌<◌, ◌≤◌, ◌+◌, ℕ, suc, zero, Bool, true, false, cond, ◌||◌, ◌&&◌, Option, Some}
+use Rattle.std.proofs.Common.{None, List, [], ◌∷◌, ◌++◌, length, replicate, refl, sym, ap, subst, arith, slice_get}
+use Rattle.std.proofs.Common.{inl, inr, nat_eq}
 use Rattle.std.specs.Prelude.{Contains, pos}
 use Rattle.std.specs.List.{flat_map, range_with_len, AllByRecursion as All}
 use Rattle.std.proofs.lemmas.Bool.{cases_eq, cases_lt, eq-eqb, ne_eqb}
@@ -11,7 +13,8 @@ use Rattle.mon_topo.proofs.RangeHistoryLemmas.{all_at}
 use Rattle.mon_topo.specs.HeldHistories.{leaf_history, range_history}
 use Rattle.mon_topo.specs.RangeHistories.{acked, opened, serving, serving_after}
 use Rattle.mon_topo.specs.Replicas.{same_leaf}
-use Rattle.mon_topo.specs.Zones.{first_replicas, leaf_numbered, leaves_in, leaves_named, no_range, range_numbered, ranges_in}
+use Rattle.mon_topo.specs.Zones.{first_replicas, leaf_numbered, leaves_in, leaves_named, no_range, range_numbered}
+use Rattle.mon_topo.specs.Zones.{ranges_in}
 use Rattle.mon_topo.specs.declared.zones.RangeSpec.{RangeSpec}
 use Rattle.mon_topo.specs.declared.zones.ZoneSpec.{ZoneSpec}
 use Rattle.mon_value.proofs.LeafHistoryLemmas.{opened_more}
@@ -37,7 +40,8 @@ use Rattle.weave_core.proofs.FirstLemmas.{HasNoRow}
 use Rattle.weave_core.specs.ActorAgreements.{IsActorSo, actor_numbered}
 use Rattle.weave_core.specs.Agreements.{AreShared, IsServed, first_view}
 use Rattle.weave_core.specs.Core.{Reader}
-use Rattle.weave_core.specs.FirstHistories.{first_histories, opened_here, opened_of, opening, openings_from, slot_numbered}
+use Rattle.weave_core.specs.FirstHistories.{first_histories, opened_here, opened_of, opening, openings_from}
+use Rattle.weave_core.specs.FirstHistories.{slot_numbered}
 use Rattle.weave_core.specs.Licensed.{IsNewCore}
 use Rattle.weave_core.specs.Openings.{first_world}
 use Rattle.weave_core.specs.Schedules.{IsFirst}
@@ -62,7 +66,8 @@ either : (b : Bool) (rows : List Row) → cond b rows rows ≡ rows
 either true rows = refl
 either false rows = refl
 
-no_own_rows : (range : Range) (slot : Slot) (history : List Entry) → All HasNoRow history → replica_rows range slot history ≡ []
+no_own_rows : (range : Range) (slot : Slot) (history : List Entry) → All HasNoRow history → replica_rows range slot
+    history ≡ []
 no_own_rows range slot [] h = refl
 no_own_rows range slot (e ∷ history) h =
     ap (λ (x : Entry). entry_rows range slot x ++ replica_rows range slot history) h.0.is
@@ -133,7 +138,8 @@ module _ (range : Range) (slot : Slot) where
       → is_opened range slot (flat_map (opened_of zones leaf) (range_with_len from count)) ≡ false
   ranges_apart zones leaf from zero above = refl
   ranges_apart zones leaf from (suc count) above =
-      opened_more range slot (opened_of zones leaf from) (flat_map (opened_of zones leaf) (range_with_len (from + 1) count))
+      opened_more range slot (opened_of zones leaf from) (flat_map (opened_of zones leaf)
+      (range_with_len (from + 1) count))
       ∙ ap (λ (b : Bool). b || is_opened range slot (flat_map (opened_of zones leaf) (range_with_len (from + 1) count)))
       (range_apart leaf from 0 (first_replicas zones from)
       (λ e. let long : length (first_replicas zones range.0) ≡ length (first_replicas zones from)
@@ -167,7 +173,12 @@ all_serve firsts slot (leaf ∷ leaves) base at all =
     let next : slot + suc k ≡ (slot + 1) + k = omega arith in
     sym (ap (λ (n : ℕ). slice_get firsts n) next) ∙ at (suc k) other is)
     (all_pushed (IsPlacedIn firsts) base (record { slot = slot_numbered slot; leaf = leaf }) all
-    (record { place = slot; there = sym (ap (λ (n : ℕ). slice_get firsts n) none) ∙ at zero leaf refl; slot_is = refl }))
+    (record {
+      place = slot;
+      there = sym (ap (λ (n : ℕ). slice_get firsts n) none) ∙ at zero leaf refl;
+      slot_is =
+          refl;
+    }))
 
 first_none : (zones : List ZoneSpec) (r : ℕ) → length (ranges_in zones) ≤ r → length (first_replicas zones r) ≡ 0
 first_none zones r past =
@@ -197,7 +208,8 @@ module _ (config : Config) (served : IsServed config) where
 
   no_acked : (range : Range) → acked (seen_range range) ≡ []
   no_acked range = elim (cases_lt range.0 (length (ranges_in config.topology))) [
-    | inl h ↦ ap (λ (l : List RangeEntry). acked l) (begun.range_is config.topology range h) ∙ begun.no_acks 0 (firsts_of range)
+    | inl h ↦ ap (λ (l : List RangeEntry). acked l) (begun.range_is config.topology range h) ∙ begun.no_acks 0
+        (firsts_of range)
     | inr past ↦ ap (λ (l : List RangeEntry). acked l) (is_past range (omega (arith, past)))
   ]
 
@@ -349,7 +361,8 @@ begins config weave shared none = record {
     holders = record { range = λ range j is. absurd cc; leaf = λ leaf j is. absurd cc };
     shared = shared;
     actors = record {
-      count = ap (λ (l : List (Option Actor)). length l) none ∙ length-replicate {A = Option Actor} (LAST_ACTOR + 1) None;
+      count = ap (λ (l : List (Option Actor)). length l) none ∙ length-replicate {A = Option Actor} (LAST_ACTOR + 1)
+          None;
       each = λ i. subst (λ (o : Option Actor). IsActorSo config i ((first_world config).actors i)
           (first_reader config shared.served) Undeclared o)
           (sym (ap (λ (l : List (Option Actor)). actor_numbered l i) none ∙ none_numbered (LAST_ACTOR + 1) i)) refl;

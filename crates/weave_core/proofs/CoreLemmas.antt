@@ -1,5 +1,6 @@
 -- Queries beside writes and recoveries: each event of a query is licensed, and leaves what others rely on.
-use Rattle.std.proofs.Common.{◌≡◌, ℕ, ℤ, Bool, true, false, ◌&&◌, List, [], ◌∷◌, ◌++◌, length, take, refl, sym, ap, subst, ◌∙◌, arith}
+use Rattle.std.proofs.Common.{◌≡◌, ℕ, ℤ, Bool, true, false, ◌&&◌, List, [], ◌∷◌, ◌++◌, length, take, refl, sym, ap}
+use Rattle.std.proofs.Common.{subst, ◌∙◌, arith}
 use Rattle.std.specs.Prelude.{nat_eq, Option, Some, None}
 use Rattle.mon_hints.proofs.CoverLemmas.{covers_more, joined_bits_first, joined_bits_within}
 use Rattle.mon_hints.specs.Covers.{AreBitsWithin, Bits, joined_bits}
@@ -34,7 +35,10 @@ use Rattle.write_core.specs.Events.{Resolves, Visits, happened}
 use Rattle.write_core.specs.Invariant.{IsKept}
 use Rattle.write_core.specs.Views.{IsWithin, View, joined, of_leaf, of_range}
 use Rattle.write_core.specs.World.{IsPart, World}
-use Rattle.weave_core.specs.Core.{CanCome, CanGoOn, Core, CoreEvent, Happens, Hears, IsLookedAt, IsTold, MayTell, Reader, Tells, asked_now, begun_with, came, gone_on, query_now, root_word_bits, seen_by, told_on, view_then, view_told, with_bits, world_then, world_told, zone_word_bits}
+use Rattle.weave_core.specs.Core.{CanCome, CanGoOn, Core, CoreEvent, Happens, Hears, IsLookedAt, IsTold, MayTell}
+use Rattle.weave_core.specs.Core.{Reader, Tells, asked_now, begun_with, came, gone_on, query_now, root_word_bits}
+use Rattle.weave_core.specs.Core.{seen_by, told_on, view_then, view_told, with_bits, world_then, world_told}
+use Rattle.weave_core.specs.Core.{zone_word_bits}
 use Rattle.weave_core.specs.Licensed.{IsNewCore, IsNewReader, IsReader, IsWoven}
 
 -- ---- a session with one event more
@@ -107,7 +111,8 @@ module _ (store : Store) (setting : Setting) (moment : ℤ) (world : World) (vie
       sound = record {
         held = part.sound.held;
         covered = λ leaf. covers_more view.bits (joined_bits view.bits bits) (zone_of_leaf store leaf) leaf
-            (history_buckets store.buckets_of (of_leaf view leaf)) (joined_bits_first view.bits bits) (part.sound.covered leaf);
+            (history_buckets store.buckets_of (of_leaf view leaf)) (joined_bits_first view.bits bits)
+            (part.sound.covered leaf);
       };
       within = record {
         seen = part.within.seen;
@@ -144,15 +149,17 @@ module _ (store : Store) (setting : Setting) (moment : ℤ) (world : World) (vie
   pub goes : (avoided : List Leaf) (slots : List RangeSlot) (asked : Ask) (answer : Told)
       → IsTold store setting moment world view avoided slots asked answer
       → Goes (world_then store setting moment world view asked) (view_then store setting moment world view asked)
-  goes avoided slots (ask.LoadRoot bucket) answer h = more_known (root_word_bits store setting moment world view bucket) (record {
-    root = λ zone b e. both_true (nat_eq b bucket) (world.truth.bits.root zone b) e;
-    zone = λ leaf b e. absurd cc;
-  })
-  goes avoided slots (ask.LoadZone zone bucket) answer h = more_known (zone_word_bits store setting moment world view zone bucket) (record {
-    root = λ z b e. absurd cc;
-    zone = λ leaf b e. both_true (nat_eq b bucket && nat_eq (zone_of_leaf store (leaf_numbered leaf)).0 zone.0)
-        (world.truth.bits.zone leaf b) e;
-  })
+  goes avoided slots (ask.LoadRoot bucket) answer h = more_known (root_word_bits store setting moment world view
+      bucket) (record {
+        root = λ zone b e. both_true (nat_eq b bucket) (world.truth.bits.root zone b) e;
+        zone = λ leaf b e. absurd cc;
+      })
+  goes avoided slots (ask.LoadZone zone bucket) answer h = more_known (zone_word_bits store setting moment world view
+      zone bucket) (record {
+        root = λ z b e. absurd cc;
+        zone = λ leaf b e. both_true (nat_eq b bucket && nat_eq (zone_of_leaf store (leaf_numbered leaf)).0 zone.0)
+            (world.truth.bits.zone leaf b) e;
+      })
   goes avoided slots (ask.Resolve range) answer h = at_range range (free_range avoided slots range answer h)
   goes avoided slots (ask.Visit leaf) answer h = at_leaf leaf (free_leaf avoided slots leaf answer h)
   goes avoided slots ask.Finished answer h = record {
@@ -169,7 +176,8 @@ module _ (store : Store) (setting : Setting) (moment : ℤ) (world : World) (vie
     after_range = joined view (world.ranges range.0)
 
     whole_range : of_range after_range range ≡ of_range world.truth range
-    whole_range = joined_whole_range view (world.ranges range.0) world.truth part.within (kept.ranges range).within range
+    whole_range = joined_whole_range view (world.ranges range.0) world.truth part.within (kept.ranges range).within
+        range
         (kept.whole_ranges range)
 
     resolved_so : (avoided : List Leaf) (found : Option SlotLeaf)
@@ -223,7 +231,8 @@ module _ (store : Store) (setting : Setting) (moment : ℤ) (world : World) (vie
   -- each answer is true of what is seen then
   pub true_told : (avoided : List Leaf) (slots : List RangeSlot) (asked : Ask) (answer : Told)
       → IsTold store setting moment world view avoided slots asked answer
-      → IsTrueAnswer store setting moment (seen_by view) (seen_by (view_then store setting moment world view asked)) avoided
+      → IsTrueAnswer store setting moment (seen_by view) (seen_by (view_then store setting moment world view asked))
+      avoided
       slots asked answer
   true_told avoided slots (ask.LoadRoot bucket) (told.Word word seen) h = record {
     known = λ zone e. h.0.bits zone ∙ part.within.bits.root zone bucket e;
@@ -257,7 +266,8 @@ module _ (store : Store) (setting : Setting) (moment : ℤ) (world : World) (vie
   true_told avoided slots (ask.Visit at) (told.Slot slot leaf) h = absurd h
   true_told avoided slots (ask.Visit at) told.NoSlot h = absurd h
   true_told avoided slots (ask.Visit at) (told.Down cut) h = found_so at cut true h
-  true_told avoided slots (ask.Visit at) (told.Unread cut) h = (found_so at cut false h.0, met_so at cut false h.0 false h.1)
+  true_told avoided slots (ask.Visit at) (told.Unread cut) h =
+      (found_so at cut false h.0, met_so at cut false h.0 false h.1)
   true_told avoided slots (ask.Visit at) (told.Read cut part') h = (
     found_so at cut false h.0,
     met_so at cut false h.0 true h.1,
@@ -268,7 +278,8 @@ module _ (store : Store) (setting : Setting) (moment : ℤ) (world : World) (vie
     found_so at cut false h.0,
     met_so at cut false h.0 true h.1,
     on_rows at cut false h.0
-        (λ history. IsOverLeaf (typed_of setting) (slot_rows history slots) moment setting.limit (record { load = load }))
+        (λ history. IsOverLeaf (typed_of setting) (slot_rows history slots) moment setting.limit
+        (record { load = load }))
         h.2,
   )
   true_told avoided slots ask.Finished (told.Word word seen) h = absurd h
@@ -281,45 +292,48 @@ module _ (store : Store) (setting : Setting) (moment : ℤ) (world : World) (vie
 
 -- ---- each reader
 
-pub sound_so : (store : Store) (world : World) (view : View) → IsPart store world view → session.IsSound store (seen_by view)
+pub sound_so : (store : Store) (world : World) (view : View) → IsPart store world view → session.IsSound store
+    (seen_by view)
 sound_so store world view part = record { held = part.sound.held; covered = λ leaf here. part.sound.covered leaf }
 
 module _ (store : Store) (world : World) (reader : Reader store) (kept : IsKept store world)
-    (own : IsReader store world reader) (answer : Told) (stage : Stage) (may : MayTell store world reader answer stage) where
-  abbrev query : Query
-  query = query_now store reader
+    (own : IsReader store world reader) (answer : Told) (stage : Stage) (may : MayTell store world reader answer stage)
+  where
+    abbrev query : Query
+    query = query_now store reader
 
-  abbrev next : View
-  next = view_told store world reader
+    abbrev next : View
+    next = view_told store world reader
 
-  went : Goes store reader.setting reader.moment world reader.view kept own.part (world_told store world reader) next
-  went = goes store reader.setting reader.moment world reader.view kept own.part query.avoided (slots_at query)
-      (asked_now store reader) answer may.0
+    went : Goes store reader.setting reader.moment world reader.view kept own.part (world_told store world reader) next
+    went = goes store reader.setting reader.moment world reader.view kept own.part query.avoided (slots_at query)
+        (asked_now store reader) answer may.0
 
-  event_licensed : IsLicensedEvent store reader.setting reader.moment (seen_by reader.view) query
-      (record { answer = answer; view = seen_by next; stage = stage })
-  event_licensed = record {
-    grown = record { seen = went.grown.seen; bits = went.grown.bits };
-    sound = record {
-      held = went.part_then.sound.held;
-      covered = λ leaf here. went.part_then.sound.covered leaf;
-    };
-    true_then = true_told store reader.setting reader.moment world reader.view kept own.part query.avoided (slots_at query)
-        (asked_now store reader) answer may.0;
-    goes_on = may.1;
-  }
+    event_licensed : IsLicensedEvent store reader.setting reader.moment (seen_by reader.view) query
+        (record { answer = answer; view = seen_by next; stage = stage })
+    event_licensed = record {
+      grown = record { seen = went.grown.seen; bits = went.grown.bits };
+      sound = record {
+        held = went.part_then.sound.held;
+        covered = λ leaf here. went.part_then.sound.covered leaf;
+      };
+      true_then = true_told store reader.setting reader.moment world reader.view kept own.part query.avoided
+          (slots_at query)
+          (asked_now store reader) answer may.0;
+      goes_on = may.1;
+    }
 
-  reader_told : IsReader store (world_told store world reader) (told_on store reader answer next stage)
-  reader_told = record {
-    part = went.part_then;
-    sound = own.sound;
-    licensed = licensed_push store reader.setting reader.moment (seen_by reader.begin) reader.first reader.session
-        (record { answer = answer; view = seen_by next; stage = stage }) own.licensed
-        (subst (λ (before : session.View). IsLicensedEvent store reader.setting reader.moment before query
-        (record { answer = answer; view = seen_by next; stage = stage })) (sym own.now) event_licensed);
-    now = view_push store reader.setting reader.moment (seen_by reader.begin) reader.session
-        (record { answer = answer; view = seen_by next; stage = stage });
-  }
+    reader_told : IsReader store (world_told store world reader) (told_on store reader answer next stage)
+    reader_told = record {
+      part = went.part_then;
+      sound = own.sound;
+      licensed = licensed_push store reader.setting reader.moment (seen_by reader.begin) reader.first reader.session
+          (record { answer = answer; view = seen_by next; stage = stage }) own.licensed
+          (subst (λ (before : session.View). IsLicensedEvent store reader.setting reader.moment before query
+          (record { answer = answer; view = seen_by next; stage = stage })) (sym own.now) event_licensed);
+      now = view_push store reader.setting reader.moment (seen_by reader.begin) reader.session
+          (record { answer = answer; view = seen_by next; stage = stage });
+    }
 
 reader_stays : (store : Store) (before after : World) (reader : Reader store)
     → ((other : View) → IsPart store before other → IsPart store after other) → IsReader store before reader
@@ -333,7 +347,8 @@ reader_stays store before after reader stays h = record {
 
 -- ---- each event
 
-came_woven : (store : Store) (core : Core store) (event : CoreEvent store) → CanCome store core event → IsWoven store core
+came_woven : (store : Store) (core : Core store) (event : CoreEvent store) → CanCome store core event
+    → IsWoven store core
     → IsWoven store (came store core event)
 came_woven store core (Happens event) can woven = record {
   world = run_kept store core.world (event ∷ []) (can, tt) woven.world;

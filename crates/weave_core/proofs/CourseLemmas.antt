@@ -13,13 +13,14 @@ use Rattle.weave_core.specs.Core.{Reader, asked_now, query_now}
 use Rattle.weave_core.specs.Courses.{event_of, is_over}
 use Rattle.weave_core.specs.EventNames.{event_of_query, event_of_write}
 use Rattle.weave_core.specs.States as spec
-use Rattle.weave_core.specs.States.{Asking, Dismissed, Eventless, Role, State, Undeclared, Writing, begun_in, declared_in, ended_in, fault_in, next_in, store_of, write_asks}
+use Rattle.weave_core.specs.States.{Asking, Dismissed, Eventless, Role, State, Undeclared, Writing, begun_in}
+use Rattle.weave_core.specs.States.{declared_in, ended_in, fault_in, next_in, store_of, write_asks}
 use Rattle.weave_core.specs.declared.actors.Actor.{Actor}
 use Rattle.weave_core.specs.declared.actors.Course.{Course}
 use Rattle.weave_core.specs.declared.actors.Course.TheVariants as course
 use Rattle.weave_core.specs.declared.calls.WeaveFault.TheVariants as fault
 use Rattle.weave_core.specs.declared.queries.Querying.{Querying}
-use Rattle.weave_core.specs.declared.sights.Sight.{Sight}
+use Rattle.mon_topo.specs.declared.sights.Sight.{Sight}
 use Rattle.weave_core.specs.declared.weave.Weave.{Weave}
 use Rattle.weave_core.specs.declared.writes.Writing.{Writing as Write}
 use Rattle.write_core.specs.Program as write
@@ -63,7 +64,8 @@ module _ (config : Config) (state : State (store_of config)) (i : ℕ) where
   abbrev Reader' : Reader (store_of config)
   Reader' = state.core.readers i
 
-  write_asks_so : (writing : Write) (begun : Bool) (sight : Sight) → IsWriting config i Doer' Reader' writing begun sight
+  write_asks_so : (writing : Write) (begun : Bool) (sight : Sight) → IsWriting config i Doer' Reader' writing begun
+      sight
       → write.ask_of writing.machine.stage ≡ write_asks Doer'
   write_asks_so writing begun sight h = sym (ap (λ (who : Doer). write_asks who) h.writer.writer)
 
@@ -71,12 +73,14 @@ module _ (config : Config) (state : State (store_of config)) (i : ℕ) where
       → IsQuerying config i Doer' Reader' querying begun sight
       → query.ask_of querying.machine.setting querying.machine.stage ≡ asked_now (store_of config) Reader'
   query_asks_so querying begun sight h =
-      sym (ap (λ (setting : Setting). query.ask_of setting (query_now (store_of config) Reader').stage) h.reader_so.setting
+      sym (ap (λ (setting : Setting). query.ask_of setting (query_now (store_of config) Reader').stage)
+      h.reader_so.setting
       ∙ ap (λ (now : Query). query.ask_of querying.machine.setting now.stage) h.reader_so.now)
 
   -- ---- its next event
 
-  next_so : (role : Role) (one : Course) (begun : Bool) (sight : Sight) → IsCourseSo config i Doer' Reader' role one begun sight
+  next_so : (role : Role) (one : Course) (begun : Bool) (sight : Sight) → IsCourseSo config i Doer' Reader' role one
+      begun sight
       → event_of one ≡ next_in (store_of config) state i role
   next_so Undeclared one begun sight h = absurd h
   next_so (Eventless text) (course.Refused own) begun sight h = refl
@@ -130,7 +134,8 @@ module _ (config : Config) (state : State (store_of config)) (i : ℕ) where
 
   -- ---- whether it has ended
 
-  over_so : (role : Role) (one : Course) (begun : Bool) (sight : Sight) → IsCourseSo config i Doer' Reader' role one begun sight
+  over_so : (role : Role) (one : Course) (begun : Bool) (sight : Sight) → IsCourseSo config i Doer' Reader' role one
+      begun sight
       → is_over one ≡ ended_in (store_of config) state i role
   over_so Undeclared one begun sight h = absurd h
   over_so (Eventless text) (course.Refused own) begun sight h = refl
@@ -146,7 +151,8 @@ module _ (config : Config) (state : State (store_of config)) (i : ℕ) where
       sym (ap (λ (asks : WriteAsk). not (is_some (event_of_write asks))) (sym (write_asks_so writing begun sight h))
       ∙ ap not (write_goes (write.ask_of writing.machine.stage) h.goes_on))
   over_so Writing (course.Queries querying) begun sight h = absurd h
-  over_so Writing course.Ended begun sight h = sym (ap (λ (asks : WriteAsk). not (is_some (event_of_write asks))) h.ended)
+  over_so Writing course.Ended begun sight h = sym (ap (λ (asks : WriteAsk). not (is_some (event_of_write asks)))
+      h.ended)
   over_so Asking (course.Refused own) begun sight h = absurd h
   over_so Asking (course.Writes writing) begun sight h = absurd h
   over_so Asking (course.Queries querying) begun sight h =
@@ -154,7 +160,8 @@ module _ (config : Config) (state : State (store_of config)) (i : ℕ) where
       ∙ ap not (query_goes (query.ask_of querying.machine.setting querying.machine.stage) h.goes_on))
   over_so Asking course.Ended begun sight h = sym (ap (λ (asks : Ask). not (is_some (event_of_query asks))) h.ended)
 
-  not_over : (role : Role) → IsActorSo config i Doer' Reader' role None → false ≡ ended_in (store_of config) state i role
+  not_over : (role : Role) → IsActorSo config i Doer' Reader' role None → false ≡ ended_in (store_of config) state i
+      role
   not_over Undeclared h = refl
   not_over (Eventless text) h = absurd h
   not_over Dismissed h = absurd h
@@ -163,7 +170,8 @@ module _ (config : Config) (state : State (store_of config)) (i : ℕ) where
 
   -- ---- whether it has begun
 
-  begun_so : (role : Role) (one : Course) (begun : Bool) (sight : Sight) → IsCourseSo config i Doer' Reader' role one begun sight
+  begun_so : (role : Role) (one : Course) (begun : Bool) (sight : Sight) → IsCourseSo config i Doer' Reader' role one
+      begun sight
       → (begun || is_over one) ≡ begun_in (store_of config) state i role
   begun_so Undeclared one begun sight h = absurd h
   begun_so (Eventless text) (course.Refused own) begun sight h = or_false begun ∙ h.begun_is
@@ -183,7 +191,8 @@ module _ (config : Config) (state : State (store_of config)) (i : ℕ) where
   begun_so Asking (course.Queries querying) begun sight h = or_false begun ∙ h.begun_is
   begun_so Asking course.Ended begun sight h = or_true begun ∙ sym h.begun_is
 
-  not_begun : (role : Role) → IsActorSo config i Doer' Reader' role None → false ≡ begun_in (store_of config) state i role
+  not_begun : (role : Role) → IsActorSo config i Doer' Reader' role None → false ≡ begun_in (store_of config) state i
+      role
   not_begun Undeclared h = refl
   not_begun (Eventless text) h = absurd h
   not_begun Dismissed h = absurd h
@@ -195,7 +204,8 @@ module _ (config : Config) (state : State (store_of config)) (i : ℕ) where
 module _ (weave : Weave) (i : ℕ) (one : Option Actor) (is : one ≡ actor_numbered weave.actors.items i) (config : Config)
     (state : State (store_of config)) (agrees : Agrees config weave state) where
   pub here : IsActorSo config i (state.core.world.actors i) (state.core.readers i) (state.roles i) one
-  here = subst (λ (found : Option Actor). IsActorSo config i (state.core.world.actors i) (state.core.readers i) (state.roles i) found)
+  here = subst (λ (found : Option Actor). IsActorSo config i (state.core.world.actors i) (state.core.readers i)
+      (state.roles i) found)
       (sym is) (agrees.actors.each i)
 
   pub is_declared : is_some one ≡ spec.is_declared (store_of config) state i

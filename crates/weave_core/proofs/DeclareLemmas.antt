@@ -1,5 +1,6 @@
 -- A weave after an actor was declared.
-use Rattle.std.proofs.Common.{◌≡◌, ◌≢◌, ℕ, ℤ, ◌<◌, pos, ◌≤ℤ◌, Bool, true, false, cond, Option, Some, None, Result, List, [], ◌∷◌, length, set, refl, sym, ap, subst, ◌∙◌, arith, ◌≤◌}
+use Rattle.std.proofs.Common.{◌≡◌, ◌≢◌, ℕ, ℤ, ◌<◌, pos, ◌≤ℤ◌, Bool, true, false, cond, Option, Some, None, Result}
+use Rattle.std.proofs.Common.{List, [], ◌∷◌, length, set, refl, sym, ap, subst, ◌∙◌, arith, ◌≤◌}
 use Rattle.std.proofs.lemmas.List.{length-set}
 use Rattle.std.specs.Prelude.{slice_get}
 use Rattle.mon_config.specs.declared.config.Config.{Config}
@@ -32,8 +33,9 @@ use Rattle.weave_core.specs.LawfulLines.{IsLawfulCall}
 use Rattle.weave_core.specs.Licensed.{IsReader}
 use Rattle.weave_core.specs.NewActors.{BeginsToWrite, IsCourseOf, IsNewActor}
 use Rattle.weave_core.specs.QueryPlans.{BeginsToAsk}
-use Rattle.weave_core.specs.Sights.{sight_of}
-use Rattle.weave_core.specs.States.{Asking, Dismissed, Eventless, Role, State, Undeclared, Writing, declared_in, store_of, writes_begun}
+use Rattle.mon_topo.specs.Sights.{sight_of}
+use Rattle.weave_core.specs.States.{Asking, Dismissed, Eventless, Role, State, Undeclared, Writing, declared_in}
+use Rattle.weave_core.specs.States.{store_of, writes_begun}
 use Rattle.weave_core.specs.Steps.{with_event, with_role}
 use Rattle.weave_core.specs.WeaveCalls.{DeclaresSo, IsKept, MayDeclare}
 use Rattle.weave_core.specs.declared.actors.Actor.{Actor}
@@ -44,7 +46,7 @@ use Rattle.weave_core.specs.declared.calls.Call.TheVariants as call
 use Rattle.weave_core.specs.declared.calls.WeaveFault.TheVariants as fault
 use Rattle.weave_core.specs.declared.limits.TheConstants.{LAST_ACTOR}
 use Rattle.weave_core.specs.declared.queries.Querying.{Querying}
-use Rattle.weave_core.specs.declared.sights.Sight.{Sight}
+use Rattle.mon_topo.specs.declared.sights.Sight.{Sight}
 use Rattle.weave_core.specs.declared.store.Store.{Store}
 use Rattle.weave_core.specs.declared.weave.Weave.{Weave}
 use Rattle.weave_core.specs.declared.writes.Writing.{Writing as Write}
@@ -150,7 +152,8 @@ module _ (config : Config) (state : State (store_of config)) (i : ℕ) where
     first_seen = ap (λ (d : Doer). sight_of (view_of d).seen) (sym stands)
 
     -- of an actor that has not begun, and has seen what all have seen at first
-    as_new : (one : Course) (begun : Bool) (sight : Sight) → begun ≡ false → sight ≡ First → (after : State (store_of config))
+    as_new : (one : Course) (begun : Bool) (sight : Sight) → begun ≡ false → sight ≡ First
+        → (after : State (store_of config))
         → IsActorSo config i (after.core.world.actors i) (after.core.readers i) (after.roles i)
         (Some (record { course = one; sight = First; begun = false }))
         → IsActorSo config i (after.core.world.actors i) (after.core.readers i) (after.roles i)
@@ -163,7 +166,8 @@ module _ (config : Config) (state : State (store_of config)) (i : ℕ) where
 
     -- a call without an event
 
-    eventless_left : (text : List ℕ) → Leaves (store_of config) state i (with_role (store_of config) state i (Eventless text))
+    eventless_left : (text : List ℕ) → Leaves (store_of config) state i (with_role (store_of config) state i
+        (Eventless text))
     eventless_left text = record {
       woven = agrees.woven;
       holders = agrees.holders;
@@ -240,9 +244,11 @@ module _ (config : Config) (state : State (store_of config)) (i : ℕ) where
           → IsDeclaredSo (call.Write row) (course.Writes (writing_of i row range)) begun sight
       write_declared begun sight new seen = record {
         after = Written;
-        declares = subst (λ (found : Option Range). WriteBegins config state i row found Written) (sym home) (begins, refl);
+        declares = subst (λ (found : Option Range). WriteBegins config state i row found Written) (sym home)
+            (begins, refl);
         leaves = write_left;
-        shared = shared_beside config state.core.world (changed state.core.world.actors i (Writes (new_writer row range Doer')))
+        shared = shared_beside config state.core.world (changed state.core.world.actors i
+            (Writes (new_writer row range Doer')))
             weave.store agrees.shared;
         actor = as_new (course.Writes (writing_of i row range)) begun sight new seen Written write_so;
       }
@@ -378,7 +384,8 @@ module _ (old : Weave) (i : ℕ) (what : Call) (new : Weave) (own : Actor) (last
       record { config = kept.config; state = so.after; agrees = so.agrees }
 
 pub served : (old : Weave) → IsKept old → IsServed old.store.config
-served old kept = subst (λ (config : Config). IsServed config) (sym kept.agrees.shared.config_is) kept.agrees.shared.served
+served old kept = subst (λ (config : Config). IsServed config) (sym kept.agrees.shared.config_is)
+    kept.agrees.shared.served
 
 pub actor_there : (old : Weave) (i : ℕ) → i ≤ LAST_ACTOR → IsKept old → i < length old.actors.items
 actor_there old i last kept = let count = kept.agrees.actors.count in omega (arith, count, last)

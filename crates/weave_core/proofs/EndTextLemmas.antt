@@ -1,15 +1,13 @@
 -- The names of ranges by their numbers.
-use Rattle.std.proofs.Common.{◌≡◌, ◌∙◌, ℕ, zero, suc, ◌+◌, ◌-◌, ◌<◌, ◌≤◌, List, [], ◌∷◌, get_or, length, length-append, take, refl, ap, sym, arith}
+use Rattle.std.proofs.Common.{◌≡◌, ◌∙◌, ℕ, zero, suc, ◌+◌, ◌-◌, ◌<◌, ◌≤◌, List, [], ◌∷◌, get_or, length, length-append}
+use Rattle.std.proofs.Common.{take, refl, ap, sym, arith}
 use Rattle.std.proofs.lemmas.List.{get_or_append_left, get_or-append_right, get_or_past}
 use Rattle.mon_topo.specs.Zones.{first_range, names_from, range_name, range_names, ranges_in, zone_at}
 use Rattle.mon_topo.specs.declared.zones.RangeSpec.{RangeSpec}
 use Rattle.mon_topo.specs.declared.zones.ZoneSpec.{ZoneSpec}
+use Rattle.mon_topo.proofs.RangeNameLemmas.{length-names_from, length-range_names}
 
 -- ---- the names of one zone's ranges
-
-length-names : (zone : List ℕ) (k : ℕ) (ranges : List RangeSpec) → length (names_from zone k ranges) ≡ length ranges
-length-names zone k [] = refl
-length-names zone k (range ∷ ranges) = ap (λ n. suc n) (length-names zone (k + 1) ranges)
 
 name_at : (zone : List ℕ) (k j : ℕ) (ranges : List RangeSpec) → j < length ranges
     → get_or (names_from zone k ranges) j [] ≡ range_name zone (k + j)
@@ -19,14 +17,6 @@ name_at zone k (suc j) (range ∷ ranges) there =
     name_at zone (k + 1) j ranges (omega arith) ∙ ap (range_name zone) (omega arith)
 
 -- ---- the names of all ranges
-
-length-all_names : (zones : List ZoneSpec) → length (range_names zones) ≡ length (ranges_in zones)
-length-all_names [] = refl
-length-all_names (zone ∷ zones) =
-    length-append (names_from zone.name 0 zone.ranges) (range_names zones)
-    ∙ ap (λ n. n + length (range_names zones)) (length-names zone.name 0 zone.ranges)
-    ∙ ap (λ n. length zone.ranges + n) (length-all_names zones)
-    ∙ sym (length-append zone.ranges (ranges_in zones))
 
 -- a zone more in front
 first_later : (zone : ZoneSpec) (zones : List ZoneSpec) (i : ℕ)
@@ -39,13 +29,15 @@ pub name_in_zone : (zones : List ZoneSpec) (i r : ℕ) → i < length zones → 
     → get_or (range_names zones) r [] ≡ range_name (zone_at zones i).name (r - first_range zones i)
 name_in_zone [] i r there from to = absurd (omega arith)
 name_in_zone (zone ∷ zones) zero r there from to =
-    get_or_append_left (names_from zone.name 0 zone.ranges) (range_names zones) [] r (omega (arith, length-names zone.name 0 zone.ranges, to))
+    get_or_append_left (names_from zone.name 0 zone.ranges) (range_names zones) [] r
+    (omega (arith, length-names_from zone.name 0 zone.ranges, to))
     ∙ name_at zone.name 0 r zone.ranges (omega (arith, to))
     ∙ ap (range_name zone.name) (omega arith)
 name_in_zone (zone ∷ zones) (suc i) r there from to =
     let first = first_later zone zones i in
     let count = length zone.ranges in
-    get_or-append_right (names_from zone.name 0 zone.ranges) (range_names zones) count r [] (length-names zone.name 0 zone.ranges) (omega (arith, first, from))
+    get_or-append_right (names_from zone.name 0 zone.ranges) (range_names zones) count r []
+    (length-names_from zone.name 0 zone.ranges) (omega (arith, first, from))
     ∙ name_in_zone zones i (r - count) (omega arith) (omega (arith, first, from)) (omega (arith, first, from, to))
     ∙ ap (range_name (zone_at zones i).name) (omega (arith, first, from))
 
@@ -56,7 +48,8 @@ first_next [] i there = absurd (omega arith)
 first_next (zone ∷ zones) zero there = length-append zone.ranges [] ∙ omega arith
 first_next (zone ∷ zones) (suc i) there =
     let next : suc i + 1 ≡ suc (i + 1) = omega arith in
-    ap (first_range (zone ∷ zones)) next ∙ first_later zone zones (i + 1) ∙ ap (λ n. length zone.ranges + n) (first_next zones i (omega arith))
+    ap (first_range (zone ∷ zones)) next ∙ first_later zone zones (i + 1) ∙ ap (λ n. length zone.ranges + n)
+    (first_next zones i (omega arith))
     ∙ omega (arith, first_later zone zones i)
 
 all_first : (zones : List ZoneSpec) (i : ℕ) → length zones ≤ i → first_range zones i ≡ length (ranges_in zones)
@@ -71,4 +64,4 @@ all_first (zone ∷ zones) (suc i) few =
 pub no_name : (zones : List ZoneSpec) (i r : ℕ) → length zones ≤ i → first_range zones i ≤ r
     → get_or (range_names zones) r [] ≡ []
 no_name zones i r few from =
-    get_or_past (range_names zones) r [] (omega (arith, all_first zones i few, length-all_names zones, from))
+    get_or_past (range_names zones) r [] (omega (arith, all_first zones i few, length-range_names zones, from))

@@ -1,5 +1,7 @@
 -- The histories that a store begins with are held.
-use Rattle.std.proofs.Common.{◌≡◌, ◌≢◌, ℕ, zero, suc, ◌+◌, ◌<◌, ◌≤◌, Bool, true, false, cond, ◌||◌, ◌&&◌, List, [], ◌∷◌, ◌++◌, length, take, drop, refl, sym, ap, subst, ◌∙◌, inl, inr, arith, append-nil, append_assoc, add-one}
+use Rattle.std.proofs.Common.{◌≡◌, ◌≢◌, ℕ, zero, suc, ◌+◌, ◌<◌, ◌≤◌, Bool, true, false, cond, ◌||◌, ◌&&◌, List, []}
+use Rattle.std.proofs.Common.{◌∷◌, ◌++◌, length, take, drop, refl, sym, ap, subst, ◌∙◌, inl, inr, arith, append-nil}
+use Rattle.std.proofs.Common.{append_assoc, add-one}
 use Rattle.std.specs.Prelude.{nat_eq, slice_get, Some, Contains}
 use Rattle.std.specs.List.{flat_map, range_with_len, AllByRecursion as All}
 use Rattle.std.proofs.lemmas.Bool.{cases_eq, cases_lt, eq-eqb, ne_eqb}
@@ -19,13 +21,15 @@ use Rattle.mon_value.proofs.LeafHistoryLemmas.{IsWellFormed-push, down_push, ope
 use Rattle.mon_schema.specs.SchemaLists.{SchemaLists}
 use Rattle.mon_topo.proofs.PartLemmas.{length-zones_of}
 use Rattle.mon_topo.proofs.RangeHistoryLemmas.{all_at}
-use Rattle.mon_topo.specs.HeldHistories.{AreAtHome, AreHeld, BeginsWith, Histories, IsBorneOut, IsHeldBy, leaf_history, range_history}
+use Rattle.mon_topo.specs.HeldHistories.{AreAtHome, AreHeld, BeginsWith, Histories, IsBorneOut, IsHeldBy, leaf_history}
+use Rattle.mon_topo.specs.HeldHistories.{range_history}
 use Rattle.mon_topo.specs.RangeHistories as spec
 use Rattle.mon_topo.specs.RangeHistories.{acked, opened}
 use Rattle.mon_topo.specs.Replicas.{HasReplicas, same_leaf}
 use Rattle.mon_topo.specs.Zones.{first_replicas, leaf_numbered, leaves_in, range_numbered, ranges_in}
 use Rattle.mon_topo.specs.declared.zones.ZoneSpec.{ZoneSpec}
-use Rattle.weave_core.specs.FirstHistories.{first_histories, first_leaf_history, first_range_history, opened_here, opened_of, opening, openings_from, slot_numbered}
+use Rattle.weave_core.specs.FirstHistories.{first_histories, first_leaf_history, first_range_history, opened_here}
+use Rattle.weave_core.specs.FirstHistories.{opened_of, opening, openings_from, slot_numbered}
 
 -- ---- a leaf's history
 
@@ -51,7 +55,8 @@ and_false false = refl
 
 other_slot : (range s slot : ℕ) → s ≢ slot
     → same_replica (range_numbered range) (slot_numbered s) (range_numbered range) (slot_numbered slot) ≡ false
-other_slot range s slot differ = ap (λ b. nat_eq range range && b) (ne_eqb s slot differ) ∙ and_false (nat_eq range range)
+other_slot range s slot differ = ap (λ b. nat_eq range range && b) (ne_eqb s slot differ)
+    ∙ and_false (nat_eq range range)
 
 other_range : (r range s slot : ℕ) → r ≢ range
     → same_replica (range_numbered r) (slot_numbered s) (range_numbered range) (slot_numbered slot) ≡ false
@@ -63,9 +68,11 @@ opened_next history range slot still = record {
   formed = IsWellFormed-push history (opening (range_numbered range) slot) still.formed
       (still.up, still.here slot (omega arith), tt);
   up = down_push false history (opening (range_numbered range) slot) ∙ still.up;
-  here = λ s from. not_opened range slot range s history (other_slot range s slot (λ e. absurd (omega (arith, e, from))))
+  here = λ s from. not_opened range slot range s history
+      (other_slot range s slot (λ e. absurd (omega (arith, e, from))))
       (still.here s (omega (arith, from)));
-  later = λ r s above. not_opened range slot r s history (other_range r range s slot (λ e. absurd (omega (arith, e, above))))
+  later = λ r s above. not_opened range slot r s history
+      (other_range r range s slot (λ e. absurd (omega (arith, e, above))))
       (still.later r s above);
 }
 
@@ -85,7 +92,8 @@ one_next true history range slot still = opened_next history range slot still
 one_next false history range slot still = skipped_next history range slot still
 
 -- a range's replicas on the leaf
-pub range_opened : (leaf : Leaf) (range slot : ℕ) (leaves : List Leaf) (history : List Entry) → IsOpen history range slot
+pub range_opened : (leaf : Leaf) (range slot : ℕ) (leaves : List Leaf) (history : List Entry) → IsOpen history range
+    slot
     → (end : ℕ) × IsOpen (history ++ opened_here leaf (range_numbered range) slot leaves) range end
 range_opened leaf range slot [] history still =
     (slot, subst (λ (h : List Entry). IsOpen h range slot) (sym (append-nil history)) still)
@@ -135,7 +143,8 @@ all_append : (xs ys : List Entry) → All HasNoRow xs → All HasNoRow ys → Al
 all_append [] ys h k = k
 all_append (x ∷ xs) ys h k = (h.0, all_append xs ys h.1 k)
 
-range_bare : (leaf : Leaf) (range : Range) (slot : ℕ) (leaves : List Leaf) → All HasNoRow (opened_here leaf range slot leaves)
+range_bare : (leaf : Leaf) (range : Range) (slot : ℕ) (leaves : List Leaf)
+    → All HasNoRow (opened_here leaf range slot leaves)
 range_bare leaf range slot [] = tt
 range_bare leaf range slot (other ∷ leaves) =
     all_append (cond (same_leaf leaf other) (opening range slot ∷ []) []) (opened_here leaf range (slot + 1) leaves)
@@ -291,7 +300,8 @@ module _ (zones : List ZoneSpec) where
   pub range_count : length seen.ranges ≡ length (ranges_in zones)
   range_count = length-map-range_with_len (first_range_history zones) 0 (length (ranges_in zones))
 
-  pub leaf_is : (leaf : Leaf) → leaf.0 < length (leaves_in zones) → leaf_history seen leaf ≡ first_leaf_history zones leaf.0
+  pub leaf_is : (leaf : Leaf) → leaf.0 < length (leaves_in zones) → leaf_history seen leaf ≡ first_leaf_history zones
+      leaf.0
   leaf_is leaf h =
       get_or-map-range_with_len (first_leaf_history zones) 0 (length (leaves_in zones)) leaf.0 leaf.0 [] h
       (omega arith)
@@ -330,13 +340,15 @@ module _ (zones : List ZoneSpec) where
         (subst (λ (n : ℕ). Contains (opened_here leaf range 0 (first_replicas zones range.0)) (opening range n))
         (omega arith) (here_contains leaf range 0 (first_replicas zones range.0) k is)))
 
-    borne_by : (k : ℕ) (e : RangeEntry) → IsOpeningAt (first_replicas zones range.0) 0 k e → IsBorneOut seen range own k e
+    borne_by : (k : ℕ) (e : RangeEntry) → IsOpeningAt (first_replicas zones range.0) 0 k e → IsBorneOut seen range own
+        k e
     borne_by k e at =
         subst (IsBorneOut seen range own k) (sym at.is)
         (record {
           pass = 0;
           entered = subst (λ (rows : List Row). Contains (leaf_history seen at.leaf)
-              (entry.Opened 0 range (slot_numbered (0 + k)) rows)) (sym (no_acks_yet k 0 (first_replicas zones range.0)))
+              (entry.Opened 0 range (slot_numbered (0 + k)) rows))
+              (sym (no_acks_yet k 0 (first_replicas zones range.0)))
               (subst (λ (n : ℕ). Contains (leaf_history seen at.leaf) (opening range n)) (omega arith)
               (opened_there at.leaf k at.there));
         })
@@ -355,8 +367,10 @@ module _ (zones : List ZoneSpec) where
     first_held = record {
       all_leaves = leaf_count;
       all_ranges = range_count;
-      formed = λ leaf h. subst IsWellFormed (sym (leaf_is leaf (omega (arith, h, leaf_count)))) (first_formed zones leaf.0);
-      at_home = λ leaf e there. bare_at_home held zones e (all_at HasNoRow (leaf_history seen leaf) e (leaf_bare leaf) there);
+      formed = λ leaf h. subst IsWellFormed (sym (leaf_is leaf (omega (arith, h, leaf_count))))
+          (first_formed zones leaf.0);
+      at_home = λ leaf e there. bare_at_home held zones e (all_at HasNoRow (leaf_history seen leaf) e (leaf_bare leaf)
+          there);
       legal = λ range h.
           let there : range.0 < length (ranges_in zones) = omega (arith, h, range_count) in
           subst (spec.IsLegal held zones points range) (sym (range_is range there))

@@ -1,5 +1,6 @@
 -- A weave after an actor that has not begun heard from one that has ended.
-use Rattle.std.proofs.Common.{◌≡◌, ◌≢◌, ℕ, zero, suc, ◌<◌, Bool, true, false, not, cond, Option, Some, None, List, [], ◌∷◌, get_or, length, set, refl, sym, ap, subst, ◌∙◌, inl, inr, arith}
+use Rattle.std.proofs.Common.{◌≡◌, ◌≢◌, ℕ, zero, suc, ◌<◌, Bool, true, false, not, cond, Option, Some, None, List, []}
+use Rattle.std.proofs.Common.{◌∷◌, get_or, length, set, refl, sym, ap, subst, ◌∙◌, inl, inr, arith}
 use Rattle.std.specs.Prelude.{◌||◌, IfSome, option_map, slice_get}
 use Rattle.std.proofs.lemmas.Bool.{cases_eq}
 use Rattle.std.proofs.lemmas.List.{length-set}
@@ -17,10 +18,11 @@ use Rattle.weave_core.proofs.HolderLemmas.{holders_changed}
 use Rattle.weave_core.proofs.NumberLemmas.{agrees_at, set_apart, set_at, shared_beside}
 use Rattle.weave_core.proofs.ReachedLemmas.{part_of}
 use Rattle.weave_core.proofs.SeatLemmas.{parts_alike}
-use Rattle.weave_core.proofs.SightLemmas.{joined_seen}
+use Rattle.mon_topo.proofs.SightLemmas.{joined_seen}
 use Rattle.weave_core.proofs.StepLemmas.{Leaves}
 use Rattle.weave_core.proofs.WeaveLemmas.{numbered_there}
-use Rattle.weave_core.specs.ActorAgreements.{Agrees, IsActorSo, IsCourseSo, IsQuerying, IsWithoutEvent, IsWriting, actor_numbered, flat}
+use Rattle.weave_core.specs.ActorAgreements.{Agrees, IsActorSo, IsCourseSo, IsQuerying, IsWithoutEvent, IsWriting}
+use Rattle.weave_core.specs.ActorAgreements.{actor_numbered, flat}
 use Rattle.weave_core.specs.Agreements.{AreShared}
 use Rattle.weave_core.specs.Core.{CanCome, Happens, Hears, Reader, begun_with}
 use Rattle.weave_core.specs.Courses.{is_over}
@@ -30,9 +32,10 @@ use Rattle.weave_core.specs.Holders.{HoldsLeaf, HoldsRange}
 use Rattle.weave_core.specs.Licensed.{IsWoven}
 use Rattle.weave_core.specs.NewActors.{hearing_of}
 use Rattle.weave_core.specs.Schedules.{meet_fault}
-use Rattle.weave_core.specs.Sights.{AreAlike, joined_sight, sight_of}
+use Rattle.mon_topo.specs.Sights.{AreAlike, joined_sight, sight_of}
 use Rattle.weave_core.specs.States as spec
-use Rattle.weave_core.specs.States.{Asking, Dismissed, Eventless, Role, State, Undeclared, Writing, begun_in, declared_in, is_any, is_past_lock, store_of, view_at, view_in, writes_begun}
+use Rattle.weave_core.specs.States.{Asking, Dismissed, Eventless, Role, State, Undeclared, Writing, begun_in}
+use Rattle.weave_core.specs.States.{declared_in, is_any, is_past_lock, store_of, view_at, view_in, writes_begun}
 use Rattle.weave_core.specs.Steps.{with_event}
 use Rattle.weave_core.specs.WeaveCalls.{IsKept, MeetsSo}
 use Rattle.weave_core.specs.Writers.{writer_of}
@@ -41,7 +44,7 @@ use Rattle.weave_core.specs.declared.actors.Course.{Course}
 use Rattle.weave_core.specs.declared.actors.Course.TheVariants as course
 use Rattle.weave_core.specs.declared.calls.WeaveFault.TheVariants as fault
 use Rattle.weave_core.specs.declared.queries.Querying.{Querying}
-use Rattle.weave_core.specs.declared.sights.Sight.{Sight}
+use Rattle.mon_topo.specs.declared.sights.Sight.{Sight}
 use Rattle.weave_core.specs.declared.store.Store.{Store}
 use Rattle.weave_core.specs.declared.weave.Weave.{Weave}
 use Rattle.weave_core.specs.declared.writes.Writing.{Writing as Write}
@@ -169,7 +172,8 @@ module _ (config : Config) (state : State (store_of config)) (i : ℕ) where
     }
 
     learned_shared : AreShared config Learned.core.world weave.store
-    learned_shared = shared_beside config state.core.world (changed state.core.world.actors i (wiser Doer' view)) weave.store
+    learned_shared = shared_beside config state.core.world (changed state.core.world.actors i (wiser Doer' view))
+        weave.store
         agrees.shared
 
     wiser_now : (doer : Doer) → Doer' ≡ doer → Learned.core.world.actors i ≡ wiser doer view
@@ -243,9 +247,11 @@ module _ (config : Config) (state : State (store_of config)) (i : ℕ) where
             now = ap (λ (events : List (session.Event (store_of config) Reader'.setting Reader'.moment)).
                 query_after (store_of config) Reader'.setting Reader'.moment Reader'.first events) (sym none)
                 ∙ h.reader_so.now;
-            since = seen_within_through (first_histories config.topology) Reader'.view.seen (joined Reader'.view view).seen
+            since = seen_within_through (first_histories config.topology) Reader'.view.seen
+                (joined Reader'.view view).seen
                 h.reader_so.since
-                (joined_first Reader'.view view state.core.world.truth (agrees.woven.readers i).part.within part.within).seen;
+                (joined_first Reader'.view view state.core.world.truth (agrees.woven.readers i).part.within
+                part.within).seen;
             seen = joined_of sight Reader'.view.seen view.seen h.reader_so.seen;
           };
           planned = h.planned;
@@ -312,7 +318,8 @@ got_there [] n x e = absurd cc
 got_there (y ∷ xs) zero x e = omega arith
 got_there (y ∷ xs) (suc n) x e = let later = got_there xs n x e in omega (arith, later)
 
-pub out_there : (actors left : List (Option Actor)) (j n : ℕ) → left ≡ set actors j None → n < length actors → n < length left
+pub out_there : (actors left : List (Option Actor)) (j n : ℕ) → left ≡ set actors j None → n < length actors
+    → n < length left
 out_there actors left j n is there =
     subst (λ (count : ℕ). n < count) (sym (ap length is ∙ length-set actors j None)) there
 
@@ -340,7 +347,8 @@ module _ (old : Weave) (k j : ℕ) (ended : Actor) (taken : Some ended ≡ actor
         absurd cc
 
     own_found : HasOne (actor_numbered old.actors.items k)
-    own_found = somebody config state k (state.roles k) (actor_numbered old.actors.items k) facts.own (agrees.actors.each k)
+    own_found = somebody config state k (state.roles k) (actor_numbered old.actors.items k) facts.own
+        (agrees.actors.each k)
 
     own_there : k < length old.actors.items
     own_there = numbered_there old.actors.items k own_found.own own_found.is
@@ -362,7 +370,8 @@ module _ (old : Weave) (k j : ℕ) (ended : Actor) (taken : Some ended ≡ actor
         = sight_so config state k (state.roles k) own_found.own.course own_found.own.begun own_found.own.sight own_so in
         subst (λ (s : Sight). AreAlike s ended.sight) (sym own_seen)
         (subst (λ (s : Sight). AreAlike (sight_of (view_at (store_of config) state k).seen) s) (sym other_seen)
-        (parts_alike (store_of config) state.core.world (view_at (store_of config) state k) (view_at (store_of config) state j)
+        (parts_alike (store_of config) state.core.world (view_at (store_of config) state k)
+        (view_at (store_of config) state j)
         (part_in config state k (state.roles k) agrees.woven) (part_in config state j (state.roles j) agrees.woven)))
 
     module _ (place : Option Actor) (got : slice_get (set old.actors.items j None) k ≡ Some place) where
@@ -370,7 +379,8 @@ module _ (old : Weave) (k j : ℕ) (ended : Actor) (taken : Some ended ≡ actor
       place_is = ap flat (sym got ∙ set_apart old.actors.items j k None apart) ∙ own_found.is
 
       place_alike : IfSome place (λ (own : Actor). AreAlike own.sight ended.sight)
-      place_alike = subst (λ (one : Option Actor). IfSome one (λ (own : Actor). AreAlike own.sight ended.sight)) (sym place_is) sights_alike
+      place_alike = subst (λ (one : Option Actor). IfSome one (λ (own : Actor). AreAlike own.sight ended.sight))
+          (sym place_is) sights_alike
 
       module _ (heard : Option Actor) (heard_is : heard ≡ option_map (hearing_of ended.sight) place) (new : Weave)
           (store : new.store ≡ old.store)
@@ -391,7 +401,8 @@ module _ (old : Weave) (k j : ℕ) (ended : Actor) (taken : Some ended ≡ actor
             → flat (slice_get (set (set (set old.actors.items j None) k heard) j (Some ended)) n)
             ≡ actor_numbered old.actors.items n
         elsewhere_still n other = elim (cases_eq n j) [
-          | inl same ↦ subst (λ (m : ℕ). flat (slice_get (set (set (set old.actors.items j None) k heard) j (Some ended)) m)
+          | inl same ↦ subst (λ (m : ℕ).
+              flat (slice_get (set (set (set old.actors.items j None) k heard) j (Some ended)) m)
               ≡ actor_numbered old.actors.items m) (sym same)
               (ap flat (set_at (set (set old.actors.items j None) k heard) j (Some ended)
               (subst (λ (all : ℕ). j < all) (sym count) other_there)) ∙ taken)
@@ -404,10 +415,12 @@ module _ (old : Weave) (k j : ℕ) (ended : Actor) (taken : Some ended ≡ actor
             ap (λ (all : List (Option Actor)). flat (slice_get all n)) items ∙ elsewhere_still n other
 
         hears : HearsSo config state k old agrees (view_at (store_of config) state j)
-            (part_in config state j (state.roles j) agrees.woven) (state.roles k) own_found.own.course own_found.own.begun
+            (part_in config state j (state.roles j) agrees.woven) (state.roles k) own_found.own.course
+            own_found.own.begun
             own_found.own.sight
         hears = hears_by config state k old agrees (view_at (store_of config) state j)
-            (part_in config state j (state.roles j) agrees.woven) (state.roles k) own_found.own.course own_found.own.begun
+            (part_in config state j (state.roles j) agrees.woven) (state.roles k) own_found.own.course
+            own_found.own.begun
             own_found.own.sight facts.free own_so
 
         abbrev Heard : State (store_of config)
@@ -415,7 +428,8 @@ module _ (old : Weave) (k j : ℕ) (ended : Actor) (taken : Some ended ≡ actor
 
         heard_so : IsActorSo config k (Heard.core.world.actors k) (Heard.core.readers k) (Heard.roles k)
             (Some (hearing_of ended.sight own_found.own))
-        heard_so = subst (λ (s : Sight). IsCourseSo config k (Heard.core.world.actors k) (Heard.core.readers k) (state.roles k)
+        heard_so = subst (λ (s : Sight). IsCourseSo config k (Heard.core.world.actors k) (Heard.core.readers k)
+            (state.roles k)
             own_found.own.course own_found.own.begun (joined_sight own_found.own.sight s)) (sym other_seen) hears.actor
 
         met_so : MeetsSo config state k j new
@@ -449,7 +463,8 @@ module _ (old : Weave) (k j : ℕ) (ended : Actor) (taken : Some ended ≡ actor
       module _ (heard : Option Actor) (heard_is : heard ≡ option_map (hearing_of ended.sight) place) (new : Weave)
           (store : new.store ≡ old.store)
           (items : new.actors.items ≡ set (set (set old.actors.items j None) k heard) j (Some ended)) where
-        pub met : (config : Config) (state : State (store_of config)) → Agrees config old state → MeetsSo config state k j new
+        pub met : (config : Config) (state : State (store_of config)) → Agrees config old state → MeetsSo config state
+            k j new
         met config state agrees =
             met_so config state agrees (may config state agrees) place got heard heard_is new store items
 

@@ -1,12 +1,14 @@
 -- Who holds ranges and leaves, event by event.
-use Rattle.std.proofs.Common.{◌≡◌, ◌≢◌, ℕ, Bool, true, false, cond, Option, Some, None, List, [], ◌∷◌, map, refl, sym, ap, subst, ◌∙◌}
+use Rattle.std.proofs.Common.{◌≡◌, ◌≢◌, ℕ, Bool, true, false, cond, Option, Some, None, List, [], ◌∷◌, map, refl, sym}
+use Rattle.std.proofs.Common.{ap, subst, ◌∙◌}
 use Rattle.std.specs.Prelude.{option_map}
 use Rattle.std.proofs.lemmas.Option.{none-some, same_Some}
 use Rattle.mon_topo.specs.Settings.{Setting, zone_of_leaf}
 use Rattle.mon_value.specs.declared.positions.Leaf.{Leaf}
 use Rattle.weave_core.specs.Holders.{AreHolders, HoldsLeaf, HoldsRange, IsHolding, leaf_inside}
 use Rattle.write_core.proofs.KeepsLemmas.{changed_by, changed_same}
-use Rattle.write_core.specs.Program.{Acking, Ended, Entering, Inside, Locking, Marked, Reserving, Stage, Verdict, after, entering, reserving}
+use Rattle.write_core.specs.Program.{Acking, Ended, Entering, Inside, Locking, Marked, Reserving, Stage, Verdict}
+use Rattle.write_core.specs.Program.{after, entering, reserving}
 use Rattle.write_core.specs.Rounds.{Round, again, is_through, looked, marks_of, round_of, skipped}
 use Rattle.write_core.specs.Marks.{waiting}
 use Rattle.write_core.specs.Steps.{CanCome, CanComeAt, CanGo, acknowledged, entrant, step, step_at, stepped, unchanged}
@@ -19,7 +21,8 @@ use Rattle.write_core.specs.declared.marks.Mark.{Mark}
 
 -- ---- stages that hold
 
-holding_entering_by : (b : Bool) (round : Round) → IsHolding (cond b (Acking (Marked (marks_of round))) (Entering round))
+holding_entering_by : (b : Bool) (round : Round) → IsHolding (cond b (Acking (Marked (marks_of round)))
+    (Entering round))
 holding_entering_by true round = tt
 holding_entering_by false round = tt
 
@@ -49,7 +52,8 @@ module _ (world : World) (i : ℕ) (h : AreHolders world) (new : Actor) where
       changed_by world.actors i new (λ k actor. world.leaf_holder l ≡ Some k → HoldsLeaf l actor)
       (λ own. keeps l (h.leaf l i own)) (λ k apart held. h.leaf l k held) j e
 
-  range_changed : (range : ℕ) (holder : Option ℕ) → ((r : ℕ) → r ≢ range → HoldsRange r (world.actors i) → HoldsRange r new)
+  range_changed : (range : ℕ) (holder : Option ℕ) → ((r : ℕ) → r ≢ range → HoldsRange r (world.actors i)
+      → HoldsRange r new)
       → ((j : ℕ) → holder ≡ Some j → (j ≡ i) × HoldsRange range new) → (r j : ℕ)
       → changed world.range_holder range holder r ≡ Some j → HoldsRange r (changed world.actors i new j)
   range_changed range holder elsewhere here r j =
@@ -86,18 +90,22 @@ holders_changed world i new h ranges leaves =
 
 -- ---- a write's event
 
-module _ (setting : Setting) (world : World) (i : ℕ) (who : Writer) (is : world.actors i ≡ Writes who) (h : AreHolders world)
+module _ (setting : Setting) (world : World) (i : ℕ) (who : Writer) (is : world.actors i ≡ Writes who)
+    (h : AreHolders world)
   where
-    mine_range : (P : ℕ → Type 0) → ((r : ℕ) → HoldsRange r (Writes who) → P r) → (r : ℕ) → HoldsRange r (world.actors i) → P r
+    mine_range : (P : ℕ → Type 0) → ((r : ℕ) → HoldsRange r (Writes who) → P r) → (r : ℕ)
+        → HoldsRange r (world.actors i) → P r
     mine_range P f r held = f r (subst (λ (actor : Actor). HoldsRange r actor) is held)
 
-    mine_leaf : (P : ℕ → Type 0) → ((l : ℕ) → HoldsLeaf l (Writes who) → P l) → (l : ℕ) → HoldsLeaf l (world.actors i) → P l
+    mine_leaf : (P : ℕ → Type 0) → ((l : ℕ) → HoldsLeaf l (Writes who) → P l) → (l : ℕ) → HoldsLeaf l (world.actors i)
+        → P l
     mine_leaf P f l held = f l (subst (λ (actor : Actor). HoldsLeaf l actor) is held)
 
     -- at a leaf, where it holds its range on, and is inside of no other leaf
     module _ (leaf : Leaf) (change : View → View) (holder : Option ℕ) (next : Stage) (holding : IsHolding next)
         (elsewhere : (l : ℕ) → l ≢ leaf.0 → HoldsLeaf l (Writes who) → ⊥)
-        (here : (j : ℕ) → holder ≡ Some j → (j ≡ i) × (option_map (λ (inside : Leaf). inside.0) (leaf_inside next) ≡ Some leaf.0))
+        (here : (j : ℕ) → holder ≡ Some j → (j ≡ i) × (option_map (λ (inside : Leaf). inside.0) (leaf_inside next)
+        ≡ Some leaf.0))
       where
         at_leaf_held : AreHolders (at_leaf world i who.view leaf change holder (writes_on who next))
         at_leaf_held =
@@ -106,7 +114,8 @@ module _ (setting : Setting) (world : World) (i : ℕ) (who : Writer) (is : worl
               range = range_kept world i h new
                   (mine_range (λ r. HoldsRange r new) (λ r held. (held.0, holding)));
               leaf = leaf_changed world i h new leaf.0 holder
-                  (λ l apart held. absurd (mine_leaf (λ n. n ≢ leaf.0 → ⊥) (λ n inside apart'. elsewhere n apart' inside) l held apart))
+                  (λ l apart held. absurd (mine_leaf (λ n. n ≢ leaf.0 → ⊥) (λ n inside apart'. elsewhere n apart'
+                  inside) l held apart))
                   here;
             }
 
@@ -119,9 +128,11 @@ module _ (setting : Setting) (world : World) (i : ℕ) (who : Writer) (is : worl
           let new : Actor = writes_on who next (change (joined who.view (world.ranges who.range.0))) in
           record {
             range = range_changed world i h new who.range.0 holder
-                (λ r apart held. absurd (mine_range (λ n. n ≢ who.range.0 → ⊥) (λ n own apart'. apart' (sym own.0)) r held apart))
+                (λ r apart held. absurd (mine_range (λ n. n ≢ who.range.0 → ⊥) (λ n own apart'. apart' (sym own.0)) r
+                held apart))
                 (λ j e. ((here j e).0, (refl, (here j e).1)));
-            leaf = leaf_kept world i h new (λ l held. absurd (mine_leaf (λ n. ⊥) (λ n inside. outside n inside) l held));
+            leaf = leaf_kept world i h new (λ l held. absurd (mine_leaf (λ n. ⊥) (λ n inside. outside n inside) l
+                held));
           }
 
     not_some : {X : Type 0} (x : X) → None ≡ Some x → ⊥
@@ -138,7 +149,8 @@ module _ (setting : Setting) (world : World) (i : ℕ) (who : Writer) (is : worl
         at_range_held unchanged (Some i) (after Locking answer) (outside_at Locking at refl)
         (λ j e. (sym (same_Some i j e), holding_locked answer can))
       where
-        holding_locked : (answer : WriteTold) → CanComeAt setting world who Locking answer → IsHolding (after Locking answer)
+        holding_locked : (answer : WriteTold) → CanComeAt setting world who Locking answer
+            → IsHolding (after Locking answer)
         holding_locked (told.Slots replicas) can = holding_reserving (round_of (map waiting replicas))
         holding_locked (told.Old last) can = tt
         holding_locked (told.Full count) can = tt
@@ -154,7 +166,8 @@ module _ (setting : Setting) (world : World) (i : ℕ) (who : Writer) (is : worl
     holding_reserved round (told.Down cut) = holding_reserving (looked round (fate.Missed cut))
     holding_reserved round told.Done = tt
 
-    reserved_held : (done left : List Mark) (answer : WriteTold) → who.stage ≡ Reserving (record { done = done; left = left })
+    reserved_held : (done left : List Mark) (answer : WriteTold) → who.stage
+        ≡ Reserving (record { done = done; left = left })
         → CanComeAt setting world who (Reserving (record { done = done; left = left })) answer
         → AreHolders (step_at setting world i who (Reserving (record { done = done; left = left })) answer)
     reserved_held done [] answer at can = absurd can
@@ -182,12 +195,14 @@ module _ (setting : Setting) (world : World) (i : ℕ) (who : Writer) (is : worl
     inside_entered done left mark (told.Down cut) j e = absurd (not_some j e)
     inside_entered done left mark told.Done j e = absurd (not_some j e)
 
-    entered_held : (done left : List Mark) (answer : WriteTold) → who.stage ≡ Entering (record { done = done; left = left })
+    entered_held : (done left : List Mark) (answer : WriteTold) → who.stage
+        ≡ Entering (record { done = done; left = left })
         → CanComeAt setting world who (Entering (record { done = done; left = left })) answer
         → AreHolders (step_at setting world i who (Entering (record { done = done; left = left })) answer)
     entered_held done [] answer at can = absurd can
     entered_held done (mark ∷ left) answer at can =
-        at_leaf_held mark.leaf unchanged (entrant i answer) (after (Entering (record { done = done; left = mark ∷ left })) answer)
+        at_leaf_held mark.leaf unchanged (entrant i answer)
+        (after (Entering (record { done = done; left = mark ∷ left })) answer)
         (holding_entered (record { done = done; left = mark ∷ left }) answer)
         (λ l apart inside. outside_at (Entering (record { done = done; left = mark ∷ left })) at refl l inside)
         (inside_entered done left mark answer)
@@ -202,7 +217,8 @@ module _ (setting : Setting) (world : World) (i : ℕ) (who : Writer) (is : worl
 
     raised_held : (done left : List Mark) (at_root in_zone : List ℕ)
         → who.stage ≡ Inside (record { done = done; left = left }) at_root in_zone
-        → AreHolders (step_at setting world i who (Inside (record { done = done; left = left }) at_root in_zone) told.Done)
+        → AreHolders (step_at setting world i who (Inside (record { done = done; left = left }) at_root in_zone)
+        told.Done)
     raised_held done [] at_root in_zone at = h
     raised_held done (mark ∷ left) (bucket ∷ at_root) in_zone at =
         at_leaf_held mark.leaf (with_root_bit (zone_of_leaf setting mark.leaf) bucket) (Some i)
@@ -218,7 +234,8 @@ module _ (setting : Setting) (world : World) (i : ℕ) (who : Writer) (is : worl
         (holding_entering (looked (record { done = done; left = mark ∷ left }) fate.Took))
         (inside_elsewhere done left mark [] [] at) (λ j e. absurd (not_some j e))
 
-    inside_held : (round : Round) (at_root in_zone : List ℕ) (answer : WriteTold) → who.stage ≡ Inside round at_root in_zone
+    inside_held : (round : Round) (at_root in_zone : List ℕ) (answer : WriteTold) → who.stage ≡ Inside round at_root
+        in_zone
         → answer ≡ told.Done → AreHolders (step_at setting world i who (Inside round at_root in_zone) answer)
     inside_held round at_root in_zone answer at done =
         subst (λ (a : WriteTold). AreHolders (step_at setting world i who (Inside round at_root in_zone) a)) (sym done)
@@ -227,7 +244,8 @@ module _ (setting : Setting) (world : World) (i : ℕ) (who : Writer) (is : worl
     acked_held : (verdict : Verdict) (answer : WriteTold) → who.stage ≡ Acking verdict
         → AreHolders (step_at setting world i who (Acking verdict) answer)
     acked_held verdict answer at =
-        at_range_held (acknowledged who verdict) None (after (Acking verdict) answer) (outside_at (Acking verdict) at refl)
+        at_range_held (acknowledged who verdict) None (after (Acking verdict) answer) (outside_at (Acking verdict) at
+        refl)
         (λ j e. absurd (not_some j e))
 
     held_at : (stage : Stage) (answer : WriteTold) → who.stage ≡ stage → CanComeAt setting world who stage answer
@@ -240,7 +258,8 @@ module _ (setting : Setting) (world : World) (i : ℕ) (who : Writer) (is : worl
     held_at (Ended verdict) answer at can = absurd can
 
 -- whichever event of an actor's write comes
-pub step_held : (setting : Setting) (world : World) (i : ℕ) (who : Writer) (answer : WriteTold) → world.actors i ≡ Writes who
+pub step_held : (setting : Setting) (world : World) (i : ℕ) (who : Writer) (answer : WriteTold) → world.actors i
+    ≡ Writes who
     → AreHolders world → CanCome setting world i answer → AreHolders (step setting world i answer)
 step_held setting world i who answer is h can =
     subst (λ (w : World). AreHolders w) (sym (ap (λ (actor : Actor). stepped setting world i actor answer) is))

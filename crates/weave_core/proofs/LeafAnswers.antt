@@ -38,12 +38,12 @@ use Rattle.weave_core.specs.Holders.{HoldsLeaf}
 use Rattle.weave_core.specs.Meetings.{met_at_leaf}
 use Rattle.weave_core.specs.QueryLooks.{IsHeldFrom, IsSeatedForLeaf, Looks, LooksAt, TellsSo}
 use Rattle.weave_core.specs.QueryTurns.{AnswersSo, IsAnswered, IsAsking, QueryWaits}
-use Rattle.weave_core.specs.Sights.{AreAlike, sight_of}
+use Rattle.mon_topo.specs.Sights.{AreAlike, sight_of}
 use Rattle.weave_core.specs.States.{store_of}
 use Rattle.weave_core.specs.WriteEvents.{ChangesLeaf}
 use Rattle.weave_core.specs.declared.leaves.LeafSeat.{LeafSeat}
 use Rattle.weave_core.specs.declared.queries.Querying.{Querying}
-use Rattle.weave_core.specs.declared.sights.Sight.{Sight}
+use Rattle.mon_topo.specs.declared.sights.Sight.{Sight}
 use Rattle.weave_core.specs.declared.store.Store.{Store}
 use Rattle.write_core.proofs.KeepsLemmas.{changed_same}
 use Rattle.write_core.specs.Views.{View, joined, of_leaf}
@@ -105,7 +105,11 @@ module _ (config : Config) (core : Core (store_of config)) (k : ℕ) (store : St
 
   module _ (leaf : Leaf) (e : asks ≡ ask.Visit leaf) where
     pub leaf_there : leaf.0 < length store.leaves.items
-    leaf_there = omega (arith, there_at config core k store querying sight asking (ask.Visit leaf) e, asking.shared.leaves.count)
+    leaf_there = omega (
+      arith,
+      there_at config core k store querying sight asking (ask.Visit leaf) e,
+      asking.shared.leaves.count,
+    )
 
     leaf_so : (seat : LeafSeat) → slice_get store.leaves.items leaf.0 ≡ Some seat → IsLeafSo config world leaf seat
     leaf_so seat was = asking.shared.leaves.each leaf.0 seat was
@@ -198,7 +202,8 @@ module _ (config : Config) (core : Core (store_of config)) (k : ℕ) (store : St
       visit_told free told.NoSlot then = absurd then
 
       pub leaf_looked : (answer : Told) → Looks asked.plan querying.moment store.config.limit
-          (slots_of querying.machine.stage leaf) leaf seat left sight now answer → IsAnswered config core k new now answer
+          (slots_of querying.machine.stage leaf) leaf seat left sight now answer → IsAnswered config core k new now
+          answer
       leaf_looked answer looks =
           let seen_then : now ≡ sight_of (joined reader.view (world.leaves leaf.0)).seen =
           looks.seen
@@ -206,7 +211,8 @@ module _ (config : Config) (core : Core (store_of config)) (k : ℕ) (store : St
           ∙ leaf_met (store_of config) world reader.view leaf asking.woven.world (asking.woven.readers k).part in
           answered config core k store querying sight asking (ask.Visit leaf) e new now answer (record {
             told = visit_told (sym so.holder ∙ looks.free) answer (tells_there answer looks.told_so);
-            shared = shared_leaf config world _ leaf store new left (visited_same world leaf reader.view) asking.shared changes
+            shared = shared_leaf config world _ leaf store new left (visited_same world leaf reader.view) asking.shared
+                changes
                 (record {
                   schemas = looks.stays.schemas ∙ so.schemas;
                   buckets = looks.stays.buckets ∙ so.buckets;
@@ -231,7 +237,9 @@ module _ (config : Config) (core : Core (store_of config)) (k : ℕ) (store : St
           (shared_leaf config world world leaf store new left (same_world world _ _) asking.shared changes
           (subst (λ (some : LeafSeat). IsLeafSo config world leaf some) (sym held.seat) so)) held.seen
 
-    pub leaf_answers : (new : Store) (now : Sight) (told_then : Option Told) → LooksAt querying leaf store new sight now told_then
+    pub leaf_answers : (new : Store) (now : Sight) (told_then : Option Told) → LooksAt querying leaf store new sight
+        now told_then
         → AnswersSo config core k new sight now told_then
-    leaf_answers new now (Some answer) done = leaf_looked new now done.before done.seat done.was done.changes answer done.looks
+    leaf_answers new now (Some answer) done = leaf_looked new now done.before done.seat done.was done.changes answer
+        done.looks
     leaf_answers new now None done = leaf_held new now done.before done.seat done.was done.changes done.looks

@@ -1,5 +1,6 @@
 -- A write's turn at a leaf: it asks for room there, or enters it.
-use Rattle.std.proofs.Common.{◌≡◌, ℕ, Bool, true, false, cond, Option, Some, None, List, [], ◌∷◌, length, refl, sym, ap, subst, ◌∙◌}
+use Rattle.std.proofs.Common.{◌≡◌, ℕ, Bool, true, false, cond, Option, Some, None, List, [], ◌∷◌, length, refl, sym}
+use Rattle.std.proofs.Common.{ap, subst, ◌∙◌}
 use Rattle.std.specs.Prelude.{option_map}
 use Rattle.std.proofs.lemmas.Option.{none-some}
 use Rattle.mon_config.specs.declared.config.Config.{Config}
@@ -9,7 +10,8 @@ use Rattle.mon_value.specs.declared.histories.Entry.{Entry}
 use Rattle.mon_value.specs.declared.positions.Leaf.{Leaf}
 use Rattle.mon_value.specs.declared.positions.Slot.{Slot}
 use Rattle.leaf_store.specs.LeafBuckets.{is_unraised}
-use Rattle.weave_core.proofs.AtWorkLemmas.{IsGoingOn, StandsBefore, below_entering, below_reserving, going_entering, going_inside, going_reserving, none_entering, none_reserving, own}
+use Rattle.weave_core.proofs.AtWorkLemmas.{IsGoingOn, StandsBefore, below_entering, below_reserving, going_entering}
+use Rattle.weave_core.proofs.AtWorkLemmas.{going_inside, going_reserving, none_entering, none_reserving, own}
 use Rattle.weave_core.proofs.MeetingLemmas.{leaf_met}
 use Rattle.weave_core.proofs.SeatLemmas.{leaf_so_then, same_at_leaf, shared_at_leaf}
 use Rattle.leaf_store.proofs.BucketLemmas.{AllBelow}
@@ -18,13 +20,13 @@ use Rattle.weave_core.proofs.WriteTurnLemmas.{can_come, not_mine_leaf, step_is, 
 use Rattle.weave_core.specs.Agreements.{IsLeafSo}
 use Rattle.weave_core.specs.Holders.{leaf_inside}
 use Rattle.weave_core.specs.Meetings.{met_at_leaf}
-use Rattle.weave_core.specs.Sights.{sight_of}
+use Rattle.mon_topo.specs.Sights.{sight_of}
 use Rattle.weave_core.specs.States.{holder_for_actor, holder_for_write, store_of}
 use Rattle.weave_core.specs.WriteEvents.{ChangesLeaf, Enters, EntersIf, IsHeldUp, Reserves, ReservesIf, up_or_down}
 use Rattle.weave_core.specs.WriteTurns.{IsAtWork, WentSo, WriteWaits, WriteWent}
 use Rattle.weave_core.specs.Writers.{RaisesBelow, writer_of}
 use Rattle.weave_core.specs.declared.leaves.LeafSeat.{LeafSeat}
-use Rattle.weave_core.specs.declared.sights.Sight.{Sight}
+use Rattle.mon_topo.specs.declared.sights.Sight.{Sight}
 use Rattle.weave_core.specs.declared.store.Store.{Store}
 use Rattle.weave_core.specs.declared.writes.Writing.{Writing}
 use Rattle.write_core.proofs.KeepsLemmas.{changed_same}
@@ -108,7 +110,8 @@ module _ (config : Config) (world : World) (i : ℕ) (store : Store) (writing : 
   abbrev round : Round
   round = record { done = done; left = mark ∷ left }
 
-  module _ (new : Store) (other : LeafSeat) (next : Writing) (now : Sight) (changes : ChangesLeaf mark.leaf other store new)
+  module _ (new : Store) (other : LeafSeat) (next : Writing) (now : Sight) (changes : ChangesLeaf mark.leaf other store
+      new)
       (reserves : Reserves mark.leaf seat other writing next sight now) where
     abbrev own_view : View
     own_view = view_of (world.actors i)
@@ -140,7 +143,8 @@ module _ (config : Config) (world : World) (i : ℕ) (store : Store) (writing : 
         (sym so.holder ∙ reserves.free, told_truly))
         (shared_at_leaf config world i own_view mark.leaf unchanged (λ n apart. refl) (λ range. refl) refl None
         (writes_on who stage) store new other work.shared changes
-        (leaf_so_then config world i own_view mark.leaf unchanged None (writes_on who stage) seat other now so reserves.stays
+        (leaf_so_then config world i own_view mark.leaf unchanged None (writes_on who stage) seat other now so
+        reserves.stays
         (reserves.history ∙ so.history) reserves.holder seen_is))
         (writer_then config world i store writing sight work (then'.actors i) stage
         (joined own_view (world.leaves mark.leaf.0)) answer writing.inside next now
@@ -157,7 +161,8 @@ module _ (config : Config) (world : World) (i : ℕ) (store : Store) (writing : 
       → WentSo config world i writing new sight now next went
   reserve_here new other next now true changes h = reserved new other next now changes h
   reserve_here new other next now false changes h =
-      held_up config world i store writing sight work mark.leaf seat so (Reserving round) at refl refl new other next now
+      held_up config world i store writing sight work mark.leaf seat so (Reserving round) at refl refl new other next
+      now
       changes h
 
 pub reserve_turn : (config : Config) (world : World) (i : ℕ) (store : Store) (writing : Writing) (sight : Sight)
@@ -167,8 +172,10 @@ pub reserve_turn : (config : Config) (world : World) (i : ℕ) (store : Store) (
     → ReservesIf leaf seat other writing next sight now went → WentSo config world i writing new sight now next went
 reserve_turn config world i store writing sight work slot leaf at seat so new other next now went changes h =
     subst (λ (l : Leaf). IsLeafSo config world l seat → ChangesLeaf l other store new
-    → ReservesIf l seat other writing next sight now went → WentSo config world i writing new sight now next went) at.leaf_is
-    (λ so' changes' h'. reserve_here config world i store writing sight work at.done at.left at.mark at.is seat so' new other
+    → ReservesIf l seat other writing next sight now went → WentSo config world i writing new sight now next went)
+    at.leaf_is
+    (λ so' changes' h'. reserve_here config world i store writing sight work at.done at.left at.mark at.is seat so' new
+    other
     next now went changes' h') so changes h
 
 -- ---- entering
@@ -187,7 +194,8 @@ going_entered false done left n buckets = going_inside done left buckets buckets
 
 inside_entered : (b : Bool) (done left : List Mark) (mark : Mark) (n : ℕ) (buckets : List ℕ) (inside : Option Leaf)
     → inside ≡ None → cond b inside (Some mark.leaf)
-    ≡ leaf_inside (after (Entering (record { done = done; left = mark ∷ left })) (cond b (told.Down n) (told.Up buckets)))
+    ≡ leaf_inside (after (Entering (record { done = done; left = mark ∷ left }))
+    (cond b (told.Down n) (told.Up buckets)))
 inside_entered true done left mark n buckets inside none =
     none ∙ sym (none_entering (looked (record { done = done; left = mark ∷ left }) (fate.Missed n)))
 inside_entered false done left mark n buckets inside none = refl
@@ -210,7 +218,8 @@ module _ (config : Config) (world : World) (i : ℕ) (store : Store) (writing : 
   abbrev entered_round : Round
   entered_round = record { done = done; left = mark ∷ left }
 
-  module _ (new : Store) (other : LeafSeat) (next : Writing) (now : Sight) (changes : ChangesLeaf mark.leaf other store new)
+  module _ (new : Store) (other : LeafSeat) (next : Writing) (now : Sight) (changes : ChangesLeaf mark.leaf other store
+      new)
       (enters : Enters mark.leaf seat other writing next sight now) where
     abbrev entrant_view : View
     entrant_view = view_of (world.actors i)
@@ -242,7 +251,8 @@ module _ (config : Config) (world : World) (i : ℕ) (store : Store) (writing : 
         }
 
     entry_told : IsToldAtEntry (store_of config) (of_leaf world.truth mark.leaf) writing.row entry_answer
-    entry_told = subst (λ (history : List Entry). IsToldAtEntry (store_of config) history writing.row entry_answer) so.history
+    entry_told = subst (λ (history : List Entry). IsToldAtEntry (store_of config) history writing.row entry_answer)
+        so.history
         (told_at_entry (store_of config) (is_down seat.state.history) seat.state.history writing enters.buckets refl
         unraised_there)
 
@@ -261,11 +271,14 @@ module _ (config : Config) (world : World) (i : ℕ) (store : Store) (writing : 
         (writer_then config world i store writing sight work (entered_world.actors i) entry_stage
         (joined entrant_view (world.leaves mark.leaf.0)) entry_answer
         (cond (is_down seat.state.history) writing.inside (Some mark.leaf)) next now
-        (changed_same world.actors i (writes_on entrant_writer entry_stage (joined entrant_view (world.leaves mark.leaf.0))))
+        (changed_same world.actors i (writes_on entrant_writer entry_stage
+        (joined entrant_view (world.leaves mark.leaf.0))))
         (ap (λ (s : Stage). after s entry_answer) at) enters.told_so
-        (inside_entered (is_down seat.state.history) done left mark (length seat.state.history) enters.buckets writing.inside
+        (inside_entered (is_down seat.state.history) done left mark (length seat.state.history) enters.buckets
+        writing.inside
         (work.writer.inside ∙ ap leaf_inside at))
-        (below_entered config.buckets (is_down seat.state.history) entered_round (length seat.state.history) enters.buckets
+        (below_entered config.buckets (is_down seat.state.history) entered_round (length seat.state.history)
+        enters.buckets
         (λ up. all_below config seat writing.row.key enters.buckets work.shared.served so.buckets (enters.to_raise up)))
         entry_seen)
         (subst IsGoingOn (sym (enters.told_so.stage ∙ ap (λ (s : Stage). after s entry_answer) at))
@@ -277,7 +290,8 @@ module _ (config : Config) (world : World) (i : ℕ) (store : Store) (writing : 
       → WentSo config world i writing new sight now next went
   enter_here new other next now true changes h = entered new other next now changes h
   enter_here new other next now false changes h =
-      held_up config world i store writing sight work mark.leaf seat so (Entering entered_round) at refl refl new other next
+      held_up config world i store writing sight work mark.leaf seat so (Entering entered_round) at refl refl new other
+      next
       now changes h
 
 pub enter_turn : (config : Config) (world : World) (i : ℕ) (store : Store) (writing : Writing) (sight : Sight)
@@ -287,6 +301,8 @@ pub enter_turn : (config : Config) (world : World) (i : ℕ) (store : Store) (wr
     → EntersIf leaf seat other writing next sight now went → WentSo config world i writing new sight now next went
 enter_turn config world i store writing sight work slot leaf at seat so new other next now went changes h =
     subst (λ (l : Leaf). IsLeafSo config world l seat → ChangesLeaf l other store new
-    → EntersIf l seat other writing next sight now went → WentSo config world i writing new sight now next went) at.leaf_is
-    (λ so' changes' h'. enter_here config world i store writing sight work at.done at.left at.mark at.is seat so' new other
+    → EntersIf l seat other writing next sight now went → WentSo config world i writing new sight now next went)
+    at.leaf_is
+    (λ so' changes' h'. enter_here config world i store writing sight work at.done at.left at.mark at.is seat so' new
+    other
     next now went changes' h') so changes h

@@ -38,7 +38,6 @@ pub mod ReaderLemmas
 pub mod SeatLemmas
 pub mod SeenLemmas
 pub mod ServingLemmas
-pub mod SightLemmas
 pub mod StepLemmas
 pub mod TurnLemmas
 pub mod WeaveLemmas

@@ -15,12 +15,12 @@ use Rattle.weave_core.specs.Agreements.{IsRangeSo}
 use Rattle.weave_core.specs.Holders.{HoldsRange, IsHolding, leaf_inside}
 use Rattle.weave_core.specs.Meetings.{met_at_range}
 use Rattle.weave_core.specs.RangeAnswers.{lock_answer}
-use Rattle.weave_core.specs.Sights.{sight_of}
+use Rattle.mon_topo.specs.Sights.{sight_of}
 use Rattle.weave_core.specs.States.{holder_for_actor, holder_for_write, store_of}
 use Rattle.weave_core.specs.WriteEvents.{ChangesRange, IsHeldUp, Locks, LocksIf}
 use Rattle.weave_core.specs.WriteTurns.{IsAtWork, WentSo, WriteWaits, WriteWent}
 use Rattle.weave_core.specs.declared.ranges.RangeSeat.{RangeSeat}
-use Rattle.weave_core.specs.declared.sights.Sight.{Sight}
+use Rattle.mon_topo.specs.declared.sights.Sight.{Sight}
 use Rattle.weave_core.specs.declared.store.Store.{Store}
 use Rattle.weave_core.specs.declared.writes.Writing.{Writing}
 use Rattle.write_core.proofs.KeepsLemmas.{changed_same}
@@ -48,7 +48,8 @@ module _ (config : Config) (world : World) (i : ℕ) (store : Store) (writing : 
 
   -- ---- it takes the lock
 
-  module _ (new : Store) (taken : RangeSeat) (next : Writing) (now : Sight) (changes : ChangesRange range taken store new)
+  module _ (new : Store) (taken : RangeSeat) (next : Writing) (now : Sight) (changes : ChangesRange range taken store
+      new)
       (locks : Locks config.range_points seat taken writing next sight now) where
     abbrev answer : WriteTold
     answer = lock_answer config.range_points seat.state writing.row
@@ -78,13 +79,15 @@ module _ (config : Config) (world : World) (i : ℕ) (store : Store) (writing : 
         (step_is config world i store writing sight work Locking answer at)
         (can_come config world i store writing sight work Locking answer at (sym so.holder ∙ locks.free, told_truly))
         (shared_at_range config world i view range unchanged refl (λ leaf. refl) (λ n apart. refl) (Some i)
-        (writes_on writer (after Locking answer)) store new taken work.shared changes (locks.state ∙ so.history) holder_is
+        (writes_on writer (after Locking answer)) store new taken work.shared changes (locks.state ∙ so.history)
+        holder_is
         (locks.sight_there ∙ seen_is))
         (writer_then config world i store writing sight work (then'.actors i) (after Locking answer)
         (joined view (world.ranges range.0)) answer writing.inside next now
         (changed_same world.actors i (writes_on writer (after Locking answer) (joined view (world.ranges range.0))))
         (ap (λ (stage : Stage). after stage answer) at) locks.told_so
-        (work.writer.inside ∙ ap leaf_inside at ∙ sym (none_locked answer)) (below_locked config.buckets answer) seen_is)
+        (work.writer.inside ∙ ap leaf_inside at ∙ sym (none_locked answer)) (below_locked config.buckets answer)
+        seen_is)
         (subst (λ (stage : Stage). ask_of stage ≢ ask.Finished)
         (sym (locks.told_so.stage ∙ ap (λ (stage : Stage). after stage answer) at)) (going_locked answer))
         locks.told_so.stage

@@ -1,5 +1,6 @@
 -- What a leaf's buckets and slots are to a query that looks at it.
-use Rattle.std.proofs.Common.{◌≡◌, ◌∙◌, ◌||◌, ℕ, Bool, true, false, cond, eqb, List, [], ◌∷◌, map, refl, sym, ap, subst, inl, inr}
+use Rattle.std.proofs.Common.{◌≡◌, ◌∙◌, ◌||◌, ℕ, Bool, true, false, cond, eqb, List, [], ◌∷◌, map, refl, sym, ap}
+use Rattle.std.proofs.Common.{subst, inl, inr}
 use Rattle.std.specs.List.{AllByRecursion as All}
 use Rattle.std.proofs.lemmas.Bool.{and_parts, eqb-true, or_cases, or_left, or_parts, or_right}
 use Rattle.leaf_eval.specs.Replicas as leaf_eval
@@ -33,7 +34,8 @@ module _ (own : List ℕ) where
   abbrev found : List ℕ → List ℕ
   found named = buckets_of_child named (map (own_word own) named) 0
 
-  first_found : (bucket : ℕ) (named : List ℕ) → found (bucket ∷ named) ≡ cond (is_among bucket own) (bucket ∷ found named) (found named)
+  first_found : (bucket : ℕ) (named : List ℕ) → found (bucket ∷ named) ≡ cond (is_among bucket own)
+      (bucket ∷ found named) (found named)
   first_found bucket named =
       ap (λ b. cond b (bucket ∷ found named) (found named)) (own_bit (is_among bucket own))
 

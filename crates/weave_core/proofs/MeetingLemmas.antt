@@ -2,9 +2,9 @@
 use Rattle.std.proofs.Common.{◌≡◌, List, [], length, map, set, sym, ap, ◌∙◌}
 use Rattle.std.proofs.Math.ListN.{get_or-map}
 use Rattle.std.proofs.lemmas.List.{set-get_or}
-use Rattle.weave_core.proofs.SightLemmas.{joined_seen}
+use Rattle.mon_topo.proofs.SightLemmas.{joined_seen}
 use Rattle.weave_core.specs.Meetings.{met_at_leaf, met_at_range}
-use Rattle.weave_core.specs.Sights.{range_sight, sight_of, with_leaf_sight, with_range_sight}
+use Rattle.mon_topo.specs.Sights.{range_sight, sight_of, with_leaf_sight, with_range_sight}
 use Rattle.mon_topo.specs.HeldHistories.{Histories, leaf_history, range_history}
 use Rattle.mon_topo.specs.SeenHistories.{joined_histories}
 use Rattle.mon_topo.specs.Settings.{Setting as Store}
@@ -21,7 +21,8 @@ use Rattle.write_core.specs.World.{IsPart, World}
 leaf_noted : (seen : Histories) (leaf : Leaf) (history : List Entry) → leaf_history seen leaf ≡ history
     → with_leaf_sight leaf (length history) (sight_of seen) ≡ sight_of seen
 leaf_noted seen leaf history is = λ i. record {
-  leaves = (ap (λ n. set (map length seen.leaves) leaf.0 n) (ap length (sym is) ∙ sym (get_or-map length seen.leaves leaf.0 []))
+  leaves = (ap (λ n. set (map length seen.leaves) leaf.0 n) (ap length (sym is)
+      ∙ sym (get_or-map length seen.leaves leaf.0 []))
       ∙ set-get_or (map length seen.leaves) leaf.0 0) i;
   ranges = map range_sight seen.ranges;
 }

@@ -1,5 +1,6 @@
 -- A weave that agrees with a state where one actor was put at its number.
-use Rattle.std.proofs.Common.{◌≡◌, ◌≢◌, ℕ, zero, suc, ◌<◌, Option, Some, List, [], ◌∷◌, length, set, refl, sym, ap, subst, ◌∙◌, inl, inr, arith}
+use Rattle.std.proofs.Common.{◌≡◌, ◌≢◌, ℕ, zero, suc, ◌<◌, Option, Some, List, [], ◌∷◌, length, set, refl, sym, ap}
+use Rattle.std.proofs.Common.{subst, ◌∙◌, inl, inr, arith}
 use Rattle.std.specs.Prelude.{slice_get}
 use Rattle.std.proofs.lemmas.Bool.{cases_eq}
 use Rattle.mon_config.specs.declared.config.Config.{Config}
@@ -57,11 +58,13 @@ shared_beside config world actors store h =
       words = words_stay config world (with_actors world actors) store.words store.words h.words refl refl;
       leaves = record {
         count = h.leaves.count;
-        each = λ n seat got. leaf_stays config world (with_actors world actors) Any Any same n seat tt (h.leaves.each n seat got);
+        each = λ n seat got. leaf_stays config world (with_actors world actors) Any Any same n seat tt
+            (h.leaves.each n seat got);
       };
       ranges = record {
         count = h.ranges.count;
-        each = λ n seat got. range_stays config world (with_actors world actors) Any Any same n seat tt (h.ranges.each n seat got);
+        each = λ n seat got. range_stays config world (with_actors world actors) Any Any same n seat tt
+            (h.ranges.each n seat got);
       };
       first = h.first;
     }

@@ -1,5 +1,7 @@
 -- The first replicas as they are opened one by one.
-use Rattle.std.proofs.Common.{◌≡◌, ◌∙◌, ◌<◌, ◌≤◌, ◌+◌, ◌-◌, ℕ, suc, zero, Bool, true, false, cond, Option, Some, None, IfSome, List, [], ◌∷◌, ◌++◌, append-nil, append_assoc, nat_eq, slice_get, get_or, length, map, replicate, take, refl, sym, ap, subst, arith, inl, inr, option_map}
+use Rattle.std.proofs.Common.{◌≡◌, ◌∙◌, ◌<◌, ◌≤◌, ◌+◌, ◌-◌, ℕ, suc, zero, Bool, true, false, cond, Option, Some, None}
+use Rattle.std.proofs.Common.{IfSome, List, [], ◌∷◌, ◌++◌, append-nil, append_assoc, nat_eq, slice_get, get_or, length}
+use Rattle.std.proofs.Common.{map, replicate, take, refl, sym, ap, subst, arith, inl, inr, option_map}
 use Rattle.std.specs.List.{flat_map, range_with_len}
 use Rattle.std.proofs.lemmas.Bool.{cases_eq, eq-eqb, ne_eqb}
 use Rattle.std.proofs.lemmas.List.{length-replicate, length-take-le, take_all, take_more}
@@ -24,8 +26,10 @@ use Rattle.mon_value.specs.declared.positions.Range.{Range}
 use Rattle.mon_value.specs.declared.positions.Slot.{Slot}
 use Rattle.mon_value.specs.declared.rows.Row.{Row}
 use Rattle.weave_core.proofs.FirstLemmas.{IsOpen, get_contains, next_range, one_next, range_opened}
-use Rattle.weave_core.specs.FirstHistories.{first_leaf_history, first_range_history, opened_here, opened_of, opening, openings_from, slot_numbered}
-use Rattle.weave_core.specs.Openings.{AreOpenedSo, IsChanged, IsOpenedSo, opened_before, opened_up_to, with_opening}
+use Rattle.weave_core.specs.FirstHistories.{first_leaf_history, first_range_history, opened_here, opened_of, opening}
+use Rattle.weave_core.specs.FirstHistories.{openings_from, slot_numbered}
+use Rattle.leaf_store.specs.LeafLists.{IsChanged}
+use Rattle.weave_core.specs.Openings.{AreOpenedSo, IsOpenedSo, opened_before, opened_up_to, with_opening}
 
 -- ---- one more
 
@@ -81,7 +85,8 @@ next_item xs place leaf at =
     take_more xs place leaf (slice_get_within xs place leaf at)
     ∙ ap (λ (x : Leaf). take place xs ++ x ∷ []) (get_or_from_slice_get xs place leaf leaf at)
 
-as_many : (xs : List Leaf) (place : ℕ) (leaf : Leaf) → slice_get xs place ≡ Some leaf → 0 + length (take place xs) ≡ place
+as_many : (xs : List Leaf) (place : ℕ) (leaf : Leaf) → slice_get xs place ≡ Some leaf → 0 + length (take place xs)
+    ≡ place
 as_many xs place leaf at =
     let within : place < length xs = slice_get_within xs place leaf at in
     let long : length (take place xs) ≡ place = length-take-le place xs (omega (arith, within)) in
@@ -102,7 +107,8 @@ range_more zones range place number leaf old new at same before added =
     ∙ sym (openings_more 0 (take place xs) leaf)
     ∙ sym (ap (λ (l : List Leaf). openings_from 0 l) (next_item xs place leaf at))
 
-pub range_whole : (zones : List ZoneSpec) (range place : ℕ) (state : List RangeEntry) → length (first_replicas zones range) ≤ place
+pub range_whole : (zones : List ZoneSpec) (range place : ℕ) (state : List RangeEntry)
+    → length (first_replicas zones range) ≤ place
     → state ≡ openings_from 0 (take place (first_replicas zones range)) → state ≡ first_range_history zones range
 range_whole zones range place state past is =
     is ∙ ap (λ (l : List Leaf). openings_from 0 l) (take_all place (first_replicas zones range) past)
@@ -119,7 +125,8 @@ up_to_more zones range place n leaf at =
     ∙ ap (λ (l : List Entry). before ++ l) (here_more (leaf_numbered n) (range_numbered range) 0 (take place xs) leaf)
     ∙ sym (append_assoc before (own (take place xs))
     (cond (nat_eq n leaf.0) (opening (range_numbered range) (0 + length (take place xs)) ∷ []) []))
-    ∙ ap (λ (k : ℕ). (before ++ own (take place xs)) ++ cond (nat_eq n leaf.0) (opening (range_numbered range) k ∷ []) [])
+    ∙ ap (λ (k : ℕ). (before ++ own (take place xs)) ++ cond (nat_eq n leaf.0) (opening (range_numbered range) k ∷ [])
+    [])
     (as_many xs place leaf at)
 
 -- ---- what may be opened
@@ -137,7 +144,8 @@ open_before zones n (suc range) =
 open_up_to : (zones : List ZoneSpec) (n range place : ℕ) → place ≤ length (first_replicas zones range)
     → IsOpen (opened_up_to zones range place n) range place
 open_up_to zones n range zero within =
-    subst (λ (h : List Entry). IsOpen h range 0) (sym (append-nil (opened_before zones range n))) (open_before zones n range)
+    subst (λ (h : List Entry). IsOpen h range 0) (sym (append-nil (opened_before zones range n)))
+    (open_before zones n range)
 open_up_to zones n range (suc place) within =
     let on : place + 1 ≡ suc place = omega arith in
     let xs : List Leaf = first_replicas zones range in
@@ -157,7 +165,8 @@ module _ (config : Config) (range : Range) (place : ℕ) where
   may_by leaf states (Some state) opened within there =
       let history : List Entry = opened_up_to config.topology range.0 place leaf.0 in
       let still : IsOpen history range.0 place = open_up_to config.topology leaf.0 range.0 place within in
-      subst (λ (h : List Entry). IsWellFormed (h ++ opening range place ∷ [])) (sym (opened.each leaf.0 state there).entries)
+      subst (λ (h : List Entry). IsWellFormed (h ++ opening range place ∷ []))
+      (sym (opened.each leaf.0 state there).entries)
       (IsWellFormed-push history (opening range place) still.formed (still.up, still.here place (omega arith), tt))
 
   pub may_open : (leaf : Leaf) (number : ℕ) (states : List LeafView) → number ≡ place
@@ -167,7 +176,8 @@ module _ (config : Config) (range : Range) (place : ℕ) where
   may_open leaf number states same opened at =
       let within : place < length (first_replicas config.topology range.0)
       = slice_get_within (first_replicas config.topology range.0) place leaf at in
-      subst (λ (k : ℕ). IfSome (slice_get states leaf.0) (λ state. IsWellFormed (state.history ++ opening range k ∷ [])))
+      subst (λ (k : ℕ). IfSome (slice_get states leaf.0)
+      (λ state. IsWellFormed (state.history ++ opening range k ∷ [])))
       (sym same) (may_by leaf states (slice_get states leaf.0) opened (omega (arith, within)) refl)
 
   some_same : (a b : LeafView) → Some a ≡ Some b → a ≡ b

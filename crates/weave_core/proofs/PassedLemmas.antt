@@ -1,5 +1,6 @@
 -- Refusals that are passed on.
-use Rattle.std.proofs.Common.{◌≡◌, ◌∙◌, ℕ, List, [], ◌++◌, Option, Some, None, Result, Ok, Err, append-nil, refl, sym, ap, subst}
+use Rattle.std.proofs.Common.{◌≡◌, ◌∙◌, ℕ, List, [], ◌++◌, Option, Some, None, Result, Ok, Err, append-nil, refl, sym}
+use Rattle.std.proofs.Common.{ap, subst}
 use Rattle.mon_config.specs.declared.config.Config.{Config}
 use Rattle.mon_value.specs.declared.refusals.Refusal.{Refusal}
 use Rattle.mon_value.specs.declared.refusals.Refusal.TheVariants as refusal
@@ -27,10 +28,15 @@ module _ (config : Config) (state : State (store_of config)) where
   step_refused X k new text refusal.OutOfMemory refused = tt
 
   -- so are steps until an event, or to the end
-  pub turn_refused : (X : Type 0) (k : ℕ) (goal : Option Event) (what : LineForm) (new : Weave) (text : List ℕ) (why : Refusal WeaveFault)
+  pub turn_refused : (X : Type 0) (k : ℕ) (goal : Option Event) (what : LineForm) (new : Weave) (text : List ℕ)
+      (why : Refusal WeaveFault)
       → line_fault (store_of config) state what ≡ step_fault (store_of config) state k
       → GoesSo config state k goal (Err why) new → FormSo config state what {X = X} (Err why) new text text
-  turn_refused X k goal what new text (refusal.Fault why) same refused = record { fault = same ∙ refused; prints = refl }
+  turn_refused X k goal what new text (refusal.Fault why) same refused = record {
+    fault = same ∙ refused;
+    prints =
+        refl;
+  }
   turn_refused X k goal what new text refusal.OutOfMemory same refused = tt
 
   -- nothing is claimed where memory ran out

@@ -1,16 +1,12 @@
 -- Where leaves stand: each has a zone and a place there that no other leaf has; and there is a word for each.
-use Rattle.std.proofs.Common.{◌≡◌, ℕ, ◌+◌, ◌*◌, ◌-◌, ◌<◌, ◌≤◌, ◌&&◌, Bool, true, false, leb, Option, Some, None, List, length, slice_get, refl, sym, ap, subst, ◌∙◌, arith}
-use Rattle.std.specs.Option.{option_or}
+use Rattle.std.proofs.Common.{◌≡◌, ℕ, ◌+◌, ◌*◌, ◌-◌, ◌<◌, ◌≤◌, Some, List}
+use Rattle.std.proofs.Common.{length, slice_get, sym, ap, subst, ◌∙◌, arith}
 use Rattle.std.proofs.Math.Nat.{add-mul, mul-le-mul_right}
-use Rattle.std.proofs.lemmas.Bool.Decides.{nat_tests}
 use Rattle.std.proofs.lemmas.Option.{get_or_from_slice_get}
 use Rattle.mon_config.specs.declared.config.Config.{Config}
 use Rattle.mon_topo.proofs.PartLemmas.{part_at, zone_of_part}
-use Rattle.mon_topo.specs.Faults.{are_few, leaves_over, too_many}
-use Rattle.mon_topo.specs.Places.{first_at, unless}
 use Rattle.mon_topo.specs.Settings.{zone_of_leaf}
-use Rattle.mon_topo.specs.Zones.{first_leaf, leaf_zones, leaves_in, no_zone, ranges_in, zone_numbered}
-use Rattle.mon_topo.specs.declared.places.Place.{Place as FaultPlace}
+use Rattle.mon_topo.specs.Zones.{first_leaf, leaf_zones, leaves_in, no_zone, zone_numbered}
 use Rattle.mon_topo.specs.declared.places.Place.TheVariants as fault
 use Rattle.mon_topo.specs.declared.zones.ZoneSpec.{ZoneSpec}
 use Rattle.mon_value.specs.declared.positions.Leaf.{Leaf}
@@ -20,33 +16,6 @@ use Rattle.weave_core.specs.HintWords.{HasWord, HintTable}
 use Rattle.weave_core.specs.States.{store_of}
 use Rattle.weave_core.specs.declared.words.Place.TheVariants as at
 use Rattle.write_core.specs.World.{World}
-
--- ---- few zones and leaves
-
-passed : (good : Bool) (place : FaultPlace) (rest : Option FaultPlace) → option_or (unless good place) rest ≡ None
-    → good ≡ true
-passed true place rest e = refl
-passed false place rest e = absurd cc
-
-all_three : (a b c : Bool) → (a && (b && c)) ≡ true → (a ≡ true) × (b ≡ true) × (c ≡ true)
-all_three true true c e = (refl, refl, e)
-all_three true false c e = absurd cc
-all_three false b c e = absurd cc
-
-pub record AreFew (zones : List ZoneSpec) : Type 0 where
-  pub zones_few : length zones ≤ 32
-  pub leaves_few : length (leaves_in zones) ≤ 64
-  pub ranges_few : length (ranges_in zones) ≤ 512
-
-pub few : (zones : List ZoneSpec) → too_many zones ≡ None → AreFew zones
-few zones e =
-    let passes = passed (are_few zones) fault.Zones (first_at leaves_over 0 zones) e in
-    let each = all_three (leb (length zones) 32) (leb (length (leaves_in zones)) 64) (leb (length (ranges_in zones)) 512) passes in
-    record {
-      zones_few = grind (arith, nat_tests);
-      leaves_few = grind (arith, nat_tests);
-      ranges_few = grind (arith, nat_tests);
-    }
 
 -- ---- zones of leaves
 
@@ -98,7 +67,8 @@ one_leaf config a b first second zones places =
     ≡ first_leaf config.topology (zone_of_leaf (store_of config) b).0
     = ap (first_leaf config.topology) zones in
     let low : first_leaf config.topology (zone_of_leaf (store_of config) a).0 ≤ a.0 = first_before config a first in
-    let low_too : first_leaf config.topology (zone_of_leaf (store_of config) b).0 ≤ b.0 = first_before config b second in
+    let low_too : first_leaf config.topology (zone_of_leaf (store_of config) b).0 ≤ b.0 = first_before config b
+    second in
     let same : a.0 - first_leaf config.topology (zone_of_leaf (store_of config) a).0
     ≡ b.0 - first_leaf config.topology (zone_of_leaf (store_of config) b).0 = places in
     omega (arith, firsts, low, low_too, same)
@@ -115,7 +85,8 @@ module _ (config : Config) (world : World) (words : HintTable) (are : AreWords c
 
   pub root_there : HasWord words at.Root bucket
   root_there =
-      let split : (length config.topology + 1) * words.buckets ≡ length config.topology * words.buckets + 1 * words.buckets
+      let split : (length config.topology + 1) * words.buckets ≡ length config.topology * words.buckets + 1
+      * words.buckets
       = add-mul (length config.topology) 1 words.buckets in
       let least : 0 ≤ length config.topology * words.buckets = omega arith in
       record { bucket_there = bucket_there; word_there = omega (arith, split, least, count, bucket_there) }

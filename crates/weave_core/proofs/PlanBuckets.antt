@@ -1,11 +1,13 @@
 -- The buckets that a query's formulas name are below their number.
-use Rattle.std.proofs.Common.{◌≡◌, ◌∙◌, ◌<◌, ◌||◌, ℕ, zero, suc, Bool, true, false, cond, eqb, List, [], ◌∷◌, ◌++◌, length, map, get_or, inl, inr, sym, subst, arith}
+use Rattle.std.proofs.Common.{◌≡◌, ◌∙◌, ◌<◌, ◌||◌, ℕ, zero, suc, Bool, true, false, cond, eqb, List, [], ◌∷◌, ◌++◌}
+use Rattle.std.proofs.Common.{length, map, get_or, inl, inr, sym, subst, arith}
 use Rattle.std.specs.List.{AllByRecursion as All}
 use Rattle.std.proofs.lemmas.Bool.{eqb-true, or_cases}
 use Rattle.mon_hints.proofs.ListingLemmas.{place_among}
 use Rattle.mon_hints.specs.Fingerprints.{bucket_of}
 use Rattle.mon_hints.specs.Excerpts.{pattern_excerpts, value_excerpts}
-use Rattle.mon_hints.specs.Formulas.{All as Always, And, Bucket, FormulaTree, FormulaTrees, NoFormula, Or, Then, all_named, formulas, named_buckets}
+use Rattle.mon_hints.specs.Formulas.{All as Always, And, Bucket, FormulaTree, FormulaTrees, NoFormula, Or, Then}
+use Rattle.mon_hints.specs.Formulas.{all_named, formulas, named_buckets}
 use Rattle.mon_hints.specs.Listings.{IsListing, is_among}
 use Rattle.mon_topo.proofs.RangeHistoryLemmas.{all_append}
 use Rattle.mon_value.specs.declared.values.FieldValue.{FieldValue}
@@ -113,7 +115,8 @@ module _ (count : ℕ) (some : 0 < count) where
       (predicate_below schema q)
   predicate_below schema (tree.Or p q) =
       one_by (predicate_formula count schema p) (predicate_formula count schema q)
-      (is_all (predicate_formula count schema p) || is_all (predicate_formula count schema q)) (predicate_below schema p)
+      (is_all (predicate_formula count schema p) || is_all (predicate_formula count schema q))
+      (predicate_below schema p)
       (predicate_below schema q)
 
   filter_by : (input : NodeTree) (by : PredicateTree) (b : Bool) → IsBelow (fetch_formula count input)

@@ -1,5 +1,6 @@
 -- A write's turn inside a leaf: its row is put.
-use Rattle.std.proofs.Common.{◌≡◌, ℕ, ◌+◌, ◌<◌, None, List, [], ◌∷◌, ◌++◌, length, refl, sym, ap, subst, ◌∙◌, length-append}
+use Rattle.std.proofs.Common.{◌≡◌, ℕ, ◌+◌, ◌<◌, None, List, [], ◌∷◌, ◌++◌, length, refl, sym, ap, subst, ◌∙◌}
+use Rattle.std.proofs.Common.{length-append}
 use Rattle.mon_config.specs.declared.config.Config.{Config}
 use Rattle.mon_topo.proofs.HeldLemmas.{leaf_entry_other, leaf_entry_same}
 use Rattle.mon_topo.specs.HeldHistories.{leaf_history}
@@ -10,20 +11,21 @@ use Rattle.mon_value.specs.declared.histories.Entry.{Entry}
 use Rattle.mon_value.specs.declared.histories.Entry.TheVariants as entry
 use Rattle.mon_value.specs.declared.positions.Leaf.{Leaf}
 use Rattle.mon_value.specs.declared.positions.Slot.{Slot}
-use Rattle.weave_core.proofs.AtWorkLemmas.{IsGoingOn, StandsBefore, below_entering, going_entering, leaf_in_truth, none_entering, own}
+use Rattle.weave_core.proofs.AtWorkLemmas.{IsGoingOn, StandsBefore, below_entering, going_entering, leaf_in_truth}
+use Rattle.weave_core.proofs.AtWorkLemmas.{none_entering, own}
 use Rattle.weave_core.proofs.MeetingLemmas.{leaf_met}
 use Rattle.weave_core.proofs.SeatLemmas.{leaf_so_then, shared_at_leaf}
-use Rattle.weave_core.proofs.SightLemmas.{leaf_seen, noted_over}
+use Rattle.mon_topo.proofs.SightLemmas.{leaf_seen, noted_over}
 use Rattle.weave_core.proofs.WriteTurnLemmas.{can_come, step_is, went_so, writer_then}
 use Rattle.weave_core.specs.Agreements.{IsLeafSo}
 use Rattle.weave_core.specs.Meetings.{met_at_leaf}
-use Rattle.weave_core.specs.Sights.{sight_of, with_leaf_sight}
+use Rattle.mon_topo.specs.Sights.{sight_of, with_leaf_sight}
 use Rattle.weave_core.specs.States.{store_of}
 use Rattle.weave_core.specs.WriteEvents.{ChangesLeaf, Puts}
 use Rattle.weave_core.specs.WriteTurns.{IsAtWork, WriteWent}
 use Rattle.weave_core.specs.Writers.{writer_of}
 use Rattle.weave_core.specs.declared.leaves.LeafSeat.{LeafSeat}
-use Rattle.weave_core.specs.declared.sights.Sight.{Sight}
+use Rattle.mon_topo.specs.declared.sights.Sight.{Sight}
 use Rattle.weave_core.specs.declared.store.Store.{Store}
 use Rattle.weave_core.specs.declared.writes.Writing.{Writing}
 use Rattle.write_core.proofs.KeepsLemmas.{changed_same}
@@ -78,7 +80,8 @@ module _ (config : Config) (world : World) (i : ℕ) (store : Store) (writing : 
   entering_here =
       let own_at : IsAt setting world i writer writing.machine.stage
       = (own config world i store writing sight work).at in
-      let here : IsAt setting world i writer (Inside round [] []) = subst (λ (s : Stage). IsAt setting world i writer s) at own_at in
+      let here : IsAt setting world i writer (Inside round [] []) = subst (λ (s : Stage). IsAt setting world i writer
+      s) at own_at in
       here.0
 
   pub leaf_here : mark.leaf.0 < length world.truth.seen.leaves
@@ -106,7 +109,8 @@ module _ (config : Config) (world : World) (i : ℕ) (store : Store) (writing : 
         subst (λ (e : Entry). IsWellFormed (seat.state.history ++ e ∷ [])) (sym last_is)
         (subst (λ (history : List Entry). IsWellFormed (history ++ last ∷ [])) (sym so.history) formed_then)
 
-    module _ (new : Store) (other : LeafSeat) (next : Writing) (now : Sight) (changes : ChangesLeaf mark.leaf other store new)
+    module _ (new : Store) (other : LeafSeat) (next : Writing) (now : Sight) (changes : ChangesLeaf mark.leaf other
+        store new)
         (puts : Puts mark.slot mark.leaf seat other writing next sight now) where
       abbrev met : View
       met = joined view (world.leaves mark.leaf.0)
@@ -139,11 +143,14 @@ module _ (config : Config) (world : World) (i : ℕ) (store : Store) (writing : 
           went_so config world i store writing sight work told.Done then' new next now is_then
           (can_come config world i store writing sight work (Inside round [] []) told.Done at refl)
           (shared_at_leaf config world i view mark.leaf (with_entry mark.leaf last)
-          (λ n apart. leaf_entry_other world.truth.seen mark.leaf last (leaf_numbered n) apart) (λ range. refl) refl None
+          (λ n apart. leaf_entry_other world.truth.seen mark.leaf last (leaf_numbered n) apart) (λ range. refl) refl
+          None
           (writes_on writer stage) store new other work.shared changes
-          (leaf_so_then config world i view mark.leaf (with_entry mark.leaf last) None (writes_on writer stage) seat other now so
+          (leaf_so_then config world i view mark.leaf (with_entry mark.leaf last) None (writes_on writer stage) seat
+          other now so
           puts.stays (other_history ∙ sym history_then) puts.holder seen_is))
-          (writer_then config world i store writing sight work (then'.actors i) stage (with_entry mark.leaf last met) told.Done
+          (writer_then config world i store writing sight work (then'.actors i) stage (with_entry mark.leaf last met)
+          told.Done
           None next now
           (changed_same world.actors i (writes_on writer stage (with_entry mark.leaf last met)))
           (ap (λ (s : Stage). after s told.Done) at) puts.told_so (sym (none_entering (looked round fate.Took)))
@@ -158,7 +165,8 @@ module _ (config : Config) (world : World) (i : ℕ) (store : Store) (writing : 
   pub follows : IsLeafSo config world leaf seat
       → IsWellFormed (seat.state.history ++ entry.Put writing.number writing.range slot writing.row ∷ [])
   follows so =
-      subst (λ (s : Slot). IsWellFormed (seat.state.history ++ entry.Put writing.number writing.range s writing.row ∷ []))
+      subst (λ (s : Slot). IsWellFormed (seat.state.history ++ entry.Put writing.number writing.range s writing.row
+      ∷ []))
       at.slot_is
       (put_follows config world i store writing sight work at.done at.left at.mark at.is seat
       (subst (λ (l : Leaf). IsLeafSo config world l seat) (sym at.leaf_is) so))
@@ -169,6 +177,8 @@ module _ (config : Config) (world : World) (i : ℕ) (store : Store) (writing : 
   put_turn so new other next now changes puts =
       subst (λ (l : Leaf). IsLeafSo config world l seat → ChangesLeaf l other store new
       → Puts slot l seat other writing next sight now → WriteWent config world i new writing next now) at.leaf_is
-      (λ so' changes' puts'. put_here config world i store writing sight work at.done at.left at.mark at.is seat so' new other
+      (λ so' changes' puts'. put_here config world i store writing sight work at.done at.left at.mark at.is seat so'
+      new other
       next now changes'
-      (subst (λ (s : Slot). Puts s at.mark.leaf seat other writing next sight now) (sym at.slot_is) puts')) so changes puts
+      (subst (λ (s : Slot). Puts s at.mark.leaf seat other writing next sight now) (sym at.slot_is) puts')) so changes
+      puts

@@ -55,37 +55,39 @@ module _ (config : Config) (served : IsServed config) (text : List ℕ) (typed :
     (same : typed_tree plan.typed ≡ typed)
     (hints : map formula_tree plan.formulas ≡ plan_formulas config.buckets typed.tree)
     (listed : IsListing (all_named (formulas (map formula_tree plan.formulas))) plan.buckets)
-    (promise : AllHoldWhereMet config.schemas config.buckets (fetches typed.tree) (map formula_tree plan.formulas)) where
-  abbrev setting : Setting
-  setting = record { plan = plan; areas = areas_of config.topology; limit = config.limit }
+    (promise : AllHoldWhereMet config.schemas config.buckets (fetches typed.tree) (map formula_tree plan.formulas))
+  where
+    abbrev setting : Setting
+    setting = record { plan = plan; areas = areas_of config.topology; limit = config.limit }
 
-  pub machine_so : (machine : Query) → machine ≡ new_query setting → IsMachineSo config text machine
-  machine_so machine is =
-      subst (IsMachineSo config text) (sym is) (record {
-        typed = typed;
-        typed_is = typed_is;
-        asked = record {
+    pub machine_so : (machine : Query) → machine ≡ new_query setting → IsMachineSo config text machine
+    machine_so machine is =
+        subst (IsMachineSo config text) (sym is) (record {
+          typed = typed;
+          typed_is = typed_is;
           asked = record {
-            lawful = served.lawful;
-            replicas = served.replicas;
-            areas = refl;
-            metrics = served.metrics;
-            targets = served.targets;
-            query = of.query;
-            spelled = of.spelled;
-            durations = of.durations;
-            typed = of.is ∙ ap Ok (sym same);
-            buckets = config.buckets;
-            hinted = λ target metric key. own_buckets config.buckets config.schemas target metric key;
-            promise = subst (λ (some : TypedTree). AllHoldWhereMet config.schemas config.buckets (fetches some.tree)
-                (map formula_tree plan.formulas)) (sym same) promise;
-            listed = listed;
+            asked = record {
+              lawful = served.lawful;
+              replicas = served.replicas;
+              areas = refl;
+              metrics = served.metrics;
+              targets = served.targets;
+              query = of.query;
+              spelled = of.spelled;
+              durations = of.durations;
+              typed = of.is ∙ ap Ok (sym same);
+              buckets = config.buckets;
+              hinted = λ target metric key. own_buckets config.buckets config.schemas target metric key;
+              promise = subst (λ (some : TypedTree). AllHoldWhereMet config.schemas config.buckets (fetches some.tree)
+                  (map formula_tree plan.formulas)) (sym same) promise;
+              listed = listed;
+            };
+            typed_so = same;
+            hints = hints;
+            limit = refl;
           };
-          typed_so = same;
-          hints = hints;
-          limit = refl;
-        };
-        buckets = plan_below config.buckets served.limited.some typed.tree (map formula_tree plan.formulas) plan.buckets
-            hints listed;
-        new = refl;
-      })
+          buckets = plan_below config.buckets served.limited.some typed.tree (map formula_tree plan.formulas)
+              plan.buckets
+              hints listed;
+          new = refl;
+        })

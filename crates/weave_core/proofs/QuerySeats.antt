@@ -8,7 +8,7 @@ use Rattle.mon_value.specs.declared.positions.Leaf.{Leaf}
 use Rattle.mon_value.specs.declared.positions.Range.{Range}
 use Rattle.weave_core.proofs.SeatLemmas.{set_each, words_stay}
 use Rattle.weave_core.specs.Agreements.{AreShared, IsLeafSo, IsRangeSo}
-use Rattle.weave_core.specs.Sights.{sight_of}
+use Rattle.mon_topo.specs.Sights.{sight_of}
 use Rattle.weave_core.specs.WriteEvents.{ChangesLeaf, ChangesRange}
 use Rattle.weave_core.specs.declared.leaves.LeafSeat.{LeafSeat}
 use Rattle.weave_core.specs.declared.ranges.RangeSeat.{RangeSeat}
@@ -115,7 +115,8 @@ shared_leaf config world next leaf old new seat same shared changes here = recor
       (ap (λ (truth : View). truth.bits) same.truth);
   leaves = record {
     count = ap length changes.leaves ∙ length-set old.leaves.items leaf.0 seat ∙ shared.leaves.count;
-    each = λ n one got. set_each (λ m some. IsLeafSo config next (leaf_numbered m) some) old.leaves.items leaf.0 seat here
+    each = λ n one got. set_each (λ m some. IsLeafSo config next (leaf_numbered m) some) old.leaves.items leaf.0 seat
+        here
         (λ m some other was. leaf_stays config world next (λ n. n ≢ leaf.0) Any same m some other
         (shared.leaves.each m some was)) n one
         (ap (λ (seats : List LeafSeat). slice_get seats n) (sym changes.leaves) ∙ got);

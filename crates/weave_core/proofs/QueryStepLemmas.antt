@@ -1,5 +1,6 @@
 -- A step of an actor that queries.
-use Rattle.std.proofs.Common.{◌≡◌, ◌≢◌, ℕ, ℤ, Bool, true, not, cond, Option, Some, None, List, [], ◌∷◌, ◌++◌, refl, sym, ap, subst, ◌∙◌, inl, inr}
+use Rattle.std.proofs.Common.{◌≡◌, ◌≢◌, ℕ, ℤ, Bool, true, not, cond, Option, Some, None, List, [], ◌∷◌, ◌++◌, refl}
+use Rattle.std.proofs.Common.{sym, ap, subst, ◌∙◌, inl, inr}
 use Rattle.std.specs.Prelude.{is_some}
 use Rattle.mon_config.specs.declared.config.Config.{Config}
 use Rattle.mon_topo.specs.Settings.{Setting as Store'}
@@ -18,7 +19,8 @@ use Rattle.weave_core.specs.Core.{Reader, Tells, asked_now, told_on, view_told, 
 use Rattle.weave_core.specs.EndTexts.{query_text}
 use Rattle.weave_core.specs.EventNames.{event_of_query}
 use Rattle.weave_core.specs.QueryTurns.{IsAsking, QueriesSo}
-use Rattle.weave_core.specs.States.{Asking, Dismissed, Eventless, Role, State, Undeclared, Writing, fault_in, holder_in, is_any, step_fault, store_of}
+use Rattle.weave_core.specs.States.{Asking, Dismissed, Eventless, Role, State, Undeclared, Writing, fault_in}
+use Rattle.weave_core.specs.States.{holder_in, is_any, step_fault, store_of}
 use Rattle.weave_core.specs.Steps.{StepsIn, query_stepped, with_event}
 use Rattle.weave_core.specs.declared.actors.Actor.{Actor}
 use Rattle.weave_core.specs.declared.actors.Course.TheVariants as course
@@ -28,7 +30,7 @@ use Rattle.weave_core.specs.declared.calls.Stepped.{Stepped}
 use Rattle.weave_core.specs.declared.queries.QueryTurn.{QueryTurn}
 use Rattle.weave_core.specs.declared.queries.QueryTurn.TheVariants as turn
 use Rattle.weave_core.specs.declared.queries.Querying.{Querying}
-use Rattle.weave_core.specs.declared.sights.Sight.{Sight}
+use Rattle.mon_topo.specs.declared.sights.Sight.{Sight}
 use Rattle.weave_core.specs.declared.store.Store.{Store}
 use Rattle.write_core.proofs.KeepsLemmas.{changed_same}
 use Rattle.write_core.specs.Views.{View}
@@ -69,7 +71,8 @@ any_pushed (y ∷ xs) x = refl
 
 -- ---- a query's step
 
-module _ (config : Config) (state : State (store_of config)) (i : ℕ) (store : Store) (querying : Querying) (sight : Sight)
+module _ (config : Config) (state : State (store_of config)) (i : ℕ) (store : Store) (querying : Querying)
+    (sight : Sight)
     (begun : Bool)
     (here : IsIn config state i store (record { course = course.Queries querying; sight = sight; begun = begun })) where
   abbrev before : Actor
@@ -140,14 +143,16 @@ module _ (config : Config) (state : State (store_of config)) (i : ℕ) (store : 
         (told_on (store_of config) reader answer (view_told (store_of config) state.core.world reader) stage))
         ∙ any_pushed reader.session _
 
-  pub query_steps : (zones : List ZoneSpec) (new : Store) (now : Sight) (turn : QueryTurn) (own : Actor) (how : Option Stepped)
+  pub query_steps : (zones : List ZoneSpec) (new : Store) (now : Sight) (turn : QueryTurn) (own : Actor)
+      (how : Option Stepped)
       → zones ≡ config.topology → QueriesSo config state.core i querying new sight now turn
       → QueriedSo zones turn now begun own how → ActorSteps config state i new before own how
   query_steps zones new now (turn.Went next) own how same went h =
       subst (λ (o : Option Stepped). ActorSteps config state i new before own o) (sym h.1) (record {
         fault = no_fault;
         after = then' went.answer went.stage;
-        steps = subst (λ (role : Role). StepsIn (store_of config) role state i stepped.Went (then' went.answer went.stage))
+        steps = subst (λ (role : Role). StepsIn (store_of config) role state i stepped.Went
+            (then' went.answer went.stage))
             (sym role_is)
             (inr (record {
               answer = went.answer;
@@ -160,7 +165,8 @@ module _ (config : Config) (state : State (store_of config)) (i : ℕ) (store : 
         shared = went.shared;
         actor = subst (λ (one : Actor). IsActorSo config i (doer_then went.answer went.stage)
             (reader_then went.answer went.stage) (state.roles i) (Some one)) (sym h.0)
-            (subst (λ (role : Role). IsCourseSo config i (doer_then went.answer went.stage) (reader_then went.answer went.stage)
+            (subst (λ (role : Role). IsCourseSo config i (doer_then went.answer went.stage)
+            (reader_then went.answer went.stage)
             role (course.Queries next) true now) (sym role_is) (record {
               reader_so = went.reader;
               planned = went.planned;
@@ -183,7 +189,12 @@ module _ (config : Config) (state : State (store_of config)) (i : ℕ) (store : 
             }));
         shared = waits.1.shared;
         actor = subst (λ (one : Actor). IsActorSo config i doer reader (state.roles i) (Some one))
-            (sym (h.0 ∙ (λ k. record { course = course.Queries (waits.0 k); sight = waits.1.sight_is k; begun = begun })))
+            (sym (h.0 ∙ (λ k. record {
+              course = course.Queries (waits.0 k);
+              sight = waits.1.sight_is k;
+              begun =
+                  begun;
+            })))
             here.actor;
       })
   query_steps zones new now (turn.Ended end) own how same ended h =

@@ -21,17 +21,19 @@ use Rattle.weave_core.proofs.CoreLemmas.{goes}
 use Rattle.weave_core.specs.ActorAgreements.{IsReaderSo}
 use Rattle.weave_core.specs.Core.{Core, Reader, Tells, asked_now, came, query_now, seen_by, told_on, view_told}
 use Rattle.weave_core.specs.FirstHistories.{first_histories}
-use Rattle.weave_core.specs.QueryTurns.{AnswersSo, IsAnswered, IsAsking, IsToldLast, IsToldOn, QueriesSo, QueryEnded, QueryWent, TurnsBy}
-use Rattle.weave_core.specs.Sights.{sight_of}
+use Rattle.weave_core.specs.QueryTurns.{AnswersSo, IsAnswered, IsAsking, IsToldLast, IsToldOn, QueriesSo, QueryEnded}
+use Rattle.weave_core.specs.QueryTurns.{QueryWent, TurnsBy}
+use Rattle.mon_topo.specs.Sights.{sight_of}
 use Rattle.weave_core.specs.States.{store_of}
 use Rattle.weave_core.specs.declared.queries.QueryTurn.{QueryTurn}
 use Rattle.weave_core.specs.declared.queries.QueryTurn.TheVariants as turn
 use Rattle.weave_core.specs.declared.queries.Querying.{Querying}
-use Rattle.weave_core.specs.declared.sights.Sight.{Sight}
+use Rattle.mon_topo.specs.declared.sights.Sight.{Sight}
 use Rattle.weave_core.specs.declared.store.Store.{Store}
 use Rattle.write_core.proofs.KeepsLemmas.{changed_same}
 
-pub if_ok_on : {X E : Type 0} (P Q : X → Type 0) → ((x : X) → P x → Q x) → (result : Result X E) → IfOk result P → IfOk result Q
+pub if_ok_on : {X E : Type 0} (P Q : X → Type 0) → ((x : X) → P x → Q x) → (result : Result X E) → IfOk result P
+    → IfOk result Q
 if_ok_on P Q on (Ok x) is = on x is
 if_ok_on P Q on (Err fault) is = is
 
@@ -70,14 +72,16 @@ module _ (config : Config) (core : Core (store_of config)) (k : ℕ) (store : St
         → Settles reader.setting (after reader.setting query.stage answer) stage
     settled stage so =
         subst (λ (some : Asked). Settles some (after some query.stage answer) stage) (sym asking.reader.setting)
-        (subst (λ (one : Query). Settles querying.machine.setting (after querying.machine.setting one.stage answer) stage)
+        (subst (λ (one : Query). Settles querying.machine.setting (after querying.machine.setting one.stage answer)
+        stage)
         (sym asking.reader.now) so)
 
     went : (next : Querying) → IsToldOn querying answer next → QueryWent config core k new next now
     went next on =
         let stage = next.machine.stage in
         let grown = (goes (store_of config) reader.setting reader.moment core.world reader.view asking.woven.world
-        (asking.woven.readers k).part query.avoided (slots_at query) (asked_now (store_of config) reader) answer is.told).grown in
+        (asking.woven.readers k).part query.avoided (slots_at query) (asked_now (store_of config) reader) answer
+        is.told).grown in
         let own_setting : query.setting ≡ next.machine.setting =
         ap (λ (one : Query). one.setting) asking.reader.now ∙ sym on.setting in
         let own_avoided : avoided_after query.avoided query.stage answer ≡ next.machine.avoided =
@@ -102,7 +106,8 @@ module _ (config : Config) (core : Core (store_of config)) (k : ℕ) (store : St
               });
           planned = record {
             limit = ap (λ (some : Asked). some.limit) on.setting ∙ asking.planned.limit;
-            buckets = subst (λ (some : Asked). AllByRecursion (λ (bucket : ℕ). bucket < config.buckets) some.plan.buckets)
+            buckets = subst (λ (some : Asked). AllByRecursion (λ (bucket : ℕ). bucket < config.buckets)
+                some.plan.buckets)
                 (sym on.setting) asking.planned.buckets;
           };
           goes_on = on.goes_on;
@@ -125,7 +130,8 @@ module _ (config : Config) (core : Core (store_of config)) (k : ℕ) (store : St
     turns (turn.Waits next) by = absurd by
     turns (turn.Ended end) by = ended end by
 
-  pub answered_turns : (found : Option Told) (answer : Told) → found ≡ Some answer → AnswersSo config core k new sight now found
+  pub answered_turns : (found : Option Told) (answer : Told) → found ≡ Some answer → AnswersSo config core k new sight
+      now found
       → (some : QueryTurn) → TurnsBy querying answer some → QueriesSo config core k querying new sight now some
   answered_turns found answer e is some by =
       turns answer (subst (AnswersSo config core k new sight now) e is) some by

@@ -1,5 +1,6 @@
 -- Buckets that are to be raised are below the number of buckets.
-use Rattle.std.proofs.Common.{◌≡◌, ℕ, ◌+◌, ◌-◌, ◌^◌, ◌<◌, ◌≤◌, ◌&&◌, ◌||◌, ◌==◌, Bool, true, false, not, Option, Some, None, List, [], ◌∷◌, refl, sym, subst, ◌∙◌, arith}
+use Rattle.std.proofs.Common.{◌≡◌, ℕ, ◌+◌, ◌-◌, ◌^◌, ◌<◌, ◌≤◌, ◌&&◌, ◌||◌, ◌==◌, Bool, true, false, not, Option, Some}
+use Rattle.std.proofs.Common.{None, List, [], ◌∷◌, refl, sym, subst, ◌∙◌, arith}
 use Rattle.std.proofs.lemmas.Bool.Decides.{nat_tests}
 use Rattle.mon_hints.specs.HistoryBuckets.{history_buckets}
 use Rattle.leaf_store.proofs.BucketLemmas.{AllBelow, bucket_below}
@@ -22,7 +23,8 @@ both_first : (a b : Bool) → (a && b) ≡ true → a ≡ true
 both_first true b e = refl
 both_first false b e = absurd cc
 
-by_below : (count : ℕ) (target : Option TargetSchema) (metric : Option MetricSchema) (key : SeriesKey) (bucket : ℕ) → 0 < count
+by_below : (count : ℕ) (target : Option TargetSchema) (metric : Option MetricSchema) (key : SeriesKey) (bucket : ℕ)
+    → 0 < count
     → is_among bucket (buckets_by count target metric key) ≡ true → bucket < count
 by_below count None metric key bucket some e = absurd cc
 by_below count (Some target) None key bucket some e = absurd cc
@@ -31,7 +33,8 @@ by_below count (Some target) (Some metric) key bucket some e = bucket_below coun
 pub key_below : (count : ℕ) (held : SchemaLists) (key : SeriesKey) (bucket : ℕ) → 0 < count
     → is_among bucket (key_buckets count held key) ≡ true → bucket < count
 key_below count held key bucket some e =
-    by_below count (target_named key.target.schema held.targets) (metric_named key.metric held.metrics) key bucket some e
+    by_below count (target_named key.target.schema held.targets) (metric_named key.metric held.metrics) key bucket some
+    e
 
 later_among : (a b : Bool) → b ≡ true → (a || b) ≡ true
 later_among true b e = refl
@@ -56,7 +59,8 @@ all_below config seat key buckets served same raise =
     key_below config.buckets seat.state.schemas key bucket served.limited.some
     (subst (λ (n : ℕ). is_among bucket (key_buckets n seat.state.schemas key) ≡ true) same
     (both_first (is_among bucket (key_buckets seat.state.buckets seat.state.schemas key))
-    (not (is_among bucket (history_buckets (key_buckets seat.state.buckets seat.state.schemas) seat.state.history))) (sym (raise.same bucket) ∙ e))))
+    (not (is_among bucket (history_buckets (key_buckets seat.state.buckets seat.state.schemas) seat.state.history)))
+    (sym (raise.same bucket) ∙ e))))
 
 -- the next bucket that is to be raised is one of the store's
 pub next_small : (state : LeafView) (key : SeriesKey) (from next : ℕ) → 0 < state.buckets → state.buckets ≤ MOST_BUCKETS

@@ -1,5 +1,6 @@
 -- A write's turn inside a leaf: a bit is set in a word.
-use Rattle.std.proofs.Common.{◌≡◌, ℕ, ◌+◌, ◌<◌, ◌≤◌, ◌&&◌, ◌||◌, Bool, true, false, nat_eq, Some, List, [], ◌∷◌, length, refl, sym, ap, subst, ◌∙◌, inl, inr, arith}
+use Rattle.std.proofs.Common.{◌≡◌, ℕ, ◌+◌, ◌<◌, ◌≤◌, ◌&&◌, ◌||◌, Bool, true, false, nat_eq, Some, List, [], ◌∷◌}
+use Rattle.std.proofs.Common.{length, refl, sym, ap, subst, ◌∙◌, inl, inr, arith}
 use Rattle.std.proofs.lemmas.List.{length-set}
 use Rattle.std.proofs.lemmas.Bool.{cases_eq, eq-eqb, ne_eqb}
 use Rattle.mon_config.specs.declared.config.Config.{Config}
@@ -12,7 +13,7 @@ use Rattle.mon_value.specs.declared.positions.Leaf.{Leaf}
 use Rattle.mon_value.specs.declared.positions.Zone.{Zone}
 use Rattle.weave_core.proofs.AtWorkLemmas.{IsGoingOn, StandsInside, going_inside, leaf_in_truth, own}
 use Rattle.weave_core.proofs.MeetingLemmas.{leaf_met}
-use Rattle.weave_core.proofs.PlaceLemmas.{few, one_leaf, place_below, root_there, zone_there, zone_word_there}
+use Rattle.weave_core.proofs.PlaceLemmas.{one_leaf, place_below, root_there, zone_there, zone_word_there}
 use Rattle.weave_core.proofs.SeatLemmas.{leaf_so_then, leaves_at_leaf, ranges_at_leaf}
 use Rattle.weave_core.proofs.WriteTurnLemmas.{can_come, step_is, went_so, writer_then}
 use Rattle.weave_core.proofs.WordLemmas.{one_raised}
@@ -20,13 +21,14 @@ use Rattle.weave_core.specs.Agreements.{AreWords, IsLeafSo, place_of_leaf}
 use Rattle.weave_core.specs.HintWords.{HasWord, HintTable, RaisesOne, raised, same_place, word_at}
 use Rattle.weave_core.specs.Holders.{leaf_inside}
 use Rattle.weave_core.specs.Meetings.{met_at_leaf}
-use Rattle.weave_core.specs.Sights.{sight_of}
+use Rattle.mon_topo.specs.Sights.{sight_of}
 use Rattle.weave_core.specs.States.{store_of}
 use Rattle.weave_core.specs.WriteEvents.{Raises, RaisesWord}
 use Rattle.weave_core.specs.WriteTurns.{IsAtWork, WriteWent}
 use Rattle.weave_core.specs.Writers.{IsWriterSo, RaisesBelow, writer_of}
 use Rattle.weave_core.specs.declared.leaves.LeafSeat.{LeafSeat}
-use Rattle.weave_core.specs.declared.sights.Sight.{Sight}
+use Rattle.mon_topo.specs.declared.sights.Sight.{Sight}
+use Rattle.mon_topo.proofs.LawfulLemmas.{few}
 use Rattle.weave_core.specs.declared.store.Store.{Store}
 use Rattle.weave_core.specs.declared.words.Place.{Place}
 use Rattle.weave_core.specs.declared.words.Place.TheVariants as word
@@ -97,13 +99,16 @@ module _ (config : Config) (world next : World) (words : HintTable) (are : AreWo
         count = count_raised word.Root zone small (root_there config world words are bucket below) ∙ are.count;
         root = λ z b h.
             raises word.Root b z (in_words b h)
-            ∙ (λ k. turned (same_place word.Root word.Root) (nat_eq b bucket) (nat_eq z zone) (eq-eqb 0 0 refl) k || are.root z b h k)
+            ∙ (λ k. turned (same_place word.Root word.Root) (nat_eq b bucket) (nat_eq z zone) (eq-eqb 0 0 refl) k
+            || are.root z b h k)
             ∙ sym (roots z b);
         zone = λ leaf b here h.
-            raises (word.Zone (zone_of_leaf (store_of config) leaf)) b (place_of_leaf (store_of config) leaf) (in_words b h)
+            raises (word.Zone (zone_of_leaf (store_of config) leaf)) b (place_of_leaf (store_of config) leaf)
+            (in_words b h)
             ∙ elsewhere (same_place (word.Zone (zone_of_leaf (store_of config) leaf)) word.Root) (nat_eq b bucket)
             (nat_eq (place_of_leaf (store_of config) leaf) zone)
-            (has_bit (word_at words (word.Zone (zone_of_leaf (store_of config) leaf)) b) (place_of_leaf (store_of config) leaf))
+            (has_bit (word_at words (word.Zone (zone_of_leaf (store_of config) leaf)) b)
+            (place_of_leaf (store_of config) leaf))
             (ne_eqb ((zone_of_leaf (store_of config) leaf).0 + 1) 0 (λ e. omega (arith, e)))
             ∙ are.zone leaf b here h ∙ sym (zones leaf.0 b);
       }
@@ -139,13 +144,16 @@ module _ (config : Config) (world next : World) (words : HintTable) (are : AreWo
       same_leaf : (leaf : Leaf) → leaf.0 < length (leaves_in config.topology) → (other : Leaf)
           → other.0 < length (leaves_in config.topology)
           → (nat_eq ((zone_of_leaf (store_of config) other).0 + 1) ((zone_of_leaf (store_of config) leaf).0 + 1)
-          && nat_eq (place_of_leaf (store_of config) other) (place_of_leaf (store_of config) leaf)) ≡ nat_eq other.0 leaf.0
+          && nat_eq (place_of_leaf (store_of config) other) (place_of_leaf (store_of config) leaf)) ≡ nat_eq other.0
+          leaf.0
       same_leaf leaf there other here = elim (cases_eq other.0 leaf.0) [
         | inl same ↦
             let leaves : other ≡ leaf = ap leaf_numbered same in
-            (λ k. nat_eq ((zone_of_leaf (store_of config) (leaves k)).0 + 1) ((zone_of_leaf (store_of config) leaf).0 + 1)
+            (λ k. nat_eq ((zone_of_leaf (store_of config) (leaves k)).0 + 1) ((zone_of_leaf (store_of config) leaf).0
+            + 1)
             && nat_eq (place_of_leaf (store_of config) (leaves k)) (place_of_leaf (store_of config) leaf))
-            ∙ (λ k. eq-eqb ((zone_of_leaf (store_of config) leaf).0 + 1) ((zone_of_leaf (store_of config) leaf).0 + 1) refl k
+            ∙ (λ k. eq-eqb ((zone_of_leaf (store_of config) leaf).0 + 1) ((zone_of_leaf (store_of config) leaf).0 + 1)
+            refl k
             && eq-eqb (place_of_leaf (store_of config) leaf) (place_of_leaf (store_of config) leaf) refl k)
             ∙ sym (eq-eqb other.0 leaf.0 same)
         | inr apart ↦
@@ -153,7 +161,8 @@ module _ (config : Config) (world next : World) (words : HintTable) (are : AreWo
             (nat_eq ((zone_of_leaf (store_of config) other).0 + 1) ((zone_of_leaf (store_of config) leaf).0 + 1))
             (nat_eq (place_of_leaf (store_of config) other) (place_of_leaf (store_of config) leaf))
             (λ zones places. apart (one_leaf config other leaf here there
-            (let e = eq_of ((zone_of_leaf (store_of config) other).0 + 1) ((zone_of_leaf (store_of config) leaf).0 + 1) zones in
+            (let e = eq_of ((zone_of_leaf (store_of config) other).0 + 1) ((zone_of_leaf (store_of config) leaf).0 + 1)
+            zones in
             omega (arith, e))
             (eq_of (place_of_leaf (store_of config) other) (place_of_leaf (store_of config) leaf) places)))
             ∙ sym (ne_eqb other.0 leaf.0 apart)
@@ -162,7 +171,8 @@ module _ (config : Config) (world next : World) (words : HintTable) (are : AreWo
 -- ---- inside of a leaf
 
 module _ (config : Config) (world : World) (i : ℕ) (store : Store) (writing : Writing) (sight : Sight)
-    (work : IsAtWork config world i store writing sight) (done left : List Mark) (mark : Mark) (at_root in_zone : List ℕ)
+    (work : IsAtWork config world i store writing sight) (done left : List Mark) (mark : Mark)
+    (at_root in_zone : List ℕ)
     (at : writing.machine.stage ≡ Inside (record { done = done; left = mark ∷ left }) at_root in_zone) where
   abbrev setting : Setting
   setting = store_of config
@@ -203,18 +213,21 @@ module _ (config : Config) (world : World) (i : ℕ) (store : Store) (writing : 
   pub zone_small : (zone_of_leaf setting mark.leaf).0 < 64
   zone_small =
       let most : length config.topology ≤ 32 = (few config.topology work.shared.served.lawful.few).zones_few in
-      let there : (zone_of_leaf setting mark.leaf).0 < length config.topology = zone_there config mark.leaf inside_listed in
+      let there : (zone_of_leaf setting mark.leaf).0 < length config.topology = zone_there config mark.leaf
+      inside_listed in
       omega (arith, most, there)
 
   pub place_small : place_of_leaf setting mark.leaf < 64
   place_small =
-      let most : length (leaves_in config.topology) ≤ 64 = (few config.topology work.shared.served.lawful.few).leaves_few in
+      let most : length (leaves_in config.topology) ≤ 64 =
+      (few config.topology work.shared.served.lawful.few).leaves_few in
       let least : place_of_leaf setting mark.leaf ≤ mark.leaf.0 = place_below config mark.leaf inside_listed in
       let there : mark.leaf.0 < length (leaves_in config.topology) = inside_listed in
       omega (arith, most, least, there)
 
   -- a bit was set, and it goes on
-  module _ (seat : LeafSeat) (so : IsLeafSo config world mark.leaf seat) (new : Store) (other : LeafSeat) (next : Writing)
+  module _ (seat : LeafSeat) (so : IsLeafSo config world mark.leaf seat) (new : Store) (other : LeafSeat)
+      (next : Writing)
       (now : Sight) (raises : Raises mark.leaf seat other writing next sight now) (change : View → View) (stage : Stage)
       (after_is : after (Inside round at_root in_zone) told.Done ≡ stage)
       (seen_same : (v : View) → (change v).seen ≡ v.seen) where
@@ -230,19 +243,23 @@ module _ (config : Config) (world : World) (i : ℕ) (store : Store) (writing : 
 
     pub leaf_then : IsLeafSo config then' mark.leaf other
     leaf_then =
-        leaf_so_then config world i view mark.leaf change (Some i) (writes_on writer stage) seat other now so raises.stays
+        leaf_so_then config world i view mark.leaf change (Some i) (writes_on writer stage) seat other now so
+        raises.stays
         (raises.history ∙ so.history ∙ ap (λ seen. leaf_history seen mark.leaf) (sym (seen_same world.truth)))
         (raises.holder ∙ so.holder ∙ inside_is.holder) seen_is
 
     pub writer_next : leaf_inside stage ≡ Some mark.leaf → RaisesBelow config.buckets stage
         → IsWriterSo config.buckets i (then'.actors i) next now
     writer_next inside below =
-        writer_then config world i store writing sight work (then'.actors i) stage (change met) told.Done writing.inside next now
-        (changed_same world.actors i (writes_on writer stage (change met))) (ap (λ (s : Stage). after s told.Done) at ∙ after_is)
+        writer_then config world i store writing sight work (then'.actors i) stage (change met) told.Done
+        writing.inside next now
+        (changed_same world.actors i (writes_on writer stage (change met))) (ap (λ (s : Stage). after s told.Done) at
+        ∙ after_is)
         raises.told_so (leaf_kept ∙ sym inside) below seen_is
 
     pub goes_on : IsGoingOn stage → IsGoingOn next.machine.stage
-    goes_on going = subst IsGoingOn (sym (raises.told_so.stage ∙ ap (λ (s : Stage). after s told.Done) at ∙ after_is)) going
+    goes_on going = subst IsGoingOn (sym (raises.told_so.stage ∙ ap (λ (s : Stage). after s told.Done) at ∙ after_is))
+        going
 
 -- ---- the turns
 
@@ -260,15 +277,19 @@ module _ (config : Config) (world : World) (i : ℕ) (store : Store) (writing : 
   root_change = with_root_bit (zone_of_leaf (store_of config) at.mark.leaf) bucket
 
   abbrev root_world : World
-  root_world = at_leaf world i root_view at.mark.leaf root_change (Some i) (writes_on (writer_of i writing root_view) root_stage)
+  root_world = at_leaf world i root_view at.mark.leaf root_change (Some i) (writes_on (writer_of i writing root_view)
+      root_stage)
 
   pub root_turn : (new : Store) (other : LeafSeat) (next : Writing) (now : Sight)
       → RaisesWord word.Root seat.zone.0 bucket at.mark.leaf other store new
       → Raises at.mark.leaf seat other writing next sight now → WriteWent config world i new writing next now
   root_turn new other next now changes raises =
-      let below : RaisesBelow config.buckets (Inside (record { done = at.done; left = at.mark ∷ at.left }) (bucket ∷ at_root) in_zone)
-      = buckets_below config world i store writing sight work at.done at.left at.mark (bucket ∷ at_root) in_zone at.is in
-      let small = zone_small config world i store writing sight work at.done at.left at.mark (bucket ∷ at_root) in_zone at.is in
+      let below : RaisesBelow config.buckets (Inside (record { done = at.done; left = at.mark ∷ at.left })
+      (bucket ∷ at_root) in_zone)
+      = buckets_below config world i store writing sight work at.done at.left at.mark (bucket ∷ at_root) in_zone
+      at.is in
+      let small = zone_small config world i store writing sight work at.done at.left at.mark (bucket ∷ at_root) in_zone
+      at.is in
       let words : AreWords config root_world new.words
       = subst (λ (w : HintTable). AreWords config root_world w)
       (sym (changes.words ∙ ap (λ (z : Zone). raised store.words word.Root z.0 bucket) so.zone))
@@ -283,20 +304,28 @@ module _ (config : Config) (world : World) (i : ℕ) (store : Store) (writing : 
         config_is = changes.config ∙ work.shared.config_is;
         served = work.shared.served;
         words = words;
-        leaves = leaves_at_leaf config world i root_view at.mark.leaf root_change (λ n apart. refl) (λ range. refl) (Some i)
-            (writes_on (writer_of i writing root_view) root_stage) store.leaves.items new.leaves.items other work.shared.leaves
+        leaves = leaves_at_leaf config world i root_view at.mark.leaf root_change (λ n apart. refl) (λ range. refl)
+            (Some i)
+            (writes_on (writer_of i writing root_view) root_stage) store.leaves.items new.leaves.items other
+            work.shared.leaves
             changes.leaves
-            (leaf_then config world i store writing sight work at.done at.left at.mark (bucket ∷ at_root) in_zone at.is seat so
+            (leaf_then config world i store writing sight work at.done at.left at.mark (bucket ∷ at_root) in_zone at.is
+            seat so
             new other next now raises root_change root_stage refl (λ v. refl));
-        ranges = ranges_at_leaf config world i root_view at.mark.leaf root_change (λ n apart. refl) (λ range. refl) (Some i)
-            (writes_on (writer_of i writing root_view) root_stage) store.ranges.items new.ranges.items work.shared.ranges
+        ranges = ranges_at_leaf config world i root_view at.mark.leaf root_change (λ n apart. refl) (λ range. refl)
+            (Some i)
+            (writes_on (writer_of i writing root_view) root_stage) store.ranges.items new.ranges.items
+            work.shared.ranges
             changes.ranges;
         first = changes.first ∙ work.shared.first;
       })
-      (writer_next config world i store writing sight work at.done at.left at.mark (bucket ∷ at_root) in_zone at.is seat so new
+      (writer_next config world i store writing sight work at.done at.left at.mark (bucket ∷ at_root) in_zone at.is
+      seat so new
       other next now raises root_change root_stage refl (λ v. refl) refl (below.0.1, below.1))
-      (goes_on config world i store writing sight work at.done at.left at.mark (bucket ∷ at_root) in_zone at.is seat so new other
-      next now raises root_change root_stage refl (λ v. refl) (going_inside at.done (at.mark ∷ at.left) at_root in_zone))
+      (goes_on config world i store writing sight work at.done at.left at.mark (bucket ∷ at_root) in_zone at.is seat so
+      new other
+      next now raises root_change root_stage refl (λ v. refl) (going_inside at.done (at.mark ∷ at.left) at_root
+      in_zone))
       raises.told_so.stage
 
 module _ (config : Config) (world : World) (i : ℕ) (store : Store) (writing : Writing) (sight : Sight)
@@ -313,16 +342,20 @@ module _ (config : Config) (world : World) (i : ℕ) (store : Store) (writing : 
   zone_change = with_zone_bit at.mark.leaf bucket
 
   abbrev zone_world : World
-  zone_world = at_leaf world i zone_view at.mark.leaf zone_change (Some i) (writes_on (writer_of i writing zone_view) zone_stage)
+  zone_world = at_leaf world i zone_view at.mark.leaf zone_change (Some i) (writes_on (writer_of i writing zone_view)
+      zone_stage)
 
   pub zone_turn : (new : Store) (other : LeafSeat) (next : Writing) (now : Sight)
       → RaisesWord (word.Zone seat.zone) seat.place bucket at.mark.leaf other store new
       → Raises at.mark.leaf seat other writing next sight now → WriteWent config world i new writing next now
   zone_turn new other next now changes raises =
-      let below : RaisesBelow config.buckets (Inside (record { done = at.done; left = at.mark ∷ at.left }) [] (bucket ∷ in_zone))
+      let below : RaisesBelow config.buckets (Inside (record { done = at.done; left = at.mark ∷ at.left }) []
+      (bucket ∷ in_zone))
       = buckets_below config world i store writing sight work at.done at.left at.mark [] (bucket ∷ in_zone) at.is in
-      let small = place_small config world i store writing sight work at.done at.left at.mark [] (bucket ∷ in_zone) at.is in
-      let listed = inside_listed config world i store writing sight work at.done at.left at.mark [] (bucket ∷ in_zone) at.is in
+      let small = place_small config world i store writing sight work at.done at.left at.mark [] (bucket ∷ in_zone)
+      at.is in
+      let listed = inside_listed config world i store writing sight work at.done at.left at.mark [] (bucket ∷ in_zone)
+      at.is in
       let words : AreWords config zone_world new.words
       = subst (λ (w : HintTable). AreWords config zone_world w)
       (sym (changes.words ∙ (λ k. raised store.words (word.Zone (so.zone k)) (so.place k) bucket)))
@@ -337,18 +370,25 @@ module _ (config : Config) (world : World) (i : ℕ) (store : Store) (writing : 
         config_is = changes.config ∙ work.shared.config_is;
         served = work.shared.served;
         words = words;
-        leaves = leaves_at_leaf config world i zone_view at.mark.leaf zone_change (λ n apart. refl) (λ range. refl) (Some i)
-            (writes_on (writer_of i writing zone_view) zone_stage) store.leaves.items new.leaves.items other work.shared.leaves
+        leaves = leaves_at_leaf config world i zone_view at.mark.leaf zone_change (λ n apart. refl) (λ range. refl)
+            (Some i)
+            (writes_on (writer_of i writing zone_view) zone_stage) store.leaves.items new.leaves.items other
+            work.shared.leaves
             changes.leaves
-            (leaf_then config world i store writing sight work at.done at.left at.mark [] (bucket ∷ in_zone) at.is seat so
+            (leaf_then config world i store writing sight work at.done at.left at.mark [] (bucket ∷ in_zone) at.is seat
+            so
             new other next now raises zone_change zone_stage refl (λ v. refl));
-        ranges = ranges_at_leaf config world i zone_view at.mark.leaf zone_change (λ n apart. refl) (λ range. refl) (Some i)
-            (writes_on (writer_of i writing zone_view) zone_stage) store.ranges.items new.ranges.items work.shared.ranges
+        ranges = ranges_at_leaf config world i zone_view at.mark.leaf zone_change (λ n apart. refl) (λ range. refl)
+            (Some i)
+            (writes_on (writer_of i writing zone_view) zone_stage) store.ranges.items new.ranges.items
+            work.shared.ranges
             changes.ranges;
         first = changes.first ∙ work.shared.first;
       })
-      (writer_next config world i store writing sight work at.done at.left at.mark [] (bucket ∷ in_zone) at.is seat so new
+      (writer_next config world i store writing sight work at.done at.left at.mark [] (bucket ∷ in_zone) at.is seat so
+      new
       other next now raises zone_change zone_stage refl (λ v. refl) refl (tt, below.1.1))
-      (goes_on config world i store writing sight work at.done at.left at.mark [] (bucket ∷ in_zone) at.is seat so new other
+      (goes_on config world i store writing sight work at.done at.left at.mark [] (bucket ∷ in_zone) at.is seat so new
+      other
       next now raises zone_change zone_stage refl (λ v. refl) (going_inside at.done (at.mark ∷ at.left) [] in_zone))
       raises.told_so.stage

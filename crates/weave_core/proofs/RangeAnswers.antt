@@ -20,12 +20,12 @@ use Rattle.weave_core.specs.Holders.{HoldsRange}
 use Rattle.weave_core.specs.Meetings.{met_at_range}
 use Rattle.weave_core.specs.QueryLooks.{Finds, FindsAt, IsHeldFrom, IsSeatedForRange, slot_told}
 use Rattle.weave_core.specs.QueryTurns.{AnswersSo, IsAnswered, IsAsking, QueryWaits}
-use Rattle.weave_core.specs.Sights.{AreAlike, range_sight, sight_of}
+use Rattle.mon_topo.specs.Sights.{AreAlike, range_sight, sight_of}
 use Rattle.weave_core.specs.States.{store_of}
 use Rattle.weave_core.specs.WriteEvents.{ChangesRange}
 use Rattle.weave_core.specs.declared.queries.Querying.{Querying}
 use Rattle.weave_core.specs.declared.ranges.RangeSeat.{RangeSeat}
-use Rattle.weave_core.specs.declared.sights.Sight.{Sight}
+use Rattle.mon_topo.specs.declared.sights.Sight.{Sight}
 use Rattle.weave_core.specs.declared.store.Store.{Store}
 use Rattle.write_core.proofs.KeepsLemmas.{changed_same}
 use Rattle.write_core.specs.Views.{View, joined, of_range}
@@ -80,7 +80,8 @@ module _ (config : Config) (core : Core (store_of config)) (k : ℕ) (store : St
     found_told None free is = (free, is)
     found_told (Some replica) free is = (free, is)
 
-    module _ (new : Store) (now : Sight) (seat left : RangeSeat) (was : slice_get store.ranges.items range.0 ≡ Some seat)
+    module _ (new : Store) (now : Sight) (seat left : RangeSeat) (was : slice_get store.ranges.items range.0
+        ≡ Some seat)
         (changes : ChangesRange range left store new) where
       pub range_found : (answer : Told) → Finds range querying.machine.avoided seat left sight now answer
           → IsAnswered config core k new now answer
@@ -90,14 +91,17 @@ module _ (config : Config) (core : Core (store_of config)) (k : ℕ) (store : St
           finds.seen
           ∙ (λ i. met_at_range range (so.history i) (asking.reader.seen i) (so.sight i))
           ∙ range_met (store_of config) world reader.view range asking.woven.world (asking.woven.readers k).part in
-          let avoided : querying.machine.avoided ≡ query.avoided = ap (λ (one : Query). one.avoided) (sym asking.reader.now) in
+          let avoided : querying.machine.avoided ≡ query.avoided = ap (λ (one : Query). one.avoided)
+          (sym asking.reader.now) in
           let told_as : answer ≡ slot_told (first_serving query.avoided (of_range world.truth range)) =
           finds.told_so ∙ (λ i. slot_told (first_serving (avoided i) (so.history i))) in
           answered config core k store querying sight asking (ask.Resolve range) e new now answer (record {
             told = subst (λ (some : Told). IsTold (store_of config) reader.setting reader.moment world reader.view
                 query.avoided (slots_at query) (ask.Resolve range) some) (sym told_as)
-                (found_told (first_serving query.avoided (of_range world.truth range)) (sym so.holder ∙ finds.free) refl);
-            shared = shared_range config world _ range store new left (resolved_same world range reader.view) asking.shared
+                (found_told (first_serving query.avoided (of_range world.truth range)) (sym so.holder ∙ finds.free)
+                refl);
+            shared = shared_range config world _ range store new left (resolved_same world range reader.view)
+                asking.shared
                 changes (record {
                   history = finds.state ∙ so.history;
                   holder = finds.holder ∙ so.holder;
@@ -112,8 +116,10 @@ module _ (config : Config) (core : Core (store_of config)) (k : ℕ) (store : St
       range_held held =
           let so = range_so seat was in
           let other = some_holder seat.holder held.held in
-          waits config core k store querying sight asking (ask.Resolve range) e new now other.0 (sym so.holder ∙ other.1)
-          (not_mine config core k store querying sight asking (λ actor. HoldsRange range.0 actor) (λ stander h. h) other.0
+          waits config core k store querying sight asking (ask.Resolve range) e new now other.0 (sym so.holder
+          ∙ other.1)
+          (not_mine config core k store querying sight asking (λ actor. HoldsRange range.0 actor) (λ stander h. h)
+          other.0
           (asking.holders.range range.0 other.0 (sym so.holder ∙ other.1)))
           (shared_range config world world range store new left (same_world world _ _) asking.shared changes
           (subst (λ (some : RangeSeat). IsRangeSo world range.0 some) (sym held.seat) so)) held.seen
@@ -121,5 +127,6 @@ module _ (config : Config) (core : Core (store_of config)) (k : ℕ) (store : St
     pub range_answers : (new : Store) (now : Sight) (told_then : Option Told)
         → FindsAt range querying.machine.avoided store new sight now told_then
         → AnswersSo config core k new sight now told_then
-    range_answers new now (Some answer) done = range_found new now done.before done.seat done.was done.changes answer done.finds
+    range_answers new now (Some answer) done = range_found new now done.before done.seat done.was done.changes answer
+        done.finds
     range_answers new now None done = range_held new now done.before done.seat done.was done.changes done.finds

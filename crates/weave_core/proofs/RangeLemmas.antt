@@ -21,7 +21,8 @@ serving_after-opened replicas (entry.Acked other row ack ∷ history) pass slot 
     serving_after-opened (filter (λ replica. not (is_missed ack.missed replica)) replicas) history pass slot leaf
 
 pub serving-opened : (history : List RangeEntry) (pass : ℕ) (slot : Slot) (leaf : Leaf)
-    → serving (history ++ entry.Opened pass slot leaf ∷ []) ≡ serving history ++ record { slot = slot; leaf = leaf } ∷ []
+    → serving (history ++ entry.Opened pass slot leaf ∷ []) ≡ serving history ++ record { slot = slot; leaf = leaf }
+    ∷ []
 serving-opened = serving_after-opened []
 
 pub acked-opened : (history : List RangeEntry) (pass : ℕ) (slot : Slot) (leaf : Leaf)

@@ -1,5 +1,6 @@
 -- Lines of a schedule keep the core woven, and each of its queries is asked of the store.
-use Rattle.std.proofs.Common.{◌≡◌, ◌≤ℤ◌, ◌⊎◌, inl, inr, ℕ, ℤ, zero, suc, pos, List, [], ◌∷◌, Option, Some, None, Result, Ok, Err, refl, sym, subst, ◌∙◌}
+use Rattle.std.proofs.Common.{◌≡◌, ◌≤ℤ◌, ◌⊎◌, inl, inr, ℕ, ℤ, zero, suc, pos, List, [], ◌∷◌, Option, Some, None}
+use Rattle.std.proofs.Common.{Result, Ok, Err, refl, sym, subst, ◌∙◌}
 use Rattle.mon_config.specs.declared.config.Config.{Config}
 use Rattle.mon_topo.specs.Locations.{range_for}
 use Rattle.mon_topo.specs.Settings.{Setting as Store}
@@ -10,8 +11,10 @@ use Rattle.query_core.specs.Askings.{IsAskedOf}
 use Rattle.query_core.specs.Machine.{new_query}
 use Rattle.query_core.specs.Settings.{Setting}
 use Rattle.weave_core.proofs.CoreLemmas.{new_woven, stays_woven}
-use Rattle.weave_core.specs.Core.{CanCome, CoreEvent, Happens, Hears, Reader, Tells, begun_with, came, told_on, view_told}
-use Rattle.weave_core.specs.Declarations.{Declares, QueryBegins, WriteBegins, hearing, new_reader, query_typed, with_reader}
+use Rattle.weave_core.specs.Core.{CanCome, CoreEvent, Happens, Hears, Reader, Tells, begun_with, came, told_on}
+use Rattle.weave_core.specs.Core.{view_told}
+use Rattle.weave_core.specs.Declarations.{Declares, QueryBegins, WriteBegins, hearing, new_reader, query_typed}
+use Rattle.weave_core.specs.Declarations.{with_reader}
 use Rattle.weave_core.specs.EndTexts.{no_zone_text}
 use Rattle.weave_core.specs.LawfulLines.{IsLawfulCall, IsLawfulForm}
 use Rattle.weave_core.specs.Licensed.{IsReader, IsWoven}
@@ -33,13 +36,15 @@ use Rattle.write_core.specs.Views.{View, joined}
 use Rattle.write_core.specs.World.{Actor, IsPart, Recovers, Stands, World, Writes, view_of}
 
 -- what an actor has seen and knows is a part of the truth
-pub part_of : (store : Store) (world : World) (i : ℕ) (actor : Actor) → IsActor store world i actor → IsPart store world (view_of actor)
+pub part_of : (store : Store) (world : World) (i : ℕ) (actor : Actor) → IsActor store world i actor
+    → IsPart store world (view_of actor)
 part_of store world i (Writes writer) h = h.part
 part_of store world i (Recovers recovery) h = h.part
 part_of store world i (Stands stander) h = h.part
 
 -- a query that has not begun
-pub fresh_reader : (store : Store) (world : World) (setting : Setting) (moment : ℤ) (view : View) → IsPart store world view
+pub fresh_reader : (store : Store) (world : World) (setting : Setting) (moment : ℤ) (view : View) → IsPart store world
+    view
     → IsReader store world (new_reader store setting moment view)
 fresh_reader store world setting moment view part = record {
   part = part;
@@ -67,7 +72,8 @@ module _ (config : Config) where
 
   -- ---- events
 
-  asked_then : (state : State') (event : CoreEvent Store') → ((k : ℕ) → state.roles k ≡ Asking → IsAsked (state.core.readers k))
+  asked_then : (state : State') (event : CoreEvent Store') → ((k : ℕ) → state.roles k ≡ Asking
+      → IsAsked (state.core.readers k))
       → (k : ℕ) → state.roles k ≡ Asking → IsAsked ((came Store' state.core event).readers k)
   asked_then state (Happens event) all = all
   asked_then state (Tells i answer stage) all =
@@ -92,7 +98,8 @@ module _ (config : Config) where
 
   -- ---- roles
 
-  role_holds : (state : State') (k : ℕ) (role : Role) → (role ≡ Asking → ⊥) → Holds state → Holds (with_role Store' state k role)
+  role_holds : (state : State') (k : ℕ) (role : Role) → (role ≡ Asking → ⊥) → Holds state
+      → Holds (with_role Store' state k role)
   role_holds state k role other h = record {
     woven = h.woven;
     asked = changed_by state.roles k role (λ (j : ℕ) (r : Role). r ≡ Asking → IsAsked (state.core.readers j))
@@ -108,7 +115,8 @@ module _ (config : Config) where
   writing : Writing ≡ Asking → ⊥
   writing e = cc
 
-  reader_holds : (state : State') (k : ℕ) (setting : Setting) (moment : ℤ) → IsAskedOf Store' setting → pos 0 ≤ℤ moment → Holds state
+  reader_holds : (state : State') (k : ℕ) (setting : Setting) (moment : ℤ) → IsAskedOf Store' setting → pos 0 ≤ℤ moment
+      → Holds state
       → Holds (with_reader Store' state k (new_reader Store' setting moment (view_of (actor_at Store' state k))))
   reader_holds state k setting moment asked from h =
       let view = view_of (actor_at Store' state k) in
@@ -117,7 +125,8 @@ module _ (config : Config) where
       record {
         woven = record {
           world = h.woven.world;
-          readers = changed_by state.core.readers k reader (λ (j : ℕ) (one : Reader Store'). IsReader Store' state.core.world one)
+          readers = changed_by state.core.readers k reader (λ (j : ℕ) (one : Reader Store'). IsReader Store'
+              state.core.world one)
               (fresh_reader Store' state.core.world setting moment view part) (λ j apart. h.woven.readers j);
         };
         asked = λ j is.
@@ -131,17 +140,20 @@ module _ (config : Config) where
       still i apart (inl is) = h.asked i is
       still i apart (inr same) = absurd (apart same)
 
-      was : (j : ℕ) → (with_reader Store' state k (new_reader Store' setting moment (view_of (actor_at Store' state k)))).roles j ≡ Asking
+      was : (j : ℕ) → (with_reader Store' state k (new_reader Store' setting moment
+          (view_of (actor_at Store' state k)))).roles j ≡ Asking
           → state.roles j ≡ Asking ⊎ j ≡ k
       was = changed_by state.roles k Asking (λ (j : ℕ) (r : Role). r ≡ Asking → state.roles j ≡ Asking ⊎ j ≡ k)
           (λ is. inr refl) (λ j apart is. inl is)
 
   -- ---- steps
 
-  steps_in : (role : Role) (state : State') (k : ℕ) (how : Stepped) (after : State') → StepsIn Store' role state k how after → Holds state
+  steps_in : (role : Role) (state : State') (k : ℕ) (how : Stepped) (after : State') → StepsIn Store' role state k how
+      after → Holds state
       → Holds after
   steps_in Undeclared state k how after steps h = absurd steps
-  steps_in (Eventless text) state k how after steps h = subst Holds (sym steps.1) (role_holds state k Dismissed dismissed h)
+  steps_in (Eventless text) state k how after steps h = subst Holds (sym steps.1)
+      (role_holds state k Dismissed dismissed h)
   steps_in Dismissed state k how after steps h = absurd steps
   steps_in Writing state k how after (inl waits) h = subst Holds (sym waits.same) h
   steps_in Writing state k how after (inr goes) h =
@@ -150,27 +162,32 @@ module _ (config : Config) where
   steps_in Asking state k how after (inr goes) h =
       subst Holds (sym goes.becomes) (event_holds state (Tells k goes.answer goes.stage) goes.can h)
 
-  went_holds : (k : ℕ) (goal : Option Event) (from : State') (count : ℕ) (state : State') → Went Store' k goal from count state
+  went_holds : (k : ℕ) (goal : Option Event) (from : State') (count : ℕ) (state : State') → Went Store' k goal from
+      count state
       → Holds from → Holds state
   went_holds k goal from zero state went h = subst Holds (sym went) h
   went_holds k goal from (suc count) state (before, went, other, steps) h =
       steps_in (before.roles k) before k stepped.Went state steps (went_holds k goal from count before went h)
 
   ends_hold : (k : ℕ) (goal : Option Event) (count : ℕ) (state : State') (how : Stepped) (after : State')
-      → StopsBefore Store' k goal state how after ⊎ (EndsBy Store' k goal state how after ⊎ Rests Store' count state how after)
+      → StopsBefore Store' k goal state how after ⊎ (EndsBy Store' k goal state how after ⊎ Rests Store' count state
+      how after)
       → Holds state → Holds after
   ends_hold k goal count state how after (inl stops) h = subst Holds (sym stops.2) h
   ends_hold k goal count state how after (inr (inl ends)) h = steps_in (state.roles k) state k how after ends.1 h
   ends_hold k goal count state how after (inr (inr rests)) h = subst Holds (sym rests.2) h
 
-  goes_hold : (k : ℕ) (goal : Option Event) (from : State') (how : Stepped) (after : State') → GoesOn Store' k goal from how after
+  goes_hold : (k : ℕ) (goal : Option Event) (from : State') (how : Stepped) (after : State') → GoesOn Store' k goal
+      from how after
       → Holds from → Holds after
   goes_hold k goal from how after goes h =
-      ends_hold k goal goes.count goes.state how after goes.ends (went_holds k goal from goes.count goes.state goes.went h)
+      ends_hold k goal goes.count goes.state how after goes.ends (went_holds k goal from goes.count goes.state
+      goes.went h)
 
   -- ---- lines
 
-  write_holds : (state : State') (k : ℕ) (row : Row) (range : Option Range) (after : State') → WriteBegins config state k row range after
+  write_holds : (state : State') (k : ℕ) (row : Row) (range : Option Range) (after : State') → WriteBegins config state
+      k row range after
       → Holds state → Holds after
   write_holds state k row None after begins h =
       subst Holds (sym begins) (role_holds state k (Eventless no_zone_text) (eventless no_zone_text) h)
@@ -179,7 +196,8 @@ module _ (config : Config) where
       (role_holds (with_event Store' state (Happens (Begins k row range))) k Writing writing
       (event_holds state (Happens (Begins k row range)) begins.0 h))
 
-  query_holds : (state : State') (k : ℕ) (moment : ℤ) (typed : Result TypedTree (List ℕ)) (after : State') → pos 0 ≤ℤ moment
+  query_holds : (state : State') (k : ℕ) (moment : ℤ) (typed : Result TypedTree (List ℕ)) (after : State')
+      → pos 0 ≤ℤ moment
       → QueryBegins config state k moment typed after → Holds state → Holds after
   query_holds state k moment (Err line) after from begins h =
       subst Holds (sym begins) (role_holds state k (Eventless line) (eventless line) h)
@@ -199,7 +217,8 @@ module _ (config : Config) where
   does_hold state (form.Meet k j) said after lawful does h =
       subst Holds (sym does.1.becomes) (event_holds state (hearing Store' state k j) does.1.can h)
   does_hold state (form.Step k) said after lawful does h = steps_in (state.roles k) state k does.how after does.steps h
-  does_hold state (form.Until k event) said after lawful does h = goes_hold k (Some event) state does.how after does.goes h
+  does_hold state (form.Until k event) said after lawful does h = goes_hold k (Some event) state does.how after
+      does.goes h
   does_hold state (form.Finish k) said after lawful does h = goes_hold k None state does.how after does.goes h
 
   leads_hold : (lines : List LineForm) (from to : State') → Leads config from lines to → Holds from → Holds to
@@ -208,7 +227,8 @@ module _ (config : Config) where
       leads_hold lines mid to leads (does_hold from what by.said mid by.lawful by.does h)
 
   -- what holds wherever lines lead to
-  pub reached : (first state : State') (lines : List LineForm) → IsFirst config first → Leads config first lines state → Holds state
+  pub reached : (first state : State') (lines : List LineForm) → IsFirst config first → Leads config first lines state
+      → Holds state
   reached first state lines is_first leads = leads_hold lines first state leads (record {
     woven = new_woven Store' first.core is_first.new;
     asked = λ k is. let no : Undeclared ≡ Asking = sym (is_first.roles k) ∙ is in absurd cc;

@@ -39,7 +39,8 @@ module _ (store : Store) (world : World) (reader : Reader store) (kept : IsKept 
   abbrev seen_then : session.View
   seen_then = view_after store reader.setting reader.moment (seen_by reader.begin) reader.session
 
-  licensed : IsLicensed store reader.setting reader.moment (seen_by reader.begin) (new_query reader.setting) reader.session
+  licensed : IsLicensed store reader.setting reader.moment (seen_by reader.begin) (new_query reader.setting)
+      reader.session
   licensed = as_new store world reader own new
 
   same_query : from_new ≡ query_now store reader
@@ -55,7 +56,8 @@ module _ (store : Store) (world : World) (reader : Reader store) (kept : IsKept 
     grown_then : IsGrown seen_then later
     grown_then = subst (λ (view : session.View). IsGrown view later) (sym own.now) grown
 
-    true_then : (answer : Told) → IsTrueAnswer store reader.setting reader.moment (seen_by reader.view) later query.avoided
+    true_then : (answer : Told) → IsTrueAnswer store reader.setting reader.moment (seen_by reader.view) later
+        query.avoided
         (slots_at query) (asked_now store reader) answer
         → IsTrueAnswer store reader.setting reader.moment seen_then later from_new.avoided (slots_at from_new)
         (ask_of reader.setting from_new.stage) answer
@@ -65,11 +67,13 @@ module _ (store : Store) (world : World) (reader : Reader store) (kept : IsKept 
         (subst (λ (one : Query). IsTrueAnswer store reader.setting reader.moment (seen_by reader.view) later one.avoided
         (slots_at one) (ask_of reader.setting one.stage) answer) (sym same_query) is)
 
-    may_told : (answer : Told) → IsTrueAnswer store reader.setting reader.moment (seen_by reader.view) later query.avoided
+    may_told : (answer : Told) → IsTrueAnswer store reader.setting reader.moment (seen_by reader.view) later
+        query.avoided
         (slots_at query) (asked_now store reader) answer → MayBeTold reader.setting query.stage answer
     may_told answer is =
         subst (λ (one : Query). MayBeTold reader.setting one.stage answer) same_query
-        (may_be_told store reader.setting reader.moment asked from (seen_by reader.begin) reader.session own.sound licensed
+        (may_be_told store reader.setting reader.moment asked from (seen_by reader.begin) reader.session own.sound
+        licensed
         later grown_then sound answer (true_then answer is))
 
   -- an answer of the core
@@ -103,14 +107,17 @@ module _ (store : Store) (world : World) (reader : Reader store) (kept : IsKept 
         let found = found_so store reader.setting reader.moment world reader.view kept own.part leaf cut down looked in
         can_read store reader.setting reader.moment asked from (seen_by reader.begin) reader.session own.sound licensed
         (seen_by after)
-        (grown_then (seen_by after) (record { seen = went.grown.seen; bits = went.grown.bits }) (sound_so store _ after went.part_then))
+        (grown_then (seen_by after) (record { seen = went.grown.seen; bits = went.grown.bits })
+        (sound_so store _ after went.part_then))
         (sound_so store _ after went.part_then) leaf cut
-        (subst (λ (view : session.View). IsBetween (length (leaf_history view.seen leaf)) (length (of_leaf after leaf)) cut)
+        (subst (λ (view : session.View). IsBetween (length (leaf_history view.seen leaf)) (length (of_leaf after leaf))
+        cut)
         (sym own.now) found.between)
         (ap (λ (one : Query). ask_of reader.setting one.stage) same_query ∙ asks)
 
     pub reader_reads : CanBeRead (typed_of reader.setting) (of_leaf world.truth leaf) (slots_at query)
     reader_reads =
-        subst (λ (one : Query). CanBeRead (typed_of reader.setting) (of_leaf world.truth leaf) (slots_at one)) same_query
+        subst (λ (one : Query). CanBeRead (typed_of reader.setting) (of_leaf world.truth leaf) (slots_at one))
+        same_query
         (subst (λ (history : List Entry). CanBeRead (typed_of reader.setting) history (slots_at from_new))
         (all_looked store reader.setting reader.moment world reader.view kept own.part leaf cut down looked) read_then)

@@ -1,4 +1,5 @@
--- Seats of a store: what is said of each of them stays where one is changed, and what is known of the one that a write needs.
+-- Seats of a store: what is said of each of them stays where one is changed, and what is known of the one that a
+-- write needs.
 use Rattle.std.proofs.Common.{◌≡◌, ℕ, zero, suc, List, [], ◌∷◌, length, set, refl, sym, ap, subst, ◌∙◌, arith}
 use Rattle.std.specs.Prelude.{Option, Some, slice_get, ◌≢◌}
 use Rattle.std.proofs.Math.Nat.{suc_inj}
@@ -11,12 +12,12 @@ use Rattle.mon_value.specs.declared.positions.Leaf.{Leaf}
 use Rattle.mon_value.specs.declared.positions.Range.{Range}
 use Rattle.weave_core.specs.Agreements.{AreLeaves, AreRanges, AreShared, AreWords, IsLeafSo, IsRangeSo}
 use Rattle.weave_core.specs.HintWords.{HintTable, word_at}
-use Rattle.weave_core.specs.Sights.{AreAlike, range_sight, sight_of}
+use Rattle.mon_topo.specs.Sights.{AreAlike, range_sight, sight_of}
 use Rattle.weave_core.specs.States.{store_of}
 use Rattle.weave_core.specs.WriteEvents.{ChangesLeaf, ChangesRange, StaysThere}
 use Rattle.weave_core.specs.declared.leaves.LeafSeat.{LeafSeat}
 use Rattle.weave_core.specs.declared.ranges.RangeSeat.{RangeSeat}
-use Rattle.weave_core.specs.declared.sights.Sight.{Sight}
+use Rattle.mon_topo.specs.declared.sights.Sight.{Sight}
 use Rattle.weave_core.specs.declared.store.Store.{Store}
 use Rattle.weave_core.specs.declared.words.Place.TheVariants as at
 use Rattle.mon_hints.specs.Covers.{Bits}
@@ -98,7 +99,8 @@ module _ (config : Config) (world : World) where
     words = words_stay config world world old.words new.words shared.words changes.words refl;
     leaves = record {
       count = ap length changes.leaves ∙ length-set old.leaves.items leaf.0 seat ∙ shared.leaves.count;
-      each = λ n one got. set_each (λ m seat'. IsLeafSo config world (leaf_numbered m) seat') old.leaves.items leaf.0 seat here
+      each = λ n one got. set_each (λ m seat'. IsLeafSo config world (leaf_numbered m) seat') old.leaves.items leaf.0
+          seat here
           (λ m other apart before. shared.leaves.each m other before) n one
           (ap (λ (seats : List LeafSeat). slice_get seats n) (sym changes.leaves) ∙ got);
     };
@@ -118,7 +120,8 @@ module _ (config : Config) (world : World) (i : ℕ) (view : View) (range : Rang
     (leaves_same : (leaf : Leaf) → of_leaf (change world.truth) leaf ≡ of_leaf world.truth leaf)
     (ranges_same : (n : ℕ) → n ≢ range.0
     → of_range (change world.truth) (range_numbered n) ≡ of_range world.truth (range_numbered n)) where
-  pub shared_at_range : (holder : Option ℕ) (f : View → Actor) (old new : Store) (seat : RangeSeat) → AreShared config world old
+  pub shared_at_range : (holder : Option ℕ) (f : View → Actor) (old new : Store) (seat : RangeSeat) → AreShared config
+      world old
       → ChangesRange range seat old new → seat.state ≡ of_range (change world.truth) range → seat.holder ≡ holder
       → seat.sight ≡ sight_of (met_at_range world view range change).seen
       → AreShared config (at_range world i view range change holder f) new
@@ -161,7 +164,8 @@ module _ (config : Config) (world : World) (i : ℕ) (view : View) (range : Rang
         };
         ranges = record {
           count = ap length changes.ranges ∙ length-set old.ranges.items range.0 seat ∙ shared.ranges.count;
-          each = λ n one got. set_each (λ m seat'. IsRangeSo next m seat') old.ranges.items range.0 seat here others n one
+          each = λ n one got. set_each (λ m seat'. IsRangeSo next m seat') old.ranges.items range.0 seat here others n
+              one
               (ap (λ (seats : List RangeSeat). slice_get seats n) (sym changes.ranges) ∙ got);
         };
         first = changes.first ∙ shared.first;
@@ -193,7 +197,8 @@ module _ (config : Config) (world : World) (i : ℕ) (view : View) (leaf : Leaf)
       } in
       record {
         count = ap length changes ∙ length-set old leaf.0 seat ∙ h.count;
-        each = λ n one got. set_each (λ m seat'. IsLeafSo config next (leaf_numbered m) seat') old leaf.0 seat here others n one
+        each = λ n one got. set_each (λ m seat'. IsLeafSo config next (leaf_numbered m) seat') old leaf.0 seat here
+            others n one
             (ap (λ (seats : List LeafSeat). slice_get seats n) (sym changes) ∙ got);
       }
 

@@ -1,5 +1,7 @@
 -- A new store has what actors share in the first world.
-use Rattle.std.proofs.Common.{◌≡◌, ◌∙◌, ◌<◌, ◌≤◌, ◌+◌, ◌*◌, ◌-◌, ◌==◌, ℕ, suc, zero, false, Some, List, [], ◌∷◌, ◌++◌, append-nil, append_assoc, get_or, length, map, replicate, take, refl, sym, ap, subst, arith, slice_get, slice_index_or}
+use Rattle.std.proofs.Common.{◌≡◌, ◌∙◌, ◌<◌, ◌≤◌, ◌+◌, ◌*◌, ◌-◌, ◌==◌, ℕ, suc, zero, false, Some, List, [], ◌∷◌, ◌++◌}
+use Rattle.std.proofs.Common.{append-nil, append_assoc, get_or, length, map, replicate, take, refl, sym, ap, subst}
+use Rattle.std.proofs.Common.{arith, slice_get, slice_index_or}
 use Rattle.std.proofs.lemmas.List.{get_or-map, length-append, length-map, length-replicate, take_all, take_more}
 use Rattle.std.proofs.lemmas.Nat.Bits.{bit_at-zero}
 use Rattle.std.proofs.lemmas.List.FromFn.{fill_by_all, length-map-range_with_len}
@@ -9,19 +11,22 @@ use Rattle.mon_config.specs.declared.config.Config.{Config}
 use Rattle.mon_hints.specs.Words.{has_bit}
 use Rattle.mon_topo.proofs.PartLemmas.{zone_of_part}
 use Rattle.mon_topo.specs.Settings.{zone_of_leaf}
-use Rattle.mon_topo.specs.Zones.{first_leaf, leaf_zones, zone_at, zone_numbered, no_zone, leaf_numbered, leaves_in, ranges_in}
+use Rattle.mon_topo.specs.Zones.{first_leaf, leaf_zones, zone_at, zone_numbered, no_zone, leaf_numbered, leaves_in}
+use Rattle.mon_topo.specs.Zones.{ranges_in}
 use Rattle.mon_topo.specs.declared.zones.ZoneSpec.{ZoneSpec}
 use Rattle.mon_value.specs.declared.histories.Entry.{Entry}
 use Rattle.mon_value.specs.declared.histories.RangeEntry.{RangeEntry}
 use Rattle.weave_core.proofs.FirstLemmas.{leaf_is}
-use Rattle.weave_core.specs.Agreements.{AreLeaves, AreRanges, AreShared, AreWords, IsLeafSo, IsRangeSo, IsServed, first_view, place_of_leaf}
+use Rattle.weave_core.specs.Agreements.{AreLeaves, AreRanges, AreShared, AreWords, IsLeafSo, IsRangeSo, IsServed}
+use Rattle.weave_core.specs.Agreements.{first_view, place_of_leaf}
 use Rattle.weave_core.specs.FirstHistories.{first_histories, first_leaf_history, first_range_history}
 use Rattle.weave_core.specs.HintWords.{HintTable, index_of, no_words, word_at}
-use Rattle.weave_core.specs.Openings.{AreOpenedSo, IsOpenedSo, first_range_histories, first_world, leaf_seat, leaf_seats, range_seat, sight_of_states}
-use Rattle.weave_core.specs.Sights.{range_sight, sight_of}
+use Rattle.weave_core.specs.Openings.{AreOpenedSo, IsOpenedSo, first_range_histories, first_world, leaf_seat}
+use Rattle.weave_core.specs.Openings.{leaf_seats, range_seat, sight_of_states}
+use Rattle.mon_topo.specs.Sights.{range_sight, sight_of}
 use Rattle.weave_core.specs.declared.leaves.LeafSeat.{LeafSeat}
 use Rattle.weave_core.specs.declared.ranges.RangeSeat.{RangeSeat}
-use Rattle.weave_core.specs.declared.sights.Sight.{Sight}
+use Rattle.mon_topo.specs.declared.sights.Sight.{Sight}
 use Rattle.weave_core.specs.declared.store.Store.{Store}
 use Rattle.weave_core.specs.declared.words.Place.{Place}
 use Rattle.weave_core.specs.declared.words.Place.TheVariants as at
@@ -30,11 +35,13 @@ use Rattle.weave_core.specs.States.{store_of}
 -- ---- how far histories were seen
 
 lengths_by : (states : List LeafView)
-    → map (λ (state : LeafView). length state.history) states ≡ map (λ (h : List Entry). length h) (map (λ (state : LeafView). state.history) states)
+    → map (λ (state : LeafView). length state.history) states ≡ map (λ (h : List Entry). length h)
+    (map (λ (state : LeafView). state.history) states)
 lengths_by [] = refl
 lengths_by (state ∷ states) = ap (λ (l : List ℕ). length state.history ∷ l) (lengths_by states)
 
-histories_are : (config : Config) (states : List LeafView) → AreOpenedSo config (first_leaf_history config.topology) states
+histories_are : (config : Config) (states : List LeafView) → AreOpenedSo config (first_leaf_history config.topology)
+    states
     → map (λ (state : LeafView). state.history) states ≡ (first_histories config.topology).leaves
 histories_are config states opened =
     fill_by_all (first_leaf_history config.topology) (map (λ (state : LeafView). state.history) states)
@@ -63,9 +70,11 @@ bare_at zero (suc i) word = refl
 bare_at (suc count) zero word = refl
 bare_at (suc count) (suc i) word = bare_at count i word
 
-unset : (zones buckets : ℕ) (place : Place) (bucket child : ℕ) → has_bit (word_at (no_words zones buckets) place bucket) child ≡ false
+unset : (zones buckets : ℕ) (place : Place) (bucket child : ℕ) → has_bit (word_at (no_words zones buckets) place
+    bucket) child ≡ false
 unset zones buckets place bucket child =
-    ap (λ (word : ℕ). has_bit word child) (bare_at ((zones + 1) * buckets) (index_of (no_words zones buckets) place bucket) 0) ∙ no_bit child
+    ap (λ (word : ℕ). has_bit word child) (bare_at ((zones + 1) * buckets) (index_of (no_words zones buckets) place
+    bucket) 0) ∙ no_bit child
   where
     no_bit : (child : ℕ) → has_bit 0 child ≡ false
     no_bit child = ap (λ bit. bit == 1) (bit_at-zero child)
@@ -84,7 +93,8 @@ words_are config words is =
 
 -- ---- leaves
 
-record IsSeatAt (zones : List ZoneSpec) (sight : Sight) (from n : ℕ) (states : List LeafView) (seat : LeafSeat) : Type 0 where
+record IsSeatAt (zones : List ZoneSpec) (sight : Sight) (from n : ℕ) (states : List LeafView) (seat : LeafSeat) : Type
+    0 where
   state : LeafView
   there : slice_get states n ≡ Some state
   is : seat ≡ leaf_seat zones sight (from + n) state
@@ -137,7 +147,8 @@ leaves_are : (config : Config) (sight : Sight) (states : List LeafView) (seats :
 leaves_are config sight states seats opened seen are = record {
   count = ap (λ (l : List LeafSeat). length l) are ∙ seat_count config.topology sight 0 states ∙ opened.count;
   each = λ n seat there.
-      let found = seat_at config.topology sight 0 n states seat (sym (ap (λ (l : List LeafSeat). slice_get l n) are) ∙ there) in
+      let found = seat_at config.topology sight 0 n states seat (sym (ap (λ (l : List LeafSeat). slice_get l n) are)
+      ∙ there) in
       let few : n < length states = slice_get_within states n found.state found.there in
       let many = opened.count in
       let within : n < length (leaves_in config.topology) = omega (arith, few, many) in
@@ -156,20 +167,23 @@ pub seats_more : (zones : List ZoneSpec) (sight : Sight) (made new whole : List 
     → new ++ leaf_seats zones sight (length new) rest ≡ whole
 seats_more zones sight made new whole state rest before added =
     let seat : LeafSeat = leaf_seat zones sight (length made) state in
-    let long : length new ≡ length made + 1 = ap (λ (l : List LeafSeat). length l) added ∙ length-append made (seat ∷ []) in
+    let long : length new ≡ length made + 1 = ap (λ (l : List LeafSeat). length l) added ∙ length-append made
+    (seat ∷ []) in
     (λ i. added i ++ leaf_seats zones sight (long i) rest)
     ∙ append_assoc made (seat ∷ []) (leaf_seats zones sight (length made + 1) rest)
     ∙ before
 
 -- all leaves have their seats
-pub seats_whole : (zones : List ZoneSpec) (sight : Sight) (made whole : List LeafSeat) (rest : List LeafView) → length rest ≡ 0
+pub seats_whole : (zones : List ZoneSpec) (sight : Sight) (made whole : List LeafSeat) (rest : List LeafView)
+    → length rest ≡ 0
     → made ++ leaf_seats zones sight (length made) rest ≡ whole → made ≡ whole
 seats_whole zones sight made whole [] none all = sym (append-nil made) ∙ all
 seats_whole zones sight made whole (state ∷ rest) none all = absurd (omega (arith, none))
 
 -- ---- the zone of a leaf
 
-leaves_last : (zones : List ZoneSpec) (zone : ZoneSpec) → length (leaves_in (zones ++ zone ∷ [])) ≡ length (leaves_in zones) + length zone.leaves
+leaves_last : (zones : List ZoneSpec) (zone : ZoneSpec) → length (leaves_in (zones ++ zone ∷ []))
+    ≡ length (leaves_in zones) + length zone.leaves
 leaves_last [] zone =
     let all : length (zone.leaves ++ []) ≡ length zone.leaves
     = ap (λ (l : List (List ℕ)). length l) (append-nil zone.leaves) in
@@ -221,7 +235,8 @@ range_at sight zero (history ∷ histories) seat is = some_range (range_seat sig
 range_at sight (suc n) (history ∷ histories) seat is = range_at sight n histories seat is
 
 ranges_are : (config : Config) (sight : Sight) (seats : List RangeSeat) → sight ≡ sight_of (first_view config).seen
-    → seats ≡ map (range_seat sight) (first_range_histories config.topology) → AreRanges config (first_world config) seats
+    → seats ≡ map (range_seat sight) (first_range_histories config.topology) → AreRanges config (first_world config)
+    seats
 ranges_are config sight seats seen are = record {
   count = ap (λ (l : List RangeSeat). length l) are
       ∙ length-map (first_range_histories config.topology) (range_seat sight)
@@ -235,7 +250,8 @@ ranges_are config sight seats seen are = record {
 
 -- ---- all of them
 
-pub shared : (config : Config) (store : Store) (states : List LeafView) (ranges : List (List RangeEntry)) (sight : Sight)
+pub shared : (config : Config) (store : Store) (states : List LeafView) (ranges : List (List RangeEntry))
+    (sight : Sight)
     → IsServed config → AreOpenedSo config (first_leaf_history config.topology) states
     → ranges ≡ first_range_histories config.topology → sight ≡ sight_of_states states ranges
     → store.config ≡ config → store.words ≡ no_words (length config.topology) config.buckets

@@ -1,5 +1,6 @@
 -- What a query is told of how far its caller has seen: of each history its length, and of each range its first replica.
-use Rattle.std.proofs.Common.{◌≡◌, ◌∙◌, ℕ, suc, ◌+◌, ◌<◌, not, List, [], ◌∷◌, ◌++◌, length, map, get_or, refl, sym, ap, subst, append_assoc, arith}
+use Rattle.std.proofs.Common.{◌≡◌, ◌∙◌, ℕ, suc, ◌+◌, ◌<◌, not, List, [], ◌∷◌, ◌++◌, length, map, get_or, refl, sym, ap}
+use Rattle.std.proofs.Common.{subst, append_assoc, arith}
 use Rattle.std.specs.Prelude.{Option, Some, None, filter, slice_get}
 use Rattle.std.specs.List.{AllByRecursion as All, range_with_len}
 use Rattle.std.proofs.lemmas.List.FromFn.{get_or-map-range_with_len}
@@ -20,8 +21,8 @@ use Rattle.query_core.specs.declared.answers.Resolved.{Resolved}
 use Rattle.weave_core.proofs.ServingLemmas.{HasFirst, first_serves}
 use Rattle.weave_core.specs.FirstHistories.{first_histories, first_range_history, openings_from, slot_numbered}
 use Rattle.weave_core.specs.QueryLooks.{first_of, firsts_from, seen_of}
-use Rattle.weave_core.specs.Sights.{range_sight, sight_of}
-use Rattle.weave_core.specs.declared.sights.RangeSight.{RangeSight}
+use Rattle.mon_topo.specs.Sights.{range_sight, sight_of}
+use Rattle.mon_topo.specs.declared.sights.RangeSight.{RangeSight}
 
 none_avoided : (replicas : List SlotLeaf) → filter (λ replica. not (is_avoided [] replica)) replicas ≡ replicas
 none_avoided [] = refl
@@ -29,7 +30,8 @@ none_avoided (replica ∷ replicas) = ap (λ rest. replica ∷ rest) (none_avoid
 
 -- ---- one range more
 
-first_or : (n : ℕ) (found : Option SlotLeaf) (rest : List Resolved) → first_of n found [] ++ rest ≡ first_of n found rest
+first_or : (n : ℕ) (found : Option SlotLeaf) (rest : List Resolved) → first_of n found [] ++ rest ≡ first_of n found
+    rest
 first_or n None rest = refl
 first_or n (Some replica) rest = refl
 
@@ -70,7 +72,8 @@ firsts_told seen n (history ∷ some) all same =
     let rest = firsts_told seen (n + 1) some all.1
     (λ m within. (let next : n + 1 + m ≡ n + suc m = omega arith in
     ap (λ k. range_history seen (range_numbered k)) next ∙ same (suc m) (omega (arith, within)))) in
-    subst (λ o. All (IsTold seen) (first_of n o (firsts_from (n + 1) (map range_sight some)))) (sym all.0.is) (told, rest)
+    subst (λ o. All (IsTold seen) (first_of n o (firsts_from (n + 1) (map range_sight some)))) (sym all.0.is)
+    (told, rest)
 
 all_by_place : (P : List RangeEntry → Type 0) (some : List (List RangeEntry))
     → ((m : ℕ) → m < length some → P (get_or some m [])) → All P some
@@ -93,7 +96,8 @@ module _ (held : SchemaLists) (zones : List ZoneSpec) (points : ℕ) (seen : His
         → HasFirst (range_history seen (range_numbered n))
     first_by [] e some = absurd (omega (arith, some))
     first_by (leaf ∷ leaves) e some =
-        first_serves held zones points (range_numbered n) (range_history seen (range_numbered n)) 0 (slot_numbered 0) leaf
+        first_serves held zones points (range_numbered n) (range_history seen (range_numbered n)) 0 (slot_numbered 0)
+        leaf
         (openings_from 1 leaves) (holds.legal (range_numbered n) there)
         (subst (BeginsWith (range_history seen (range_numbered n))) (own_first ∙ ap (openings_from 0) e)
         (since.ranges (range_numbered n)))

@@ -1,5 +1,7 @@
 -- A range that was opened on a replica has one that serves.
-use Rattle.std.proofs.Common.{◌≡◌, ◌∙◌, ℕ, zero, suc, ◌+◌, ◌<◌, ◌≤◌, Bool, true, false, not, cond, ◌||◌, List, [], ◌∷◌, ◌++◌, length, map, nat_eq, refl, sym, ap, subst, append-nil, append_assoc, length-append, arith}
+use Rattle.std.proofs.Common.{◌≡◌, ◌∙◌, ℕ, zero, suc, ◌+◌, ◌<◌, ◌≤◌, Bool, true, false, not, cond, ◌||◌, List, [], ◌∷◌}
+use Rattle.std.proofs.Common.{◌++◌, length, map, nat_eq, refl, sym, ap, subst, append-nil, append_assoc, length-append}
+use Rattle.std.proofs.Common.{arith}
 use Rattle.std.specs.Prelude.{Some, filter, slice_get}
 use Rattle.std.specs.List.{AllByRecursion as All}
 use Rattle.std.proofs.lemmas.Bool.Decides.{nat_tests}
@@ -56,7 +58,8 @@ once_by : (slot : Slot) (replica : SlotLeaf) (replicas : List SlotLeaf) (b : Boo
     → All (IsFrom replica) replicas → times slot (slots_of replicas) ≤ 1
     → times slot (slots_of (replica ∷ replicas)) ≤ 1
 once_by slot replica replicas true e all rest =
-    let number : slot.0 ≡ replica.slot.0 = let test : nat_eq slot.0 replica.slot.0 ≡ true = e in grind (arith, nat_tests) in
+    let number : slot.0 ≡ replica.slot.0 = let test : nat_eq slot.0 replica.slot.0 ≡ true = e in
+    grind (arith, nat_tests) in
     let none = none_alike slot replica replicas number all in
     let more = one_more slot replica.slot (slots_of replicas)
     ∙ ap (λ b. one_if b + times slot (slots_of replicas)) e in

@@ -27,7 +27,8 @@ use Rattle.write_core.specs.declared.marks.Mark.{Mark}
 -- ---- other actors of the world
 
 module _ (setting : Store) (world : World) (i j : ℕ) (apart : j ≢ i) where
-  at_reserve : (who : Writer) (left : List Mark) (next : Stage) → (reserved world i who left next).actors j ≡ world.actors j
+  at_reserve : (who : Writer) (left : List Mark) (next : Stage) → (reserved world i who left next).actors j
+      ≡ world.actors j
   at_reserve who [] next = refl
   at_reserve who (mark ∷ left) next = changed_other world.actors i j _ apart
 
@@ -63,7 +64,8 @@ module _ (setting : Store) (world : World) (i j : ℕ) (apart : j ≢ i) where
 
 -- ---- holders beside a query
 
-queried_held : (store : Store) (setting : Setting) (moment : ℤ) (world : World) (view : View) (asks : Ask) → AreHolders world
+queried_held : (store : Store) (setting : Setting) (moment : ℤ) (world : World) (view : View) (asks : Ask)
+    → AreHolders world
     → AreHolders (world_then store setting moment world view asks)
 queried_held store setting moment world view (ask.LoadRoot bucket) h = h
 queried_held store setting moment world view (ask.LoadZone zone bucket) h = h
@@ -116,7 +118,8 @@ module _ (store : Store) (state : State store) (i : ℕ) where
       };
     }
       where
-        write_held : (actor : Actor) → state.core.world.actors i ≡ actor → AreHolders (step store state.core.world i answer)
+        write_held : (actor : Actor) → state.core.world.actors i ≡ actor
+            → AreHolders (step store state.core.world i answer)
         write_held (Writes who) is = step_held store state.core.world i who answer is h can
         write_held (Recovers recovery) is =
             absurd (subst (λ (one : Actor). CanGo store state.core.world one answer) is can)
@@ -129,7 +132,8 @@ module _ (store : Store) (state : State store) (i : ℕ) where
         let reader = state.core.readers i in
         record {
           woven = stays_woven store state.core (Tells i answer stage ∷ []) (can, tt) woven;
-          holders = queried_held store reader.setting reader.moment state.core.world reader.view (asked_now store reader) h;
+          holders = queried_held store reader.setting reader.moment state.core.world reader.view
+              (asked_now store reader) h;
           others = record {
             actor = λ j apart. actors_stay store reader.setting reader.moment state.core.world reader.view
                 (asked_now store reader) j;

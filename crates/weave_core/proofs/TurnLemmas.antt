@@ -1,5 +1,6 @@
 -- That an actor whose step went has a next one, and actors that go on.
-use Rattle.std.proofs.Common.{◌≡◌, ◌∙◌, inl, inr, ℕ, zero, suc, ◌+◌, ◌<◌, Bool, true, not, is_some, cond, List, [], ◌∷◌, Option, Some, None, Err, refl, sym, ap, subst, arith}
+use Rattle.std.proofs.Common.{◌≡◌, ◌∙◌, inl, inr, ℕ, zero, suc, ◌+◌, ◌<◌, Bool, true, not, is_some, cond, List, []}
+use Rattle.std.proofs.Common.{◌∷◌, Option, Some, None, Err, refl, sym, ap, subst, arith}
 use Rattle.mon_config.specs.declared.config.Config.{Config}
 use Rattle.mon_topo.specs.Settings.{Setting as Store}
 use Rattle.mon_topo.specs.declared.zones.ZoneSpec.{ZoneSpec}
@@ -14,7 +15,8 @@ use Rattle.weave_core.specs.Core.{query_now}
 use Rattle.weave_core.specs.EventNames.{event_of_query, event_of_write}
 use Rattle.weave_core.specs.ScheduleTurns.{GoesSo, HasGone}
 use Rattle.weave_core.specs.Schedules.{IsNext, Went}
-use Rattle.weave_core.specs.States.{Asking, Dismissed, Eventless, Role, State, Undeclared, Writing, fault_in, next_in, step_fault, store_of, write_asks}
+use Rattle.weave_core.specs.States.{Asking, Dismissed, Eventless, Role, State, Undeclared, Writing, fault_in, next_in}
+use Rattle.weave_core.specs.States.{step_fault, store_of, write_asks}
 use Rattle.weave_core.specs.Steps.{Steps, StepsIn, query_stepped, write_stepped, writer_stepped}
 use Rattle.weave_core.specs.WeaveCalls as call
 use Rattle.weave_core.specs.declared.calls.Stepped.{Stepped}
@@ -39,13 +41,15 @@ enters_on : (left : List Mark) → is_some (event_of_write (enter left)) ≡ tru
 enters_on [] = refl
 enters_on (mark ∷ left) = refl
 
-inside_on : (left : List Mark) (at_root in_zone : List ℕ) → is_some (event_of_write (inside left at_root in_zone)) ≡ true
+inside_on : (left : List Mark) (at_root in_zone : List ℕ) → is_some (event_of_write (inside left at_root in_zone))
+    ≡ true
 inside_on left (bucket ∷ at_root) in_zone = refl
 inside_on left [] (bucket ∷ in_zone) = refl
 inside_on [] [] [] = refl
 inside_on (mark ∷ left) [] [] = refl
 
-writer_on : (zones : List ZoneSpec) (writer : Writer) (stage : write.Stage) → stepped.Went ≡ writer_stepped zones writer stage
+writer_on : (zones : List ZoneSpec) (writer : Writer) (stage : write.Stage) → stepped.Went ≡ writer_stepped zones
+    writer stage
     → is_some (event_of_write (write.ask_of stage)) ≡ true
 writer_on zones writer Locking e = refl
 writer_on zones writer (Reserving round) e = reserves_on round.left
@@ -88,7 +92,8 @@ module _ (store : Store) (k : ℕ) where
       (query_on store.zones (after.core.readers k).setting (query_now store (after.core.readers k)).stage goes.went)
 
   -- a step that went leaves the roles as they were
-  same_role : (role : Role) (state after : State store) → StepsIn store role state k stepped.Went after → after.roles k ≡ state.roles k
+  same_role : (role : Role) (state after : State store) → StepsIn store role state k stepped.Went after → after.roles k
+      ≡ state.roles k
   same_role Undeclared state after steps = absurd steps
   same_role (Eventless text) state after steps = let no : stepped.Went ≡ stepped.Ended text = steps.0 in absurd cc
   same_role Dismissed state after steps = absurd steps
@@ -100,7 +105,8 @@ module _ (store : Store) (k : ℕ) where
   -- it can be stepped again
   pub went_on : (state after : State store) → Steps store state k stepped.Went after → step_fault store after k ≡ None
   went_on state after steps =
-      ap (fault_in store after k) (same_role (state.roles k) state after steps) ∙ went_in (state.roles k) state after steps
+      ap (fault_in store after k) (same_role (state.roles k) state after steps) ∙ went_in (state.roles k) state after
+      steps
 
   next_free_in : (role : Role) (state : State store) (event : Event) → next_in store state k role ≡ Some event
       → fault_in store state k role ≡ None
@@ -111,14 +117,16 @@ module _ (store : Store) (k : ℕ) where
   next_free_in Asking state event e = no_fault (is_some (next_in store state k Asking)) (ap is_some e)
 
   -- who has a next event can be stepped
-  pub next_free : (state : State store) (goal : Option Event) → IsNext store state k goal → step_fault store state k ≡ None
+  pub next_free : (state : State store) (goal : Option Event) → IsNext store state k goal → step_fault store state k
+      ≡ None
   next_free state None next = absurd next
   next_free state (Some event) next = next_free_in (state.roles k) state event next
 
 -- ---- an actor that goes on
 
 -- so many events went so far
-pub record Going (config : Config) (start : State (store_of config)) (k : ℕ) (goal : Option Event) (count : ℕ) (weave : Weave)
+pub record Going (config : Config) (start : State (store_of config)) (k : ℕ) (goal : Option Event) (count : ℕ)
+    (weave : Weave)
     : Type 0 where
   pub state : State (store_of config)
   pub went : Went (store_of config) k goal start count state
@@ -144,7 +152,8 @@ module _ (config : Config) (start : State (store_of config)) (k : ℕ) (goal : O
       let none : None ≡ Some why = sym (free (omega arith)).1 ∙ e in absurd cc
 
   one_more : (count : ℕ) (before state : State Store') → Went Store' k goal start count before
-      → (IsNext Store' before k goal → ⊥) → Steps Store' before k stepped.Went state → Went Store' k goal start (count + 1) state
+      → (IsNext Store' before k goal → ⊥) → Steps Store' before k stepped.Went state → Went Store' k goal start
+      (count + 1) state
   one_more count before state went other steps =
       let next : suc count ≡ count + 1 = omega arith in
       subst (λ (n : ℕ). Went Store' k goal start n state) next (before, went, other, steps)
@@ -156,10 +165,15 @@ module _ (config : Config) (start : State (store_of config)) (k : ℕ) (goal : O
     state = steps.after;
     went = one_more count so_far.state steps.after so_far.went other steps.steps;
     agrees = steps.agrees;
-    free = λ some. (free_at count so_far.state so_far.went so_far.free steps.fault, went_on Store' k so_far.state steps.after steps.steps);
+    free = λ some. (
+      free_at count so_far.state so_far.went so_far.free steps.fault,
+      went_on Store' k so_far.state
+          steps.after steps.steps,
+    );
   }
 
-  pub gone_before : (count : ℕ) (weave : Weave) (so_far : Going config start k goal count weave) → IsNext Store' so_far.state k goal
+  pub gone_before : (count : ℕ) (weave : Weave) (so_far : Going config start k goal count weave)
+      → IsNext Store' so_far.state k goal
       → HasGone config start k goal stepped.Went weave
   gone_before count weave so_far next = record {
     fault = free_at count so_far.state so_far.went so_far.free (next_free Store' k so_far.state goal next);
@@ -174,7 +188,13 @@ module _ (config : Config) (start : State (store_of config)) (k : ℕ) (goal : O
   gone_by count how weave new so_far other last steps = record {
     fault = free_at count so_far.state so_far.went so_far.free steps.fault;
     after = steps.after;
-    goes = record { count = count; state = so_far.state; went = so_far.went; ends = inr (inl (other, steps.steps, last)) };
+    goes = record {
+      count = count;
+      state = so_far.state;
+      went = so_far.went;
+      ends =
+          inr (inl (other, steps.steps, last));
+    };
     agrees = steps.agrees;
   }
 
@@ -191,7 +211,8 @@ module _ (config : Config) (start : State (store_of config)) (k : ℕ) (goal : O
       → step_fault Store' so_far.state k ≡ Some why → step_fault Store' start k ≡ Some why
   gone_refused count why weave so_far e = fault_at count so_far.state why so_far.went so_far.free e
 
-  pub goes_refused : (count : ℕ) (why : Refusal WeaveFault) (weave new : Weave) (so_far : Going config start k goal count weave)
+  pub goes_refused : (count : ℕ) (why : Refusal WeaveFault) (weave new : Weave) (so_far : Going config start k goal
+      count weave)
       → call.IsStepped config so_far.state k new (Err why) → GoesSo config start k goal (Err why) new
   goes_refused count (refusal.Fault why) weave new so_far refused = gone_refused count why weave so_far refused.fault
   goes_refused count refusal.OutOfMemory weave new so_far refused = tt

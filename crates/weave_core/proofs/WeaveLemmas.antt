@@ -1,5 +1,6 @@
 -- A weave after a step of one of its actors.
-use Rattle.std.proofs.Common.{◌≡◌, ◌≢◌, ℕ, zero, suc, ◌<◌, Option, Some, None, List, [], ◌∷◌, length, set, refl, sym, ap, subst, ◌∙◌, inl, inr, arith}
+use Rattle.std.proofs.Common.{◌≡◌, ◌≢◌, ℕ, zero, suc, ◌<◌, Option, Some, None, List, [], ◌∷◌, length, set, refl, sym}
+use Rattle.std.proofs.Common.{ap, subst, ◌∙◌, inl, inr, arith}
 use Rattle.std.specs.Prelude.{slice_get}
 use Rattle.std.proofs.lemmas.Bool.{cases_eq}
 use Rattle.std.proofs.lemmas.List.{length-set}
@@ -42,7 +43,8 @@ module _ (config : Config) (old : Weave) (state : State (store_of config)) (agre
     woven = agrees.woven;
     holders = agrees.holders;
     shared = agrees.shared;
-    actor = subst (λ (one : Option Actor). IsActorSo config i (state.core.world.actors i) (state.core.readers i) (state.roles i) one)
+    actor = subst (λ (one : Option Actor). IsActorSo config i (state.core.world.actors i) (state.core.readers i)
+        (state.roles i) one)
         is (agrees.actors.each i);
   }
 
@@ -70,7 +72,8 @@ module _ (config : Config) (old : Weave) (state : State (store_of config)) (agre
             each = λ j. elim (cases_eq j i) [
               | inl same ↦ subst (λ (n : ℕ). IsActorSo config n (h.after.core.world.actors n) (h.after.core.readers n)
                   (h.after.roles n) (actor_numbered new.actors.items n)) (sym same)
-                  (subst (λ (one : Option Actor). IsActorSo config i (h.after.core.world.actors i) (h.after.core.readers i)
+                  (subst (λ (one : Option Actor). IsActorSo config i (h.after.core.world.actors i)
+                  (h.after.core.readers i)
                   (h.after.roles i) one) (sym numbered_here) h.actor)
               | inr apart ↦
                   subst (λ (doer : Doer). IsActorSo config j doer (h.after.core.readers j) (h.after.roles j)

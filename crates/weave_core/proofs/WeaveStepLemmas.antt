@@ -1,5 +1,6 @@
 -- A step of a weave, by what became of the actor that was taken out of its place and put back.
-use Rattle.std.proofs.Common.{◌≡◌, ℕ, zero, suc, ◌<◌, Option, Some, None, List, [], ◌∷◌, Vec, Result, length, ok_or, set, refl, sym, ap, subst, ◌∙◌}
+use Rattle.std.proofs.Common.{◌≡◌, ℕ, zero, suc, ◌<◌, Option, Some, None, List, [], ◌∷◌, Vec, Result, length, ok_or}
+use Rattle.std.proofs.Common.{set, refl, sym, ap, subst, ◌∙◌}
 use Rattle.std.proofs.lemmas.List.{length-set, with_items_is}
 use Rattle.std.specs.Vec.{with_items}
 use Rattle.mon_config.specs.declared.config.Config.{Config}
@@ -41,10 +42,12 @@ set_is actors changed n one is =
     with_items_is actors changed (ap length is ∙ length-set actors.items n one ∙ sym actors.ok.0) ∙ is
 
 -- all places are there still
-pub set_there : (actors : List (Option Actor)) (i n : ℕ) (one : Option Actor) → n < length actors → n < length (set actors i one)
+pub set_there : (actors : List (Option Actor)) (i n : ℕ) (one : Option Actor) → n < length actors
+    → n < length (set actors i one)
 set_there actors i n one there = subst (λ (count : ℕ). n < count) (sym (length-set actors i one)) there
 
-pub changed_there : {Z : Type 0} (actors : Vec (Option Actor) Z) (changed : List (Option Actor)) (i n : ℕ) (one : Option Actor)
+pub changed_there : {Z : Type 0} (actors : Vec (Option Actor) Z) (changed : List (Option Actor)) (i n : ℕ)
+    (one : Option Actor)
     → changed ≡ set actors.items i one → n < length actors.items → n < length (with_items actors changed).items
 changed_there actors changed i n one is there =
     subst (λ (all : List (Option Actor)). n < length all) (sym (set_is actors changed i one is))
@@ -52,7 +55,8 @@ changed_there actors changed i n one is there =
 
 -- ---- nothing has changed
 
-same_agrees : (config : Config) (old : Weave) (state : State (store_of config)) → Agrees config old state → (new : Weave)
+same_agrees : (config : Config) (old : Weave) (state : State (store_of config)) → Agrees config old state
+    → (new : Weave)
     → AreShared config state.core.world new.store → new.actors.items ≡ old.actors.items → Agrees config new state
 same_agrees config old state agrees new shared items = record {
   woven = agrees.woven;
@@ -61,9 +65,11 @@ same_agrees config old state agrees new shared items = record {
   actors = subst (λ (actors : List (Option Actor)). AreActors config state actors) (sym items) agrees.actors;
 }
 
-module _ (old : Weave) (i : ℕ) (is : None ≡ actor_numbered old.actors.items i) (new : Weave) (store : new.store ≡ old.store)
+module _ (old : Weave) (i : ℕ) (is : None ≡ actor_numbered old.actors.items i) (new : Weave) (store : new.store
+    ≡ old.store)
     (items : new.actors.items ≡ set old.actors.items i None) where
-  nobody_agrees : (config : Config) (state : State (store_of config)) → Agrees config old state → Agrees config new state
+  nobody_agrees : (config : Config) (state : State (store_of config)) → Agrees config old state → Agrees config new
+      state
   nobody_agrees config state agrees = same_agrees config old state agrees new
       (subst (λ (one : Store). AreShared config state.core.world one) (sym store) agrees.shared)
       (items ∙ nobody_out old.actors.items i is)
@@ -132,11 +138,13 @@ module _ (old : Weave) (i : ℕ) (own : Actor) (is : Some own ≡ actor_numbered
 
     pub ended_kept : IsKept old → outcome ≡ None → IsKept new
     ended_kept kept e =
-        let h : IsRefusedSo kept.config kept.state i fault.Finished new = ended_so kept.config kept.state kept.agrees e in
+        let h : IsRefusedSo kept.config kept.state i fault.Finished new = ended_so kept.config kept.state kept.agrees
+        e in
         record { config = kept.config; state = kept.state; agrees = h.agrees }
 
     -- what the step is answered with
-    module _ (answer : Result Stepped (Refusal WeaveFault)) (answered : answer ≡ ok_or outcome (refusal.Fault fault.Finished))
+    module _ (answer : Result Stepped (Refusal WeaveFault)) (answered : answer ≡ ok_or outcome
+        (refusal.Fault fault.Finished))
       where
         module _ (config : Config) (state : State (store_of config)) (agrees : Agrees config old state) where
           stepped_by : (what : Option Stepped) → outcome ≡ what
@@ -145,7 +153,8 @@ module _ (old : Weave) (i : ℕ) (own : Actor) (is : Some own ≡ actor_numbered
           stepped_by None e = ended_so config state agrees e
 
           pub is_stepped : IsStepped config state i new answer
-          is_stepped = subst (λ (a : Result Stepped (Refusal WeaveFault)). IsStepped config state i new a) (sym answered)
+          is_stepped = subst (λ (a : Result Stepped (Refusal WeaveFault)). IsStepped config state i new a)
+              (sym answered)
               (stepped_by outcome refl)
 
         kept_by : IsKept old → (what : Option Stepped) → outcome ≡ what

@@ -24,7 +24,7 @@ use Rattle.weave_core.specs.QueryLooks.{word_told}
 use Rattle.weave_core.specs.QueryTurns.{IsAnswered, IsAsking}
 use Rattle.weave_core.specs.States.{store_of}
 use Rattle.weave_core.specs.declared.queries.Querying.{Querying}
-use Rattle.weave_core.specs.declared.sights.Sight.{Sight}
+use Rattle.mon_topo.specs.declared.sights.Sight.{Sight}
 use Rattle.weave_core.specs.declared.store.Store.{Store}
 use Rattle.weave_core.specs.declared.words.Place.TheVariants as word
 use Rattle.write_core.specs.World.{World}
@@ -44,7 +44,8 @@ module _ (asked : Asked) (count : ℕ) (some : 0 < count)
   root_below (at.Visiting course round visits leaf) bucket e = absurd cc
   root_below (at.Ended end) bucket e = absurd cc
 
-  zone_below : (stage : Stage) (zone : Zone) (bucket : ℕ) → ask_of asked stage ≡ ask.LoadZone zone bucket → bucket < count
+  zone_below : (stage : Stage) (zone : Zone) (bucket : ℕ) → ask_of asked stage ≡ ask.LoadZone zone bucket → bucket
+      < count
   zone_below (at.Rooting loading) zone bucket e = absurd cc
   zone_below (at.Entering course round loading) zone bucket e =
       let same : get_or asked.plan.buckets (length loading.words) 0 ≡ bucket = cc in
@@ -90,7 +91,8 @@ module _ (config : Config) (core : Core (store_of config)) (k : ℕ) (store : St
   module _ (zone : Zone) (bucket : ℕ) (e : asks ≡ ask.LoadZone zone bucket) where
     zone_bucket : bucket < config.buckets
     zone_bucket =
-        zone_below asked config.buckets asking.shared.served.limited.some next_bucket querying.machine.stage zone bucket e
+        zone_below asked config.buckets asking.shared.served.limited.some next_bucket querying.machine.stage zone
+        bucket e
 
     pub zone_there : HasWord store.words (word.Zone zone) bucket
     zone_there =
@@ -103,7 +105,8 @@ module _ (config : Config) (core : Core (store_of config)) (k : ℕ) (store : St
     zone_bits leaf at_zone =
         let same : zone_of_leaf (store_of config) leaf ≡ zone =
         get_or_from_slice_get (leaf_zones config.topology) leaf.0 zone (zone_numbered 0) at_zone in
-        ap (λ (one : Zone). has_bit (word_at store.words (word.Zone one) bucket) (leaf.0 - first_leaf config.topology one.0))
+        ap (λ (one : Zone). has_bit (word_at store.words (word.Zone one) bucket) (leaf.0 - first_leaf config.topology
+        one.0))
         (sym same)
         ∙ asking.shared.words.zone leaf bucket
         (omega (
@@ -113,7 +116,8 @@ module _ (config : Config) (core : Core (store_of config)) (k : ℕ) (store : St
         ))
         zone_bucket
 
-    pub zone_answered : IsAnswered config core k store sight (word_told (word_at store.words (word.Zone zone) bucket) sight)
+    pub zone_answered : IsAnswered config core k store sight (word_told (word_at store.words (word.Zone zone) bucket)
+        sight)
     zone_answered =
         answered config core k store querying sight asking (ask.LoadZone zone bucket) e store sight
         (word_told (word_at store.words (word.Zone zone) bucket) sight) (record {

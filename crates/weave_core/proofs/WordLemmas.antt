@@ -1,5 +1,6 @@
 -- Setting a bit in a table of words.
-use Rattle.std.proofs.Common.{◌≡◌, ℕ, ◌+◌, ◌*◌, ◌<◌, ◌≤◌, ◌==◌, ◌||◌, ◌&&◌, Bool, true, false, nat_eq, get_or, set, refl, sym, ap, ◌∙◌, inl, inr, arith}
+use Rattle.std.proofs.Common.{◌≡◌, ℕ, ◌+◌, ◌*◌, ◌<◌, ◌≤◌, ◌==◌, ◌||◌, ◌&&◌, Bool, true, false, nat_eq, get_or, set}
+use Rattle.std.proofs.Common.{refl, sym, ap, ◌∙◌, inl, inr, arith}
 use Rattle.std.specs.Prelude.{bit_or}
 use Rattle.std.specs.Int.{w64}
 use Rattle.std.proofs.lemmas.Bool.{cases_eq, cases_lt, eq-eqb, ne_eqb}
@@ -7,7 +8,8 @@ use Rattle.std.proofs.lemmas.List.{get_or-set_same, get_or-set_other}
 use Rattle.std.proofs.Math.Nat.{add-mul, mul-le-mul_right}
 use Rattle.std.proofs.lemmas.Nat.Bits.{bit_at_set_same, bit_at_set_other}
 use Rattle.mon_hints.specs.Words.{has_bit}
-use Rattle.weave_core.specs.HintWords.{HasWord, HintTable, RaisesOne, bit_of, index_of, raised, same_place, table_of, with_raised, word_at}
+use Rattle.weave_core.specs.HintWords.{HasWord, HintTable, RaisesOne, bit_of, index_of, raised, same_place, table_of}
+use Rattle.weave_core.specs.HintWords.{with_raised, word_at}
 use Rattle.weave_core.specs.declared.words.Place.{Place}
 
 -- ---- places of words
@@ -34,13 +36,15 @@ same_bucket a b n x y same e =
 
 -- ---- bits
 
-module _ (hints : HintTable) (place : Place) (child bucket : ℕ) (small : child < 64) (there : HasWord hints place bucket)
+module _ (hints : HintTable) (place : Place) (child bucket : ℕ) (small : child < 64)
+    (there : HasWord hints place bucket)
     (other : Place) (b c : ℕ) (within : b < hints.buckets) where
   abbrev new : ℕ
   new = bit_or (word_at hints place bucket) (bit_of child)
 
   abbrev Wanted : Type 0
-  Wanted = has_bit (word_at (raised hints place child bucket) other b) c ≡ with_raised hints place child bucket other b c
+  Wanted = has_bit (word_at (raised hints place child bucket) other b) c ≡ with_raised hints place child bucket other b
+      c
 
   not_this : (t : Bool) → (t ≡ true → ⊥) → t ≡ false
   not_this true h = absurd (h refl)

@@ -1,5 +1,6 @@
 -- What the calls of a store for a write's events ask for, and what they come to, by what the events do to the seats.
-use Rattle.std.proofs.Common.{◌≡◌, ℕ, ◌<◌, ◌≤◌, ◌<ℤ◌, Bool, true, false, List, [], ◌∷◌, ◌++◌, Some, length, get_or, refl, sym, ap, subst, ◌∙◌}
+use Rattle.std.proofs.Common.{◌≡◌, ℕ, ◌<◌, ◌≤◌, ◌<ℤ◌, Bool, true, false, List, [], ◌∷◌, ◌++◌, Some, length, get_or}
+use Rattle.std.proofs.Common.{refl, sym, ap, subst, ◌∙◌}
 use Rattle.std.specs.Prelude.{IfSome, slice_get}
 use Rattle.std.proofs.lemmas.Option.{same_Some, slice_get_read}
 use Rattle.mon_config.specs.declared.config.Config.{Config}
@@ -14,35 +15,41 @@ use Rattle.mon_value.specs.declared.positions.Range.{Range}
 use Rattle.mon_value.specs.declared.positions.Slot.{Slot}
 use Rattle.mon_value.specs.declared.positions.Zone.{Zone}
 use Rattle.weave_core.proofs.AckTurnLemmas.{acknowledge_turn, later}
-use Rattle.weave_core.proofs.AtWorkLemmas.{StandsAt, StandsBefore, StandsInside, leaf_alike, leaf_in_sight, leaf_in_truth, leaf_there, own, range_alike, range_in_sight, range_there, stands_at}
+use Rattle.weave_core.proofs.AtWorkLemmas.{StandsAt, StandsBefore, StandsInside, leaf_alike, leaf_in_sight}
+use Rattle.weave_core.proofs.AtWorkLemmas.{leaf_in_truth, leaf_there, own, range_alike, range_in_sight, range_there}
+use Rattle.weave_core.proofs.AtWorkLemmas.{stands_at}
 use Rattle.weave_core.proofs.LeafTurnLemmas.{enter_turn, reserve_turn}
 use Rattle.weave_core.proofs.LockTurnLemmas.{lock_turn}
 use Rattle.weave_core.proofs.PlaceLemmas.{root_there, zone_there, zone_word_there}
 use Rattle.weave_core.proofs.PutTurnLemmas.{follows, put_turn}
-use Rattle.weave_core.proofs.RaiseTurnLemmas.{buckets_below, inside_listed, inside_there, leaf_kept, place_small, root_turn, zone_small, zone_turn}
+use Rattle.weave_core.proofs.RaiseTurnLemmas.{buckets_below, inside_listed, inside_there, leaf_kept, place_small}
+use Rattle.weave_core.proofs.RaiseTurnLemmas.{root_turn, zone_small, zone_turn}
 use Rattle.weave_core.specs.Agreements.{IsLeafSo, IsRangeSo, place_of_leaf}
 use Rattle.weave_core.specs.HintWords.{HasWord}
-use Rattle.weave_core.specs.Sights.{AreAlike}
+use Rattle.mon_topo.specs.Sights.{AreAlike}
 use Rattle.weave_core.specs.States.{store_of}
-use Rattle.weave_core.specs.WriteEvents.{ChangesLeaf, ChangesRange, EntersIf, IfWritten, LetsGo, LocksIf, Puts, Raises, RaisesWord, ReservesIf}
+use Rattle.weave_core.specs.WriteEvents.{ChangesLeaf, ChangesRange, EntersIf, IfWritten, LetsGo, LocksIf, Puts, Raises}
+use Rattle.weave_core.specs.WriteEvents.{RaisesWord, ReservesIf}
 use Rattle.weave_core.specs.WriteTurns.{IsAtWork, IsInSomeWorld, WentSo, WriteEnded, WriteWent, WritesSo, turn_of}
 use Rattle.weave_core.specs.Writers.{writer_of}
 use Rattle.weave_core.specs.declared.leaves.LeafSeat.{LeafSeat}
 use Rattle.weave_core.specs.declared.ranges.RangeSeat.{RangeSeat}
-use Rattle.weave_core.specs.declared.sights.Sight.{Sight}
+use Rattle.mon_topo.specs.declared.sights.Sight.{Sight}
 use Rattle.weave_core.specs.declared.store.Store.{Store}
 use Rattle.weave_core.specs.declared.words.Place.TheVariants as word
 use Rattle.weave_core.specs.declared.writes.WriteTurn.{WriteTurn}
 use Rattle.weave_core.specs.declared.writes.Writing.{Writing}
 use Rattle.write_core.specs.Invariant.{IsAt}
-use Rattle.write_core.specs.Program.{Acking, Ended, Entering, Inside, Reserving, Stage, Verdict, after, ask_of, end_of_verdict, EndsSo}
+use Rattle.write_core.specs.Program.{Acking, Ended, Entering, Inside, Reserving, Stage, Verdict, after, ask_of}
+use Rattle.write_core.specs.Program.{end_of_verdict, EndsSo}
 use Rattle.write_core.specs.World.{World, view_of}
 use Rattle.write_core.specs.declared.asks.WriteAsk.{WriteAsk}
 use Rattle.write_core.specs.declared.asks.WriteAsk.TheVariants as ask
 use Rattle.write_core.specs.declared.asks.WriteEnd.{WriteEnd}
 use Rattle.write_core.specs.declared.asks.WriteTold.TheVariants as told
 
-turn_so : (config : Config) (world : World) (i : ℕ) (writing : Writing) (new : Store) (before now : Sight) (next : Writing)
+turn_so : (config : Config) (world : World) (i : ℕ) (writing : Writing) (new : Store) (before now : Sight)
+    (next : Writing)
     (went : Bool) → WentSo config world i writing new before now next went
     → WritesSo config world i writing new before now (turn_of went next)
 turn_so config world i writing new before now next true h = h
@@ -91,7 +98,8 @@ module _ (config : Config) (world : World) (i : ℕ) (store : Store) (writing : 
   put_leaf : (slot : Slot) (leaf : Leaf) → ask_of writing.machine.stage ≡ ask.Put slot leaf
       → leaf.0 < length world.truth.seen.leaves
   put_leaf slot leaf e =
-      let at : StandsBefore (λ round. Inside round [] []) writing.machine.stage slot leaf = at_ask (ask.Put slot leaf) e in
+      let at : StandsBefore (λ round. Inside round [] []) writing.machine.stage slot leaf = at_ask (ask.Put slot leaf)
+      e in
       subst (λ (l : Leaf). l.0 < length world.truth.seen.leaves) at.leaf_is
       (leaf_in_truth config world i store writing sight work at.done at.left at.mark
       (own_at (Inside (record { done = at.done; left = at.mark ∷ at.left }) [] []) at.is).0.going)
@@ -106,11 +114,14 @@ module _ (config : Config) (world : World) (i : ℕ) (store : Store) (writing : 
   lock_returns e seat got new other next now went turn changes h is =
       subst (λ (t : WriteTurn). WritesSo config world i writing new sight now t) (sym is)
       (turn_so config world i writing new sight now next went
-      (lock_turn config world i store writing sight work (at_ask ask.Lock e) seat (range_so seat got) store.config.range_points new
+      (lock_turn config world i store writing sight work (at_ask ask.Lock e) seat (range_so seat got)
+      store.config.range_points new
       other next now went (ap (λ (c : Config). c.range_points) work.shared.config_is) changes h))
 
-  pub reserve_returns : (slot : Slot) (leaf : Leaf) → ask_of writing.machine.stage ≡ ask.Reserve slot leaf → (seat : LeafSeat)
-      → slice_get store.leaves.items leaf.0 ≡ Some seat → (new : Store) (other : LeafSeat) (next : Writing) (now : Sight)
+  pub reserve_returns : (slot : Slot) (leaf : Leaf) → ask_of writing.machine.stage ≡ ask.Reserve slot leaf
+      → (seat : LeafSeat)
+      → slice_get store.leaves.items leaf.0 ≡ Some seat → (new : Store) (other : LeafSeat) (next : Writing)
+      (now : Sight)
       (went : Bool) (turn : WriteTurn) → ChangesLeaf leaf other store new
       → ReservesIf leaf seat other writing next sight now went → turn ≡ turn_of went next
       → WritesSo config world i writing new sight now turn
@@ -120,8 +131,10 @@ module _ (config : Config) (world : World) (i : ℕ) (store : Store) (writing : 
       (reserve_turn config world i store writing sight work slot leaf (at_ask (ask.Reserve slot leaf) e) seat
       (leaf_so leaf seat got) new other next now went changes h))
 
-  pub enter_returns : (slot : Slot) (leaf : Leaf) → ask_of writing.machine.stage ≡ ask.Enter slot leaf → (seat : LeafSeat)
-      → slice_get store.leaves.items leaf.0 ≡ Some seat → (new : Store) (other : LeafSeat) (next : Writing) (now : Sight)
+  pub enter_returns : (slot : Slot) (leaf : Leaf) → ask_of writing.machine.stage ≡ ask.Enter slot leaf
+      → (seat : LeafSeat)
+      → slice_get store.leaves.items leaf.0 ≡ Some seat → (new : Store) (other : LeafSeat) (next : Writing)
+      (now : Sight)
       (went : Bool) (turn : WriteTurn) → ChangesLeaf leaf other store new
       → EntersIf leaf seat other writing next sight now went → turn ≡ turn_of went next
       → WritesSo config world i writing new sight now turn
@@ -132,17 +145,20 @@ module _ (config : Config) (world : World) (i : ℕ) (store : Store) (writing : 
       (leaf_so leaf seat got) new other next now went changes h))
 
   pub put_returns : (slot : Slot) (leaf : Leaf) → ask_of writing.machine.stage ≡ ask.Put slot leaf → (seat : LeafSeat)
-      → slice_get store.leaves.items leaf.0 ≡ Some seat → (new : Store) (other : LeafSeat) (next : Writing) (now : Sight)
+      → slice_get store.leaves.items leaf.0 ≡ Some seat → (new : Store) (other : LeafSeat) (next : Writing)
+      (now : Sight)
       → ChangesLeaf leaf other store new → Puts slot leaf seat other writing next sight now
       → WriteWent config world i new writing next now
   put_returns slot leaf e seat got new other next now changes h =
-      put_turn config world i store writing sight work slot leaf (at_ask (ask.Put slot leaf) e) seat (leaf_so leaf seat got) new
+      put_turn config world i store writing sight work slot leaf (at_ask (ask.Put slot leaf) e) seat
+      (leaf_so leaf seat got) new
       other next now changes h
 
   -- ---- the end
 
   -- a machine that was told that its acknowledgement is done ends by what was decided
-  pub end_so : (verdict : Verdict) → writing.machine.stage ≡ Acking verdict → (range : Range) (stage : Stage) (end : WriteEnd)
+  pub end_so : (verdict : Verdict) → writing.machine.stage ≡ Acking verdict → (range : Range) (stage : Stage)
+      (end : WriteEnd)
       → range ≡ writing.machine.range → stage ≡ after writing.machine.stage told.Done → EndsSo range stage end
       → end ≡ end_of_verdict writing.range verdict
   end_so verdict at range stage end ranges stages ends =
@@ -152,7 +168,8 @@ module _ (config : Config) (world : World) (i : ℕ) (store : Store) (writing : 
 
   pub acknowledge_returns : ask_of writing.machine.stage ≡ ask.Ack → (range : Range) (stage : Stage) (end : WriteEnd)
       → range ≡ writing.machine.range → stage ≡ after writing.machine.stage told.Done → EndsSo range stage end
-      → (seat : RangeSeat) → slice_get store.ranges.items writing.range.0 ≡ Some seat → (new : Store) (other : RangeSeat)
+      → (seat : RangeSeat) → slice_get store.ranges.items writing.range.0 ≡ Some seat
+      → (new : Store) (other : RangeSeat)
       (now : Sight) → ChangesRange writing.range other store new
       → LetsGo end writing.number writing.row writing.range seat other sight now
       → WriteEnded config world i new writing now writing.range end
@@ -164,7 +181,8 @@ module _ (config : Config) (world : World) (i : ℕ) (store : Store) (writing : 
   pub later_so : ask_of writing.machine.stage ≡ ask.Ack → (range : Range) (stage : Stage) (end : WriteEnd)
       → range ≡ writing.machine.range → stage ≡ after writing.machine.stage told.Done → EndsSo range stage end
       → (seat : RangeSeat) → slice_get store.ranges.items writing.range.0 ≡ Some seat
-      → IfWritten end (IfSome (last_end (points_of writing.row.key (acked seat.state))) (λ last. last <ℤ writing.row.point.end))
+      → IfWritten end (IfSome (last_end (points_of writing.row.key (acked seat.state)))
+      (λ last. last <ℤ writing.row.point.end))
   later_so e range stage end ranges stages ends seat got =
       let at : (verdict : Verdict) × (writing.machine.stage ≡ Acking verdict) = at_ask ask.Ack e in
       later config world i store writing sight work at.0 at.1 seat (range_so seat got) end
@@ -172,11 +190,13 @@ module _ (config : Config) (world : World) (i : ℕ) (store : Store) (writing : 
 
   -- ---- what is asked for
 
-  pub put_follows_so : (slot : Slot) (leaf : Leaf) → ask_of writing.machine.stage ≡ ask.Put slot leaf → (seat : LeafSeat)
+  pub put_follows_so : (slot : Slot) (leaf : Leaf) → ask_of writing.machine.stage ≡ ask.Put slot leaf
+      → (seat : LeafSeat)
       → slice_get store.leaves.items leaf.0 ≡ Some seat
       → IsWellFormed (seat.state.history ++ entry.Put writing.number writing.range slot writing.row ∷ [])
   put_follows_so slot leaf e seat got =
-      follows config world i store writing sight work slot leaf (at_ask (ask.Put slot leaf) e) seat (leaf_so leaf seat got)
+      follows config world i store writing sight work slot leaf (at_ask (ask.Put slot leaf) e) seat
+      (leaf_so leaf seat got)
 
   -- ---- inside of a leaf
 
@@ -211,7 +231,8 @@ module _ (config : Config) (world : World) (i : ℕ) (store : Store) (writing : 
       let at = zone_at_ask bucket e in inside_leaf [] (bucket ∷ at.0) at.1 leaf is
 
   pub root_child : (bucket : ℕ) → ask_of writing.machine.stage ≡ ask.RaiseRoot bucket → (leaf : Leaf)
-      → writing.inside ≡ Some leaf → (seat : LeafSeat) → slice_get store.leaves.items leaf.0 ≡ Some seat → seat.zone.0 < 64
+      → writing.inside ≡ Some leaf → (seat : LeafSeat) → slice_get store.leaves.items leaf.0 ≡ Some seat → seat.zone.0
+      < 64
   root_child bucket e leaf is seat got =
       let at = root_at bucket e in
       subst (λ (zone : Zone). zone.0 < 64) (sym (leaf_so leaf seat got).zone)
@@ -219,7 +240,8 @@ module _ (config : Config) (world : World) (i : ℕ) (store : Store) (writing : 
       (zone_small config world i store writing sight work at.2.done at.2.left at.2.mark (bucket ∷ at.0) at.1 at.2.is))
 
   pub zone_child : (bucket : ℕ) → ask_of writing.machine.stage ≡ ask.RaiseZone bucket → (leaf : Leaf)
-      → writing.inside ≡ Some leaf → (seat : LeafSeat) → slice_get store.leaves.items leaf.0 ≡ Some seat → seat.place < 64
+      → writing.inside ≡ Some leaf → (seat : LeafSeat) → slice_get store.leaves.items leaf.0 ≡ Some seat → seat.place
+      < 64
   zone_child bucket e leaf is seat got =
       let at = zone_at_ask bucket e in
       subst (λ (place : ℕ). place < 64) (sym (leaf_so leaf seat got).place)
@@ -231,18 +253,23 @@ module _ (config : Config) (world : World) (i : ℕ) (store : Store) (writing : 
       → HasWord store.words (word.Zone seat.zone) bucket
   zone_word bucket e leaf is seat got =
       let at = zone_at_ask bucket e in
-      let below = buckets_below config world i store writing sight work at.1.done at.1.left at.1.mark [] (bucket ∷ at.0) at.1.is in
+      let below = buckets_below config world i store writing sight work at.1.done at.1.left at.1.mark []
+      (bucket ∷ at.0) at.1.is in
       subst (λ (zone : Zone). HasWord store.words (word.Zone zone) bucket) (sym (leaf_so leaf seat got).zone)
       (subst (λ (l : Leaf). HasWord store.words (word.Zone (zone_of_leaf (store_of config) l)) bucket)
       (same_leaf [] (bucket ∷ at.0) at.1 leaf is)
-      (zone_word_there config world store.words work.shared.words bucket below.1.0 (zone_of_leaf (store_of config) at.1.mark.leaf)
+      (zone_word_there config world store.words work.shared.words bucket below.1.0 (zone_of_leaf (store_of config)
+      at.1.mark.leaf)
       (zone_there config at.1.mark.leaf
-      (inside_listed config world i store writing sight work at.1.done at.1.left at.1.mark [] (bucket ∷ at.0) at.1.is))))
+      (inside_listed config world i store writing sight work at.1.done at.1.left at.1.mark [] (bucket ∷ at.0)
+      at.1.is))))
 
-  pub root_word : (bucket : ℕ) → ask_of writing.machine.stage ≡ ask.RaiseRoot bucket → HasWord store.words word.Root bucket
+  pub root_word : (bucket : ℕ) → ask_of writing.machine.stage ≡ ask.RaiseRoot bucket → HasWord store.words word.Root
+      bucket
   root_word bucket e =
       let at = root_at bucket e in
-      let below = buckets_below config world i store writing sight work at.2.done at.2.left at.2.mark (bucket ∷ at.0) at.1 at.2.is in
+      let below = buckets_below config world i store writing sight work at.2.done at.2.left at.2.mark (bucket ∷ at.0)
+      at.1 at.2.is in
       root_there config world store.words work.shared.words bucket below.0.0
 
   pub root_returns : (bucket : ℕ) → ask_of writing.machine.stage ≡ ask.RaiseRoot bucket → (leaf : Leaf)
@@ -254,19 +281,23 @@ module _ (config : Config) (world : World) (i : ℕ) (store : Store) (writing : 
       subst (λ (l : Leaf). IsLeafSo config world l seat → RaisesWord word.Root seat.zone.0 bucket l other store new
       → Raises l seat other writing next sight now → WriteWent config world i new writing next now)
       (same_leaf (bucket ∷ at.0) at.1 at.2 leaf is)
-      (λ so changes' raises'. root_turn config world i store writing sight work bucket at.0 at.1 at.2 seat so new other next now
+      (λ so changes' raises'. root_turn config world i store writing sight work bucket at.0 at.1 at.2 seat so new other
+      next now
       changes' raises') (leaf_so leaf seat got) changes raises
 
   pub zone_returns : (bucket : ℕ) → ask_of writing.machine.stage ≡ ask.RaiseZone bucket → (leaf : Leaf)
       → writing.inside ≡ Some leaf → (seat : LeafSeat) → slice_get store.leaves.items leaf.0 ≡ Some seat → (new : Store)
-      (other : LeafSeat) (next : Writing) (now : Sight) → RaisesWord (word.Zone seat.zone) seat.place bucket leaf other store new
+      (other : LeafSeat) (next : Writing) (now : Sight) → RaisesWord (word.Zone seat.zone) seat.place bucket leaf other
+      store new
       → Raises leaf seat other writing next sight now → WriteWent config world i new writing next now
   zone_returns bucket e leaf is seat got new other next now changes raises =
       let at = zone_at_ask bucket e in
-      subst (λ (l : Leaf). IsLeafSo config world l seat → RaisesWord (word.Zone seat.zone) seat.place bucket l other store new
+      subst (λ (l : Leaf). IsLeafSo config world l seat → RaisesWord (word.Zone seat.zone) seat.place bucket l other
+      store new
       → Raises l seat other writing next sight now → WriteWent config world i new writing next now)
       (same_leaf [] (bucket ∷ at.0) at.1 leaf is)
-      (λ so changes' raises'. zone_turn config world i store writing sight work bucket at.0 at.1 seat so new other next now
+      (λ so changes' raises'. zone_turn config world i store writing sight work bucket at.0 at.1 seat so new other next
+      now
       changes' raises') (leaf_so leaf seat got) changes raises
 
 -- ---- in some world
@@ -278,9 +309,11 @@ module _ (store : Store) (writing : Writing) (sight : Sight) (some : IsInSomeWor
   -- the seat that is read at a place
   pub range_read : (seat : RangeSeat) → seat ≡ get_or store.ranges.items writing.range.0 seat
       → slice_get store.ranges.items writing.range.0 ≡ Some seat
-  range_read seat is = slice_get_read store.ranges.items (length store.ranges.items) writing.range.0 seat refl lock_range_there is
+  range_read seat is = slice_get_read store.ranges.items (length store.ranges.items) writing.range.0 seat refl
+      lock_range_there is
 
-  pub lock_alike : (seat : RangeSeat) → slice_get store.ranges.items writing.range.0 ≡ Some seat → AreAlike sight seat.sight
+  pub lock_alike : (seat : RangeSeat) → slice_get store.ranges.items writing.range.0 ≡ Some seat
+      → AreAlike sight seat.sight
   lock_alike seat got = range_alike some.config some.world some.i store writing sight some.at_work seat
       (range_so some.config some.world some.i store writing sight some.at_work seat got)
 
@@ -301,7 +334,8 @@ module _ (store : Store) (writing : Writing) (sight : Sight) (some : IsInSomeWor
     seat_alike seat got = leaf_alike some.config some.world some.i store writing sight some.at_work leaf here seat
         (leaf_so some.config some.world some.i store writing sight some.at_work leaf seat got)
 
-    pub seat_in_sight : (seat : LeafSeat) → slice_get store.leaves.items leaf.0 ≡ Some seat → leaf.0 < length seat.sight.leaves
+    pub seat_in_sight : (seat : LeafSeat) → slice_get store.leaves.items leaf.0 ≡ Some seat → leaf.0
+        < length seat.sight.leaves
     seat_in_sight seat got = leaf_in_sight some.config some.world some.i store writing sight some.at_work leaf here seat
         (leaf_so some.config some.world some.i store writing sight some.at_work leaf seat got)
 
@@ -310,7 +344,8 @@ module _ (store : Store) (writing : Writing) (sight : Sight) (some : IsInSomeWor
         (sym (leaf_so some.config some.world some.i store writing sight some.at_work leaf seat got).buckets)
         some.at_work.shared.served.limited.some
 
-    pub seat_most : (seat : LeafSeat) → slice_get store.leaves.items leaf.0 ≡ Some seat → seat.state.buckets ≤ MOST_BUCKETS
+    pub seat_most : (seat : LeafSeat) → slice_get store.leaves.items leaf.0 ≡ Some seat → seat.state.buckets
+        ≤ MOST_BUCKETS
     seat_most seat got = subst (λ (n : ℕ). n ≤ MOST_BUCKETS)
         (sym (leaf_so some.config some.world some.i store writing sight some.at_work leaf seat got).buckets)
         some.at_work.shared.served.limited.most
@@ -327,7 +362,8 @@ module _ (store : Store) (writing : Writing) (sight : Sight) (some : IsInSomeWor
       → leaf.0 < length some.world.truth.seen.leaves
   putting_leaf slot leaf e = put_leaf some.config some.world some.i store writing sight some.at_work slot leaf e
 
-  pub putting_follows : (slot : Slot) (leaf : Leaf) → ask_of writing.machine.stage ≡ ask.Put slot leaf → (seat : LeafSeat)
+  pub putting_follows : (slot : Slot) (leaf : Leaf) → ask_of writing.machine.stage ≡ ask.Put slot leaf
+      → (seat : LeafSeat)
       → slice_get store.leaves.items leaf.0 ≡ Some seat
       → IsWellFormed (seat.state.history ++ entry.Put writing.number writing.range slot writing.row ∷ [])
   putting_follows slot leaf e seat got =
@@ -336,7 +372,8 @@ module _ (store : Store) (writing : Writing) (sight : Sight) (some : IsInSomeWor
   pub acking_later : ask_of writing.machine.stage ≡ ask.Ack → (range : Range) (stage : Stage) (end : WriteEnd)
       → range ≡ writing.machine.range → stage ≡ after writing.machine.stage told.Done → EndsSo range stage end
       → (seat : RangeSeat) → slice_get store.ranges.items writing.range.0 ≡ Some seat
-      → IfWritten end (IfSome (last_end (points_of writing.row.key (acked seat.state))) (λ last. last <ℤ writing.row.point.end))
+      → IfWritten end (IfSome (last_end (points_of writing.row.key (acked seat.state)))
+      (λ last. last <ℤ writing.row.point.end))
   acking_later = later_so some.config some.world some.i store writing sight some.at_work
 
   -- where a bit is set

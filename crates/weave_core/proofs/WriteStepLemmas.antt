@@ -1,5 +1,6 @@
 -- A step of an actor that writes.
-use Rattle.std.proofs.Common.{◌≡◌, ◌≢◌, ℕ, Bool, true, false, not, cond, Option, Some, None, List, [], ◌∷◌, map, refl, sym, ap, subst, ◌∙◌, inl, inr}
+use Rattle.std.proofs.Common.{◌≡◌, ◌≢◌, ℕ, Bool, true, false, not, cond, Option, Some, None, List, [], ◌∷◌, map, refl}
+use Rattle.std.proofs.Common.{sym, ap, subst, ◌∙◌, inl, inr}
 use Rattle.std.specs.Prelude.{is_some}
 use Rattle.mon_config.specs.declared.config.Config.{Config}
 use Rattle.mon_topo.specs.Settings.{Setting}
@@ -10,7 +11,8 @@ use Rattle.weave_core.specs.ActorSteps.{ActorSteps, IsIn, WrittenSo}
 use Rattle.weave_core.specs.Core.{Happens}
 use Rattle.weave_core.specs.EndTexts.{write_text}
 use Rattle.weave_core.specs.EventNames.{event_of_write}
-use Rattle.weave_core.specs.States.{Asking, Dismissed, Eventless, Role, State, Undeclared, Writing, fault_in, holder_in, is_past_lock, step_fault, store_of, write_asks, writes_begun}
+use Rattle.weave_core.specs.States.{Asking, Dismissed, Eventless, Role, State, Undeclared, Writing, fault_in}
+use Rattle.weave_core.specs.States.{holder_in, is_past_lock, step_fault, store_of, write_asks, writes_begun}
 use Rattle.weave_core.specs.Steps.{StepsIn, with_event, write_stepped, writer_stepped}
 use Rattle.weave_core.specs.WriteTurns.{IsAtWork, WritesSo}
 use Rattle.weave_core.specs.Writers.{writer_of}
@@ -19,13 +21,14 @@ use Rattle.weave_core.specs.declared.actors.Course.TheVariants as course
 use Rattle.weave_core.specs.declared.calls.Stepped.{Stepped}
 use Rattle.weave_core.specs.declared.calls.Stepped.TheVariants as stepped
 use Rattle.weave_core.specs.declared.calls.WeaveFault.TheVariants as fault
-use Rattle.weave_core.specs.declared.sights.Sight.{Sight}
+use Rattle.mon_topo.specs.declared.sights.Sight.{Sight}
 use Rattle.weave_core.specs.declared.store.Store.{Store}
 use Rattle.weave_core.specs.declared.writes.WriteTurn.{WriteTurn}
 use Rattle.weave_core.specs.declared.writes.WriteTurn.TheVariants as turn
 use Rattle.weave_core.specs.declared.writes.Writing.{Writing as Write}
 use Rattle.write_core.specs.Events.{Goes}
-use Rattle.write_core.specs.Program.{Acking, Ended, Entering, Inside, Locking, Marked, Reserving, Stage, after, ask_of, end_of_verdict, entering, reserving}
+use Rattle.write_core.specs.Program.{Acking, Ended, Entering, Inside, Locking, Marked, Reserving, Stage, after, ask_of}
+use Rattle.write_core.specs.Program.{end_of_verdict, entering, reserving}
 use Rattle.write_core.specs.Program as write
 use Rattle.write_core.specs.Marks.{waiting}
 use Rattle.write_core.specs.Rounds.{Round, again, is_through, looked, marks_of, round_of, skipped}
@@ -136,7 +139,8 @@ module _ (config : Config) (state : State (store_of config)) (i : ℕ) (store : 
   role_is = writing_by (state.roles i) here.actor
 
   pub writes : IsWriting config i doer (state.core.readers i) writing begun sight
-  writes = subst (λ (role : Role). IsCourseSo config i doer (state.core.readers i) role (course.Writes writing) begun sight)
+  writes = subst (λ (role : Role). IsCourseSo config i doer (state.core.readers i) role (course.Writes writing) begun
+      sight)
       role_is here.actor
 
   pub at_work : IsAtWork config state.core.world i store writing sight
@@ -166,7 +170,8 @@ module _ (config : Config) (state : State (store_of config)) (i : ℕ) (store : 
     abbrev doer_then : Doer
     doer_then = then'.core.world.actors i
 
-  pub write_steps : (zones : List ZoneSpec) (new : Store) (now : Sight) (turn : WriteTurn) (own : Actor) (how : Option Stepped)
+  pub write_steps : (zones : List ZoneSpec) (new : Store) (now : Sight) (turn : WriteTurn) (own : Actor)
+      (how : Option Stepped)
       → zones ≡ config.topology → WritesSo config state.core.world i writing new sight now turn
       → WrittenSo zones turn now begun own how
       → ActorSteps config state i new (record { course = course.Writes writing; sight = sight; begun = begun }) own how
@@ -174,23 +179,28 @@ module _ (config : Config) (state : State (store_of config)) (i : ℕ) (store : 
       subst (λ (o : Option Stepped). ActorSteps config state i new before own o) (sym h.1) (record {
         fault = no_fault;
         after = then' went.answer;
-        steps = subst (λ (role : Role). StepsIn (store_of config) role state i stepped.Went (then' went.answer)) (sym role_is)
+        steps = subst (λ (role : Role). StepsIn (store_of config) role state i stepped.Went (then' went.answer))
+            (sym role_is)
             (inr (record {
               answer = went.answer;
               can = went.came.can;
               went = sym (ap (write_stepped config.topology) went.writer.writer
-                  ∙ stays_by config.topology (writer_of i next (view_of (doer_then went.answer))) next.machine.stage went.goes_on);
+                  ∙ stays_by config.topology (writer_of i next (view_of (doer_then went.answer))) next.machine.stage
+                  went.goes_on);
               becomes = refl;
             }));
         shared = went.came.shared;
-        actor = subst (λ (one : Actor). IsActorSo config i (doer_then went.answer) (state.core.readers i) (state.roles i) (Some one))
+        actor = subst (λ (one : Actor). IsActorSo config i (doer_then went.answer) (state.core.readers i)
+            (state.roles i) (Some one))
             (sym h.0)
-            (subst (λ (role : Role). IsCourseSo config i (doer_then went.answer) (state.core.readers i) role (course.Writes next)
+            (subst (λ (role : Role). IsCourseSo config i (doer_then went.answer) (state.core.readers i) role
+            (course.Writes next)
             true now) (sym role_is) (record {
               writer = went.writer;
               goes_on = went.goes_on;
               begun_is = sym (ap writes_begun went.writer.writer ∙ ap is_past_lock went.stage
-                  ∙ past_after (store_of config) state.core.world (writer_of i writing (view_of doer)) writing.machine.stage
+                  ∙ past_after (store_of config) state.core.world (writer_of i writing (view_of doer))
+                  writing.machine.stage
                   went.answer (subst (λ (who : Doer). CanGo (store_of config) state.core.world who went.answer)
                   writes.writer.writer went.came.can));
             }));
@@ -216,7 +226,8 @@ module _ (config : Config) (state : State (store_of config)) (i : ℕ) (store : 
       subst (λ (o : Option Stepped). ActorSteps config state i new before own o) (sym h.1) (record {
         fault = no_fault;
         after = then' ended.answer;
-        steps = subst (λ (role : Role). StepsIn (store_of config) role state i (stepped.Ended (write_text zones range last))
+        steps = subst (λ (role : Role). StepsIn (store_of config) role state i
+            (stepped.Ended (write_text zones range last))
             (then' ended.answer)) (sym role_is)
             (inr (record {
               answer = ended.answer;
@@ -227,9 +238,11 @@ module _ (config : Config) (state : State (store_of config)) (i : ℕ) (store : 
               becomes = refl;
             }));
         shared = ended.came.shared;
-        actor = subst (λ (one : Actor). IsActorSo config i (doer_then ended.answer) (state.core.readers i) (state.roles i) (Some one))
+        actor = subst (λ (one : Actor). IsActorSo config i (doer_then ended.answer) (state.core.readers i)
+            (state.roles i) (Some one))
             (sym h.0)
-            (subst (λ (role : Role). IsCourseSo config i (doer_then ended.answer) (state.core.readers i) role course.Ended true now)
+            (subst (λ (role : Role). IsCourseSo config i (doer_then ended.answer) (state.core.readers i) role
+            course.Ended true now)
             (sym role_is) (record {
               ended = ap write_asks ended.writer;
               begun_is = ap writes_begun ended.writer;

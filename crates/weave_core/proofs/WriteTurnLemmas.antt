@@ -7,11 +7,11 @@ use Rattle.weave_core.proofs.AtWorkLemmas.{looks_after}
 use Rattle.weave_core.specs.Writers.{IsWriterSo, LooksAtOne, RaisesBelow, writer_of}
 use Rattle.weave_core.specs.Agreements.{AreShared}
 use Rattle.weave_core.specs.Holders.{HoldsLeaf, HoldsRange, leaf_inside}
-use Rattle.weave_core.specs.Sights.{sight_of}
+use Rattle.mon_topo.specs.Sights.{sight_of}
 use Rattle.weave_core.specs.States.{holder_for_actor, store_of}
 use Rattle.weave_core.specs.WriteEvents.{IsToldSo}
 use Rattle.weave_core.specs.WriteTurns.{IsAtWork, WriteWaits, WriteWent}
-use Rattle.weave_core.specs.declared.sights.Sight.{Sight}
+use Rattle.mon_topo.specs.declared.sights.Sight.{Sight}
 use Rattle.weave_core.specs.declared.store.Store.{Store}
 use Rattle.weave_core.specs.declared.writes.Writing.{Writing}
 use Rattle.write_core.specs.Program.{Stage, after, ask_of}
@@ -48,7 +48,8 @@ module _ (config : Config) (world : World) (i : ℕ) (store : Store) (writing : 
   -- ---- the write as it is kept
 
   -- it was told so, and has seen so much
-  pub writer_then : (doer : Actor) (stage : Stage) (seen : View) (answer : WriteTold) (inside : Option Leaf) (next : Writing)
+  pub writer_then : (doer : Actor) (stage : Stage) (seen : View) (answer : WriteTold) (inside : Option Leaf)
+      (next : Writing)
       (now : Sight) → doer ≡ writes_on who stage seen → after writing.machine.stage answer ≡ stage
       → IsToldSo answer inside writing next → inside ≡ leaf_inside stage → RaisesBelow config.buckets stage
       → now ≡ sight_of seen.seen
@@ -76,7 +77,8 @@ module _ (config : Config) (world : World) (i : ℕ) (store : Store) (writing : 
 
   -- its event has come, and it goes on
   pub went_so : (answer : WriteTold) (then' : World) (new : Store) (next : Writing) (now : Sight)
-      → step (store_of config) world i answer ≡ then' → CanCome (store_of config) world i answer → AreShared config then' new
+      → step (store_of config) world i answer ≡ then' → CanCome (store_of config) world i answer → AreShared config
+      then' new
       → IsWriterSo config.buckets i (then'.actors i) next now → ask_of next.machine.stage ≢ ask.Finished
       → next.machine.stage ≡ after writing.machine.stage answer → WriteWent config world i new writing next now
   went_so answer then' new next now is can shared writer goes_on stage = record {

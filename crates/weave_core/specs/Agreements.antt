@@ -14,7 +14,7 @@ use Rattle.mon_value.specs.declared.limits.TheConstants.{ROW_BITS}
 use Rattle.mon_value.specs.declared.positions.Leaf.{Leaf}
 use Rattle.weave_core.specs.FirstHistories.{first_histories}
 use Rattle.weave_core.specs.HintWords.{HintTable, word_at}
-use Rattle.weave_core.specs.Sights.{sight_of}
+use Rattle.mon_topo.specs.Sights.{sight_of}
 use Rattle.weave_core.specs.States.{store_of}
 use Rattle.weave_core.specs.declared.leaves.LeafSeat.{LeafSeat}
 use Rattle.weave_core.specs.declared.ranges.RangeSeat.{RangeSeat}

@@ -175,7 +175,8 @@ module _ (store : Store) where
 
   abbrev pub MayTell : World → Reader → Told → Stage → Type 0
   MayTell world reader answer stage =
-      IsTold store reader.setting reader.moment world reader.view (query_now reader).avoided (slots_at (query_now reader))
+      IsTold store reader.setting reader.moment world reader.view (query_now reader).avoided
+      (slots_at (query_now reader))
       (asked_now reader) answer
       × Settles reader.setting (after reader.setting (query_now reader).stage answer) stage
 

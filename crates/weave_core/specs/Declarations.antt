@@ -73,10 +73,12 @@ module _ (config : Config) where
   WriteBegins state k row None after = after ≡ with_role (store_of config) state k (Eventless no_zone_text)
   WriteBegins state k row (Some range) after =
       CanCome (store_of config) state.core (Happens (Begins k row range))
-      × (after ≡ with_role (store_of config) (with_event (store_of config) state (Happens (Begins k row range))) k Writing)
+      × (after ≡ with_role (store_of config) (with_event (store_of config) state (Happens (Begins k row range))) k
+      Writing)
 
   -- a query is asked of the store, if its text has a typed tree; else it has no event
-  abbrev pub QueryBegins : State (store_of config) → ℕ → ℤ → Result TypedTree (List ℕ) → State (store_of config) → Type 0
+  abbrev pub QueryBegins : State (store_of config) → ℕ → ℤ → Result TypedTree (List ℕ) → State (store_of config)
+      → Type 0
   QueryBegins state k moment (Err line) after = after ≡ with_role (store_of config) state k (Eventless line)
   QueryBegins state k moment (Ok typed) after =
       (setting : Setting) × IsAskedSo config typed setting

@@ -24,7 +24,6 @@ pub mod Refusals
 pub mod ScheduleLines
 pub mod ScheduleTurns
 pub mod Schedules
-pub mod Sights
 pub mod States
 pub mod Steps
 pub mod WeaveCalls

@@ -5,8 +5,8 @@ use Rattle.mon_value.specs.declared.histories.Entry.{Entry}
 use Rattle.mon_value.specs.declared.histories.RangeEntry.{RangeEntry}
 use Rattle.mon_value.specs.declared.positions.Leaf.{Leaf}
 use Rattle.mon_value.specs.declared.positions.Range.{Range}
-use Rattle.weave_core.specs.Sights.{joined_sight, range_sight, with_leaf_sight, with_range_sight}
-use Rattle.weave_core.specs.declared.sights.Sight.{Sight}
+use Rattle.mon_topo.specs.Sights.{joined_sight, range_sight, with_leaf_sight, with_range_sight}
+use Rattle.mon_topo.specs.declared.sights.Sight.{Sight}
 
 abbrev pub met_at_leaf : Leaf → List Entry → Sight → Sight → Sight
 met_at_leaf leaf history own there = with_leaf_sight leaf (length history) (joined_sight own there)

@@ -6,13 +6,13 @@ use Rattle.mon_topo.specs.Zones.{ranges_in}
 use Rattle.mon_value.specs.declared.rows.Row.{Row}
 use Rattle.weave_core.specs.EndTexts.{no_zone_text}
 use Rattle.weave_core.specs.QueryPlans.{IsQueryCourse}
-use Rattle.weave_core.specs.Sights.{joined_sight}
+use Rattle.mon_topo.specs.Sights.{joined_sight}
 use Rattle.weave_core.specs.declared.actors.Actor.{Actor}
 use Rattle.weave_core.specs.declared.actors.Course.{Course}
 use Rattle.weave_core.specs.declared.actors.Course.TheVariants as course
 use Rattle.weave_core.specs.declared.calls.Call.{Call}
 use Rattle.weave_core.specs.declared.calls.Call.TheVariants as call
-use Rattle.weave_core.specs.declared.sights.Sight.{Sight}
+use Rattle.mon_topo.specs.declared.sights.Sight.{Sight}
 use Rattle.weave_core.specs.declared.writes.Writing.{Writing}
 use Rattle.write_core.specs.Program.{new_write}
 

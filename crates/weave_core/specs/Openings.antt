@@ -1,6 +1,6 @@
 -- How a store begins: the first replicas as they are opened one by one, and then the seats of its leaves and ranges.
-use Rattle.std.specs.Prelude.{ℕ, ◌≡◌, ◌+◌, ◌-◌, nat_eq, List, [], ◌∷◌, ◌++◌, length, map, take, slice_get, option_map}
-use Rattle.std.specs.Prelude.{Some, None, if◌then◌else◌}
+use Rattle.std.specs.Prelude.{ℕ, ◌≡◌, ◌+◌, ◌-◌, List, [], ◌∷◌, ◌++◌, length, map, take, slice_get}
+use Rattle.std.specs.Prelude.{Some, None}
 use Rattle.std.specs.List.{flat_map, range_with_len, slice_index_or}
 use Rattle.leaf_store.specs.LeafStates.{LeafView, with_entry, with_promised}
 use Rattle.mon_config.specs.declared.config.Config.{Config}
@@ -9,14 +9,13 @@ use Rattle.mon_topo.specs.Zones.{ranges_in, zone_numbered}
 use Rattle.mon_topo.specs.declared.zones.ZoneSpec.{ZoneSpec}
 use Rattle.mon_value.specs.declared.histories.Entry.{Entry}
 use Rattle.mon_value.specs.declared.histories.RangeEntry.{RangeEntry}
-use Rattle.mon_value.specs.declared.positions.Leaf.{Leaf}
 use Rattle.mon_value.specs.declared.positions.Range.{Range}
 use Rattle.weave_core.specs.Agreements.{first_view}
 use Rattle.weave_core.specs.FirstHistories.{first_range_history, opened_here, opened_of, opening}
-use Rattle.weave_core.specs.Sights.{range_sight}
+use Rattle.mon_topo.specs.Sights.{range_sight}
 use Rattle.weave_core.specs.declared.leaves.LeafSeat.{LeafSeat}
 use Rattle.weave_core.specs.declared.ranges.RangeSeat.{RangeSeat}
-use Rattle.weave_core.specs.declared.sights.Sight.{Sight}
+use Rattle.mon_topo.specs.declared.sights.Sight.{Sight}
 use Rattle.write_core.specs.World.{Stands, World}
 
 -- ---- the first replicas
@@ -45,11 +44,6 @@ pub record AreOpenedSo (config : Config) (so_far : ℕ → List Entry) (states :
 -- a replica without rows is opened on a leaf
 abbrev pub with_opening : Range → ℕ → LeafView → LeafView
 with_opening range slot state = with_entry (with_promised state (state.promised + 1)) (opening range slot)
-
--- one of the leaves was changed
-abbrev pub IsChanged : Leaf → (LeafView → LeafView) → List LeafView → List LeafView → Type 0
-IsChanged leaf change old new =
-    (n : ℕ) → slice_get new n ≡ (if nat_eq leaf.0 n then option_map change (slice_get old n) else slice_get old n)
 
 -- the histories of all ranges
 abbrev pub first_range_histories : List ZoneSpec → List (List RangeEntry)

@@ -23,13 +23,13 @@ use Rattle.query_core.specs.declared.asks.Seen.{Seen}
 use Rattle.query_core.specs.declared.asks.Told.{Told}
 use Rattle.query_core.specs.declared.asks.Told.TheVariants as told
 use Rattle.weave_core.specs.Meetings.{met_at_leaf, met_at_range}
-use Rattle.weave_core.specs.Sights.{AreAlike}
+use Rattle.mon_topo.specs.Sights.{AreAlike}
 use Rattle.weave_core.specs.WriteEvents.{ChangesLeaf, ChangesRange, StaysThere}
 use Rattle.weave_core.specs.declared.leaves.LeafSeat.{LeafSeat}
 use Rattle.weave_core.specs.declared.queries.Querying.{Querying}
 use Rattle.weave_core.specs.declared.ranges.RangeSeat.{RangeSeat}
-use Rattle.weave_core.specs.declared.sights.RangeSight.{RangeSight}
-use Rattle.weave_core.specs.declared.sights.Sight.{Sight}
+use Rattle.mon_topo.specs.declared.sights.RangeSight.{RangeSight}
+use Rattle.mon_topo.specs.declared.sights.Sight.{Sight}
 use Rattle.weave_core.specs.declared.store.Store.{Store}
 
 -- someone holds the seat, so nothing changes

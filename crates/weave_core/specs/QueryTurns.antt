@@ -17,12 +17,12 @@ use Rattle.weave_core.specs.Core.{world_told}
 use Rattle.weave_core.specs.Holders.{AreHolders}
 use Rattle.weave_core.specs.Licensed.{IsWoven}
 use Rattle.weave_core.specs.PlannedQueries.{IsPlanned}
-use Rattle.weave_core.specs.Sights.{sight_of}
+use Rattle.mon_topo.specs.Sights.{sight_of}
 use Rattle.weave_core.specs.States.{holder_for_query, store_of}
 use Rattle.weave_core.specs.declared.queries.QueryTurn.{QueryTurn}
 use Rattle.weave_core.specs.declared.queries.QueryTurn.TheVariants as turn
 use Rattle.weave_core.specs.declared.queries.Querying.{Querying}
-use Rattle.weave_core.specs.declared.sights.Sight.{Sight}
+use Rattle.mon_topo.specs.declared.sights.Sight.{Sight}
 use Rattle.weave_core.specs.declared.store.Store.{Store}
 use Rattle.write_core.specs.World.{Stands, view_of}
 
@@ -51,7 +51,8 @@ pub record IsToldOn (before : Querying) (answer : Told) (next : Querying) : Type
   pub moment : next.moment ≡ before.moment
   pub setting : next.machine.setting ≡ before.machine.setting
   pub avoided : next.machine.avoided ≡ avoided_after before.machine.avoided before.machine.stage answer
-  pub settles : Settles before.machine.setting (after before.machine.setting before.machine.stage answer) next.machine.stage
+  pub settles : Settles before.machine.setting (after before.machine.setting before.machine.stage answer)
+      next.machine.stage
   pub goes_on : ask_of next.machine.setting next.machine.stage ≢ Finished
 
 -- or it ends so

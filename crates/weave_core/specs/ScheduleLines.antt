@@ -48,7 +48,8 @@ only_row (read.Row row ∷ []) = Some row
 only_row (read.Row row ∷ another ∷ reads) = None
 
 abbrev pub written_by : SchemaLists → ℕ × List ℕ → Option LineForm
-written_by schemas words = option_map (λ row. form.Declare words.0 (call.Write row)) (only_row (reads_of schemas words.1))
+written_by schemas words = option_map (λ row. form.Declare words.0 (call.Write row))
+    (only_row (reads_of schemas words.1))
 
 -- an actor, and the record of a row
 abbrev pub write_form : SchemaLists → List ℕ → Option LineForm

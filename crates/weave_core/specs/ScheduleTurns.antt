@@ -80,7 +80,8 @@ module _ (config : Config) (state : State (store_of config)) where
         → RunsFrom config number (line ∷ lines) state (record { text = []; fault = Some why })
     pub prints : after ≡ before
 
-  abbrev pub NumberedSo : ℕ → List ℕ → {X : Type 0} → Result X (Refusal ScheduleFault) → Weave → List ℕ → List ℕ → Type 0
+  abbrev pub NumberedSo : ℕ → List ℕ → {X : Type 0} → Result X (Refusal ScheduleFault) → Weave → List ℕ → List ℕ
+      → Type 0
   NumberedSo number line (Ok x) new before after = HasRun number line new before after
   NumberedSo number line (Err (refusal.Fault why)) new before after = HasStopped number line why before after
   NumberedSo number line (Err refusal.OutOfMemory) new before after = Unit {0}

@@ -78,11 +78,12 @@ module _ (store : Store) where
   Rests count state how after = (count ≡ MOST_EVENTS) × (how ≡ stepped.Went) × (after ≡ state)
 
   -- an actor does its events until it waits or ends, or until its next event is the one given
-  pub record GoesOn (k : ℕ) (goal : Option Event) (from : State store) (how : Stepped) (after : State store) : Type 0 where
-    pub count : ℕ
-    pub state : State store
-    pub went : Went k goal from count state
-    pub ends : StopsBefore k goal state how after ⊎ (EndsBy k goal state how after ⊎ Rests count state how after)
+  pub record GoesOn (k : ℕ) (goal : Option Event) (from : State store) (how : Stepped) (after : State store) : Type 0
+    where
+      pub count : ℕ
+      pub state : State store
+      pub went : Went k goal from count state
+      pub ends : StopsBefore k goal state how after ⊎ (EndsBy k goal state how after ⊎ Rests count state how after)
 
   -- ---- why a line is refused
 
@@ -149,13 +150,14 @@ module _ (config : Config) where
   Onward = State (store_of config) → Printed → Type 0
 
   -- a line is done, and then the rest
-  pub record DoneThen (Rest : Onward) (state : State (store_of config)) (what : LineForm) (printed : Printed) : Type 0 where
-    pub said : List ℕ
-    pub after : State (store_of config)
-    pub more : Printed
-    pub does : Does config state what said after
-    pub rest : Rest after more
-    pub prints : printed ≡ said_before said more
+  pub record DoneThen (Rest : Onward) (state : State (store_of config)) (what : LineForm) (printed : Printed) : Type 0
+    where
+      pub said : List ℕ
+      pub after : State (store_of config)
+      pub more : Printed
+      pub does : Does config state what said after
+      pub rest : Rest after more
+      pub prints : printed ≡ said_before said more
 
   -- unless it is refused
   abbrev pub DoneUnless : ℕ → Onward → State (store_of config) → LineForm → Option WeaveFault → Printed → Type 0

@@ -20,7 +20,7 @@ use Rattle.weave_core.specs.Meetings.{met_at_leaf, met_at_range}
 use Rattle.weave_core.specs.RangeAnswers.{lock_answer}
 use Rattle.weave_core.specs.declared.leaves.LeafSeat.{LeafSeat}
 use Rattle.weave_core.specs.declared.ranges.RangeSeat.{RangeSeat}
-use Rattle.weave_core.specs.declared.sights.Sight.{Sight}
+use Rattle.mon_topo.specs.declared.sights.Sight.{Sight}
 use Rattle.weave_core.specs.declared.store.Store.{Store}
 use Rattle.weave_core.specs.declared.words.Place.{Place}
 use Rattle.weave_core.specs.declared.writes.Writing.{Writing}
@@ -101,17 +101,19 @@ abbrev pub up_or_down : List Entry → List ℕ → WriteTold
 up_or_down history buckets = if is_down history then told.Down (length history) else told.Up buckets
 
 -- it asks for room
-pub record Reserves (leaf : Leaf) (old new : LeafSeat) (before after : Writing) (sight sight_after : Sight) : Type 0 where
-  pub free : old.holder ≡ None
-  pub stays : StaysThere old new sight_after
-  pub history : new.state.history ≡ old.state.history
-  pub holder : new.holder ≡ None
-  pub seen : sight_after ≡ met_at_leaf leaf old.state.history sight old.sight
-  pub told_so : IsToldSo (up_or_down old.state.history []) before.inside before after
+pub record Reserves (leaf : Leaf) (old new : LeafSeat) (before after : Writing) (sight sight_after : Sight) : Type 0
+  where
+    pub free : old.holder ≡ None
+    pub stays : StaysThere old new sight_after
+    pub history : new.state.history ≡ old.state.history
+    pub holder : new.holder ≡ None
+    pub seen : sight_after ≡ met_at_leaf leaf old.state.history sight old.sight
+    pub told_so : IsToldSo (up_or_down old.state.history []) before.inside before after
 
 abbrev pub ReservesIf : Leaf → LeafSeat → LeafSeat → Writing → Writing → Sight → Sight → Bool → Type 0
 ReservesIf leaf old new before after sight sight_after true = Reserves leaf old new before after sight sight_after
-ReservesIf leaf old new before after sight sight_after false = IsHeldUp old.holder old new before after sight sight_after
+ReservesIf leaf old new before after sight sight_after false = IsHeldUp old.holder old new before after sight
+    sight_after
 
 -- the buckets of a series that no series of a leaf has, rising
 pub record AreToRaise (state : LeafView) (key : SeriesKey) (buckets : List ℕ) : Type 0 where
@@ -170,9 +172,10 @@ pub record ChangesLeaf (leaf : Leaf) (seat : LeafSeat) (old new : Store) : Type 
   pub first : new.first_sight ≡ old.first_sight
 
 -- one leaf's, and a bit of a child in a word is set
-pub record RaisesWord (place : Place) (child bucket : ℕ) (leaf : Leaf) (seat : LeafSeat) (old new : Store) : Type 0 where
-  pub config : new.config ≡ old.config
-  pub words : new.words ≡ raised old.words place child bucket
-  pub leaves : new.leaves.items ≡ set old.leaves.items leaf.0 seat
-  pub ranges : new.ranges.items ≡ old.ranges.items
-  pub first : new.first_sight ≡ old.first_sight
+pub record RaisesWord (place : Place) (child bucket : ℕ) (leaf : Leaf) (seat : LeafSeat) (old new : Store) : Type 0
+  where
+    pub config : new.config ≡ old.config
+    pub words : new.words ≡ raised old.words place child bucket
+    pub leaves : new.leaves.items ≡ set old.leaves.items leaf.0 seat
+    pub ranges : new.ranges.items ≡ old.ranges.items
+    pub first : new.first_sight ≡ old.first_sight

@@ -5,9 +5,9 @@ use Rattle.mon_value.specs.declared.positions.Range.{Range}
 use Rattle.weave_core.specs.Writers.{IsWriterSo}
 use Rattle.weave_core.specs.Agreements.{AreShared}
 use Rattle.weave_core.specs.Holders.{AreHolders}
-use Rattle.weave_core.specs.Sights.{sight_of}
+use Rattle.mon_topo.specs.Sights.{sight_of}
 use Rattle.weave_core.specs.States.{holder_for_actor, store_of}
-use Rattle.weave_core.specs.declared.sights.Sight.{Sight}
+use Rattle.mon_topo.specs.declared.sights.Sight.{Sight}
 use Rattle.weave_core.specs.declared.store.Store.{Store}
 use Rattle.weave_core.specs.declared.writes.WriteTurn.{WriteTurn}
 use Rattle.weave_core.specs.declared.writes.WriteTurn.TheVariants as turn
@@ -64,15 +64,16 @@ module _ (config : Config) (world : World) (i : ℕ) where
     pub goes_on : ask_of next.machine.stage ≢ Finished
 
   -- or it has ended
-  pub record WriteEnded (store : Store) (before : Writing) (sight : Sight) (range : Range) (end : WriteEnd) : Type 0 where
-    pub answer : WriteTold
-    pub came : HasCome store answer
-    pub verdict : Verdict
-    pub writer : (world_then answer).actors i
-        ≡ Writes (ended_write i before verdict (view_of ((world_then answer).actors i)))
-    pub sight_is : sight ≡ sight_of (view_of ((world_then answer).actors i)).seen
-    pub range_is : range ≡ before.range
-    pub end_is : end ≡ end_of_verdict range verdict
+  pub record WriteEnded (store : Store) (before : Writing) (sight : Sight) (range : Range) (end : WriteEnd) : Type 0
+    where
+      pub answer : WriteTold
+      pub came : HasCome store answer
+      pub verdict : Verdict
+      pub writer : (world_then answer).actors i
+          ≡ Writes (ended_write i before verdict (view_of ((world_then answer).actors i)))
+      pub sight_is : sight ≡ sight_of (view_of ((world_then answer).actors i)).seen
+      pub range_is : range ≡ before.range
+      pub end_is : end ≡ end_of_verdict range verdict
 
   -- or another one holds what it needs, and nothing has changed
   pub record WriteWaits (store : Store) (writing next : Writing) (before now : Sight) : Type 0 where

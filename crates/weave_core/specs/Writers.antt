@@ -2,8 +2,8 @@
 use Rattle.std.specs.Prelude.{ℕ, ◌≡◌, ◌<◌, false}
 use Rattle.std.specs.List.{AllByRecursion}
 use Rattle.weave_core.specs.Holders.{leaf_inside}
-use Rattle.weave_core.specs.Sights.{sight_of}
-use Rattle.weave_core.specs.declared.sights.Sight.{Sight}
+use Rattle.mon_topo.specs.Sights.{sight_of}
+use Rattle.mon_topo.specs.declared.sights.Sight.{Sight}
 use Rattle.weave_core.specs.declared.writes.Writing.{Writing as Write}
 use Rattle.write_core.specs.Program.{Acking, Ended, Entering, Inside, Locking, Reserving, Stage}
 use Rattle.write_core.specs.Rounds.{is_through}

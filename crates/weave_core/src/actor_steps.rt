@@ -8,10 +8,10 @@ ghost use Rattle.weave_core.specs.declared.actors.Course.TheVariants.{Ended};
 use crate::actors::{Actor, Course};
 use crate::calls::Stepped;
 use crate::queries::QueryTurn;
-use crate::sights::Sight;
 use crate::store::Store;
 use crate::texts::{query_text, write_text};
 use crate::writes::WriteTurn;
+use mon_topo::Sight;
 use mon_value::OutOfMemory;
 
 /// Does the next event of an actor, unless another one is in its way, and tells how that went; nothing where it has

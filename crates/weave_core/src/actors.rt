@@ -8,10 +8,10 @@ use crate::calls::Call;
 use crate::events::{Event, event_of_query, event_of_write};
 use crate::queries::Querying;
 use crate::query_plans::query_course;
-use crate::sights::Sight;
 use crate::store::Store;
 use crate::texts::no_zone;
 use crate::writes::Writing;
+use mon_topo::Sight;
 use mon_value::{OutOfMemory, Row, Text, TryCopy};
 use write_core::WriteMachine;
 

@@ -3,7 +3,7 @@ ghost use Rattle.std.specs.Prelude.{◌≡◌, ◌<◌, ◌+◌, ◌++◌, ◌�
 ghost use Rattle.weave_core.specs.FirstHistories.{first_histories};
 ghost use Rattle.weave_core.specs.HintWords.{HasWord, HintTable, RaisesOne};
 ghost use Rattle.weave_core.specs.declared.words.Place.{Place as WordPlace};
-ghost use Rattle.weave_core.specs.Sights.{joined_sight, range_sight, sight_of, with_leaf_sight, with_range_sight};
+ghost use Rattle.mon_topo.specs.Sights.{joined_sight, range_sight, sight_of, with_leaf_sight, with_range_sight};
 ghost use Rattle.mon_schema.specs.SchemaLists.{SchemaLists};
 ghost use Rattle.mon_topo.specs.HeldHistories.{AreHeld, Histories, leaf_history, range_history};
 ghost use Rattle.mon_topo.specs.RangeHistories.{IsLegal};

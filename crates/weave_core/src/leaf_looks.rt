@@ -26,7 +26,8 @@ pub(crate) fn is_met(alloc: Global, plan: &Plan, state: &LeafState) -> Result<bo
 // For each of some buckets a word of one child, which has the bit where a series of the leaf has the bucket.
 fn own_words(alloc: Global, buckets: &[u32], state: &LeafState) -> Result<Words, OutOfMemory>
     ensures words { IfOk result (λ words. words ≡ map (λ bucket. if is_among bucket
-        (history_buckets (key_buckets state.now.buckets state.now.schemas) state.now.history) then 1 else 0) buckets.now) }
+        (history_buckets (key_buckets state.now.buckets state.now.schemas) state.now.history)
+        then 1 else 0) buckets.now) }
 {
     let mut words = Words::new(alloc);
     for bucket in buckets {

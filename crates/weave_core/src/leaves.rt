@@ -2,10 +2,10 @@
 ghost use Rattle.std.specs.Prelude.{◌≡◌, ◌<◌, ◌++◌, ◌∷◌, [], false, length, OnErr, OnOk};
 ghost use Rattle.mon_value.specs.LeafHistories.{IsWellFormed, is_switch};
 ghost use Rattle.weave_core.specs.Meetings.{met_at_leaf};
-ghost use Rattle.weave_core.specs.Sights.{AreAlike};
+ghost use Rattle.mon_topo.specs.Sights.{AreAlike};
 
-use crate::sights::Sight;
 use leaf_store::LeafState;
+use mon_topo::Sight;
 use mon_value::{Entry, Leaf, OutOfMemory, RowList, Zone};
 use std::alloc::Global;
 

@@ -9,15 +9,15 @@ ghost use Rattle.query_core.specs.ReadableSlots.{CanBeRead};
 ghost use Rattle.query_core.specs.Traces.{slot_rows};
 ghost use Rattle.weave_core.specs.QueryLooks as spec;
 ghost use Rattle.weave_core.specs.QueryLooks.{FindsIf, LooksIf, ReadsSo, TellsSo, first_of, firsts_from, seen_of};
-ghost use Rattle.weave_core.specs.Sights.{AreAlike};
+ghost use Rattle.mon_topo.specs.Sights.{AreAlike};
 
 use crate::leaf_looks::is_met;
 use crate::leaves::LeafSeat;
 use crate::queries::Querying;
 use crate::ranges::RangeSeat;
-use crate::sights::{RangeSight, Sight};
 use leaf_eval::eval_leaf;
 use leaf_store::LeafState;
+use mon_topo::{RangeSight, Sight};
 use mon_value::{Leaf, Leaves, ListOf, OutOfMemory, Range, Refusal, SlotLeaf};
 use query_core::{Resolved, Resolveds, Seen, Told};
 use std::alloc::{AllocError, Global};

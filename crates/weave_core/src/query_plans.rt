@@ -72,7 +72,8 @@ fn parsed(alloc: Global, text: &[u8]) -> Result<Query, Refusal<Text>>
 
 // The typed tree of a query.
 fn typed(alloc: Global, query: &Query, schemas: &Schemas) -> Result<Typed, Refusal<Text>>
-    ensures typed { GivesView typed_tree result (printed_fault typing_line (typing schemas.now (query_tree query.now))) }
+    ensures typed { GivesView typed_tree result
+        (printed_fault typing_line (typing schemas.now (query_tree query.now))) }
 {
     match check(alloc, query, schemas) {
         Ok(typed) => Ok(typed),

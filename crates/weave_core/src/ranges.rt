@@ -8,10 +8,10 @@ ghost use Rattle.mon_value.specs.Sources.{last_end, points_of};
 ghost use Rattle.query_core.specs.Traces.{first_serving, is_avoided};
 ghost use Rattle.weave_core.specs.Meetings.{met_at_range};
 ghost use Rattle.weave_core.specs.RangeAnswers.{lock_answer, serving_or_full};
-ghost use Rattle.weave_core.specs.Sights.{AreAlike, range_sight};
+ghost use Rattle.mon_topo.specs.Sights.{AreAlike, range_sight};
 
-use crate::sights::{RangeSight, Sight};
 use mon_series::KeptRows;
+use mon_topo::{RangeSight, Sight};
 use mon_value::{
     Ack, Leaf, Leaves, Miss, OutOfMemory, Range, RangeEntry, Row, Slot, SlotLeaf, SlotLeaves,
     TryCopy,

@@ -203,7 +203,8 @@ fn until(
     requires kept { IsKept weave.old }
     ensures kept { OnOk result (IsKept weave.new) }
     ensures ran { (config : ConfigOf) (state : State (store_of config)) → Agrees config weave.old state
-        → FormSo config state (LineForm.Until actor event) result weave.new (string_bytes out.old) (string_bytes out.new) }
+        → FormSo config state (LineForm.Until actor event) result weave.new (string_bytes out.old)
+        (string_bytes out.new) }
 {
     let stepped = go_on(weave, actor, Some(event))?;
     Ok(tell(alloc, actor, &stepped, out)?)
@@ -309,7 +310,8 @@ fn tell_if_unfinished(
     out: &mut String,
 ) -> Result<(), OutOfMemory>
     ensures told { (config : ConfigOf) (state : State (store_of config)) → Agrees config weave.now state
-        → OnOk result (string_bytes out.new ≡ string_bytes out.old ++ spec.unfinished_line (store_of config) state actor) }
+        → OnOk result (string_bytes out.new
+        ≡ string_bytes out.old ++ spec.unfinished_line (store_of config) state actor) }
 {
     if weave.is_declared(actor) && !weave.has_ended(actor) {
         out.push_str(format!(in alloc; "{actor} unfinished\n")?.as_str())

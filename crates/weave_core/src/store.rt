@@ -10,17 +10,17 @@ ghost use Rattle.mon_value.specs.LeafHistories.{IsWellFormed};
 ghost use Rattle.weave_core.specs.Agreements.{AreShared, IsLimited, IsServed};
 ghost use Rattle.weave_core.specs.FirstHistories.{first_leaf_history, first_range_history};
 ghost use Rattle.weave_core.specs.Openings as spec;
-ghost use Rattle.weave_core.specs.Openings.{AreOpenedSo, IsChanged, first_range_histories, first_world, opened_before};
+ghost use Rattle.leaf_store.specs.LeafLists.{IsChanged};
+ghost use Rattle.weave_core.specs.Openings.{AreOpenedSo, first_range_histories, first_world, opened_before};
 ghost use Rattle.weave_core.specs.Openings.{sight_of_states, with_opening};
-ghost use Rattle.weave_core.specs.Sights.{range_sight};
+ghost use Rattle.mon_topo.specs.Sights.{range_sight};
 
 use crate::leaves::LeafSeat;
 use crate::ranges::{RangeSeat, RangeState};
-use crate::sights::{RangeSight, Sight};
 use crate::words::HintWords;
 use leaf_store::LeafState;
 use mon_config::Config;
-use mon_topo::{Topology, location_of, ranges_have_replicas};
+use mon_topo::{RangeSight, Sight, Topology, location_of, ranges_have_replicas};
 use mon_value::{Entry, Leaf, ListOf, OutOfMemory, Range, RowList, SeriesKey, Slot, TryCopy, Zone};
 use std::alloc::Global;
 

@@ -4,16 +4,16 @@ ghost use Rattle.mon_hints.specs.declared.fingerprints.TheConstants.{MOST_BUCKET
 ghost use Rattle.mon_topo.specs.RangeHistories.{acked};
 ghost use Rattle.mon_value.specs.LeafHistories.{IsWellFormed};
 ghost use Rattle.mon_value.specs.Sources.{last_end, points_of};
-ghost use Rattle.weave_core.specs.Sights.{AreAlike};
+ghost use Rattle.mon_topo.specs.Sights.{AreAlike};
 ghost use Rattle.weave_core.specs.WriteEvents.{AreToRaise, EntersIf, IfWritten, LetsGo, LocksIf, Puts, Raises};
 ghost use Rattle.weave_core.specs.WriteEvents.{ReservesIf};
 
 use crate::leaves::LeafSeat;
 use crate::ranges::RangeSeat;
-use crate::sights::Sight;
 use crate::writes::Writing;
 use leaf_store::LeafState;
 use mon_hints::Buckets;
+use mon_topo::Sight;
 use mon_value::{Entry, Leaf, OutOfMemory, Range, Row, SeriesKey, Slot, TryCopy};
 use std::alloc::Global;
 use write_core::{WriteEnd, WriteTold};

@@ -8,10 +8,10 @@ ghost use Rattle.write_core.specs.Program.{ask_of};
 ghost use Rattle.write_core.specs.World.{World};
 ghost use Rattle.write_core.specs.declared.asks.WriteAsk.TheVariants as ask;
 
-use crate::sights::Sight;
 use crate::store::Store;
 use crate::words::Place;
 use crate::write_events::{enter, let_go, lock, put, raise, reserve};
+use mon_topo::Sight;
 use mon_value::{Leaf, OutOfMemory, Range, Row, Slot};
 use write_core::{WriteAsk, WriteEnd, WriteMachine, WriteTold};
 

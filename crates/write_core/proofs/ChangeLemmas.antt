@@ -18,7 +18,8 @@ use Rattle.mon_hints.specs.Covers.{AreBitsWithin, Bits, Covers}
 use Rattle.mon_hints.specs.HistoryBuckets.{history_buckets}
 use Rattle.mon_hints.proofs.CoverLemmas.{bits_within, covers-push, covers_more, kept_bit}
 use Rattle.mon_topo.specs.Settings.{Setting, zone_of_leaf}
-use Rattle.write_core.specs.Views.{IsSound, IsWithin, View, of_leaf, of_range, with_entry, with_range_entry, with_root_bit, with_zone_bit}
+use Rattle.write_core.specs.Views.{IsSound, IsWithin, View, of_leaf, of_range, with_entry, with_range_entry}
+use Rattle.write_core.specs.Views.{with_root_bit, with_zone_bit}
 
 -- ---- a bit
 
@@ -41,7 +42,8 @@ module _ (bucket : ℕ) where
 
     pub root_bit_sound : (setting : Setting) (view : View) → IsSound setting view
         → IsSound setting (with_root_bit zone bucket view)
-    root_bit_sound setting view h = more_bits setting view (with_root_bit zone bucket view).bits (root_bit_up view).bits h
+    root_bit_sound setting view h = more_bits setting view (with_root_bit zone bucket view).bits
+        (root_bit_up view).bits h
 
     pub root_bit_within : (a b : View) → IsWithin a b
         → IsWithin (with_root_bit zone bucket a) (with_root_bit zone bucket b)

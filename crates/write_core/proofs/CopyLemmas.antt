@@ -1,5 +1,7 @@
 -- The events of a recovery.
-use Rattle.std.proofs.Common.{◌≡◌, ◌≢◌, ℕ, suc, ◌+◌, ◌<◌, ◌≤◌, Bool, true, false, ◌||◌, cond, Some, None, Option, List, [], ◌∷◌, ◌++◌, length, refl, sym, ap, ap₂, subst, ◌∙◌, append-nil, length-append, arith, inl, inr}
+use Rattle.std.proofs.Common.{◌≡◌, ◌≢◌, ℕ, suc, ◌+◌, ◌<◌, ◌≤◌, Bool, true, false, ◌||◌, cond, Some, None, Option, List}
+use Rattle.std.proofs.Common.{[], ◌∷◌, ◌++◌, length, refl, sym, ap, ap₂, subst, ◌∙◌, append-nil, length-append, arith}
+use Rattle.std.proofs.Common.{inl, inr}
 use Rattle.std.specs.Prelude.{nat_eq, Contains}
 use Rattle.std.specs.List.{AllByRecursion as All}
 use Rattle.std.proofs.lemmas.Bool.{and_from, and_left, and_right, eq-eqb, ne_eqb, or_right}
@@ -22,23 +24,32 @@ use Rattle.mon_topo.specs.RangeHistories as range_spec
 use Rattle.mon_topo.specs.RangeHistories.{acked, opened, serving}
 use Rattle.mon_topo.specs.Settings.{Setting, zone_of_leaf}
 use Rattle.mon_topo.proofs.FrontLemmas.{begins-flat_map, begins_same, begins_through, contains_on}
-use Rattle.mon_topo.proofs.HeldLemmas.{leaf_entry_by, leaf_entry_other, leaf_entry_same, range_entry_other, range_entry_same}
+use Rattle.mon_topo.proofs.HeldLemmas.{leaf_entry_by, leaf_entry_other, leaf_entry_same, range_entry_other}
+use Rattle.mon_topo.proofs.HeldLemmas.{range_entry_same}
 use Rattle.mon_topo.proofs.RangeHistoryLemmas.{all_at, all_from, numbered, slot_below}
 use Rattle.mon_hints.specs.Covers.{AreKept, Bits, Covers}
 use Rattle.mon_hints.specs.HistoryBuckets.{history_buckets, rows_buckets}
-use Rattle.write_core.specs.CopySteps.{CanAsk, CanCopyAt, IsToldAtTarget, IsToldByTarget, IsToldOfRange, MayOpen, asked, begun, carried, copied_in, copy_at, copy_of, neared, new_replica, next_slot, opening_of, told_range}
-use Rattle.write_core.specs.Invariant.{HasCopied, HasLocked, HasOpened, HasRows, IsCopyAt, IsCopying, IsFresh, IsInside, IsKept, IsRecovery, IsSettled, IsTelling}
-use Rattle.write_core.specs.Recovering.{Admits, Beginning, Carrying, CopyStage, CopyTold, Copying, Denied, Gives, HasRoom, Nearing, Over, Sources, Telling, WasDone, WasDown, Within, copying}
+use Rattle.write_core.specs.CopySteps.{CanAsk, CanCopyAt, IsToldAtTarget, IsToldByTarget, IsToldOfRange, MayOpen}
+use Rattle.write_core.specs.CopySteps.{asked, begun, carried, copied_in, copy_at, copy_of, neared, new_replica}
+use Rattle.write_core.specs.CopySteps.{next_slot, opening_of, told_range}
+use Rattle.write_core.specs.Invariant.{HasCopied, HasLocked, HasOpened, HasRows, IsCopyAt, IsCopying, IsFresh}
+use Rattle.write_core.specs.Invariant.{IsInside, IsKept, IsRecovery, IsSettled, IsTelling}
+use Rattle.write_core.specs.Recovering.{Admits, Beginning, Carrying, CopyStage, CopyTold, Copying, Denied, Gives}
+use Rattle.write_core.specs.Recovering.{HasRoom, Nearing, Over, Sources, Telling, WasDone, WasDown, Within, copying}
 use Rattle.write_core.specs.Steps.{unchanged}
-use Rattle.write_core.specs.Views.{IsSound, IsWithin, View, joined, of_leaf, of_range, with_entry, with_range_entry, with_root_bit, with_zone_bit}
+use Rattle.write_core.specs.Views.{IsSound, IsWithin, View, joined, of_leaf, of_range, with_entry, with_range_entry}
+use Rattle.write_core.specs.Views.{with_root_bit, with_zone_bit}
 use Rattle.write_core.specs.World.{Recovers, Recovery, World, at_leaf, at_range, copied_on, recovers_on}
-use Rattle.write_core.proofs.ChangeLemmas.{entry_sound, entry_up, entry_within, range_entry_sound, range_entry_up, range_entry_within, root_bit_up, zone_bit_up}
+use Rattle.write_core.proofs.ChangeLemmas.{entry_sound, entry_up, entry_within, range_entry_sound, range_entry_up}
+use Rattle.write_core.proofs.ChangeLemmas.{range_entry_within, root_bit_up, zone_bit_up}
 use Rattle.write_core.proofs.DeedLemmas.{acks_stay, puts_stay}
 use Rattle.write_core.proofs.KeepsLemmas.{KeepsRange, changed_same, opened_moves, opened_with, settled_moves}
 use Rattle.write_core.proofs.MeetLemmas as meet
-use Rattle.write_core.proofs.MeetLemmas.{base_range, base_sound, base_up, base_whole, base_within, inside_from, inside_root, inside_zone, quiet, raised_all, root_bit, zone_bit}
+use Rattle.write_core.proofs.MeetLemmas.{base_range, base_sound, base_up, base_whole, base_within, inside_from}
+use Rattle.write_core.proofs.MeetLemmas.{inside_root, inside_zone, quiet, raised_all, root_bit, zone_bit}
 use Rattle.write_core.proofs.OpeningLemmas.{acked-opened, acked_source, opened-opened, serving-opened, replica_at_home}
-use Rattle.write_core.proofs.StepLemmas.{IsStep, ChangesLeaf, ChangesRange, recover_at_leaf, recover_at_range, recovery_of}
+use Rattle.write_core.proofs.StepLemmas.{IsStep, ChangesLeaf, ChangesRange, recover_at_leaf, recover_at_range}
+use Rattle.write_core.proofs.StepLemmas.{recovery_of}
 use Rattle.write_core.proofs.ViewLemmas.{within_itself}
 
 some_is_not_none : (i : ℕ) → Some i ≡ None → ⊥

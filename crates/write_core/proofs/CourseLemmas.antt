@@ -2,9 +2,12 @@
 use Rattle.std.proofs.Common.{◌≡◌, ℕ, List, [], ◌∷◌, ◌++◌, map, refl, ap, ap₂, ◌∙◌, append_assoc}
 use Rattle.std.specs.List.{flat_map}
 use Rattle.mon_value.specs.declared.positions.SlotLeaf.{SlotLeaf}
-use Rattle.write_core.specs.Courses.{DownAtEntry, DownAtReserve, Fare, Leg, RunsItsCourse, Takes, after_all, all_done, answers_of, asked, events_of, fate_of, mark_of, reserve_of, room_told, visit_of, visit_told}
+use Rattle.write_core.specs.Courses.{DownAtEntry, DownAtReserve, Fare, Leg, RunsItsCourse, Takes, after_all, all_done}
+use Rattle.write_core.specs.Courses.{answers_of, asked, events_of, fate_of, mark_of, reserve_of, room_told, visit_of}
+use Rattle.write_core.specs.Courses.{visit_told}
 use Rattle.write_core.specs.Marks.{waiting}
-use Rattle.write_core.specs.Program.{Acking, Ended, Entering, Inside, Locking, Marked, Reserving, Stage, after, ask_of, entering, reserving}
+use Rattle.write_core.specs.Program.{Acking, Ended, Entering, Inside, Locking, Marked, Reserving, Stage, after, ask_of}
+use Rattle.write_core.specs.Program.{entering, reserving}
 use Rattle.write_core.specs.Rounds.{Round}
 use Rattle.write_core.specs.declared.asks.WriteAsk.{WriteAsk}
 use Rattle.write_core.specs.declared.asks.WriteAsk.TheVariants as ask

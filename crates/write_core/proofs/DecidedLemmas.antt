@@ -6,7 +6,8 @@ use Rattle.mon_topo.proofs.RangeHistoryLemmas.{all_append}
 use Rattle.write_core.specs.Courses.{EndsDecided, IsDecidedSo, after_all}
 use Rattle.write_core.specs.Invariant.{AreAll, is_asked, is_decided, is_waiting}
 use Rattle.write_core.specs.Marks.{marked, waiting}
-use Rattle.write_core.specs.Program.{Acking, Ended, Entering, Inside, Locking, Marked, Reserving, Stage, after, done_inside, entering, reserving}
+use Rattle.write_core.specs.Program.{Acking, Ended, Entering, Inside, Locking, Marked, Reserving, Stage, after}
+use Rattle.write_core.specs.Program.{done_inside, entering, reserving}
 use Rattle.write_core.specs.Rounds.{Round, again, is_through, looked_at, marks_of, round_of, skipped}
 use Rattle.write_core.specs.declared.asks.WriteTold.{WriteTold}
 use Rattle.write_core.specs.declared.asks.WriteTold.TheVariants as told

@@ -1,5 +1,6 @@
 -- What a write has done, one event on.
-use Rattle.std.proofs.Common.{◌≡◌, ◌≢◌, ℕ, ◌<◌, Bool, true, false, ◌&&◌, cond, List, [], ◌∷◌, ◌++◌, length, map, refl, sym, ap, ap₂, subst, ◌∙◌, append-nil, append_assoc, inl, inr}
+use Rattle.std.proofs.Common.{◌≡◌, ◌≢◌, ℕ, ◌<◌, Bool, true, false, ◌&&◌, cond, List, [], ◌∷◌, ◌++◌, length, map, refl}
+use Rattle.std.proofs.Common.{sym, ap, ap₂, subst, ◌∙◌, append-nil, append_assoc, inl, inr}
 use Rattle.std.specs.Prelude.{nat_eq}
 use Rattle.std.proofs.lemmas.Bool.{cases_eq, cond-true, cond_both, eq-eqb, ne_eqb}
 use Rattle.std.proofs.lemmas.List.Concat.{flat_map-append}
@@ -12,8 +13,10 @@ use Rattle.mon_value.specs.declared.histories.RangeEntry.TheVariants as range_en
 use Rattle.mon_value.specs.declared.positions.Leaf.{Leaf}
 use Rattle.mon_value.specs.declared.positions.Range.{Range}
 use Rattle.mon_value.specs.declared.positions.SlotLeaf.{SlotLeaf}
-use Rattle.mon_topo.proofs.HeldLemmas.{leaf_entry_by, leaf_entry_other, leaf_entry_same, leaf_same, range_entry_by, range_entry_other, range_entry_same, range_same}
-use Rattle.write_core.specs.Deeds.{HasDone, ack_on, acks_at, acks_by, is_ack_by, is_put_by, marks_at, put_on, puts_by, puts_on}
+use Rattle.mon_topo.proofs.HeldLemmas.{leaf_entry_by, leaf_entry_other, leaf_entry_same, leaf_same, range_entry_by}
+use Rattle.mon_topo.proofs.HeldLemmas.{range_entry_other, range_entry_same, range_same}
+use Rattle.write_core.specs.Deeds.{HasDone, ack_on, acks_at, acks_by, is_ack_by, is_put_by, marks_at, put_on, puts_by}
+use Rattle.write_core.specs.Deeds.{puts_on}
 use Rattle.write_core.specs.Invariant.{AreAll, is_asked}
 use Rattle.write_core.specs.Marks.{ack_of, is_ready, is_taken, marked, some_took, waiting}
 use Rattle.write_core.specs.Program.{Acking, Ended, Entering, Inside, Locking, Marked, Reserving, entering, reserving}
@@ -63,7 +66,8 @@ module _ (writer : Writer) (l : Leaf) where
 
   -- one mark among others
   puts_around : (done left : List Mark) (mark : Mark)
-      → puts_on writer l (done ++ mark ∷ left) ≡ puts_on writer l done ++ (put_on writer l mark ++ puts_on writer l left)
+      → puts_on writer l (done ++ mark ∷ left) ≡ puts_on writer l done
+      ++ (put_on writer l mark ++ puts_on writer l left)
   puts_around done left mark = flat_map-append (put_on writer l) done (mark ∷ left)
 
   puts_marked : (done left : List Mark) (mark : Mark)
@@ -100,7 +104,8 @@ module _ (truth : View) (writer : Writer) where
   }
 
   -- a replica that has not taken the row is looked at, and still has not
-  module _ (done left : List Mark) (mark : Mark) (f : Fate) (was : is_taken mark.fate ≡ false) (is : is_taken f ≡ false) where
+  module _ (done left : List Mark) (mark : Mark) (f : Fate) (was : is_taken mark.fate ≡ false)
+      (is : is_taken f ≡ false) where
     same_puts : (l : Leaf) → puts_on writer l (done ++ mark ∷ left) ≡ puts_on writer l
         ((done ++ marked mark f ∷ []) ++ left)
     same_puts l =

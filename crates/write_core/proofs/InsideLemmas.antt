@@ -1,5 +1,6 @@
 -- The events of a write inside a leaf: buckets are raised, and the row is put.
-use Rattle.std.proofs.Common.{◌≡◌, ◌≢◌, ℕ, ◌<◌, true, false, cond, Some, None, List, [], ◌∷◌, ◌++◌, length, get_or, map, refl, sym, ap, ap₂, subst, ◌∙◌, append-nil, inl, inr}
+use Rattle.std.proofs.Common.{◌≡◌, ◌≢◌, ℕ, ◌<◌, true, false, cond, Some, None, List, [], ◌∷◌, ◌++◌, length, get_or}
+use Rattle.std.proofs.Common.{map, refl, sym, ap, ap₂, subst, ◌∙◌, append-nil, inl, inr}
 use Rattle.std.specs.Prelude.{nat_eq, Contains}
 use Rattle.std.specs.List.{AllByRecursion as All}
 use Rattle.std.proofs.lemmas.Bool.{and_from, and_right, cases_lt, eq-eqb, ne_eqb}
@@ -35,7 +36,8 @@ use Rattle.mon_value.proofs.LeafHistoryLemmas.{put_elsewhere, replica_rows-push}
 use Rattle.write_core.proofs.DeedLemmas.{anothers_put, done_put, puts_stay}
 use Rattle.write_core.proofs.KeepsLemmas.{changed_same, going_with, mark_moves, opened_moves, opened_with}
 use Rattle.write_core.proofs.LeafEventLemmas.{decided, root_going, zone_going}
-use Rattle.write_core.proofs.MeetLemmas.{base_range, base_sound, base_up, base_whole, base_within, inside_root, inside_zone, raised_all, root_bit, zone_bit}
+use Rattle.write_core.proofs.MeetLemmas.{base_range, base_sound, base_up, base_whole, base_within, inside_root}
+use Rattle.write_core.proofs.MeetLemmas.{inside_zone, raised_all, root_bit, zone_bit}
 use Rattle.mon_topo.proofs.RangeHistoryLemmas.{AreApart, all_append, all_back, all_front, apart_around, numbered}
 use Rattle.write_core.proofs.StageLemmas.{at_entering, mark_here, remarked_replicas, untaken_ready}
 use Rattle.write_core.proofs.StepLemmas.{IsStep, ChangesLeaf, write_at_leaf, writer_of}
@@ -44,7 +46,7 @@ use Rattle.write_core.proofs.ViewLemmas.{within_through}
 -- ---- small facts
 
 -- a leaf with an opened replica is there
-opened_there : (leaves : List (List Entry)) (n : ℕ) (r : Range) (s : Slot) → is_opened r s (get_or leaves n []) ≡ true
+pub opened_there : (leaves : List (List Entry)) (n : ℕ) (r : Range) (s : Slot) → is_opened r s (get_or leaves n []) ≡ true
     → n < length leaves
 opened_there leaves n r s h =
     elim (cases_lt n (length leaves)) [
@@ -94,7 +96,8 @@ module _ (setting : Setting) (world : World) (i : ℕ) (who : Writer) (is : worl
 
   -- ---- a bucket is raised
 
-  pub raise_root : (bucket : ℕ) (at_root in_zone : List ℕ) → IsInside setting world i who.view l (setting.buckets_of who.row.key) (bucket ∷ at_root) in_zone
+  pub raise_root : (bucket : ℕ) (at_root in_zone : List ℕ) → IsInside setting world i who.view l
+      (setting.buckets_of who.row.key) (bucket ∷ at_root) in_zone
       → HasDone world.truth who (Inside round (bucket ∷ at_root) in_zone)
       → IsStep setting world (at_leaf world i who.view l (with_root_bit (zone_of_leaf setting l) bucket) (Some i)
       (writes_on who (Inside round at_root in_zone)))
@@ -116,7 +119,8 @@ module _ (setting : Setting) (world : World) (i : ℕ) (who : Writer) (is : worl
             inside,
       ) (record { puts = deeds.puts; acks = deeds.acks })
 
-  pub raise_zone : (bucket : ℕ) (in_zone : List ℕ) → IsInside setting world i who.view l (setting.buckets_of who.row.key) [] (bucket ∷ in_zone)
+  pub raise_zone : (bucket : ℕ) (in_zone : List ℕ) → IsInside setting world i who.view l
+      (setting.buckets_of who.row.key) [] (bucket ∷ in_zone)
       → HasDone world.truth who (Inside round [] (bucket ∷ in_zone))
       → IsStep setting world (at_leaf world i who.view l (with_zone_bit l bucket) (Some i)
       (writes_on who (Inside round [] in_zone)))
@@ -138,7 +142,8 @@ module _ (setting : Setting) (world : World) (i : ℕ) (who : Writer) (is : worl
 
   -- ---- the row is put
 
-  module _ (inside : IsInside setting world i who.view l (setting.buckets_of who.row.key) [] []) (deeds : HasDone world.truth who (Inside round [] [])) where
+  module _ (inside : IsInside setting world i who.view l (setting.buckets_of who.row.key) [] [])
+      (deeds : HasDone world.truth who (Inside round [] [])) where
     abbrev r : Range
     r = who.range
 
@@ -160,7 +165,8 @@ module _ (setting : Setting) (world : World) (i : ℕ) (who : Writer) (is : worl
 
     in_met : l.0 < length met.seen.leaves
     in_met = subst (λ (n : ℕ). l.0 < n)
-        (kept.truth.held.all_leaves ∙ sym (base_sound setting world i kept who.view own.part l).held.all_leaves) in_truth
+        (kept.truth.held.all_leaves ∙ sym (base_sound setting world i kept who.view own.part l).held.all_leaves)
+        in_truth
 
     may_truth : leaf_spec.MayFollow (of_leaf world.truth l) e
     may_truth = (
@@ -215,7 +221,8 @@ module _ (setting : Setting) (world : World) (i : ℕ) (who : Writer) (is : worl
           (base_within setting world i kept who.view own.part l);
       grows = entry_up world.truth l e in_truth;
       count = refl;
-      whole = leaf_entry_same met.seen l e in_met ∙ ap (λ history. history ++ e ∷ []) (base_whole setting world i kept who.view own.part l)
+      whole = leaf_entry_same met.seen l e in_met ∙ ap (λ history. history ++ e ∷ []) (base_whole setting world i kept
+          who.view own.part l)
           ∙ sym (leaf_entry_same world.truth.seen l e in_truth);
       others = leaf_entry_other world.truth.seen l e;
       ranges = λ o. refl;

@@ -1,5 +1,6 @@
 -- What an event of one actor leaves to the others, and to ranges that nobody holds.
-use Rattle.std.proofs.Common.{Bool, ◌||◌, ◌≡◌, ◌≢◌, ℕ, suc, false, ◌<◌, true, Some, Option, List, [], ◌∷◌, ◌++◌, length, map, refl, sym, ap, subst, ◌∙◌, inl, inr}
+use Rattle.std.proofs.Common.{Bool, ◌||◌, ◌≡◌, ◌≢◌, ℕ, suc, false, ◌<◌, true, Some, Option, List, [], ◌∷◌, ◌++◌}
+use Rattle.std.proofs.Common.{length, map, refl, sym, ap, subst, ◌∙◌, inl, inr}
 use Rattle.std.specs.Prelude.{nat_eq, Contains, if◌then◌else◌}
 use Rattle.std.specs.List.{AllByRecursion as All}
 use Rattle.std.proofs.lemmas.Bool.{cases_eq, cond-false, cond-true, eq-eqb, ne_eqb}
@@ -18,13 +19,17 @@ use Rattle.mon_hints.specs.HistoryBuckets.{rows_buckets}
 use Rattle.write_core.specs.CopySteps.{MayOpen, copy_of, new_replica, next_slot}
 use Rattle.write_core.specs.Recovering.{Beginning, Carrying, CopyStage, Copying, Nearing, Over, Telling, Within}
 use Rattle.write_core.specs.Deeds.{acks_by, puts_by}
-use Rattle.write_core.specs.Invariant.{AreApart, HasCopied, HasLocked, HasMissed, HasOpened, HasRows, HasSeen, HasTaken, IsActor, IsAcking, IsAt, IsCopyAt, IsCopying, IsEntering, IsFresh, IsGoing, IsInFirst, IsInside, IsMark, IsRecovery, IsSettled, IsWriter, rows_after}
+use Rattle.write_core.specs.Invariant.{AreApart, HasCopied, HasLocked, HasMissed, HasOpened, HasRows, HasSeen}
+use Rattle.write_core.specs.Invariant.{HasTaken, IsActor, IsAcking, IsAt, IsCopyAt, IsCopying, IsEntering, IsFresh}
+use Rattle.write_core.specs.Invariant.{IsGoing, IsInFirst, IsInside, IsMark, IsRecovery, IsSettled, IsWriter}
+use Rattle.write_core.specs.Invariant.{rows_after}
 use Rattle.write_core.specs.Marks.{is_taken, replica_of}
 use Rattle.write_core.specs.Program.{Acking, Ended, Entering, Inside, Locking, Marked, Not, Reserving, Stage, Verdict}
 use Rattle.write_core.specs.Rounds.{Round, marks_of}
 use Rattle.mon_topo.specs.Settings.{Setting}
 use Rattle.write_core.specs.Views.{IsWithin, View, of_leaf, of_range}
-use Rattle.write_core.specs.World.{Actor, IsPart, Recovers, Recovery, Stands, World, Writer, Writes, changed, gone_on, pass_of, put_of}
+use Rattle.write_core.specs.World.{Actor, IsPart, Recovers, Recovery, Stands, World, Writer, Writes, changed, gone_on}
+use Rattle.write_core.specs.World.{pass_of, put_of}
 use Rattle.write_core.specs.declared.marks.Fate.{Fate}
 use Rattle.write_core.specs.declared.marks.Fate.TheVariants as fate
 use Rattle.write_core.specs.declared.marks.Mark.{Mark}
@@ -88,7 +93,8 @@ pub record KeepsLeaf (before after : World) (who : Option ℕ) (l : Leaf) : Type
   pub holder : after.leaf_holder l.0 ≡ who
   pub history : of_leaf after.truth l ≡ of_leaf before.truth l
 
--- what an actor relies on while others go on: its range, its leaf, and that nobody else puts or acknowledges by its pass
+-- what an actor relies on while others go on: its range, its leaf, and that nobody else puts or acknowledges by its
+-- pass
 pub record Keeps (before after : World) (i pass : ℕ) : Type 0 where
   pub grows : IsWithin before.truth after.truth
   pub count : length after.truth.seen.ranges ≡ length before.truth.seen.ranges
@@ -309,7 +315,8 @@ module _ (setting : Setting) (before after : World) (i : ℕ) (recovery : Recove
         fresh = with_history (λ history. IsFresh after.truth recovery.range (suc (length (opened history)))) its
             (fresh_moves before after keeps.grows (Some i) recovery.range its (suc (length (opened g))) h.fresh);
         may = with_history (λ history. MayOpen setting history recovery) its h.may;
-        has = with_history (λ history. HasRows after.truth recovery.range (new_replica recovery history) (acked history))
+        has = with_history (λ history. HasRows after.truth recovery.range (new_replica recovery history)
+            (acked history))
             its (replica_moves before after keeps.grows (Some i) recovery.range its (new_replica recovery g) (acked g)
             (acked g) refl h.has);
         seen = with_history (λ history. BeginsWith (replica_rows recovery.range (next_slot history)

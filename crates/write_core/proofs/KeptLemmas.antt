@@ -3,16 +3,21 @@ use Rattle.std.proofs.Common.{◌≡◌, ◌<◌, ℕ, true, Some, None, List, [
 use Rattle.std.specs.Prelude.{Contains}
 use Rattle.mon_value.specs.declared.histories.RangeEntry.TheVariants as range_entry
 use Rattle.write_core.specs.Deeds.{HasDone}
-use Rattle.write_core.specs.Invariant.{HasRecovered, IsAcked, IsAcking, IsAcknowledged, IsActor, IsAt, IsCopyAt, IsEntering, IsInFirst, IsKept, IsNew, IsNewActor, IsRecovered, IsReserving}
+use Rattle.write_core.specs.Invariant.{HasRecovered, IsAcked, IsAcking, IsAcknowledged, IsActor, IsAt, IsCopyAt}
+use Rattle.write_core.specs.Invariant.{IsEntering, IsInFirst, IsKept, IsNew, IsNewActor, IsRecovered, IsReserving}
 use Rattle.write_core.specs.Marks.{ack_of, some_took}
-use Rattle.write_core.specs.Program.{Acking, Ended, Entering, Inside, Locking, Marked, Not, Reserving, Stage, Verdict, after}
-use Rattle.write_core.specs.Steps.{CanComeAt, CanEnter, CanGo, CanReserve, IsToldByRange, acknowledged, entered, gone_on_inside, reserved, step_at, stepped, unchanged}
+use Rattle.write_core.specs.Program.{Acking, Ended, Entering, Inside, Locking, Marked, Not, Reserving, Stage, Verdict}
+use Rattle.write_core.specs.Program.{after}
+use Rattle.write_core.specs.Steps.{CanComeAt, CanEnter, CanGo, CanReserve, IsToldByRange, acknowledged, entered}
+use Rattle.write_core.specs.Steps.{gone_on_inside, reserved, step_at, stepped, unchanged}
 use Rattle.write_core.specs.CopySteps.{CanRecover, recovered}
-use Rattle.write_core.specs.Events.{Begins, CanHappen, CanRun, Copies, Event, Goes, Learns, Resolves, Switches, Visits, happened, run}
+use Rattle.write_core.specs.Events.{Begins, CanHappen, CanRun, Copies, Event, Goes, Learns, Resolves, Switches, Visits}
+use Rattle.write_core.specs.Events.{happened, run}
 use Rattle.write_core.specs.Recovering.{CopyStage, CopyTold, Over}
 use Rattle.mon_topo.specs.Settings.{Setting}
 use Rattle.write_core.specs.Views.{View, of_leaf, of_range, joined}
-use Rattle.write_core.specs.World.{Actor, IsPart, Recovers, Recovery, Stands, World, Writer, Writes, at_range, writes_on}
+use Rattle.write_core.specs.World.{Actor, IsPart, Recovers, Recovery, Stands, World, Writer, Writes, at_range}
+use Rattle.write_core.specs.World.{writes_on}
 use Rattle.write_core.specs.declared.asks.WriteTold.{WriteTold}
 use Rattle.write_core.specs.declared.asks.WriteTold.TheVariants as told
 use Rattle.write_core.specs.declared.marks.Mark.{Mark}
@@ -32,10 +37,13 @@ module _ (setting : Setting) (world : World) (i : ℕ) (who : Writer) (is : worl
   reserve_kept : (done left : List Mark) (answer : WriteTold)
       → IsReserving world i setting who (record { done = done; left = left })
       → HasDone world.truth who (Reserving (record { done = done; left = left })) → CanReserve world left answer
-      → IsStep setting world (reserved world i who left (after (Reserving (record { done = done; left = left })) answer))
+      → IsStep setting world (reserved world i who left (after (Reserving (record { done = done; left = left }))
+      answer))
   reserve_kept done [] answer at deeds can = absurd can
-  reserve_kept done (mark ∷ left) (told.Up buckets) at deeds can = reserve_up setting world i who is kept done left mark can.0 at deeds
-  reserve_kept done (mark ∷ left) (told.Down cut) at deeds can = reserve_down setting world i who is kept done left mark can.0
+  reserve_kept done (mark ∷ left) (told.Up buckets) at deeds can = reserve_up setting world i who is kept done left
+      mark can.0 at deeds
+  reserve_kept done (mark ∷ left) (told.Down cut) at deeds can = reserve_down setting world i who is kept done left
+      mark can.0
       at deeds cut can.1.0 can.1.1
   reserve_kept done (mark ∷ left) (told.Slots replicas) at deeds can = absurd can.1
   reserve_kept done (mark ∷ left) (told.Old last) at deeds can = absurd can.1
@@ -44,12 +52,16 @@ module _ (setting : Setting) (world : World) (i : ℕ) (who : Writer) (is : worl
 
   enter_kept : (done left : List Mark) (answer : WriteTold)
       → IsEntering world i setting who (record { done = done; left = left })
-      → HasDone world.truth who (Entering (record { done = done; left = left })) → CanEnter setting world who left answer
-      → IsStep setting world (entered world i who left answer (after (Entering (record { done = done; left = left })) answer))
+      → HasDone world.truth who (Entering (record { done = done; left = left })) → CanEnter setting world who left
+      answer
+      → IsStep setting world (entered world i who left answer (after (Entering (record { done = done; left = left }))
+      answer))
   enter_kept done [] answer at deeds can = absurd can
-  enter_kept done (mark ∷ left) (told.Up buckets) at deeds can = enter_up setting world i who is kept done left mark can.0
+  enter_kept done (mark ∷ left) (told.Up buckets) at deeds can = enter_up setting world i who is kept done left mark
+      can.0
       at deeds buckets can.1.0 can.1.1
-  enter_kept done (mark ∷ left) (told.Down cut) at deeds can = enter_down setting world i who is kept done left mark can.0 at
+  enter_kept done (mark ∷ left) (told.Down cut) at deeds can = enter_down setting world i who is kept done left mark
+      can.0 at
       deeds cut
       can.1.0 can.1.1
   enter_kept done (mark ∷ left) (told.Slots replicas) at deeds can = absurd can.1
@@ -64,17 +76,21 @@ module _ (setting : Setting) (world : World) (i : ℕ) (who : Writer) (is : worl
       → IsStep setting world (gone_on_inside setting world i who left at_root in_zone
       (after (Inside (record { done = done; left = left }) at_root in_zone) told.Done))
   inside_kept done [] at_root in_zone at inside deeds = record { kept = kept; grows = within_itself world.truth }
-  inside_kept done (mark ∷ left) (bucket ∷ at_root) in_zone at inside deeds = raise_root setting world i who is kept done left mark
+  inside_kept done (mark ∷ left) (bucket ∷ at_root) in_zone at inside deeds = raise_root setting world i who is kept
+      done left mark
       at bucket at_root in_zone inside deeds
-  inside_kept done (mark ∷ left) [] (bucket ∷ in_zone) at inside deeds = raise_zone setting world i who is kept done left mark at
+  inside_kept done (mark ∷ left) [] (bucket ∷ in_zone) at inside deeds = raise_zone setting world i who is kept done
+      left mark at
       bucket in_zone inside deeds
-  inside_kept done (mark ∷ left) [] [] at inside deeds = put_row setting world i who is kept done left mark at inside deeds
+  inside_kept done (mark ∷ left) [] [] at inside deeds = put_row setting world i who is kept done left mark at inside
+      deeds
 
   lock_kept : (answer : WriteTold) → world.range_holder who.range.0 ≡ None
       → IsToldByRange setting (of_range world.truth who.range) who.row answer → HasDone world.truth who Locking
       → IsStep setting world (at_range world i who.view who.range unchanged (Some i)
       (writes_on who (after Locking answer)))
-  lock_kept (told.Slots replicas) free can deeds = lock_slots setting world i who is kept free deeds replicas can.0 can.1 can.2
+  lock_kept (told.Slots replicas) free can deeds = lock_slots setting world i who is kept free deeds replicas can.0
+      can.1 can.2
   lock_kept (told.Old last) free can deeds = lock_refused setting world i who is kept free deeds (refused.Old last)
   lock_kept (told.Full count) free can deeds = lock_refused setting world i who is kept free deeds (refused.Full count)
   lock_kept (told.Up buckets) free can deeds = absurd can
@@ -88,12 +104,14 @@ module _ (setting : Setting) (world : World) (i : ℕ) (who : Writer) (is : worl
   ack_kept (Marked marks) at deeds = ack_marked setting world i who is kept marks at deeds
 
   stage_kept : (stage : Stage) (answer : WriteTold) → IsAt setting world i who stage
-      → HasDone world.truth who stage → CanComeAt setting world who stage answer → IsStep setting world (step_at setting world i who stage answer)
+      → HasDone world.truth who stage → CanComeAt setting world who stage answer → IsStep setting world
+      (step_at setting world i who stage answer)
   stage_kept Locking answer at deeds can = lock_kept answer can.0 can.1 deeds
   stage_kept (Reserving round) answer at deeds can = reserve_kept round.done round.left answer at deeds can
   stage_kept (Entering round) answer at deeds can = enter_kept round.done round.left answer at deeds can
   stage_kept (Inside round at_root in_zone) answer at deeds can =
-      subst (λ (x : WriteTold). IsStep setting world (step_at setting world i who (Inside round at_root in_zone) x)) (sym can)
+      subst (λ (x : WriteTold). IsStep setting world (step_at setting world i who (Inside round at_root in_zone) x))
+      (sym can)
       (inside_kept round.done round.left at_root in_zone at.0 at.1 deeds)
   stage_kept (Acking verdict) answer at deeds can =
       subst (λ (x : WriteTold). IsStep setting world (step_at setting world i who (Acking verdict) x)) (sym can)
@@ -102,7 +120,8 @@ module _ (setting : Setting) (world : World) (i : ℕ) (who : Writer) (is : worl
 
 -- whichever write goes on, and whatever it is told, the invariant stays
 step_kept : (setting : Setting) (world : World) (i : ℕ) (actor : Actor) → world.actors i ≡ actor → IsKept setting world
-    → (answer : WriteTold) → CanGo setting world actor answer → IsStep setting world (stepped setting world i actor answer)
+    → (answer : WriteTold) → CanGo setting world actor answer → IsStep setting world
+    (stepped setting world i actor answer)
 step_kept setting world i (Writes who) is kept answer can =
     let own = writer_of setting world i who kept is in
     stage_kept setting world i who is kept who.stage answer own.at own.deeds can
@@ -111,7 +130,8 @@ step_kept setting world i (Stands stander) is kept answer can = absurd can
 
 -- and whichever recovery does
 copy_kept : (setting : Setting) (world : World) (i : ℕ) (actor : Actor) → world.actors i ≡ actor → IsKept setting world
-    → (told : CopyTold) → CanRecover setting world actor told → IsStep setting world (recovered setting world i actor told)
+    → (told : CopyTold) → CanRecover setting world actor told → IsStep setting world (recovered setting world i actor
+    told)
 copy_kept setting world i (Writes who) is kept told can = absurd can
 copy_kept setting world i (Recovers who) is kept told can =
     recovery_kept setting world i who is kept who.stage told (recovery_of setting world i who kept is).at can
@@ -196,7 +216,8 @@ module _ (setting : Setting) (world : World) (i : ℕ) (writer : Writer) (kept :
       let own = writer_of setting world i writer kept is in
       let entry = range_entry.Acked writer.pass writer.row (ack_of writer.range marks) in
       let held = own.part.sound.held in
-      let at : IsAcked writer (Marked marks) = subst (λ (stage : Stage). IsAt setting world i writer stage) ended own.at in
+      let at : IsAcked writer (Marked marks) = subst (λ (stage : Stage). IsAt setting world i writer stage) ended
+      own.at in
       let found : Contains (of_range writer.view writer.range) entry = at took in
       let here = get_there (of_range writer.view writer.range) found.0 entry found.1 found.2 in
       let there = subst (λ (n : ℕ). writer.range.0 < n) (kept.truth.held.all_ranges ∙ sym held.all_ranges)
@@ -218,7 +239,8 @@ pub over_recovered : (setting : Setting) (world : World) (i : ℕ) (recovery : R
 over_recovered setting world i recovery kept is over =
     let own = recovery_of setting world i recovery kept is in
     let held = own.part.sound.held in
-    let at : HasRecovered recovery = subst (λ (stage : CopyStage). IsCopyAt setting world i recovery stage) over own.at in
+    let at : HasRecovered recovery = subst (λ (stage : CopyStage). IsCopyAt setting world i recovery stage) over
+    own.at in
     let entry = range_entry.Opened recovery.pass at.slot recovery.leaf in
     let here = get_there (of_range recovery.view recovery.range) at.told.0 entry at.told.1 at.told.2 in
     let there = subst (λ (n : ℕ). recovery.range.0 < n) (sym held.all_ranges) own.aimed.range_there in

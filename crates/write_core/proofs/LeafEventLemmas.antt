@@ -1,11 +1,13 @@
 -- The events of a write at a leaf.
-use Rattle.std.proofs.Common.{◌≡◌, ℕ, true, false, Some, None, Option, List, [], ◌∷◌, ◌++◌, length, refl, sym, ap, subst, ◌∙◌, arith, inl}
+use Rattle.std.proofs.Common.{◌≡◌, ℕ, true, false, Some, None, Option, List, [], ◌∷◌, ◌++◌, length, refl, sym, ap}
+use Rattle.std.proofs.Common.{subst, ◌∙◌, arith, inl}
 use Rattle.std.proofs.lemmas.List.{take_all}
 use Rattle.mon_value.specs.LeafHistories.{is_down}
 use Rattle.mon_value.specs.declared.positions.Leaf.{Leaf}
 use Rattle.mon_value.specs.declared.positions.Zone.{Zone}
 use Rattle.write_core.specs.Deeds.{HasDone}
-use Rattle.write_core.specs.Invariant.{HasMissed, IsEntering, IsGoing, IsKept, IsReserving, IsWriter, is_asked, is_decided}
+use Rattle.write_core.specs.Invariant.{HasMissed, IsEntering, IsGoing, IsKept, IsReserving, IsWriter, is_asked}
+use Rattle.write_core.specs.Invariant.{is_decided}
 use Rattle.write_core.specs.Marks.{is_taken, marked}
 use Rattle.write_core.specs.Program.{Entering, Inside, Reserving, Stage, entering, reserving}
 use Rattle.write_core.specs.Rounds.{Round, looked}
@@ -20,7 +22,8 @@ use Rattle.write_core.proofs.DeedLemmas.{done_entering, done_reserving}
 use Rattle.write_core.proofs.MeetLemmas.{base_range, base_up, base_whole, inside_from, quiet}
 use Rattle.write_core.proofs.KeepsLemmas.{changed_same, going_moves}
 use Rattle.mon_topo.proofs.RangeHistoryLemmas.{all_append}
-use Rattle.write_core.proofs.StageLemmas.{at_entering, at_reserving, going_on, mark_here, remark, untaken_ready, untaken_waiting}
+use Rattle.write_core.proofs.StageLemmas.{at_entering, at_reserving, going_on, mark_here, remark, untaken_ready}
+use Rattle.write_core.proofs.StageLemmas.{untaken_waiting}
 use Rattle.write_core.proofs.StepLemmas.{IsStep, write_at_leaf, writer_of}
 use Rattle.write_core.proofs.ViewLemmas.{within_itself, within_through}
 
@@ -41,10 +44,13 @@ module _ (setting : Setting) (world : World) (i : ℕ) (who : Writer) (is : worl
 
   -- the write goes on with its replicas as they were
   module _ (holder : Option ℕ) (stage : Stage) (marks : List Mark) (going : IsGoing world i setting who marks) where
-    pub quiet_going : IsGoing (at_leaf world i who.view l unchanged holder (writes_on who stage)) i setting (gone_on who stage met) marks
+    pub quiet_going : IsGoing (at_leaf world i who.view l unchanged holder (writes_on who stage)) i setting
+        (gone_on who stage met) marks
     quiet_going =
-        going_moves world (at_leaf world i who.view l unchanged holder (writes_on who stage)) (within_itself world.truth) i setting who
-        stage met (base_up setting world i kept who.view own.part l) refl marks (base_range setting world i kept who.view own.part l who.range going.holds.whole)
+        going_moves world (at_leaf world i who.view l unchanged holder (writes_on who stage))
+        (within_itself world.truth) i setting who
+        stage met (base_up setting world i kept who.view own.part l) refl marks (base_range setting world i kept
+        who.view own.part l who.range going.holds.whole)
         (record { holder = going.holds.holder; history = refl; rows = λ s o. refl; opened = λ s o. refl }) going
 
     pub root_going : (zone : Zone) (bucket : ℕ)
@@ -53,16 +59,20 @@ module _ (setting : Setting) (world : World) (i : ℕ) (who : Writer) (is : worl
     root_going zone bucket =
         going_moves world (at_leaf world i who.view l (with_root_bit zone bucket) holder (writes_on who stage))
         (root_bit_up bucket zone world.truth) i setting who stage (with_root_bit zone bucket met)
-        (within_through who.view met (with_root_bit zone bucket met) (base_up setting world i kept who.view own.part l) (root_bit_up bucket zone met))
+        (within_through who.view met (with_root_bit zone bucket met) (base_up setting world i kept who.view own.part l)
+        (root_bit_up bucket zone met))
         refl marks (base_range setting world i kept who.view own.part l who.range going.holds.whole)
         (record { holder = going.holds.holder; history = refl; rows = λ s o. refl; opened = λ s o. refl }) going
 
-    pub zone_going : (bucket : ℕ) → IsGoing (at_leaf world i who.view l (with_zone_bit l bucket) holder (writes_on who stage)) i setting
+    pub zone_going : (bucket : ℕ) → IsGoing (at_leaf world i who.view l (with_zone_bit l bucket) holder
+        (writes_on who stage)) i setting
         (gone_on who stage (with_zone_bit l bucket met)) marks
     zone_going bucket =
-        going_moves world (at_leaf world i who.view l (with_zone_bit l bucket) holder (writes_on who stage)) (zone_bit_up bucket l world.truth)
+        going_moves world (at_leaf world i who.view l (with_zone_bit l bucket) holder (writes_on who stage))
+        (zone_bit_up bucket l world.truth)
         i setting who stage (with_zone_bit l bucket met)
-        (within_through who.view met (with_zone_bit l bucket met) (base_up setting world i kept who.view own.part l) (zone_bit_up bucket l met)) refl
+        (within_through who.view met (with_zone_bit l bucket met) (base_up setting world i kept who.view own.part l)
+        (zone_bit_up bucket l met)) refl
         marks (base_range setting world i kept who.view own.part l who.range going.holds.whole)
         (record { holder = going.holds.holder; history = refl; rows = λ s o. refl; opened = λ s o. refl }) going
 
@@ -72,10 +82,12 @@ module _ (setting : Setting) (world : World) (i : ℕ) (who : Writer) (is : worl
   has_missed stage mark cut here down whole =
       subst (λ (o : Leaf). HasMissed (gone_on who stage met)
       (record { slot = mark.slot; leaf = o; fate = mark.fate }) cut) (sym here)
-      (let count : length (of_leaf met l) ≡ length (of_leaf world.truth l) = ap length (base_whole setting world i kept who.view own.part l) in
+      (let count : length (of_leaf met l) ≡ length (of_leaf world.truth l) =
+      ap length (base_whole setting world i kept who.view own.part l) in
       record {
         seen_by_then = omega arith;
-        down = ap is_down (take_all cut (of_leaf met l) (omega arith)) ∙ ap is_down (base_whole setting world i kept who.view own.part l) ∙ down;
+        down = ap is_down (take_all cut (of_leaf met l) (omega arith))
+            ∙ ap is_down (base_whole setting world i kept who.view own.part l) ∙ down;
       })
 
 module _ (setting : Setting) (world : World) (i : ℕ) (who : Writer) (is : world.actors i ≡ Writes who)
@@ -96,7 +108,8 @@ module _ (setting : Setting) (world : World) (i : ℕ) (who : Writer) (is : worl
     untaken : is_taken mark.fate ≡ false
     untaken = untaken_waiting mark.fate at.left.0
 
-    pub reserve_up : IsStep setting world (at_leaf world i who.view mark.leaf unchanged None (writes_on who (reserving (looked round fate.Ready))))
+    pub reserve_up : IsStep setting world (at_leaf world i who.view mark.leaf unchanged None
+        (writes_on who (reserving (looked round fate.Ready))))
     reserve_up =
         let stage = reserving (looked round fate.Ready) in
         let next = at_leaf world i who.view mark.leaf unchanged None (writes_on who stage) in
@@ -114,7 +127,8 @@ module _ (setting : Setting) (world : World) (i : ℕ) (who : Writer) (is : worl
 
     pub reserve_down : (cut : ℕ) → is_down (of_leaf world.truth mark.leaf) ≡ true
         → cut ≡ length (of_leaf world.truth mark.leaf)
-        → IsStep setting world (at_leaf world i who.view mark.leaf unchanged None (writes_on who (reserving (looked round (fate.Missed cut)))))
+        → IsStep setting world (at_leaf world i who.view mark.leaf unchanged None
+        (writes_on who (reserving (looked round (fate.Missed cut)))))
     reserve_down cut down whole =
         let stage = reserving (looked round (fate.Missed cut)) in
         let next = at_leaf world i who.view mark.leaf unchanged None (writes_on who stage) in
@@ -137,7 +151,8 @@ module _ (setting : Setting) (world : World) (i : ℕ) (who : Writer) (is : worl
   module _ (at : IsEntering world i setting who round) (deeds : HasDone world.truth who (Entering round)) where
     pub enter_down : (cut : ℕ) → is_down (of_leaf world.truth mark.leaf) ≡ true
         → cut ≡ length (of_leaf world.truth mark.leaf)
-        → IsStep setting world (at_leaf world i who.view mark.leaf unchanged None (writes_on who (entering (looked round (fate.Missed cut)))))
+        → IsStep setting world (at_leaf world i who.view mark.leaf unchanged None
+        (writes_on who (entering (looked round (fate.Missed cut)))))
     enter_down cut down whole =
         let stage = entering (looked round (fate.Missed cut)) in
         let next = at_leaf world i who.view mark.leaf unchanged None (writes_on who stage) in
@@ -157,7 +172,8 @@ module _ (setting : Setting) (world : World) (i : ℕ) (who : Writer) (is : worl
 
     pub enter_up : (buckets : List ℕ) → is_down (of_leaf world.truth mark.leaf) ≡ false
         → AreUnraised setting (of_leaf world.truth mark.leaf) (setting.buckets_of who.row.key) buckets
-        → IsStep setting world (at_leaf world i who.view mark.leaf unchanged (Some i) (writes_on who (Inside round buckets buckets)))
+        → IsStep setting world (at_leaf world i who.view mark.leaf unchanged (Some i)
+        (writes_on who (Inside round buckets buckets)))
     enter_up buckets up unraised =
         let stage = Inside round buckets buckets in
         write_at_leaf setting world i who is kept mark.leaf unchanged (Some i) stage

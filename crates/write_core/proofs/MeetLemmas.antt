@@ -1,5 +1,6 @@
 -- What someone who is a part of the truth knows together with a leaf or a range, and changes there that add no entry.
-use Rattle.std.proofs.Common.{◌≡◌, ℕ, Bool, true, false, not, ◌||◌, ◌&&◌, Some, List, [], ◌∷◌, refl, sym, ap, ◌∙◌, ◌⊎◌, inl, inr}
+use Rattle.std.proofs.Common.{◌≡◌, ℕ, Bool, true, false, not, ◌||◌, ◌&&◌, Some, List, [], ◌∷◌, refl, sym, ap, ◌∙◌, ◌⊎◌}
+use Rattle.std.proofs.Common.{inl, inr}
 use Rattle.std.proofs.lemmas.Bool.{and_from, cases_Bool, eq-eqb, not_from_false, or_cases, or_left, or_right}
 use Rattle.std.specs.Prelude.{nat_eq}
 use Rattle.mon_hints.proofs.CoverLemmas.{kept_bit}
@@ -17,9 +18,11 @@ use Rattle.write_core.specs.Invariant.{IsInside, IsKept}
 use Rattle.write_core.specs.Steps.{AreUnraised, unchanged}
 use Rattle.write_core.specs.Views.{IsSound, IsWithin, View, joined, of_leaf, of_range, with_root_bit, with_zone_bit}
 use Rattle.write_core.specs.World.{IsPart, World}
-use Rattle.write_core.proofs.ChangeLemmas.{root_bit_sound, root_bit_up, root_bit_within, zone_bit_sound, zone_bit_up, zone_bit_within}
+use Rattle.write_core.proofs.ChangeLemmas.{root_bit_sound, root_bit_up, root_bit_within, zone_bit_sound, zone_bit_up}
+use Rattle.write_core.proofs.ChangeLemmas.{zone_bit_within}
 use Rattle.write_core.proofs.StepLemmas.{ChangesLeaf, ChangesRange}
-use Rattle.write_core.proofs.ViewLemmas.{joined_first, joined_sound, joined_whole_leaf, joined_whole_range, joined_within, within_itself}
+use Rattle.write_core.proofs.ViewLemmas.{joined_first, joined_sound, joined_whole_leaf, joined_whole_range}
+use Rattle.write_core.proofs.ViewLemmas.{joined_within, within_itself}
 
 -- ---- bits that are raised one after another
 

@@ -1,6 +1,7 @@
 -- Histories of a range with one more replica that was opened; and the rows that a recovery copies.
-use Rattle.std.proofs.Common.{◌≡◌, ℕ, zero, suc, ◌<◌, Bool, true, false, not, cond, List, [], ◌∷◌, ◌++◌, length, refl, sym, subst, ◌∙◌, append_assoc, append-nil, arith, inl, inr}
-use Rattle.std.specs.Prelude.{filter, Contains}
+use Rattle.std.proofs.Common.{◌≡◌, ℕ, zero, suc, ◌<◌, Bool, true, false, cond, List, [], ◌∷◌, ◌++◌, length, refl}
+use Rattle.std.proofs.Common.{sym, subst, ◌∙◌, append_assoc, append-nil, arith, inl, inr}
+use Rattle.std.specs.Prelude.{Contains}
 use Rattle.std.proofs.lemmas.List.Concat.{flat_map-append}
 use Rattle.std.proofs.lemmas.List.Elements.{Contains-append_cases}
 use Rattle.mon_value.specs.LeafHistories.{entry_rows, replica_rows, same_replica}
@@ -18,9 +19,9 @@ use Rattle.mon_value.proofs.LeafHistoryLemmas.{parts_same}
 use Rattle.mon_schema.specs.SchemaLists.{SchemaLists}
 use Rattle.mon_topo.specs.HeldHistories.{AreAtHome, IsAtHome}
 use Rattle.mon_topo.specs.RangeHistories as spec
-use Rattle.mon_topo.specs.RangeHistories.{acked, opened, serving, serving_after}
+use Rattle.mon_topo.specs.RangeHistories.{acked, opened, serving}
 use Rattle.mon_topo.specs.declared.zones.ZoneSpec.{ZoneSpec}
-use Rattle.mon_topo.proofs.RangeHistoryLemmas.{acked-push}
+use Rattle.mon_topo.proofs.RangeHistoryLemmas.{acked-push, serving_after-opened}
 
 -- ---- one more replica
 
@@ -44,15 +45,6 @@ module _ (history : List RangeEntry) (pass : ℕ) (replica : SlotLeaf) where
   -- and acknowledges nothing
   pub acked-opened : acked (history ++ opening ∷ []) ≡ acked history
   acked-opened = flat_map-append spec.acked_row history (opening ∷ []) ∙ append-nil (acked history)
-
-serving_after-opened : (replicas : List SlotLeaf) (history : List RangeEntry) (pass : ℕ) (replica : SlotLeaf)
-    → serving_after replicas (history ++ range_entry.Opened pass replica.slot replica.leaf ∷ [])
-    ≡ serving_after replicas history ++ replica ∷ []
-serving_after-opened replicas [] pass replica = refl
-serving_after-opened replicas (range_entry.Opened p slot leaf ∷ history) pass replica = serving_after-opened
-    (replicas ++ record { slot = slot; leaf = leaf } ∷ []) history pass replica
-serving_after-opened replicas (range_entry.Acked p row ack ∷ history) pass replica = serving_after-opened
-    (filter (λ x. not (spec.is_missed ack.missed x)) replicas) history pass replica
 
 -- and serves
 pub serving-opened : (history : List RangeEntry) (pass : ℕ) (replica : SlotLeaf)
@@ -107,7 +99,8 @@ module _ (held : SchemaLists) (zones : List ZoneSpec) (r : Range) (s : Slot) whe
       (suc there.0, (let l : there.0 < length history = there.1 in omega arith), there.2)
 
   -- the rows of a replica are at home in its range, where each entry's rows are
-  pub replica_at_home : (history : List Entry) → ((e : Entry) → Contains history e → AreAtHome held zones e) → (row : Row)
+  pub replica_at_home : (history : List Entry) → ((e : Entry) → Contains history e → AreAtHome held zones e)
+      → (row : Row)
       → Contains (replica_rows r s history) row → IsAtHome held zones r row
   replica_at_home [] h row there = absurd (omega (arith, there.1))
   replica_at_home (e ∷ history) h row there =

@@ -1,5 +1,6 @@
 -- The events of a write at its range.
-use Rattle.std.proofs.Common.{◌≡◌, ℕ, zero, suc, ◌<◌, Bool, true, false, not, cond, Some, None, List, [], ◌∷◌, ◌++◌, length, map, refl, sym, ap, subst, ◌∙◌, arith, inl, inr}
+use Rattle.std.proofs.Common.{◌≡◌, ℕ, zero, suc, ◌<◌, Bool, true, false, not, cond, Some, None, List, [], ◌∷◌, ◌++◌}
+use Rattle.std.proofs.Common.{length, map, refl, sym, ap, subst, ◌∙◌, arith, inl, inr}
 use Rattle.std.specs.Prelude.{Contains}
 use Rattle.std.proofs.lemmas.Bool.{both_ways, cases_Bool}
 use Rattle.std.proofs.lemmas.List.{length-set, take_at}
@@ -18,7 +19,8 @@ use Rattle.mon_topo.specs.HeldHistories.{BeginsWith, IsBorneOut, IsMissed, IsTak
 use Rattle.mon_topo.specs.RangeHistories as range_spec
 use Rattle.mon_topo.specs.RangeHistories.{acked, is_missed, opened, serving}
 use Rattle.write_core.specs.Deeds.{HasDone}
-use Rattle.write_core.specs.Invariant.{HasMissed, HasRows, HasSeen, HasTaken, IsDecided, IsFresh, IsKept, IsMark, IsRefused, IsSettled, IsWriter, is_decided, is_waiting, rows_after}
+use Rattle.write_core.specs.Invariant.{HasMissed, HasRows, HasSeen, HasTaken, IsDecided, IsFresh, IsKept, IsMark}
+use Rattle.write_core.specs.Invariant.{IsRefused, IsSettled, IsWriter, is_decided, is_waiting, rows_after}
 use Rattle.write_core.specs.Marks.{ack_of, is_taken, replica_of, some_took, waiting}
 use Rattle.write_core.specs.Program.{Acking, Ended, Locking, Marked, Not, Stage, reserving}
 use Rattle.write_core.specs.Rounds.{round_of}
@@ -30,7 +32,8 @@ use Rattle.write_core.specs.declared.marks.Fate.{Fate}
 use Rattle.write_core.specs.declared.marks.Fate.TheVariants as fate
 use Rattle.write_core.specs.declared.marks.Mark.{Mark}
 use Rattle.write_core.specs.declared.marks.Refused.{Refused}
-use Rattle.write_core.proofs.AckLemmas.{all_map_from, contains_filter, contains_map, is_named_missed, missed_in, named, none_took, some_taken, taken_in, took_from}
+use Rattle.write_core.proofs.AckLemmas.{all_map_from, contains_filter, contains_map, is_named_missed, missed_in, named}
+use Rattle.write_core.proofs.AckLemmas.{none_took, some_taken, taken_in, took_from}
 use Rattle.write_core.proofs.ChangeLemmas.{range_entry_sound, range_entry_up, range_entry_within}
 use Rattle.write_core.proofs.DeedLemmas.{acks_stay, anothers_ack, done_acked, done_locked, done_none}
 use Rattle.write_core.proofs.MeetLemmas as meet
@@ -164,7 +167,8 @@ module _ (setting : Setting) (world : World) (i : ℕ) (who : Writer) (is : worl
       fresh = at.going.fresh;
     }
 
-    ack_none : some_took marks ≡ false → IsStep setting world (at_range world i who.view r unchanged None (writes_on who stage))
+    ack_none : some_took marks ≡ false → IsStep setting world (at_range world i who.view r unchanged None
+        (writes_on who stage))
     ack_none none =
         write_at_range setting world i who is kept r unchanged None stage quiet_range (inr at.going.holds.holder)
         (λ x. settled_none none)
@@ -339,19 +343,23 @@ module _ (setting : Setting) (world : World) (i : ℕ) (who : Writer) (is : worl
 
       ack_some : IsStep setting world (at_range world i who.view r (with_range_entry r e) None (writes_on who stage))
       ack_some =
-          write_at_range setting world i who is kept r (with_range_entry r e) None stage changes (inr at.going.holds.holder)
+          write_at_range setting world i who is kept r (with_range_entry r e) None stage changes
+          (inr at.going.holds.holder)
           (λ x. settled_then)
           (λ x. subst (λ (history : List RangeEntry). Contains history e)
           (sym (range_entry_same met.seen r e there_met)) (Contains-push (of_range met r) e))
           (done_acked world.truth who marks some there_truth deeds)
 
-    pub ack_marked : IsStep setting world (at_range world i who.view r (acknowledged who (Marked marks)) None (writes_on who stage))
+    pub ack_marked : IsStep setting world (at_range world i who.view r (acknowledged who (Marked marks)) None
+        (writes_on who stage))
     ack_marked =
         elim (cases_Bool (some_took marks)) [
           | inl some ↦ subst (λ (b : Bool). IsStep setting world
-              (at_range world i who.view r (λ view. cond b (with_range_entry r e view) view) None (writes_on who stage))) (sym some)
+              (at_range world i who.view r (λ view. cond b (with_range_entry r e view) view) None
+              (writes_on who stage))) (sym some)
               (ack_some some)
           | inr none ↦ subst (λ (b : Bool). IsStep setting world
-              (at_range world i who.view r (λ view. cond b (with_range_entry r e view) view) None (writes_on who stage))) (sym none)
+              (at_range world i who.view r (λ view. cond b (with_range_entry r e view) view) None
+              (writes_on who stage))) (sym none)
               (ack_none none)
         ]

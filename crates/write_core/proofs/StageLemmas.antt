@@ -1,9 +1,11 @@
 -- How far a write is once its round goes on.
-use Rattle.std.proofs.Common.{◌≡◌, ℕ, true, false, cond, List, [], ◌∷◌, ◌++◌, map, refl, sym, ap, subst, ◌∙◌, append_assoc}
+use Rattle.std.proofs.Common.{◌≡◌, ℕ, true, false, cond, List, [], ◌∷◌, ◌++◌, map, refl, sym, ap, subst, ◌∙◌}
+use Rattle.std.proofs.Common.{append_assoc}
 use Rattle.std.proofs.lemmas.Bool.{cond_both}
 use Rattle.std.proofs.lemmas.List.{map-append}
 use Rattle.mon_topo.specs.RangeHistories.{acked}
-use Rattle.write_core.specs.Invariant.{AreAll, HasSeen, IsAt, IsAtReady, IsGoing, IsMark, is_asked, is_decided, is_waiting, rows_after}
+use Rattle.write_core.specs.Invariant.{AreAll, HasSeen, IsAt, IsAtReady, IsGoing, IsMark, is_asked, is_decided}
+use Rattle.write_core.specs.Invariant.{is_waiting, rows_after}
 use Rattle.write_core.specs.Marks.{is_ready, is_taken, marked, replica_of}
 use Rattle.write_core.specs.Program.{Acking, Entering, Marked, Reserving, entering, reserving}
 use Rattle.write_core.specs.Rounds.{Round, again, is_none_left, is_through, marks_of, skip, skipped}

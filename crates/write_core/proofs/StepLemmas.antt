@@ -11,8 +11,10 @@ use Rattle.write_core.specs.Recovering.{CopyStage}
 use Rattle.write_core.specs.Program.{Stage}
 use Rattle.mon_topo.specs.Settings.{Setting}
 use Rattle.write_core.specs.Views.{IsSound, IsWithin, View, of_leaf, of_range}
-use Rattle.write_core.specs.World.{Actor, IsPart, Recovers, Recovery, World, Writer, Writes, at_leaf, at_range, copied_on, gone_on, met_at_leaf, met_at_range, pass_of, recovers_on, writes_on}
-use Rattle.write_core.proofs.KeepsLemmas.{Keeps, actor_stays, apart_stay, changed_by, changed_other, part_moves, settled_moves}
+use Rattle.write_core.specs.World.{Actor, IsPart, Recovers, Recovery, World, Writer, Writes, at_leaf, at_range}
+use Rattle.write_core.specs.World.{copied_on, gone_on, met_at_leaf, met_at_range, pass_of, recovers_on, writes_on}
+use Rattle.write_core.proofs.KeepsLemmas.{Keeps, actor_stays, apart_stay, changed_by, changed_other, part_moves}
+use Rattle.write_core.proofs.KeepsLemmas.{settled_moves}
 
 -- nobody holds it, or this actor does
 abbrev pub IsLeftTo : ℕ → Option ℕ → Type 0

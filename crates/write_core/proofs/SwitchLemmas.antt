@@ -1,5 +1,6 @@
 -- Leaves that go down and come up, and a write that learns what someone has seen.
-use Rattle.std.proofs.Common.{◌≡◌, ◌≢◌, ℕ, ◌<◌, true, false, Some, None, Option, List, [], ◌∷◌, ◌++◌, length, refl, sym, ap, subst, ◌∙◌, append-nil}
+use Rattle.std.proofs.Common.{◌≡◌, ◌≢◌, ℕ, ◌<◌, true, false, Some, None, Option, List, [], ◌∷◌, ◌++◌, length, refl}
+use Rattle.std.proofs.Common.{sym, ap, subst, ◌∙◌, append-nil}
 use Rattle.mon_value.specs.LeafHistories as leaf_spec
 use Rattle.mon_value.specs.LeafHistories.{entry_rows, is_opened, is_switch, replica_rows}
 use Rattle.mon_value.specs.declared.histories.Entry.{Entry}
@@ -17,16 +18,19 @@ use Rattle.mon_hints.specs.HistoryBuckets.{history_buckets}
 use Rattle.write_core.specs.Invariant.{IsActor, IsAt, IsCopyAt, IsKept, IsWriter}
 use Rattle.write_core.specs.Recovering.{CopyStage}
 use Rattle.write_core.specs.Program.{Stage}
-use Rattle.write_core.specs.Events.{CanBegin, CanSwitch, HasNotBegun, begun, learned, new_writer, resolved, switched, visited}
+use Rattle.write_core.specs.Events.{CanBegin, CanSwitch, HasNotBegun, begun, learned, new_writer, resolved, switched}
+use Rattle.write_core.specs.Events.{visited}
 use Rattle.mon_topo.specs.Settings.{Setting, zone_of_leaf}
 use Rattle.write_core.specs.Views.{IsSound, IsWithin, View, joined, of_leaf, of_range, with_entry}
 use Rattle.write_core.specs.World.{Actor, IsPart, Recovers, Stands, World, Writes, copied_on, gone_on, pass_of, wiser}
 use Rattle.write_core.proofs.ChangeLemmas.{entry_sound, entry_up, entry_within}
 use Rattle.write_core.proofs.DeedLemmas.{puts_stay, switch_is_no_put}
-use Rattle.write_core.proofs.KeepsLemmas.{Keeps, actor_stays, apart_stay, changed_by, opened_with, part_moves, settled_moves}
+use Rattle.write_core.proofs.KeepsLemmas.{Keeps, actor_stays, apart_stay, changed_by, opened_with, part_moves}
+use Rattle.write_core.proofs.KeepsLemmas.{settled_moves}
 use Rattle.mon_value.proofs.LeafHistoryLemmas.{replica_rows-push}
 use Rattle.write_core.proofs.StepLemmas.{IsStep}
-use Rattle.write_core.proofs.ViewLemmas.{joined_sound, joined_whole_leaf, joined_whole_range, joined_within, within_itself}
+use Rattle.write_core.proofs.ViewLemmas.{joined_sound, joined_whole_leaf, joined_whole_range, joined_within}
+use Rattle.write_core.proofs.ViewLemmas.{within_itself}
 
 -- ---- a switch brings nothing
 
@@ -148,7 +152,13 @@ module _ (setting : Setting) (world : World) (kept : IsKept setting world) where
             ∙ sym (leaf_entry_other world.truth.seen l e (leaf_numbered n) apart)) o.0;
         whole_ranges = kept.whole_ranges;
         settled = λ r free.
-            settled_moves world next grows None r (record { holder = free; history = refl; rows = rows_stay r; opened = opened_stay r })
+            settled_moves world next grows None r (record {
+              holder = free;
+              history = refl;
+              rows = rows_stay r;
+              opened =
+                  opened_stay r;
+            })
             (kept.settled r free);
         actors = λ j. actor_stays setting world next j (world.actors j) (keeps j) (kept.actors j);
         passes = kept.passes;
@@ -296,7 +306,8 @@ module _ (setting : Setting) (world : World) (kept : IsKept setting world) where
         truth = kept.truth;
         leaves = λ o. changed_by world.leaves l.0 (joined view (world.leaves l.0)) (λ n x. IsPart setting seen x)
             (record {
-              sound = joined_sound view (world.leaves l.0) world.truth part.within (kept.leaves l).within setting part.sound
+              sound = joined_sound view (world.leaves l.0) world.truth part.within (kept.leaves l).within setting
+                  part.sound
                   (kept.leaves l).sound;
               within = joined_within view (world.leaves l.0) world.truth part.within (kept.leaves l).within;
             })
@@ -304,7 +315,8 @@ module _ (setting : Setting) (world : World) (kept : IsKept setting world) where
         ranges = λ r. still (world.ranges r.0) (kept.ranges r);
         whole_leaves = λ o. changed_by world.leaves l.0 (joined view (world.leaves l.0))
             (λ n x. of_leaf x (leaf_numbered n) ≡ of_leaf world.truth (leaf_numbered n))
-            (joined_whole_leaf view (world.leaves l.0) world.truth part.within (kept.leaves l).within l (kept.whole_leaves l))
+            (joined_whole_leaf view (world.leaves l.0) world.truth part.within (kept.leaves l).within l
+            (kept.whole_leaves l))
             (λ n apart. kept.whole_leaves (leaf_numbered n)) o.0;
         whole_ranges = kept.whole_ranges;
         settled = kept.settled;
@@ -339,7 +351,8 @@ module _ (setting : Setting) (world : World) (kept : IsKept setting world) where
         leaves = λ l. still_told (world.leaves l.0) (kept.leaves l);
         ranges = λ o. changed_by world.ranges r.0 (joined view (world.ranges r.0)) (λ n x. IsPart setting told x)
             (record {
-              sound = joined_sound view (world.ranges r.0) world.truth part.within (kept.ranges r).within setting part.sound
+              sound = joined_sound view (world.ranges r.0) world.truth part.within (kept.ranges r).within setting
+                  part.sound
                   (kept.ranges r).sound;
               within = joined_within view (world.ranges r.0) world.truth part.within (kept.ranges r).within;
             })
@@ -347,7 +360,8 @@ module _ (setting : Setting) (world : World) (kept : IsKept setting world) where
         whole_leaves = kept.whole_leaves;
         whole_ranges = λ o. changed_by world.ranges r.0 (joined view (world.ranges r.0))
             (λ n x. of_range x (range_numbered n) ≡ of_range world.truth (range_numbered n))
-            (joined_whole_range view (world.ranges r.0) world.truth part.within (kept.ranges r).within r (kept.whole_ranges r))
+            (joined_whole_range view (world.ranges r.0) world.truth part.within (kept.ranges r).within r
+            (kept.whole_ranges r))
             (λ n apart. kept.whole_ranges (range_numbered n)) o.0;
         settled = kept.settled;
         actors = λ j. actor_stays setting world told j (world.actors j) (keeps_told j) (kept.actors j);

@@ -3,7 +3,9 @@ use Rattle.std.proofs.Common.{◌≡◌, List}
 use Rattle.mon_value.specs.declared.histories.Entry.{Entry}
 use Rattle.mon_value.specs.declared.positions.Leaf.{Leaf}
 use Rattle.mon_value.specs.declared.positions.Range.{Range}
-use Rattle.mon_topo.proofs.HeldLemmas.{joined_seen_first, joined_seen_held, joined_seen_leaf_by, joined_seen_whole_leaf, joined_seen_whole_range, joined_seen_within, seen_within_itself, seen_within_through}
+use Rattle.mon_topo.proofs.HeldLemmas.{joined_seen_first, joined_seen_held, joined_seen_leaf_by}
+use Rattle.mon_topo.proofs.HeldLemmas.{joined_seen_whole_leaf, joined_seen_whole_range, joined_seen_within}
+use Rattle.mon_topo.proofs.HeldLemmas.{seen_within_itself, seen_within_through}
 use Rattle.mon_hints.specs.Covers.{AreBitsWithin, Bits, Covers}
 use Rattle.mon_hints.specs.HistoryBuckets.{history_buckets}
 use Rattle.mon_hints.proofs.CoverLemmas.{covers_more, joined_bits_first, joined_bits_second, joined_bits_within}

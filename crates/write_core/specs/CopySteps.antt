@@ -12,7 +12,8 @@ use Rattle.mon_value.specs.declared.rows.Row.{Row}
 use Rattle.mon_topo.specs.RangeHistories.{MayFollow, opened, serving}
 use Rattle.mon_topo.specs.Settings.{Setting, zone_of_leaf}
 use Rattle.mon_hints.specs.HistoryBuckets.{rows_buckets}
-use Rattle.write_core.specs.Recovering.{Admits, Beginning, Carrying, CopyStage, CopyTold, Copying, Denied, Gives, HasRoom, Nearing, Over, Sources, Telling, WasDone, WasDown, Within, copying}
+use Rattle.write_core.specs.Recovering.{Admits, Beginning, Carrying, CopyStage, CopyTold, Copying, Denied, Gives}
+use Rattle.write_core.specs.Recovering.{HasRoom, Nearing, Over, Sources, Telling, WasDone, WasDown, Within, copying}
 use Rattle.write_core.specs.Steps.{AreUnraised, unchanged}
 use Rattle.write_core.specs.Views.{View, of_leaf, of_range, with_entry, with_range_entry, with_root_bit, with_zone_bit}
 use Rattle.write_core.specs.World.{Actor, Recovers, Recovery, Stands, World, Writes, at_leaf, at_range, recovers_on}

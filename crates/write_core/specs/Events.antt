@@ -12,7 +12,8 @@ use Rattle.write_core.specs.Program.{Locking}
 use Rattle.write_core.specs.Recovering.{Beginning, CopyTold}
 use Rattle.write_core.specs.Steps.{CanCome, step}
 use Rattle.write_core.specs.Views.{View, joined, of_leaf, with_entry}
-use Rattle.write_core.specs.World.{Actor, IsPart, Recovers, Stands, World, Writer, Writes, changed, pass_of, view_of, wiser}
+use Rattle.write_core.specs.World.{Actor, IsPart, Recovers, Stands, World, Writer, Writes, changed, pass_of, view_of}
+use Rattle.write_core.specs.World.{wiser}
 use Rattle.write_core.specs.declared.asks.WriteTold.{WriteTold}
 
 -- a leaf goes down or comes up, while nobody holds it, by someone who has seen so much

@@ -1,5 +1,6 @@
 -- What every interleaving of writes and recoveries keeps.
-use Rattle.std.specs.Prelude.{ℕ, suc, ◌≡◌, ◌<◌, ◌≤◌, ◌||◌, Bool, true, false, List, [], ◌∷◌, ◌++◌, length, map, slice_get, Some, None, Contains, if◌then◌else◌}
+use Rattle.std.specs.Prelude.{ℕ, suc, ◌≡◌, ◌<◌, ◌≤◌, ◌||◌, Bool, true, false, List, [], ◌∷◌, ◌++◌, length, map}
+use Rattle.std.specs.Prelude.{slice_get, Some, None, Contains, if◌then◌else◌}
 use Rattle.std.specs.List.{AllByRecursion}
 use Rattle.mon_hints.specs.Listings.{is_among}
 use Rattle.mon_value.specs.LeafHistories.{IsDownAt, is_down, is_opened, replica_rows}
@@ -22,7 +23,8 @@ use Rattle.write_core.specs.Rounds.{Round, marks_of}
 use Rattle.write_core.specs.Deeds.{HasDone, IsUnused}
 use Rattle.mon_topo.specs.Settings.{Setting, zone_of_leaf}
 use Rattle.write_core.specs.Views.{IsSound, View, of_leaf, of_range}
-use Rattle.write_core.specs.World.{Actor, IsPart, Recovers, Recovery, Stander, Stands, World, Writer, Writes, pass_of, put_of}
+use Rattle.write_core.specs.World.{Actor, IsPart, Recovers, Recovery, Stander, Stands, World, Writer, Writes, pass_of}
+use Rattle.write_core.specs.World.{put_of}
 use Rattle.write_core.specs.declared.marks.Fate.{Fate}
 use Rattle.write_core.specs.declared.marks.Fate.TheVariants as fate
 use Rattle.write_core.specs.declared.marks.Mark.{Mark}
@@ -126,8 +128,8 @@ pub record IsGoing (world : World) (i : ℕ) (setting : Setting) (writer : Write
   pub fresh : IsFresh world.truth writer.range (length (opened (of_range world.truth writer.range)))
   pub each : AllByRecursion (IsMark world writer) marks
 
--- inside a leaf: someone who knows so much holds the leaf, which is up, has seen all of its history, and each bucket that is
--- needed is raised or is still to be raised
+-- inside a leaf: someone who knows so much holds the leaf, which is up, has seen all of its history, and each bucket
+-- that is needed is raised or is still to be raised
 pub record IsInside (setting : Setting) (world : World) (i : ℕ) (view : View) (leaf : Leaf)
     (needed at_root in_zone : List ℕ) : Type 0 where
   pub holder : world.leaf_holder leaf.0 ≡ Some i
@@ -283,9 +285,9 @@ IsActor setting world i (Stands stander) = IsStander setting world stander
 abbrev pub AreApart : (ℕ → Actor) → Type 0
 AreApart actors = (i j : ℕ) → pass_of (actors i) ≡ pass_of (actors j) → i ≡ j
 
--- the histories are well formed, legal and held, and all is led to; so is what each leaf, each range and each actor has
--- seen; a leaf and a range have seen all of their own history; a range that nobody holds has its replicas settled; and each
--- actor has a pass of its own
+-- the histories are well formed, legal and held, and all is led to; so is what each leaf, each range and each actor
+-- has seen; a leaf and a range have seen all of their own history; a range that nobody holds has its replicas
+-- settled; and each actor has a pass of its own
 pub record IsKept (setting : Setting) (world : World) : Type 0 where
   pub truth : IsSound setting world.truth
   pub leaves : (leaf : Leaf) → IsPart setting world (world.leaves leaf.0)
@@ -330,8 +332,8 @@ pub record IsNew (setting : Setting) (world : World) : Type 0 where
   pub actors : (i : ℕ) → IsNewActor setting world (world.actors i)
   pub passes : AreApart world.actors
 
--- a write has seen its acknowledgement in its range's history, which is legal; and the leaves' histories bear it out: the
--- leaf of each replica that took the row has it, and that of each one that missed it was down
+-- a write has seen its acknowledgement in its range's history, which is legal; and the leaves' histories bear it out:
+-- the leaf of each replica that took the row has it, and that of each one that missed it was down
 pub record IsAcknowledged (setting : Setting) (writer : Writer) (marks : List Mark) : Type 0 where
   pub legal : IsLegal setting.held setting.zones setting.points writer.range (of_range writer.view writer.range)
   pub place : ℕ
@@ -340,8 +342,8 @@ pub record IsAcknowledged (setting : Setting) (writer : Writer) (marks : List Ma
   pub borne_out : IsBorneOut writer.view.seen writer.range (of_range writer.view writer.range) place
       (range_entry.Acked writer.pass writer.row (ack_of writer.range marks))
 
--- a recovery has seen the opening of its replica in its range's history, which is legal; and its leaf's history bears it out:
--- the leaf took over the rows that were acknowledged before
+-- a recovery has seen the opening of its replica in its range's history, which is legal; and its leaf's history bears
+-- it out: the leaf took over the rows that were acknowledged before
 pub record IsRecovered (setting : Setting) (recovery : Recovery) : Type 0 where
   pub legal : IsLegal setting.held setting.zones setting.points recovery.range
       (of_range recovery.view recovery.range)

@@ -1,5 +1,6 @@
 -- The events of writes: when each can come and with what answer, and what it makes of the world.
-use Rattle.std.specs.Prelude.{ℕ, ◌≡◌, ◌<◌, ◌≤ℤ◌, ◌&&◌, true, false, not, List, [], ◌∷◌, ◌++◌, length, Option, Some, None, if◌then◌else◌}
+use Rattle.std.specs.Prelude.{ℕ, ◌≡◌, ◌<◌, ◌≤ℤ◌, ◌&&◌, true, false, not, List, [], ◌∷◌, ◌++◌, length, Option, Some}
+use Rattle.std.specs.Prelude.{None, if◌then◌else◌}
 use Rattle.std.specs.List.Sorted.{IsStrictlyIncreasing}
 use Rattle.mon_hints.specs.Listings.{is_among}
 use Rattle.mon_value.specs.LeafHistories.{is_down}
@@ -11,7 +12,8 @@ use Rattle.mon_value.specs.declared.rows.Row.{Row}
 use Rattle.mon_topo.specs.RangeHistories.{acked, serving}
 use Rattle.mon_hints.specs.HistoryBuckets.{history_buckets}
 use Rattle.write_core.specs.Marks.{ack_of, some_took}
-use Rattle.write_core.specs.Program.{Acking, Ended, Entering, Inside, Locking, Marked, Not, Reserving, Stage, Verdict, after}
+use Rattle.write_core.specs.Program.{Acking, Ended, Entering, Inside, Locking, Marked, Not, Reserving, Stage, Verdict}
+use Rattle.write_core.specs.Program.{after}
 use Rattle.mon_topo.specs.Settings.{Setting, zone_of_leaf}
 use Rattle.write_core.specs.Views.{View, of_leaf, of_range, with_entry, with_range_entry, with_root_bit, with_zone_bit}
 use Rattle.write_core.specs.World.{Actor, Recovers, Stands, World, Writer, Writes, at_leaf, at_range, put_of, writes_on}

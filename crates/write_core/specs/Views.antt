@@ -1,4 +1,5 @@
--- What someone has seen of all histories, and knows of the hint words; how two of these come together, and how one grows.
+-- What someone has seen of all histories, and knows of the hint words; how two of these come together, and how one
+-- grows.
 use Rattle.std.specs.Prelude.{ℕ, List}
 use Rattle.mon_value.specs.declared.histories.Entry.{Entry}
 use Rattle.mon_value.specs.declared.histories.RangeEntry.{RangeEntry}

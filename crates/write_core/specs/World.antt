@@ -85,8 +85,8 @@ put_of writer mark = entry.Put writer.pass writer.range mark.slot writer.row
 
 -- ---- the world
 
--- the whole histories and the words themselves; what each leaf and each range has seen and knows; who holds which leaf and
--- which range; and the actors
+-- the whole histories and the words themselves; what each leaf and each range has seen and knows; who holds which
+-- leaf and which range; and the actors
 pub record World : Type 0 where
   pub truth : View
   pub leaves : ℕ → View

@@ -17,7 +17,8 @@ pub enum WriteAsk {
     RaiseZone(u32),
     /// Append the row to the leaf's history, and let go of the leaf's lock.
     Put(Slot, Leaf),
-    /// Append the acknowledgement to the range's history where some replica took the row, and let go of the range's lock.
+    /// Append the acknowledgement to the range's history where some replica took the row, and let go of the range's
+    /// lock.
     Ack,
     /// Nothing is left to do.
     Finished,

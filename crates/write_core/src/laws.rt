@@ -24,18 +24,20 @@ pub fn writes_run_their_course()
     ensures decided { (answers : List WriteTold) → EndsDecided (after_all Locking answers) }
 {}
 
-/// Whichever writes and recoveries go on, in whatever order, and whatever they are told, while leaves go down and come
-/// up, the invariant stays; it holds before any of them has begun; what someone has seen stays a sound part of the truth, also
-/// together with what another one has; a write that has ended, and that some replica took, stands acknowledged in a
-/// legal history; and the histories have one put of a write for each replica that took its row, on that replica's
-/// leaf and on no other, and one acknowledgement once it ended, if some replica took the row. A recovery that opened
-/// its replica has that in a legal history, and the replica's leaf took over the rows that were acknowledged before.
+/// Whichever writes and recoveries go on, in whatever order, and whatever they are told, while leaves go down and
+/// come up, the invariant stays; it holds before any of them has begun; what someone has seen stays a sound part of
+/// the truth, also together with what another one has; a write that has ended, and that some replica took, stands
+/// acknowledged in a legal history; and the histories have one put of a write for each replica that took its row, on
+/// that replica's leaf and on no other, and one acknowledgement once it ended, if some replica took the row. A
+/// recovery that opened its replica has that in a legal history, and the replica's leaf took over the rows that were
+/// acknowledged before.
 pub fn writes_keep_the_invariant()
     ensures begins { (setting : Setting) (world : World) → IsNew setting world → IsKept setting world }
     ensures stays { (setting : Setting) (world : World) (events : List Event) → CanRun setting world events
         → IsKept setting world → IsKept setting (run setting world events) }
-    ensures parts { (setting : Setting) (world : World) (events : List Event) (view : View) → CanRun setting world events
-        → IsKept setting world → IsPart setting world view → IsPart setting (run setting world events) view }
+    ensures parts { (setting : Setting) (world : World) (events : List Event) (view : View)
+        → CanRun setting world events → IsKept setting world → IsPart setting world view
+        → IsPart setting (run setting world events) view }
     ensures meets { (setting : Setting) (world : World) (a b : View) → IsPart setting world a → IsPart setting world b
         → IsPart setting world (joined a b) }
     ensures ended { (setting : Setting) (world : World) (i : ℕ) (writer : Writer) → IsKept setting world

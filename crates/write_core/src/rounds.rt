@@ -20,7 +20,10 @@ impl Model for Round {
 
     ghost Value = { spec.Round };
 
-    ghost view = { λ round. record { done = take round.place round.marks.items; left = drop round.place round.marks.items } };
+    ghost view = { λ round. record {
+      done = take round.place round.marks.items;
+      left = drop round.place round.marks.items;
+    } };
 }
 
 impl Round {

@@ -10,7 +10,8 @@ use Rattle.mon_fold.specs.PartialGroups.{row_finished}
 use Rattle.mon_fold.specs.declared.answers.Piece.{Piece}
 use Rattle.mon_fold.specs.declared.answers.Piece.TheVariants as piece
 use Rattle.mon_meaning.specs.Operations.{CanOperate, operation_load, operation_rows}
-use Rattle.mon_meaning.specs.within.Paths.{Leads, first_input, node_count}
+use Rattle.mon_meaning.specs.within.Paths.{Leads, first_input}
+use Rattle.mql_types.specs.ExplanationParts.{nodes}
 use Rattle.mixer.specs.Mixing.{part_count}
 
 -- the rows of a table, or those that groups finish to
@@ -37,7 +38,7 @@ is_piece here (node.Union info left right) = here info.level
 pub record IsInput (here : Level → Bool) (tree input : NodeTree) : Type 0 where
   pub first : input ≡ first_input tree
   pub above : is_piece here tree ≡ false
-  pub smaller : node_count input < node_count tree
+  pub smaller : nodes input < nodes tree
 
 -- the way from the top of a tree down to the first piece
 pub record IsWayDown (here : Level → Bool) (above : List NodeTree) (top : NodeTree) : Type 0 where
@@ -137,7 +138,8 @@ behind_first here tree pieces = drop (part_count here (first_input tree)) pieces
 -- a node's operation can be done, where the load so far is within the rows that a table may have
 abbrev pub Operates : ℕ → (Level → Bool) → NodeTree → List Piece → Type 0
 Operates base here tree pieces =
-    IsWithinRows (base + joins_from here (first_input tree) pieces + other_joins here tree (behind_first here tree pieces))
+    IsWithinRows (base + joins_from here (first_input tree) pieces + other_joins here tree
+    (behind_first here tree pieces))
     → CanOperate tree (rows_from here (first_input tree) pieces) (other_rows here tree (behind_first here tree pieces))
 
 -- each operation above the pieces can be done, where the load before is `base`
@@ -152,7 +154,8 @@ CanMix base here (node.GroupBy info by with input) pieces =
 CanMix base here (node.Value info items input) pieces =
     Unless (here info.level) (Operates base here (node.Value info items input) pieces × CanMix base here input pieces)
 CanMix base here (node.Top info most column input) pieces =
-    Unless (here info.level) (Operates base here (node.Top info most column input) pieces × CanMix base here input pieces)
+    Unless (here info.level) (Operates base here (node.Top info most column input) pieces × CanMix base here input
+    pieces)
 CanMix base here (node.Join info left right) pieces =
     Unless (here info.level)
     (Operates base here (node.Join info left right) pieces

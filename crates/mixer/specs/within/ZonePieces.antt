@@ -31,7 +31,8 @@ abbrev pub IsHandedOn : PartUse → List Piece → Piece → Type 0
 IsHandedOn use_of [] made = ⊥
 IsHandedOn use_of (piece ∷ pieces) made = made ≡ piece_cut use_of piece
 
--- what goes up of a part: the leaves' piece, where leaves do all of it, and else one of the rows that are made of theirs
+-- what goes up of a part: the leaves' piece, where leaves do all of it, and else one of the rows that are made of
+-- theirs
 abbrev pub IsHandedUpBy : Bool → TopPart → List Piece → Piece → Type 0
 IsHandedUpBy true part pieces made = IsHandedOn part.0 pieces made
 IsHandedUpBy false part pieces made = StandsFor (columns_of part.1) (part.0, rows_from is_leaf part.1 pieces) made

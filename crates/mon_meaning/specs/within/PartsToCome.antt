@@ -1,15 +1,12 @@
 -- What is still to be gone through of a tree, for the parts of which pieces go up.
 use Rattle.std.specs.Prelude.{ℕ, ◌+◌, Bool, List, [], ◌∷◌, ◌++◌}
+use Rattle.mql_types.specs.ExplanationParts.{nodes}
 use Rattle.mql_types.specs.Nodes.{NodeTree, level_of, node_tree}
 use Rattle.mql_types.specs.Pieces as spec
 use Rattle.mql_types.specs.Pieces.{part_or, top_parts}
 use Rattle.mql_types.specs.declared.levels.Level.{Level}
 use Rattle.mon_meaning.specs.TopParts as seen
 use Rattle.mon_meaning.specs.declared.parts_up.TopPart.{TopPart}
-use Rattle.mon_meaning.specs.within.Paths.{node_count}
-
-abbrev pub nodes : NodeTree → ℕ
-nodes tree = node_count tree
 
 abbrev pub part_seen : TopPart → spec.TopPart
 part_seen part = seen.part_seen part
@@ -27,7 +24,7 @@ parts_left here [] = []
 parts_left here (part ∷ parts) = parts_left here parts ++ parts_of_part here (part_seen part)
 
 abbrev pub part_nodes : TopPart → ℕ
-part_nodes part = node_count (node_tree part.part.now)
+part_nodes part = nodes (node_tree part.part.now)
 
 abbrev pub nodes_left : List TopPart → ℕ
 nodes_left [] = 0

@@ -72,14 +72,3 @@ own_load grid (node.Top info most column input) series = 0
 own_load grid (node.Join info left right) series =
     load_by_series grid right series + length (rows_by_series grid (node.Join info left right) series)
 own_load grid (node.Union info left right) series = load_by_series grid right series
-
--- how many nodes a tree has
-abbrev pub node_count : NodeTree → ℕ
-node_count (node.Fetch info schema metric) = 1
-node_count (node.Filter info by input) = node_count input + 1
-node_count (node.Align info by input) = node_count input + 1
-node_count (node.GroupBy info by with input) = node_count input + 1
-node_count (node.Value info items input) = node_count input + 1
-node_count (node.Top info most column input) = node_count input + 1
-node_count (node.Join info left right) = node_count left + node_count right + 1
-node_count (node.Union info left right) = node_count left + node_count right + 1

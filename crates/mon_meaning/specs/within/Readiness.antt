@@ -16,7 +16,8 @@ use Rattle.mql_types.specs.Nodes as node
 use Rattle.mql_types.specs.Nodes.{NodeTree, columns_of}
 use Rattle.mql_types.specs.Soundness.{IsWithinRows}
 use Rattle.mon_meaning.specs.within.KeyFilters.{KeysDecide, fetches}
-use Rattle.mon_meaning.specs.within.SeriesMeaning.{SeriesGroup, load_by_series, points_flowing, reach_count, rows_by_series}
+use Rattle.mon_meaning.specs.within.SeriesMeaning.{SeriesGroup, load_by_series, points_flowing, reach_count}
+use Rattle.mon_meaning.specs.within.SeriesMeaning.{rows_by_series}
 
 -- series of which an alignment can be made
 pub record AreAlignable (grid : Grid) (by : Aligner) (input : NodeTree) (series : List SeriesGroup) : Type 0 where

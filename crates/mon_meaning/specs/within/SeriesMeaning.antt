@@ -79,4 +79,5 @@ load_by_series grid (node.Top info most column input) series = load_by_series gr
 load_by_series grid (node.Join info left right) series =
     load_by_series grid left series + load_by_series grid right series
     + length (rows_by_series grid (node.Join info left right) series)
-load_by_series grid (node.Union info left right) series = load_by_series grid left series + load_by_series grid right series
+load_by_series grid (node.Union info left right) series = load_by_series grid left series + load_by_series grid right
+    series

@@ -1,5 +1,6 @@
 // The folder of real files.
-ghost use Rattle.std.specs.Prelude.{◌≤◌, length, IfOk};
+ghost use Rattle.std.specs.Prelude.{◌≡◌, ◌≤◌, [], length, take, IfOk, IfSome, None};
+ghost use Rattle.mon_run.specs.Folders.{folder_state};
 
 use crate::outside::folder::{Asked, Folder, FolderFault, Reads, has_failed};
 use mon_value::Text;
@@ -18,7 +19,9 @@ pub struct FileFolder<'a, R: Files> {
 
 impl<'a, R: Files> FileFolder<'a, R> {
     /// The files of a system.
-    pub fn new(alloc: Global, files: &'a R) -> FileFolder<'a, R> {
+    pub fn new(alloc: Global, files: &'a R) -> FileFolder<'a, R>
+        ensures unasked { ⟦<FileFolder<'a, R> as Folder>⟧.state result ≡ folder_state None [] }
+    {
         FileFolder {
             files,
             reads: Reads::new(alloc),
@@ -67,7 +70,9 @@ fn read_file<R: Files>(alloc: Global, files: &R, name: &str, most: u64) -> io::R
 
 /// What a reader gives up to its end, and no more than `most` bytes of it. A reader that gives less than
 /// was asked for is asked again.
-pub fn read_front<R: Read + Drop>(alloc: Global, reader: R, most: u64) -> io::Result<Vec<u8>> {
+pub fn read_front<R: Read + Drop>(alloc: Global, reader: R, most: u64) -> io::Result<Vec<u8>>
+    ensures front { IfOk result (λ content. IfSome (R.remaining reader) (λ bytes. content.items ≡ take most bytes)) }
+{
     let mut content = Vec::new(alloc);
     reader.take(most).read_to_end(&mut content)?;
     Ok(content)

@@ -1,5 +1,5 @@
 // Sinks: in memory, and the standard output.
-ghost use Rattle.std.specs.Prelude.{◌≡◌, [], Some};
+ghost use Rattle.std.specs.Prelude.{◌≡◌, [], None, Some};
 ghost use Rattle.mon_run.specs.Sinks.{sink_state};
 
 use crate::outside::sink::{Failed, Sink};
@@ -69,7 +69,9 @@ pub struct OutSink<'a, P: Print> {
 
 impl<'a, P: Print> OutSink<'a, P> {
     /// The output of a system.
-    pub fn new(output: &'a P) -> OutSink<'a, P> {
+    pub fn new(output: &'a P) -> OutSink<'a, P>
+        ensures fresh { ⟦<OutSink<'a, P> as Sink>⟧.state result ≡ sink_state None 0 }
+    {
         OutSink { output, faults: 0 }
     }
 }

@@ -1,5 +1,6 @@
 -- Rows as they are kept: the points of each series, and the places of the points in the order in which they came.
-use Rattle.std.specs.Prelude.{◌≡◌, ℕ, zero, suc, ◌<◌, ◌<ℤ◌, ◌^◌, true, List, [], ◌∷◌, ◌++◌, length, is_some, slice_get, Option, Some, None, option_map, IfSome}
+use Rattle.std.specs.Prelude.{◌≡◌, ℕ, zero, suc, ◌<◌, ◌<ℤ◌, ◌^◌, true, List, [], ◌∷◌, ◌++◌, length, is_some, slice_get}
+use Rattle.std.specs.Prelude.{Option, Some, None, option_map, IfSome}
 use Rattle.std.specs.List.{AllByRecursion}
 use Rattle.mon_value.specs.Sources.{last_end, points_by_series}
 use Rattle.mon_value.specs.declared.rows.Point.{Point}

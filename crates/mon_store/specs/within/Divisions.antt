@@ -24,7 +24,8 @@ leaf_rows config rows n = slots_rows config rows (first_slots config.topology n 
 -- the rows of a zone's leaves
 abbrev pub zone_rows : Config → List Row → ℕ → List (List Row)
 zone_rows config rows zone =
-    listed (λ i. leaf_rows config rows (first_leaf config.topology zone + i)) (length (zone_at config.topology zone).leaves)
+    listed (λ i. leaf_rows config rows (first_leaf config.topology zone + i))
+    (length (zone_at config.topology zone).leaves)
 
 -- the rows of all zones
 abbrev pub divided_rows : Config → List Row → List (List (List Row))

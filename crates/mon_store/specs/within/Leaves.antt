@@ -95,11 +95,6 @@ HasEntry leaf last old new =
     (n : ℕ) → slice_get new n
     ≡ (if nat_eq leaf.0 n then option_map (λ history. history ++ last ∷ []) (slice_get old n) else slice_get old n)
 
--- one of the leaves was changed
-abbrev pub IsChanged : Leaf → (LeafView → LeafView) → List LeafView → List LeafView → Type 0
-IsChanged leaf change old new =
-    (n : ℕ) → slice_get new n ≡ (if nat_eq leaf.0 n then option_map change (slice_get old n) else slice_get old n)
-
 -- a leaf that is none of some stays as it was
 abbrev pub Untouched : ℕ → List Leaf → List LeafView → List LeafView → Type 0
 Untouched n leaves old new = list_any (λ leaf. nat_eq n leaf.0) leaves ≡ false → slice_get new n ≡ slice_get old n

@@ -65,7 +65,7 @@ fn copied_items(alloc: Global, items: &[Item]) -> Result<Vec<Item>, AllocError>
     Ok(copied)
 }
 
-// Copies of all operations, in their order.
+/// Copies of all operations, in their order.
 pub fn copied_ops(alloc: Global, ops: &[Op]) -> Result<Vec<Op>, AllocError>
     ensures trees { IfOk result (λ copied. map op_tree copied.items ≡ map op_tree ops.now) }
 {

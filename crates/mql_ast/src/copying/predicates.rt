@@ -8,7 +8,7 @@ use crate::predicates::Predicate;
 use mon_value::TryCopy;
 use std::alloc::{AllocError, Global};
 
-// What is made of a predicate: its opposite, or an operator and what stands on its right.
+/// What is made of a predicate: its opposite, or an operator and what stands on its right.
 #[derive(Clone, Copy)]
 pub enum PredicateLink<'a> {
     Not,
@@ -19,7 +19,7 @@ pub enum PredicateLink<'a> {
 impl Predicate {
     /// A copy of a predicate: the same tree. The stack doesn't grow with a chain.
     #[cycle(predicate_copies)]
-    #[tactic(auto, using(crate::proofs::PredicateLinkLemmas::linked_tree_push, crate::proofs::PredicateLinkLemmas::linked_nodes_push))]
+    #[tactic(auto, using(crate::proofs::PredicateLinkLemmas::tree_push, crate::proofs::PredicateLinkLemmas::nodes_push))]
     pub fn copy(&self, alloc: Global) -> Result<Predicate, AllocError>
         ensures tree { IfOk result (λ copied. predicate_tree copied ≡ predicate_tree self.now) }
     {
@@ -34,7 +34,7 @@ impl Predicate {
 
 // A copy of the first condition of a predicate. What is made of it is put among the links, the last
 // first.
-#[tactic(auto, using(crate::proofs::PredicateLinkLemmas::linked_tree_push, crate::proofs::PredicateLinkLemmas::linked_nodes_push))]
+#[tactic(auto, using(crate::proofs::PredicateLinkLemmas::tree_push, crate::proofs::PredicateLinkLemmas::nodes_push))]
 fn copied_first<'a>(
     alloc: Global,
     links: &mut Vec<PredicateLink<'a>>,

@@ -8,7 +8,7 @@ use crate::expressions::Expr;
 use mon_value::TryCopy;
 use std::alloc::{AllocError, Global};
 
-// What goes on a sum: an operator, and what stands on its right.
+/// What goes on a sum: an operator, and what stands on its right.
 #[derive(Clone, Copy)]
 pub enum SumLink<'a> {
     Plus(&'a Expr),
@@ -18,7 +18,7 @@ pub enum SumLink<'a> {
 impl Expr {
     /// A copy of a sum: the same tree. The stack doesn't grow with a chain.
     #[cycle(sum_copies)]
-    #[tactic(auto, using(crate::proofs::SumLinkLemmas::linked_tree_push, crate::proofs::SumLinkLemmas::linked_nodes_push))]
+    #[tactic(auto, using(crate::proofs::SumLinkLemmas::tree_push, crate::proofs::SumLinkLemmas::nodes_push))]
     pub fn copy(&self, alloc: Global) -> Result<Expr, AllocError>
         ensures tree { IfOk result (λ copied. sum_tree copied ≡ sum_tree self.now) }
     {
@@ -32,7 +32,7 @@ impl Expr {
 }
 
 // A copy of the first term of a sum. What goes on from there is put among the links, the last first.
-#[tactic(auto, using(crate::proofs::SumLinkLemmas::linked_tree_push, crate::proofs::SumLinkLemmas::linked_nodes_push))]
+#[tactic(auto, using(crate::proofs::SumLinkLemmas::tree_push, crate::proofs::SumLinkLemmas::nodes_push))]
 fn copied_first<'a>(
     alloc: Global,
     links: &mut Vec<SumLink<'a>>,

@@ -8,7 +8,7 @@ use crate::predicates::Pieces;
 use mon_value::Text;
 use std::alloc::AllocError;
 
-// The signs that stand behind a backslash.
+/// The signs that stand behind a backslash.
 #[derive(Clone, Copy)]
 pub enum Marks {
     Text,
@@ -72,7 +72,7 @@ fn push_sign(out: &mut String, sign: char, marks: Marks) -> Result<(), AllocErro
     out.push(sign)
 }
 
-// The text in quotes.
+/// The text in quotes.
 pub fn push_quoted(out: &mut String, text: &str) -> Result<(), AllocError>
     ensures { OnOk result (string_bytes out.new ≡ string_bytes out.old ++ quoted text.now) }
 {
@@ -81,7 +81,7 @@ pub fn push_quoted(out: &mut String, text: &str) -> Result<(), AllocError>
     out.push_str("\"")
 }
 
-// The signs of a pattern, in quotes.
+/// The signs of a pattern, in quotes.
 pub fn push_pattern(out: &mut String, pieces: &Pieces) -> Result<(), AllocError>
     ensures { OnOk result (string_bytes out.new ≡ string_bytes out.old ++ quoted (pattern_signs pieces.now)) }
 {

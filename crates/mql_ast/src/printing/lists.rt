@@ -9,7 +9,7 @@ use crate::printing::sums::print_sum;
 use crate::printing::words::{push_column, push_label};
 use std::alloc::AllocError;
 
-// What stands in a list.
+/// What stands in a list.
 pub trait Print {
     ghost use Rattle.std.specs.Prelude.{List, ℕ};
 
@@ -19,7 +19,7 @@ pub trait Print {
         ensures text { OnOk result (string_bytes out.new ≡ string_bytes out.old ++ text self.now) };
 }
 
-// The items, with a comma and a blank between each two.
+/// The items, with a comma and a blank between each two.
 pub fn print_list<T: Print>(out: &mut String, items: &[T]) -> Result<(), AllocError>
     ensures text { OnOk result (string_bytes out.new
         ≡ string_bytes out.old ++ separated comma (map T.text items.now)) }

@@ -11,7 +11,7 @@ use crate::printing::predicates::print_predicate;
 use crate::printing::words::{push_aligner, push_duration, push_number};
 use std::alloc::AllocError;
 
-// Operations, each behind a bar.
+/// Operations, each behind a bar.
 pub fn print_ops(out: &mut String, ops: &[Op]) -> Result<(), AllocError>
     ensures text { OnOk result (string_bytes out.new ≡ string_bytes out.old ++ ops_text (map op_tree ops.now)) }
 {

@@ -8,6 +8,7 @@ use crate::pipes::{How, Pipe, Source};
 use crate::printing::operations::print_ops;
 use std::alloc::AllocError;
 
+/// Prints a pipe: its source, and then its operations.
 #[cycle(printing)]
 pub fn print_pipe(out: &mut String, pipe: &Pipe) -> Result<(), AllocError>
     ensures text { OnOk result (string_bytes out.new ≡ string_bytes out.old ++ pipe_text (pipe_tree pipe.now)) }

@@ -10,16 +10,16 @@ use crate::printing::escapes::push_pattern;
 use crate::printing::words::push_value;
 use std::alloc::AllocError;
 
-// What is still to be printed: a predicate, with how closely an operator beside it binds, or signs.
+/// What is still to be printed: a predicate, with how closely an operator beside it binds, or signs.
 #[derive(Drop)]
 pub enum PredicatePart<'a> {
     Predicate(&'a Predicate, u8),
     Signs(&'static str),
 }
 
-// Prints a predicate. What is still to come is kept in a list, since a chain may have many thousand
-// conditions.
-#[tactic(auto, using(crate::proofs::PredicatePartLemmas::remaining_text_push, crate::proofs::PredicatePartLemmas::remaining_weight_push))]
+/// Prints a predicate. What is still to come is kept in a list, since a chain may have many thousand
+/// conditions.
+#[tactic(auto, using(crate::proofs::PredicatePartLemmas::text_push, crate::proofs::PredicatePartLemmas::weight_push))]
 pub fn print_predicate(out: &mut String, predicate: &Predicate) -> Result<(), AllocError>
     ensures text { OnOk result (string_bytes out.new
         ≡ string_bytes out.old ++ predicate_text 0 (predicate_tree predicate.now)) }
@@ -38,7 +38,7 @@ pub fn print_predicate(out: &mut String, predicate: &Predicate) -> Result<(), Al
 }
 
 // Prints a condition, or puts the parts of a predicate among those to come, its first part last.
-#[tactic(auto, using(crate::proofs::PredicatePartLemmas::remaining_text_push, crate::proofs::PredicatePartLemmas::remaining_weight_push))]
+#[tactic(auto, using(crate::proofs::PredicatePartLemmas::text_push, crate::proofs::PredicatePartLemmas::weight_push))]
 fn print_part<'a>(
     out: &mut String,
     parts: &mut Vec<PredicatePart<'a>>,
@@ -46,7 +46,8 @@ fn print_part<'a>(
     level: u8,
 ) -> Result<(), AllocError>
     ensures text { OnOk result (string_bytes out.new ++ remaining_text parts.new.items
-        ≡ string_bytes out.old ++ (predicate_text level (predicate_tree predicate.now) ++ remaining_text parts.old.items)) }
+        ≡ string_bytes out.old ++ (predicate_text level (predicate_tree predicate.now)
+        ++ remaining_text parts.old.items)) }
     ensures less { OnOk result (remaining_weight parts.new.items
         < part_weight (PredicatePart.Predicate predicate.entry level) + remaining_weight parts.old.items) }
 {
@@ -70,7 +71,7 @@ fn print_part<'a>(
 }
 
 // The first parenthesis, where there are any, with the last to come.
-#[tactic(auto, using(crate::proofs::PredicatePartLemmas::remaining_text_push, crate::proofs::PredicatePartLemmas::remaining_weight_push))]
+#[tactic(auto, using(crate::proofs::PredicatePartLemmas::text_push, crate::proofs::PredicatePartLemmas::weight_push))]
 fn open(
     out: &mut String,
     parts: &mut Vec<PredicatePart<'_>>,
@@ -89,7 +90,7 @@ fn open(
 }
 
 // Two operands with their sign, the first of them last.
-#[tactic(auto, using(crate::proofs::PredicatePartLemmas::remaining_text_push, crate::proofs::PredicatePartLemmas::remaining_weight_push))]
+#[tactic(auto, using(crate::proofs::PredicatePartLemmas::text_push, crate::proofs::PredicatePartLemmas::weight_push))]
 fn push_operands<'a>(
     parts: &mut Vec<PredicatePart<'a>>,
     left: (&'a Predicate, u8),
@@ -98,10 +99,12 @@ fn push_operands<'a>(
 ) -> Result<(), AllocError>
     ensures to_come { OnOk result (remaining_text parts.new.items
         ≡ predicate_text left.entry.1 (predicate_tree left.entry.0.now)
-        ++ (sign.now ++ (predicate_text right.entry.1 (predicate_tree right.entry.0.now) ++ remaining_text parts.old.items))) }
+        ++ (sign.now ++ (predicate_text right.entry.1 (predicate_tree right.entry.0.now)
+        ++ remaining_text parts.old.items))) }
     ensures weight { OnOk result (remaining_weight parts.new.items
         ≡ part_weight (PredicatePart.Predicate left.entry.0 left.entry.1)
-        + (1 + (part_weight (PredicatePart.Predicate right.entry.0 right.entry.1) + remaining_weight parts.old.items))) }
+        + (1 + (part_weight (PredicatePart.Predicate right.entry.0 right.entry.1)
+        + remaining_weight parts.old.items))) }
 {
     parts.push(PredicatePart::Predicate(right.0, right.1))?;
     parts.push(PredicatePart::Signs(sign))?;

@@ -1,5 +1,6 @@
 // Sums.
-ghost use Rattle.std.specs.Prelude.{◌≡◌, ◌+◌, ◌<◌, ◌++◌, ◌∷◌, [], OnOk, string_bytes, true, false, codes, if◌then◌else◌};
+ghost use Rattle.std.specs.Prelude.{◌≡◌, ◌+◌, ◌<◌, ◌++◌, ◌∷◌, [], OnOk, string_bytes, true, false, codes};
+ghost use Rattle.std.specs.Prelude.{if◌then◌else◌};
 ghost use Rattle.mql_ast.specs.Trees.{sum_tree};
 ghost use Rattle.mql_ast.specs.Printed.{sum_text, share_text};
 ghost use Rattle.mql_ast.specs.SumParts.{part_text, remaining_text, part_weight, remaining_weight};
@@ -9,15 +10,15 @@ use crate::names::Name;
 use crate::printing::words::{push_number, push_signed};
 use std::alloc::AllocError;
 
-// What is still to be printed: a sum, as an operand or whole, or signs.
+/// What is still to be printed: a sum, as an operand or whole, or signs.
 #[derive(Drop)]
 pub enum SumPart<'a> {
     Sum(&'a Expr, bool),
     Signs(&'static str),
 }
 
-// Prints a sum. What is still to come is kept in a list, since a chain may have many thousand terms.
-#[tactic(auto, using(crate::proofs::SumPartLemmas::remaining_text_push, crate::proofs::SumPartLemmas::remaining_weight_push))]
+/// Prints a sum. What is still to come is kept in a list, since a chain may have many thousand terms.
+#[tactic(auto, using(crate::proofs::SumPartLemmas::text_push, crate::proofs::SumPartLemmas::weight_push))]
 pub fn print_sum(out: &mut String, sum: &Expr) -> Result<(), AllocError>
     ensures text { OnOk result (string_bytes out.new ≡ string_bytes out.old ++ sum_text false (sum_tree sum.now)) }
 {
@@ -33,7 +34,7 @@ pub fn print_sum(out: &mut String, sum: &Expr) -> Result<(), AllocError>
 }
 
 // Prints a term, or puts the parts of a sum among those to come, its first part last.
-#[tactic(auto, using(crate::proofs::SumPartLemmas::remaining_text_push, crate::proofs::SumPartLemmas::remaining_weight_push))]
+#[tactic(auto, using(crate::proofs::SumPartLemmas::text_push, crate::proofs::SumPartLemmas::weight_push))]
 fn print_part<'a>(
     out: &mut String,
     parts: &mut Vec<SumPart<'a>>,
@@ -61,7 +62,7 @@ fn print_part<'a>(
 }
 
 // The first parenthesis, where there are any, with the last to come.
-#[tactic(auto, using(crate::proofs::SumPartLemmas::remaining_text_push, crate::proofs::SumPartLemmas::remaining_weight_push))]
+#[tactic(auto, using(crate::proofs::SumPartLemmas::text_push, crate::proofs::SumPartLemmas::weight_push))]
 fn open(out: &mut String, parts: &mut Vec<SumPart<'_>>, parentheses: bool) -> Result<(), AllocError>
     ensures signs { OnOk result (string_bytes out.new ≡ string_bytes out.old ++ (if parentheses then 40 ∷ [] else [])) }
     ensures to_come { OnOk result (remaining_text parts.new.items
@@ -76,7 +77,7 @@ fn open(out: &mut String, parts: &mut Vec<SumPart<'_>>, parentheses: bool) -> Re
 }
 
 // Two operands with their sign, the first of them last.
-#[tactic(auto, using(crate::proofs::SumPartLemmas::remaining_text_push, crate::proofs::SumPartLemmas::remaining_weight_push))]
+#[tactic(auto, using(crate::proofs::SumPartLemmas::text_push, crate::proofs::SumPartLemmas::weight_push))]
 fn push_operands<'a>(
     parts: &mut Vec<SumPart<'a>>,
     left: &'a Expr,

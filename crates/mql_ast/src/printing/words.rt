@@ -1,7 +1,8 @@
 // Words and numbers.
 ghost use Rattle.std.specs.Prelude.{◌≡◌, ◌++◌, OnOk, IfOk, string_bytes, codes};
 ghost use Rattle.std.specs.Fmt.{decimal, signed_decimal};
-ghost use Rattle.mql_ast.specs.Printed.{comparison_text, fold_text, how_text, value_text, label_text, column_text, duration_text, aligner_text};
+ghost use Rattle.mql_ast.specs.Printed.{comparison_text, fold_text, how_text, value_text, label_text, column_text};
+ghost use Rattle.mql_ast.specs.Printed.{duration_text, aligner_text};
 
 use crate::names::Name;
 use crate::operations::FoldWord;
@@ -56,6 +57,7 @@ impl How {
     }
 }
 
+/// A number in decimal digits.
 pub fn push_number(out: &mut String, n: u32) -> Result<(), AllocError>
     ensures { OnOk result (string_bytes out.new ≡ string_bytes out.old ++ decimal n) }
 {
@@ -63,6 +65,7 @@ pub fn push_number(out: &mut String, n: u32) -> Result<(), AllocError>
     out.push_str(digits.as_str())
 }
 
+/// A number in decimal digits, behind `-` where it is below zero.
 pub fn push_signed(out: &mut String, n: i64) -> Result<(), AllocError>
     ensures { OnOk result (string_bytes out.new ≡ string_bytes out.old ++ signed_decimal n) }
 {
@@ -70,6 +73,7 @@ pub fn push_signed(out: &mut String, n: i64) -> Result<(), AllocError>
     out.push_str(digits.as_str())
 }
 
+/// A duration in seconds, with its unit.
 pub fn push_duration(out: &mut String, seconds: i64) -> Result<(), AllocError>
     ensures { OnOk result (string_bytes out.new ≡ string_bytes out.old ++ duration_text seconds) }
 {
@@ -77,6 +81,7 @@ pub fn push_duration(out: &mut String, seconds: i64) -> Result<(), AllocError>
     out.push_str("s")
 }
 
+/// An aligner with its duration in parentheses.
 pub fn push_aligner(out: &mut String, by: Aligner) -> Result<(), AllocError>
     ensures { OnOk result (string_bytes out.new ≡ string_bytes out.old ++ aligner_text by) }
 {
@@ -94,6 +99,7 @@ pub fn push_aligner(out: &mut String, by: Aligner) -> Result<(), AllocError>
     out.push_str(")")
 }
 
+/// A literal: a number, a truth value, or a text in quotes.
 pub fn push_value(out: &mut String, value: &FieldValue) -> Result<(), AllocError>
     ensures { OnOk result (string_bytes out.new ≡ string_bytes out.old ++ value_text value.now) }
 {
@@ -105,6 +111,7 @@ pub fn push_value(out: &mut String, value: &FieldValue) -> Result<(), AllocError
     }
 }
 
+/// The name in front of an item, where it has one, with its colon.
 pub fn push_label(out: &mut String, name: &Option<Name>) -> Result<(), AllocError>
     ensures { OnOk result (string_bytes out.new ≡ string_bytes out.old ++ label_text name.now) }
 {
@@ -115,6 +122,7 @@ pub fn push_label(out: &mut String, name: &Option<Name>) -> Result<(), AllocErro
     out.push_str(": ")
 }
 
+/// The column that an aggregate is made of, where it names one.
 pub fn push_column(out: &mut String, column: &Option<Name>) -> Result<(), AllocError>
     ensures { OnOk result (string_bytes out.new ≡ string_bytes out.old ++ column_text column.now) }
 {

@@ -13,7 +13,10 @@ returns-in-Delta c =
     let points = c.args.points.now in
     let looks : IsDuration c.in-Delta.seconds = search rules in
     let lawful : IsLawful grid = search rules in record {
-      can = subst (λ (by : Aligner). IfOk c.can_add.result (λ can. IsTrue can → CanAlign by grid points)) (sym c.in-Delta.is)
-          (both_told (CanAddAll (values_of points)) (sum_by magnitude (values_of points) ≤ most_aligned) (CanAlign (Delta c.in-Delta.seconds) grid points)
-          c.can_add.result c.can_add.ensures.alike c.can_add.ensures.small (delta_aligns c.in-Delta.seconds grid points looks lawful));
+      can = subst (λ (by : Aligner). IfOk c.can_add.result (λ can. IsTrue can → CanAlign by grid points))
+          (sym c.in-Delta.is)
+          (both_told (CanAddAll (values_of points)) (sum_by magnitude (values_of points) ≤ most_aligned)
+          (CanAlign (Delta c.in-Delta.seconds) grid points)
+          c.can_add.result c.can_add.ensures.alike c.can_add.ensures.small (delta_aligns c.in-Delta.seconds grid points
+          looks lawful));
     }

@@ -4,4 +4,5 @@ use Rattle.cases.specs.Readings.{ShareNoPlace}
 use Rattle.cases.proofs.apartness.share_no_place.Given as goal
 
 abbrev pub invariant-loop-row : goal.invariant-loop-row
-invariant-loop-row l = ShareNoPlace l.schemas (drop l.row-index l.rows) l.others → ShareNoPlace l.schemas l.rows l.others
+invariant-loop-row l = ShareNoPlace l.schemas (drop l.row-index l.rows) l.others → ShareNoPlace l.schemas l.rows
+    l.others

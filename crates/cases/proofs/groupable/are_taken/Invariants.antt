@@ -7,5 +7,6 @@ use Rattle.cases.proofs.groupable.are_taken.Given as goal
 
 abbrev pub invariant-loop-aggregate : goal.invariant-loop-aggregate
 invariant-loop-aggregate l =
-    AllByRecursion (λ (a : Aggregate). TakesColumn a.what (slice_get l.columns a.column)) (drop l.aggregate-index l.with)
+    AllByRecursion (λ (a : Aggregate). TakesColumn a.what (slice_get l.columns a.column))
+    (drop l.aggregate-index l.with)
     → AllByRecursion (λ (a : Aggregate). TakesColumn a.what (slice_get l.columns a.column)) l.with

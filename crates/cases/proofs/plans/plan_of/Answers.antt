@@ -16,6 +16,6 @@ returns c =
         is = subst (λ (tree : TypedTree). typing c.args.setting.now.schemas query ≡ Ok tree)
             (sym c.in_ok-split.ensures.typed) c.in_ok-typed.ensures.typed;
         metrics = c.metrics_are_lawful.ensures.held;
-        located = c.targets_tell_locations.ensures.located;
+        targets = c.targets_tell_locations.ensures.located;
       };
     }

@@ -10,7 +10,8 @@ told-requires c =
     let more = c.read_in.new.reads in
     let told = c.in_ok-told.told in
     read_may_be_told held asked reads query.setting query.stage c.requires.going more told
-    (read_by_plan held asked reads more told c.plan.result.now query.setting c.plan.ensures.plan c.in_ok-told.ensures.read)
+    (read_by_plan held asked reads more told c.plan.result.now query.setting c.plan.ensures.plan
+    c.in_ok-told.ensures.read)
 
 pub returns : goal.returns
 returns c =

@@ -4,7 +4,8 @@ use Rattle.cases.proofs.sessions.take_line.Goals as goal
 pub told-requires : goal.told-requires
 told-requires c =
     let query = c.args.machine.now in
-    plain_may_be_told c.args.setting.now.schemas c.args.asked c.args.reads.now query.setting query.stage c.requires.going
+    plain_may_be_told c.args.setting.now.schemas c.args.asked c.args.reads.now query.setting query.stage
+    c.requires.going
     c.in_ok-told.told c.in_ok-told.ensures.plain
 
 pub returns : goal.returns

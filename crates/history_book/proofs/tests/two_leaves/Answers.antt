@@ -7,5 +7,6 @@ append_down-requires-clause-room g c =
     let owner = c.in_ok-owner.owner in
     let none : entries owner.seen owner.history ≡ [] = search rules in
     let same = ap (λ o. o.history) c.meet_owner.ensures.met in
-    subst (λ xs. length xs < 2 ^ 62) (sym (ap (entries c.meet_owner.new.owner.seen) same ∙ c.meet_owner.ensures.whole ∙ none))
+    subst (λ xs. length xs < 2 ^ 62) (sym (ap (entries c.meet_owner.new.owner.seen) same ∙ c.meet_owner.ensures.whole
+    ∙ none))
     (omega arith)

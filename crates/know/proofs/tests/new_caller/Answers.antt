@@ -6,5 +6,6 @@ use Rattle.know.proofs.tests.new_caller.Goals as goal
 
 pub new-requires-clause-sound : goal.new-requires-clause-sound
 new-requires-clause-sound g c =
-    subst (λ (seen : Histories). IsSound g.N.Names.setting c.args.hints seen) (sym (ap (λ seat. seat.seen) c.requires.seat))
+    subst (λ (seen : Histories). IsSound g.N.Names.setting c.args.hints seen)
+    (sym (ap (λ seat. seat.seen) c.requires.seat))
     (nothing_is_sound g.N.Names.setting c.args.hints 2 1 c.requires.sized.0 c.requires.sized.1)

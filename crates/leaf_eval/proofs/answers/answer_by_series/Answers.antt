@@ -1,4 +1,5 @@
-use Rattle.std.proofs.Common.{◌≡◌, ◌∙◌, ◌≤◌, ◌+◌, ◌^◌, ◌∷◌, [], ℕ, List, to_z, of_z, w64, refl, sym, ap, subst, rules, arith}
+use Rattle.std.proofs.Common.{◌≡◌, ◌∙◌, ◌≤◌, ◌+◌, ◌^◌, ◌∷◌, [], ℕ, List, to_z, of_z, w64, refl, sym, ap, subst, rules}
+use Rattle.std.proofs.Common.{arith}
 use Rattle.std.specs.List.{AllByRecursion}
 use Rattle.std.specs.Vec.Iter.{into_iter_items}
 use Rattle.mon_value.specs.declared.grids.Grid.{Grid}
@@ -47,14 +48,18 @@ returns-in_err-rows c =
     let all = top_parts is_leaf typed.tree in
     let part = part_seen c.in-Some.part in
     let left = parts_seen (into_iter_items c.next.new.self) in
-    let next : parts_seen (into_iter_items c.loop-part.part-iterator) ≡ part ∷ left = ap parts_seen c.in-Some.ensures.steps.0 in
+    let next : parts_seen (into_iter_items c.loop-part.part-iterator) ≡ part ∷ left = ap parts_seen
+    c.in-Some.ensures.steps.0 in
     record {
       answer = λ source kept.
-          let so_far = subst (λ (ps : List TopPart). SoFar grid source all ps c.loop-part.pieces c.loop-part.meter.load c.loop-part.sent) next
+          let so_far = subst (λ (ps : List TopPart). SoFar grid source all ps c.loop-part.pieces c.loop-part.meter.load
+          c.loop-part.sent) next
           (c.loop-part.invariant.so_far source kept) in
           let fact : IsRefusedByLeaf typed source c.args.moment c.args.limit c.in_err-rows.field-0.0 =
-          over_leaf typed source c.args.moment c.args.limit grid grid_is left part c.loop-part.pieces c.loop-part.meter.load c.loop-part.sent
-          c.loop-part.meter.limit c.in_err-rows.field-0.0 so_far c.loop-part.invariant.limit (c.in_err-rows.ensures.over source kept) in
+          over_leaf typed source c.args.moment c.args.limit grid grid_is left part c.loop-part.pieces
+          c.loop-part.meter.load c.loop-part.sent
+          c.loop-part.meter.limit c.in_err-rows.field-0.0 so_far c.loop-part.invariant.limit
+          (c.in_err-rows.ensures.over source kept) in
           search rules;
     }
 
@@ -64,8 +69,10 @@ piece_of-requires c =
     let series = all_held c.args.series.now in
     let part = part_seen c.in-Some.part in
     let left = parts_seen (into_iter_items c.next.new.self) in
-    let next : parts_seen (into_iter_items c.loop-part.part-iterator) ≡ part ∷ left = ap parts_seen c.in-Some.ensures.steps.0 in
-    let ready : IsPartReady grid series part = (subst (AllByRecursion (IsPartReady grid series)) next c.loop-part.invariant.ready).0 in
+    let next : parts_seen (into_iter_items c.loop-part.part-iterator) ≡ part ∷ left = ap parts_seen
+    c.in-Some.ensures.steps.0 in
+    let ready : IsPartReady grid series part = (subst (AllByRecursion (IsPartReady grid series)) next
+    c.loop-part.invariant.ready).0 in
     let source = ready.asked.source in
     let counted = c.in_ok-rows.ensures.counted source ready.asked.kept in
     let few : IsWithinRows (load_of grid part.1 source) =
@@ -83,16 +90,26 @@ overflow_add-sent c =
     let all = top_parts is_leaf typed.tree in
     let part = part_seen c.in-Some.part in
     let left = parts_seen (into_iter_items c.next.new.self) in
-    let next : parts_seen (into_iter_items c.loop-part.part-iterator) ≡ part ∷ left = ap parts_seen c.in-Some.ensures.steps.0 in
+    let next : parts_seen (into_iter_items c.loop-part.part-iterator) ≡ part ∷ left = ap parts_seen
+    c.in-Some.ensures.steps.0 in
     let source = c.requires.asked.source in
     let kept = c.requires.asked.kept in
-    let so_far = subst (λ (ps : List TopPart). SoFar grid source all ps c.loop-part.pieces c.loop-part.meter.load c.loop-part.sent) next
+    let so_far = subst (λ (ps : List TopPart). SoFar grid source all ps c.loop-part.pieces c.loop-part.meter.load
+    c.loop-part.sent) next
     (c.loop-part.invariant.so_far source kept) in
-    let within = sent_next grid source all left part c.loop-part.pieces c.in_ok-piece.piece c.in_ok-rows.rows c.loop-part.meter.load
+    let within = sent_next grid source all left part c.loop-part.pieces c.in_ok-piece.piece c.in_ok-rows.rows
+    c.loop-part.meter.load
     c.loop-part.sent so_far (c.in_ok-rows.ensures.rows source kept) c.in_ok-piece.ensures.stands in
     let counted = c.in_ok-rows.ensures.counted source kept in
     let bound : c.loop-part.sent + c.sent_of.result ≤ 2 ^ 24 =
-    omega (arith, within, counted, c.sent_of.ensures.sent, c.part_by_series.new.meter.within, c.part_by_series.new.meter.few) in
+    omega (
+      arith,
+      within,
+      counted,
+      c.sent_of.ensures.sent,
+      c.part_by_series.new.meter.within,
+      c.part_by_series.new.meter.few,
+    ) in
     omega (arith, bound)
 
 pub loop-part-preserved : goal.loop-part-preserved
@@ -103,12 +120,15 @@ loop-part-preserved c =
     let all = top_parts is_leaf typed.tree in
     let part = part_seen c.in-Some.part in
     let left = parts_seen (into_iter_items c.next.new.self) in
-    let next : parts_seen (into_iter_items c.loop-part.part-iterator) ≡ part ∷ left = ap parts_seen c.in-Some.ensures.steps.0 in
+    let next : parts_seen (into_iter_items c.loop-part.part-iterator) ≡ part ∷ left = ap parts_seen
+    c.in-Some.ensures.steps.0 in
     record {
       so_far = λ source kept.
-          let so_far = subst (λ (ps : List TopPart). SoFar grid source all ps c.loop-part.pieces c.loop-part.meter.load c.loop-part.sent) next
+          let so_far = subst (λ (ps : List TopPart). SoFar grid source all ps c.loop-part.pieces c.loop-part.meter.load
+          c.loop-part.sent) next
           (c.loop-part.invariant.so_far source kept) in
-          one_more grid source all left part c.loop-part.pieces c.push.new.self c.in_ok-piece.piece c.in_ok-rows.rows c.loop-part.meter.load
+          one_more grid source all left part c.loop-part.pieces c.push.new.self c.in_ok-piece.piece c.in_ok-rows.rows
+          c.loop-part.meter.load
           c.part_by_series.new.meter.load c.loop-part.sent (c.loop-part.sent + c.sent_of.result) so_far
           (c.in_ok-rows.ensures.rows source kept) c.in_ok-piece.ensures.stands c.in_ok-push.ensures.added
           (c.in_ok-rows.ensures.counted source kept)
@@ -125,10 +145,13 @@ returns c =
     let moment : to_z w64 (of_z w64 c.args.moment) ≡ c.args.moment = search rules in
     let grid_is : grid ≡ grid_of typed c.args.moment = c.grid_of-grid.ensures.grid ∙ ap (grid_of typed) moment in
     let ended : into_iter_items c.loop-part.part-iterator ≡ [] =
-    none_long (into_iter_items c.loop-part.part-iterator) (sym c.loop-part.invariant.counted ∙ c.in-None.ensures.steps.0) in
+    none_long (into_iter_items c.loop-part.part-iterator) (sym c.loop-part.invariant.counted
+    ∙ c.in-None.ensures.steps.0) in
     record {
       answer = λ source kept.
-          leaf_done typed source c.args.moment c.args.limit grid grid_is (parts_seen (into_iter_items c.loop-part.part-iterator))
+          leaf_done typed source c.args.moment c.args.limit grid grid_is
+          (parts_seen (into_iter_items c.loop-part.part-iterator))
           c.loop-part.pieces c.loop-part.meter.load c.loop-part.sent c.room.result c.loop-part.meter.limit
-          (c.loop-part.invariant.so_far source kept) (ap parts_seen ended) c.room.ensures.room c.loop-part.invariant.limit;
+          (c.loop-part.invariant.so_far source kept) (ap parts_seen ended) c.room.ensures.room
+          c.loop-part.invariant.limit;
     }

@@ -31,7 +31,8 @@ returns c =
     let kept : map (λ (rows : Bor (List Row)). rows.now) c.as_slice-2.result.now ≡ map (replica_rows_of history) slots =
     ap (map (λ (rows : Bor (List Row)). rows.now)) c.as_slice-2.ensures.value ∙ c.in_ok-kept.ensures.rows
     ∙ ap (map (replica_rows_of history)) c.as_slice.ensures.items in
-    let held : all_held c.as_slice-2.result.now ≡ points_by_series source = replicas_held history c.as_slice-2.result.now slots c.requires.apart kept in
+    let held : all_held c.as_slice-2.result.now ≡ points_by_series source = replicas_held history
+    c.as_slice-2.result.now slots c.requires.apart kept in
     record {
       answer = subst (λ (m : ℤ). IsLeafAnswer typed source m c.args.limit c.answer_by_series.result) moment
           (c.answer_by_series.ensures.answer source held);

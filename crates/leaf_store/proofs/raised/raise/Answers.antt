@@ -8,6 +8,7 @@ pub returns-then-is_known : goal.returns-then-is_known
 returns-then-is_known c =
     let yes : c.is_known.result ≡ true = search rules in
     record {
-      added = known_adds (key_buckets c.args.buckets c.args.schemas.now) c.args.replicas.now.entries (is_set c.args.raised.now.words)
+      added = known_adds (key_buckets c.args.buckets c.args.schemas.now) c.args.replicas.now.entries
+          (is_set c.args.raised.now.words)
           c.args.entry.now c.requires.held (c.is_known.ensures.known yes);
     }

@@ -12,5 +12,6 @@ loop-number-preserved c =
     record {
       within = omega (arith, c.loop-number-test.true);
       rows = c.in_ok-push.ensures.added ∙ ap (λ (rows : List Row). rows ++ row ∷ []) c.loop-number.invariant.rows
-          ∙ append_assoc c.args.rows.now (take n slot) (row ∷ []) ∙ ap (λ (rows : List Row). c.args.rows.now ++ rows) (sym next);
+          ∙ append_assoc c.args.rows.now (take n slot) (row ∷ []) ∙ ap (λ (rows : List Row). c.args.rows.now ++ rows)
+          (sym next);
     }

@@ -13,7 +13,8 @@ settle_entry-requires c =
     let e : Entry = c.index-fresh-moved.result in
     let rest = drop (moved + 1) fresh in
     let next : drop moved fresh ≡ e ∷ rest =
-    drop_more fresh moved e (omega (arith, c.loop-moved-test.true)) ∙ ap (λ (x : Entry). x ∷ rest) (sym c.index-fresh-moved.is) in
+    drop_more fresh moved e (omega (arith, c.loop-moved-test.true)) ∙ ap (λ (x : Entry). x ∷ rest)
+    (sym c.index-fresh-moved.is) in
     let replicas = c.loop-moved.replicas.entries in
     let ks = c.loop-moved.kept.items in
     record { settles = can_settle replicas ks e rest (subst (Holds replicas ks) next c.loop-moved.invariant.holds) }
@@ -25,12 +26,14 @@ loop-moved-preserved c =
     let e : Entry = c.index-fresh-moved.result in
     let rest = drop (moved + 1) fresh in
     let next : drop moved fresh ≡ e ∷ rest =
-    drop_more fresh moved e (omega (arith, c.loop-moved-test.true)) ∙ ap (λ (x : Entry). x ∷ rest) (sym c.index-fresh-moved.is) in
+    drop_more fresh moved e (omega (arith, c.loop-moved-test.true)) ∙ ap (λ (x : Entry). x ∷ rest)
+    (sym c.index-fresh-moved.is) in
     let old = c.loop-moved.replicas.entries in
     let new = c.settle_entry.new.replicas.entries in
     let ks = c.loop-moved.kept.items in
     let own = c.in_ok-own.own in
-    let step = settled old new ks own e rest (subst (Holds old ks) next c.loop-moved.invariant.holds) c.in_ok-own.ensures.settled in
+    let step = settled old new ks own e rest (subst (Holds old ks) next c.loop-moved.invariant.holds)
+    c.in_ok-own.ensures.settled in
     let items = c.push.ensures.added ∙ ap (λ (all : List Kept). all ++ own ∷ []) c.in_ok-reserve_one.ensures.kept in
     record {
       within = omega (arith, c.loop-moved-test.true);

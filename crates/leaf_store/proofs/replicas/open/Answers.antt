@@ -13,10 +13,12 @@ returns-clause-opened c =
     let replica = c.args.replica in
     let number : c.in-Ok.number ≡ length replicas.entries = search rules in
     let count : c.in-Ok-try_from.count ≡ length c.args.rows.now = search rules in
-    let none : get derived.eq-value.it replicas replica ≡ None = ap (λ test. lookup test replicas.entries) (same_test replica) ∙ c.requires.fresh in
+    let none : get derived.eq-value.it replicas replica ≡ None = ap (λ test. lookup test replicas.entries)
+    (same_test replica) ∙ c.requires.fresh in
     record {
       number_is = number;
       count_is = count;
-      grown = c.in_ok-insert.ensures.entries ∙ insert_entry-new derived.eq-value.it replicas replica c.in_ok-taken.taken none
+      grown = c.in_ok-insert.ensures.entries ∙ insert_entry-new derived.eq-value.it replicas replica
+          c.in_ok-taken.taken none
           ∙ ap (λ (rows : List Row). replicas.entries ++ (replica, rows) ∷ []) c.in_ok-taken.ensures.rows;
     }

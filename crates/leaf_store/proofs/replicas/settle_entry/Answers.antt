@@ -12,7 +12,10 @@ pub put-requires : goal.put-requires
 put-requires c =
     let replica : Replica = record { range = c.in-Put.range; slot = c.in-Put.slot } in
     let old = c.args.replicas.now.entries in
-    record { later = can_put old c.in-Put.pass replica c.in-Put.row (subst (CanSettle old) c.in-Put.is c.requires.settles) }
+    record {
+      later = can_put old c.in-Put.pass replica c.in-Put.row (subst (CanSettle old) c.in-Put.is
+          c.requires.settles);
+    }
 
 pub returns-in_ok-number-in-Opened-clause-settled : goal.returns-in_ok-number-in-Opened-clause-settled
 returns-in_ok-number-in-Opened-clause-settled c =
@@ -20,8 +23,10 @@ returns-in_ok-number-in-Opened-clause-settled c =
     let old = c.args.replicas.now.entries in
     let new = c.open.new.replicas.entries in
     let at = c.in_ok-number-in-Opened in
-    let fresh = is_new old c.in-Opened.pass replica c.in-Opened.rows (subst (CanSettle old) c.in-Opened.is c.requires.settles) in
-    let opened = subst (λ (rows : List Row). IsOpened old new replica rows at.number at.count) c.as_slice.ensures.items at.ensures.opened in
+    let fresh = is_new old c.in-Opened.pass replica c.in-Opened.rows (subst (CanSettle old) c.in-Opened.is
+    c.requires.settles) in
+    let opened = subst (λ (rows : List Row). IsOpened old new replica rows at.number at.count) c.as_slice.ensures.items
+    at.ensures.opened in
     subst (λ (e : Entry). Settles old new e (kept.Opened c.in-Opened.pass at.number at.count)) (sym c.in-Opened.is)
     (opened_settles old new c.in-Opened.pass replica c.in-Opened.rows at.number at.count fresh opened)
 
@@ -37,7 +42,8 @@ returns-in_ok-number-in-Put-clause-settled c =
 pub returns-in-Down-clause-settled : goal.returns-in-Down-clause-settled
 returns-in-Down-clause-settled c =
     let old = c.args.replicas.now.entries in
-    subst (λ (e : Entry). Settles old old e (kept.Down c.in-Down.pass)) (sym c.in-Down.is) (down_settles old c.in-Down.pass)
+    subst (λ (e : Entry). Settles old old e (kept.Down c.in-Down.pass)) (sym c.in-Down.is)
+    (down_settles old c.in-Down.pass)
 
 pub returns-in-Up-clause-settled : goal.returns-in-Up-clause-settled
 returns-in-Up-clause-settled c =

@@ -20,7 +20,8 @@ loop-piece-preserved c =
     ∙ sym ((λ i. c.loop-piece.joined ++ pieces_joined (next i) (given i)))
     ∙ c.loop-piece.invariant.so_far in
     record {
-      so_far = ap (λ (made : List Piece). made ++ pieces_joined left others) c.in_ok-push-in-None-next.ensures.added ∙ so_far;
+      so_far = ap (λ (made : List Piece). made ++ pieces_joined left others) c.in_ok-push-in-None-next.ensures.added
+          ∙ so_far;
       can = subst (AllCanJoin left) (sym none) (none_can left);
       counted = search rules;
       others_counted = search rules;

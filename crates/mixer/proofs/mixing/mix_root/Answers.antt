@@ -35,15 +35,28 @@ pieces_together-requires-clause-empty c =
     let asked = c.requires.asked in
     let total = sum_by (λ (one : ZoneAnswer). one.load) c.args.zones in
     let few : IsWithinRows total =
-    omega (arith, c.in_ok-children.ensures.counted, c.new-meter.ensures.none, c.zone_children.new.meter.within, c.zone_children.new.meter.few) in
-    zones_can_be_empty (typed_tree c.args.plan.now.typed) asked.zones asked.moment c.args.limit c.args.zones asked.are few
+    omega (
+      arith,
+      c.in_ok-children.ensures.counted,
+      c.new-meter.ensures.none,
+      c.zone_children.new.meter.within,
+      c.zone_children.new.meter.few,
+    ) in
+    zones_can_be_empty (typed_tree c.args.plan.now.typed) asked.zones asked.moment c.args.limit c.args.zones asked.are
+    few
 
 pub pieces_together-requires-clause-can : goal.pieces_together-requires-clause-can
 pieces_together-requires-clause-can c =
     let asked = c.requires.asked in
     let total = sum_by (λ (one : ZoneAnswer). one.load) c.args.zones in
     let few : IsWithinRows total =
-    omega (arith, c.in_ok-children.ensures.counted, c.new-meter.ensures.none, c.zone_children.new.meter.within, c.zone_children.new.meter.few) in
+    omega (
+      arith,
+      c.in_ok-children.ensures.counted,
+      c.new-meter.ensures.none,
+      c.zone_children.new.meter.within,
+      c.zone_children.new.meter.few,
+    ) in
     subst CanJoinAll (sym c.in_ok-children.ensures.pieces)
     (zones_can_join (typed_tree c.args.plan.now.typed) asked.zones asked.moment c.args.limit c.args.zones asked.are few)
 
@@ -53,11 +66,19 @@ mixed_rows-requires-clause-can c =
     let typed = typed_tree c.args.plan.now.typed in
     let total = sum_by (λ (one : ZoneAnswer). one.load) c.args.zones in
     let few : IsWithinRows total =
-    omega (arith, c.in_ok-children.ensures.counted, c.new-meter.ensures.none, c.zone_children.new.meter.within, c.zone_children.new.meter.few) in
+    omega (
+      arith,
+      c.in_ok-children.ensures.counted,
+      c.new-meter.ensures.none,
+      c.zone_children.new.meter.within,
+      c.zone_children.new.meter.few,
+    ) in
     let load : c.zone_children.new.meter.load ≡ total =
     omega (arith, c.in_ok-children.ensures.counted, c.new-meter.ensures.none) in
-    let joined : AreTogether (top_parts in_zone typed.tree) (map (λ (one : ZoneAnswer). one.pieces) c.args.zones) c.in_ok-pieces.pieces =
-    subst (λ children. AreTogether (top_parts in_zone typed.tree) children c.in_ok-pieces.pieces) c.in_ok-children.ensures.pieces
+    let joined : AreTogether (top_parts in_zone typed.tree) (map (λ (one : ZoneAnswer). one.pieces) c.args.zones)
+    c.in_ok-pieces.pieces =
+    subst (λ children. AreTogether (top_parts in_zone typed.tree) children c.in_ok-pieces.pieces)
+    c.in_ok-children.ensures.pieces
     c.in_ok-pieces.ensures.together in
     let items : into_iter_items c.into_iter.result ≡ c.in_ok-pieces.pieces =
     c.into_iter.ensures.rest ∙ c.into_vec.ensures.items in
@@ -70,23 +91,33 @@ returns-in_err-rows c =
     let typed = typed_tree c.args.plan.now.typed in
     let total = sum_by (λ (one : ZoneAnswer). one.load) c.args.zones in
     let few : IsWithinRows total =
-    omega (arith, c.in_ok-children.ensures.counted, c.new-meter.ensures.none, c.zone_children.new.meter.within, c.zone_children.new.meter.few) in
+    omega (
+      arith,
+      c.in_ok-children.ensures.counted,
+      c.new-meter.ensures.none,
+      c.zone_children.new.meter.within,
+      c.zone_children.new.meter.few,
+    ) in
     let load : c.zone_children.new.meter.load ≡ total =
     omega (arith, c.in_ok-children.ensures.counted, c.new-meter.ensures.none) in
-    let joined : AreTogether (top_parts in_zone typed.tree) (map (λ (one : ZoneAnswer). one.pieces) c.args.zones) c.in_ok-pieces.pieces =
-    subst (λ children. AreTogether (top_parts in_zone typed.tree) children c.in_ok-pieces.pieces) c.in_ok-children.ensures.pieces
+    let joined : AreTogether (top_parts in_zone typed.tree) (map (λ (one : ZoneAnswer). one.pieces) c.args.zones)
+    c.in_ok-pieces.pieces =
+    subst (λ children. AreTogether (top_parts in_zone typed.tree) children c.in_ok-pieces.pieces)
+    c.in_ok-children.ensures.pieces
     c.in_ok-pieces.ensures.together in
     let items : into_iter_items c.into_iter.result ≡ c.in_ok-pieces.pieces =
     c.into_iter.ensures.rest ∙ c.into_vec.ensures.items in
     let joins : List Piece → ℕ = joins_from in_zone typed.tree in
     let told : TellsOver c.args.limit (total + joins c.in_ok-pieces.pieces) c.in_err-rows.field-0.0 =
     subst (λ n. TellsOver c.args.limit n c.in_err-rows.field-0.0) (λ i. load i + joins (items i))
-    (subst (λ l. TellsOver l (c.zone_children.new.meter.load + joins (into_iter_items c.into_iter.result)) c.in_err-rows.field-0.0)
+    (subst (λ l. TellsOver l (c.zone_children.new.meter.load + joins (into_iter_items c.into_iter.result))
+    c.in_err-rows.field-0.0)
     (c.in_ok-children.ensures.limit ∙ c.new-meter.ensures.limit) c.in_err-rows.ensures.over) in
     record {
       answer = λ rows moment are.
           let fact : IsRefusedBy typed (all_rows rows) moment c.args.limit c.in_err-rows.field-0.0 =
-          root_over typed rows moment c.args.limit c.args.zones are few c.in_ok-pieces.pieces joined c.in_err-rows.field-0.0 told in
+          root_over typed rows moment c.args.limit c.args.zones are few c.in_ok-pieces.pieces joined
+          c.in_err-rows.field-0.0 told in
           search rules;
     }
 
@@ -95,11 +126,19 @@ returns c =
     let typed = typed_tree c.args.plan.now.typed in
     let total = sum_by (λ (one : ZoneAnswer). one.load) c.args.zones in
     let few : IsWithinRows total =
-    omega (arith, c.in_ok-children.ensures.counted, c.new-meter.ensures.none, c.zone_children.new.meter.within, c.zone_children.new.meter.few) in
+    omega (
+      arith,
+      c.in_ok-children.ensures.counted,
+      c.new-meter.ensures.none,
+      c.zone_children.new.meter.within,
+      c.zone_children.new.meter.few,
+    ) in
     let load : c.zone_children.new.meter.load ≡ total =
     omega (arith, c.in_ok-children.ensures.counted, c.new-meter.ensures.none) in
-    let joined : AreTogether (top_parts in_zone typed.tree) (map (λ (one : ZoneAnswer). one.pieces) c.args.zones) c.in_ok-pieces.pieces =
-    subst (λ children. AreTogether (top_parts in_zone typed.tree) children c.in_ok-pieces.pieces) c.in_ok-children.ensures.pieces
+    let joined : AreTogether (top_parts in_zone typed.tree) (map (λ (one : ZoneAnswer). one.pieces) c.args.zones)
+    c.in_ok-pieces.pieces =
+    subst (λ children. AreTogether (top_parts in_zone typed.tree) children c.in_ok-pieces.pieces)
+    c.in_ok-children.ensures.pieces
     c.in_ok-pieces.ensures.together in
     let items : into_iter_items c.into_iter.result ≡ c.in_ok-pieces.pieces =
     c.into_iter.ensures.rest ∙ c.into_vec.ensures.items in
@@ -112,9 +151,11 @@ returns c =
     let within : spent ≤ c.args.limit = omega (arith, limit, c.mixed_rows.new.meter.within) in
     let made : c.in_ok-rows.rows ≡ rows_from in_zone typed.tree c.in_ok-pieces.pieces =
     c.in_ok-rows.ensures.rows ∙ ap (rows_from in_zone typed.tree) items in
-    let table : c.in_ok-table_of.field-0 ≡ record { columns = columns_of typed.tree; rows = c.in_ok-rows.rows } = search rules in
+    let table : c.in_ok-table_of.field-0 ≡ record { columns = columns_of typed.tree; rows = c.in_ok-rows.rows } =
+    search rules in
     record {
       answer = λ rows moment are.
-          root_made typed rows moment c.args.limit c.args.zones are few c.in_ok-pieces.pieces joined c.in_ok-table_of.field-0
+          root_made typed rows moment c.args.limit c.args.zones are few c.in_ok-pieces.pieces joined
+          c.in_ok-table_of.field-0
           c.in_ok-rows.rows spent made table counted within;
     }

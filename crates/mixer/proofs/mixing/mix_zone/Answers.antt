@@ -33,17 +33,31 @@ pieces_together-requires-clause-empty c =
     let asked = c.requires.asked in
     let total = sum_by (λ (one : LeafAnswer). one.load) c.args.parts in
     let few : IsWithinRows total =
-    omega (arith, c.in_ok-children.ensures.counted, c.new-meter.ensures.none, c.leaf_children.new.meter.within, c.leaf_children.new.meter.few) in
-    leaves_can_be_empty (typed_tree c.args.plan.now.typed) asked.leaves asked.moment c.args.limit c.args.parts asked.are few
+    omega (
+      arith,
+      c.in_ok-children.ensures.counted,
+      c.new-meter.ensures.none,
+      c.leaf_children.new.meter.within,
+      c.leaf_children.new.meter.few,
+    ) in
+    leaves_can_be_empty (typed_tree c.args.plan.now.typed) asked.leaves asked.moment c.args.limit c.args.parts
+    asked.are few
 
 pub pieces_together-requires-clause-can : goal.pieces_together-requires-clause-can
 pieces_together-requires-clause-can c =
     let asked = c.requires.asked in
     let total = sum_by (λ (one : LeafAnswer). one.load) c.args.parts in
     let few : IsWithinRows total =
-    omega (arith, c.in_ok-children.ensures.counted, c.new-meter.ensures.none, c.leaf_children.new.meter.within, c.leaf_children.new.meter.few) in
+    omega (
+      arith,
+      c.in_ok-children.ensures.counted,
+      c.new-meter.ensures.none,
+      c.leaf_children.new.meter.within,
+      c.leaf_children.new.meter.few,
+    ) in
     subst CanJoinAll (sym c.in_ok-children.ensures.pieces)
-    (leaves_can_join (typed_tree c.args.plan.now.typed) asked.leaves asked.moment c.args.limit c.args.parts asked.are few)
+    (leaves_can_join (typed_tree c.args.plan.now.typed) asked.leaves asked.moment c.args.limit c.args.parts asked.are
+    few)
 
 pub zone_pieces-requires : goal.zone_pieces-requires
 zone_pieces-requires c =
@@ -51,15 +65,24 @@ zone_pieces-requires c =
     let typed = typed_tree c.args.plan.now.typed in
     let total = sum_by (λ (one : LeafAnswer). one.load) c.args.parts in
     let few : IsWithinRows total =
-    omega (arith, c.in_ok-children.ensures.counted, c.new-meter.ensures.none, c.leaf_children.new.meter.within, c.leaf_children.new.meter.few) in
+    omega (
+      arith,
+      c.in_ok-children.ensures.counted,
+      c.new-meter.ensures.none,
+      c.leaf_children.new.meter.within,
+      c.leaf_children.new.meter.few,
+    ) in
     let load : c.leaf_children.new.meter.load ≡ total =
     omega (arith, c.in_ok-children.ensures.counted, c.new-meter.ensures.none) in
-    let joined : AreTogether (top_parts is_leaf typed.tree) (map (λ (one : LeafAnswer). one.pieces) c.args.parts) c.in_ok-pieces.pieces =
-    subst (λ children. AreTogether (top_parts is_leaf typed.tree) children c.in_ok-pieces.pieces) c.in_ok-children.ensures.pieces
+    let joined : AreTogether (top_parts is_leaf typed.tree) (map (λ (one : LeafAnswer). one.pieces) c.args.parts)
+    c.in_ok-pieces.pieces =
+    subst (λ children. AreTogether (top_parts is_leaf typed.tree) children c.in_ok-pieces.pieces)
+    c.in_ok-children.ensures.pieces
     c.in_ok-pieces.ensures.together in
     record {
       can = subst (λ base. CanHandUpAll base (top_parts in_zone typed.tree) c.in_ok-pieces.pieces) (sym load)
-          (zone_can typed asked.leaves asked.moment c.args.limit c.args.parts asked.are few c.in_ok-pieces.pieces joined);
+          (zone_can typed asked.leaves asked.moment c.args.limit c.args.parts asked.are few c.in_ok-pieces.pieces
+          joined);
     }
 
 pub returns-in_err-pieces-2 : goal.returns-in_err-pieces-2
@@ -67,11 +90,19 @@ returns-in_err-pieces-2 c =
     let typed = typed_tree c.args.plan.now.typed in
     let total = sum_by (λ (one : LeafAnswer). one.load) c.args.parts in
     let few : IsWithinRows total =
-    omega (arith, c.in_ok-children.ensures.counted, c.new-meter.ensures.none, c.leaf_children.new.meter.within, c.leaf_children.new.meter.few) in
+    omega (
+      arith,
+      c.in_ok-children.ensures.counted,
+      c.new-meter.ensures.none,
+      c.leaf_children.new.meter.within,
+      c.leaf_children.new.meter.few,
+    ) in
     let load : c.leaf_children.new.meter.load ≡ total =
     omega (arith, c.in_ok-children.ensures.counted, c.new-meter.ensures.none) in
-    let joined : AreTogether (top_parts is_leaf typed.tree) (map (λ (one : LeafAnswer). one.pieces) c.args.parts) c.in_ok-pieces.pieces =
-    subst (λ children. AreTogether (top_parts is_leaf typed.tree) children c.in_ok-pieces.pieces) c.in_ok-children.ensures.pieces
+    let joined : AreTogether (top_parts is_leaf typed.tree) (map (λ (one : LeafAnswer). one.pieces) c.args.parts)
+    c.in_ok-pieces.pieces =
+    subst (λ children. AreTogether (top_parts is_leaf typed.tree) children c.in_ok-pieces.pieces)
+    c.in_ok-children.ensures.pieces
     c.in_ok-pieces.ensures.together in
     let joins = joins_of_parts (top_parts in_zone typed.tree) c.in_ok-pieces.pieces in
     let told : TellsOver c.args.limit (total + joins) c.in_err-pieces-2.field-0.0 =
@@ -81,7 +112,8 @@ returns-in_err-pieces-2 c =
     record {
       answer = λ leaves moment are.
           let fact : IsRefusedByZone typed leaves moment c.args.limit c.in_err-pieces-2.field-0.0 =
-          zone_over typed leaves moment c.args.limit c.args.parts are few c.in_ok-pieces.pieces joined c.in_err-pieces-2.field-0.0
+          zone_over typed leaves moment c.args.limit c.args.parts are few c.in_ok-pieces.pieces joined
+          c.in_err-pieces-2.field-0.0
           told in
           search rules;
     }
@@ -91,22 +123,36 @@ returns c =
     let typed = typed_tree c.args.plan.now.typed in
     let total = sum_by (λ (one : LeafAnswer). one.load) c.args.parts in
     let few : IsWithinRows total =
-    omega (arith, c.in_ok-children.ensures.counted, c.new-meter.ensures.none, c.leaf_children.new.meter.within, c.leaf_children.new.meter.few) in
+    omega (
+      arith,
+      c.in_ok-children.ensures.counted,
+      c.new-meter.ensures.none,
+      c.leaf_children.new.meter.within,
+      c.leaf_children.new.meter.few,
+    ) in
     let load : c.leaf_children.new.meter.load ≡ total =
     omega (arith, c.in_ok-children.ensures.counted, c.new-meter.ensures.none) in
-    let joined : AreTogether (top_parts is_leaf typed.tree) (map (λ (one : LeafAnswer). one.pieces) c.args.parts) c.in_ok-pieces.pieces =
-    subst (λ children. AreTogether (top_parts is_leaf typed.tree) children c.in_ok-pieces.pieces) c.in_ok-children.ensures.pieces
+    let joined : AreTogether (top_parts is_leaf typed.tree) (map (λ (one : LeafAnswer). one.pieces) c.args.parts)
+    c.in_ok-pieces.pieces =
+    subst (λ children. AreTogether (top_parts is_leaf typed.tree) children c.in_ok-pieces.pieces)
+    c.in_ok-children.ensures.pieces
     c.in_ok-pieces.ensures.together in
     let spent : ℕ = c.zone_pieces.new.meter.load in
     let counted : spent ≡ total + joins_of_parts (top_parts in_zone typed.tree) c.in_ok-pieces.pieces =
-    c.in_ok-pieces-2.ensures.counted ∙ ap (λ n. n + joins_of_parts (top_parts in_zone typed.tree) c.in_ok-pieces.pieces) load in
+    c.in_ok-pieces-2.ensures.counted ∙ ap (λ n. n + joins_of_parts (top_parts in_zone typed.tree)
+    c.in_ok-pieces.pieces) load in
     let limit : c.zone_pieces.new.meter.limit ≡ c.args.limit =
     c.in_ok-pieces-2.ensures.limit ∙ c.in_ok-children.ensures.limit ∙ c.new-meter.ensures.limit in
     let within : spent ≤ c.args.limit = omega (arith, limit, c.zone_pieces.new.meter.within) in
     let told : spent ≡ c.args.limit - c.room.result = omega (arith, c.room.ensures.room, limit) in
     record {
       answer = λ leaves moment are.
-          subst (λ n. IsZonePart typed leaves moment c.args.limit (record { pieces = c.in_ok-pieces-2.pieces; load = n })) told
-          (zone_made typed leaves moment c.args.limit c.args.parts are few c.in_ok-pieces.pieces joined c.in_ok-pieces-2.pieces spent
+          subst (λ n. IsZonePart typed leaves moment c.args.limit (record {
+            pieces = c.in_ok-pieces-2.pieces;
+            load =
+                n;
+          })) told
+          (zone_made typed leaves moment c.args.limit c.args.parts are few c.in_ok-pieces.pieces joined
+          c.in_ok-pieces-2.pieces spent
           c.in_ok-pieces-2.ensures.pieces counted within);
     }

@@ -3,18 +3,19 @@ use Rattle.std.proofs.Common.{◌≡◌, ◌+◌, ◌*◌, length}
 use Rattle.std.specs.Vec.Iter.{into_iter_items, into_iter_len}
 use Rattle.mql_types.specs.Nodes.{node_tree}
 use Rattle.mon_meaning.specs.TopParts.{up_to}
-use Rattle.mon_meaning.specs.within.Paths.{node_count, trees_of}
+use Rattle.mon_meaning.specs.within.Paths.{trees_of}
+use Rattle.mql_types.specs.ExplanationParts.{nodes}
 use Rattle.mixer.proofs.MixedWalks.{Walk}
 use Rattle.mixer.proofs.mixtures.+mixtures.Given as goal
 
 abbrev pub decreases-mixed_rows : goal.decreases-mixed_rows
-decreases-mixed_rows l = 3 * node_count (node_tree l.tree.now) + 2
+decreases-mixed_rows l = 3 * nodes (node_tree l.tree.now) + 2
 
 abbrev pub decreases-rows_above : goal.decreases-rows_above
-decreases-rows_above l = 3 * node_count (node_tree l.node.now) + 1
+decreases-rows_above l = 3 * nodes (node_tree l.node.now) + 1
 
 abbrev pub decreases-other_rows : goal.decreases-other_rows
-decreases-other_rows l = 3 * node_count (node_tree l.node.now)
+decreases-other_rows l = 3 * nodes (node_tree l.node.now)
 
 abbrev pub invariant-mixed_rows-loop-node : goal.invariant-mixed_rows-loop-node
 invariant-mixed_rows-loop-node l = record {

@@ -15,6 +15,7 @@ loop-input-preserved c =
     let input = node_tree c.in-Some.input.now in
     let above = trees_of c.loop-input.above.items in
     let items : trees_of c.push.new.self.items ≡ above ++ last ∷ [] =
-    ap trees_of c.in_ok-push.ensures.items ∙ map-append (λ (one : Bor Node). node_tree one.now) c.loop-input.above.items _ in
+    ap trees_of c.in_ok-push.ensures.items ∙ map-append (λ (one : Bor Node). node_tree one.now)
+    c.loop-input.above.items _ in
     subst (λ (nodes : List NodeTree). Down here nodes top input) (sym items)
     (step_down here above top last input c.loop-input.invariant c.in-Some.ensures.input)

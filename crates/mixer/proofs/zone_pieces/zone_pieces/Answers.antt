@@ -1,4 +1,5 @@
-use Rattle.std.proofs.Common.{◌≡◌, ◌∙◌, ◌+◌, ◌++◌, ◌∷◌, [], List, append-nil, append_assoc, ap, subst, sym, rules, arith}
+use Rattle.std.proofs.Common.{◌≡◌, ◌∙◌, ◌+◌, ◌++◌, ◌∷◌, [], List, append-nil, append_assoc, ap, subst, sym, rules}
+use Rattle.std.proofs.Common.{arith}
 use Rattle.std.specs.Vec.Iter.{into_iter_items}
 use Rattle.mql_types.specs.Nodes.{node_tree}
 use Rattle.mql_types.specs.Pieces as spec
@@ -14,7 +15,8 @@ pub zone_piece-requires-clause-can : goal.zone_piece-requires-clause-can
 zone_piece-requires-clause-can c =
     let part = part_seen c.in-Some.part in
     let left = parts_seen (into_iter_items c.next.new.self) in
-    let next : parts_seen (into_iter_items c.loop-part.part-iterator) ≡ part ∷ left = ap parts_seen c.in-Some.ensures.steps.0 in
+    let next : parts_seen (into_iter_items c.loop-part.part-iterator) ≡ part ∷ left = ap parts_seen
+    c.in-Some.ensures.steps.0 in
     let pieces = into_iter_items c.loop-part.pieces in
     first_more c.args.meter.now.load c.loop-part.meter.load part left pieces c.loop-part.invariant.grown
     (subst (λ parts. CanHandUpAll c.args.meter.now.load parts pieces) next c.loop-part.invariant.can)
@@ -23,7 +25,8 @@ pub loop-part-preserved : goal.loop-part-preserved
 loop-part-preserved c =
     let part = part_seen c.in-Some.part in
     let left = parts_seen (into_iter_items c.next.new.self) in
-    let next : parts_seen (into_iter_items c.loop-part.part-iterator) ≡ part ∷ left = ap parts_seen c.in-Some.ensures.steps.0 in
+    let next : parts_seen (into_iter_items c.loop-part.part-iterator) ≡ part ∷ left = ap parts_seen
+    c.in-Some.ensures.steps.0 in
     let pieces = into_iter_items c.loop-part.pieces in
     let behind = into_iter_items c.zone_piece.new.pieces in
     let all = spec.top_parts in_zone (node_tree c.args.tree.now) in

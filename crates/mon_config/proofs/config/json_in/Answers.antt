@@ -12,7 +12,10 @@ pub returns-in-Ok : goal.returns-in-Ok
 returns-in-Ok c =
     let text = c.args.text.now in
     let short : ltb LONGEST_CONFIGURATION (length text) ≡ false = grind (arith, nat_tests) in
-    record { json = rw short (ap (λ (found : Option Data). ok_or found NotJson) (data_in-read text c.in-Ok.ensures.ok.0 ∙ c.in-Ok.ensures.ok.1)) }
+    record {
+      json = rw short (ap (λ (found : Option Data). ok_or found NotJson) (data_in-read text c.in-Ok.ensures.ok.0
+          ∙ c.in-Ok.ensures.ok.1));
+    }
 
 pub returns-in-Err-2 : goal.returns-in-Err-2
 returns-in-Err-2 c =

@@ -11,9 +11,18 @@ returns-then-not-knows c =
     let known = keys_of c.args.form in
     let rest = first_unknown known c.next.new.self in
     let key = string_bytes c.in-Some.key.now in
-    let is_unknown : list_any (same_text key) known ≡ false = ap (λ text. list_any (same_text text) known) (sym c.as_str.ensures.value) ∙ sym c.if-not-knows.ensures.known in
-    record { unknown = sym (unknown_in-keys known c.args.members.now.entries c.keys-key-items.ensures.ordered ∙ c.loop-key.invariant ∙ ap (first_unknown known) c.in-Some.ensures.steps ∙ ap (λ (b : Bool). cond b rest (Some key)) is_unknown) }
+    let is_unknown : list_any (same_text key) known ≡ false = ap (λ text. list_any (same_text text) known)
+    (sym c.as_str.ensures.value) ∙ sym c.if-not-knows.ensures.known in
+    record {
+      unknown = sym (unknown_in-keys known c.args.members.now.entries c.keys-key-items.ensures.ordered
+          ∙ c.loop-key.invariant ∙ ap (first_unknown known) c.in-Some.ensures.steps
+          ∙ ap (λ (b : Bool). cond b rest (Some key)) is_unknown);
+    }
 
 -- no key is left
 pub returns : goal.returns
-returns c = record { unknown = sym (unknown_in-keys (keys_of c.args.form) c.args.members.now.entries c.keys-key-items.ensures.ordered ∙ c.loop-key.invariant ∙ ap (first_unknown (keys_of c.args.form)) c.in-None.ensures.steps.0) }
+returns c = record {
+  unknown = sym (unknown_in-keys (keys_of c.args.form) c.args.members.now.entries
+      c.keys-key-items.ensures.ordered ∙ c.loop-key.invariant ∙ ap (first_unknown (keys_of c.args.form))
+      c.in-None.ensures.steps.0);
+}

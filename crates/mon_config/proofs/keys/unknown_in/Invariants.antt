@@ -5,4 +5,5 @@ use Rattle.mon_config.proofs.UnknownKeyLemmas.{first_unknown}
 use Rattle.mon_config.proofs.keys.unknown_in.Given as goal
 
 abbrev pub invariant-loop-key : goal.invariant-loop-key
-invariant-loop-key l = first_unknown (keys_of l.form) (map (λ e. e.0) l.members.entries) ≡ first_unknown (keys_of l.form) l.key-iterator
+invariant-loop-key l = first_unknown (keys_of l.form) (map (λ e. e.0) l.members.entries) ≡ first_unknown
+    (keys_of l.form) l.key-iterator

@@ -28,17 +28,22 @@ loop-init c =
     let points = c.args.points.now.points in
     let moment = to_z w64 (of_z w64 grid.moment) in
     let plain : to_z w64 (of_z w64 c.args.seconds) ≡ c.args.seconds = search rules in
-    let sums = subst (λ seconds. AllByRecursion (SumFits (Delta seconds) points) (grid_times grid)) (sym plain) c.requires.sums in
+    let sums = subst (λ seconds. AllByRecursion (SumFits (Delta seconds) points) (grid_times grid)) (sym plain)
+    c.requires.sums in
     let same : moment ≡ grid.moment = omega (arith, ints) in record {
-      whole = begins_whole (made_at by points) grid c.new-values.result c.times_of-end.result moment c.new-values.ensures.empty c.times_of-end.ensures same;
-      left = begins_all (IsNext by grid points) grid c.times_of-end.result moment c.times_of-end.ensures same (both_hold _ (SumFits by points) (grid_times grid) (grid_between grid c.requires.lawful) sums);
+      whole = begins_whole (made_at by points) grid c.new-values.result c.times_of-end.result moment
+          c.new-values.ensures.empty c.times_of-end.ensures same;
+      left = begins_all (IsNext by grid points) grid c.times_of-end.result moment c.times_of-end.ensures same
+          (both_hold _ (SumFits by points) (grid_times grid) (grid_between grid c.requires.lawful) sums);
       totalled = subst (IsTotalled c.behind-window.result) c.points.ensures.points c.behind-window.ensures;
     }
 
 pub window_at-requires-clause-after : goal.window_at-requires-clause-after
 window_at-requires-clause-after c =
     let grid = c.args.grid.now in
-    let now = holds_now (IsNext (Delta (to_z w64 (of_z w64 c.args.seconds))) grid c.args.points.now.points) c.times_of-end.result c.loop.counter (to_z w64 c.loop.time-bits) grid.every c.loop-test.true c.loop.invariant.left in
+    let now = holds_now (IsNext (Delta (to_z w64 (of_z w64 c.args.seconds))) grid c.args.points.now.points)
+    c.times_of-end.result c.loop.counter (to_z w64 c.loop.time-bits) grid.every c.loop-test.true
+    c.loop.invariant.left in
     let moment = c.requires.lawful.moment in
     let within = c.requires.lawful.within in
     omega (arith, ints)
@@ -46,13 +51,17 @@ window_at-requires-clause-after c =
 pub window_at-requires-clause-sums : goal.window_at-requires-clause-sums
 window_at-requires-clause-sums c =
     let grid = c.args.grid.now in
-    let now = holds_now (IsNext (Delta (to_z w64 (of_z w64 c.args.seconds))) grid c.args.points.now.points) c.times_of-end.result c.loop.counter (to_z w64 c.loop.time-bits) grid.every c.loop-test.true c.loop.invariant.left in
+    let now = holds_now (IsNext (Delta (to_z w64 (of_z w64 c.args.seconds))) grid c.args.points.now.points)
+    c.times_of-end.result c.loop.counter (to_z w64 c.loop.time-bits) grid.every c.loop-test.true
+    c.loop.invariant.left in
     now.1
 
 pub overflow_sub-time : goal.overflow_sub-time
 overflow_sub-time c =
     let grid = c.args.grid.now in
-    let now = holds_now (IsNext (Delta (to_z w64 (of_z w64 c.args.seconds))) grid c.args.points.now.points) c.times_of-end.result c.loop.counter (to_z w64 c.loop.time-bits) grid.every c.loop-test.true c.loop.invariant.left in
+    let now = holds_now (IsNext (Delta (to_z w64 (of_z w64 c.args.seconds))) grid c.args.points.now.points)
+    c.times_of-end.result c.loop.counter (to_z w64 c.loop.time-bits) grid.every c.loop-test.true
+    c.loop.invariant.left in
     let moment = c.requires.lawful.moment in
     let within = c.requires.lawful.within in
     let every = c.requires.lawful.every in
@@ -73,7 +82,9 @@ loop-preserved c =
     let every = c.requires.lawful.every in
     let made = c.in_ok-total.ensures ∙ c.in_ok-window.ensures.total in
     let step : next ≡ time -ℤ grid.every = omega (arith, ints) in record {
-      whole = rw c.in_ok-add_value.ensures (made_more (made_at by points) c.loop.values (aligned_values by grid points) n k time next grid.every c.loop-test.true step c.loop.invariant.whole (timed_values time c.in_ok-total.field-0) (ap (timed_values time) (sym made)));
+      whole = rw c.in_ok-add_value.ensures (made_more (made_at by points) c.loop.values (aligned_values by grid points)
+          n k time next grid.every c.loop-test.true step c.loop.invariant.whole
+          (timed_values time c.in_ok-total.field-0) (ap (timed_values time) (sym made)));
       left = holds_later (IsNext by grid points) n k time next grid.every c.loop-test.true step c.loop.invariant.left;
       totalled = c.in_ok-window.ensures.totalled;
     }

@@ -10,7 +10,9 @@ use Rattle.mon_fold.proofs.alignment.added_values.Given as goal
 
 abbrev pub invariant-loop : goal.invariant-loop
 invariant-loop l = record {
-  whole : l.values ++ flat_map (λ time. timed_values time (value_at (Delta l.seconds) l.points.points time)) (times_back (l.end - l.counter) l.time l.grid.every) ≡ aligned_values (Delta l.seconds) l.grid l.points.points;
-  left : AllByRecursion (λ time. (((l.grid.moment -ℤ l.grid.within) <ℤ time) × (time ≤ℤ l.grid.moment)) × SumFits (Delta l.seconds) l.points.points time) (times_back (l.end - l.counter) l.time l.grid.every);
+  whole : l.values ++ flat_map (λ time. timed_values time (value_at (Delta l.seconds) l.points.points time))
+      (times_back (l.end - l.counter) l.time l.grid.every) ≡ aligned_values (Delta l.seconds) l.grid l.points.points;
+  left : AllByRecursion (λ time. (((l.grid.moment -ℤ l.grid.within) <ℤ time) × (time ≤ℤ l.grid.moment))
+      × SumFits (Delta l.seconds) l.points.points time) (times_back (l.end - l.counter) l.time l.grid.every);
   totalled : IsTotalled l.window l.points.points;
 }

@@ -1,4 +1,5 @@
-use Rattle.std.proofs.Common.{◌≡◌, ◌-ℤ◌, ◌<ℤ◌, ◌≤ℤ◌, List, ℤ, to_z, of_z, w64, option_map, sym, ap, subst, ◌∙◌, rules, arith}
+use Rattle.std.proofs.Common.{◌≡◌, ◌-ℤ◌, ◌<ℤ◌, ◌≤ℤ◌, List, ℤ, to_z, of_z, w64, option_map, sym, ap, subst, ◌∙◌, rules}
+use Rattle.std.proofs.Common.{arith}
 use Rattle.std.specs.List.{AllByRecursion}
 use Rattle.std.proofs.lemmas.Int.{ints}
 use Rattle.mon_value.specs.Alignments.{aligned_values, newest_point, SumFits, timed_values, value_at}
@@ -27,16 +28,21 @@ loop-init c =
     let points = c.args.points.now.points in
     let moment = to_z w64 (of_z w64 grid.moment) in
     let plain : to_z w64 (of_z w64 c.args.seconds) ≡ c.args.seconds = search rules in
-    let sums = subst (λ seconds. AllByRecursion (SumFits (NextOlder seconds) points) (grid_times grid)) (sym plain) c.requires.sums in
+    let sums = subst (λ seconds. AllByRecursion (SumFits (NextOlder seconds) points) (grid_times grid)) (sym plain)
+    c.requires.sums in
     let same : moment ≡ grid.moment = omega (arith, ints) in record {
-      whole = begins_whole (made_at by points) grid c.new-values.result c.times_of-end.result moment c.new-values.ensures.empty c.times_of-end.ensures same;
-      left = begins_all (IsNext by grid points) grid c.times_of-end.result moment c.times_of-end.ensures same (both_hold _ (SumFits by points) (grid_times grid) (grid_between grid c.requires.lawful) sums);
+      whole = begins_whole (made_at by points) grid c.new-values.result c.times_of-end.result moment
+          c.new-values.ensures.empty c.times_of-end.ensures same;
+      left = begins_all (IsNext by grid points) grid c.times_of-end.result moment c.times_of-end.ensures same
+          (both_hold _ (SumFits by points) (grid_times grid) (grid_between grid c.requires.lawful) sums);
     }
 
 pub window-requires-clause-time : goal.window-requires-clause-time
 window-requires-clause-time c =
     let grid = c.args.grid.now in
-    let now = holds_now (IsNext (NextOlder (to_z w64 (of_z w64 c.args.seconds))) grid c.args.points.now.points) c.times_of-end.result c.loop.counter (to_z w64 c.loop.time-bits) grid.every c.loop-test.true c.loop.invariant.left in
+    let now = holds_now (IsNext (NextOlder (to_z w64 (of_z w64 c.args.seconds))) grid c.args.points.now.points)
+    c.times_of-end.result c.loop.counter (to_z w64 c.loop.time-bits) grid.every c.loop-test.true
+    c.loop.invariant.left in
     let moment = c.requires.lawful.moment in
     let within = c.requires.lawful.within in
     omega (arith, ints)
@@ -44,7 +50,9 @@ window-requires-clause-time c =
 pub overflow_sub-time : goal.overflow_sub-time
 overflow_sub-time c =
     let grid = c.args.grid.now in
-    let now = holds_now (IsNext (NextOlder (to_z w64 (of_z w64 c.args.seconds))) grid c.args.points.now.points) c.times_of-end.result c.loop.counter (to_z w64 c.loop.time-bits) grid.every c.loop-test.true c.loop.invariant.left in
+    let now = holds_now (IsNext (NextOlder (to_z w64 (of_z w64 c.args.seconds))) grid c.args.points.now.points)
+    c.times_of-end.result c.loop.counter (to_z w64 c.loop.time-bits) grid.every c.loop-test.true
+    c.loop.invariant.left in
     let moment = c.requires.lawful.moment in
     let within = c.requires.lawful.within in
     let every = c.requires.lawful.every in
@@ -63,8 +71,11 @@ loop-preserved c =
     let moment = c.requires.lawful.moment in
     let within = c.requires.lawful.within in
     let every = c.requires.lawful.every in
-    let made = c.in_ok-value.ensures ∙ ap (λ seen. option_map (λ (p : Point). p.value) (newest_point seen)) c.window.ensures.window in
+    let made = c.in_ok-value.ensures ∙ ap (λ seen. option_map (λ (p : Point). p.value) (newest_point seen))
+    c.window.ensures.window in
     let step : next ≡ time -ℤ grid.every = omega (arith, ints) in record {
-      whole = rw c.in_ok-add_value.ensures (made_more (made_at by points) c.loop.values (aligned_values by grid points) n k time next grid.every c.loop-test.true step c.loop.invariant.whole (timed_values time c.in_ok-value.value) (ap (timed_values time) (sym made)));
+      whole = rw c.in_ok-add_value.ensures (made_more (made_at by points) c.loop.values (aligned_values by grid points)
+          n k time next grid.every c.loop-test.true step c.loop.invariant.whole (timed_values time c.in_ok-value.value)
+          (ap (timed_values time) (sym made)));
       left = holds_later (IsNext by grid points) n k time next grid.every c.loop-test.true step c.loop.invariant.left;
     }

@@ -15,4 +15,5 @@ loop-key-preserved c =
     let whole : owned.entries ++ (key_row key, parts) ∷ owned_groups rest ≡ owned_groups all =
     ap (λ (left : List KeyedGroup). owned.entries ++ owned_groups left) (sym next) ∙ c.loop-key.invariant in
     let distinct = distinct_rows all c.into_iter-key-iterator.ensures.into_iter_gives.4 in
-    copy_put owned c.in_ok-to_row.field-0 (key_row key) parts parts (owned_groups rest) (owned_groups all) c.insert.new.self.entries c.in_ok-to_row.ensures refl c.in_ok-insert.ensures.entries whole distinct
+    copy_put owned c.in_ok-to_row.field-0 (key_row key) parts parts (owned_groups rest) (owned_groups all)
+    c.insert.new.self.entries c.in_ok-to_row.ensures refl c.in_ok-insert.ensures.entries whole distinct

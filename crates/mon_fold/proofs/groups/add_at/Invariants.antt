@@ -4,4 +4,5 @@ use Rattle.std.specs.List.{filter_map}
 use Rattle.mon_fold.proofs.groups.add_at.Given as goal
 
 abbrev pub invariant-loop-place : goal.invariant-loop-place
-invariant-loop-place g l = l.list ++ filter_map (slice_get l.items) (drop l.place-index l.places) ≡ l.fn.list ++ filter_map (slice_get l.items) l.places
+invariant-loop-place g l = l.list ++ filter_map (slice_get l.items) (drop l.place-index l.places) ≡ l.fn.list
+    ++ filter_map (slice_get l.items) l.places

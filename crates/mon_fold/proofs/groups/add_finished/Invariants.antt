@@ -6,4 +6,5 @@ use Rattle.mon_fold.specs.PartialGroups.{part_finished}
 use Rattle.mon_fold.proofs.groups.add_finished.Given as goal
 
 abbrev pub invariant-loop-part : goal.invariant-loop-part
-invariant-loop-part l = l.cells ++ filter_map part_finished (into_iter_items l.part-iterator) ≡ l.fn.cells ++ filter_map part_finished l.fn.parts
+invariant-loop-part l = l.cells ++ filter_map part_finished (into_iter_items l.part-iterator) ≡ l.fn.cells
+    ++ filter_map part_finished l.fn.parts

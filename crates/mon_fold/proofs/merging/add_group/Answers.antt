@@ -14,7 +14,8 @@ returns-in-Some-clause-added c =
     let key = c.in-Some.key in
     let parts = c.in-Some.parts in
     let absent : lookup (same_row key) groups.entries ≡ None =
-    subst (λ (r : Option PartialGroup). IfSome r (λ g. lookup (same_row g.0) groups.entries ≡ None)) c.in-Some.is c.requires.new in
+    subst (λ (r : Option PartialGroup). IfSome r (λ g. lookup (same_row g.0) groups.entries ≡ None)) c.in-Some.is
+    c.requires.new in
     let none : get derived.eq-value.it groups key ≡ None = absent_by_test key groups.entries absent in
     from_ok c.insert.result c.insert.ensures.entries (c.insert.ensures.succeeds c.requires.room)
     ∙ insert_entry-new derived.eq-value.it groups key parts none

@@ -11,9 +11,11 @@ loop-key-preserved c =
     let all : List PartialGroup = c.args.groups.now.entries in
     let rest : List PartialGroup = c.next.new.self in
     let next : c.loop-key.key-iterator ≡ (key, parts) ∷ rest = c.in-Some.ensures.steps in
-    let whole : copied.entries ++ (key, parts) ∷ rest ≡ all = ap (λ (left : List PartialGroup). copied.entries ++ left) (sym next) ∙ c.loop-key.invariant in
+    let whole : copied.entries ++ (key, parts) ∷ rest ≡ all = ap (λ (left : List PartialGroup). copied.entries ++ left)
+    (sym next) ∙ c.loop-key.invariant in
     let distinct = distinct_kept all c.iter-key-items.ensures.unique in
-    copy_put copied c.in_ok-copy.field-0 key c.in_ok-copy-2.field-0 parts rest all c.insert.new.self.entries c.in_ok-copy.ensures.equal c.in_ok-copy-2.ensures.equal c.in_ok-insert.ensures.entries whole distinct
+    copy_put copied c.in_ok-copy.field-0 key c.in_ok-copy-2.field-0 parts rest all c.insert.new.self.entries
+    c.in_ok-copy.ensures.equal c.in_ok-copy-2.ensures.equal c.in_ok-insert.ensures.entries whole distinct
 
 pub loop-key-preserved-in_ok-insert : goal.loop-key-preserved-in_ok-insert
 loop-key-preserved-in_ok-insert c =
@@ -23,6 +25,8 @@ loop-key-preserved-in_ok-insert c =
     let all : List PartialGroup = c.args.groups.now.entries in
     let rest : List PartialGroup = c.next.new.self in
     let next : c.loop-key.key-iterator ≡ (key, parts) ∷ rest = c.in-Some.ensures.steps in
-    let whole : copied.entries ++ (key, parts) ∷ rest ≡ all = ap (λ (left : List PartialGroup). copied.entries ++ left) (sym next) ∙ c.loop-key.invariant in
+    let whole : copied.entries ++ (key, parts) ∷ rest ≡ all = ap (λ (left : List PartialGroup). copied.entries ++ left)
+    (sym next) ∙ c.loop-key.invariant in
     let distinct = distinct_kept all c.iter-key-items.ensures.unique in
-    copy_put copied c.in_ok-copy.field-0 key c.in_ok-copy-2.field-0 parts rest all c.insert.new.self.entries c.in_ok-copy.ensures.equal c.in_ok-copy-2.ensures.equal c.in_ok-insert.ensures.entries whole distinct
+    copy_put copied c.in_ok-copy.field-0 key c.in_ok-copy-2.field-0 parts rest all c.insert.new.self.entries
+    c.in_ok-copy.ensures.equal c.in_ok-copy-2.ensures.equal c.in_ok-insert.ensures.entries whole distinct

@@ -4,4 +4,5 @@ use Rattle.mon_fold.specs.PartialGroups.{new_to}
 use Rattle.mon_fold.proofs.merging.new_groups.Given as goal
 
 abbrev pub invariant-loop-key : goal.invariant-loop-key
-invariant-loop-key l = l.copies.items ++ new_to l.groups.entries l.key-iterator ≡ new_to l.groups.entries l.others.entries
+invariant-loop-key l = l.copies.items ++ new_to l.groups.entries l.key-iterator ≡ new_to l.groups.entries
+    l.others.entries

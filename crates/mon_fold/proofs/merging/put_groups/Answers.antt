@@ -13,10 +13,12 @@ loop-key-init c =
     let copied : into_iter_items c.into_iter-copies.result ≡ c.args.copies.items = search rules in record {
       made = ap (λ (es : List PartialGroup). merged_groups c.args.groups.now.entries es) listed;
       can = subst (λ (es : List PartialGroup). CanMergeGroups c.args.groups.now.entries es) (sym listed) c.requires.can;
-      copied = copied ∙ c.requires.copied ∙ ap (λ (es : List PartialGroup). new_to c.args.groups.now.entries es) (sym listed);
+      copied = copied ∙ c.requires.copied ∙ ap (λ (es : List PartialGroup). new_to c.args.groups.now.entries es)
+          (sym listed);
       room = rw copied c.requires.room;
       counted = search rules;
-      distinct = subst (λ (es : List PartialGroup). IsDistinct same_row (keys_of es)) (sym listed) (distinct_kept c.args.others.now.entries c.iter-key-items.ensures.unique);
+      distinct = subst (λ (es : List PartialGroup). IsDistinct same_row (keys_of es)) (sym listed)
+          (distinct_kept c.args.others.now.entries c.iter-key-items.ensures.unique);
     }
 
 pub put_group-requires : goal.put_group-requires
@@ -41,9 +43,11 @@ loop-key-preserved c =
     let next : c.loop-key.key-iterator ≡ g ∷ rest = c.in-Some.ensures.steps in
     let copied = c.loop-key.invariant.copied ∙ ap (λ (es : List PartialGroup). new_to gs es) next in
     let can = subst (λ (es : List PartialGroup). CanMergeGroups gs es) next c.loop-key.invariant.can in
-    let distinct = subst (λ (es : List PartialGroup). IsDistinct same_row (keys_of es)) next c.loop-key.invariant.distinct in
+    let distinct = subst (λ (es : List PartialGroup). IsDistinct same_row (keys_of es)) next
+    c.loop-key.invariant.distinct in
     let put = c.put_group.ensures.put in record {
-      made = ap (λ (es : List PartialGroup). merged_groups es rest) put ∙ ap (λ (es : List PartialGroup). merged_groups gs es) (sym next) ∙ c.loop-key.invariant.made;
+      made = ap (λ (es : List PartialGroup). merged_groups es rest) put
+          ∙ ap (λ (es : List PartialGroup). merged_groups gs es) (sym next) ∙ c.loop-key.invariant.made;
       can = subst (λ (es : List PartialGroup). CanMergeGroups es rest) (sym put) can.1;
       copied = c.put_group.ensures.left
           ∙ ap (λ (items : List PartialGroup). drop (length (new_to gs (g ∷ []))) items) copied

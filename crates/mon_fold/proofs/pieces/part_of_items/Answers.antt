@@ -12,4 +12,5 @@ add-requires g c =
     let item = c.item-item.result in
     let fits = fits_more (members.fits fold) (laws.chosen_fit fold) items i item (omega arith) c.requires.within in
     let same = ap (λ (x : g.row.F-In.Denot). members.part_of fold (x ∷ [])) c.item-item.is in
-    can_merge_at (members.part_of fold) members.can_merge (members.fits fold) (laws.merges fold) _ _ (take i items) (get_or items i item ∷ []) c.loop-item.invariant same fits
+    can_merge_at (members.part_of fold) members.can_merge (members.fits fold) (laws.merges fold) _ _ (take i items)
+    (get_or items i item ∷ []) c.loop-item.invariant same fits

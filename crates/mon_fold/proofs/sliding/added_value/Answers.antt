@@ -13,4 +13,5 @@ returns-in-Some-counts c =
     let kind = told_counts first.value _ c.in-Some-counts.counts.now c.in-Some-counts.ensures.counts refl in
     let more = counts_of (distributions_in (values_of rest)) in
     let counts = c.merge_into.ensures ∙ ap (λ copied. counts_added copied more) c.in_ok-copy.ensures.equal in
-    ap (λ all. Some (value.Dist all)) counts ∙ sym (total_merged c.args.window.now rest first c.in-Some-counts.counts.now c.in-Some.ensures.cases.0 kind c.requires.alike)
+    ap (λ all. Some (value.Dist all)) counts ∙ sym (total_merged c.args.window.now rest first
+    c.in-Some-counts.counts.now c.in-Some.ensures.cases.0 kind c.requires.alike)

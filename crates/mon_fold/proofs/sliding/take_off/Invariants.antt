@@ -7,6 +7,7 @@ use Rattle.mon_fold.proofs.sliding.take_off.Given as goal
 
 abbrev pub invariant-loop-point : goal.invariant-loop-point
 invariant-loop-point l = record {
-  taken : (k : ℕ) → get_or l.counts k 0 + get_or (counts_of (distributions_in (values_of (take l.point-index l.points)))) k 0 ≡ get_or l.fn.counts k 0;
+  taken : (k : ℕ) → get_or l.counts k 0
+      + get_or (counts_of (distributions_in (values_of (take l.point-index l.points)))) k 0 ≡ get_or l.fn.counts k 0;
   long : length l.counts ≡ length l.fn.counts;
 }

@@ -7,4 +7,5 @@ returns-then-bits-eq0-clause-none c = none_above c.args.word c.args.from c.if-bi
 
 pub returns-else-bits-eq0-clause-least : goal.returns-else-bits-eq0-clause-least
 returns-else-bits-eq0-clause-least c =
-    first_above c.args.word c.args.from c.requires c.if-bits-eq0.false (above_fits c.args.word c.args.from (omega (arith, c.ranges.word.fits)))
+    first_above c.args.word c.args.from c.requires c.if-bits-eq0.false (above_fits c.args.word c.args.from
+    (omega (arith, c.ranges.word.fits)))

@@ -7,5 +7,6 @@ use Rattle.mon_hints.proofs.excerpts.push_windows.Given as goal
 abbrev pub invariant-loop-window : goal.invariant-loop-window
 invariant-loop-window l = record {
   size : windows_size l.window-iterator ≡ 3;
-  made : l.excerpts ++ windows (windows_rest l.window-iterator) ≡ l.fn.excerpts ++ windows (l.fn.front ++ l.fn.piece ++ l.fn.back);
+  made : l.excerpts ++ windows (windows_rest l.window-iterator) ≡ l.fn.excerpts ++ windows (l.fn.front ++ l.fn.piece
+      ++ l.fn.back);
 }

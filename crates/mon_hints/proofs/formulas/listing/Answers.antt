@@ -10,5 +10,6 @@ returns c =
     let kept = c.dedup.new.self.items in
     record {
       listing = sorted_listing c.args.buckets.items sorted c.from_vec.result c.sort_unstable.ensures.permutation
-          c.sort_unstable.ensures.sorted (c.from_vec.ensures.items ∙ dedup_is nat_eq sorted kept c.dedup.ensures.filtered);
+          c.sort_unstable.ensures.sorted (c.from_vec.ensures.items ∙ dedup_is nat_eq sorted kept
+          c.dedup.ensures.filtered);
     }

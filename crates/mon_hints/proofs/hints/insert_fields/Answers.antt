@@ -14,6 +14,7 @@ returns c =
     let ended = zip_ended (iter_rest (zip_first left)) (iter_rest (zip_second left))
     (either_empty_from_Zip left c.next.new.self c.next.result c.in-None.is c.next.ensures.steps) in
     record {
-      added = sym (ap (λ pairs. with_buckets (is_set l.set.words) (buckets_of_pairs c.args.buckets c.args.schema.state pairs)) ended)
+      added = sym (ap (λ pairs. with_buckets (is_set l.set.words) (buckets_of_pairs c.args.buckets c.args.schema.state
+          pairs)) ended)
           ∙ l.invariant;
     }

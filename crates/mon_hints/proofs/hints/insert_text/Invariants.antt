@@ -7,5 +7,6 @@ use Rattle.mon_hints.proofs.hints.insert_text.Given as goal
 
 abbrev pub invariant-loop-byte : goal.invariant-loop-byte
 invariant-loop-byte l =
-    with_buckets (is_set l.set.words) (buckets_behind l.buckets l.field.state (windows (l.first ∷ l.second ∷ (drop l.byte-index l.text ++ back))))
+    with_buckets (is_set l.set.words) (buckets_behind l.buckets l.field.state
+    (windows (l.first ∷ l.second ∷ (drop l.byte-index l.text ++ back))))
     ≡ with_buckets (is_set l.fn.set.words) (buckets_behind l.buckets l.field.state (text_excerpts l.text))

@@ -16,10 +16,16 @@ returns c =
     let named = is_set c.insert_excerpt.new.set.words in
     let targets = is_set c.insert_fields.new.set.words in
     let whole = is_set c.insert_fields-2.new.set.words in
-    let first : named ≡ with_bucket empty (bucket_behind buckets (with_label (with_label START key.target.schema) []) key.metric) =
+    let first : named ≡ with_bucket empty (bucket_behind buckets (with_label (with_label START key.target.schema) [])
+    key.metric) =
     search rules in
-    let second : targets ≡ with_buckets named (buckets_of_pairs buckets (with_label START key.target.schema) (zip target.fields key.target.fields)) =
+    let second : targets ≡ with_buckets named (buckets_of_pairs buckets (with_label START key.target.schema)
+    (zip target.fields key.target.fields)) =
     search rules in
-    let third : whole ≡ with_buckets targets (buckets_of_pairs buckets (with_label START key.target.schema) (zip metric.fields key.fields)) =
+    let third : whole ≡ with_buckets targets (buckets_of_pairs buckets (with_label START key.target.schema)
+    (zip metric.fields key.fields)) =
     search rules in
-    record { set = series_filled buckets target metric key empty named targets whole c.new-set.ensures.none first second third }
+    record {
+      set = series_filled buckets target metric key empty named targets whole c.new-set.ensures.none first
+          second third;
+    }

@@ -13,9 +13,11 @@ pub loop-number-init : goal.loop-number-init
 loop-number-init c =
     let rows = c.args.rows.now in
     record {
-      so_far = none_met c.args.setting.now.grid c.args.by c.args.fetch.now rows c.of_metric-numbers.result.now (series_met c.args.met.now.items)
+      so_far = none_met c.args.setting.now.grid c.args.by c.args.fetch.now rows c.of_metric-numbers.result.now
+          (series_met c.args.met.now.items)
           c.args.meter.now.load
-          (c.of_metric-numbers.ensures.numbers ∙ ap (λ (metric : List ℕ). metric_numbers metric rows) c.metric.ensures.metric);
+          (c.of_metric-numbers.ensures.numbers ∙ ap (λ (metric : List ℕ). metric_numbers metric rows)
+          c.metric.ensures.metric);
       limit = refl;
     }
 
@@ -23,10 +25,13 @@ pub entry-requires : goal.entry-requires
 entry-requires c =
     let numbers = c.of_metric-numbers.result.now in
     let i = c.loop-number.number-index in
-    let next : drop i numbers ≡ slice_index_or numbers i 0 ∷ drop (i + 1) numbers = drop_more numbers i 0 c.loop-number-test.true in
+    let next : drop i numbers ≡ slice_index_or numbers i 0 ∷ drop (i + 1) numbers = drop_more numbers i 0
+    c.loop-number-test.true in
     record {
-      within = within_series c.args.setting.now.grid c.args.by c.args.fetch.now c.args.rows.now (drop i numbers) (drop (i + 1) numbers)
-          (slice_index_or numbers i 0) (series_met c.args.met.now.items) (series_met c.loop-number.met.items) c.args.meter.now.load
+      within = within_series c.args.setting.now.grid c.args.by c.args.fetch.now c.args.rows.now (drop i numbers)
+          (drop (i + 1) numbers)
+          (slice_index_or numbers i 0) (series_met c.args.met.now.items) (series_met c.loop-number.met.items)
+          c.args.meter.now.load
           c.loop-number.meter.load c.loop-number.invariant.so_far next;
     }
 
@@ -47,18 +52,24 @@ loop-number-preserved c =
     let one : Met = record { key = c.entry.result.0; series = c.entry.result.1 } in
     elim c.if-reached-gt0.branch [
       | then-reached-gt0+in_ok-add+in_ok-push w ↦ record {
-        so_far = one_met grid by fetch groups (drop i numbers) (drop (i + 1) numbers) number group (series_met c.args.met.now.items) (series_met met)
-            c.args.meter.now.load c.loop-number.meter.load c.loop-number.invariant.so_far next there (series_met c.if-reached-gt0.met.items)
+        so_far = one_met grid by fetch groups (drop i numbers) (drop (i + 1) numbers) number group
+            (series_met c.args.met.now.items) (series_met met)
+            c.args.meter.now.load c.loop-number.meter.load c.loop-number.invariant.so_far next there
+            (series_met c.if-reached-gt0.met.items)
             c.if-reached-gt0.meter.load (omega (arith, w.if-reached-gt0.true, count))
             (ap (λ v. series_met v.items) w.met-is ∙ ap series_met w.in_ok-push.ensures.items
             ∙ map-append (λ (m : Met). (m.key.now, m.series.now.points)) met (one ∷ []))
-            (ap (λ m. m.load) w.meter-is ∙ w.in_ok-add.ensures.counted ∙ ap (λ (n : ℕ). c.loop-number.meter.load + n) count);
+            (ap (λ m. m.load) w.meter-is ∙ w.in_ok-add.ensures.counted ∙ ap (λ (n : ℕ). c.loop-number.meter.load + n)
+            count);
         limit = ap (λ m. m.limit) w.meter-is ∙ w.in_ok-add.ensures.limit ∙ c.loop-number.invariant.limit;
       }
       | else-reached-gt0 w ↦ record {
-        so_far = one_passed grid by fetch groups (drop i numbers) (drop (i + 1) numbers) number group (series_met c.args.met.now.items) (series_met met)
-            c.args.meter.now.load c.loop-number.meter.load c.loop-number.invariant.so_far next there (series_met c.if-reached-gt0.met.items)
-            c.if-reached-gt0.meter.load (omega (arith, w.if-reached-gt0.false, count)) (ap (λ v. series_met v.items) w.met-is)
+        so_far = one_passed grid by fetch groups (drop i numbers) (drop (i + 1) numbers) number group
+            (series_met c.args.met.now.items) (series_met met)
+            c.args.meter.now.load c.loop-number.meter.load c.loop-number.invariant.so_far next there
+            (series_met c.if-reached-gt0.met.items)
+            c.if-reached-gt0.meter.load (omega (arith, w.if-reached-gt0.false, count))
+            (ap (λ v. series_met v.items) w.met-is)
             (ap (λ m. m.load) w.meter-is);
         limit = ap (λ m. m.limit) w.meter-is ∙ c.loop-number.invariant.limit;
       }

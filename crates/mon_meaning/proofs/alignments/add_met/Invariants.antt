@@ -7,7 +7,8 @@ use Rattle.mon_meaning.proofs.alignments.add_met.Given as goal
 
 abbrev pub invariant-loop-number : goal.invariant-loop-number
 invariant-loop-number l = record {
-  so_far : MetSoFar l.setting.grid l.by l.fetch (points_by_series l.rows) (drop l.number-index l.numbers) (series_met l.fn.met.items)
+  so_far : MetSoFar l.setting.grid l.by l.fetch (points_by_series l.rows) (drop l.number-index l.numbers)
+      (series_met l.fn.met.items)
       (series_met l.met.items) l.fn.meter.load l.meter.load;
   limit : l.meter.limit ≡ l.fn.meter.limit;
 }

@@ -5,4 +5,5 @@ use Rattle.mon_value.specs.SeriesRows.{row_of}
 use Rattle.mon_meaning.proofs.alignments.add_rows.Given as goal
 
 abbrev pub invariant-loop-aligned : goal.invariant-loop-aligned
-invariant-loop-aligned l = l.rows ++ map (row_of l.key) (into_iter_items l.aligned-iterator) ≡ l.fn.rows ++ map (row_of l.key) l.fn.values
+invariant-loop-aligned l = l.rows ++ map (row_of l.key) (into_iter_items l.aligned-iterator) ≡ l.fn.rows
+    ++ map (row_of l.key) l.fn.values

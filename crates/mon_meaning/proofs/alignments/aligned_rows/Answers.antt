@@ -15,14 +15,16 @@ use Rattle.mon_meaning.proofs.alignments.aligned_rows.Goals as goal
 pub returns-in-None-clause-rows : goal.returns-in-None-clause-rows
 returns-in-None-clause-rows c =
     let input = node_tree c.args.input.now in
-    let nothing : FetchesNothing input = subst (λ (o : Option FetchView). IsFetchFound input o) c.in-None.is c.in_ok-fetch.ensures.found in
+    let nothing : FetchesNothing input = subst (λ (o : Option FetchView). IsFetchFound input o) c.in-None.is
+    c.in_ok-fetch.ensures.found in
     c.new-in-None.ensures.empty
     ∙ sym (nothing_rows c.args.setting.now.grid c.args.by input nothing (all_held c.args.setting.now.series.now))
 
 pub returns-in-None-clause-counted : goal.returns-in-None-clause-counted
 returns-in-None-clause-counted c =
     let input = node_tree c.args.input.now in
-    let nothing : FetchesNothing input = subst (λ (o : Option FetchView). IsFetchFound input o) c.in-None.is c.in_ok-fetch.ensures.found in
+    let nothing : FetchesNothing input = subst (λ (o : Option FetchView). IsFetchFound input o) c.in-None.is
+    c.in_ok-fetch.ensures.found in
     let none = nothing_load c.args.setting.now.grid c.args.by input nothing (all_held c.args.setting.now.series.now) in
     omega (arith, none)
 
@@ -33,10 +35,13 @@ returns-in_err-met-clause-over c =
     let by = c.args.by in
     let series = all_held c.args.setting.now.series.now in
     let fetch : FetchView = c.in-Some.fetch in
-    let is : IsFetchOf input fetch = subst (λ (o : Option FetchView). IsFetchFound input o) c.in-Some.is c.in_ok-fetch.ensures.found in
+    let is : IsFetchOf input fetch = subst (λ (o : Option FetchView). IsFetchFound input o) c.in-Some.is
+    c.in_ok-fetch.ensures.found in
     let same = counts_met grid by input fetch is c.requires.ready.lawful series in
-    let fact : TellsOver c.args.meter.now.limit (c.args.meter.now.load + align_load grid by input series) c.in_err-met.field-0.0 =
-    tells_more c.args.meter.now.limit (c.args.meter.now.load + sum_by (met_count grid by fetch) series) _ c.in_err-met.field-0.0
+    let fact : TellsOver c.args.meter.now.limit (c.args.meter.now.load + align_load grid by input series)
+    c.in_err-met.field-0.0 =
+    tells_more c.args.meter.now.limit (c.args.meter.now.load + sum_by (met_count grid by fetch) series)
+    _ c.in_err-met.field-0.0
     (omega (arith, same)) c.in_err-met.ensures.over in
     search rules
 
@@ -48,7 +53,8 @@ rows_of_series-requires c =
     let series = all_held c.args.setting.now.series.now in
     let fetch : FetchView = c.in-Some.fetch in
     let ready = c.requires.ready in
-    let is : IsFetchOf input fetch = subst (λ (o : Option FetchView). IsFetchFound input o) c.in-Some.is c.in_ok-fetch.ensures.found in
+    let is : IsFetchOf input fetch = subst (λ (o : Option FetchView). IsFetchFound input o) c.in-Some.is
+    c.in_ok-fetch.ensures.found in
     let same = counts_met grid by input fetch is ready.lawful series in
     let few : IsWithinRows (sum_by (reach_count grid by input) series) =
     omega (arith, same, c.in_ok-met.ensures.counted, c.met_series.new.meter.within, c.met_series.new.meter.few) in
@@ -64,8 +70,10 @@ returns-clause-rows c =
     let by = c.args.by in
     let series = all_held c.args.setting.now.series.now in
     let fetch : FetchView = c.in-Some.fetch in
-    let is : IsFetchOf input fetch = subst (λ (o : Option FetchView). IsFetchFound input o) c.in-Some.is c.in_ok-fetch.ensures.found in
-    let same : flat_map (met_rows grid by fetch) (series_met c.in_ok-met.met.items) ≡ flat_map (series_rows grid by input) series =
+    let is : IsFetchOf input fetch = subst (λ (o : Option FetchView). IsFetchFound input o) c.in-Some.is
+    c.in_ok-fetch.ensures.found in
+    let same : flat_map (met_rows grid by fetch) (series_met c.in_ok-met.met.items)
+    ≡ flat_map (series_rows grid by input) series =
     ap (flat_map (met_rows grid by fetch)) c.in_ok-met.ensures.met
     ∙ counted_rows grid by input fetch is c.requires.ready.lawful series c.requires.ready.decided in
     subst (λ all. IfOk c.rows_of_series.result (λ rows. rows ≡ all)) same c.rows_of_series.ensures.rows
@@ -77,9 +85,11 @@ returns-clause-counted c =
     let by = c.args.by in
     let series = all_held c.args.setting.now.series.now in
     let fetch : FetchView = c.in-Some.fetch in
-    let is : IsFetchOf input fetch = subst (λ (o : Option FetchView). IsFetchFound input o) c.in-Some.is c.in_ok-fetch.ensures.found in
+    let is : IsFetchOf input fetch = subst (λ (o : Option FetchView). IsFetchFound input o) c.in-Some.is
+    c.in_ok-fetch.ensures.found in
     let counts = counts_met grid by input fetch is c.requires.ready.lawful series in
-    let same : flat_map (met_rows grid by fetch) (series_met c.in_ok-met.met.items) ≡ flat_map (series_rows grid by input) series =
+    let same : flat_map (met_rows grid by fetch) (series_met c.in_ok-met.met.items)
+    ≡ flat_map (series_rows grid by input) series =
     ap (flat_map (met_rows grid by fetch)) c.in_ok-met.ensures.met
     ∙ counted_rows grid by input fetch is c.requires.ready.lawful series c.requires.ready.decided in
     on_ok_weaker c.rows_of_series.result
@@ -92,12 +102,15 @@ returns-clause-over c =
     let by = c.args.by in
     let series = all_held c.args.setting.now.series.now in
     let fetch : FetchView = c.in-Some.fetch in
-    let is : IsFetchOf input fetch = subst (λ (o : Option FetchView). IsFetchFound input o) c.in-Some.is c.in_ok-fetch.ensures.found in
+    let is : IsFetchOf input fetch = subst (λ (o : Option FetchView). IsFetchFound input o) c.in-Some.is
+    c.in_ok-fetch.ensures.found in
     let counts = counts_met grid by input fetch is c.requires.ready.lawful series in
-    let same : flat_map (met_rows grid by fetch) (series_met c.in_ok-met.met.items) ≡ flat_map (series_rows grid by input) series =
+    let same : flat_map (met_rows grid by fetch) (series_met c.in_ok-met.met.items)
+    ≡ flat_map (series_rows grid by input) series =
     ap (flat_map (met_rows grid by fetch)) c.in_ok-met.ensures.met
     ∙ counted_rows grid by input fetch is c.requires.ready.lawful series c.requires.ready.decided in
-    let total : c.met_series.new.meter.load + length (flat_map (met_rows grid by fetch) (series_met c.in_ok-met.met.items))
+    let total : c.met_series.new.meter.load
+    + length (flat_map (met_rows grid by fetch) (series_met c.in_ok-met.met.items))
     ≡ c.args.meter.now.load + align_load grid by input series =
     omega (arith, counts, ap length same, c.in_ok-met.ensures.counted) in
     let limit : c.met_series.new.meter.limit ≡ c.args.meter.now.limit = c.in_ok-met.ensures.limit in

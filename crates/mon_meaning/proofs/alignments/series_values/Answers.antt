@@ -20,7 +20,8 @@ returns-then-keeps_all c =
     let fetch = c.args.fetch.now in
     let met = c.args.met.now in
     record {
-      values = subst (λ (points : List Point). IfOk c.align.result (λ values. values ≡ aligned_values c.args.by c.args.setting.now.grid points))
+      values = subst (λ (points : List Point). IfOk c.align.result (λ values. values ≡ aligned_values c.args.by
+          c.args.setting.now.grid points))
           (sym (kept_all fetch (met.key.now, met.series.now.points) (c.keeps_all.ensures.none c.if-keeps_all.true)))
           c.align.ensures.aligned_values;
     }
@@ -30,26 +31,30 @@ align-requires-2 c =
     let fetch = c.args.fetch.now in
     let met = c.args.met.now in
     let grid = c.args.setting.now.grid in
-    let kept : c.in_ok-kept.kept.points ≡ points_kept fetch (met.key.now, reached grid c.args.by met.series.now.points) =
+    let kept : c.in_ok-kept.kept.points ≡ points_kept fetch
+    (met.key.now, reached grid c.args.by met.series.now.points) =
     c.in_ok-kept.ensures.kept
     ∙ ap (λ (key : SeriesKey). points_kept fetch (key, c.points_in_reach-reached.result.now)) c.deref.ensures
     ∙ ap (λ (points : List Point). points_kept fetch (met.key.now, points)) c.points_in_reach-reached.ensures.reached in
     subst (CanAlign c.args.by grid) (sym kept)
-    (CanAlign-in_reach grid c.args.by (λ point. keeps fetch met.key.now point.value) met.series.now.points c.requires.can)
+    (CanAlign-in_reach grid c.args.by (λ point. keeps fetch met.key.now point.value) met.series.now.points
+    c.requires.can)
 
 pub returns : goal.returns
 returns c =
     let fetch = c.args.fetch.now in
     let met = c.args.met.now in
     let grid = c.args.setting.now.grid in
-    let kept : c.in_ok-kept.kept.points ≡ points_kept fetch (met.key.now, reached grid c.args.by met.series.now.points) =
+    let kept : c.in_ok-kept.kept.points ≡ points_kept fetch
+    (met.key.now, reached grid c.args.by met.series.now.points) =
     c.in_ok-kept.ensures.kept
     ∙ ap (λ (key : SeriesKey). points_kept fetch (key, c.points_in_reach-reached.result.now)) c.deref.ensures
     ∙ ap (λ (points : List Point). points_kept fetch (met.key.now, points)) c.points_in_reach-reached.ensures.reached in
     let same : aligned_values c.args.by grid c.in_ok-kept.kept.points
     ≡ aligned_values c.args.by grid (points_kept fetch (met.key.now, met.series.now.points)) =
     ap (aligned_values c.args.by grid) kept
-    ∙ aligned-in_reach grid c.args.by (λ point. keeps fetch met.key.now point.value) met.series.now.points c.requires.can.lawful in
+    ∙ aligned-in_reach grid c.args.by (λ point. keeps fetch met.key.now point.value) met.series.now.points
+    c.requires.can.lawful in
     record {
       values = subst (λ all. IfOk c.align-2.result (λ values. values ≡ all)) same c.align-2.ensures.aligned_values;
     }

@@ -7,7 +7,8 @@ use Rattle.mon_meaning.proofs.answers.central.Goals as goal
 
 pub central_by_series-requires-clause-typed : goal.central_by_series-requires-clause-typed
 central_by_series-requires-clause-typed c =
-    subst (IsTyped (typed_tree c.args.typed.now)) (sym (c.in_ok-kept.ensures.rows ∙ c.as_slice.ensures.items)) c.requires.typed
+    subst (IsTyped (typed_tree c.args.typed.now)) (sym (c.in_ok-kept.ensures.rows ∙ c.as_slice.ensures.items))
+    c.requires.typed
 
 pub returns : goal.returns
 returns c =
@@ -15,6 +16,7 @@ returns c =
     let moment : to_z w64 (of_z w64 c.args.moment) ≡ c.args.moment = search rules in
     record {
       answer = subst (λ (m : ℤ). IsAnswer typed c.args.rows.now m c.args.limit c.central_by_series.result) moment
-          (subst (λ (rows : List Row). IsAnswer typed rows (to_z w64 (of_z w64 c.args.moment)) c.args.limit c.central_by_series.result)
+          (subst (λ (rows : List Row). IsAnswer typed rows (to_z w64 (of_z w64 c.args.moment)) c.args.limit
+          c.central_by_series.result)
           (c.in_ok-kept.ensures.rows ∙ c.as_slice.ensures.items) c.central_by_series.ensures.answer);
     }

@@ -19,11 +19,17 @@ part_by_series-requires c =
     let tree = node_tree c.args.typed.now.tree in
     let series = points_by_series c.args.kept.now in
     let moment : to_z w64 (of_z w64 c.args.moment) ≡ c.args.moment = search rules in
-    let grid : c.grid_of-grid.result ≡ grid_of typed c.args.moment = c.grid_of-grid.ensures.grid ∙ ap (grid_of typed) moment in
+    let grid : c.grid_of-grid.result ≡ grid_of typed c.args.moment = c.grid_of-grid.ensures.grid ∙ ap (grid_of typed)
+    moment in
     record {
       asked = subst (λ (g : Grid). IsPartAsked g tree (series ++ [])) (sym grid)
           (subst (IsPartAsked (grid_of typed c.args.moment) tree) (sym (append-nil series))
-          (asked_whole typed series c.args.moment (record { source = c.args.kept.now; kept = refl; fits = c.requires.typed }) c.requires.moment));
+          (asked_whole typed series c.args.moment (record {
+            source = c.args.kept.now;
+            kept = refl;
+            fits =
+                c.requires.typed;
+          }) c.requires.moment));
     }
 
 pub returns-in_err-rows : goal.returns-in_err-rows
@@ -32,12 +38,14 @@ returns-in_err-rows c =
     let tree = node_tree c.args.typed.now.tree in
     let series = points_by_series c.args.kept.now in
     let moment : to_z w64 (of_z w64 c.args.moment) ≡ c.args.moment = search rules in
-    let grid : c.grid_of-grid.result ≡ grid_of typed c.args.moment = c.grid_of-grid.ensures.grid ∙ ap (grid_of typed) moment in
+    let grid : c.grid_of-grid.result ≡ grid_of typed c.args.moment = c.grid_of-grid.ensures.grid ∙ ap (grid_of typed)
+    moment in
     record {
       answer =
           let source = c.args.kept.now in
           let held : series ++ [] ≡ points_by_series source = append-nil series in
-          let over : TellsOver c.new-meter.result.limit (0 + load_of (grid_of typed c.args.moment) tree source) c.in_err-rows.field-0.0 =
+          let over : TellsOver c.new-meter.result.limit (0 + load_of (grid_of typed c.args.moment) tree source)
+          c.in_err-rows.field-0.0 =
           subst (λ (n : ℕ). TellsOver c.new-meter.result.limit (n + load_of (grid_of typed c.args.moment) tree source)
           c.in_err-rows.field-0.0) c.new-meter.ensures.none
           (subst (λ (g : Grid). TellsOver c.new-meter.result.limit (c.new-meter.result.load + load_of g tree source)
@@ -54,22 +62,26 @@ returns c =
     let tree = node_tree c.args.typed.now.tree in
     let series = points_by_series c.args.kept.now in
     let moment : to_z w64 (of_z w64 c.args.moment) ≡ c.args.moment = search rules in
-    let grid : c.grid_of-grid.result ≡ grid_of typed c.args.moment = c.grid_of-grid.ensures.grid ∙ ap (grid_of typed) moment in
+    let grid : c.grid_of-grid.result ≡ grid_of typed c.args.moment = c.grid_of-grid.ensures.grid ∙ ap (grid_of typed)
+    moment in
     let columns : c.deref.result.now ≡ columns_of tree =
     c.deref.ensures ∙ ap (λ (i : NodeInfo). i.columns) c.info.ensures.info in
     let is : c.in_ok-table_of.field-0 ≡ record { columns = columns_of tree; rows = c.in_ok-rows.rows } =
-    c.in_ok-table_of.ensures.table ∙ ap (λ (cs : List Column). record { columns = cs; rows = c.in_ok-rows.rows }) columns in
+    c.in_ok-table_of.ensures.table ∙ ap (λ (cs : List Column). record { columns = cs; rows = c.in_ok-rows.rows })
+    columns in
     record {
       answer =
           let source = c.args.kept.now in
           let held : series ++ [] ≡ points_by_series source = append-nil series in
           let same : IsPermutation (rows_meant (grid_of typed c.args.moment) tree source) c.in_ok-rows.rows =
-          subst (λ (g : Grid). IsPermutation (rows_meant g tree source) c.in_ok-rows.rows) grid (c.in_ok-rows.ensures.rows source held) in
+          subst (λ (g : Grid). IsPermutation (rows_meant g tree source) c.in_ok-rows.rows) grid
+          (c.in_ok-rows.ensures.rows source held) in
           let counted : c.part_by_series.new.meter.load ≡ 0 + load_of (grid_of typed c.args.moment) tree source =
           c.in_ok-rows.ensures.counted source held
           ∙ ap (λ (n : ℕ). n + load_of c.grid_of-grid.result tree source) c.new-meter.ensures.none
           ∙ ap (λ (g : Grid). 0 + load_of g tree source) grid in
-          is_meant typed source c.args.moment c.args.limit c.in_ok-table_of.field-0 c.in_ok-rows.rows c.part_by_series.new.meter.load
+          is_meant typed source c.args.moment c.args.limit c.in_ok-table_of.field-0 c.in_ok-rows.rows
+          c.part_by_series.new.meter.load
           c.part_by_series.new.meter.limit is same counted c.part_by_series.new.meter.within
           (c.in_ok-rows.ensures.limit ∙ c.new-meter.ensures.limit);
     }

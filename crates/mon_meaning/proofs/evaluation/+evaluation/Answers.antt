@@ -7,7 +7,8 @@ use Rattle.mql_types.specs.declared.nodes.Node.{Node}
 use Rattle.mon_meaning.specs.Central.{all_held}
 use Rattle.mon_meaning.specs.Counts.{TellsOver}
 use Rattle.mon_meaning.specs.Operations.{CanOperate}
-use Rattle.mon_meaning.specs.within.Paths.{first_input, node_count, other_load, own_load, trees_of}
+use Rattle.mql_types.specs.ExplanationParts.{nodes}
+use Rattle.mon_meaning.specs.within.Paths.{first_input, other_load, own_load, trees_of}
 use Rattle.mon_meaning.specs.within.Readiness.{IsReady}
 use Rattle.mon_meaning.specs.within.SeriesMeaning.{load_by_series, rows_by_series}
 use Rattle.mon_meaning.proofs.OperationLemmas.{can_operate}
@@ -42,8 +43,10 @@ rows_of-returns-in_err-rows-clause-over t c =
     let grid = c.args.setting.now.grid in
     let series = all_held c.args.setting.now.series.now in
     let top = node_tree c.args.tree.now in
-    let fact : TellsOver c.args.meter.now.limit (c.args.meter.now.load + load_by_series grid top series) c.in_err-rows.field-0.0 =
-    source_over grid series top (trees_of path.above.items) (node_tree path.source.now) c.args.meter.now.limit c.args.meter.now.load
+    let fact : TellsOver c.args.meter.now.limit (c.args.meter.now.load + load_by_series grid top series)
+    c.in_err-rows.field-0.0 =
+    source_over grid series top (trees_of path.above.items) (node_tree path.source.now) c.args.meter.now.limit
+    c.args.meter.now.load
     c.in_err-rows.field-0.0 c.in_ok-above.ensures.leads c.in_err-rows.ensures.over in
     search rules
 
@@ -56,13 +59,15 @@ rows_of-rows_above-requires t c =
     let left = trees_of c.pop.new.self.items in
     let items : trees_of c.loop-node.above.items ≡ left ++ one ∷ [] =
     ap trees_of c.in-Some.ensures.items ∙ map-append (λ (x : Bor Node). node_tree x.now) c.pop.new.self.items _ in
-    let walk = subst (λ (nodes : List NodeTree). Walk grid series top nodes c.loop-node.rows c.args.meter.now.load c.loop-node.meter.load)
+    let walk = subst (λ (nodes : List NodeTree). Walk grid series top nodes c.loop-node.rows c.args.meter.now.load
+    c.loop-node.meter.load)
     items c.loop-node.invariant.walk in
-    let step = next_step grid series top left one c.loop-node.rows c.args.meter.now.load c.loop-node.meter.load walk c.requires.ready in
+    let step = next_step grid series top left one c.loop-node.rows c.args.meter.now.load c.loop-node.meter.load walk
+    c.requires.ready in
     let ready : IsReady grid one series = step.ready in
     let flowing : c.loop-node.rows ≡ rows_by_series grid (first_input one) series = step.flowing in
     let within : load_by_series grid (first_input one) series ≤ c.loop-node.meter.load = step.within in
-    let falls : 3 * node_count one + 1 < 3 * node_count top + 2 = omega (arith, step.smaller) in
+    let falls : 3 * nodes one + 1 < 3 * nodes top + 2 = omega (arith, step.smaller) in
     search rules
 
 pub rows_of-returns-in_err-rows-2-clause-over : goal.rows_of-returns-in_err-rows-2-clause-over
@@ -74,14 +79,19 @@ rows_of-returns-in_err-rows-2-clause-over t c =
     let left = trees_of c.pop.new.self.items in
     let items : trees_of c.loop-node.above.items ≡ left ++ one ∷ [] =
     ap trees_of c.in-Some.ensures.items ∙ map-append (λ (x : Bor Node). node_tree x.now) c.pop.new.self.items _ in
-    let walk = subst (λ (nodes : List NodeTree). Walk grid series top nodes c.loop-node.rows c.args.meter.now.load c.loop-node.meter.load)
+    let walk = subst (λ (nodes : List NodeTree). Walk grid series top nodes c.loop-node.rows c.args.meter.now.load
+    c.loop-node.meter.load)
     items c.loop-node.invariant.walk in
-    let step = next_step grid series top left one c.loop-node.rows c.args.meter.now.load c.loop-node.meter.load walk c.requires.ready in
-    let told : TellsOver c.args.meter.now.limit (c.loop-node.meter.load + own_load grid one series) c.in_err-rows-2.field-0.0 =
+    let step = next_step grid series top left one c.loop-node.rows c.args.meter.now.load c.loop-node.meter.load walk
+    c.requires.ready in
+    let told : TellsOver c.args.meter.now.limit (c.loop-node.meter.load + own_load grid one series)
+    c.in_err-rows-2.field-0.0 =
     subst (λ (l : ℕ). TellsOver l (c.loop-node.meter.load + own_load grid one series) c.in_err-rows-2.field-0.0)
     c.loop-node.invariant.limit c.in_err-rows-2.ensures.over in
-    let fact : TellsOver c.args.meter.now.limit (c.args.meter.now.load + load_by_series grid top series) c.in_err-rows-2.field-0.0 =
-    step_over grid series top left one c.loop-node.rows c.args.meter.now.limit c.args.meter.now.load c.loop-node.meter.load
+    let fact : TellsOver c.args.meter.now.limit (c.args.meter.now.load + load_by_series grid top series)
+    c.in_err-rows-2.field-0.0 =
+    step_over grid series top left one c.loop-node.rows c.args.meter.now.limit c.args.meter.now.load
+    c.loop-node.meter.load
     c.in_err-rows-2.field-0.0 step told in
     search rules
 
@@ -94,11 +104,14 @@ rows_of-loop-node-preserved t c =
     let left = trees_of c.pop.new.self.items in
     let items : trees_of c.loop-node.above.items ≡ left ++ one ∷ [] =
     ap trees_of c.in-Some.ensures.items ∙ map-append (λ (x : Bor Node). node_tree x.now) c.pop.new.self.items _ in
-    let walk = subst (λ (nodes : List NodeTree). Walk grid series top nodes c.loop-node.rows c.args.meter.now.load c.loop-node.meter.load)
+    let walk = subst (λ (nodes : List NodeTree). Walk grid series top nodes c.loop-node.rows c.args.meter.now.load
+    c.loop-node.meter.load)
     items c.loop-node.invariant.walk in
-    let step = next_step grid series top left one c.loop-node.rows c.args.meter.now.load c.loop-node.meter.load walk c.requires.ready in
+    let step = next_step grid series top left one c.loop-node.rows c.args.meter.now.load c.loop-node.meter.load walk
+    c.requires.ready in
     record {
-      walk = walk_on grid series top left one c.loop-node.rows c.in_ok-rows-2.rows c.args.meter.now.load c.loop-node.meter.load
+      walk = walk_on grid series top left one c.loop-node.rows c.in_ok-rows-2.rows c.args.meter.now.load
+          c.loop-node.meter.load
           c.rows_above.new.meter.load step c.in_ok-rows-2.ensures.rows c.in_ok-rows-2.ensures.counted;
       limit = c.in_ok-rows-2.ensures.limit ∙ c.loop-node.invariant.limit;
     }

@@ -2,18 +2,19 @@
 use Rattle.std.proofs.Common.{◌≡◌, ◌+◌, ◌*◌, length}
 use Rattle.mql_types.specs.Nodes.{node_tree}
 use Rattle.mon_meaning.specs.Central.{all_held}
-use Rattle.mon_meaning.specs.within.Paths.{node_count, trees_of}
+use Rattle.mql_types.specs.ExplanationParts.{nodes}
+use Rattle.mon_meaning.specs.within.Paths.{trees_of}
 use Rattle.mon_meaning.proofs.WalkLemmas.{Walk}
 use Rattle.mon_meaning.proofs.evaluation.+evaluation.Given as goal
 
 abbrev pub decreases-rows_of : goal.decreases-rows_of
-decreases-rows_of l = 3 * node_count (node_tree l.tree.now) + 2
+decreases-rows_of l = 3 * nodes (node_tree l.tree.now) + 2
 
 abbrev pub decreases-rows_above : goal.decreases-rows_above
-decreases-rows_above l = 3 * node_count (node_tree l.node.now) + 1
+decreases-rows_above l = 3 * nodes (node_tree l.node.now) + 1
 
 abbrev pub decreases-other_rows : goal.decreases-other_rows
-decreases-other_rows l = 3 * node_count (node_tree l.node.now)
+decreases-other_rows l = 3 * nodes (node_tree l.node.now)
 
 abbrev pub invariant-rows_of-loop-node : goal.invariant-rows_of-loop-node
 invariant-rows_of-loop-node l = record {

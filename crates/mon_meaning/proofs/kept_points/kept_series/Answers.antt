@@ -13,7 +13,8 @@ push-requires-clause-rises c =
     let p : Point = c.point-item.result in
     let fetch = c.args.fetch.now in
     let key = c.args.key.now in
-    subst (λ (q : Point). IfSome (last_end c.reserve.new.self.points) (λ last. last <ℤ q.end)) (sym c.in_ok-copy.ensures.equal)
+    subst (λ (q : Point). IfSome (last_end c.reserve.new.self.points) (λ last. last <ℤ q.end))
+    (sym c.in_ok-copy.ensures.equal)
     (subst (λ (points : List Point). IfSome (last_end points) (λ last. last <ℤ p.end))
     (sym (c.in_ok-reserve.ensures.kept ∙ c.loop-point.invariant.kept))
     (rises_on (λ point. keeps fetch key point.value) c.args.reached.now c.loop-point.point-index p c.requires.rises
@@ -33,7 +34,8 @@ loop-point-preserved c =
     elim c.if-keeps.branch [
       | then-keeps+in_ok-reserve+in_ok-copy w ↦ record {
         kept = ap (λ k. k.points) w.kept-is ∙ w.push.ensures.added
-            ∙ ap (λ (points : List Point). points ++ w.in_ok-copy.field-0 ∷ []) (w.in_ok-reserve.ensures.kept ∙ c.loop-point.invariant.kept)
+            ∙ ap (λ (points : List Point). points ++ w.in_ok-copy.field-0 ∷ []) (w.in_ok-reserve.ensures.kept
+            ∙ c.loop-point.invariant.kept)
             ∙ ap (λ (q : Point). points_kept fetch (key, _) ++ q ∷ []) w.in_ok-copy.ensures.equal
             ∙ sym (kept_more fetch key c.args.reached.now i p c.point-item.is c.loop-point-test.true true
             (sym w.if-keeps.true ∙ decided));

@@ -2,7 +2,7 @@ use Rattle.std.proofs.Common.{◌≡◌, ◌∙◌, ◌≤ℤ◌, neg_ℤ, ℤ, 
 use Rattle.mon_value.specs.Alignments.{seconds_of}
 use Rattle.mon_value.specs.Grids.{least_time}
 use Rattle.mon_value.specs.Windows.{EndsRise}
-use Rattle.mon_meaning.specs.within.Reach.{is_in_reach}
+use Rattle.mql_types.specs.Loads.{is_in_reach}
 use Rattle.mon_meaning.proofs.WindowLemmas as window
 use Rattle.mon_value.specs.declared.limits.TheConstants.{LONGEST_DURATION}
 use Rattle.mon_meaning.proofs.WindowLemmas.{EndsRise-filter, least_bounds}
@@ -11,7 +11,8 @@ use Rattle.mon_meaning.proofs.kept_points.reached_points.Goals as goal
 pub places-before-requires-clause-time : goal.places-before-requires-clause-time
 places-before-requires-clause-time c =
     let least : to_z w64 (of_z w64 c.least_time.result) ≡ c.least_time.result = search rules in
-    subst (λ (t : ℤ). neg_ℤ LONGEST_DURATION ≤ℤ t) (sym (least ∙ c.least_time.ensures.least)) (least_bounds c.args.grid.now c.requires.lawful).0
+    subst (λ (t : ℤ). neg_ℤ LONGEST_DURATION ≤ℤ t) (sym (least ∙ c.least_time.ensures.least))
+    (least_bounds c.args.grid.now c.requires.lawful).0
 
 pub slice_bounds-result-count : goal.slice_bounds-result-count
 slice_bounds-result-count c =
@@ -40,7 +41,8 @@ returns-clause-reached c =
     let order : least_time grid ≤ℤ grid.moment = (least_bounds grid c.requires.lawful).1 in
     window.places_of (least_time grid) (seconds_of c.args.by) grid.moment _ _ _ c.args.series.now.points _ _
     (least ∙ c.least_time.ensures.least) (span ∙ c.seconds_of-seconds.ensures.seconds) now order c.requires.looks_back.0
-    c.places-before.ensures.before c.places-ended.ensures.ended c.points-points.result.now c.points-points.ensures.points c.requires.rises
+    c.places-before.ensures.before c.places-ended.ensures.ended c.points-points.result.now
+    c.points-points.ensures.points c.requires.rises
 
 pub returns-clause-rises : goal.returns-clause-rises
 returns-clause-rises c =
@@ -52,5 +54,6 @@ returns-clause-rises c =
     subst EndsRise
     (sym (window.places_of (least_time grid) (seconds_of c.args.by) grid.moment _ _ _ c.args.series.now.points _ _
     (least ∙ c.least_time.ensures.least) (span ∙ c.seconds_of-seconds.ensures.seconds) now order c.requires.looks_back.0
-    c.places-before.ensures.before c.places-ended.ensures.ended c.points-points.result.now c.points-points.ensures.points c.requires.rises))
+    c.places-before.ensures.before c.places-ended.ensures.ended c.points-points.result.now
+    c.points-points.ensures.points c.requires.rises))
     (EndsRise-filter (is_in_reach grid c.args.by) c.args.series.now.points c.requires.rises)

@@ -7,8 +7,10 @@ use Rattle.mon_meaning.proofs.operations.filtered_rows.Goals as goal
 
 pub returns : goal.returns
 returns c =
-    let kept : c.retain.new.self.items ≡ filter (λ (row : TimedRow). bound_truth c.in_ok-bound.bound row.cells) c.into_vec-kept.result.items =
-    filter_same _ (λ (row : TimedRow). bound_truth c.in_ok-bound.bound row.cells) _ (λ x b f' k. search rules) _ _ c.retain.ensures.filtered in
+    let kept : c.retain.new.self.items ≡ filter (λ (row : TimedRow). bound_truth c.in_ok-bound.bound row.cells)
+    c.into_vec-kept.result.items =
+    filter_same _ (λ (row : TimedRow). bound_truth c.in_ok-bound.bound row.cells) _ (λ x b f' k. search rules)
+    _ _ c.retain.ensures.filtered in
     record {
       rows = c.from_vec.ensures.items ∙ kept
           ∙ ap (filter (λ (row : TimedRow). bound_truth c.in_ok-bound.bound row.cells)) c.into_vec-kept.ensures.items

@@ -21,7 +21,8 @@ returns c =
       limit = c.rows_of.ensures.limit;
       counted = λ source kept.
           on_ok_weaker c.rows_of.result
-          (λ counted. counted ∙ ap (λ n. load + n) (part_load c.args.grid part series source kept)) c.rows_of.ensures.counted;
+          (λ counted. counted ∙ ap (λ n. load + n) (part_load c.args.grid part series source kept))
+          c.rows_of.ensures.counted;
       over = λ source kept.
           subst (λ (n : ℕ). IfErr c.rows_of.result (TellsOver c.args.meter.now.limit (load + n)))
           (part_load c.args.grid part series source kept) c.rows_of.ensures.over;

@@ -22,7 +22,8 @@ returns-in_ok-push-in-Join-2-clause-parts c =
     ⊎_elim (λ joined. join_below here tree joined.0 left right (ap node_tree joined.1) c.requires.higher)
     (λ united. union_below here tree united.0 left right (ap node_tree united.1) c.requires.higher) w.is in
     let pushed : c.push-in-Join-2.new.self.items ≡ (rest ++ r ∷ []) ++ l ∷ [] =
-    c.in_ok-push-in-Join-2.ensures.items ∙ ap (λ (xs : List TopPart). xs ++ l ∷ []) c.in_ok-push-in-Join.ensures.items in
+    c.in_ok-push-in-Join-2.ensures.items ∙ ap (λ (xs : List TopPart). xs ++ l ∷ [])
+    c.in_ok-push-in-Join.ensures.items in
     ap (λ xs. parts_seen c.args.parts.now.items ++ xs)
     (ap (parts_left here) pushed
     ∙ two_left here rest l r left right

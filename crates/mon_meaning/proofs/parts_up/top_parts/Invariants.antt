@@ -8,7 +8,8 @@ use Rattle.mon_meaning.proofs.parts_up.top_parts.Given as goal
 
 abbrev pub invariant-loop-part : goal.invariant-loop-part
 invariant-loop-part l =
-    parts_seen l.parts.items ++ parts_left (up_to l.highest) l.rest.items ≡ spec.top_parts (up_to l.highest) (node_tree l.tree)
+    parts_seen l.parts.items ++ parts_left (up_to l.highest) l.rest.items ≡ spec.top_parts (up_to l.highest)
+    (node_tree l.tree)
 
 abbrev pub decreases-loop-part : goal.decreases-loop-part
 decreases-loop-part l = nodes_left l.rest.items

@@ -13,6 +13,7 @@ loop-input-preserved c =
     let above = trees_of c.loop-input.above.items in
     let pushed = Leads-push above top last c.loop-input.invariant in
     let items : trees_of c.push.new.self.items ≡ above ++ last ∷ [] =
-    ap trees_of c.in_ok-push.ensures.items ∙ map-append (λ (one : Bor Node). node_tree one.now) c.loop-input.above.items _ in
+    ap trees_of c.in_ok-push.ensures.items ∙ map-append (λ (one : Bor Node). node_tree one.now)
+    c.loop-input.above.items _ in
     subst (λ (nodes : List NodeTree). Leads nodes top (node_tree c.in-Some.input.now)) (sym items)
     (subst (λ (end : NodeTree). Leads (above ++ last ∷ []) top end) (sym c.in-Some.ensures.input) pushed)

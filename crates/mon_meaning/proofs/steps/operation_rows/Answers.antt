@@ -19,5 +19,7 @@ value_rows-requires-clause-rows c =
     let can = subst (λ (tree : NodeTree). CanOperate tree c.args.rows c.args.others) is c.requires.can in
     let columns : c.deref-in-Value-2.result.now ≡ columns_of input =
     c.deref-in-Value-2.ensures
-    ∙ ap (λ (i : NodeInfo). i.columns) (c.info-in-Value.ensures.info ∙ ap (λ (x : Node). info_of (node_tree x)) c.deref-in-Value.ensures) in
-    subst (λ (cs : List Column). AllByRecursion (λ (row : TimedRow). CanCompute cs row.cells) c.args.rows) (sym columns) can.1
+    ∙ ap (λ (i : NodeInfo). i.columns) (c.info-in-Value.ensures.info ∙ ap (λ (x : Node). info_of (node_tree x))
+    c.deref-in-Value.ensures) in
+    subst (λ (cs : List Column). AllByRecursion (λ (row : TimedRow). CanCompute cs row.cells) c.args.rows)
+    (sym columns) can.1

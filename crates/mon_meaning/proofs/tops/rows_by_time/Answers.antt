@@ -8,7 +8,8 @@ use Rattle.mon_meaning.proofs.tops.rows_by_time.Goals as goal
 
 pub loop-row-init : goal.loop-row-init
 loop-row-init c =
-    let items : into_iter_items c.into_iter-row-iterator.result ≡ c.args.rows = c.into_iter-row-iterator.ensures.into_iter_gives.0 in
+    let items : into_iter_items c.into_iter-row-iterator.result ≡ c.args.rows =
+    c.into_iter-row-iterator.ensures.into_iter_gives.0 in
     ap (λ (rows : _). merged_rows (groups_at c.new-groups.result.entries) (map (own_group []) rows)) items
     ∙ ap (λ (entries : _). merged_rows (groups_at entries) (map (own_group []) c.args.rows)) c.new-groups.ensures.empty
     ∙ all_merged c.args.rows

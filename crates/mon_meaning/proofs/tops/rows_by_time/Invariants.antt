@@ -8,4 +8,5 @@ use Rattle.mon_meaning.proofs.tops.rows_by_time.Given as goal
 
 abbrev pub invariant-loop-row : goal.invariant-loop-row
 invariant-loop-row l =
-    merged_rows (groups_at l.groups.entries) (map (own_group []) (into_iter_items l.row-iterator)) ≡ rows_by_group [] l.fn.rows
+    merged_rows (groups_at l.groups.entries) (map (own_group []) (into_iter_items l.row-iterator)) ≡ rows_by_group []
+    l.fn.rows

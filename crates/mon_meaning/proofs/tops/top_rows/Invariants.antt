@@ -8,4 +8,5 @@ use Rattle.mon_meaning.proofs.tops.top_rows.Given as goal
 
 abbrev pub invariant-loop-group : goal.invariant-loop-group
 invariant-loop-group l =
-    l.first.items ++ flat_map (first_of l.most l.column) (groups_at l.group-iterator) ≡ top_rows l.most l.column l.fn.rows
+    l.first.items ++ flat_map (first_of l.most l.column) (groups_at l.group-iterator) ≡ top_rows l.most l.column
+    l.fn.rows

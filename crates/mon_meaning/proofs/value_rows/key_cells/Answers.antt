@@ -9,9 +9,11 @@ use Rattle.mon_meaning.proofs.value_rows.key_cells.Goals.{in-None, in-Some+in-No
 
 pub loop-cell-init : goal.loop-cell-init
 loop-cell-init c =
-    let items : into_iter_items c.into_iter-cell-iterator.result ≡ c.args.cells = c.into_iter-cell-iterator.ensures.into_iter_gives.0 in
+    let items : into_iter_items c.into_iter-cell-iterator.result ≡ c.args.cells =
+    c.into_iter-cell-iterator.ensures.into_iter_gives.0 in
     record {
-      whole = ap (λ (keys : List Value). keys ++ key_cells c.args.columns.now (into_iter_items c.into_iter-cell-iterator.result))
+      whole = ap (λ (keys : List Value). keys ++ key_cells c.args.columns.now
+          (into_iter_items c.into_iter-cell-iterator.result))
           c.new-keys.ensures.items
           ∙ ap (λ (cells : List Value). key_cells c.args.columns.now cells) items;
       left = c.into_iter-cell-iterator.ensures.into_iter_gives.1 ∙ sym (ap length items);
@@ -34,7 +36,8 @@ loop-cell-preserved c =
           ∙ sym (ap (λ (columns : List Column). keys ++ key_cells columns (cell ∷ left)) split)
           ∙ sym (ap (λ (cells : List Value). keys ++ key_cells c.loop-cell.rest.now cells) next)
           ∙ c.loop-cell.invariant.whole;
-      left = let l = ap length next in let k = c.in-Some.ensures.steps.1 in omega (arith, l, k, c.loop-cell.invariant.left);
+      left = let l = ap length next in let k = c.in-Some.ensures.steps.1 in
+          omega (arith, l, k, c.loop-cell.invariant.left);
     }
 
 pub returns : goal.returns
@@ -53,7 +56,8 @@ returns c =
           })
       | in-Some+in-None-split_first w ↦ record {
         keys = sym (append-nil keys)
-            ∙ ap (λ (more : List Value). keys ++ more) (sym (no_columns rest left (none_long rest w.in-None-split_first.ensures.cases)))
+            ∙ ap (λ (more : List Value). keys ++ more)
+            (sym (no_columns rest left (none_long rest w.in-None-split_first.ensures.cases)))
             ∙ c.loop-cell.invariant.whole;
       }
     ]

@@ -7,4 +7,5 @@ use Rattle.mon_points.specs.Cells.{counts_of}
 use Rattle.mon_points.proofs.cells.read_counts.Given as goal
 
 abbrev pub invariant-loop-part : goal.invariant-loop-part
-invariant-loop-part l = counts_of (take (length l.yielded) (slice_split (λ byte. byte == semicolon) l.cell)) ≡ Some l.counts
+invariant-loop-part l = counts_of (take (length l.yielded) (slice_split (λ byte. byte == semicolon) l.cell))
+    ≡ Some l.counts

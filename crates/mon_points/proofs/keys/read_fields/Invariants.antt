@@ -6,4 +6,5 @@ use Rattle.mon_points.proofs.FieldsReadLemmas.{behind}
 use Rattle.mon_points.proofs.keys.read_fields.Given as goal
 
 abbrev pub invariant-loop-i : goal.invariant-loop-i
-invariant-loop-i l = fields_read (l.place - 4) l.fields (drop l.place (fields_of l.cells)) ≡ behind l.values (fields_read (l.place - 4 + l.i) (drop l.i l.fields) (drop (l.place + l.i) (fields_of l.cells)))
+invariant-loop-i l = fields_read (l.place - 4) l.fields (drop l.place (fields_of l.cells)) ≡ behind l.values
+    (fields_read (l.place - 4 + l.i) (drop l.i l.fields) (drop (l.place + l.i) (fields_of l.cells)))

@@ -21,9 +21,15 @@ returns-then-not-spells_field c =
     let cells = fields_of c.args.cells.now in
     let here : field_at cells (c.args.place + c.loop-i.i) ≡ Some c.unwrap-cell.result.now =
     sym c.get.ensures.value ∙ ap (λ o. option_map (λ s. s.now) o) c.unwrap-cell.ensures in
-    let more = spells_fields-more c.args.place c.loop-i.i c.args.fields.now cells c.args.values.now c.index-fields-i.result c.unwrap-cell.result.now c.index-values-i.result (omega arith) (omega arith) c.index-fields-i.is c.index-values-i.is here in
+    let more = spells_fields-more c.args.place c.loop-i.i c.args.fields.now cells c.args.values.now
+    c.index-fields-i.result c.unwrap-cell.result.now c.index-values-i.result (omega arith) (omega arith)
+    c.index-fields-i.is c.index-values-i.is here in
     let bad : spells_field c.index-fields-i.result.of c.unwrap-cell.result.now c.index-values-i.result ≡ false = cc in
-    record { spelled = sym (c.loop-i.invariant ∙ (more ∙ ap (λ b. b && spells_fields (drop (c.loop-i.i + 1) c.args.fields.now) (drop (c.args.place + (c.loop-i.i + 1)) cells) (drop (c.loop-i.i + 1) c.args.values.now)) bad)) }
+    record {
+      spelled = sym (c.loop-i.invariant
+          ∙ (more ∙ ap (λ b. b && spells_fields (drop (c.loop-i.i + 1) c.args.fields.now)
+          (drop (c.args.place + (c.loop-i.i + 1)) cells) (drop (c.loop-i.i + 1) c.args.values.now)) bad));
+    }
 
 -- one more cell
 pub loop-i-preserved : goal.loop-i-preserved
@@ -31,11 +37,15 @@ loop-i-preserved c =
     let cells = fields_of c.args.cells.now in
     let here : field_at cells (c.args.place + c.loop-i.i) ≡ Some c.unwrap-cell.result.now =
     sym c.get.ensures.value ∙ ap (λ o. option_map (λ s. s.now) o) c.unwrap-cell.ensures in
-    let more = spells_fields-more c.args.place c.loop-i.i c.args.fields.now cells c.args.values.now c.index-fields-i.result c.unwrap-cell.result.now c.index-values-i.result (omega arith) (omega arith) c.index-fields-i.is c.index-values-i.is here in
+    let more = spells_fields-more c.args.place c.loop-i.i c.args.fields.now cells c.args.values.now
+    c.index-fields-i.result c.unwrap-cell.result.now c.index-values-i.result (omega arith) (omega arith)
+    c.index-fields-i.is c.index-values-i.is here in
     let good : spells_field c.index-fields-i.result.of c.unwrap-cell.result.now c.index-values-i.result ≡ true = cc in
-    c.loop-i.invariant ∙ (more ∙ ap (λ b. b && spells_fields (drop (c.loop-i.i + 1) c.args.fields.now) (drop (c.args.place + (c.loop-i.i + 1)) cells) (drop (c.loop-i.i + 1) c.args.values.now)) good)
+    c.loop-i.invariant ∙ (more ∙ ap (λ b. b && spells_fields (drop (c.loop-i.i + 1) c.args.fields.now)
+    (drop (c.args.place + (c.loop-i.i + 1)) cells) (drop (c.loop-i.i + 1) c.args.values.now)) good)
 
 pub returns : goal.returns
 returns c = record {
-  spelled = sym (c.loop-i.invariant ∙ spells_fields-none c.loop-i.i c.args.fields.now _ c.args.values.now (omega arith) (omega arith));
+  spelled = sym (c.loop-i.invariant ∙ spells_fields-none c.loop-i.i c.args.fields.now _ c.args.values.now (omega arith)
+      (omega arith));
 }

@@ -19,6 +19,8 @@ returns c =
     let counted : length others ≡ length c.in-Some.target.now.fields + length c.in-Some-metric.metric.now.fields =
     omega (arith, length-drop 5 (fields_of c.args.cells.now)) in
     record {
-      row = row_read-row held leading.schema.now leading.metric.now leading.start.now leading.end.now leading.value.now others
-          c.in-Some.target.now c.in-Some-metric.metric.now c.in_ok-point.point c.in_ok-key.key target metric counted c.in_ok-point.ensures.point c.in_ok-key.ensures.key;
+      row = row_read-row held leading.schema.now leading.metric.now leading.start.now leading.end.now leading.value.now
+          others
+          c.in-Some.target.now c.in-Some-metric.metric.now c.in_ok-point.point c.in_ok-key.key target metric counted
+          c.in_ok-point.ensures.point c.in_ok-key.ensures.key;
     }

@@ -1,4 +1,5 @@
-use Rattle.std.proofs.Common.{◌≡◌, ◌∙◌, ◌<◌, ◌≤◌, Some, true, false, sym, subst, refl, inl, inr, ap, length, map, [], ◌∷◌, ◌++◌}
+use Rattle.std.proofs.Common.{◌≡◌, ◌∙◌, ◌<◌, ◌≤◌, Some, true, false, sym, subst, refl, inl, inr, ap, length, map, []}
+use Rattle.std.proofs.Common.{◌∷◌, ◌++◌}
 use Rattle.std.specs.List.{AllByRecursion}
 use Rattle.std.proofs.lemmas.List.{map-append}
 use Rattle.csv.specs.Reading.{ReadRecord, Reached, default_config, strip_bom, with_flexible}
@@ -51,8 +52,10 @@ records-preserved c =
     let new = c.read_byte_record.new.self in
     let cells = fields_of c.read_byte_record.new.row in
     let found : c.in-Ok.found ≡ true = cc in
-    let step : ReadRecord (λ s. Some s.now) c.records.reader new true cells = rw found at c.in-Ok.ensures.reads inv.plain inv.ready in
-    let more = rows-more (λ s. Some s.now) c.records.reader new cells default_config state.StartRecord (strip_bom c.args.bytes.now) inv.rest inv.taken inv.config inv.source inv.reached step in
+    let step : ReadRecord (λ s. Some s.now) c.records.reader new true cells = rw found at c.in-Ok.ensures.reads
+    inv.plain inv.ready in
+    let more = rows-more (λ s. Some s.now) c.records.reader new cells default_config state.StartRecord
+    (strip_bom c.args.bytes.now) inv.rest inv.taken inv.config inv.source inv.reached step in
     record {
       plain = step.3 ∙ inv.plain;
       ready = inl (c.in-Ok.ensures.ready inv.plain);
@@ -61,7 +64,12 @@ records-preserved c =
       source = more.1;
       taken = inv.taken ++ cells ∷ [];
       reached = more.2;
-      read = rw (c.in_ok-push.ensures.added, inv.read, c.in_ok-read_record.ensures.read, map-append (record_read c.args.schemas.now) inv.taken (cells ∷ []));
+      read = rw (
+        c.in_ok-push.ensures.added,
+        inv.read,
+        c.in_ok-read_record.ensures.read,
+        map-append (record_read c.args.schemas.now) inv.taken (cells ∷ []),
+      );
     }
 
 pub records-smaller : goal.records-smaller
@@ -70,7 +78,10 @@ records-smaller c =
     let new = c.read_byte_record.new.self in
     let cells = fields_of c.read_byte_record.new.row in
     let found : c.in-Ok.found ≡ true = cc in
-    let step : ReadRecord (λ s. Some s.now) c.records.reader new true cells = rw found at c.in-Ok.ensures.reads inv.plain inv.ready in
-    let more = rows-more (λ s. Some s.now) c.records.reader new cells default_config state.StartRecord (strip_bom c.args.bytes.now) inv.rest inv.taken inv.config inv.source inv.reached step in
-    let less : length more.0 < length inv.rest = read-less c.args.bytes.now inv.taken c.records.reader new cells inv.rest more.0 inv.config inv.source more.1 inv.reached step in
+    let step : ReadRecord (λ s. Some s.now) c.records.reader new true cells = rw found at c.in-Ok.ensures.reads
+    inv.plain inv.ready in
+    let more = rows-more (λ s. Some s.now) c.records.reader new cells default_config state.StartRecord
+    (strip_bom c.args.bytes.now) inv.rest inv.taken inv.config inv.source inv.reached step in
+    let less : length more.0 < length inv.rest = read-less c.args.bytes.now inv.taken c.records.reader new cells
+    inv.rest more.0 inv.config inv.source more.1 inv.reached step in
     unread_length-less (unread c.records.reader) (unread new) inv.rest more.0 inv.source more.1 less

@@ -12,9 +12,11 @@ pub loop-read-init : goal.loop-read-init
 loop-read-init c =
     let config = c.args.config.now in
     let rows = accepted_rows c.args.store.now in
-    let items : into_iter_items c.into_iter-read-iterator.result ≡ c.in_ok-reads.reads = c.into_iter-read-iterator.ensures.into_iter_gives.0 in
+    let items : into_iter_items c.into_iter-read-iterator.result ≡ c.in_ok-reads.reads =
+    c.into_iter-read-iterator.ensures.into_iter_gives.0 in
     record {
-      feeding = feeding_first config rows (reads_of config.schemas c.args.content.now) _ _ (items ∙ c.in_ok-reads.ensures.exact) c.new-refused.ensures.empty;
+      feeding = feeding_first config rows (reads_of config.schemas c.args.content.now)
+          _ _ (items ∙ c.in_ok-reads.ensures.exact) c.new-refused.ensures.empty;
       kept = c.requires.sound.fit;
       rows = c.requires.sound.kept;
       fit = subst (AllByRecursion (ReadFits config.schemas)) (sym items) c.in_ok-reads.ensures.fit;
@@ -31,8 +33,10 @@ loop-read-preserved c =
     let next : into_iter_items c.loop-read.read-iterator ≡ read ∷ rest = c.in-Some.ensures.steps.0 in
     let fit = subst (AllByRecursion (ReadFits config.schemas)) next i.fit in
     record {
-      feeding = feeding_more (into_iter_items c.loop-read.read-iterator) rest read (accepted_rows c.take.new.store) c.take.new.refused next c.in_ok-take.ensures.taken c.in_ok-take.ensures.refused i.feeding;
-      kept = fit_more config (accepted_rows c.loop-read.store) read (accepted_rows c.take.new.store) fit.0 c.in_ok-take.ensures.taken i.kept;
+      feeding = feeding_more (into_iter_items c.loop-read.read-iterator) rest read (accepted_rows c.take.new.store)
+          c.take.new.refused next c.in_ok-take.ensures.taken c.in_ok-take.ensures.refused i.feeding;
+      kept = fit_more config (accepted_rows c.loop-read.store) read (accepted_rows c.take.new.store) fit.0
+          c.in_ok-take.ensures.taken i.kept;
       rows = c.in_ok-take.ensures.kept;
       fit = fit.1;
       left = let l = ap length next in let k = c.in-Some.ensures.steps.1 in omega arith;

@@ -10,7 +10,8 @@ use Rattle.mon_run.proofs.feeds.feed.Given as goal
 
 abbrev pub invariant-loop-read : goal.invariant-loop-read
 invariant-loop-read l = record {
-  feeding : Feeding l.config (accepted_rows l.fn.store) (reads_of l.config.schemas l.content) (accepted_rows l.store) (into_iter_items l.read-iterator) l.refused l.number;
+  feeding : Feeding l.config (accepted_rows l.fn.store) (reads_of l.config.schemas l.content) (accepted_rows l.store)
+      (into_iter_items l.read-iterator) l.refused l.number;
   kept : AllFit l.config.schemas (accepted_rows l.store);
   rows : IsKept l.config l.store;
   fit : AllByRecursion (ReadFits l.config.schemas) (into_iter_items l.read-iterator);

@@ -17,17 +17,21 @@ returns-in-Ok-clause-refused c =
 pub returns-in-Ok-clause-taken : goal.returns-in-Ok-clause-taken
 returns-in-Ok-clause-taken c =
     let rows = accepted_rows c.args.store.now in
-    c.in-Ok.ensures.written ∙ ap (λ (more : List Row). rows ++ more) (sym (ap taken (accepted c.args.config.now rows c.args.row.now c.in-Ok.ensures.refused)))
+    c.in-Ok.ensures.written ∙ ap (λ (more : List Row). rows ++ more)
+    (sym (ap taken (accepted c.args.config.now rows c.args.row.now c.in-Ok.ensures.refused)))
 
 pub returns-in-Err-Fault-clause-refused : goal.returns-in-Err-Fault-clause-refused
 returns-in-Err-Fault-clause-refused c =
     let rows = accepted_rows c.args.store.now in
-    let why = subst (λ (r : Refusal WriteFault). RefusesBy r (write_fault c.args.config.now rows c.args.row.now)) c.in-Err-Fault.field-0-is c.in-Err-Fault.ensures.refused in
+    let why = subst (λ (r : Refusal WriteFault). RefusesBy r (write_fault c.args.config.now rows c.args.row.now))
+    c.in-Err-Fault.field-0-is c.in-Err-Fault.ensures.refused in
     sym (ap fault_in (refused_for c.args.config.now rows c.args.row.now c.in-Err-Fault.fault why))
 
 pub returns-in-Err-Fault-clause-taken : goal.returns-in-Err-Fault-clause-taken
 returns-in-Err-Fault-clause-taken c =
     let rows = accepted_rows c.args.store.now in
-    let why = subst (λ (r : Refusal WriteFault). RefusesBy r (write_fault c.args.config.now rows c.args.row.now)) c.in-Err-Fault.field-0-is c.in-Err-Fault.ensures.refused in
+    let why = subst (λ (r : Refusal WriteFault). RefusesBy r (write_fault c.args.config.now rows c.args.row.now))
+    c.in-Err-Fault.field-0-is c.in-Err-Fault.ensures.refused in
     c.in-Err-Fault.ensures.rows ∙ sym (append-nil rows)
-    ∙ ap (λ (more : List Row). rows ++ more) (sym (ap taken (refused_for c.args.config.now rows c.args.row.now c.in-Err-Fault.fault why)))
+    ∙ ap (λ (more : List Row). rows ++ more)
+    (sym (ap taken (refused_for c.args.config.now rows c.args.row.now c.in-Err-Fault.fault why)))

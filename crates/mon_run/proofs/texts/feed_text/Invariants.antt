@@ -5,4 +5,5 @@ use Rattle.mon_run.specs.Texts.{refusal_line}
 use Rattle.mon_run.proofs.texts.feed_text.Given as goal
 
 abbrev pub invariant-loop-refusal : goal.invariant-loop-refusal
-invariant-loop-refusal l = string_bytes l.text ≡ string_bytes l.initial.text ++ flat_map refusal_line (take l.refusal-index l.refusal-items)
+invariant-loop-refusal l = string_bytes l.text ≡ string_bytes l.initial.text ++ flat_map refusal_line
+    (take l.refusal-index l.refusal-items)

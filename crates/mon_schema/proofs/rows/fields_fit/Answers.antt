@@ -14,6 +14,8 @@ returns-then-fields-values c =
     let fields = c.args.fields.now in
     let values = c.args.values.now in
     let test = λ (field : Field) (value : FieldValue). field_fits field.of value in
-    let pairs = YieldsList-from_zip (YieldsList-from_slice {s = c.zip.result.a} fields cc) (YieldsList-from_slice {s = c.zip.result.b} values cc) in
-    let all = all_from_yields_List (λ (pair : Field × FieldValue). test pair.0 pair.1) c.all.new.self _ c.all.result c.all.ensures.ran pairs (λ x b q k. search (rules, tests)) in
+    let pairs = YieldsList-from_zip (YieldsList-from_slice {s = c.zip.result.a} fields cc)
+    (YieldsList-from_slice {s = c.zip.result.b} values cc) in
+    let all = all_from_yields_List (λ (pair : Field × FieldValue). test pair.0 pair.1) c.all.new.self _ c.all.result
+    c.all.ensures.ran pairs (λ x b q k. search (rules, tests)) in
     record { fit = all ∙ list_all-zip test fields values c.if-fields-values.true }

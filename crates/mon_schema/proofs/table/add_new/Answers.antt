@@ -3,4 +3,5 @@ use Rattle.indexmap.proofs.CallerLemmas.{insert_entry-new}
 use Rattle.mon_schema.proofs.table.add_new.Goals as goal
 
 pub returns-clause-added : goal.returns-clause-added
-returns-clause-added g c = c.in_ok-insert.ensures.entries ∙ insert_entry-new _ c.args.map.now c.args.name c.args.value c.requires
+returns-clause-added g c = c.in_ok-insert.ensures.entries ∙ insert_entry-new _ c.args.map.now c.args.name c.args.value
+    c.requires

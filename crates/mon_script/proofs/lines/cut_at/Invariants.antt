@@ -4,4 +4,5 @@ use Rattle.mon_script.specs.Lines.{cut_at}
 use Rattle.mon_script.proofs.lines.cut_at.Given as goal
 
 abbrev pub invariant-loop-i : goal.invariant-loop-i
-invariant-loop-i l = cut_at l.mark l.text ≡ option_map (λ cut. (take l.i l.text ++ cut.0, cut.1)) (cut_at l.mark (drop l.i l.text))
+invariant-loop-i l = cut_at l.mark l.text ≡ option_map (λ cut. (take l.i l.text ++ cut.0, cut.1))
+    (cut_at l.mark (drop l.i l.text))

@@ -12,4 +12,5 @@ pub returns-in-Some-clause-shorter : goal.returns-in-Some-clause-shorter
 returns-in-Some-clause-shorter c = cut_at-shorter c.args.text.now _ _ (sym c.in-Some.ensures.cut)
 
 pub returns-in-None-clause-first : goal.returns-in-None-clause-first
-returns-in-None-clause-first c = whole_first c.args.text.now c.whole_line.result (sym c.in-None.ensures.cut) c.whole_line.ensures.none
+returns-in-None-clause-first c = whole_first c.args.text.now c.whole_line.result (sym c.in-None.ensures.cut)
+    c.whole_line.ensures.none

@@ -15,8 +15,10 @@ loop-line-preserved c =
     let shorter = c.in-Some.ensures.shorter in
     record {
       whole = ap (λ (script : List ScriptLine). with_front script rest) c.in_ok-push-in-Some-2.ensures.added
-          ∙ front_more c.loop-line.script n line (lines_of left) c.in-Some-2.what (sym c.if-is_remark.ensures.remark) (sym c.in_ok-what.ensures.form ∙ c.in-Some-2.is)
-          ∙ ap (λ (lines : List (List ℕ)). with_front c.loop-line.script (script_from n lines)) (sym c.in-Some.ensures.first)
+          ∙ front_more c.loop-line.script n line (lines_of left) c.in-Some-2.what (sym c.if-is_remark.ensures.remark)
+          (sym c.in_ok-what.ensures.form ∙ c.in-Some-2.is)
+          ∙ ap (λ (lines : List (List ℕ)). with_front c.loop-line.script (script_from n lines))
+          (sym c.in-Some.ensures.first)
           ∙ c.loop-line.invariant.whole;
       count = omega (arith, c.loop-line.invariant.count);
     }
@@ -26,5 +28,6 @@ returns-clause-lawful c =
     let script = c.loop-line.script in
     script_lawful 1 (lines_of c.args.text.now) script
     (sym c.loop-line.invariant.whole
-    ∙ ap (λ (text : List ℕ). with_front script (script_from (c.loop-line.number + 1) (lines_of text))) c.in_default.ensures.first
+    ∙ ap (λ (text : List ℕ). with_front script (script_from (c.loop-line.number + 1) (lines_of text)))
+    c.in_default.ensures.first
     ∙ ap given (append-nil script))

@@ -13,7 +13,8 @@ loop-key-preserved c =
     let whole : series_held copied.entries ++ series_held ((key, series) ∷ rest) ≡ series_held all =
     ap (λ left. series_held copied.entries ++ series_held left) (sym c.in-Some.ensures.steps) ∙ c.loop-key.invariant in
     copy_put copied c.in_ok-own.own key c.in_ok-points.points series rest all c.insert.new.self.entries
-    c.in_ok-own.ensures.equal c.in_ok-points.ensures.points c.in_ok-insert.ensures.entries whole c.iter-key-items.ensures.unique
+    c.in_ok-own.ensures.equal c.in_ok-points.ensures.points c.in_ok-insert.ensures.entries whole
+    c.iter-key-items.ensures.unique
 
 pub loop-key-preserved-in_ok-insert : goal.loop-key-preserved-in_ok-insert
 loop-key-preserved-in_ok-insert c =
@@ -25,4 +26,5 @@ loop-key-preserved-in_ok-insert c =
     let whole : series_held copied.entries ++ series_held ((key, series) ∷ rest) ≡ series_held all =
     ap (λ left. series_held copied.entries ++ series_held left) (sym c.in-Some.ensures.steps) ∙ c.loop-key.invariant in
     copy_put copied c.in_ok-own.own key c.in_ok-points.points series rest all c.insert.new.self.entries
-    c.in_ok-own.ensures.equal c.in_ok-points.ensures.points c.in_ok-insert.ensures.entries whole c.iter-key-items.ensures.unique
+    c.in_ok-own.ensures.equal c.in_ok-points.ensures.points c.in_ok-insert.ensures.entries whole
+    c.iter-key-items.ensures.unique

@@ -14,8 +14,10 @@ returns-clause-room c =
     let numbers = c.reserve_one.new.self in
     let new = c.insert.new.self.entries in
     let same : key ≡ metric = c.in_ok-copy.ensures.equal in
-    let none : lookup (same_text key) index ≡ None = ap (λ (k : List ℕ). lookup (same_text k) index) same ∙ c.requires.absent in
-    let is : new ≡ index ++ (key, numbers) ∷ [] = c.in_ok-insert.ensures.entries ∙ insert_entry-new same_text c.args.index.now key numbers none in
+    let none : lookup (same_text key) index ≡ None = ap (λ (k : List ℕ). lookup (same_text k) index) same
+    ∙ c.requires.absent in
+    let is : new ≡ index ++ (key, numbers) ∷ [] = c.in_ok-insert.ensures.entries ∙ insert_entry-new same_text
+    c.args.index.now key numbers none in
     let at : c.len-at.result ≡ length index = search rules in
     let there = place_new key index numbers none in
     let place : IsPlace metric new c.len-at.result =

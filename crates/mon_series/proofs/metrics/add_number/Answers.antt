@@ -8,5 +8,6 @@ returns c =
     let before = c.in-Some.numbers.now in
     let there = get_there index c.args.at before c.in-Some.ensures.value in
     record {
-      added = λ metric room. takes index metric there.0 c.args.at c.args.number before c.push.new.self room.0 there.1 c.push.ensures.added;
+      added = λ metric room. takes index metric there.0 c.args.at c.args.number before c.push.new.self room.0 there.1
+          c.push.ensures.added;
     }

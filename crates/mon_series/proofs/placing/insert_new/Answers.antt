@@ -12,5 +12,10 @@ returns c =
     let groups = c.args.groups.now in
     let key = c.args.key in
     let series = c.args.series in
-    let none : get derived.eq-value.it groups key ≡ None = ap (λ test. lookup test groups.entries) (same_test key) ∙ held_none key groups.entries c.requires.absent in
-    record { grown = ap series_held (ok_claim _ c.insert.result (c.insert.ensures.succeeds c.requires.room) c.insert.ensures.entries ∙ insert_entry-new derived.eq-value.it groups key series none) ∙ held_last groups.entries key series }
+    let none : get derived.eq-value.it groups key ≡ None = ap (λ test. lookup test groups.entries) (same_test key)
+    ∙ held_none key groups.entries c.requires.absent in
+    record {
+      grown = ap series_held (ok_claim _ c.insert.result (c.insert.ensures.succeeds c.requires.room)
+          c.insert.ensures.entries ∙ insert_entry-new derived.eq-value.it groups key series none)
+          ∙ held_last groups.entries key series;
+    }

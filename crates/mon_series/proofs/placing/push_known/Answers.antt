@@ -8,28 +8,34 @@ use Rattle.mon_series.proofs.placing.push_known.Goals as goal
 
 pub returns-in_default-room_for-clause-kept : goal.returns-in_default-room_for-clause-kept
 returns-in_default-room_for-clause-kept c =
-    held_same c.args.groups.now.entries c.args.number c.in-Some.series.now c.room_for.new.series c.in-Some.ensures.value c.room_for.ensures.points
+    held_same c.args.groups.now.entries c.args.number c.in-Some.series.now c.room_for.new.series
+    c.in-Some.ensures.value c.room_for.ensures.points
 
 pub returns-in_err-_key-clause-kept : goal.returns-in_err-_key-clause-kept
 returns-in_err-_key-clause-kept c =
-    let kept = held_same c.args.groups.now.entries c.args.number c.in-Some.series.now c.room_for.new.series c.in-Some.ensures.value c.room_for.ensures.points in
+    let kept = held_same c.args.groups.now.entries c.args.number c.in-Some.series.now c.room_for.new.series
+    c.in-Some.ensures.value c.room_for.ensures.points in
     search rules
 
 pub push-requires-clause-rises : goal.push-requires-clause-rises
 push-requires-clause-rises c =
     let series = c.in-Some.series.now in
     let there = held_get c.args.groups.now.entries c.args.number series c.in-Some.ensures.value in
-    subst (λ (point : Point). IfSome (last_end c.room_for.new.series.points) (λ last. last <ℤ point.end)) (sym c.in_ok-_key.ensures.parts.1)
-    (subst (λ (ps : List Point). IfSome (last_end ps) (λ last. last <ℤ c.args.row.point.end)) (sym c.room_for.ensures.points)
+    subst (λ (point : Point). IfSome (last_end c.room_for.new.series.points) (λ last. last <ℤ point.end))
+    (sym c.in_ok-_key.ensures.parts.1)
+    (subst (λ (ps : List Point). IfSome (last_end ps) (λ last. last <ℤ c.args.row.point.end))
+    (sym c.room_for.ensures.points)
     (takes_parts _ c.args.row there.0 series.points there.1 c.requires.takes))
 
 pub returns-clause-grown : goal.returns-clause-grown
 returns-clause-grown c =
-    held_grown c.args.groups.now.entries c.args.number c.in-Some.series.now c.push.new.self c.args.row.point c.in-Some.ensures.value
+    held_grown c.args.groups.now.entries c.args.number c.in-Some.series.now c.push.new.self c.args.row.point
+    c.in-Some.ensures.value
     (c.push.ensures.added ∙ (λ i. c.room_for.ensures.points i ++ c.in_ok-_key.ensures.parts.1 i ∷ []))
 
 pub returns-clause-placed : goal.returns-clause-placed
 returns-clause-placed c =
     c.push-2.ensures.added
     ∙ (λ i. c.room_for.ensures.order i ++ c.in-Ok.ensures.place i ∷ [])
-    ∙ ap (λ n. c.args.order.now.items ++ place_at c.args.number n ∷ []) (held_count c.args.groups.now.entries c.args.number c.in-Some.series.now c.in-Some.ensures.value)
+    ∙ ap (λ n. c.args.order.now.items ++ place_at c.args.number n ∷ []) (held_count c.args.groups.now.entries
+    c.args.number c.in-Some.series.now c.in-Some.ensures.value)

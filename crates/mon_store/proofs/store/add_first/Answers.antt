@@ -29,6 +29,7 @@ returns c =
     replica_at zones c.args.range replicas 0 (record { 0 = 0 }) same (omega arith) in
     record {
       firsts = on_ok_weaker c.push_on.result
-          (λ pushed. firsts_more zones c.args.range (get_or replicas 0 (record { 0 = 0 })) c.args.firsts.now.items c.push_on.new.firsts.items c.requires.firsts at c.push_on.ensures.count pushed)
+          (λ pushed. firsts_more zones c.args.range (get_or replicas 0 (record { 0 = 0 })) c.args.firsts.now.items
+          c.push_on.new.firsts.items c.requires.firsts at c.push_on.ensures.count pushed)
           c.push_on.ensures.pushed;
     }

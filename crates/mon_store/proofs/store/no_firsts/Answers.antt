@@ -14,5 +14,6 @@ loop-leaf-preserved c =
 
 pub returns : goal.returns
 returns c =
-    let end : c.loop-leaf._leaf ≡ c.args.leaves = let past = c.loop-leaf-test.false in let before = c.loop-leaf.auto._leaf-end in omega arith in
+    let end : c.loop-leaf._leaf ≡ c.args.leaves = let past = c.loop-leaf-test.false in
+    let before = c.loop-leaf.auto._leaf-end in omega arith in
     record { none = subst (λ n. AreBare n c.loop-leaf.firsts.items) end c.loop-leaf.invariant }

@@ -6,4 +6,5 @@ use Rattle.mon_table.proofs.pairs.push_pairs.Given as goal
 
 abbrev pub invariant-loop-right : goal.invariant-loop-right
 invariant-loop-right l =
-    l.rows ++ map (pair_row l.own l.left) (rows_behind (drop l.right-index l.partners)) ≡ l.initial.rows ++ map (pair_row l.own l.left) (rows_behind l.partners)
+    l.rows ++ map (pair_row l.own l.left) (rows_behind (drop l.right-index l.partners)) ≡ l.initial.rows
+    ++ map (pair_row l.own l.left) (rows_behind l.partners)

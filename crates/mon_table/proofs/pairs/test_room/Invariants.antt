@@ -6,4 +6,5 @@ use Rattle.mon_table.proofs.pairs.test_room.Given as goal
 
 abbrev pub invariant-loop-left : goal.invariant-loop-left
 invariant-loop-left l =
-    l.free + length (flat_map (left_pairs l.right_rows) l.lefts) ≡ l.room + length (flat_map (left_pairs l.right_rows) (drop l.left-index l.lefts))
+    l.free + length (flat_map (left_pairs l.right_rows) l.lefts) ≡ l.room
+    + length (flat_map (left_pairs l.right_rows) (drop l.left-index l.lefts))

@@ -5,4 +5,5 @@ use Rattle.mon_value.specs.Joins.{right_columns}
 use Rattle.mon_table.proofs.places.joined_columns.Given as goal
 
 abbrev pub invariant-loop-column : goal.invariant-loop-column
-invariant-loop-column l = l.columns ++ right_columns l.lefts (iter_rest l.column-iterator) ≡ l.lefts ++ right_columns l.lefts l.rights
+invariant-loop-column l = l.columns ++ right_columns l.lefts (iter_rest l.column-iterator) ≡ l.lefts
+    ++ right_columns l.lefts l.rights

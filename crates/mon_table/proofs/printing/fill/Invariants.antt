@@ -8,7 +8,8 @@ use Rattle.mon_table.proofs.printing.fill.Given as goal
 
 abbrev pub invariant-loop-value : goal.invariant-loop-value
 invariant-loop-value l = record {
-  texts : fields_of l.cells ++ map value_text (iter_rest l.value-iterator) ≡ signed_decimal l.row.time ∷ map value_text l.row.cells;
+  texts : fields_of l.cells ++ map value_text (iter_rest l.value-iterator) ≡ signed_decimal l.row.time ∷ map value_text
+      l.row.cells;
   whole : partial_of l.cells ≡ [];
   utf8 : AllText (fields_of l.cells);
 }

@@ -8,5 +8,6 @@ pub returns-clause-texts : goal.returns-clause-texts
 returns-clause-texts c =
     let text = c.as_bytes.result.now in
     on_ok_weaker c.push_field.result
-    (λ fields. subst AllText (sym (fields ∙ ap (λ partial. fields_of c.args.cells.now ++ (partial ++ text) ∷ []) c.requires.whole)) (text-more (fields_of c.args.cells.now) text c.requires.texts c.as_bytes.ensures.utf8))
+    (λ fields. subst AllText (sym (fields ∙ ap (λ partial. fields_of c.args.cells.now ++ (partial ++ text) ∷ [])
+    c.requires.whole)) (text-more (fields_of c.args.cells.now) text c.requires.texts c.as_bytes.ensures.utf8))
     c.push_field.ensures.fields

@@ -5,4 +5,5 @@ use Rattle.mon_table.proofs.CsvLineLemmas.{line-text}
 use Rattle.mon_table.proofs.printing.put_line.Goals as goal
 
 pub returns-clause-written : goal.returns-clause-written
-returns-clause-written c = on_ok_weaker c.write_cells.result (λ line. subst IsUtf8 (sym line) (IsUtf8-append _ _ c.requires.written (line-text _ c.requires.texts))) c.write_cells.ensures.line
+returns-clause-written c = on_ok_weaker c.write_cells.result (λ line. subst IsUtf8 (sym line)
+    (IsUtf8-append _ _ c.requires.written (line-text _ c.requires.texts))) c.write_cells.ensures.line

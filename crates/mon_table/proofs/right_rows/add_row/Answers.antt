@@ -16,9 +16,14 @@ returns-in_ok-push-in-Some c =
     let n = c.get_mut.follows.lender w in
     let there : Some c.in-Some.rows.now ≡ get derived.eq-value.it m key = c.in-Some.ensures.value in
     let updates = (c.get_mut.follows.holds w).3 (subst (λ r. IsSome r) there refl) in
-    let updates' = subst (λ (eq : JoinKey → JoinKey → Bool). UpdatesBy eq (eq key) m n (Some w)) eq-same_join_key updates in
+    let updates' = subst (λ (eq : JoinKey → JoinKey → Bool). UpdatesBy eq (eq key) m n (Some w)) eq-same_join_key
+    updates in
     let there' = there ∙ ap (λ (eq : JoinKey → JoinKey → Bool). get eq m key) eq-same_join_key in
-    record { added = entry_rows-added m n key c.args.row.now w updates' (ap rows_behind c.in_ok-push-in-Some.ensures.items ∙ map-append (λ row. row.now) c.in-Some.rows.now.items (c.args.row ∷ []) ∙ ap (λ r. entry_rows r ++ c.args.row.now ∷ []) there') }
+    record {
+      added = entry_rows-added m n key c.args.row.now w updates'
+          (ap rows_behind c.in_ok-push-in-Some.ensures.items ∙ map-append (λ row. row.now) c.in-Some.rows.now.items
+          (c.args.row ∷ []) ∙ ap (λ r. entry_rows r ++ c.args.row.now ∷ []) there');
+    }
 
 pub returns-in_ok-insert-in-None : goal.returns-in_ok-insert-in-None
 returns-in_ok-insert-in-None c =
@@ -27,8 +32,14 @@ returns-in_ok-insert-in-None c =
     let w = c.push-in-None.new.self in
     let n = c.insert.new.self in
     let none : None ≡ get derived.eq-value.it m key = c.in-None.ensures.value in
-    let updates = subst (λ old. UpdatesBy derived.eq-value.it (derived.eq-value.it key) old n (Some w)) c.get_mut.follows.holds-at-none c.in_ok-insert-in-None.ensures.updates in
-    let updates' = subst (λ (eq : JoinKey → JoinKey → Bool). UpdatesBy eq (eq key) m n (Some w)) eq-same_join_key updates in
+    let updates = subst (λ old. UpdatesBy derived.eq-value.it (derived.eq-value.it key) old n (Some w))
+    c.get_mut.follows.holds-at-none c.in_ok-insert-in-None.ensures.updates in
+    let updates' = subst (λ (eq : JoinKey → JoinKey → Bool). UpdatesBy eq (eq key) m n (Some w)) eq-same_join_key
+    updates in
     let none' = none ∙ ap (λ (eq : JoinKey → JoinKey → Bool). get eq m key) eq-same_join_key in
-    let alone = ap rows_behind (c.in_ok-push-in-None.ensures.items ∙ ap (λ items. items ++ c.args.row ∷ []) c.new-rows.ensures.items) in
-    record { added = entry_rows-added m n key c.args.row.now w updates' (alone ∙ ap (λ r. entry_rows r ++ c.args.row.now ∷ []) none') }
+    let alone = ap rows_behind (c.in_ok-push-in-None.ensures.items ∙ ap (λ items. items ++ c.args.row ∷ [])
+    c.new-rows.ensures.items) in
+    record {
+      added = entry_rows-added m n key c.args.row.now w updates'
+          (alone ∙ ap (λ r. entry_rows r ++ c.args.row.now ∷ []) none');
+    }

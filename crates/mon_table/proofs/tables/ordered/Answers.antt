@@ -6,4 +6,7 @@ use Rattle.mon_table.proofs.tables.ordered.Goals as goal
 pub returns : goal.returns
 returns c =
     let sort = c.sort_unstable.ensures in
-    record { order = c.from_vec.ensures.items ∙ sorted_rows-sorted c.into_vec-items.result.items c.sort_unstable.new.self.items sort.permutation sort.sorted ∙ ap sorted_rows c.into_vec-items.ensures.items }
+    record {
+      order = c.from_vec.ensures.items ∙ sorted_rows-sorted c.into_vec-items.result.items
+          c.sort_unstable.new.self.items sort.permutation sort.sorted ∙ ap sorted_rows c.into_vec-items.ensures.items;
+    }

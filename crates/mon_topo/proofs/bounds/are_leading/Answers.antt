@@ -14,8 +14,10 @@ pub returns-then-values-fields : goal.returns-then-values-fields
 returns-then-values-fields c =
     let fields = c.args.fields.now in
     let values = c.args.values.now in
-    let pairs = YieldsList-from_zip (YieldsList-from_slice {s = c.zip.result.a} fields cc) (YieldsList-from_slice {s = c.zip.result.b} values cc) in
-    let all = all_from_yields_List (λ (pair : Field × FieldValue). is_of_type pair.0.of pair.1) c.all.new.self _ c.all.result c.all.ensures.ran pairs (λ x b q k. search (rules, tests)) in
+    let pairs = YieldsList-from_zip (YieldsList-from_slice {s = c.zip.result.a} fields cc)
+    (YieldsList-from_slice {s = c.zip.result.b} values cc) in
+    let all = all_from_yields_List (λ (pair : Field × FieldValue). is_of_type pair.0.of pair.1) c.all.new.self
+    _ c.all.result c.all.ensures.ran pairs (λ x b q k. search (rules, tests)) in
     record { leading = all ∙ are_leading-zip fields values c.if-values-fields.true }
 
 -- there are more values than fields

@@ -5,4 +5,5 @@ use Rattle.mon_topo.specs.Places.{first_at}
 use Rattle.mon_topo.proofs.bounds.bad_bound.Given as goal
 
 abbrev pub invariant-loop-i : goal.invariant-loop-i
-invariant-loop-i l = first_at (bad_bound_in_zone l.schemas) l.i (drop l.i l.zones) ≡ first_at (bad_bound_in_zone l.schemas) 0 l.zones
+invariant-loop-i l = first_at (bad_bound_in_zone l.schemas) l.i (drop l.i l.zones)
+    ≡ first_at (bad_bound_in_zone l.schemas) 0 l.zones

@@ -16,10 +16,15 @@ pub loop-j-preserved : goal.loop-j-preserved
 loop-j-preserved c before long finds =
     let j = c.loop-j.j-counter in
     let name : List ℕ = c.as_bytes.result.now in
-    let named : name ≡ range_name c.args.zone.now j = c.as_bytes.ensures.value ∙ c.in_ok-name.ensures.ok ∙ ap (λ (zone : List ℕ). range_name zone j) c.as_str.ensures.bytes in
-    range_more c.loop-j.names c.add.new.self before c.args.zone.now name c.args.first j c.args.ranges.now (omega (arith, c.loop-j-test.true)) long named c.in_ok-_is_new.ensures.added (c.loop-j.invariant before long finds)
+    let named : name ≡ range_name c.args.zone.now j = c.as_bytes.ensures.value ∙ c.in_ok-name.ensures.ok
+    ∙ ap (λ (zone : List ℕ). range_name zone j) c.as_str.ensures.bytes in
+    range_more c.loop-j.names c.add.new.self before c.args.zone.now name c.args.first j c.args.ranges.now
+    (omega (arith, c.loop-j-test.true)) long named c.in_ok-_is_new.ensures.added (c.loop-j.invariant before long
+    finds)
 
 pub returns : goal.returns
 returns c = record {
-  added = λ before long finds. subst (λ (ranges : List RangeSpec). FindsPlaces c.loop-j.names (before ++ names_from c.args.zone.now 0 ranges)) (take_all c.loop-j.j-counter c.args.ranges.now (omega (arith, c.loop-j-test.false))) (c.loop-j.invariant before long finds);
+  added = λ before long finds. subst (λ (ranges : List RangeSpec). FindsPlaces c.loop-j.names
+      (before ++ names_from c.args.zone.now 0 ranges)) (take_all c.loop-j.j-counter c.args.ranges.now
+      (omega (arith, c.loop-j-test.false))) (c.loop-j.invariant before long finds);
 }

@@ -5,4 +5,5 @@ use Rattle.mon_topo.specs.Zones.{names_from}
 use Rattle.mon_topo.proofs.lists.add_range_names.Given as goal
 
 abbrev pub invariant-loop-j : goal.invariant-loop-j
-invariant-loop-j l = (before : List (List ℕ)) → length before ≡ l.first → FindsPlaces l.fn.names before → FindsPlaces l.names (before ++ names_from l.zone 0 (take l.j-counter l.ranges))
+invariant-loop-j l = (before : List (List ℕ)) → length before ≡ l.first → FindsPlaces l.fn.names before
+    → FindsPlaces l.names (before ++ names_from l.zone 0 (take l.j-counter l.ranges))

@@ -13,7 +13,8 @@ add_range_names-requires c =
     let zones = c.args.zones.now in
     let i = c.loop-zone.zone-index in
     let most = few zones c.requires.few in
-    let so_far = parts_so_far (λ (zone : ZoneSpec). zone.ranges) zones i c.zone-item.result (omega (arith, c.loop-zone-test.true)) in
+    let so_far = parts_so_far (λ (zone : ZoneSpec). zone.ranges) zones i c.zone-item.result
+    (omega (arith, c.loop-zone-test.true)) in
     let item = ap (λ (zone : ZoneSpec). length zone.ranges) c.zone-item.is in
     let first = c.loop-zone.invariant.1 ∙ length-range_names (take i zones) in
     let given = ap length c.as_slice.ensures.items in
@@ -24,7 +25,8 @@ overflow_cast-first c =
     let zones = c.args.zones.now in
     let i = c.loop-zone.zone-index in
     let most = few zones c.requires.few in
-    let so_far = parts_so_far (λ (zone : ZoneSpec). zone.ranges) zones i c.zone-item.result (omega (arith, c.loop-zone-test.true)) in
+    let so_far = parts_so_far (λ (zone : ZoneSpec). zone.ranges) zones i c.zone-item.result
+    (omega (arith, c.loop-zone-test.true)) in
     let item = ap (λ (zone : ZoneSpec). length zone.ranges) c.zone-item.is in
     omega (arith, c.len.ensures.count)
 
@@ -33,7 +35,8 @@ overflow_add-first c =
     let zones = c.args.zones.now in
     let i = c.loop-zone.zone-index in
     let most = few zones c.requires.few in
-    let so_far = parts_so_far (λ (zone : ZoneSpec). zone.ranges) zones i c.zone-item.result (omega (arith, c.loop-zone-test.true)) in
+    let so_far = parts_so_far (λ (zone : ZoneSpec). zone.ranges) zones i c.zone-item.result
+    (omega (arith, c.loop-zone-test.true)) in
     let item = ap (λ (zone : ZoneSpec). length zone.ranges) c.zone-item.is in
     let first = c.loop-zone.invariant.1 ∙ length-range_names (take i zones) in
     omega (arith, c.len.ensures.count)
@@ -49,8 +52,10 @@ loop-zone-preserved c =
     let found : FindsPlaces c.add_range_names.new.names (before ++ names_from zone.name 0 given) =
     c.in_ok-add_range_names.ensures.added before (sym c.loop-zone.invariant.1) c.loop-zone.invariant.0 in
     let all : FindsPlaces c.add_range_names.new.names (before ++ names_from zone.name 0 zone.ranges) =
-    subst (λ (ranges : List RangeSpec). FindsPlaces c.add_range_names.new.names (before ++ names_from zone.name 0 ranges)) c.as_slice.ensures.items found in
-    let count = ap length (sym more) ∙ length-append before (names_from zone.name 0 zone.ranges) ∙ ap (λ (n : ℕ). length before + n) (length-names_from zone.name 0 zone.ranges) in (
+    subst (λ (ranges : List RangeSpec). FindsPlaces c.add_range_names.new.names (before ++ names_from zone.name 0
+    ranges)) c.as_slice.ensures.items found in
+    let count = ap length (sym more) ∙ length-append before (names_from zone.name 0 zone.ranges)
+    ∙ ap (λ (n : ℕ). length before + n) (length-names_from zone.name 0 zone.ranges) in (
       subst (λ (texts : List (List ℕ)). FindsPlaces c.add_range_names.new.names texts) more all,
       omega (arith, c.len.ensures.count, c.loop-zone.invariant.1),
     )

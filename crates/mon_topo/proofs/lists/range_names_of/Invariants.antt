@@ -5,4 +5,5 @@ use Rattle.mon_topo.specs.Zones.{range_names}
 use Rattle.mon_topo.proofs.lists.range_names_of.Given as goal
 
 abbrev pub invariant-loop-zone : goal.invariant-loop-zone
-invariant-loop-zone l = FindsPlaces l.names (range_names (take l.zone-index l.zones)) × (l.first ≡ length (range_names (take l.zone-index l.zones)))
+invariant-loop-zone l = FindsPlaces l.names (range_names (take l.zone-index l.zones))
+    × (l.first ≡ length (range_names (take l.zone-index l.zones)))

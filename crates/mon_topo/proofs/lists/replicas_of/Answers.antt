@@ -15,9 +15,11 @@ loop-zone-preserved c =
     let rest = drop (i + 1) zones in
     let so_far = c.loop-zone.replicas.items in
     let found = λ (range : RangeSpec). leaves_found c.args.leaves.now range.leaves in
-    let next : drop i zones ≡ zone ∷ rest = drop_more zones i zone (omega (arith, c.loop-zone-test.true)) ∙ ap (λ (z : ZoneSpec). z ∷ rest) (sym c.zone-item.is) in
+    let next : drop i zones ≡ zone ∷ rest = drop_more zones i zone (omega (arith, c.loop-zone-test.true))
+    ∙ ap (λ (z : ZoneSpec). z ∷ rest) (sym c.zone-item.is) in
     let added : c.add_replicas.new.replicas.items ≡ so_far ++ map found zone.ranges =
-    c.in_ok-add_replicas.ensures.added ∙ ap (λ (ranges : List RangeSpec). so_far ++ map found ranges) c.as_slice.ensures.items in
+    c.in_ok-add_replicas.ensures.added ∙ ap (λ (ranges : List RangeSpec). so_far ++ map found ranges)
+    c.as_slice.ensures.items in
     ap (λ (made : List (List Leaf)). made ++ map found (ranges_in rest)) added
     ∙ append_assoc so_far (map found zone.ranges) (map found (ranges_in rest))
     ∙ ap (λ (more : List (List Leaf)). so_far ++ more) (sym (map-append found zone.ranges (ranges_in rest)))

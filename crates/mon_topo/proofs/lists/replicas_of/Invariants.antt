@@ -5,4 +5,5 @@ use Rattle.mon_topo.specs.Zones.{ranges_in}
 use Rattle.mon_topo.proofs.lists.replicas_of.Given as goal
 
 abbrev pub invariant-loop-zone : goal.invariant-loop-zone
-invariant-loop-zone l = l.replicas.items ++ map (λ range. leaves_found l.leaves range.leaves) (ranges_in (drop l.zone-index l.zones)) ≡ map (λ range. leaves_found l.leaves range.leaves) (ranges_in l.zones)
+invariant-loop-zone l = l.replicas.items ++ map (λ range. leaves_found l.leaves range.leaves)
+    (ranges_in (drop l.zone-index l.zones)) ≡ map (λ range. leaves_found l.leaves range.leaves) (ranges_in l.zones)

@@ -5,4 +5,5 @@ use Rattle.mon_topo.specs.Places.{first_at}
 use Rattle.mon_topo.proofs.ranges.bad_replicas_in_zone.Given as goal
 
 abbrev pub invariant-loop-j : goal.invariant-loop-j
-invariant-loop-j l = first_at (bad_replicas_in_range l.i) l.j (drop l.j l.ranges) ≡ first_at (bad_replicas_in_range l.i) 0 l.ranges
+invariant-loop-j l = first_at (bad_replicas_in_range l.i) l.j (drop l.j l.ranges)
+    ≡ first_at (bad_replicas_in_range l.i) 0 l.ranges

@@ -5,4 +5,5 @@ use Rattle.mon_topo.specs.Places.{first_at}
 use Rattle.mon_topo.proofs.ranges.no_leaf_in_range.Given as goal
 
 abbrev pub invariant-loop-k : goal.invariant-loop-k
-invariant-loop-k l = first_at (no_leaf_at l.zone l.i l.j) l.k (drop l.k l.range.leaves) ≡ first_at (no_leaf_at l.zone l.i l.j) 0 l.range.leaves
+invariant-loop-k l = first_at (no_leaf_at l.zone l.i l.j) l.k (drop l.k l.range.leaves)
+    ≡ first_at (no_leaf_at l.zone l.i l.j) 0 l.range.leaves

@@ -8,4 +8,6 @@ use Rattle.mon_topo.specs.Places.{first_at}
 use Rattle.mon_topo.proofs.repeats.add_leaves.Given as goal
 
 abbrev pub invariant-loop-j : goal.invariant-loop-j
-invariant-loop-j l = (l.leaves ≡ l.fn.leaves ++ numbered (length l.fn.leaves) (take l.j l.texts)) × (first_at (repeated_at (place.Leaf l.i) (keys_of l.fn.leaves) l.texts) l.j (drop l.j l.texts) ≡ first_at (repeated_at (place.Leaf l.i) (keys_of l.fn.leaves) l.texts) 0 l.texts)
+invariant-loop-j l = (l.leaves ≡ l.fn.leaves ++ numbered (length l.fn.leaves) (take l.j l.texts))
+    × (first_at (repeated_at (place.Leaf l.i) (keys_of l.fn.leaves) l.texts) l.j (drop l.j l.texts)
+    ≡ first_at (repeated_at (place.Leaf l.i) (keys_of l.fn.leaves) l.texts) 0 l.texts)

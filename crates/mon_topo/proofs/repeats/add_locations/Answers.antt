@@ -24,13 +24,16 @@ returns-then-not-branch-clause-apart c =
     let so_far : List (List ℕ × ℕ) = c.loop-j.locations in
     let named : name ≡ text = c.as_bytes.ensures.bytes in
     let at_fault = repeated_at (place.Location i) (keys_of old) texts in
-    let next : drop j texts ≡ text ∷ drop (j + 1) texts = drop_more texts j text (omega (arith, c.loop-j-test.true)) ∙ ap (λ (t : List ℕ). t ∷ drop (j + 1) texts) (sym c.index-texts-j.is) in
+    let next : drop j texts ≡ text ∷ drop (j + 1) texts = drop_more texts j text (omega (arith, c.loop-j-test.true))
+    ∙ ap (λ (t : List ℕ). t ∷ drop (j + 1) texts) (sym c.index-texts-j.is) in
     let whole = ap (first_at at_fault j) (sym next) ∙ c.loop-j.invariant.1 in
     let own = all_numbered i (take j texts) in
     let keys = keys-all_numbered i (take j texts) in
-    let told : list_any (same_text name) (keys_of so_far) ≡ list_any (same_text text) (keys_of so_far) = ap (λ (t : List ℕ). list_any (same_text t) (keys_of so_far)) named in
+    let told : list_any (same_text name) (keys_of so_far) ≡ list_any (same_text text) (keys_of so_far) =
+    ap (λ (t : List ℕ). list_any (same_text t) (keys_of so_far)) named in
     let again = ap not (sym told) ∙ sym c.in_ok-add.ensures.new ∙ c.if-not-branch.true in
-    sym whole ∙ first_at-found at_fault j text (drop (j + 1) texts) (place.Location i j) (repeated (place.Location i) old so_far own texts j text c.loop-j.invariant.0 keys again)
+    sym whole ∙ first_at-found at_fault j text (drop (j + 1) texts) (place.Location i j)
+    (repeated (place.Location i) old so_far own texts j text c.loop-j.invariant.0 keys again)
 
 -- it did not
 pub loop-j-preserved : goal.loop-j-preserved
@@ -44,14 +47,17 @@ loop-j-preserved c =
     let so_far : List (List ℕ × ℕ) = c.loop-j.locations in
     let named : name ≡ text = c.as_bytes.ensures.bytes in
     let at_fault = repeated_at (place.Location i) (keys_of old) texts in
-    let next : drop j texts ≡ text ∷ drop (j + 1) texts = drop_more texts j text (omega (arith, c.loop-j-test.true)) ∙ ap (λ (t : List ℕ). t ∷ drop (j + 1) texts) (sym c.index-texts-j.is) in
+    let next : drop j texts ≡ text ∷ drop (j + 1) texts = drop_more texts j text (omega (arith, c.loop-j-test.true))
+    ∙ ap (λ (t : List ℕ). t ∷ drop (j + 1) texts) (sym c.index-texts-j.is) in
     let whole = ap (first_at at_fault j) (sym next) ∙ c.loop-j.invariant.1 in
     let own = all_numbered i (take j texts) in
     let keys = keys-all_numbered i (take j texts) in
-    let told : list_any (same_text name) (keys_of so_far) ≡ list_any (same_text text) (keys_of so_far) = ap (λ (t : List ℕ). list_any (same_text t) (keys_of so_far)) named in
+    let told : list_any (same_text name) (keys_of so_far) ≡ list_any (same_text text) (keys_of so_far) =
+    ap (λ (t : List ℕ). list_any (same_text t) (keys_of so_far)) named in
     let fresh = ap not (sym told) ∙ sym c.in_ok-add.ensures.new ∙ c.if-not-branch.false in
     let none = unrepeated (place.Location i) old so_far own texts j text c.loop-j.invariant.0 keys fresh in
     let added = c.in_ok-add.ensures.added ∙ ap (λ (t : List ℕ). with_name so_far t i) named in (
-      locations_more old so_far c.add.new.self texts i j text (omega (arith, c.loop-j-test.true)) c.index-texts-j.is c.loop-j.invariant.0 (with_new_name so_far c.add.new.self text i fresh added),
+      locations_more old so_far c.add.new.self texts i j text (omega (arith, c.loop-j-test.true)) c.index-texts-j.is
+          c.loop-j.invariant.0 (with_new_name so_far c.add.new.self text i fresh added),
       sym (first_at-past at_fault j text (drop (j + 1) texts) none) ∙ whole,
     )

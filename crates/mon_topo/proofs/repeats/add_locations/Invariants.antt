@@ -8,4 +8,6 @@ use Rattle.mon_topo.specs.Places.{first_at}
 use Rattle.mon_topo.proofs.repeats.add_locations.Given as goal
 
 abbrev pub invariant-loop-j : goal.invariant-loop-j
-invariant-loop-j l = (l.locations ≡ l.fn.locations ++ all_numbered l.i (take l.j l.texts)) × (first_at (repeated_at (place.Location l.i) (keys_of l.fn.locations) l.texts) l.j (drop l.j l.texts) ≡ first_at (repeated_at (place.Location l.i) (keys_of l.fn.locations) l.texts) 0 l.texts)
+invariant-loop-j l = (l.locations ≡ l.fn.locations ++ all_numbered l.i (take l.j l.texts))
+    × (first_at (repeated_at (place.Location l.i) (keys_of l.fn.locations) l.texts) l.j (drop l.j l.texts)
+    ≡ first_at (repeated_at (place.Location l.i) (keys_of l.fn.locations) l.texts) 0 l.texts)

@@ -6,4 +6,5 @@ use Rattle.mon_topo.specs.Places.{first_at}
 use Rattle.mon_topo.proofs.repeats.names_of.Given as goal
 
 abbrev pub invariant-loop-i : goal.invariant-loop-i
-invariant-loop-i l = (l.names ≡ names_of (take l.i l.zones)) × (first_at (repeat_behind l.zones) l.i (drop l.i l.zones) ≡ first_at (repeat_behind l.zones) 0 l.zones)
+invariant-loop-i l = (l.names ≡ names_of (take l.i l.zones)) × (first_at (repeat_behind l.zones) l.i (drop l.i l.zones)
+    ≡ first_at (repeat_behind l.zones) 0 l.zones)

@@ -8,7 +8,9 @@ use Rattle.mon_topo.proofs.sizes.are_leaves_few.Goals as goal
 -- with those of the zone at hand there are more than may be
 pub returns-in_default : goal.returns-in_default
 returns-in_default c =
-    let so_far = parts_so_far (λ (zone : ZoneSpec). zone.leaves) c.args.zones.now c.loop-zone.zone-index c.zone-item.result (omega (arith, c.loop-zone-test.true)) in
+    let so_far = parts_so_far (λ (zone : ZoneSpec). zone.leaves) c.args.zones.now c.loop-zone.zone-index
+    c.zone-item.result (omega (arith, c.loop-zone-test.true)) in
     let item = ap (λ (zone : ZoneSpec). length zone.leaves) c.zone-item.is in
-    let over : 64 < length (leaves_in c.args.zones.now) = omega (arith, c.loop-zone.invariant, c.in_default.ensures, c.len.ensures.count, so_far, item) in
+    let over : 64 < length (leaves_in c.args.zones.now) =
+    omega (arith, c.loop-zone.invariant, c.in_default.ensures, c.len.ensures.count, so_far, item) in
     record { few = grind (arith, nat_tests) }

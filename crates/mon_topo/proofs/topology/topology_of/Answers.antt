@@ -15,15 +15,22 @@ pub invariant_of-result : goal.invariant_of-result
 invariant_of-result c =
     let zones = c.args.zones in
     let leaves = leaves_in zones in
-    let of_location = λ (text : List ℕ). ap (λ (names : Names). lookup (same_text text) names.locations) c.requires.names ∙ lookup-located text 0 zones in
-    let of_leaf = λ (text : List ℕ). ap (λ (names : Names). lookup (same_text text) names.leaves) c.requires.names ∙ lookup-numbered text 0 leaves in
-    let found : map (λ (range : RangeSpec). leaves_found c.args.names.leaves range.leaves) (ranges_in zones) ≡ all_replicas zones =
-    λ i. map (λ (range : RangeSpec). filter_map (λ (name : List ℕ). option_map leaf_numbered (of_leaf name i)) range.leaves) (ranges_in zones) in (
+    let of_location = λ (text : List ℕ). ap (λ (names : Names). lookup (same_text text) names.locations)
+    c.requires.names ∙ lookup-located text 0 zones in
+    let of_leaf = λ (text : List ℕ). ap (λ (names : Names). lookup (same_text text) names.leaves) c.requires.names
+    ∙ lookup-numbered text 0 leaves in
+    let found : map (λ (range : RangeSpec). leaves_found c.args.names.leaves range.leaves) (ranges_in zones)
+    ≡ all_replicas zones =
+    λ i. map (λ (range : RangeSpec). filter_map (λ (name : List ℕ). option_map leaf_numbered (of_leaf name i))
+    range.leaves) (ranges_in zones) in (
       c.requires.lawful,
       c.in_ok-spans.ensures.spans ∙ ap (spans_from 0 0) c.as_slice.ensures.items,
       c.in_ok-leaf_names.ensures.names ∙ ap leaves_in c.as_slice-2.ensures.items,
-      c.in_ok-replicas.ensures.replicas ∙ ap (λ (all : List ZoneSpec). map (λ (range : RangeSpec). leaves_found c.args.names.leaves range.leaves) (ranges_in all)) c.as_slice-3.ensures.items ∙ found,
+      c.in_ok-replicas.ensures.replicas
+          ∙ ap (λ (all : List ZoneSpec). map (λ (range : RangeSpec). leaves_found c.args.names.leaves range.leaves)
+          (ranges_in all)) c.as_slice-3.ensures.items ∙ found,
       of_location,
       of_leaf,
-      subst (λ (all : List ZoneSpec). FindsPlaces c.in_ok-ranges.ranges (range_names all)) c.as_slice-4.ensures.items c.in_ok-ranges.ensures.found,
+      subst (λ (all : List ZoneSpec). FindsPlaces c.in_ok-ranges.ranges (range_names all)) c.as_slice-4.ensures.items
+          c.in_ok-ranges.ensures.found,
     )

@@ -1,5 +1,6 @@
 use Rattle.std.proofs.Common.{sym, arith}
-use Rattle.mon_value.proofs.CountsLemmas.{counts_added-nil, counts_added-take_at, counts_added-take_more, length-counts_added}
+use Rattle.mon_value.proofs.CountsLemmas.{counts_added-nil, counts_added-take_at, counts_added-take_more}
+use Rattle.mon_value.proofs.CountsLemmas.{length-counts_added}
 use Rattle.mon_value.proofs.distributions.add_counts.Goals as goal
 
 pub loop-i-init : goal.loop-i-init

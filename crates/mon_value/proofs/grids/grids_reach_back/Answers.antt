@@ -26,7 +26,8 @@ returns-clause-once c grid same some = one_time grid same some
 pub returns-clause-least : goal.returns-clause-least
 returns-clause-least c grid k d lawful below =
     let every = lawful.every in
-    let here = get_or-times_back (time_count grid) k grid.moment grid.every d (unsigned_abs grid.every) (omega (arith, ints)) below in
+    let here = get_or-times_back (time_count grid) k grid.moment grid.every d (unsigned_abs grid.every)
+    (omega (arith, ints)) below in
     let most = mul-le-mul_right {m = k} {n = time_count grid - 1} (unsigned_abs grid.every) (omega arith) in
     rw here (omega (arith, ints))
 
@@ -34,5 +35,7 @@ pub returns-clause-last : goal.returns-clause-last
 returns-clause-last c grid d lawful =
     let every = lawful.every in
     let within = lawful.within in
-    let some = count_some (unsigned_abs grid.within) (unsigned_abs grid.every) (omega (arith, ints)) (omega (arith, ints)) in
-    get_or-times_back (time_count grid) (time_count grid - 1) grid.moment grid.every d (unsigned_abs grid.every) (omega (arith, ints)) (omega arith)
+    let some = count_some (unsigned_abs grid.within) (unsigned_abs grid.every) (omega (arith, ints))
+    (omega (arith, ints)) in
+    get_or-times_back (time_count grid) (time_count grid - 1) grid.moment grid.every d (unsigned_abs grid.every)
+    (omega (arith, ints)) (omega arith)

@@ -5,4 +5,5 @@ use Rattle.std.specs.Str.Parse.{digits_value}
 use Rattle.mon_value.proofs.numbers.read_numeral.Given as goal
 
 abbrev pub invariant-loop-digit : goal.invariant-loop-digit
-invariant-loop-digit l = (all_ascii_digits (take l.digit-index l.digits) ≡ true) × (l.number ≡ digits_value 10 (take l.digit-index l.digits))
+invariant-loop-digit l = (all_ascii_digits (take l.digit-index l.digits) ≡ true)
+    × (l.number ≡ digits_value 10 (take l.digit-index l.digits))

@@ -8,7 +8,8 @@ pub returns : goal.returns
 returns c =
     let first = c.in-Some.first.now in
     let rest = c.in-Some.rest.now in
-    let whole : counts_joined c.args.counts.now ≡ counts_joined (first ∷ rest) = ap counts_joined c.in-Some.ensures.cases.0 in
+    let whole : counts_joined c.args.counts.now ≡ counts_joined (first ∷ rest) = ap counts_joined
+    c.in-Some.ensures.cases.0 in
     let all : take c.loop-count.count-index rest ≡ rest = take_all c.loop-count.count-index rest (omega arith) in
     let joined = counts_joined-cons first rest in
     let i = c.loop-count.invariant in

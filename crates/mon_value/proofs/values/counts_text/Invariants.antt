@@ -6,4 +6,5 @@ use Rattle.mon_value.specs.Values.{semicolon}
 use Rattle.mon_value.proofs.values.counts_text.Given as goal
 
 abbrev pub invariant-loop-count : goal.invariant-loop-count
-invariant-loop-count l = string_bytes l.text ≡ string_bytes l.initial.text ++ flat_map (λ n. semicolon ∷ decimal n) (take l.count-index l.rest)
+invariant-loop-count l = string_bytes l.text ≡ string_bytes l.initial.text ++ flat_map (λ n. semicolon ∷ decimal n)
+    (take l.count-index l.rest)

@@ -7,7 +7,8 @@ use Rattle.mql_parse.specs.TokenReading.{name}
 use Rattle.mql_parse.proofs.aggregates.some_names.Given as goal
 
 abbrev pub invariant-names : goal.invariant-names
-invariant-names l = repetition (list_turn 93 what.CloseBracket name) (itself l.names) (rest_of l.from) ≡ repetition (list_turn 93 what.CloseBracket name) [] (rest_of l.fn.from)
+invariant-names l = repetition (list_turn 93 what.CloseBracket name) (itself l.names) (rest_of l.from)
+    ≡ repetition (list_turn 93 what.CloseBracket name) [] (rest_of l.fn.from)
 
 abbrev pub decreases-names : goal.decreases-names
 decreases-names l = length l.from.bytes.now

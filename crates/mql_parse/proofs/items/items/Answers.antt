@@ -10,19 +10,31 @@ use Rattle.mql_parse.proofs.items.items.Goals as goal
 pub items-preserved : goal.items-preserved
 items-preserved c =
     let w = c.in-Ok-Again in
-    loop_goes_on (list_turn 93 what.CloseBracket (item_with (sum c.args.levels))) (items_turn_behind c.args.levels) (item_trees c.items.items) (item_trees w.whole) (rest_of c.items.from) (rest_of w.rest) _ (rw w.field-0-is at w.ensures.turn) c.items.invariant
+    loop_goes_on (list_turn 93 what.CloseBracket (item_with (sum c.args.levels))) (items_turn_behind c.args.levels)
+    (item_trees c.items.items) (item_trees w.whole) (rest_of c.items.from) (rest_of w.rest)
+    _ (rw w.field-0-is at w.ensures.turn) c.items.invariant
 
 pub items-smaller : goal.items-smaller
 items-smaller c =
     let w = c.in-Ok-Again in
-    loop_is_shorter (list_turn 93 what.CloseBracket (item_with (sum c.args.levels))) (items_turn_behind c.args.levels) (item_trees c.items.items) (item_trees w.whole) (rest_of c.items.from) (rest_of w.rest) (rw w.field-0-is at w.ensures.turn)
+    loop_is_shorter (list_turn 93 what.CloseBracket (item_with (sum c.args.levels))) (items_turn_behind c.args.levels)
+    (item_trees c.items.items) (item_trees w.whole) (rest_of c.items.from) (rest_of w.rest)
+    (rw w.field-0-is at w.ensures.turn)
 
 pub returns-in-Ok-Done : goal.returns-in-Ok-Done
 unfolding items_with
 returns-in-Ok-Done c =
     let w = c.in-Ok-Done in
-    record { read = loop_ends (list_turn 93 what.CloseBracket (item_with (sum c.args.levels))) (item_trees c.items.items) (item_trees w.whole) (rest_of c.items.from) (rest_of w.rest) _ (rw w.field-0-is at w.ensures.turn) c.items.invariant }
+    record {
+      read = loop_ends (list_turn 93 what.CloseBracket (item_with (sum c.args.levels)))
+          (item_trees c.items.items) (item_trees w.whole) (rest_of c.items.from) (rest_of w.rest)
+          _ (rw w.field-0-is at w.ensures.turn) c.items.invariant;
+    }
 
 pub returns-in-Err : goal.returns-in-Err
 unfolding items_with
-returns-in-Err c = record { read = loop_refused item_trees (list_turn 93 what.CloseBracket (item_with (sum c.args.levels))) (item_trees c.items.items) (rest_of c.items.from) _ c.in-Err.refusal c.in-Err.ensures.turn c.items.invariant }
+returns-in-Err c = record {
+  read = loop_refused item_trees (list_turn 93 what.CloseBracket
+      (item_with (sum c.args.levels))) (item_trees c.items.items) (rest_of c.items.from) _ c.in-Err.refusal
+      c.in-Err.ensures.turn c.items.invariant;
+}

@@ -7,7 +7,8 @@ use Rattle.mql_parse.proofs.patterns.pattern.Given as goal
 
 abbrev pub invariant-bytes : goal.invariant-bytes
 invariant-bytes l =
-    pattern_from (open_seen l.state) (sign_seen l.sign) l.pieces l.content.items l.from.at l.from.bytes.now ≡ pattern_from Whole Plain [] [] l.fn.from.at l.fn.from.bytes.now
+    pattern_from (open_seen l.state) (sign_seen l.sign) l.pieces l.content.items l.from.at l.from.bytes.now
+    ≡ pattern_from Whole Plain [] [] l.fn.from.at l.fn.from.bytes.now
 
 abbrev pub decreases-bytes : goal.decreases-bytes
 decreases-bytes l = length l.from.bytes.now

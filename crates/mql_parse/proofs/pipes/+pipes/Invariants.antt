@@ -7,7 +7,8 @@ use Rattle.mql_parse.specs.Views.{vec_trees}
 use Rattle.mql_parse.proofs.pipes.+pipes.Given as goal
 
 abbrev pub invariant-further_branches-branches : goal.invariant-further_branches-branches
-invariant-further_branches-branches l = repetition (branch_turn (pipe l.levels)) (vec_trees l.pipes) (rest_of l.from) ≡ repetition (branch_turn (pipe l.fn.levels)) (vec_trees l.fn.first) (rest_of l.fn.from)
+invariant-further_branches-branches l = repetition (branch_turn (pipe l.levels)) (vec_trees l.pipes) (rest_of l.from)
+    ≡ repetition (branch_turn (pipe l.fn.levels)) (vec_trees l.fn.first) (rest_of l.fn.from)
 
 abbrev pub decreases-further_branches-branches : goal.decreases-further_branches-branches
 decreases-further_branches-branches l = length l.from.bytes.now

@@ -34,13 +34,15 @@ abbrev pub decreases-disjunction : goal.decreases-disjunction
 decreases-disjunction l = 10 * l.levels + 7
 
 abbrev pub invariant-further_negations-parts : goal.invariant-further_negations-parts
-invariant-further_negations-parts l = repetition (and_turn (negation l.levels)) (predicate_tree l.left) (rest_of l.from) ≡ repetition (and_turn (negation l.fn.levels)) (predicate_tree l.fn.first) (rest_of l.fn.from)
+invariant-further_negations-parts l = repetition (and_turn (negation l.levels)) (predicate_tree l.left)
+    (rest_of l.from) ≡ repetition (and_turn (negation l.fn.levels)) (predicate_tree l.fn.first) (rest_of l.fn.from)
 
 abbrev pub decreases-further_negations-parts : goal.decreases-further_negations-parts
 decreases-further_negations-parts l = length l.from.bytes.now
 
 abbrev pub invariant-further_conjunctions-parts : goal.invariant-further_conjunctions-parts
-invariant-further_conjunctions-parts l = repetition (or_turn (conjunction l.levels)) (predicate_tree l.left) (rest_of l.from) ≡ repetition (or_turn (conjunction l.fn.levels)) (predicate_tree l.fn.first) (rest_of l.fn.from)
+invariant-further_conjunctions-parts l = repetition (or_turn (conjunction l.levels)) (predicate_tree l.left)
+    (rest_of l.from) ≡ repetition (or_turn (conjunction l.fn.levels)) (predicate_tree l.fn.first) (rest_of l.fn.from)
 
 abbrev pub decreases-further_conjunctions-parts : goal.decreases-further_conjunctions-parts
 decreases-further_conjunctions-parts l = length l.from.bytes.now

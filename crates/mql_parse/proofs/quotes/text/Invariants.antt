@@ -6,7 +6,8 @@ use Rattle.mql_parse.specs.TokenReading.{text_from}
 use Rattle.mql_parse.proofs.quotes.text.Given as goal
 
 abbrev pub invariant-bytes : goal.invariant-bytes
-invariant-bytes l = text_from (open_seen l.state) l.content.items l.from.at l.from.bytes.now ≡ text_from Whole [] l.fn.from.at l.fn.from.bytes.now
+invariant-bytes l = text_from (open_seen l.state) l.content.items l.from.at l.from.bytes.now ≡ text_from Whole []
+    l.fn.from.at l.fn.from.bytes.now
 
 abbrev pub decreases-bytes : goal.decreases-bytes
 decreases-bytes l = length l.from.bytes.now

@@ -23,7 +23,8 @@ decreases-group l = 5 * l.levels
 
 abbrev pub invariant-further_terms-terms : goal.invariant-further_terms-terms
 invariant-further_terms-terms l =
-    repetition (term_turn (term l.levels)) (sum_seen l.left) (rest_of l.from) ≡ repetition (term_turn (term l.fn.levels)) (sum_seen l.fn.first) (rest_of l.fn.from)
+    repetition (term_turn (term l.levels)) (sum_seen l.left) (rest_of l.from)
+    ≡ repetition (term_turn (term l.fn.levels)) (sum_seen l.fn.first) (rest_of l.fn.from)
 
 abbrev pub decreases-further_terms-terms : goal.decreases-further_terms-terms
 decreases-further_terms-terms l = length l.from.bytes.now

@@ -9,7 +9,8 @@ use Rattle.mql_ast.specs.Trees.{branches, op_tree, pipe_tree, source_tree}
 use Rattle.mql_ast.proofs.BranchLemmas.{branches_of_source}
 use Rattle.mql_types.specs.Faults.{first_with}
 use Rattle.mql_types.specs.PartViews.{part_view}
-use Rattle.mql_types.specs.Typing.{Part, branch_faults, branch_node, branches_faults, branches_node, further_faults, further_node, ops_faults, pipe_faults, source_faults, source_part, table}
+use Rattle.mql_types.specs.Typing.{Part, branch_faults, branch_node, branches_faults, branches_node, further_faults}
+use Rattle.mql_types.specs.Typing.{further_node, ops_faults, pipe_faults, source_faults, source_part, table}
 use Rattle.mql_types.proofs.FaultLemmas.{first_with-append, first_with-three}
 use Rattle.mql_types.proofs.parts.+parts.Goals as goal
 

@@ -11,7 +11,8 @@ loop-number-preserved c =
     let zones = c.args.topology.now in
     c.in_ok-push.ensures.items
     ∙ ap (λ (areas : List Area). areas ++ c.area_of.result ∷ []) c.loop-number.invariant
-    ∙ ap (λ (area : Area). map (area_of zones) (range_with_len 0 c.loop-number.number) ++ area ∷ []) c.area_of.ensures.area
+    ∙ ap (λ (area : Area). map (area_of zones) (range_with_len 0 c.loop-number.number) ++ area ∷ [])
+    c.area_of.ensures.area
     ∙ sym (map-range_with_len_more (area_of zones) 0 c.loop-number.number c.loop-number.number (omega arith))
 
 pub returns-clause-few : goal.returns-clause-few

@@ -5,4 +5,5 @@ use Rattle.query_core.specs.Areas.{has_leaf}
 use Rattle.query_core.proofs.courses.founds_in.Given as goal
 
 abbrev pub invariant-loop-found : goal.invariant-loop-found
-invariant-loop-found l = l.founds ≡ filter (λ (found : FoundDown). has_leaf l.area found.leaf) (take l.found-index l.all)
+invariant-loop-found l = l.founds ≡ filter (λ (found : FoundDown). has_leaf l.area found.leaf)
+    (take l.found-index l.all)

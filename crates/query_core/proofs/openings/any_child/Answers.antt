@@ -15,7 +15,8 @@ loop-formula-preserved c =
     let first = c.formula-item.result in
     let rest = drop (l.formula-index + 1) several in
     let next : drop l.formula-index several ≡ first ∷ rest =
-    drop_more several l.formula-index first (omega (arith, c.loop-formula-test.true)) ∙ ap (λ y. y ∷ rest) (sym c.formula-item.is) in
+    drop_more several l.formula-index first (omega (arith, c.loop-formula-test.true)) ∙ ap (λ y. y ∷ rest)
+    (sym c.formula-item.is) in
     let left = subst (λ (trees : List Formula). AnyLeft l.children
     (λ child. any_holds (formulas (map formula_tree trees)) (buckets_of_child named words child))
     (λ child. any_holds (formulas (map formula_tree several)) (buckets_of_child named words child))) next l.invariant in

@@ -8,5 +8,6 @@ use Rattle.query_core.proofs.openings.any_child.Given as goal
 abbrev pub invariant-loop-formula : goal.invariant-loop-formula
 invariant-loop-formula l =
     AnyLeft l.children
-    (λ child. any_holds (formulas (map formula_tree (drop l.formula-index l.several))) (buckets_of_child l.named l.words child))
+    (λ child. any_holds (formulas (map formula_tree (drop l.formula-index l.several)))
+    (buckets_of_child l.named l.words child))
     (λ child. any_holds (formulas (map formula_tree l.several)) (buckets_of_child l.named l.words child))

@@ -1,4 +1,4 @@
-use Rattle.weave_core.proofs.SightLemmas.{leaf_seen, range_seen}
+use Rattle.mon_topo.proofs.SightLemmas.{leaf_seen, range_seen}
 use Rattle.weave_core.proofs.kept_laws.sights_grow.Goals as goal
 
 pub returns : goal.returns

@@ -1,4 +1,4 @@
-use Rattle.weave_core.proofs.SightLemmas.{joined_seen}
+use Rattle.mon_topo.proofs.SightLemmas.{joined_seen}
 use Rattle.weave_core.proofs.kept_laws.sights_join.Goals as goal
 
 pub returns : goal.returns

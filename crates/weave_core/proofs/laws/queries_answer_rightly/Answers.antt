@@ -12,13 +12,15 @@ returns c = record {
   answered = λ store world reader answer own new asked from e.
       seen_now store world reader own new
       (λ now. IsAnsweredRightly store reader.setting reader.moment reader.begin.seen now.seen answer)
-      (c.sessions_answer_rightly.ensures.answered store reader.setting reader.moment (seen_by reader.begin) reader.session
+      (c.sessions_answer_rightly.ensures.answered store reader.setting reader.moment (seen_by reader.begin)
+      reader.session
       answer asked from own.sound (as_new store world reader own new)
       (stage_is store world reader own new (Ended (Ok answer)) e));
   stopped = λ store world reader limit trace own new asked from e.
       seen_now store world reader own new
       (λ now. IsStoppedRightly store reader.setting reader.moment reader.begin.seen now.seen limit trace)
-      (c.sessions_answer_rightly.ensures.stopped store reader.setting reader.moment (seen_by reader.begin) reader.session
+      (c.sessions_answer_rightly.ensures.stopped store reader.setting reader.moment (seen_by reader.begin)
+      reader.session
       limit trace asked from own.sound (as_new store world reader own new)
       (stage_is store world reader own new (Ended (Err (StepLimit limit trace))) e));
   no_replica = λ store world reader range named own new asked from e.

@@ -6,6 +6,7 @@ use Rattle.weave_core.proofs.ranges.drop_missed.Goals as goal
 
 pub returns : goal.returns
 returns c = record {
-  dropped = filter_same _ (λ (replica : SlotLeaf). not (is_missed c.args.missed.now replica)) _ (λ x b f' k. search rules) _ _
+  dropped = filter_same _ (λ (replica : SlotLeaf). not (is_missed c.args.missed.now replica))
+      _ (λ x b f' k. search rules) _ _
       c.retain.ensures.filtered;
 }

@@ -10,9 +10,11 @@ returns c =
       answered = λ config first state lines k answer new leads is ended.
           let h = reached config first state lines new leads in
           let own = h.asked k is in
-          law.answered (store_of config) state.core.world (state.core.readers k) answer (h.woven.readers k) own.first own.asked own.moment ended;
+          law.answered (store_of config) state.core.world (state.core.readers k) answer (h.woven.readers k) own.first
+          own.asked own.moment ended;
       stopped = λ config first state lines k limit trace new leads is ended.
           let h = reached config first state lines new leads in
           let own = h.asked k is in
-          law.stopped (store_of config) state.core.world (state.core.readers k) limit trace (h.woven.readers k) own.first own.asked own.moment ended;
+          law.stopped (store_of config) state.core.world (state.core.readers k) limit trace (h.woven.readers k)
+          own.first own.asked own.moment ended;
     }

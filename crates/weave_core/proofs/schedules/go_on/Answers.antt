@@ -19,15 +19,18 @@ pub returns-in_err-stepped-clause-goes : goal.returns-in_err-stepped-clause-goes
 returns-in_err-stepped-clause-goes c = λ config start agrees.
     let so_far = c.loop-event.invariant.going config start agrees in
     let why = c.in_err-stepped.field-0.0 in
-    passed_on (λ (answer : Result Stepped (Refusal WeaveFault)). GoesSo config start c.args.actor c.args.goal answer c.step.new.self)
+    passed_on (λ (answer : Result Stepped (Refusal WeaveFault)). GoesSo config start c.args.actor c.args.goal answer
+    c.step.new.self)
     c.from_residual.result why (err_from_is_err_and c.from_residual.result c.from_residual.ensures.1)
-    (goes_refused config start c.args.actor c.args.goal c.loop-event._event why c.loop-event.weave c.step.new.self so_far
+    (goes_refused config start c.args.actor c.args.goal c.loop-event._event why c.loop-event.weave c.step.new.self
+    so_far
     (c.in_err-stepped.ensures.stepped config so_far.state so_far.agrees))
 
 pub returns-then-not-has_gone-clause-goes : goal.returns-then-not-has_gone-clause-goes
 returns-then-not-has_gone-clause-goes c = λ config start agrees.
     let so_far = c.loop-event.invariant.going config start agrees in
-    gone_by config start c.args.actor c.args.goal c.loop-event._event c.in_ok-stepped.stepped c.loop-event.weave c.step.new.self so_far
+    gone_by config start c.args.actor c.args.goal c.loop-event._event c.in_ok-stepped.stepped c.loop-event.weave
+    c.step.new.self so_far
     (c.is_next.ensures.other config so_far.state so_far.agrees c.if-is_next.false)
     (c.has_gone.ensures.other (search rules))
     (c.in_ok-stepped.ensures.stepped config so_far.state so_far.agrees)

@@ -14,13 +14,16 @@ declare-requires-clause-actor c =
 
 pub declare-requires-clause-lawful : goal.declare-requires-clause-lawful
 declare-requires-clause-lawful c = λ config state agrees.
-    (subst (λ (form : LineForm). IsLawfulForm config.schemas form) c.in-Declare.is (c.requires.lawful config state agrees)).1
+    (subst (λ (form : LineForm). IsLawfulForm config.schemas form) c.in-Declare.is (c.requires.lawful config state
+    agrees)).1
 
 pub returns-in-Declare-clause-ran : goal.returns-in-Declare-clause-ran
 returns-in-Declare-clause-ran c = λ config state agrees.
     let out = string_bytes c.args.out.now in
-    subst (λ (what : LineForm). FormSo config state what c.declare.result c.declare.new.weave out out) (sym c.in-Declare.is)
-    (silent config state Unit (form.Declare c.in-Declare.actor c.in-Declare.call) c.declare.result c.declare.new.weave out
+    subst (λ (what : LineForm). FormSo config state what c.declare.result c.declare.new.weave out out)
+    (sym c.in-Declare.is)
+    (silent config state Unit (form.Declare c.in-Declare.actor c.in-Declare.call) c.declare.result c.declare.new.weave
+    out
     (c.declare.ensures.ran config state agrees))
 
 pub returns-in-Meet-clause-ran : goal.returns-in-Meet-clause-ran

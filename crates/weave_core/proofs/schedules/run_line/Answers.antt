@@ -14,13 +14,15 @@ use Rattle.weave_core.proofs.schedules.run_line.Goals as goal
 pub returns-in_err-form-clause-ran : goal.returns-in_err-form-clause-ran
 returns-in_err-form-clause-ran c = λ config state agrees.
     let out = string_bytes c.args.out.now in
-    passed_on (λ (answer : Result Unit (Refusal WeaveFault)). LineSo config state c.args.line.now answer c.args.weave.now out out)
+    passed_on (λ (answer : Result Unit (Refusal WeaveFault)). LineSo config state c.args.line.now answer
+    c.args.weave.now out out)
     c.from_residual.result refusal.OutOfMemory (err_from_is_err_and c.from_residual.result c.from_residual.ensures.1)
     (line_starved config state Unit (form_of config.schemas c.args.line.now) c.args.weave.now out)
 
 pub run_form-requires-clause-lawful : goal.run_form-requires-clause-lawful
 run_form-requires-clause-lawful c = λ config state agrees.
-    let found = subst (λ (form : Option LineForm). IfSome form (IsLawfulForm c.config.result.now.schemas)) c.in-Some.is c.in_ok-form.ensures.lawful in
+    let found = subst (λ (form : Option LineForm). IfSome form (IsLawfulForm c.config.result.now.schemas)) c.in-Some.is
+    c.in_ok-form.ensures.lawful in
     subst (λ (of : Config). IsLawfulForm of.schemas c.in-Some.form) (c.config.ensures.config config state agrees) found
 
 pub returns-in-Some-clause-ran : goal.returns-in-Some-clause-ran
@@ -28,7 +30,8 @@ returns-in-Some-clause-ran c = λ config state agrees.
     let says : form_of config.schemas c.args.line.now ≡ Some c.in-Some.form =
     ap (λ (of : Config). form_of of.schemas c.args.line.now) (sym (c.config.ensures.config config state agrees))
     ∙ sym c.in_ok-form.ensures.form ∙ c.in-Some.is in
-    subst (λ (form : Option LineForm). LineBy config state form c.run_form.result c.run_form.new.weave (string_bytes c.args.out.now)
+    subst (λ (form : Option LineForm). LineBy config state form c.run_form.result c.run_form.new.weave
+    (string_bytes c.args.out.now)
     (string_bytes c.run_form.new.out)) (sym says) (c.run_form.ensures.ran config state agrees)
 
 pub returns-in-None-clause-ran : goal.returns-in-None-clause-ran

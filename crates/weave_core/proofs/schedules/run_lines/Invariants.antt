@@ -14,7 +14,8 @@ invariant-loop-line l = record {
   kept : IsKept l.weave;
   few : l.number ≤ MOST_LINES;
   running : (config : Config) (start : State (store_of config)) → Agrees config l.fn.weave start
-      → Running config start (lines_of l.text) l.number (lines_of l.rest) l.weave (string_bytes l.fn.out) (string_bytes l.out);
+      → Running config start (lines_of l.text) l.number (lines_of l.rest) l.weave (string_bytes l.fn.out)
+      (string_bytes l.out);
 }
 
 abbrev pub decreases-loop-line : goal.decreases-loop-line

@@ -6,6 +6,7 @@ pub returns : goal.returns
 returns c =
     let begins = c.in_ok-weave.ensures.begins in
     record {
-      printed = printed_by Unit c.args.config begins.state c.args.text.now (string_bytes c.args.out.now) (string_bytes c.run_lines.new.out)
+      printed = printed_by Unit c.args.config begins.state c.args.text.now (string_bytes c.args.out.now)
+          (string_bytes c.run_lines.new.out)
           c.run_lines.result begins.first (c.run_lines.ensures.ran c.args.config begins.state begins.agrees);
     }

@@ -12,9 +12,11 @@ pub returns-in_err-stepped-clause-ran : goal.returns-in_err-stepped-clause-ran
 returns-in_err-stepped-clause-ran c = λ config state agrees.
     let out = string_bytes c.args.out.now in
     let why = c.in_err-stepped.field-0.0 in
-    passed_on (λ (answer : Result Unit (Refusal WeaveFault)). FormSo config state (form.Step c.args.actor) answer c.step.new.self out out)
+    passed_on (λ (answer : Result Unit (Refusal WeaveFault)). FormSo config state (form.Step c.args.actor) answer
+    c.step.new.self out out)
     c.from_residual.result why (err_from_is_err_and c.from_residual.result c.from_residual.ensures.1)
-    (step_refused config state Unit c.args.actor c.step.new.self out why (c.in_err-stepped.ensures.stepped config state agrees))
+    (step_refused config state Unit c.args.actor c.step.new.self out why (c.in_err-stepped.ensures.stepped config state
+    agrees))
 
 pub returns-clause-ran : goal.returns-clause-ran
 returns-clause-ran c = λ config state agrees.

@@ -8,7 +8,8 @@ use Rattle.weave_core.proofs.schedules.tell_unfinished.Goals as goal
 
 pub loop-number-preserved : goal.loop-number-preserved
 loop-number-preserved c = λ config state agrees.
-    unfinished_more (unfinished_line (store_of config) state) c.loop-number.number (string_bytes c.args.out.now) (string_bytes c.loop-number.out)
+    unfinished_more (unfinished_line (store_of config) state) c.loop-number.number (string_bytes c.args.out.now)
+    (string_bytes c.loop-number.out)
     (string_bytes c.tell_if_unfinished.new.out) (c.loop-number.invariant config state agrees)
     (c.in_ok-tell_if_unfinished.ensures.told config state agrees)
 
@@ -19,5 +20,6 @@ returns c =
     record {
       told = λ config state agrees.
           c.loop-number.invariant config state agrees
-          ∙ ap (λ (n : ℕ). string_bytes c.args.out.now ++ flat_map (unfinished_line (store_of config) state) (range_with_len 1 n)) all;
+          ∙ ap (λ (n : ℕ). string_bytes c.args.out.now ++ flat_map (unfinished_line (store_of config) state)
+          (range_with_len 1 n)) all;
     }

@@ -20,7 +20,8 @@ loop-state-init c =
 
 pub leaf_seat-requires : goal.leaf_seat-requires
 leaf_seat-requires c =
-    let next : into_iter_items c.loop-state.state-iterator ≡ c.in-Some.state ∷ into_iter_items c.next.new.self = c.in-Some.ensures.steps.0 in
+    let next : into_iter_items c.loop-state.state-iterator ≡ c.in-Some.state ∷ into_iter_items c.next.new.self =
+    c.in-Some.ensures.steps.0 in
     let long = ap (λ (l : List LeafView). length l) next in
     let all = c.loop-state.invariant.all in
     let many = c.requires.count in
@@ -38,7 +39,8 @@ loop-state-preserved c =
     record {
       seats = seats_more c.args.topology.now c.args.sight.now made _
           (leaf_seats c.args.topology.now c.args.sight.now 0 c.args.states.items) state rest
-          (ap (λ (l : List LeafView). made ++ leaf_seats c.args.topology.now c.args.sight.now (length made) l) (sym next)
+          (ap (λ (l : List LeafView). made ++ leaf_seats c.args.topology.now c.args.sight.now (length made) l)
+          (sym next)
           ∙ c.loop-state.invariant.seats)
           (c.in_ok-push.ensures.items ∙ ap (λ (seat : LeafSeat). made ++ seat ∷ []) is);
       left = search rules;
@@ -51,6 +53,7 @@ returns c =
     let none = c.in-None.ensures.steps.0 in
     record {
       seats = seats_whole c.args.topology.now c.args.sight.now c.loop-state.seats.items
-          (leaf_seats c.args.topology.now c.args.sight.now 0 c.args.states.items) (into_iter_items c.loop-state.state-iterator)
+          (leaf_seats c.args.topology.now c.args.sight.now 0 c.args.states.items)
+          (into_iter_items c.loop-state.state-iterator)
           (sym left ∙ none) c.loop-state.invariant.seats;
     }

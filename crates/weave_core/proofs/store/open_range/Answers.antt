@@ -1,7 +1,8 @@
 use Rattle.std.proofs.Common.{◌≡◌, ◌∙◌, ◌+◌, List, ap, get_or, length, refl, slice_get, arith, rules, Some}
 use Rattle.mon_topo.specs.Zones.{first_replicas}
 use Rattle.mon_value.specs.declared.positions.Leaf.{Leaf}
-use Rattle.weave_core.proofs.OpeningLemmas.{item_at, may_open, opened_begun, opened_more, opened_whole, range_more, range_whole, replica_there}
+use Rattle.weave_core.proofs.OpeningLemmas.{item_at, may_open, opened_begun, opened_more, opened_whole, range_more}
+use Rattle.weave_core.proofs.OpeningLemmas.{range_whole, replica_there}
 use Rattle.weave_core.proofs.store.open_range.Goals as goal
 
 pub loop-leaf-init : goal.loop-leaf-init
@@ -33,7 +34,8 @@ open_replica-requires-clause-may c =
     let at : slice_get (first_replicas zones c.args.range.0) place ≡ Some leaf
     = item_at (first_replicas zones c.args.range.0) items place (record { 0 = 0 })
     (c.as_slice-leaf-items.ensures.items ∙ c.first_replicas.ensures.replicas) (omega (arith, c.loop-leaf-test.true)) in
-    may_open c.args.config.now c.args.range place leaf c.loop-leaf.number c.loop-leaf.leaves.items c.loop-leaf.invariant.slot
+    may_open c.args.config.now c.args.range place leaf c.loop-leaf.number c.loop-leaf.leaves.items
+    c.loop-leaf.invariant.slot
     c.loop-leaf.invariant.opened at
 
 pub overflow_add-number : goal.overflow_add-number
@@ -41,7 +43,8 @@ overflow_add-number c =
     let few = c.requires.replicas.few in
     let slot = c.loop-leaf.invariant.slot in
     let before = c.loop-leaf-test.true in
-    let same = ap (λ (l : List Leaf). length l) (c.as_slice-leaf-items.ensures.items ∙ c.first_replicas.ensures.replicas) in
+    let same = ap (λ (l : List Leaf). length l) (c.as_slice-leaf-items.ensures.items
+    ∙ c.first_replicas.ensures.replicas) in
     search rules
 
 pub loop-leaf-preserved : goal.loop-leaf-preserved
@@ -64,11 +67,13 @@ loop-leaf-preserved c =
 
 pub returns : goal.returns
 returns c =
-    let same = ap (λ (l : List Leaf). length l) (c.as_slice-leaf-items.ensures.items ∙ c.first_replicas.ensures.replicas) in
+    let same = ap (λ (l : List Leaf). length l) (c.as_slice-leaf-items.ensures.items
+    ∙ c.first_replicas.ensures.replicas) in
     let past = c.loop-leaf-test.false in
     record {
       opened = opened_whole c.args.config.now c.args.range c.loop-leaf.leaf-index c.loop-leaf.leaves.items
           c.loop-leaf.invariant.opened (omega arith);
-      history = range_whole c.args.config.now.topology c.args.range.0 c.loop-leaf.leaf-index c.loop-leaf.state (omega arith)
+      history = range_whole c.args.config.now.topology c.args.range.0 c.loop-leaf.leaf-index c.loop-leaf.state
+          (omega arith)
           c.loop-leaf.invariant.history;
     }

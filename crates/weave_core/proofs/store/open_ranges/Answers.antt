@@ -14,7 +14,8 @@ open_range-requires-clause-before c = c.loop-range.invariant.opened
 pub loop-range-preserved : goal.loop-range-preserved
 loop-range-preserved c = record {
   opened = c.in_ok-state.ensures.opened;
-  histories = histories_more c.args.config.now.topology c.loop-range.range c.loop-range.ranges.items _ c.in_ok-state.state
+  histories = histories_more c.args.config.now.topology c.loop-range.range c.loop-range.ranges.items
+      _ c.in_ok-state.state
       c.loop-range.invariant.histories c.in_ok-state.ensures.history c.in_ok-push.ensures.items;
 }
 
@@ -25,7 +26,8 @@ returns c =
     let past = c.loop-range-test.false in
     let before = c.loop-range.auto.range-end in omega arith) in
     record {
-      opened = opened_all c.args.config.now c.loop-range.range c.loop-range.leaves.items all c.loop-range.invariant.opened;
+      opened = opened_all c.args.config.now c.loop-range.range c.loop-range.leaves.items all
+          c.loop-range.invariant.opened;
       histories = c.loop-range.invariant.histories
           ∙ ap (λ n. map (first_range_history c.args.config.now.topology) (range_with_len 0 n)) all;
     }

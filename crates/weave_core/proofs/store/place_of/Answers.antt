@@ -15,7 +15,8 @@ pub returns-then-place-count : goal.returns-then-place-count
 returns-then-place-count c =
     let zones = c.args.topology.now in
     let there : c.loop-zone.zone < length zones = search rules in
-    let within : c.args.leaf - first_leaf zones c.loop-zone.zone < length (zone_at zones c.loop-zone.zone).leaves = search rules in
+    let within : c.args.leaf - first_leaf zones c.loop-zone.zone < length (zone_at zones c.loop-zone.zone).leaves =
+    search rules in
     let here = zone_here zones c.loop-zone.zone c.args.leaf there c.loop-zone.invariant within in
     record { zone = here; place = search rules }
 

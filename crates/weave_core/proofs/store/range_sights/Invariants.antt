@@ -1,6 +1,6 @@
 -- the ranges so far, in front of those that are left
 use Rattle.std.proofs.Common.{◌≡◌, ◌++◌, drop, map}
-use Rattle.weave_core.specs.Sights.{range_sight}
+use Rattle.mon_topo.specs.Sights.{range_sight}
 use Rattle.weave_core.proofs.store.range_sights.Given as goal
 
 abbrev pub invariant-loop-state : goal.invariant-loop-state

@@ -14,7 +14,8 @@ returns-then-range-first c =
     let from : c.ranges_of-count.result.0.0 ≤ r = search rules in
     let to : r - c.ranges_of-count.result.0.0 < c.ranges_of-count.result.1 = search rules in
     let name = name_in_zone zones i r there (omega (arith, first, from)) (omega (arith, first, count, from, to)) in
-    let made : IfOk c.format.result (λ text. string_bytes text ≡ range_name (zone_at zones i).name (r - first_range zones i)) = search rules in
+    let made : IfOk c.format.result (λ text. string_bytes text ≡ range_name (zone_at zones i).name
+    (r - first_range zones i)) = search rules in
     record { text = subst (λ (t : List ℕ). IfOk c.format.result (λ text. string_bytes text ≡ t)) (sym name) made }
 
 pub returns : goal.returns

@@ -7,7 +7,8 @@ use Rattle.weave_core.proofs.write_events.unraised.Goals as goal
 -- src/write_events.rt:172:16
 pub overflow_add-from : goal.overflow_add-from
 overflow_add-from c =
-    let small = next_small c.args.state.now c.args.key.now c.loop-bucket.from c.in-Some.bucket c.requires.some c.requires.most
+    let small = next_small c.args.state.now c.args.key.now c.loop-bucket.from c.in-Some.bucket c.requires.some
+    c.requires.most
     c.in-Some.ensures.least in
     let fits = next_fits c.in-Some.bucket small in
     search rules
@@ -25,5 +26,6 @@ loop-bucket-preserved c =
     subst (λ (listed : List ℕ). ListsBelow
     (is_unraised c.args.state.now.buckets c.args.state.now.schemas c.args.state.now.history c.args.key.now) listed
     (c.in-Some.bucket + 1)) (sym c.in_ok-push.ensures.added)
-    (pushed_below (is_unraised c.args.state.now.buckets c.args.state.now.schemas c.args.state.now.history c.args.key.now)
+    (pushed_below (is_unraised c.args.state.now.buckets c.args.state.now.schemas c.args.state.now.history
+    c.args.key.now)
     c.loop-bucket.buckets c.loop-bucket.from c.in-Some.bucket c.loop-bucket.invariant c.in-Some.ensures.least)

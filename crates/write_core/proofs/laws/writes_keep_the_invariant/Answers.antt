@@ -1,4 +1,5 @@
-use Rattle.write_core.proofs.KeptLemmas.{ended_acknowledged, has_done, new_kept, over_recovered, part_stays, parts_join, run_kept}
+use Rattle.write_core.proofs.KeptLemmas.{ended_acknowledged, has_done, new_kept, over_recovered, part_stays}
+use Rattle.write_core.proofs.KeptLemmas.{parts_join, run_kept}
 use Rattle.write_core.proofs.laws.writes_keep_the_invariant.Goals as goal
 
 pub returns : goal.returns

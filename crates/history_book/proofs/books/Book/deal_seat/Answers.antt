@@ -19,7 +19,8 @@ returns-then-number-self g c =
     let book = g.N.BookName.book in
     let low = subst (λ n. c.args.number < n) c.args.self.now.told.0 c.if-number-self.true in
     let e = c.split_seat.ensures in
-    let r = leaf_deal book.leaves book.ranges c.args.number c.args.first.now.me c.split_seat.new.seat.me c.split_seat.result.me
+    let r = leaf_deal book.leaves book.ranges c.args.number c.args.first.now.me c.split_seat.new.seat.me
+    c.split_seat.result.me
     low c.requires.next.1 e.2 e.4 in
     record { next = (e.0 ∙ c.requires.next.0, r.0); owner = (e.3 ∙ c.requires.next.0, r.1) }
 
@@ -29,6 +30,7 @@ returns-else-number-self g c =
     let high : book.leaves ≤ c.args.number = let told = c.args.self.now.told.0 in let test = c.if-number-self.false in
     omega arith in
     let e = c.split_seat-else-number-self.ensures in
-    let r = range_deal book.leaves book.ranges c.args.number c.args.first.now.me c.split_seat-else-number-self.new.seat.me
+    let r = range_deal book.leaves book.ranges c.args.number c.args.first.now.me
+    c.split_seat-else-number-self.new.seat.me
     c.split_seat-else-number-self.result.me high c.requires.exists c.requires.next.1 e.2 e.4 in
     record { next = (e.0 ∙ c.requires.next.0, r.0); owner = (e.3 ∙ c.requires.next.0, r.1) }

@@ -19,6 +19,7 @@ pub returns-clause-noted : goal.returns-clause-noted
 returns-clause-noted g c =
     let leaves = g.N.BookName.book.leaves in
     let n = c.owner.inside.number in
-    let number = history_of_word n ∙ sym (numbered_back leaves n) ∙ ap (λ o. number_of leaves o.history) c.owner.view_is in
+    let number = history_of_word n ∙ sym (numbered_back leaves n) ∙ ap (λ o. number_of leaves o.history)
+    c.owner.view_is in
     ap (λ m. owner_of (history_numbered leaves n) m.0) c.load.ensures.2.2
     ∙ (λ i. after_own_learn (number i) c.load.result (c.owner.view_is i))

@@ -13,4 +13,5 @@ invariant_of-self g c = (
 
 pub returns-clause-kept : goal.returns-clause-kept
 returns-clause-kept g c =
-    subst (λ (hints : Hints). KnowsAsMuch hints c.load.new.seat) (ap (λ know. know.hints) c.self.view_is) c.load.ensures.kept
+    subst (λ (hints : Hints). KnowsAsMuch hints c.load.new.seat) (ap (λ know. know.hints) c.self.view_is)
+    c.load.ensures.kept

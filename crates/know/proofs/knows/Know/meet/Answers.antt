@@ -3,8 +3,9 @@ use Rattle.history_book.specs.declared.views.Histories.{Histories}
 use Rattle.history_book.specs.Histories.{AreFronts}
 use Rattle.raise_table.specs.declared.views.Hints.{Hints}
 use Rattle.raise_table.specs.Seats.{KnowsAsMuch}
-use Rattle.know.specs.Reaches.{joined_reach, reach_of}
-use Rattle.know.proofs.ReachLemmas.{joined_seen}
+use Rattle.mon_topo.specs.Sights.{joined_sight}
+use Rattle.mon_topo.proofs.SightLemmas.{joined_seen}
+use Rattle.know.specs.Sound.{histories, seat_sight}
 use Rattle.know.proofs.SoundLemmas.{sound_together}
 use Rattle.know.proofs.knows.Know.meet.Goals as goal
 
@@ -35,8 +36,8 @@ invariant_of-self g c =
     let mine = c.self.inside.book.seen in
     let theirs = c.other.inside.book.seen in
     let saw = ap (λ seat. seat.seen) c.meet-2.ensures.met in (
-      c.join.ensures.joined ∙ (λ i. joined_reach (c.self.invariant.0 i) (c.other.invariant.0 i)) ∙ joined_seen mine theirs
-          ∙ ap reach_of (sym saw),
+      c.join.ensures.joined ∙ (λ i. joined_sight (c.self.invariant.0 i) (c.other.invariant.0 i))
+          ∙ joined_seen (histories mine) (histories theirs) ∙ ap seat_sight (sym saw),
       sound_together g.N.Names.setting c.self.inside.hints c.other.inside.hints c.meet.new.seat mine theirs
           c.meet-2.new.seat.seen c.meet.ensures.met saw c.meet-2.ensures.fronts.0 c.meet-2.ensures.fronts.1
           c.self.invariant.1 c.other.invariant.1,

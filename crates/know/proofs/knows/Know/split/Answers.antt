@@ -1,17 +1,21 @@
 use Rattle.std.proofs.Common.{◌≡◌, sym, ap, ◌∙◌}
-use Rattle.know.specs.Reaches.{reach_of}
+use Rattle.know.specs.Sound.{seat_sight}
 use Rattle.know.proofs.SoundLemmas.{sound_alike}
 use Rattle.know.proofs.knows.Know.split.Goals as goal
 
 pub returns-clause-sound : goal.returns-clause-sound
 returns-clause-sound g c =
-    sound_alike g.N.Names.setting c.self.inside.hints c.split-hints.result c.self.inside.book.seen c.split-book.result.seen
-    (ap (λ hints. hints.known) c.split-hints.ensures.split) (ap (λ seat. seat.seen) c.split-book.ensures.split) c.self.invariant.1
+    sound_alike g.N.Names.setting c.self.inside.hints c.split-hints.result c.self.inside.book.seen
+    c.split-book.result.seen
+    (ap (λ hints. hints.known) c.split-hints.ensures.split) (ap (λ seat. seat.seen) c.split-book.ensures.split)
+    c.self.invariant.1
 
 pub invariant_of-result : goal.invariant_of-result
 invariant_of-result g c =
-    let seen : c.split-book.result.seen ≡ c.self.inside.book.seen = ap (λ seat. seat.seen) c.split-book.ensures.split in (
-      c.in_ok-reach.ensures.equal ∙ c.self.invariant.0 ∙ ap reach_of (sym seen),
-      sound_alike g.N.Names.setting c.self.inside.hints c.split-hints.result c.self.inside.book.seen c.split-book.result.seen
+    let seen : c.split-book.result.seen ≡ c.self.inside.book.seen = ap (λ seat. seat.seen)
+    c.split-book.ensures.split in (
+      c.in_ok-sight.ensures.equal ∙ c.self.invariant.0 ∙ ap seat_sight (sym seen),
+      sound_alike g.N.Names.setting c.self.inside.hints c.split-hints.result c.self.inside.book.seen
+          c.split-book.result.seen
           (ap (λ hints. hints.known) c.split-hints.ensures.split) seen c.self.invariant.1,
     )

@@ -1,17 +1,18 @@
 use Rattle.std.proofs.Common.{◌≡◌, sym, ap, ◌∙◌}
-use Rattle.know.specs.Reaches.{reach_of}
+use Rattle.know.specs.Sound.{seat_sight}
 use Rattle.know.proofs.SoundLemmas.{sound_alike}
 use Rattle.know.proofs.knows.Know.split_numbered.Goals as goal
 
 pub returns-clause-sound : goal.returns-clause-sound
 returns-clause-sound g c =
     sound_alike g.N.Names.setting c.self.inside.hints c.split.result c.self.inside.book.seen c.in-Some.book.seen
-    (ap (λ hints. hints.known) c.split.ensures.split) (ap (λ seat. seat.seen) c.in-Some.ensures.handed.1) c.self.invariant.1
+    (ap (λ hints. hints.known) c.split.ensures.split) (ap (λ seat. seat.seen) c.in-Some.ensures.handed.1)
+    c.self.invariant.1
 
 pub invariant_of-result : goal.invariant_of-result
 invariant_of-result g c =
     let seen : c.in-Some.book.seen ≡ c.self.inside.book.seen = ap (λ seat. seat.seen) c.in-Some.ensures.handed.1 in (
-      c.in_ok-reach.ensures.equal ∙ c.self.invariant.0 ∙ ap reach_of (sym seen),
+      c.in_ok-sight.ensures.equal ∙ c.self.invariant.0 ∙ ap seat_sight (sym seen),
       sound_alike g.N.Names.setting c.self.inside.hints c.split.result c.self.inside.book.seen c.in-Some.book.seen
           (ap (λ hints. hints.known) c.split.ensures.split) seen c.self.invariant.1,
     )

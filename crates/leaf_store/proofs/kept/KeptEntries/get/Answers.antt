@@ -19,6 +19,7 @@ get-requires-2 c =
 pub returns : goal.returns
 returns c = record {
   entry = ap (λ (seen : RoomList Kept). slice_get seen.items c.args.at) (sym c.self.view_is)
-      ∙ entry_at c.self.inside.kinds.items c.self.inside.numbers.items c.args.at _ _ c.get.ensures.item c.get-2.ensures.item
+      ∙ entry_at c.self.inside.kinds.items c.self.inside.numbers.items c.args.at _ _ c.get.ensures.item
+      c.get-2.ensures.item
       ∙ ap Some (sym c.put_together.ensures.entry);
 }

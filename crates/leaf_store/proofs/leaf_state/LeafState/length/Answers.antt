@@ -11,7 +11,8 @@ returns c =
     let fresh : c.len-2.result ≡ length leaf.fresh.items = search rules in
     record {
       length = (λ i. kept i + (fresh i - leaf.moved))
-          ∙ history_count leaf.replicas.entries leaf.kept.items leaf.fresh.items leaf.moved c.self.invariant.holds.there c.self.invariant.within
+          ∙ history_count leaf.replicas.entries leaf.kept.items leaf.fresh.items leaf.moved
+          c.self.invariant.holds.there c.self.invariant.within
           ∙ ap (λ (v : LeafView). length v.history) c.self.view_is;
       formed = subst (λ (v : LeafView). IsWellFormed v.history) c.self.view_is c.self.invariant.holds.formed;
     }

@@ -12,9 +12,14 @@ returns-clause-may c =
     let settled : leaf.settled ≡ true = ap (λ (v : LeafView). v.settled) c.self.view_is ∙ c.requires.settled in
     let holds : HoldsHistory leaf.replicas.entries c.args.self.now.history =
     subst (λ (v : LeafView). HoldsHistory leaf.replicas.entries v.history) c.self.view_is
-    (settled_holds leaf.replicas.entries (shown leaf.replicas.entries leaf.kept.items) (left_of leaf) c.self.invariant.holds.holds (c.self.invariant.waits settled)) in
+    (settled_holds leaf.replicas.entries (shown leaf.replicas.entries leaf.kept.items) (left_of leaf)
+    c.self.invariant.holds.holds (c.self.invariant.waits settled)) in
     let up : is_down c.args.self.now.history ≡ false = search rules in
-    λ yes. (up, never_opened leaf.replicas.entries c.args.self.now.history c.args.replica holds (c.is_new.ensures.new yes))
+    λ yes. (
+      up,
+      never_opened leaf.replicas.entries c.args.self.now.history c.args.replica holds
+          (c.is_new.ensures.new yes),
+    )
 
 pub returns-clause-refused : goal.returns-clause-refused
 returns-clause-refused c =
@@ -22,5 +27,7 @@ returns-clause-refused c =
     let settled : leaf.settled ≡ true = ap (λ (v : LeafView). v.settled) c.self.view_is ∙ c.requires.settled in
     let holds : HoldsHistory leaf.replicas.entries c.args.self.now.history =
     subst (λ (v : LeafView). HoldsHistory leaf.replicas.entries v.history) c.self.view_is
-    (settled_holds leaf.replicas.entries (shown leaf.replicas.entries leaf.kept.items) (left_of leaf) c.self.invariant.holds.holds (c.self.invariant.waits settled)) in
-    λ no up never. c.is_new.ensures.held no (is_new_there leaf.replicas.entries c.args.self.now.history c.args.replica holds never)
+    (settled_holds leaf.replicas.entries (shown leaf.replicas.entries leaf.kept.items) (left_of leaf)
+    c.self.invariant.holds.holds (c.self.invariant.waits settled)) in
+    λ no up never. c.is_new.ensures.held no (is_new_there leaf.replicas.entries c.args.self.now.history c.args.replica
+    holds never)

@@ -12,10 +12,13 @@ returns-clause-may c =
     let settled : leaf.settled ≡ true = ap (λ (v : LeafView). v.settled) c.self.view_is ∙ c.requires.settled in
     let holds : HoldsHistory leaf.replicas.entries c.args.self.now.history =
     subst (λ (v : LeafView). HoldsHistory leaf.replicas.entries v.history) c.self.view_is
-    (settled_holds leaf.replicas.entries (shown leaf.replicas.entries leaf.kept.items) (left_of leaf) c.self.invariant.holds.holds (c.self.invariant.waits settled)) in
-    let formed : IsWellFormed c.args.self.now.history = subst (λ (v : LeafView). IsWellFormed v.history) c.self.view_is c.self.invariant.holds.formed in
+    (settled_holds leaf.replicas.entries (shown leaf.replicas.entries leaf.kept.items) (left_of leaf)
+    c.self.invariant.holds.holds (c.self.invariant.waits settled)) in
+    let formed : IsWellFormed c.args.self.now.history = subst (λ (v : LeafView). IsWellFormed v.history) c.self.view_is
+    c.self.invariant.holds.formed in
     let up : is_down c.args.self.now.history ≡ false = search rules in
-    λ yes. can_take leaf.replicas.entries c.args.self.now.history c.args.replica c.args.row.now formed holds up (c.takes.ensures.takes yes)
+    λ yes. can_take leaf.replicas.entries c.args.self.now.history c.args.replica c.args.row.now formed holds up
+    (c.takes.ensures.takes yes)
 
 pub returns-clause-refused : goal.returns-clause-refused
 returns-clause-refused c =
@@ -23,5 +26,7 @@ returns-clause-refused c =
     let settled : leaf.settled ≡ true = ap (λ (v : LeafView). v.settled) c.self.view_is ∙ c.requires.settled in
     let holds : HoldsHistory leaf.replicas.entries c.args.self.now.history =
     subst (λ (v : LeafView). HoldsHistory leaf.replicas.entries v.history) c.self.view_is
-    (settled_holds leaf.replicas.entries (shown leaf.replicas.entries leaf.kept.items) (left_of leaf) c.self.invariant.holds.holds (c.self.invariant.waits settled)) in
-    λ no can. c.takes.ensures.refused no (takes_row leaf.replicas.entries c.args.self.now.history c.args.replica c.args.row.now holds can)
+    (settled_holds leaf.replicas.entries (shown leaf.replicas.entries leaf.kept.items) (left_of leaf)
+    c.self.invariant.holds.holds (c.self.invariant.waits settled)) in
+    λ no can. c.takes.ensures.refused no (takes_row leaf.replicas.entries c.args.self.now.history c.args.replica
+    c.args.row.now holds can)

@@ -22,7 +22,8 @@ invariant_of-result c =
       within = omega arith;
       holds = nothing_holds replicas ks fresh none kept left;
       raised = λ bucket. ap (λ (f : ℕ → Bool). f bucket) c.new-3.ensures.none
-          ∙ sym (ap (λ (es : List Entry). is_among bucket (history_buckets (key_buckets c.args.buckets c.in_ok-copy.field-0) es)) history);
+          ∙ sym (ap (λ (es : List Entry). is_among bucket
+          (history_buckets (key_buckets c.args.buckets c.in_ok-copy.field-0) es)) history);
       down = sym (ap is_down history);
       switches = ap (λ (es : List Entry). count_by is_switch es + 65536) history;
       waits = λ settled. subst (λ (es : List Entry). AllSwitches (drop 0 es)) (sym left) tt;

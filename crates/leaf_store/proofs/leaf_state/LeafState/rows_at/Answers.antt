@@ -15,8 +15,10 @@ in_front-requires c =
     let ks = leaf.kept.items in
     let more : length ks ≤ cut = search rules in
     let len : c.len-2.result ≡ length ks = search rules in
-    let left : c.behind-left.result.now ≡ left_of leaf = c.behind-left.ensures.behind ∙ ap (drop leaf.moved) c.as_slice.ensures.value in
-    let within : cut ≤ length (history_of leaf) = subst (λ (v : LeafView). cut ≤ length v.history) (sym c.self.view_is) c.requires.within in
+    let left : c.behind-left.result.now ≡ left_of leaf = c.behind-left.ensures.behind ∙ ap (drop leaf.moved)
+    c.as_slice.ensures.value in
+    let within : cut ≤ length (history_of leaf) = subst (λ (v : LeafView). cut ≤ length v.history) (sym c.self.view_is)
+    c.requires.within in
     let fits = cut_left leaf.replicas.entries ks (left_of leaf) cut c.self.invariant.holds.there within more in
     record {
       within = subst (λ (m : ℕ). cut - m ≤ length c.behind-left.result.now) (sym len)
@@ -49,9 +51,12 @@ returns c =
     let replicas = leaf.replicas.entries in
     let more : length ks ≤ cut = search rules in
     let len : c.len-2.result ≡ length ks = search rules in
-    let left : c.behind-left.result.now ≡ left_of leaf = c.behind-left.ensures.behind ∙ ap (drop leaf.moved) c.as_slice.ensures.value in
-    let held = c.in_ok-push_held.ensures.added ∙ (λ i. c.new-rows.ensures.empty i ++ all_rows (rows_held replicas range slot)) in
-    let brought : c.in_front.result.now ≡ take (cut - length ks) (left_of leaf) = c.in_front.ensures.front ∙ (λ i. take (cut - len i) (left i)) in
+    let left : c.behind-left.result.now ≡ left_of leaf = c.behind-left.ensures.behind ∙ ap (drop leaf.moved)
+    c.as_slice.ensures.value in
+    let held = c.in_ok-push_held.ensures.added ∙ (λ i. c.new-rows.ensures.empty i
+    ++ all_rows (rows_held replicas range slot)) in
+    let brought : c.in_front.result.now ≡ take (cut - length ks) (left_of leaf) = c.in_front.ensures.front
+    ∙ (λ i. take (cut - len i) (left i)) in
     record {
       rows = c.in_ok-push_all_brought.ensures.added
           ∙ (λ i. held i ++ replica_rows range slot (brought i))

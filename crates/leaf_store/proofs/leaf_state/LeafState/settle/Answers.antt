@@ -24,10 +24,13 @@ invariant_of-self c =
     record {
       within = subst (λ (es : List Entry). moved ≤ length es) items c.settle_entries.ensures.within;
       holds = subst (λ (es : List Entry). Holds replicas ks (drop moved es)) items c.settle_entries.ensures.holds;
-      raised = λ bucket. c.self.invariant.raised bucket ∙ ap (λ (es : List Entry). is_among bucket (history_buckets (key_buckets leaf.buckets leaf.schemas) es)) (sym same);
+      raised = λ bucket. c.self.invariant.raised bucket
+          ∙ ap (λ (es : List Entry). is_among bucket (history_buckets (key_buckets leaf.buckets leaf.schemas) es))
+          (sym same);
       down = c.self.invariant.down ∙ ap is_down (sym same);
       switches = ap (λ (es : List Entry). count_by is_switch es + leaf.switches_left) same ∙ c.self.invariant.switches;
-      waits = λ settled. later_switches fresh leaf.moved moved c.settle_entries.ensures.onward (c.self.invariant.waits settled);
+      waits = λ settled. later_switches fresh leaf.moved moved c.settle_entries.ensures.onward
+          (c.self.invariant.waits settled);
       room = c.self.invariant.room;
       some = c.self.invariant.some;
       most = c.self.invariant.most;

@@ -13,6 +13,7 @@ returns c =
     let settled : leaf.settled ≡ true = ap (λ (v : LeafView). v.settled) c.self.view_is ∙ c.requires.settled in
     record {
       rows = c.rows_of.ensures.found ∙ c.self.invariant.holds.holds range slot
-          ∙ sym (switches_rows range slot (shown leaf.replicas.entries leaf.kept.items) (left_of leaf) (c.self.invariant.waits settled))
+          ∙ sym (switches_rows range slot (shown leaf.replicas.entries leaf.kept.items) (left_of leaf)
+          (c.self.invariant.waits settled))
           ∙ ap (λ (v : LeafView). opened_rows range slot v.history) c.self.view_is;
     }

@@ -7,4 +7,5 @@ use Rattle.leaf_store.specs.within.Raises.{Adds}
 use Rattle.leaf_store.proofs.raised.Raised.add_rows.Given as goal
 
 abbrev pub invariant-loop-row : goal.invariant-loop-row
-invariant-loop-row l = Adds (is_set l.fn.self.words) (is_set l.self.words) (rows_buckets (key_buckets l.buckets l.schemas) (take l.row-index l.rows))
+invariant-loop-row l = Adds (is_set l.fn.self.words) (is_set l.self.words)
+    (rows_buckets (key_buckets l.buckets l.schemas) (take l.row-index l.rows))

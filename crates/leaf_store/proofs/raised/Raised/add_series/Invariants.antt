@@ -7,7 +7,8 @@ use Rattle.leaf_store.proofs.BucketLemmas.{AddsBelow}
 use Rattle.leaf_store.proofs.raised.Raised.add_series.Given as goal
 
 abbrev pub invariant-loop-bucket : goal.invariant-loop-bucket
-invariant-loop-bucket l = AddsBelow (is_set l.fn.self.words) (is_set l.self.words) (series_buckets l.buckets l.target l.metric l.key) l.from
+invariant-loop-bucket l = AddsBelow (is_set l.fn.self.words) (is_set l.self.words) (series_buckets l.buckets l.target
+    l.metric l.key) l.from
 
 abbrev pub decreases-loop-bucket : goal.decreases-loop-bucket
 decreases-loop-bucket l = MOST_BUCKETS - l.from

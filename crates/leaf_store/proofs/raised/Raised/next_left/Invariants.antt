@@ -9,7 +9,8 @@ use Rattle.leaf_store.proofs.raised.Raised.next_left.Given as goal
 abbrev pub invariant-loop-bucket : goal.invariant-loop-bucket
 invariant-loop-bucket l = record {
   reached : l.from ≤ l.place;
-  none : (bucket : ℕ) → l.from ≤ bucket → bucket < l.place → is_left (is_set l.self.words) (series_buckets l.buckets l.target l.metric l.key) bucket ≡ false;
+  none : (bucket : ℕ) → l.from ≤ bucket → bucket < l.place → is_left (is_set l.self.words)
+      (series_buckets l.buckets l.target l.metric l.key) bucket ≡ false;
 }
 
 abbrev pub decreases-loop-bucket : goal.decreases-loop-bucket

@@ -7,5 +7,6 @@ pub returns : goal.returns
 returns c =
     let key = c.args.self.now in
     let time : to_z w64 (of_z w64 key.time) ≡ key.time = search rules in
-    let cells : cells_seen c.in_ok-from_slice.field-0.items ≡ cells_seen key.cells.items = ap cells_seen (c.in_ok-from_slice.ensures.items ∙ c.as_slice.ensures.value) in
+    let cells : cells_seen c.in_ok-from_slice.field-0.items ≡ cells_seen key.cells.items = ap cells_seen
+    (c.in_ok-from_slice.ensures.items ∙ c.as_slice.ensures.value) in
     λ i. record { time = time i; cells = cells i }

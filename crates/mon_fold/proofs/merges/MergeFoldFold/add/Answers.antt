@@ -10,7 +10,13 @@ merge-requires-clause-buckets c =
     let item = c.args.item.now in
     let zero = c.args.self.now.zero in
     let seen = ap (λ (part : CountsSoFar). length part.counts) c.part.view_is in
-    omega (arith, seen, c.requires.0, length-counts_added zero (counts_added item []), ap length (counts_added-nil item))
+    omega (
+      arith,
+      seen,
+      c.requires.0,
+      length-counts_added zero (counts_added item []),
+      ap length (counts_added-nil item),
+    )
 
 pub merge-requires-clause-sums : goal.merge-requires-clause-sums
 merge-requires-clause-sums c =

@@ -5,4 +5,7 @@ use Rattle.mon_hints.proofs.bucket_sets.BucketSet.insert.Goals as goal
 pub returns : goal.returns
 returns c =
     let long : length c.args.self.now.words ≡ 64 = search rules in
-    record { added = inserted c.args.self.now.words c.args.bucket (word_within c.args.bucket c.args.self.now.words long (search rules)) }
+    record {
+      added = inserted c.args.self.now.words c.args.bucket (word_within c.args.bucket c.args.self.now.words long
+          (search rules));
+    }

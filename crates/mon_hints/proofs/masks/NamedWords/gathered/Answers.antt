@@ -12,7 +12,8 @@ loop-name-preserved-then-name-bucket c =
     let left = l.name-iterator in
     let rest = c.next.new.self in
     let more = Zip-more left rest c.next.result (c.in-Some.name, c.in-Some.word) c.in-Some.is c.next.ensures.steps in
-    more_gathered c.args.bucket l.mask c.in-Some.name.now c.in-Some.word.now (iter_rest (zip_first left)) (iter_rest (zip_second left))
+    more_gathered c.args.bucket l.mask c.in-Some.name.now c.in-Some.word.now (iter_rest (zip_first left))
+    (iter_rest (zip_second left))
     (iter_rest (zip_first rest)) (iter_rest (zip_second rest))
     (λ child. is_among c.args.bucket (buckets_of_child c.args.self.now.named.now c.args.self.now.words.now child))
     more.0 more.1 c.if-name-bucket.true l.invariant

@@ -9,5 +9,6 @@ use Rattle.mon_hints.proofs.masks.NamedWords.gathered.Given as goal
 abbrev pub invariant-loop-name : goal.invariant-loop-name
 invariant-loop-name l =
     AnyLeft l.mask
-    (λ child. is_among l.bucket (buckets_of_child (iter_rest (zip_first l.name-iterator)) (iter_rest (zip_second l.name-iterator)) child))
+    (λ child. is_among l.bucket (buckets_of_child (iter_rest (zip_first l.name-iterator))
+    (iter_rest (zip_second l.name-iterator)) child))
     (λ child. is_among l.bucket (buckets_of_child l.self.named.now l.self.words.now child))

@@ -7,7 +7,8 @@ use Rattle.mql_types.specs.Nodes as node
 use Rattle.mql_types.specs.Nodes.{NodeTree, node_tree}
 use Rattle.mon_meaning.proofs.FilterSteps.{Remains, moved, with_points, with_series}
 use Rattle.mon_meaning.proofs.fetches.Fetch.new.Goals as goal
-use Rattle.mon_meaning.proofs.fetches.Fetch.new.Goals.{then-names_keys+in_ok-push-in-Filter, else-names_keys+in_ok-push-in-Filter-2}
+use Rattle.mon_meaning.proofs.fetches.Fetch.new.Goals.{then-names_keys+in_ok-push-in-Filter}
+use Rattle.mon_meaning.proofs.fetches.Fetch.new.Goals.{else-names_keys+in_ok-push-in-Filter-2}
 
 pub loop-rest-preserved : goal.loop-rest-preserved
 loop-rest-preserved c =
@@ -22,17 +23,20 @@ loop-rest-preserved c =
     let remains : Remains input (node.Filter info by rest) ss ps =
     subst (λ (tree : NodeTree). Remains input tree ss ps) is c.loop-rest.invariant in
     let bound_is : IsBoundPredicate bound by info.columns =
-    subst (λ (columns : List Column). IsBoundPredicate bound by columns) c.deref.ensures c.in_ok-bound-in-Filter.ensures.bound in
+    subst (λ (columns : List Column). IsBoundPredicate bound by columns) c.deref.ensures
+    c.in_ok-bound-in-Filter.ensures.bound in
     let keys : c.names_keys.result ≡ names_keys info.columns by =
     c.names_keys.ensures.keys ∙ ap (λ (columns : List Column). names_keys columns by) c.deref-in-Filter.ensures in
     let below : node_tree c.deref-rest.result.now ≡ rest = ap node_tree c.deref-rest.ensures in
     elim c.if-names_keys.branch [
       | then-names_keys+in_ok-push-in-Filter w ↦
-          moved input rest (node_tree c.deref-rest.result.now) _ c.if-names_keys.of_series.items ps c.if-names_keys.of_points.items below
+          moved input rest (node_tree c.deref-rest.result.now) _ c.if-names_keys.of_series.items ps
+          c.if-names_keys.of_points.items below
           (ap (λ v. v.items) w.of_series-is ∙ w.in_ok-push-in-Filter.ensures.items) (ap (λ v. v.items) w.of_points-is)
           (with_series input rest info by ss ps bound bound_is remains (sym keys ∙ w.if-names_keys.true))
       | else-names_keys+in_ok-push-in-Filter-2 w ↦
-          moved input rest (node_tree c.deref-rest.result.now) ss c.if-names_keys.of_series.items _ c.if-names_keys.of_points.items below
+          moved input rest (node_tree c.deref-rest.result.now) ss c.if-names_keys.of_series.items
+          _ c.if-names_keys.of_points.items below
           (ap (λ v. v.items) w.of_series-is) (ap (λ v. v.items) w.of_points-is ∙ w.in_ok-push-in-Filter-2.ensures.items)
           (with_points input rest info by ss ps bound bound_is remains (sym keys ∙ w.if-names_keys.false))
     ]

@@ -11,9 +11,14 @@ returns-then-eq c =
     let i : ℕ = c.loop-file.file-index in
     let file : MemoryFile = c.file-item.result in
     let front : drop i files ≡ file ∷ drop (i + 1) files =
-    drop_more files i file (omega (arith, c.loop-file-test.true)) ∙ ap (λ (f : MemoryFile). f ∷ drop (i + 1) files) (sym c.file-item.is) in
-    let same = ap (λ text. same_text c.args.name.now text) (sym c.as_str.ensures.bytes) ∙ sym c.eq.ensures ∙ c.if-eq.true in
-    record { first = sym (c.loop-file.invariant ∙ content-here (drop i files) (drop (i + 1) files) file c.args.name.now front same ∙ ap Some (sym c.as_slice.ensures.value)) }
+    drop_more files i file (omega (arith, c.loop-file-test.true)) ∙ ap (λ (f : MemoryFile). f ∷ drop (i + 1) files)
+    (sym c.file-item.is) in
+    let same = ap (λ text. same_text c.args.name.now text) (sym c.as_str.ensures.bytes) ∙ sym c.eq.ensures
+    ∙ c.if-eq.true in
+    record {
+      first = sym (c.loop-file.invariant ∙ content-here (drop i files) (drop (i + 1) files) file c.args.name.now
+          front same ∙ ap Some (sym c.as_slice.ensures.value));
+    }
 
 pub loop-file-preserved : goal.loop-file-preserved
 loop-file-preserved c =
@@ -21,6 +26,8 @@ loop-file-preserved c =
     let i : ℕ = c.loop-file.file-index in
     let file : MemoryFile = c.file-item.result in
     let front : drop i files ≡ file ∷ drop (i + 1) files =
-    drop_more files i file (omega (arith, c.loop-file-test.true)) ∙ ap (λ (f : MemoryFile). f ∷ drop (i + 1) files) (sym c.file-item.is) in
-    let other = ap (λ text. same_text c.args.name.now text) (sym c.as_str.ensures.bytes) ∙ sym c.eq.ensures ∙ c.if-eq.false in
+    drop_more files i file (omega (arith, c.loop-file-test.true)) ∙ ap (λ (f : MemoryFile). f ∷ drop (i + 1) files)
+    (sym c.file-item.is) in
+    let other = ap (λ text. same_text c.args.name.now text) (sym c.as_str.ensures.bytes) ∙ sym c.eq.ensures
+    ∙ c.if-eq.false in
     c.loop-file.invariant ∙ content-later (drop i files) (drop (i + 1) files) file c.args.name.now front other

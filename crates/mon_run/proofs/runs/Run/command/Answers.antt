@@ -4,8 +4,10 @@ use Rattle.mon_run.proofs.RunLemmas.{words_refused, words_weave}
 use Rattle.mon_run.proofs.runs.Run.command.Goals as goal
 
 pub returns-in-Some-clause-ended : goal.returns-in-Some-clause-ended
-returns-in-Some-clause-ended g c = words_weave (map string_bytes c.args.words.now) _ c.files.result c.in-Some.ensures.command c.files.ensures.ended
+returns-in-Some-clause-ended g c = words_weave (map string_bytes c.args.words.now) _ c.files.result
+    c.in-Some.ensures.command c.files.ensures.ended
 
 pub returns-in-None-clause-ended : goal.returns-in-None-clause-ended
 returns-in-None-clause-ended g c =
-    words_refused (map string_bytes c.args.words.now) (seen g.F.Folder.state g.O.Sink.state c.args.self.now) (sym c.in-None.ensures.command)
+    words_refused (map string_bytes c.args.words.now) (seen g.F.Folder.state g.O.Sink.state c.args.self.now)
+    (sym c.in-None.ensures.command)

@@ -12,8 +12,10 @@ returns-in-Query-clause-ran g c =
     let after : Progress = seen g.F.Folder.state g.O.Sink.state c.query.new.self in
     let moment : ℤ = to_z w64 (of_z w64 c.in-Query.moment) in
     let same : moment ≡ c.in-Query.moment = search rules in
-    let here = subst (λ (z : ℤ). OnOk c.query.result (LineRuns c.args.config.now (form.Query z c.in-Query.text) before after)) same c.query.ensures.ran in
-    subst (λ (line : LineForm). OnOk c.query.result (LineRuns c.args.config.now line before after)) (sym c.in-Query.is) here
+    let here = subst (λ (z : ℤ). OnOk c.query.result (LineRuns c.args.config.now (form.Query z c.in-Query.text) before
+    after)) same c.query.ensures.ran in
+    subst (λ (line : LineForm). OnOk c.query.result (LineRuns c.args.config.now line before after)) (sym c.in-Query.is)
+    here
 
 pub returns-in-Query-clause-stops : goal.returns-in-Query-clause-stops
 returns-in-Query-clause-stops g c =
@@ -21,5 +23,7 @@ returns-in-Query-clause-stops g c =
     let after : Progress = seen g.F.Folder.state g.O.Sink.state c.query.new.self in
     let moment : ℤ = to_z w64 (of_z w64 c.in-Query.moment) in
     let same : moment ≡ c.in-Query.moment = search rules in
-    let here = subst (λ (z : ℤ). IfErr c.query.result (λ (s : Stop). LineStops c.args.config.now (form.Query z c.in-Query.text) s before after)) same c.query.ensures.stops in
-    subst (λ (line : LineForm). IfErr c.query.result (λ (s : Stop). LineStops c.args.config.now line s before after)) (sym c.in-Query.is) here
+    let here = subst (λ (z : ℤ). IfErr c.query.result (λ (s : Stop). LineStops c.args.config.now
+    (form.Query z c.in-Query.text) s before after)) same c.query.ensures.stops in
+    subst (λ (line : LineForm). IfErr c.query.result (λ (s : Stop). LineStops c.args.config.now line s before after))
+    (sym c.in-Query.is) here

@@ -13,6 +13,7 @@ invariant-loop-line g l = record {
   continues : Continues g.F.Folder.state g.O.Sink.state l.fn.self l.self;
   lawful : AllByRecursion IsLawfulLine (drop l.line-index l.lines);
   sound : AreSound l.config l.self.log.now.store;
-  reached : Told (g.F.Folder.state l.fn.self.folder.now) (λ files. Reached l.config files l.lines (drop l.line-index l.lines) l.refused
+  reached : Told (g.F.Folder.state l.fn.self.folder.now) (λ files. Reached l.config files l.lines
+      (drop l.line-index l.lines) l.refused
       (seen g.F.Folder.state g.O.Sink.state l.fn.self) (seen g.F.Folder.state g.O.Sink.state l.self));
 }

@@ -14,11 +14,17 @@ returns-in_err-end-clause-stops g c =
     let ended : Progress = seen g.F.Folder.state g.O.Sink.state c.end.new.self in
     let fact : PutStops c.args.end c.args.text.now c.in_err-end.field-0.0 before ended =
     subst (λ (s : Stop). PutStops c.args.end c.args.text.now s before ended) (sym c.in_err-end.ensures.stops)
-    (record { told = λ files told rest. put_starved c.args.end c.args.text.now rest c.in_err-end.ensures.kept; causes = tt }) in
-    handed_on c.from_residual.result (λ (s : Stop). PutStops c.args.end c.args.text.now s before ended) c.in_err-end.field-0.0 (err_from_is_err_and c.from_residual.result c.from_residual.ensures.1) fact
+    (record {
+      told = λ files told rest. put_starved c.args.end c.args.text.now rest c.in_err-end.ensures.kept;
+      causes =
+          tt;
+    }) in
+    handed_on c.from_residual.result (λ (s : Stop). PutStops c.args.end c.args.text.now s before ended)
+    c.in_err-end.field-0.0 (err_from_is_err_and c.from_residual.result c.from_residual.ensures.1) fact
 
 pub returns-clause-put : goal.returns-clause-put
-returns-clause-put g c = on_ok_weaker c.write.result (λ wrote. did_then c.in_ok-end.ensures.ended wrote) c.write.ensures.wrote
+returns-clause-put g c = on_ok_weaker c.write.result (λ wrote. did_then c.in_ok-end.ensures.ended wrote)
+    c.write.ensures.wrote
 
 pub returns-clause-stops : goal.returns-clause-stops
 returns-clause-stops g c =
@@ -28,5 +34,6 @@ returns-clause-stops g c =
     cut_part c.write.result (λ (s : Stop). PutStops c.args.end c.args.text.now s before after) c.write.ensures.stops
     (λ cut rose. record {
       told = λ files told rest. put_cut c.args.end c.args.text.now rest c.in_ok-end.ensures.ended cut;
-      causes = rose_earlier before.sink.faults ended.sink.faults after.sink.faults c.end.ensures.continues.counts.writes rose;
+      causes = rose_earlier before.sink.faults ended.sink.faults after.sink.faults
+          c.end.ensures.continues.counts.writes rose;
     })

@@ -14,8 +14,15 @@ use Rattle.mon_run.proofs.runs.Run.query.Goals as goal
 pub returns-in_err-reply-clause-stops : goal.returns-in_err-reply-clause-stops
 returns-in_err-reply-clause-stops g c =
     let before : Progress = seen g.F.Folder.state g.O.Sink.state c.args.self.now in
-    let fact : LineStops c.args.config.now (form.Query c.args.moment c.args.text.now) stop.OutOfMemory before before = record { told = λ files told rest. query_starved c.args.config.now files c.args.text.now c.args.moment rest (did_none before); causes = tt } in
-    handed_on c.from_residual.result (λ (s : Stop). LineStops c.args.config.now (form.Query c.args.moment c.args.text.now) s before before) stop.OutOfMemory (err_from_is_err_and c.from_residual.result c.from_residual.ensures.1) fact
+    let fact : LineStops c.args.config.now (form.Query c.args.moment c.args.text.now) stop.OutOfMemory before before =
+    record {
+      told = λ files told rest. query_starved c.args.config.now files c.args.text.now c.args.moment rest
+          (did_none before);
+      causes = tt;
+    } in
+    handed_on c.from_residual.result (λ (s : Stop). LineStops c.args.config.now
+    (form.Query c.args.moment c.args.text.now) s before before) stop.OutOfMemory
+    (err_from_is_err_and c.from_residual.result c.from_residual.ensures.1) fact
 
 pub returns-in_err-put-clause-stops : goal.returns-in_err-put-clause-stops
 returns-in_err-put-clause-stops g c =
@@ -26,9 +33,13 @@ returns-in_err-put-clause-stops g c =
     let is : given ≡ reply_of c.args.moment (query_answer c.args.config.now before.rows c.args.moment c.args.text.now) =
     (λ i. record { end = c.in_ok-reply.reply.end; text = c.as_bytes.ensures.bytes i }) ∙ c.in_ok-reply.ensures.reply
     ∙ ap (λ (z : ℤ). reply_of z (query_answer c.args.config.now before.rows z c.args.text.now)) plain in
-    let fact : LineStops c.args.config.now (form.Query c.args.moment c.args.text.now) c.in_err-put.field-0.0 before after = record {
+    let fact : LineStops c.args.config.now (form.Query c.args.moment c.args.text.now) c.in_err-put.field-0.0 before
+    after = record {
       told = λ files told rest.
-          query_stops c.args.config.now files c.args.text.now c.args.moment given rest c.in_err-put.field-0.0 before after is (c.in_err-put.ensures.stops.told files told rest);
+          query_stops c.args.config.now files c.args.text.now c.args.moment given rest c.in_err-put.field-0.0 before
+          after is (c.in_err-put.ensures.stops.told files told rest);
       causes = c.in_err-put.ensures.stops.causes;
     } in
-    handed_on c.from_residual-in_err-put.result (λ (s : Stop). LineStops c.args.config.now (form.Query c.args.moment c.args.text.now) s before after) c.in_err-put.field-0.0 (err_from_is_err_and c.from_residual-in_err-put.result c.from_residual-in_err-put.ensures.1) fact
+    handed_on c.from_residual-in_err-put.result (λ (s : Stop). LineStops c.args.config.now
+    (form.Query c.args.moment c.args.text.now) s before after) c.in_err-put.field-0.0
+    (err_from_is_err_and c.from_residual-in_err-put.result c.from_residual-in_err-put.ensures.1) fact

@@ -17,7 +17,8 @@ use Rattle.mon_run.proofs.runs.Run.read.Goals as goal
 pub returns-in-Err-Failed-clause-stops : goal.returns-in-Err-Failed-clause-stops
 returns-in-Err-Failed-clause-stops g c =
     let before : Progress = seen g.F.Folder.state g.O.Sink.state c.args.self.now in
-    let after : Progress = progress (g.F.Folder.state c.read.new.self) (g.O.Sink.state c.args.self.now.out.now) c.args.self.now.log.now.ends (accepted_rows c.args.self.now.log.now.store) in
+    let after : Progress = progress (g.F.Folder.state c.read.new.self) (g.O.Sink.state c.args.self.now.out.now)
+    c.args.self.now.log.now.ends (accepted_rows c.args.self.now.log.now.store) in
     let name = c.args.name.now in
     let failed : c.read.result ≡ Err fault.Failed = cc in
     let asked = asks_failed c.read.result name before.folder.asked after.folder.asked failed c.read.ensures.asked in
@@ -32,7 +33,8 @@ returns-in-Err-Failed-clause-stops g c =
 pub returns-in-Err-TooLong-clause-stops : goal.returns-in-Err-TooLong-clause-stops
 returns-in-Err-TooLong-clause-stops g c =
     let before : Progress = seen g.F.Folder.state g.O.Sink.state c.args.self.now in
-    let after : Progress = progress (g.F.Folder.state c.read.new.self) (g.O.Sink.state c.args.self.now.out.now) c.args.self.now.log.now.ends (accepted_rows c.args.self.now.log.now.store) in
+    let after : Progress = progress (g.F.Folder.state c.read.new.self) (g.O.Sink.state c.args.self.now.out.now)
+    c.args.self.now.log.now.ends (accepted_rows c.args.self.now.log.now.store) in
     let name = c.args.name.now in
     let failed : c.read.result ≡ Err fault.TooLong = cc in
     let asked = asks_too_long c.read.result name before.folder.asked after.folder.asked failed c.read.ensures.asked in
@@ -49,7 +51,8 @@ returns-in-Err-TooLong-clause-stops g c =
 pub returns-in-Err-OutOfMemory-clause-stops : goal.returns-in-Err-OutOfMemory-clause-stops
 returns-in-Err-OutOfMemory-clause-stops g c =
     let before : Progress = seen g.F.Folder.state g.O.Sink.state c.args.self.now in
-    let after : Progress = progress (g.F.Folder.state c.read.new.self) (g.O.Sink.state c.args.self.now.out.now) c.args.self.now.log.now.ends (accepted_rows c.args.self.now.log.now.store) in
+    let after : Progress = progress (g.F.Folder.state c.read.new.self) (g.O.Sink.state c.args.self.now.out.now)
+    c.args.self.now.log.now.ends (accepted_rows c.args.self.now.log.now.store) in
     let name = c.args.name.now in
     let failed : c.read.result ≡ Err fault.OutOfMemory = cc in
     record {

@@ -12,5 +12,7 @@ returns-in-Ok-write-clause-closes g c =
     let stopped = c.args.stop.now in
     let speaks : is_silent stopped ≡ false = sym c.is_silent.ensures.silent ∙ c.if-is_silent.false in
     let did : Did (Write (own_text stopped) ∷ []) before after =
-    subst (λ (text : List ℕ). Did (Write text ∷ []) before after) (c.as_bytes.ensures.value ∙ c.in-Ok.ensures.text) c.in-Ok-write.ensures.wrote in
-    closes_says before after stopped c.status_of-in-Ok-write.result speaks (inl (c.status_of-in-Ok-write.ensures.status, did))
+    subst (λ (text : List ℕ). Did (Write text ∷ []) before after) (c.as_bytes.ensures.value ∙ c.in-Ok.ensures.text)
+    c.in-Ok-write.ensures.wrote in
+    closes_says before after stopped c.status_of-in-Ok-write.result speaks
+    (inl (c.status_of-in-Ok-write.ensures.status, did))

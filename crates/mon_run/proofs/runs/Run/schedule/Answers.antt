@@ -16,7 +16,9 @@ returns-in_err-woven-clause-ended g c =
       told = λ files told. record { done = []; left = []; split = refl; did = did_none before };
       causes = tt;
     } in
-    weaves_stopped (λ woven files. schedule_plan woven) (λ files. IsPrinted c.args.config c.args.text.now) c.from_residual.result stop.OutOfMemory (err_from_is_err_and c.from_residual.result c.from_residual.ensures.1) fact
+    weaves_stopped (λ woven files. schedule_plan woven) (λ files. IsPrinted c.args.config c.args.text.now)
+    c.from_residual.result stop.OutOfMemory (err_from_is_err_and c.from_residual.result c.from_residual.ensures.1)
+    fact
 
 pub returns-in_err-write-clause-ended : goal.returns-in_err-write-clause-ended
 returns-in_err-write-clause-ended g c =
@@ -24,8 +26,11 @@ returns-in_err-write-clause-ended g c =
     record {
       woven = Some woven;
       printed = λ files told. c.in_ok-woven.ensures.printed;
-      ends = ends_stopped (λ files. schedule_plan (Some woven)) c.from_residual-in_err-write.result c.in_err-write.field-0.0 (err_from_is_err_and c.from_residual-in_err-write.result c.from_residual-in_err-write.ensures.1)
-          (schedule_cut woven c.as_bytes.result.now c.in_err-write.field-0.0 c.as_bytes.ensures.bytes c.in_err-write.ensures.stops);
+      ends = ends_stopped (λ files. schedule_plan (Some woven)) c.from_residual-in_err-write.result
+          c.in_err-write.field-0.0 (err_from_is_err_and c.from_residual-in_err-write.result
+          c.from_residual-in_err-write.ensures.1)
+          (schedule_cut woven c.as_bytes.result.now c.in_err-write.field-0.0 c.as_bytes.ensures.bytes
+          c.in_err-write.ensures.stops);
     }
 
 pub returns-in-Some-clause-ended : goal.returns-in-Some-clause-ended
@@ -34,7 +39,11 @@ returns-in-Some-clause-ended g c =
     record {
       woven = Some woven;
       printed = λ files told. c.in_ok-woven.ensures.printed;
-      ends = record { completes = tt; halts = schedule_refused woven c.as_bytes.result.now c.in-Some.fault c.as_bytes.ensures.bytes c.in-Some.is c.in_ok-write.ensures.wrote };
+      ends = record {
+        completes = tt;
+        halts = schedule_refused woven c.as_bytes.result.now c.in-Some.fault
+            c.as_bytes.ensures.bytes c.in-Some.is c.in_ok-write.ensures.wrote;
+      };
     }
 
 pub returns-clause-ended : goal.returns-clause-ended
@@ -43,5 +52,9 @@ returns-clause-ended g c =
     record {
       woven = Some woven;
       printed = λ files told. c.in_ok-woven.ensures.printed;
-      ends = record { completes = schedule_done woven c.as_bytes.result.now c.as_bytes.ensures.bytes c.in-None.is c.in_ok-write.ensures.wrote; halts = tt };
+      ends = record {
+        completes = schedule_done woven c.as_bytes.result.now c.as_bytes.ensures.bytes c.in-None.is
+            c.in_ok-write.ensures.wrote;
+        halts = tt;
+      };
     }

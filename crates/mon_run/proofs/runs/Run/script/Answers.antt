@@ -28,20 +28,27 @@ lines-requires-clause-sound g c =
 pub returns-in_err-script-clause-ended : goal.returns-in_err-script-clause-ended
 returns-in_err-script-clause-ended g c =
     let before : Progress = seen g.F.Folder.state g.O.Sink.state c.args.self.now in
-    let fact : Halts (λ files. script_plan c.args.config.now files (script_in c.args.text.now)) (script_stop c.in_err-script.field-0.0) before before = record {
-      told = λ files told. script_refused c.args.config.now files c.args.text.now c.in_err-script.field-0.0 before c.in_err-script.ensures.exact;
+    let fact : Halts (λ files. script_plan c.args.config.now files (script_in c.args.text.now))
+    (script_stop c.in_err-script.field-0.0) before before = record {
+      told = λ files told. script_refused c.args.config.now files c.args.text.now c.in_err-script.field-0.0 before
+          c.in_err-script.ensures.exact;
       causes = refused_script c.in_err-script.field-0.0 before before;
     } in
-    ends_stopped (λ files. script_plan c.args.config.now files (script_in c.args.text.now)) c.from_residual.result (script_stop c.in_err-script.field-0.0) (err_from_is_err_and c.from_residual.result c.from_residual.ensures.1) fact
+    ends_stopped (λ files. script_plan c.args.config.now files (script_in c.args.text.now)) c.from_residual.result
+    (script_stop c.in_err-script.field-0.0) (err_from_is_err_and c.from_residual.result c.from_residual.ensures.1)
+    fact
 
 pub returns-in_err-store-clause-ended : goal.returns-in_err-store-clause-ended
 returns-in_err-store-clause-ended g c =
     let before : Progress = seen g.F.Folder.state g.O.Sink.state c.args.self.now in
-    let fact : Halts (λ files. script_plan c.args.config.now files (script_in c.args.text.now)) stop.OutOfMemory before before = record {
+    let fact : Halts (λ files. script_plan c.args.config.now files (script_in c.args.text.now)) stop.OutOfMemory before
+    before = record {
       told = λ files told. script_starved c.args.config.now files c.args.text.now before;
       causes = tt;
     } in
-    ends_stopped (λ files. script_plan c.args.config.now files (script_in c.args.text.now)) c.from_residual-in_err-store.result stop.OutOfMemory (err_from_is_err_and c.from_residual-in_err-store.result c.from_residual-in_err-store.ensures.1) fact
+    ends_stopped (λ files. script_plan c.args.config.now files (script_in c.args.text.now))
+    c.from_residual-in_err-store.result stop.OutOfMemory (err_from_is_err_and c.from_residual-in_err-store.result
+    c.from_residual-in_err-store.ensures.1) fact
 
 pub returns-clause-ended : goal.returns-clause-ended
 returns-clause-ended g c =
@@ -49,6 +56,9 @@ returns-clause-ended g c =
     let rows : List Row = accepted_rows c.in_ok-store.store in
     let opened : Progress = progress before.folder before.sink before.ends rows in
     let none : rows ≡ [] = c.in_ok-store.ensures.rows in
-    let same : opened ≡ before = ap (λ (rs : List Row). progress before.folder before.sink before.ends rs) (none ∙ sym c.requires.fresh) in
-    let spelled : script_in c.args.text.now ≡ Ok c.as_slice.result.now = c.in_ok-script.ensures.exact ∙ ap Ok (sym c.as_slice.ensures.items) in
-    script_ends c.args.config.now c.args.text.now c.as_slice.result.now rows c.lines.result spelled none same c.lines.ensures.ended
+    let same : opened ≡ before = ap (λ (rs : List Row). progress before.folder before.sink before.ends rs)
+    (none ∙ sym c.requires.fresh) in
+    let spelled : script_in c.args.text.now ≡ Ok c.as_slice.result.now = c.in_ok-script.ensures.exact
+    ∙ ap Ok (sym c.as_slice.ensures.items) in
+    script_ends c.args.config.now c.args.text.now c.as_slice.result.now rows c.lines.result spelled none same
+    c.lines.ensures.ended

@@ -11,7 +11,8 @@ add_new-requires c =
     let held = c.args.self.now in
     let name = c.in_ok-name.name.items in
     let free : metric_named c.args.metric.name held.metrics ≡ None = metric_named-free held c.args.metric cc in
-    lookup-first_named (λ (schema : MetricSchema). schema.name) name c.self.inside.metrics.entries c.self.invariant.metrics
+    lookup-first_named (λ (schema : MetricSchema). schema.name) name c.self.inside.metrics.entries
+    c.self.invariant.metrics
     ∙ ap (λ lists. metric_named name lists.metrics) c.self.view_is
     ∙ ap (λ text. metric_named text held.metrics) (c.in_ok-name.ensures.items ∙ c.as_bytes.ensures.bytes)
     ∙ free

@@ -11,7 +11,8 @@ add_new-requires c =
     let held = c.args.self.now in
     let name = c.in_ok-name.name.items in
     let free : target_named c.args.schema.name held.targets ≡ None = target_named-free held c.args.schema cc in
-    lookup-first_named (λ (schema : TargetSchema). schema.name) name c.self.inside.targets.entries c.self.invariant.targets
+    lookup-first_named (λ (schema : TargetSchema). schema.name) name c.self.inside.targets.entries
+    c.self.invariant.targets
     ∙ ap (λ lists. target_named name lists.targets) c.self.view_is
     ∙ ap (λ text. target_named text held.targets) (c.in_ok-name.ensures.items ∙ c.as_bytes.ensures.bytes)
     ∙ free

@@ -10,14 +10,16 @@ pub returns-in_default-clause-last : goal.returns-in_default-clause-last
 returns-in_default-clause-last c =
     let key = c.args.key.now in
     let entries = c.self.inside.series.entries in
-    let none : lookup (same_series key) entries ≡ None = ap (λ test. lookup test entries) (sym (same_test key)) ∙ sym c.in_default.ensures.value in
+    let none : lookup (same_series key) entries ≡ None = ap (λ test. lookup test entries) (sym (same_test key))
+    ∙ sym c.in_default.ensures.value in
     sym (ap last_end (found_none c.self.invariant.placed c.self.view_is key (none_held key entries none)))
 
 pub returns-in_default-clause-none : goal.returns-in_default-clause-none
 returns-in_default-clause-none c =
     let key = c.args.key.now in
     let entries = c.self.inside.series.entries in
-    let none : lookup (same_series key) entries ≡ None = ap (λ test. lookup test entries) (sym (same_test key)) ∙ sym c.in_default.ensures.value in
+    let none : lookup (same_series key) entries ≡ None = ap (λ test. lookup test entries) (sym (same_test key))
+    ∙ sym c.in_default.ensures.value in
     found_none c.self.invariant.placed c.self.view_is key (none_held key entries none)
 
 pub returns-in_default-last-clause-last : goal.returns-in_default-last-clause-last
@@ -28,7 +30,8 @@ returns-in_default-last-clause-last c =
     let series = c.in-Some.series.now in
     let other = c.in-Some.field-0-1.now in
     let at = ap (λ test. position test (keys_of entries)) (sym (same_test key)) ∙ sym c.in-Some.ensures.index in
-    let found = found_points c.self.invariant.placed c.self.view_is key number other series.points (held_first key entries number at) (held_entry entries number other series c.in-Some.ensures.entry) in
+    let found = found_points c.self.invariant.placed c.self.view_is key number other series.points
+    (held_first key entries number at) (held_entry entries number other series c.in-Some.ensures.entry) in
     c.in_default-last.ensures.last ∙ ap last_end (sym found.1)
 
 pub returns-in_default-last-clause-none : goal.returns-in_default-last-clause-none
@@ -39,7 +42,8 @@ returns-in_default-last-clause-none c =
     let series = c.in-Some.series.now in
     let other = c.in-Some.field-0-1.now in
     let at = ap (λ test. position test (keys_of entries)) (sym (same_test key)) ∙ sym c.in-Some.ensures.index in
-    let found = found_points c.self.invariant.placed c.self.view_is key number other series.points (held_first key entries number at) (held_entry entries number other series c.in-Some.ensures.entry) in
+    let found = found_points c.self.invariant.placed c.self.view_is key number other series.points
+    (held_first key entries number at) (held_entry entries number other series c.in-Some.ensures.entry) in
     found.1 ∙ last_none series.points c.in_default-last.ensures.last
 
 pub returns-clause-number : goal.returns-clause-number
@@ -50,7 +54,8 @@ returns-clause-number c =
     let series = c.in-Some.series.now in
     let other = c.in-Some.field-0-1.now in
     let at = ap (λ test. position test (keys_of entries)) (sym (same_test key)) ∙ sym c.in-Some.ensures.index in
-    (found_points c.self.invariant.placed c.self.view_is key number other series.points (held_first key entries number at) (held_entry entries number other series c.in-Some.ensures.entry)).0
+    (found_points c.self.invariant.placed c.self.view_is key number other series.points
+    (held_first key entries number at) (held_entry entries number other series c.in-Some.ensures.entry)).0
 
 pub returns-clause-last : goal.returns-clause-last
 returns-clause-last c =
@@ -60,6 +65,7 @@ returns-clause-last c =
     let series = c.in-Some.series.now in
     let other = c.in-Some.field-0-1.now in
     let at = ap (λ test. position test (keys_of entries)) (sym (same_test key)) ∙ sym c.in-Some.ensures.index in
-    let found = found_points c.self.invariant.placed c.self.view_is key number other series.points (held_first key entries number at) (held_entry entries number other series c.in-Some.ensures.entry) in
+    let found = found_points c.self.invariant.placed c.self.view_is key number other series.points
+    (held_first key entries number at) (held_entry entries number other series c.in-Some.ensures.entry) in
     let plain : to_z w64 (of_z w64 c.in-Some-last.last) ≡ c.in-Some-last.last = search rules in
     ap (λ n. Some n) plain ∙ c.in-Some-last.ensures.last ∙ ap last_end (sym found.1)

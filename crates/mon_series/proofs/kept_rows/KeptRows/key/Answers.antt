@@ -8,4 +8,7 @@ returns c =
     let key = c.in-Some.key.now in
     let series = c.in-Some.field-0-1.now in
     let there = held_entry c.self.inside.series.entries c.args.number key series (sym c.in-Some.ensures.entry) in
-    record { key = (numbered c.self.invariant.placed c.self.view_is c.args.number key series.points there).0 ∙ ap (λ k. Some k) (sym c.deref.ensures) }
+    record {
+      key = (numbered c.self.invariant.placed c.self.view_is c.args.number key series.points there).0
+          ∙ ap (λ k. Some k) (sym c.deref.ensures);
+    }

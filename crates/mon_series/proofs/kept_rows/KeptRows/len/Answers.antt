@@ -5,5 +5,6 @@ use Rattle.mon_series.proofs.kept_rows.KeptRows.len.Goals as goal
 
 pub returns : goal.returns
 returns c = record {
-  count = c.len.ensures.count ∙ sym (rows_count (series_held c.self.inside.series.entries) c.self.inside.order.items c.self.invariant.placed.there) ∙ ap length c.self.view_is;
+  count = c.len.ensures.count ∙ sym (rows_count (series_held c.self.inside.series.entries) c.self.inside.order.items
+      c.self.invariant.placed.there) ∙ ap length c.self.view_is;
 }

@@ -14,6 +14,8 @@ push-requires c =
     drop_more rows i row c.loop-row-test.true ∙ ap (λ (r : Row). r ∷ drop (i + 1) rows) (sym c.row-item.is) in
     let later = source_at rows i row (drop (i + 1) rows) next c.requires.source in
     record {
-      later = subst (λ (r : Row). IfSome (last_end (points_of r.key c.loop-row.kept)) (λ last. last <ℤ r.point.end)) (sym c.in_ok-copy.ensures.equal)
-          (subst (λ (kept : List Row). IfSome (last_end (points_of row.key kept)) (λ last. last <ℤ row.point.end)) (sym c.loop-row.invariant) later);
+      later = subst (λ (r : Row). IfSome (last_end (points_of r.key c.loop-row.kept)) (λ last. last <ℤ r.point.end))
+          (sym c.in_ok-copy.ensures.equal)
+          (subst (λ (kept : List Row). IfSome (last_end (points_of row.key kept)) (λ last. last <ℤ row.point.end))
+          (sym c.loop-row.invariant) later);
     }

@@ -8,7 +8,10 @@ use Rattle.mon_series.proofs.KeptLemmas.{no_group}
 use Rattle.mon_series.proofs.kept_rows.KeptRows.push_first.Goals as goal
 
 pub push_first-requires : goal.push_first-requires
-push_first-requires c = record { absent = no_group c.self.invariant.placed c.self.view_is c.args.row.key c.requires.first }
+push_first-requires c = record {
+  absent = no_group c.self.invariant.placed c.self.view_is c.args.row.key
+      c.requires.first;
+}
 
 pub invariant_of-self : goal.invariant_of-self
 invariant_of-self c = stays_kept c.self.invariant c.in_default.ensures.same refl refl
@@ -21,22 +24,30 @@ pub invariant_of-self-2 : goal.invariant_of-self-2
 invariant_of-self-2 c =
     let row = c.args.row in
     let entries = c.self.inside.series.entries in
-    let count : length entries ≡ length (series_held entries) = sym (length-map entries (λ entry. (entry.0, entry.1.points))) in
+    let count : length entries ≡ length (series_held entries) =
+    sym (length-map entries (λ entry. (entry.0, entry.1.points))) in
     let room : HasRoom c.make_room.new.index.entries row.key.metric c.in-Ok.at =
-    subst (λ (key : SeriesKey). HasRoom c.make_room.new.index.entries key.metric c.in-Ok.at) c.deref.ensures c.in-Ok.ensures.room in
+    subst (λ (key : SeriesKey). HasRoom c.make_room.new.index.entries key.metric c.in-Ok.at) c.deref.ensures
+    c.in-Ok.ensures.room in
     let more = c.add_number.ensures.added row.key.metric room in
     let pushed = c.in_ok-push_first.ensures in
-    (first_kept row c.make_room.new.index.entries c.add_number.new.index.entries c.series-number.result (length entries) c.self.invariant
-    c.self.view_is c.requires.first c.series-number.ensures.count c.in-Ok.ensures.same more count pushed.grown pushed.placed pushed.few).0
+    (first_kept row c.make_room.new.index.entries c.add_number.new.index.entries c.series-number.result
+    (length entries) c.self.invariant
+    c.self.view_is c.requires.first c.series-number.ensures.count c.in-Ok.ensures.same more count pushed.grown
+    pushed.placed pushed.few).0
 
 pub returns-clause-pushed : goal.returns-clause-pushed
 returns-clause-pushed c =
     let row = c.args.row in
     let entries = c.self.inside.series.entries in
-    let count : length entries ≡ length (series_held entries) = sym (length-map entries (λ entry. (entry.0, entry.1.points))) in
+    let count : length entries ≡ length (series_held entries) =
+    sym (length-map entries (λ entry. (entry.0, entry.1.points))) in
     let room : HasRoom c.make_room.new.index.entries row.key.metric c.in-Ok.at =
-    subst (λ (key : SeriesKey). HasRoom c.make_room.new.index.entries key.metric c.in-Ok.at) c.deref.ensures c.in-Ok.ensures.room in
+    subst (λ (key : SeriesKey). HasRoom c.make_room.new.index.entries key.metric c.in-Ok.at) c.deref.ensures
+    c.in-Ok.ensures.room in
     let more = c.add_number.ensures.added row.key.metric room in
     let pushed = c.in_ok-push_first.ensures in
-    (first_kept row c.make_room.new.index.entries c.add_number.new.index.entries c.series-number.result (length entries) c.self.invariant
-    c.self.view_is c.requires.first c.series-number.ensures.count c.in-Ok.ensures.same more count pushed.grown pushed.placed pushed.few).1
+    (first_kept row c.make_room.new.index.entries c.add_number.new.index.entries c.series-number.result
+    (length entries) c.self.invariant
+    c.self.view_is c.requires.first c.series-number.ensures.count c.in-Ok.ensures.same more count pushed.grown
+    pushed.placed pushed.few).1

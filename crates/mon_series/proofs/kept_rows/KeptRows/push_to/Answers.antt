@@ -14,11 +14,16 @@ push_known-requires c = record {
 pub invariant_of-self : goal.invariant_of-self
 invariant_of-self c =
     known_kept c.args.row c.args.number c.push_known.result c.self.invariant c.self.view_is c.requires.series
-    (known_pushed c.self.invariant.placed c.self.view_is c.args.row (series_held c.push_known.new.groups.entries) c.push_known.new.order.items c.args.number c.push_known.result
-    c.requires.series c.push_known.ensures.grown c.push_known.ensures.placed c.push_known.ensures.kept c.push_known.ensures.order)
+    (known_pushed c.self.invariant.placed c.self.view_is c.args.row (series_held c.push_known.new.groups.entries)
+    c.push_known.new.order.items c.args.number c.push_known.result
+    c.requires.series c.push_known.ensures.grown c.push_known.ensures.placed c.push_known.ensures.kept
+    c.push_known.ensures.order)
 
 pub returns-clause-pushed : goal.returns-clause-pushed
 returns-clause-pushed c =
-    let pushed = known_pushed c.self.invariant.placed c.self.view_is c.args.row (series_held c.push_known.new.groups.entries) c.push_known.new.order.items c.args.number c.push_known.result
-    c.requires.series c.push_known.ensures.grown c.push_known.ensures.placed c.push_known.ensures.kept c.push_known.ensures.order in
-    on_ok_weaker c.push_known.result (λ rows. rows ∙ ap (λ (rs : List Row). rs ++ c.args.row ∷ []) c.self.view_is) pushed.rows
+    let pushed = known_pushed c.self.invariant.placed c.self.view_is c.args.row
+    (series_held c.push_known.new.groups.entries) c.push_known.new.order.items c.args.number c.push_known.result
+    c.requires.series c.push_known.ensures.grown c.push_known.ensures.placed c.push_known.ensures.kept
+    c.push_known.ensures.order in
+    on_ok_weaker c.push_known.result (λ rows. rows ∙ ap (λ (rs : List Row). rs ++ c.args.row ∷ []) c.self.view_is)
+    pushed.rows

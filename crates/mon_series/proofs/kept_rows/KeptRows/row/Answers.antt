@@ -8,7 +8,8 @@ use Rattle.mon_series.proofs.kept_rows.KeptRows.row.Goals as goal
 
 pub get-place-requires : goal.get-place-requires
 get-place-requires c =
-    let count = rows_count (series_held c.self.inside.series.entries) c.self.inside.order.items c.self.invariant.placed.there in
+    let count = rows_count (series_held c.self.inside.series.entries) c.self.inside.order.items
+    c.self.invariant.placed.there in
     omega (arith, count, ap length c.self.view_is, c.requires.within)
 
 pub unreachable-requires : goal.unreachable-requires
@@ -22,7 +23,8 @@ unreachable-requires-in_default-point_at c =
     let place = c.get-place.result.now in
     let key = c.in-Some.key.now in
     let series = c.in-Some.series.now in
-    place_has_point c.self.invariant.placed c.self.view_is c.args.number place key series.points c.get-place.ensures.item
+    place_has_point c.self.invariant.placed c.self.view_is c.args.number place key series.points
+    c.get-place.ensures.item
     (held_entry c.self.inside.series.entries place.series key series (sym c.in-Some.ensures.entry))
     (ap (λ ps. slice_get ps place.point) (sym c.points.ensures.points) ∙ sym c.in_default-point_at.ensures.point)
 
@@ -32,7 +34,11 @@ returns c =
     let key = c.in-Some.key.now in
     let series = c.in-Some.series.now in
     let point = c.in-Some-point_at.point.now in
-    let row = row_numbered c.self.invariant.placed c.self.view_is c.args.number place key series.points point c.get-place.ensures.item
+    let row = row_numbered c.self.invariant.placed c.self.view_is c.args.number place key series.points point
+    c.get-place.ensures.item
     (held_entry c.self.inside.series.entries place.series key series (sym c.in-Some.ensures.entry))
     (ap (λ ps. slice_get ps place.point) (sym c.points.ensures.points) ∙ sym c.in-Some-point_at.ensures.point) in
-    record { row = row ∙ (λ i. Some (row_of_parts (sym c.in_ok-copy.ensures.equal i) (sym c.in_ok-point.ensures.point i))) }
+    record {
+      row = row ∙ (λ i. Some (row_of_parts (sym c.in_ok-copy.ensures.equal i) (sym c.in_ok-point.ensures.point
+          i)));
+    }

@@ -8,14 +8,17 @@ use Rattle.mon_series.proofs.WindowLemmas.{window_from}
 use Rattle.mon_series.proofs.series.Series.places.Goals as goal
 
 pub split_at_time-requires-2 : goal.split_at_time-requires-2
-split_at_time-requires-2 c = rw (c.split_at_time.ensures.ended, c.as_slice.ensures.items) (EndsRise-filter _ _ c.self.invariant)
+split_at_time-requires-2 c = rw (c.split_at_time.ensures.ended, c.as_slice.ensures.items)
+    (EndsRise-filter _ _ c.self.invariant)
 
 -- the points that end before the window are among those that end by its time
 pub returns-clause-before : goal.returns-clause-before
 returns-clause-before c =
     let same = ap (λ (seen : SeriesPoints). seen.points) c.self.view_is in
     let points = c.as_slice.ensures.items ∙ same in
-    let before = c.split_at_time-2.ensures.ended ∙ ap (points_until _) (c.split_at_time.ensures.ended ∙ ap (points_until _) points) ∙ points_until-before c.args.self.now.points c.args.time c.args.seconds _ _ (omega (arith, ints)) (omega (arith, ints)) (omega (arith, ints)) in
+    let before = c.split_at_time-2.ensures.ended ∙ ap (points_until _) (c.split_at_time.ensures.ended
+    ∙ ap (points_until _) points) ∙ points_until-before c.args.self.now.points c.args.time c.args.seconds
+    _ _ (omega (arith, ints)) (omega (arith, ints)) (omega (arith, ints)) in
     ap length before
 
 pub returns-clause-window : goal.returns-clause-window
@@ -27,7 +30,15 @@ returns-clause-window c =
     let window = c.split_at_time-2.result.1.now in
     let front = first_items all ended c.split_at_time.result.1.now c.split_at_time.ensures.joined in
     let behind = items_behind ended before window c.split_at_time-2.ensures.joined in
-    let ordered : length before ≤ length ended = omega (arith, ap length c.split_at_time-2.ensures.joined, length-append before window) in
+    let ordered : length before ≤ length ended =
+    omega (arith, ap length c.split_at_time-2.ensures.joined, length-append before window) in
     items_between (length before) (length ended) c.args.self.now.points ordered
-    ∙ rw (← same, ← c.as_slice.ensures.items, front, behind, c.split_at_time-2.ensures.later, c.split_at_time.ensures.ended)
+    ∙ rw (
+      ← same,
+      ← c.as_slice.ensures.items,
+      front,
+      behind,
+      c.split_at_time-2.ensures.later,
+      c.split_at_time.ensures.ended,
+    )
     (window_from all c.args.time c.args.seconds _ _ (omega (arith, ints)) (omega (arith, ints)))

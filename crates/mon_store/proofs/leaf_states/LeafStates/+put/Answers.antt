@@ -5,37 +5,44 @@ use Rattle.mon_value.specs.declared.histories.Entry.TheVariants as entry
 use Rattle.mon_topo.specs.Zones.{first_replicas}
 use Rattle.mon_store.specs.within.Leaves.{AllKeep, HasEntry, MayCome, first_rows, histories, leaf_of, with_row_from}
 use Rattle.mon_store.proofs.OpenLemmas.{histories_more, promise_keeps, replica_there}
-use Rattle.mon_store.proofs.PutLemmas.{alike_kept, apart_later, is_there, may_put, put_more, put_none, untouched_first, untouched_rest, whatever_fails}
+use Rattle.mon_store.proofs.PutLemmas.{alike_kept, apart_later, is_there, may_put, put_more, put_none, untouched_first}
+use Rattle.mon_store.proofs.PutLemmas.{untouched_rest, whatever_fails}
 use Rattle.mon_store.proofs.leaf_states.LeafStates.+put.Goals as goal
 
 pub returns-in_default-clause-put : goal.returns-in_default-clause-put
 returns-in_default-clause-put t c =
-    put_none c.args.topology.now (first_rows (histories c.args.self.now.states.items)) (histories c.args.self.now.states.items) c.args.range c.args.slot c.args.row.now
+    put_none c.args.topology.now (first_rows (histories c.args.self.now.states.items))
+    (histories c.args.self.now.states.items) c.args.range c.args.slot c.args.row.now
     c.requires.alike.keep (sym c.leaf_at.ensures.leaf ∙ c.in_default.is)
 
 pub reserve-requires-clause-there : goal.reserve-requires-clause-there
 reserve-requires-clause-there t c =
-    let there = replica_there c.args.topology.now c.args.range c.args.slot c.in-Some.leaf c.requires.replicas (sym c.leaf_at.ensures.leaf ∙ c.in-Some.is) in
+    let there = replica_there c.args.topology.now c.args.range c.args.slot c.in-Some.leaf c.requires.replicas
+    (sym c.leaf_at.ensures.leaf ∙ c.in-Some.is) in
     let many = c.requires.alike.count in omega arith
 
 pub reserve-requires-clause-opened : goal.reserve-requires-clause-opened
 reserve-requires-clause-opened t c =
-    is_there c.args.topology.now (λ range slot. first_rows (histories c.args.self.now.states.items) range) c.args.self.now.states.items c.args.range (record { 0 = c.args.slot }) c.in-Some.leaf
+    is_there c.args.topology.now (λ range slot. first_rows (histories c.args.self.now.states.items) range)
+    c.args.self.now.states.items c.args.range (record { 0 = c.args.slot }) c.in-Some.leaf
     c.requires.alike.keep (sym c.leaf_at.ensures.leaf ∙ c.in-Some.is)
 
 pub returns-in_err-own-clause-kept : goal.returns-in_err-own-clause-kept
 returns-in_err-own-clause-kept t c =
-    whatever_fails c.from_residual-in_err-own.result _ (promise_keeps c.in-Some.leaf c.args.self.now.states.items c.reserve.new.self.states.items c.in_ok-reserve.ensures.promised)
+    whatever_fails c.from_residual-in_err-own.result _ (promise_keeps c.in-Some.leaf c.args.self.now.states.items
+    c.reserve.new.self.states.items c.in_ok-reserve.ensures.promised)
 
 pub returns-in_err-own-clause-others : goal.returns-in_err-own-clause-others
 returns-in_err-own-clause-others t c = λ n.
-    untouched_first (first_replicas c.args.topology.now c.args.range.0) c.args.slot n c.in-Some.leaf _ c.args.self.now.states.items c.reserve.new.self.states.items
+    untouched_first (first_replicas c.args.topology.now c.args.range.0) c.args.slot n c.in-Some.leaf
+    _ c.args.self.now.states.items c.reserve.new.self.states.items
     (sym c.leaf_at.ensures.leaf ∙ c.in-Some.is) c.in_ok-reserve.ensures.promised
 
 pub overflow_add-slot : goal.overflow_add-slot
 overflow_add-slot t c =
     let few = c.requires.replicas.few in
-    let within = slice_get_within (first_replicas c.args.topology.now c.args.range.0) c.args.slot c.in-Some.leaf (sym c.leaf_at.ensures.leaf ∙ c.in-Some.is) in
+    let within = slice_get_within (first_replicas c.args.topology.now c.args.range.0) c.args.slot c.in-Some.leaf
+    (sym c.leaf_at.ensures.leaf ∙ c.in-Some.is) in
     search rules
 
 pub put-requires : goal.put-requires
@@ -43,7 +50,8 @@ put-requires t c =
     let old = c.args.self.now.states.items in
     let mid = c.reserve.new.self.states.items in
     let same = promise_keeps c.in-Some.leaf old mid c.in_ok-reserve.ensures.promised in
-    let within = slice_get_within (first_replicas c.args.topology.now c.args.range.0) c.args.slot c.in-Some.leaf (sym c.leaf_at.ensures.leaf ∙ c.in-Some.is) in (
+    let within = slice_get_within (first_replicas c.args.topology.now c.args.range.0) c.args.slot c.in-Some.leaf
+    (sym c.leaf_at.ensures.leaf ∙ c.in-Some.is) in (
       omega arith,
       (
         c.requires.there,
@@ -60,18 +68,22 @@ put-requires t c =
 pub returns-in_err-put-clause-kept : goal.returns-in_err-put-clause-kept
 returns-in_err-put-clause-kept t c =
     whatever_fails c.from_residual-in_err-put.result _ (c.in_err-put.ensures.kept
-    ∙ promise_keeps c.in-Some.leaf c.args.self.now.states.items c.reserve.new.self.states.items c.in_ok-reserve.ensures.promised)
+    ∙ promise_keeps c.in-Some.leaf c.args.self.now.states.items c.reserve.new.self.states.items
+    c.in_ok-reserve.ensures.promised)
 
 pub returns-in_err-put-clause-others : goal.returns-in_err-put-clause-others
 returns-in_err-put-clause-others t c = λ n none.
     let at = sym c.leaf_at.ensures.leaf ∙ c.in-Some.is in
     let replicas = first_replicas c.args.topology.now c.args.range.0 in
-    untouched_rest replicas c.args.slot n c.in-Some.leaf c.reserve.new.self.states.items c.put.new.self.states.items at (c.put.ensures.others n) none
-    ∙ untouched_first replicas c.args.slot n c.in-Some.leaf _ c.args.self.now.states.items c.reserve.new.self.states.items at c.in_ok-reserve.ensures.promised none
+    untouched_rest replicas c.args.slot n c.in-Some.leaf c.reserve.new.self.states.items c.put.new.self.states.items at
+    (c.put.ensures.others n) none
+    ∙ untouched_first replicas c.args.slot n c.in-Some.leaf _ c.args.self.now.states.items
+    c.reserve.new.self.states.items at c.in_ok-reserve.ensures.promised none
 
 pub apply-requires-clause-there : goal.apply-requires-clause-there
 apply-requires-clause-there t c =
-    let there = replica_there c.args.topology.now c.args.range c.args.slot c.in-Some.leaf c.requires.replicas (sym c.leaf_at.ensures.leaf ∙ c.in-Some.is) in
+    let there = replica_there c.args.topology.now c.args.range c.args.slot c.in-Some.leaf c.requires.replicas
+    (sym c.leaf_at.ensures.leaf ∙ c.in-Some.is) in
     let many = c.requires.alike.count in
     let first = c.reserve.ensures.count in
     let second = c.put.ensures.count in omega arith
@@ -84,10 +96,14 @@ apply-requires-clause-may t c =
     let new = c.put.new.self.states.items in
     let at = sym c.leaf_at.ensures.leaf ∙ c.in-Some.is in
     let same = promise_keeps c.in-Some.leaf old mid c.in_ok-reserve.ensures.promised in
-    let keep = subst (λ h. AllKeep (leaf_of zones) (with_row_from (first_rows h) c.args.range (c.args.slot + 1) c.args.row.now) (histories new)) same c.in_ok-put.ensures.put in
-    subst (λ row. IfSome (slice_get new c.in-Some.leaf.0) (MayCome (entry.Put 0 c.args.range (record { 0 = c.args.slot }) row))) (sym c.in_ok-own.ensures.equal)
-    (may_put zones (first_rows (histories old)) old mid new c.args.range c.args.slot c.in-Some.leaf c.args.row.now keep at c.requires.source c.in_ok-reserve.ensures.promised
-    (c.put.ensures.others c.in-Some.leaf.0 (apart_later (first_replicas zones c.args.range.0) c.args.slot c.in-Some.leaf c.requires.replicas.distinct at)))
+    let keep = subst (λ h. AllKeep (leaf_of zones) (with_row_from (first_rows h) c.args.range (c.args.slot + 1)
+    c.args.row.now) (histories new)) same c.in_ok-put.ensures.put in
+    subst (λ row. IfSome (slice_get new c.in-Some.leaf.0)
+    (MayCome (entry.Put 0 c.args.range (record { 0 = c.args.slot }) row))) (sym c.in_ok-own.ensures.equal)
+    (may_put zones (first_rows (histories old)) old mid new c.args.range c.args.slot c.in-Some.leaf c.args.row.now keep
+    at c.requires.source c.in_ok-reserve.ensures.promised
+    (c.put.ensures.others c.in-Some.leaf.0 (apart_later (first_replicas zones c.args.range.0) c.args.slot
+    c.in-Some.leaf c.requires.replicas.distinct at)))
 
 pub returns-clause-put : goal.returns-clause-put
 returns-clause-put t c =
@@ -98,15 +114,21 @@ returns-clause-put t c =
     let new = c.apply.new.self.states.items in
     let at = sym c.leaf_at.ensures.leaf ∙ c.in-Some.is in
     let same = promise_keeps c.in-Some.leaf old mid c.in_ok-reserve.ensures.promised in
-    let keep = subst (λ h. AllKeep (leaf_of zones) (with_row_from (first_rows h) c.args.range (c.args.slot + 1) c.args.row.now) (histories put)) same c.in_ok-put.ensures.put in
-    let more = subst (λ row. HasEntry c.in-Some.leaf (entry.Put 0 c.args.range (record { 0 = c.args.slot }) row) (histories put) (histories new)) c.in_ok-own.ensures.equal
+    let keep = subst (λ h. AllKeep (leaf_of zones) (with_row_from (first_rows h) c.args.range (c.args.slot + 1)
+    c.args.row.now) (histories put)) same c.in_ok-put.ensures.put in
+    let more = subst (λ row. HasEntry c.in-Some.leaf (entry.Put 0 c.args.range (record { 0 = c.args.slot }) row)
+    (histories put) (histories new)) c.in_ok-own.ensures.equal
     (histories_more c.in-Some.leaf _ put new c.apply.ensures.applied) in
-    put_more zones (first_rows (histories old)) (histories put) (histories new) c.args.range c.args.slot c.in-Some.leaf c.args.row.now keep at c.requires.source more
+    put_more zones (first_rows (histories old)) (histories put) (histories new) c.args.range c.args.slot c.in-Some.leaf
+    c.args.row.now keep at c.requires.source more
 
 pub returns-clause-others : goal.returns-clause-others
 returns-clause-others t c = λ n none.
     let at = sym c.leaf_at.ensures.leaf ∙ c.in-Some.is in
     let replicas = first_replicas c.args.topology.now c.args.range.0 in
-    untouched_first replicas c.args.slot n c.in-Some.leaf _ c.put.new.self.states.items c.apply.new.self.states.items at c.apply.ensures.applied none
-    ∙ untouched_rest replicas c.args.slot n c.in-Some.leaf c.reserve.new.self.states.items c.put.new.self.states.items at (c.put.ensures.others n) none
-    ∙ untouched_first replicas c.args.slot n c.in-Some.leaf _ c.args.self.now.states.items c.reserve.new.self.states.items at c.in_ok-reserve.ensures.promised none
+    untouched_first replicas c.args.slot n c.in-Some.leaf _ c.put.new.self.states.items c.apply.new.self.states.items
+    at c.apply.ensures.applied none
+    ∙ untouched_rest replicas c.args.slot n c.in-Some.leaf c.reserve.new.self.states.items c.put.new.self.states.items
+    at (c.put.ensures.others n) none
+    ∙ untouched_first replicas c.args.slot n c.in-Some.leaf _ c.args.self.now.states.items
+    c.reserve.new.self.states.items at c.in_ok-reserve.ensures.promised none

@@ -15,7 +15,8 @@ loop-leaf-preserved c =
 pub returns : goal.returns
 returns c = record {
   opened = record {
-    count = let end = c.leaves-leaf-end.ensures.count in let past = c.loop-leaf-test.false in let before = c.loop-leaf.auto.leaf-end in
+    count = let end = c.leaves-leaf-end.ensures.count in let past = c.loop-leaf-test.false in
+        let before = c.loop-leaf.auto.leaf-end in
         let many = c.loop-leaf.invariant.many in omega arith;
     keep = c.loop-leaf.invariant.keep;
   };

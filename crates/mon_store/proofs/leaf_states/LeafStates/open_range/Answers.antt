@@ -23,7 +23,8 @@ pub open_replica-requires-clause-may : goal.open_replica-requires-clause-may
 open_replica-requires-clause-may c =
     let leaf = get_or c.as_slice-leaf-items.result.now c.loop-leaf.leaf-index (record { 0 = 0 }) in
     let fact = may_open c.args.topology.now c.loop-leaf.self.states.items c.args.range c.loop-leaf.slot leaf
-    (subst (λ n. AreOpened (opened_before c.args.topology.now c.args.range.0 n) c.args.topology.now c.loop-leaf.self.states.items) (sym c.loop-leaf.invariant.slot) c.loop-leaf.invariant.opened) in fact
+    (subst (λ n. AreOpened (opened_before c.args.topology.now c.args.range.0 n) c.args.topology.now
+    c.loop-leaf.self.states.items) (sym c.loop-leaf.invariant.slot) c.loop-leaf.invariant.opened) in fact
 
 pub overflow_add-slot : goal.overflow_add-slot
 overflow_add-slot c =
@@ -44,16 +45,19 @@ loop-leaf-preserved c =
     replica_at zones c.args.range c.as_slice-leaf-items.result.now place (record { 0 = 0 })
     (c.as_slice-leaf-items.ensures.items ∙ c.first_replicas.ensures.replicas) (omega (arith, c.loop-leaf-test.true)) in
     let more : HasEntry leaf (entry.Opened 0 c.args.range (record { 0 = place }) []) (histories old) (histories new) =
-    subst (λ n. HasEntry leaf (entry.Opened 0 c.args.range (record { 0 = n }) []) (histories old) (histories new)) c.loop-leaf.invariant.slot
+    subst (λ n. HasEntry leaf (entry.Opened 0 c.args.range (record { 0 = n }) []) (histories old) (histories new))
+    c.loop-leaf.invariant.slot
     c.in_ok-open_replica.ensures.opened in
     record {
-      opened = opened_more zones old new c.args.range place leaf c.loop-leaf.invariant.opened at c.in_ok-open_replica.ensures.count more;
+      opened = opened_more zones old new c.args.range place leaf c.loop-leaf.invariant.opened at
+          c.in_ok-open_replica.ensures.count more;
       slot = ap (λ n. n + 1) c.loop-leaf.invariant.slot;
     }
 
 pub returns : goal.returns
 returns c = record {
-  opened = opened_range c.args.topology.now c.loop-leaf.self.states.items c.args.range c.loop-leaf.leaf-index c.loop-leaf.invariant.opened
+  opened = opened_range c.args.topology.now c.loop-leaf.self.states.items c.args.range c.loop-leaf.leaf-index
+      c.loop-leaf.invariant.opened
       (let same = ap length (c.as_slice-leaf-items.ensures.items ∙ c.first_replicas.ensures.replicas) in
       let past = c.loop-leaf-test.false in omega arith);
 }

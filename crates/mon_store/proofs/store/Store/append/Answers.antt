@@ -10,8 +10,10 @@ put-requires-clause-alike c = c.requires.kept.rows.alike
 pub returns-in_err-put-clause-kept : goal.returns-in_err-put-clause-kept
 returns-in_err-put-clause-kept c = record {
   limited = c.requires.kept.limited;
-  rows = subst (λ (order : List Range). AreKept c.args.config.now c.put.new.self.states.items order) (sym c.reserve.ensures.items)
-      (kept_same c.args.config.now c.args.self.now.leaves.states.items c.put.new.self.states.items c.args.self.now.order.items c.requires.kept.rows
+  rows = subst (λ (order : List Range). AreKept c.args.config.now c.put.new.self.states.items order)
+      (sym c.reserve.ensures.items)
+      (kept_same c.args.config.now c.args.self.now.leaves.states.items c.put.new.self.states.items
+      c.args.self.now.order.items c.requires.kept.rows
       c.put.ensures.count c.in_err-put.ensures.kept);
   firsts = c.requires.kept.firsts;
 }
@@ -22,11 +24,13 @@ returns-clause-kept c =
     let old = c.args.self.now.leaves.states.items in
     let new = c.put.new.self.states.items in
     let has = c.ranges_have_replicas.ensures.replicas in
-    let pushed = c.push_reserved.ensures.items ∙ ap (λ (order : List Range). order ++ c.args.range ∷ []) c.reserve.ensures.items in
+    let pushed = c.push_reserved.ensures.items ∙ ap (λ (order : List Range). order ++ c.args.range ∷ [])
+    c.reserve.ensures.items in
     record {
       limited = c.requires.kept.limited;
       rows = subst (λ (order : List Range). AreKept config new order) (sym pushed)
-          (kept_more config old new c.args.self.now.order.items c.args.range c.args.row.now has c.requires.kept.rows c.requires.range c.requires.there c.put.ensures.count c.in_ok-put.ensures.put);
+          (kept_more config old new c.args.self.now.order.items c.args.range c.args.row.now has c.requires.kept.rows
+          c.requires.range c.requires.there c.put.ensures.count c.in_ok-put.ensures.put);
       firsts = c.requires.kept.firsts;
     }
 
@@ -36,6 +40,8 @@ returns-clause-written c =
     let old = c.args.self.now.leaves.states.items in
     let new = c.put.new.self.states.items in
     let has = c.ranges_have_replicas.ensures.replicas in
-    let pushed = c.push_reserved.ensures.items ∙ ap (λ (order : List Range). order ++ c.args.range ∷ []) c.reserve.ensures.items in
+    let pushed = c.push_reserved.ensures.items ∙ ap (λ (order : List Range). order ++ c.args.range ∷ [])
+    c.reserve.ensures.items in
     ap (λ (order : List Range). rows_kept new order) pushed
-    ∙ rows_more config old new c.args.self.now.order.items c.args.range c.args.row.now has c.requires.kept.rows c.requires.there c.put.ensures.count c.in_ok-put.ensures.put
+    ∙ rows_more config old new c.args.self.now.order.items c.args.range c.args.row.now has c.requires.kept.rows
+    c.requires.there c.put.ensures.count c.in_ok-put.ensures.put

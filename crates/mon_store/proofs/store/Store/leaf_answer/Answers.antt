@@ -15,7 +15,8 @@ eval_leaf-requires-clause-opened c =
     let at = c.state.ensures.state in
     let listed = c.firsts_on.ensures.slots in
     let are = c.requires.sound.kept.firsts.each c.args.leaf.0 c.firsts_on.result.now listed in
-    leaf_opened c.args.config.now leaves c.args.self.now.order.items c.requires.sound.kept.rows c.args.leaf.0 c.state.result.now at c.firsts_on.result.now are
+    leaf_opened c.args.config.now leaves c.args.self.now.order.items c.requires.sound.kept.rows c.args.leaf.0
+    c.state.result.now at c.firsts_on.result.now are
 
 pub eval_leaf-requires-clause-apart : goal.eval_leaf-requires-clause-apart
 eval_leaf-requires-clause-apart c =
@@ -23,7 +24,8 @@ eval_leaf-requires-clause-apart c =
     let at = c.state.ensures.state in
     let listed = c.firsts_on.ensures.slots in
     let are = c.requires.sound.kept.firsts.each c.args.leaf.0 c.firsts_on.result.now listed in
-    leaf_apart c.args.config.now leaves c.args.self.now.order.items c.requires.sound.kept.rows c.args.leaf.0 c.state.result.now at c.firsts_on.result.now are
+    leaf_apart c.args.config.now leaves c.args.self.now.order.items c.requires.sound.kept.rows c.args.leaf.0
+    c.state.result.now at c.firsts_on.result.now are
 
 pub eval_leaf-requires-clause-typed : goal.eval_leaf-requires-clause-typed
 eval_leaf-requires-clause-typed c =
@@ -33,8 +35,10 @@ eval_leaf-requires-clause-typed c =
     let listed = c.firsts_on.ensures.slots in
     let are = c.requires.sound.kept.firsts.each c.args.leaf.0 c.firsts_on.result.now listed in
     subst (λ (rows : List Row). IsTyped typed rows)
-    (sym (leaf_source c.args.config.now leaves c.args.self.now.order.items c.requires.sound.kept.rows c.args.leaf.0 c.state.result.now at c.firsts_on.result.now are))
-    (leaf_typed c.args.config.now typed (accepted_rows c.args.self.now) c.args.leaf.0 c.requires.typed c.requires.sound.fit)
+    (sym (leaf_source c.args.config.now leaves c.args.self.now.order.items c.requires.sound.kept.rows c.args.leaf.0
+    c.state.result.now at c.firsts_on.result.now are))
+    (leaf_typed c.args.config.now typed (accepted_rows c.args.self.now) c.args.leaf.0 c.requires.typed
+    c.requires.sound.fit)
 
 pub returns : goal.returns
 returns c =
@@ -45,8 +49,11 @@ returns c =
     let are = c.requires.sound.kept.firsts.each c.args.leaf.0 c.firsts_on.result.now listed in
     let plain : to_z w64 (of_z w64 c.args.moment) ≡ c.args.moment = search rules in
     record {
-      answer = subst (λ (m : ℤ). IsLeafAnswer typed (leaf_rows c.args.config.now (accepted_rows c.args.self.now) c.args.leaf.0) m c.args.config.now.limit c.eval_leaf.result) plain
-          (subst (λ (rows : List Row). IsLeafAnswer typed rows (to_z w64 (of_z w64 c.args.moment)) c.args.config.now.limit c.eval_leaf.result)
-          (leaf_source c.args.config.now leaves c.args.self.now.order.items c.requires.sound.kept.rows c.args.leaf.0 c.state.result.now at c.firsts_on.result.now are)
+      answer = subst (λ (m : ℤ). IsLeafAnswer typed (leaf_rows c.args.config.now (accepted_rows c.args.self.now)
+          c.args.leaf.0) m c.args.config.now.limit c.eval_leaf.result) plain
+          (subst (λ (rows : List Row). IsLeafAnswer typed rows (to_z w64 (of_z w64 c.args.moment))
+          c.args.config.now.limit c.eval_leaf.result)
+          (leaf_source c.args.config.now leaves c.args.self.now.order.items c.requires.sound.kept.rows c.args.leaf.0
+          c.state.result.now at c.firsts_on.result.now are)
           c.eval_leaf.ensures.answer);
     }

@@ -6,4 +6,7 @@ use Rattle.mon_store.proofs.store.Store.len.Goals as goal
 pub returns : goal.returns
 returns c =
     let count : c.len.result ≡ length c.args.self.now.order.items = search rules in
-    record { count = count ∙ sym (length-in_turn c.args.self.now.order.items (first_rows (histories c.args.self.now.leaves.states.items))) }
+    record {
+      count = count ∙ sym (length-in_turn c.args.self.now.order.items
+          (first_rows (histories c.args.self.now.leaves.states.items)));
+    }

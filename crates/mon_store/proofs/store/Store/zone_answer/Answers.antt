@@ -13,7 +13,8 @@ use Rattle.mon_store.specs.within.Divisions.{divided_rows, leaf_rows, listed, zo
 use Rattle.mon_store.specs.Stores.{accepted_rows}
 use Rattle.mon_store.proofs.DivisionLemmas.{is_divided}
 use Rattle.mon_store.proofs.ListedLemmas.{listed_split}
-use Rattle.mon_store.proofs.TableLemmas.{few_leaves, in_zone_at, leaf_parts_more, part_of, refused_leaf, refused_on, zone_leaf_there, zone_part, zone_refused}
+use Rattle.mon_store.proofs.TableLemmas.{few_leaves, in_zone_at, leaf_parts_more, part_of, refused_leaf, refused_on}
+use Rattle.mon_store.proofs.TableLemmas.{zone_leaf_there, zone_part, zone_refused}
 use Rattle.mon_store.proofs.store.Store.zone_answer.Goals as goal
 
 pub overflow_add-first : goal.overflow_add-first
@@ -42,7 +43,8 @@ returns-in_err-part-clause-refused c =
     let rows = accepted_rows store in
     let typed = typed_tree c.args.plan.now.typed in
     let divided : IsDivided typed (divided_rows config rows) =
-    is_divided config leaves order typed c.requires.sound.kept.rows c.ranges_have_replicas.ensures.replicas c.requires.typed c.requires.sound.fit in
+    is_divided config leaves order typed c.requires.sound.kept.rows c.ranges_have_replicas.ensures.replicas
+    c.requires.typed c.requires.sound.fit in
     let f : ℕ → List Row = λ i. leaf_rows config rows (first_leaf config.topology c.args.zone.0 + i) in
     let within : c.loop-place.place < length (zone_at c.args.config.now.topology c.args.zone.0).leaves =
     let test = c.loop-place-test.true in let count = c.leaves_of-count.ensures.count in omega arith in
@@ -51,14 +53,20 @@ returns-in_err-part-clause-refused c =
     let refused = c.in_err-part.field-0.0 in
     let plain : to_z w64 (of_z w64 c.args.moment) ≡ c.args.moment = search rules in
     let own = refused_leaf typed c.args.moment config.limit (f c.loop-place.place) c.leaf_answer.result refused
-    (subst (λ n. IsLeafAnswer typed (leaf_rows config rows (n + c.loop-place.place)) c.args.moment config.limit c.leaf_answer.result) c.leaves_of-count.ensures.first
-    (subst (λ (m : ℤ). IsLeafAnswer typed (leaf_rows config rows (c.leaves_of-count.result.0.0 + c.loop-place.place)) m config.limit c.leaf_answer.result) plain c.leaf_answer.ensures.answer))
+    (subst (λ n. IsLeafAnswer typed (leaf_rows config rows (n + c.loop-place.place)) c.args.moment config.limit
+    c.leaf_answer.result) c.leaves_of-count.ensures.first
+    (subst (λ (m : ℤ). IsLeafAnswer typed (leaf_rows config rows (c.leaves_of-count.result.0.0 + c.loop-place.place)) m
+    config.limit c.leaf_answer.result) plain c.leaf_answer.ensures.answer))
     c.in_err-part.was in
     let fact : IsRefusedBy typed (all_rows (divided_rows config rows)) c.args.moment config.limit refused =
-    subst (λ (zones : List (List (List Row))). IsRefusedBy typed (all_rows zones) c.args.moment config.limit refused) (sym split.is)
-    (c.refused_parts_refuse_queries.ensures.leaf typed (listed (zone_rows config rows) c.args.zone.0) split.first (f c.loop-place.place) split.rest split.after c.args.moment config.limit refused
+    subst (λ (zones : List (List (List Row))). IsRefusedBy typed (all_rows zones) c.args.moment config.limit refused)
+    (sym split.is)
+    (c.refused_parts_refuse_queries.ensures.leaf typed (listed (zone_rows config rows) c.args.zone.0) split.first
+    (f c.loop-place.place) split.rest split.after c.args.moment config.limit refused
     c.requires.moment (subst (IsDivided typed) split.is divided) own) in
-    refused_on c.from_residual.result (λ (r : Refusal OverLimit). IsRefusedBy typed (all_rows (divided_rows config rows)) c.args.moment config.limit r) refused (err_from_is_err_and c.from_residual.result c.from_residual.ensures.1) fact
+    refused_on c.from_residual.result (λ (r : Refusal OverLimit). IsRefusedBy typed
+    (all_rows (divided_rows config rows)) c.args.moment config.limit r) refused
+    (err_from_is_err_and c.from_residual.result c.from_residual.ensures.1) fact
 
 pub loop-place-preserved : goal.loop-place-preserved
 loop-place-preserved c =
@@ -67,9 +75,12 @@ loop-place-preserved c =
     let typed = typed_tree c.args.plan.now.typed in
     let moment : ℤ = to_z w64 (of_z w64 c.args.moment) in
     let f : ℕ → List Row = λ i. leaf_rows config rows (c.leaves_of-count.result.0.0 + i) in
-    let own = part_of typed moment config.limit (f c.loop-place.place) c.leaf_answer.result c.in_ok-part.part c.leaf_answer.ensures.answer c.in_ok-part.was in
-    subst (λ parts. AllLeafParts typed (listed f (c.loop-place.place + 1)) moment config.limit parts) (sym c.in_ok-push.ensures.added)
-    (leaf_parts_more typed moment config.limit f c.loop-place.place c.loop-place.parts c.in_ok-part.part c.loop-place.invariant own)
+    let own = part_of typed moment config.limit (f c.loop-place.place) c.leaf_answer.result c.in_ok-part.part
+    c.leaf_answer.ensures.answer c.in_ok-part.was in
+    subst (λ parts. AllLeafParts typed (listed f (c.loop-place.place + 1)) moment config.limit parts)
+    (sym c.in_ok-push.ensures.added)
+    (leaf_parts_more typed moment config.limit f c.loop-place.place c.loop-place.parts c.in_ok-part.part
+    c.loop-place.invariant own)
 
 pub mix_zone-requires-clause-asked : goal.mix_zone-requires-clause-asked
 mix_zone-requires-clause-asked c =
@@ -80,18 +91,23 @@ mix_zone-requires-clause-asked c =
     let rows = accepted_rows store in
     let typed = typed_tree c.args.plan.now.typed in
     let divided : IsDivided typed (divided_rows config rows) =
-    is_divided config leaves order typed c.requires.sound.kept.rows c.ranges_have_replicas.ensures.replicas c.requires.typed c.requires.sound.fit in
+    is_divided config leaves order typed c.requires.sound.kept.rows c.ranges_have_replicas.ensures.replicas
+    c.requires.typed c.requires.sound.fit in
     let f : ℕ → List Row = λ i. leaf_rows config rows (first_leaf config.topology c.args.zone.0 + i) in
     let outer = listed_split (zone_rows config rows) (length config.topology) c.args.zone.0 c.requires.there in
     let end : c.loop-place.place ≡ length (zone_at config.topology c.args.zone.0).leaves =
-    let past = c.loop-place-test.false in let before = c.loop-place.auto.place-end in let count = c.leaves_of-count.ensures.count in omega arith in
+    let past = c.loop-place-test.false in let before = c.loop-place.auto.place-end in
+    let count = c.leaves_of-count.ensures.count in omega arith in
     let plain : to_z w64 (of_z w64 c.args.moment) ≡ c.args.moment = search rules in
     let each : AllLeafParts typed (zone_rows config rows c.args.zone.0) c.args.moment config.limit c.loop-place.parts =
     subst (λ n. AllLeafParts typed (listed f n) c.args.moment config.limit c.loop-place.parts) end
-    (subst (λ n. AllLeafParts typed (listed (λ i. leaf_rows config rows (n + i)) c.loop-place.place) c.args.moment config.limit c.loop-place.parts) c.leaves_of-count.ensures.first
-    (subst (λ (m : ℤ). AllLeafParts typed (listed (λ i. leaf_rows config rows (c.leaves_of-count.result.0.0 + i)) c.loop-place.place) m config.limit c.loop-place.parts) plain c.loop-place.invariant)) in
+    (subst (λ n. AllLeafParts typed (listed (λ i. leaf_rows config rows (n + i)) c.loop-place.place) c.args.moment
+    config.limit c.loop-place.parts) c.leaves_of-count.ensures.first
+    (subst (λ (m : ℤ). AllLeafParts typed (listed (λ i. leaf_rows config rows (c.leaves_of-count.result.0.0 + i))
+    c.loop-place.place) m config.limit c.loop-place.parts) plain c.loop-place.invariant)) in
     let are : AreLeafParts typed (zone_rows config rows c.args.zone.0) c.args.moment config.limit c.loop-place.parts =
-    c.zones_are_asked.ensures.leaves typed (listed (zone_rows config rows) c.args.zone.0) (zone_rows config rows c.args.zone.0) outer.rest c.args.moment config.limit c.loop-place.parts
+    c.zones_are_asked.ensures.leaves typed (listed (zone_rows config rows) c.args.zone.0)
+    (zone_rows config rows c.args.zone.0) outer.rest c.args.moment config.limit c.loop-place.parts
     c.requires.moment (subst (IsDivided typed) outer.is divided) each in
     record { leaves = zone_rows config rows c.args.zone.0; moment = c.args.moment; are = are }
 
@@ -104,18 +120,23 @@ returns-clause-part c =
     let rows = accepted_rows store in
     let typed = typed_tree c.args.plan.now.typed in
     let divided : IsDivided typed (divided_rows config rows) =
-    is_divided config leaves order typed c.requires.sound.kept.rows c.ranges_have_replicas.ensures.replicas c.requires.typed c.requires.sound.fit in
+    is_divided config leaves order typed c.requires.sound.kept.rows c.ranges_have_replicas.ensures.replicas
+    c.requires.typed c.requires.sound.fit in
     let f : ℕ → List Row = λ i. leaf_rows config rows (first_leaf config.topology c.args.zone.0 + i) in
     let outer = listed_split (zone_rows config rows) (length config.topology) c.args.zone.0 c.requires.there in
     let end : c.loop-place.place ≡ length (zone_at config.topology c.args.zone.0).leaves =
-    let past = c.loop-place-test.false in let before = c.loop-place.auto.place-end in let count = c.leaves_of-count.ensures.count in omega arith in
+    let past = c.loop-place-test.false in let before = c.loop-place.auto.place-end in
+    let count = c.leaves_of-count.ensures.count in omega arith in
     let plain : to_z w64 (of_z w64 c.args.moment) ≡ c.args.moment = search rules in
     let each : AllLeafParts typed (zone_rows config rows c.args.zone.0) c.args.moment config.limit c.loop-place.parts =
     subst (λ n. AllLeafParts typed (listed f n) c.args.moment config.limit c.loop-place.parts) end
-    (subst (λ n. AllLeafParts typed (listed (λ i. leaf_rows config rows (n + i)) c.loop-place.place) c.args.moment config.limit c.loop-place.parts) c.leaves_of-count.ensures.first
-    (subst (λ (m : ℤ). AllLeafParts typed (listed (λ i. leaf_rows config rows (c.leaves_of-count.result.0.0 + i)) c.loop-place.place) m config.limit c.loop-place.parts) plain c.loop-place.invariant)) in
+    (subst (λ n. AllLeafParts typed (listed (λ i. leaf_rows config rows (n + i)) c.loop-place.place) c.args.moment
+    config.limit c.loop-place.parts) c.leaves_of-count.ensures.first
+    (subst (λ (m : ℤ). AllLeafParts typed (listed (λ i. leaf_rows config rows (c.leaves_of-count.result.0.0 + i))
+    c.loop-place.place) m config.limit c.loop-place.parts) plain c.loop-place.invariant)) in
     let are : AreLeafParts typed (zone_rows config rows c.args.zone.0) c.args.moment config.limit c.loop-place.parts =
-    c.zones_are_asked.ensures.leaves typed (listed (zone_rows config rows) c.args.zone.0) (zone_rows config rows c.args.zone.0) outer.rest c.args.moment config.limit c.loop-place.parts
+    c.zones_are_asked.ensures.leaves typed (listed (zone_rows config rows) c.args.zone.0)
+    (zone_rows config rows c.args.zone.0) outer.rest c.args.moment config.limit c.loop-place.parts
     c.requires.moment (subst (IsDivided typed) outer.is divided) each in
     zone_part typed c.args.moment config.limit (zone_rows config rows c.args.zone.0) c.mix_zone.result
     (c.mix_zone.ensures.answer (zone_rows config rows c.args.zone.0) c.args.moment are)
@@ -129,21 +150,29 @@ returns-clause-refused c =
     let rows = accepted_rows store in
     let typed = typed_tree c.args.plan.now.typed in
     let divided : IsDivided typed (divided_rows config rows) =
-    is_divided config leaves order typed c.requires.sound.kept.rows c.ranges_have_replicas.ensures.replicas c.requires.typed c.requires.sound.fit in
+    is_divided config leaves order typed c.requires.sound.kept.rows c.ranges_have_replicas.ensures.replicas
+    c.requires.typed c.requires.sound.fit in
     let f : ℕ → List Row = λ i. leaf_rows config rows (first_leaf config.topology c.args.zone.0 + i) in
     let outer = listed_split (zone_rows config rows) (length config.topology) c.args.zone.0 c.requires.there in
     let end : c.loop-place.place ≡ length (zone_at config.topology c.args.zone.0).leaves =
-    let past = c.loop-place-test.false in let before = c.loop-place.auto.place-end in let count = c.leaves_of-count.ensures.count in omega arith in
+    let past = c.loop-place-test.false in let before = c.loop-place.auto.place-end in
+    let count = c.leaves_of-count.ensures.count in omega arith in
     let plain : to_z w64 (of_z w64 c.args.moment) ≡ c.args.moment = search rules in
     let each : AllLeafParts typed (zone_rows config rows c.args.zone.0) c.args.moment config.limit c.loop-place.parts =
     subst (λ n. AllLeafParts typed (listed f n) c.args.moment config.limit c.loop-place.parts) end
-    (subst (λ n. AllLeafParts typed (listed (λ i. leaf_rows config rows (n + i)) c.loop-place.place) c.args.moment config.limit c.loop-place.parts) c.leaves_of-count.ensures.first
-    (subst (λ (m : ℤ). AllLeafParts typed (listed (λ i. leaf_rows config rows (c.leaves_of-count.result.0.0 + i)) c.loop-place.place) m config.limit c.loop-place.parts) plain c.loop-place.invariant)) in
+    (subst (λ n. AllLeafParts typed (listed (λ i. leaf_rows config rows (n + i)) c.loop-place.place) c.args.moment
+    config.limit c.loop-place.parts) c.leaves_of-count.ensures.first
+    (subst (λ (m : ℤ). AllLeafParts typed (listed (λ i. leaf_rows config rows (c.leaves_of-count.result.0.0 + i))
+    c.loop-place.place) m config.limit c.loop-place.parts) plain c.loop-place.invariant)) in
     let are : AreLeafParts typed (zone_rows config rows c.args.zone.0) c.args.moment config.limit c.loop-place.parts =
-    c.zones_are_asked.ensures.leaves typed (listed (zone_rows config rows) c.args.zone.0) (zone_rows config rows c.args.zone.0) outer.rest c.args.moment config.limit c.loop-place.parts
+    c.zones_are_asked.ensures.leaves typed (listed (zone_rows config rows) c.args.zone.0)
+    (zone_rows config rows c.args.zone.0) outer.rest c.args.moment config.limit c.loop-place.parts
     c.requires.moment (subst (IsDivided typed) outer.is divided) each in
-    zone_refused typed c.args.moment config.limit (divided_rows config rows) (zone_rows config rows c.args.zone.0) c.mix_zone.result
+    zone_refused typed c.args.moment config.limit (divided_rows config rows) (zone_rows config rows c.args.zone.0)
+    c.mix_zone.result
     (c.mix_zone.ensures.answer (zone_rows config rows c.args.zone.0) c.args.moment are)
-    (λ refused own. subst (λ (zones : List (List (List Row))). IsRefusedBy typed (all_rows zones) c.args.moment config.limit refused) (sym outer.is)
-    (c.refused_parts_refuse_queries.ensures.zone typed (listed (zone_rows config rows) c.args.zone.0) (zone_rows config rows c.args.zone.0) outer.rest c.args.moment config.limit refused
+    (λ refused own. subst (λ (zones : List (List (List Row))). IsRefusedBy typed (all_rows zones) c.args.moment
+    config.limit refused) (sym outer.is)
+    (c.refused_parts_refuse_queries.ensures.zone typed (listed (zone_rows config rows) c.args.zone.0)
+    (zone_rows config rows c.args.zone.0) outer.rest c.args.moment config.limit refused
     c.requires.moment (subst (IsDivided typed) outer.is divided) own))

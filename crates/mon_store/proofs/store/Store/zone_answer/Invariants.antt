@@ -8,5 +8,6 @@ use Rattle.mon_store.proofs.store.Store.zone_answer.Given as goal
 
 abbrev pub invariant-loop-place : goal.invariant-loop-place
 invariant-loop-place l =
-    AllLeafParts (typed_tree l.plan.typed) (listed (λ i. leaf_rows l.config (accepted_rows l.self) (l.first.0 + i)) l.place)
+    AllLeafParts (typed_tree l.plan.typed) (listed (λ i. leaf_rows l.config (accepted_rows l.self) (l.first.0 + i))
+    l.place)
     l.moment l.config.limit l.parts

@@ -11,7 +11,8 @@ pub returns : goal.returns
 returns c =
     let key = c.args.key.now in
     record {
-      found = ap entry_rows (c.get.ensures.value ∙ ap (λ (eq : JoinKey → JoinKey → Bool). get eq c.self.inside.by_key key) eq-same_join_key)
+      found = ap entry_rows (c.get.ensures.value ∙ ap (λ (eq : JoinKey → JoinKey → Bool). get eq c.self.inside.by_key
+          key) eq-same_join_key)
           ∙ c.self.invariant key
           ∙ ap (λ (side : RightSide). rows_in side.rights (key_row key) side.rows) c.self.view_is;
     }

@@ -7,4 +7,7 @@ use Rattle.mon_topo.proofs.names.NameMap.get.Goals as goal
 pub returns : goal.returns
 returns c =
     let name = c.args.name.now in
-    record { found = c.copied.ensures ∙ c.get.ensures.value ∙ lookup-named_entries name c.self.inside.numbers.entries ∙ ap (lookup (same_text name)) c.self.view_is }
+    record {
+      found = c.copied.ensures ∙ c.get.ensures.value ∙ lookup-named_entries name c.self.inside.numbers.entries
+          ∙ ap (lookup (same_text name)) c.self.view_is;
+    }

@@ -8,4 +8,8 @@ use Rattle.mon_topo.proofs.topology.Topology.leaf_counts.Goals as goal
 pub returns : goal.returns
 returns c =
     let counts = λ (spans : List ZoneSpan). map (λ (span : ZoneSpan). span.leaves) spans in
-    record { counts = c.loop-span.invariant ∙ ap counts (take_all c.loop-span.span-index c.deref-span-items.result.now (omega (arith, c.loop-span-test.false))) ∙ ap counts (c.deref-span-items.ensures.value ∙ c.self.invariant.1) ∙ leaves-spans_from 0 0 c.self.inside.zones ∙ ap leaf_counts c.self.view_is }
+    record {
+      counts = c.loop-span.invariant ∙ ap counts (take_all c.loop-span.span-index c.deref-span-items.result.now
+          (omega (arith, c.loop-span-test.false))) ∙ ap counts (c.deref-span-items.ensures.value ∙ c.self.invariant.1)
+          ∙ leaves-spans_from 0 0 c.self.inside.zones ∙ ap leaf_counts c.self.view_is;
+    }

@@ -14,12 +14,14 @@ pub returns-clause-first : goal.returns-clause-first
 returns-clause-first c =
     let zones = c.self.inside.zones in
     let there : c.args.zone.0 < length zones = omega (arith, c.requires, ap length c.self.view_is) in
-    let span = span_kept zones c.self.inside.spans.items c.args.zone.0 c.index-span.result.now c.self.invariant.1 there c.index-span.ensures in
+    let span = span_kept zones c.self.inside.spans.items c.args.zone.0 c.index-span.result.now c.self.invariant.1 there
+    c.index-span.ensures in
     span.first_range ∙ ap (λ (all : List ZoneSpec). first_range all c.args.zone.0) c.self.view_is
 
 pub returns-clause-count : goal.returns-clause-count
 returns-clause-count c =
     let zones = c.self.inside.zones in
     let there : c.args.zone.0 < length zones = omega (arith, c.requires, ap length c.self.view_is) in
-    let span = span_kept zones c.self.inside.spans.items c.args.zone.0 c.index-span.result.now c.self.invariant.1 there c.index-span.ensures in
+    let span = span_kept zones c.self.inside.spans.items c.args.zone.0 c.index-span.result.now c.self.invariant.1 there
+    c.index-span.ensures in
     span.ranges ∙ ap (λ (all : List ZoneSpec). length (zone_at all c.args.zone.0).ranges) c.self.view_is

@@ -8,5 +8,6 @@ use Rattle.mon_topo.proofs.topology.Topology.zone_of.Goals as goal
 pub returns-in-Some-clause-within : goal.returns-in-Some-clause-within
 returns-in-Some-clause-within c =
     let zones = c.self.inside.zones in
-    let found = found_within (λ (zone : ZoneSpec). list_any (same_text c.args.location.now) zone.locations) zones c.in-Some.number (c.in-Some.ensures.found ∙ c.self.invariant.4 c.args.location.now) in
+    let found = found_within (λ (zone : ZoneSpec). list_any (same_text c.args.location.now) zone.locations) zones
+    c.in-Some.number (c.in-Some.ensures.found ∙ c.self.invariant.4 c.args.location.now) in
     subst (λ (all : List ZoneSpec). c.in-Some.number < length all) c.self.view_is found

@@ -15,7 +15,8 @@ returns-then-running-share-clause-bound c =
     let share = c.from.result * c.sum-total.result in
     let total : c.sum-total.result ≡ sum counts = search rules in
     let share_is : share ≡ c.args.p * sum counts = cc in
-    let long : length counts ≡ length bounds + 1 = rw (c.as_slice-counts.ensures.items, c.as_slice-bounds.ensures.items) c.requires.buckets in
+    let long : length counts ≡ length bounds + 1 =
+    rw (c.as_slice-counts.ensures.items, c.as_slice-bounds.ensures.items) c.requires.buckets in
     let passed : HasPassed counts bounds c.args.p n share = record {
       buckets = long;
       some = omega arith;
@@ -35,7 +36,8 @@ returns-clause-bound c =
     let share = c.from.result * c.sum-total.result in
     let total : c.sum-total.result ≡ sum counts = search rules in
     let share_is : share ≡ c.args.p * sum counts = cc in
-    let long : length counts ≡ length bounds + 1 = rw (c.as_slice-counts.ensures.items, c.as_slice-bounds.ensures.items) c.requires.buckets in
+    let long : length counts ≡ length bounds + 1 =
+    rw (c.as_slice-counts.ensures.items, c.as_slice-bounds.ensures.items) c.requires.buckets in
     let passed : HasPassed counts bounds c.args.p (length bounds) share = record {
       buckets = long;
       some = omega arith;
@@ -44,6 +46,7 @@ returns-clause-bound c =
     } in
     let bounded : 0 < length bounds = rw c.as_slice-bounds.ensures.items c.requires.bounded in
     let found = percentile_of-last counts bounds c.args.p share passed bounded c.requires.to_hundred in
-    let last : slice_get bounds (length bounds - 1) ≡ Some (get_or bounds (length bounds - 1) (pos 0)) = slice_get-get_or bounds (length bounds - 1) (pos 0) (omega arith) in
+    let last : slice_get bounds (length bounds - 1) ≡ Some (get_or bounds (length bounds - 1) (pos 0)) =
+    slice_get-get_or bounds (length bounds - 1) (pos 0) (omega arith) in
     let given = c.copied.ensures ∙ c.last.ensures.value ∙ last in
     rw (given, ← c.as_slice-counts.ensures.items, ← c.as_slice-bounds.ensures.items) (sym found)

@@ -7,6 +7,7 @@ use Rattle.mql_ast.proofs.copying.predicates.copied_first.Given as goal
 
 abbrev pub invariant-loop-first : goal.invariant-loop-first
 invariant-loop-first l = record {
-  tree : linked_tree l.links.items (predicate_tree l.first) ≡ linked_tree l.fn.links.items (predicate_tree l.fn.predicate);
+  tree : linked_tree l.links.items (predicate_tree l.first) ≡ linked_tree l.fn.links.items
+      (predicate_tree l.fn.predicate);
   count : linked_nodes l.links.items + nodes l.first ≡ linked_nodes l.fn.links.items + nodes l.fn.predicate;
 }

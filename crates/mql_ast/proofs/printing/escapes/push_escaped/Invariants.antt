@@ -7,4 +7,5 @@ use Rattle.mql_ast.proofs.printing.escapes.push_escaped.Given as goal
 
 abbrev pub invariant-loop-sign : goal.invariant-loop-sign
 invariant-loop-sign l =
-    string_bytes l.out ++ escaped (marks_of l.marks) (chars_rest l.sign-iterator) ≡ string_bytes l.fn.out ++ escaped (marks_of l.marks) l.text
+    string_bytes l.out ++ escaped (marks_of l.marks) (chars_rest l.sign-iterator) ≡ string_bytes l.fn.out
+    ++ escaped (marks_of l.marks) l.text

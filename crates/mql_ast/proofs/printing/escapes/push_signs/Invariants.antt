@@ -5,4 +5,5 @@ use Rattle.mql_ast.proofs.printing.escapes.push_signs.Given as goal
 
 abbrev pub invariant-loop-piece : goal.invariant-loop-piece
 invariant-loop-piece l =
-    string_bytes l.signs ++ behind (codes ".*") (map (escaped is_pattern_mark) (drop l.piece-index l.rest)) ≡ string_bytes l.fn.signs ++ pattern_signs l.fn.pieces
+    string_bytes l.signs ++ behind (codes ".*") (map (escaped is_pattern_mark) (drop l.piece-index l.rest))
+    ≡ string_bytes l.fn.signs ++ pattern_signs l.fn.pieces

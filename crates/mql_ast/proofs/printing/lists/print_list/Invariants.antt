@@ -5,4 +5,5 @@ use Rattle.mql_ast.proofs.printing.lists.print_list.Given as goal
 
 abbrev pub invariant-loop-item : goal.invariant-loop-item
 invariant-loop-item g l =
-    string_bytes l.out ++ behind comma (map g.T.Print.text (drop l.item-index l.rest)) ≡ string_bytes l.fn.out ++ separated comma (map g.T.Print.text l.fn.items)
+    string_bytes l.out ++ behind comma (map g.T.Print.text (drop l.item-index l.rest)) ≡ string_bytes l.fn.out
+    ++ separated comma (map g.T.Print.text l.fn.items)

@@ -6,4 +6,5 @@ use Rattle.mql_ast.proofs.printing.operations.print_ops.Given as goal
 
 abbrev pub invariant-loop-op : goal.invariant-loop-op
 invariant-loop-op l =
-    string_bytes l.out ++ ops_text (map op_tree (drop l.op-index l.ops)) ≡ string_bytes l.fn.out ++ ops_text (map op_tree l.fn.ops)
+    string_bytes l.out ++ ops_text (map op_tree (drop l.op-index l.ops)) ≡ string_bytes l.fn.out
+    ++ ops_text (map op_tree l.fn.ops)

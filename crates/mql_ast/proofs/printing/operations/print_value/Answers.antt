@@ -15,7 +15,10 @@ items_listed (item ∷ items) = ap (λ t. item_text (item_tree item) ∷ t) (ite
 pub returns : goal.returns
 returns c = record {
   text = on_ok_weaker c.push_str-2.result
-      (λ e. three (codes "value [") (separated comma (map item_text (map item_tree c.args.items.now))) (codes "]") (string_bytes c.args.out.now) (string_bytes c.push_str.new.self) (string_bytes c.print_list.new.out) (string_bytes c.push_str-2.new.self)
-      c.in_ok-push_str.ensures.bytes (c.in_ok-print_list.ensures.text ∙ ap (λ t. string_bytes c.push_str.new.self ++ separated comma t) (items_listed c.args.items.now)) e)
+      (λ e. three (codes "value [") (separated comma (map item_text (map item_tree c.args.items.now))) (codes "]")
+      (string_bytes c.args.out.now) (string_bytes c.push_str.new.self) (string_bytes c.print_list.new.out)
+      (string_bytes c.push_str-2.new.self)
+      c.in_ok-push_str.ensures.bytes (c.in_ok-print_list.ensures.text ∙ ap (λ t. string_bytes c.push_str.new.self
+      ++ separated comma t) (items_listed c.args.items.now)) e)
       (search rules);
 }

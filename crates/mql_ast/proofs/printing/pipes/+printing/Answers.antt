@@ -12,7 +12,9 @@ print_source-returns-in_ok-print_branches-in-Branches t c =
     let w = c.in-Branches in
     record {
       text = on_ok_weaker c.print_how.result
-          (λ e. three (codes "{") (branches_text (branches (map pipe_tree w.pipes.items))) (codes "} | " ++ how_text w.how) out (string_bytes c.push_str.new.self) (string_bytes c.print_branches.new.out) (string_bytes c.print_how.new.out) (search rules) (search rules) e
+          (λ e. three (codes "{") (branches_text (branches (map pipe_tree w.pipes.items))) (codes "} | "
+          ++ how_text w.how) out (string_bytes c.push_str.new.self) (string_bytes c.print_branches.new.out)
+          (string_bytes c.print_how.new.out) (search rules) (search rules) e
           ∙ ap (λ s. out ++ source_text s) (sym (ap source_tree w.is ∙ branches_of_source w.at w.pipes w.how w.how_at)))
           c.print_how.ensures.text;
     }

@@ -6,4 +6,5 @@ use Rattle.mql_ast.proofs.printing.pipes.+printing.Given as goal
 
 abbrev pub invariant-print_branches-loop-pipe : goal.invariant-print_branches-loop-pipe
 invariant-print_branches-loop-pipe l =
-    string_bytes l.out ++ further_text (branches (map pipe_tree (drop l.pipe-index l.rest))) ≡ string_bytes l.fn.out ++ branches_text (branches (map pipe_tree l.fn.pipes))
+    string_bytes l.out ++ further_text (branches (map pipe_tree (drop l.pipe-index l.rest))) ≡ string_bytes l.fn.out
+    ++ branches_text (branches (map pipe_tree l.fn.pipes))

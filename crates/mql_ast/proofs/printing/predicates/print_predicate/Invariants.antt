@@ -7,7 +7,8 @@ use Rattle.mql_ast.proofs.printing.predicates.print_predicate.Given as goal
 
 abbrev pub invariant-loop-part : goal.invariant-loop-part
 invariant-loop-part l =
-    string_bytes l.out ++ remaining_text l.parts.items ≡ string_bytes l.fn.out ++ predicate_text 0 (predicate_tree l.fn.predicate)
+    string_bytes l.out ++ remaining_text l.parts.items ≡ string_bytes l.fn.out ++ predicate_text 0
+    (predicate_tree l.fn.predicate)
 
 abbrev pub decreases-loop-part : goal.decreases-loop-part
 decreases-loop-part l = remaining_weight l.parts.items

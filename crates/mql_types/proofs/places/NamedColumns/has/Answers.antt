@@ -4,4 +4,7 @@ use Rattle.mql_types.proofs.places.NamedColumns.has.Goals as goal
 
 pub returns : goal.returns
 returns c =
-    record { had = c.is_some.ensures ∙ ap is_some c.place.ensures.place ∙ sym (has_name-place c.args.name.now c.args.self.now) }
+    record {
+      had = c.is_some.ensures ∙ ap is_some c.place.ensures.place
+          ∙ sym (has_name-place c.args.name.now c.args.self.now);
+    }

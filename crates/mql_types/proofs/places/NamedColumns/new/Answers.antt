@@ -13,12 +13,15 @@ loop-place-preserved c name =
     let column : Column = c.index-columns-place.result in
     let i = c.loop-place.place in
     let before = take i columns in
-    let next : take (i + 1) columns ≡ before ++ column ∷ [] = take_more columns i column (omega (arith, c.loop-place-test.true))
+    let next : take (i + 1) columns ≡ before ++ column ∷ [] = take_more columns i column
+    (omega (arith, c.loop-place-test.true))
     ∙ ap (λ (x : Column). before ++ x ∷ []) (sym c.index-columns-place.is) in
     let count = length-take-le i columns (omega (arith, c.loop-place-test.true)) in
     c.in_ok-add_place.ensures.added name
     ∙ ap (λ o. option_or o (cond (same_text name.now c.as_str.result.now) (Some i) None)) (c.loop-place.invariant name)
-    ∙ ap (λ text. option_or (place_found name.now before) (cond (same_text name.now text) (Some i) None)) c.as_str.ensures.bytes
-    ∙ ap (λ n. option_or (place_found name.now before) (cond (same_text name.now column.name) (Some n) None)) (sym count)
+    ∙ ap (λ text. option_or (place_found name.now before) (cond (same_text name.now text) (Some i) None))
+    c.as_str.ensures.bytes
+    ∙ ap (λ n. option_or (place_found name.now before) (cond (same_text name.now column.name) (Some n) None))
+    (sym count)
     ∙ sym (place_found-push name.now before column)
     ∙ ap (λ (xs : List Column). place_found name.now xs) (sym next)

@@ -8,8 +8,13 @@ use Rattle.raise_table.proofs.tables.RaiseTable.meet_owner.Goals as goal
 
 pub join_seat-requires : goal.join_seat-requires
 join_seat-requires g c =
-    let table = c.args.self.now in
-    (search rules, search rules, search rules, has_words _ _ (ap (λ z. z.words) table.named.0 ∙ table.shaped.words), keeps_meet _ _ _ _ _ c.other.invariant.2 c.other.invariant.3)
+    let table = c.args.self.now in (
+      search rules,
+      search rules,
+      search rules,
+      has_words _ _ (ap (λ z. z.words) table.named.0 ∙ table.shaped.words),
+      keeps_meet _ _ _ _ _ c.other.invariant.2 c.other.invariant.3,
+    )
 
 pub returns-clause-knows : goal.returns-clause-knows
 returns-clause-knows g c =

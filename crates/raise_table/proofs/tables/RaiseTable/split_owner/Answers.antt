@@ -12,4 +12,5 @@ split_seat-requires g c =
 
 pub returns-clause-knows : goal.returns-clause-knows
 returns-clause-knows g c =
-    split_knows c.args.seat.now.hints c.split_seat.result.me.0.hints (ap (λ m. m.0.hints) c.split_seat.ensures.4 ∙ ap (λ o. without_notes o.hints) c.seat.view_is)
+    split_knows c.args.seat.now.hints c.split_seat.result.me.0.hints (ap (λ m. m.0.hints) c.split_seat.ensures.4
+    ∙ ap (λ o. without_notes o.hints) c.seat.view_is)

@@ -1,9 +1,10 @@
-use Rattle.weave_core.proofs.SightLemmas.{leaf_noted_alike, leaf_there}
+use Rattle.mon_topo.proofs.SightLemmas.{leaf_noted_alike, leaf_there}
 use Rattle.weave_core.proofs.leaves.LeafSeat.meet.Goals as goal
 
 pub note_leaf-requires : goal.note_leaf-requires
 note_leaf-requires c = record {
-  there = leaf_there c.join.new.self c.args.sight.now c.args.self.now.sight c.args.leaf c.join.ensures.joined c.requires.alike
+  there = leaf_there c.join.new.self c.args.sight.now c.args.self.now.sight c.args.leaf c.join.ensures.joined
+      c.requires.alike
       c.requires.there;
 }
 

@@ -1,4 +1,4 @@
-use Rattle.weave_core.proofs.SightLemmas.{range_noted_alike, range_there}
+use Rattle.mon_topo.proofs.SightLemmas.{range_noted_alike, range_there}
 use Rattle.weave_core.proofs.ranges.RangeSeat.meet.Goals as goal
 
 pub note_range-requires : goal.note_range-requires

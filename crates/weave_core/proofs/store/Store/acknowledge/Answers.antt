@@ -22,8 +22,10 @@ let_go-requires-clause-later c =
     let got : slice_get c.args.self.now.ranges.items c.args.writing.range.0 ≡ Some c.index_mut-seat.result.now
     = range_read c.args.self.now c.args.writing c.args.sight.now c.requires.at_work c.index_mut-seat.result.now
     c.index_mut-seat.ensures.value in
-    acking_later c.args.self.now c.args.writing c.args.sight.now c.requires.at_work c.requires.asks c.told.new.self.range
-    c.told.new.self.stage c.finish-end.result c.in_ok-told.ensures.range c.in_ok-told.ensures.after c.finish-end.ensures.end
+    acking_later c.args.self.now c.args.writing c.args.sight.now c.requires.at_work c.requires.asks
+    c.told.new.self.range
+    c.told.new.self.stage c.finish-end.result c.in_ok-told.ensures.range c.in_ok-told.ensures.after
+    c.finish-end.ensures.end
     c.index_mut-seat.result.now got
 
 pub returns : goal.returns
@@ -32,7 +34,8 @@ returns c =
     = range_read c.args.self.now c.args.writing c.args.sight.now c.requires.at_work c.index_mut-seat.result.now
     c.index_mut-seat.ensures.value in
     record {
-      turn = λ config world i work. acknowledge_returns config world i c.args.self.now c.args.writing c.args.sight.now work
+      turn = λ config world i work. acknowledge_returns config world i c.args.self.now c.args.writing c.args.sight.now
+          work
           c.requires.asks c.told.new.self.range c.told.new.self.stage c.finish-end.result c.in_ok-told.ensures.range
           c.in_ok-told.ensures.after c.finish-end.ensures.end c.index_mut-seat.result.now got (record {
             alloc = c.args.self.now.alloc;
@@ -42,5 +45,6 @@ returns c =
             ranges = with_item c.args.self.now.ranges c.args.writing.range.0 c.let_go.new.seat;
             first_sight = c.args.self.now.first_sight;
           }) c.let_go.new.seat c.let_go.new.sight
-          (record { config = refl; words = refl; leaves = refl; ranges = refl; first = refl }) c.in_ok-let_go.ensures.lets_go;
+          (record { config = refl; words = refl; leaves = refl; ranges = refl; first = refl })
+          c.in_ok-let_go.ensures.lets_go;
     }

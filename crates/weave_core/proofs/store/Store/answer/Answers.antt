@@ -54,8 +54,10 @@ returns-in-LoadZone c = record {
 
 pub returns-in-Resolve : goal.returns-in-Resolve
 returns-in-Resolve c = record {
-  answers = λ config core k asking. range_answers config core k c.args.self.now c.args.querying.now c.args.sight.now asking
-      c.in-Resolve.range (sym c.in-Resolve.ensures.ask) c.find.new.self c.find.new.sight c.find.result c.find.ensures.finds;
+  answers = λ config core k asking. range_answers config core k c.args.self.now c.args.querying.now c.args.sight.now
+      asking
+      c.in-Resolve.range (sym c.in-Resolve.ensures.ask) c.find.new.self c.find.new.sight c.find.result
+      c.find.ensures.finds;
 }
 
 pub returns-in-Visit : goal.returns-in-Visit

@@ -1,55 +1,66 @@
 use Rattle.std.proofs.Common.{rules, ◌≡◌, Some, slice_get, refl}
 use Rattle.std.specs.Vec.{with_item}
-use Rattle.weave_core.proofs.WriteReturns.{leaf_read, enter_returns, entering_leaf, seat_alike, seat_in_sight, seat_most, seat_some, seat_there}
+use Rattle.weave_core.proofs.WriteReturns.{leaf_read, enter_returns, entering_leaf, seat_alike, seat_in_sight}
+use Rattle.weave_core.proofs.WriteReturns.{seat_most, seat_some, seat_there}
 use Rattle.weave_core.proofs.store.Store.enter.Goals as goal
 
 pub index_mut-seat-requires : goal.index_mut-seat-requires
 index_mut-seat-requires c =
     let here = seat_there c.args.self.now c.args.writing c.args.sight.now c.requires.at_work c.args.leaf
-    (entering_leaf c.args.self.now c.args.writing c.args.sight.now c.requires.at_work c.requires.asks.0 c.args.leaf c.requires.asks.1) in
+    (entering_leaf c.args.self.now c.args.writing c.args.sight.now c.requires.at_work c.requires.asks.0 c.args.leaf
+    c.requires.asks.1) in
     search rules
 
 pub enter-requires-clause-alike : goal.enter-requires-clause-alike
 enter-requires-clause-alike c =
     let got : slice_get c.args.self.now.leaves.items c.args.leaf.0 ≡ Some c.index_mut-seat.result.now
     = leaf_read c.args.self.now c.args.writing c.args.sight.now c.requires.at_work c.args.leaf
-    (entering_leaf c.args.self.now c.args.writing c.args.sight.now c.requires.at_work c.requires.asks.0 c.args.leaf c.requires.asks.1)
+    (entering_leaf c.args.self.now c.args.writing c.args.sight.now c.requires.at_work c.requires.asks.0 c.args.leaf
+    c.requires.asks.1)
     c.index_mut-seat.result.now c.index_mut-seat.ensures.value in
     seat_alike c.args.self.now c.args.writing c.args.sight.now c.requires.at_work c.args.leaf
-    (entering_leaf c.args.self.now c.args.writing c.args.sight.now c.requires.at_work c.requires.asks.0 c.args.leaf c.requires.asks.1) c.index_mut-seat.result.now got
+    (entering_leaf c.args.self.now c.args.writing c.args.sight.now c.requires.at_work c.requires.asks.0 c.args.leaf
+    c.requires.asks.1) c.index_mut-seat.result.now got
 
 pub enter-requires-clause-there : goal.enter-requires-clause-there
 enter-requires-clause-there c =
     let got : slice_get c.args.self.now.leaves.items c.args.leaf.0 ≡ Some c.index_mut-seat.result.now
     = leaf_read c.args.self.now c.args.writing c.args.sight.now c.requires.at_work c.args.leaf
-    (entering_leaf c.args.self.now c.args.writing c.args.sight.now c.requires.at_work c.requires.asks.0 c.args.leaf c.requires.asks.1)
+    (entering_leaf c.args.self.now c.args.writing c.args.sight.now c.requires.at_work c.requires.asks.0 c.args.leaf
+    c.requires.asks.1)
     c.index_mut-seat.result.now c.index_mut-seat.ensures.value in
     seat_in_sight c.args.self.now c.args.writing c.args.sight.now c.requires.at_work c.args.leaf
-    (entering_leaf c.args.self.now c.args.writing c.args.sight.now c.requires.at_work c.requires.asks.0 c.args.leaf c.requires.asks.1) c.index_mut-seat.result.now got
+    (entering_leaf c.args.self.now c.args.writing c.args.sight.now c.requires.at_work c.requires.asks.0 c.args.leaf
+    c.requires.asks.1) c.index_mut-seat.result.now got
 
 pub enter-requires-clause-some : goal.enter-requires-clause-some
 enter-requires-clause-some c =
     let got : slice_get c.args.self.now.leaves.items c.args.leaf.0 ≡ Some c.index_mut-seat.result.now
     = leaf_read c.args.self.now c.args.writing c.args.sight.now c.requires.at_work c.args.leaf
-    (entering_leaf c.args.self.now c.args.writing c.args.sight.now c.requires.at_work c.requires.asks.0 c.args.leaf c.requires.asks.1)
+    (entering_leaf c.args.self.now c.args.writing c.args.sight.now c.requires.at_work c.requires.asks.0 c.args.leaf
+    c.requires.asks.1)
     c.index_mut-seat.result.now c.index_mut-seat.ensures.value in
     seat_some c.args.self.now c.args.writing c.args.sight.now c.requires.at_work c.args.leaf
-    (entering_leaf c.args.self.now c.args.writing c.args.sight.now c.requires.at_work c.requires.asks.0 c.args.leaf c.requires.asks.1) c.index_mut-seat.result.now got
+    (entering_leaf c.args.self.now c.args.writing c.args.sight.now c.requires.at_work c.requires.asks.0 c.args.leaf
+    c.requires.asks.1) c.index_mut-seat.result.now got
 
 pub enter-requires-clause-most : goal.enter-requires-clause-most
 enter-requires-clause-most c =
     let got : slice_get c.args.self.now.leaves.items c.args.leaf.0 ≡ Some c.index_mut-seat.result.now
     = leaf_read c.args.self.now c.args.writing c.args.sight.now c.requires.at_work c.args.leaf
-    (entering_leaf c.args.self.now c.args.writing c.args.sight.now c.requires.at_work c.requires.asks.0 c.args.leaf c.requires.asks.1)
+    (entering_leaf c.args.self.now c.args.writing c.args.sight.now c.requires.at_work c.requires.asks.0 c.args.leaf
+    c.requires.asks.1)
     c.index_mut-seat.result.now c.index_mut-seat.ensures.value in
     seat_most c.args.self.now c.args.writing c.args.sight.now c.requires.at_work c.args.leaf
-    (entering_leaf c.args.self.now c.args.writing c.args.sight.now c.requires.at_work c.requires.asks.0 c.args.leaf c.requires.asks.1) c.index_mut-seat.result.now got
+    (entering_leaf c.args.self.now c.args.writing c.args.sight.now c.requires.at_work c.requires.asks.0 c.args.leaf
+    c.requires.asks.1) c.index_mut-seat.result.now got
 
 pub returns : goal.returns
 returns c =
     let got : slice_get c.args.self.now.leaves.items c.args.leaf.0 ≡ Some c.index_mut-seat.result.now
     = leaf_read c.args.self.now c.args.writing c.args.sight.now c.requires.at_work c.args.leaf
-    (entering_leaf c.args.self.now c.args.writing c.args.sight.now c.requires.at_work c.requires.asks.0 c.args.leaf c.requires.asks.1)
+    (entering_leaf c.args.self.now c.args.writing c.args.sight.now c.requires.at_work c.requires.asks.0 c.args.leaf
+    c.requires.asks.1)
     c.index_mut-seat.result.now c.index_mut-seat.ensures.value in
     record {
       turn = λ config world i work. enter_returns config world i c.args.self.now c.args.writing c.args.sight.now work
@@ -62,6 +73,7 @@ returns c =
             first_sight = c.args.self.now.first_sight;
           }) c.enter.new.seat c.enter.new.writing
           c.enter.new.sight c.in_ok-went.went c.turn_of.result
-          (record { config = refl; words = refl; leaves = refl; ranges = refl; first = refl }) c.in_ok-went.ensures.enters
+          (record { config = refl; words = refl; leaves = refl; ranges = refl; first = refl })
+          c.in_ok-went.ensures.enters
           c.turn_of.ensures.turn;
     }

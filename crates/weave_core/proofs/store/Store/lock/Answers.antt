@@ -33,6 +33,7 @@ returns c =
             first_sight = c.args.self.now.first_sight;
           }) c.lock.new.seat c.lock.new.writing c.lock.new.sight
           c.in_ok-went.went c.turn_of.result
-          (record { config = refl; words = refl; leaves = refl; ranges = refl; first = refl }) c.in_ok-went.ensures.locks
+          (record { config = refl; words = refl; leaves = refl; ranges = refl; first = refl })
+          c.in_ok-went.ensures.locks
           c.turn_of.ensures.turn;
     }

@@ -2,4 +2,7 @@ use Rattle.weave_core.proofs.OpeningLemmas.{new_opened}
 use Rattle.weave_core.proofs.store.Store.new.Goals as goal
 
 pub open_ranges-requires : goal.open_ranges-requires
-open_ranges-requires c = record { none = new_opened c.args.config c.in_ok-leaves.leaves.items c.in_ok-leaves.ensures.new }
+open_ranges-requires c = record {
+  none = new_opened c.args.config c.in_ok-leaves.leaves.items
+      c.in_ok-leaves.ensures.new;
+}

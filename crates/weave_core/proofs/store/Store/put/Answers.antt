@@ -1,46 +1,55 @@
 use Rattle.std.proofs.Common.{rules, ◌≡◌, Some, slice_get, refl}
 use Rattle.std.specs.Vec.{with_item}
-use Rattle.weave_core.proofs.WriteReturns.{leaf_read, put_returns, putting_follows, putting_leaf, seat_alike, seat_in_sight, seat_there}
+use Rattle.weave_core.proofs.WriteReturns.{leaf_read, put_returns, putting_follows, putting_leaf, seat_alike}
+use Rattle.weave_core.proofs.WriteReturns.{seat_in_sight, seat_there}
 use Rattle.weave_core.proofs.store.Store.put.Goals as goal
 
 pub index_mut-seat-requires : goal.index_mut-seat-requires
 index_mut-seat-requires c =
     let here = seat_there c.args.self.now c.args.writing c.args.sight.now c.requires.at_work c.args.leaf
-    (putting_leaf c.args.self.now c.args.writing c.args.sight.now c.requires.at_work c.args.slot c.args.leaf c.requires.asks) in
+    (putting_leaf c.args.self.now c.args.writing c.args.sight.now c.requires.at_work c.args.slot c.args.leaf
+    c.requires.asks) in
     search rules
 
 pub put-requires-clause-alike : goal.put-requires-clause-alike
 put-requires-clause-alike c =
     let got : slice_get c.args.self.now.leaves.items c.args.leaf.0 ≡ Some c.index_mut-seat.result.now
     = leaf_read c.args.self.now c.args.writing c.args.sight.now c.requires.at_work c.args.leaf
-    (putting_leaf c.args.self.now c.args.writing c.args.sight.now c.requires.at_work c.args.slot c.args.leaf c.requires.asks)
+    (putting_leaf c.args.self.now c.args.writing c.args.sight.now c.requires.at_work c.args.slot c.args.leaf
+    c.requires.asks)
     c.index_mut-seat.result.now c.index_mut-seat.ensures.value in
     seat_alike c.args.self.now c.args.writing c.args.sight.now c.requires.at_work c.args.leaf
-    (putting_leaf c.args.self.now c.args.writing c.args.sight.now c.requires.at_work c.args.slot c.args.leaf c.requires.asks) c.index_mut-seat.result.now got
+    (putting_leaf c.args.self.now c.args.writing c.args.sight.now c.requires.at_work c.args.slot c.args.leaf
+    c.requires.asks) c.index_mut-seat.result.now got
 
 pub put-requires-clause-there : goal.put-requires-clause-there
 put-requires-clause-there c =
     let got : slice_get c.args.self.now.leaves.items c.args.leaf.0 ≡ Some c.index_mut-seat.result.now
     = leaf_read c.args.self.now c.args.writing c.args.sight.now c.requires.at_work c.args.leaf
-    (putting_leaf c.args.self.now c.args.writing c.args.sight.now c.requires.at_work c.args.slot c.args.leaf c.requires.asks)
+    (putting_leaf c.args.self.now c.args.writing c.args.sight.now c.requires.at_work c.args.slot c.args.leaf
+    c.requires.asks)
     c.index_mut-seat.result.now c.index_mut-seat.ensures.value in
     seat_in_sight c.args.self.now c.args.writing c.args.sight.now c.requires.at_work c.args.leaf
-    (putting_leaf c.args.self.now c.args.writing c.args.sight.now c.requires.at_work c.args.slot c.args.leaf c.requires.asks) c.index_mut-seat.result.now got
+    (putting_leaf c.args.self.now c.args.writing c.args.sight.now c.requires.at_work c.args.slot c.args.leaf
+    c.requires.asks) c.index_mut-seat.result.now got
 
 pub put-requires-clause-follows : goal.put-requires-clause-follows
 put-requires-clause-follows c =
     let got : slice_get c.args.self.now.leaves.items c.args.leaf.0 ≡ Some c.index_mut-seat.result.now
     = leaf_read c.args.self.now c.args.writing c.args.sight.now c.requires.at_work c.args.leaf
-    (putting_leaf c.args.self.now c.args.writing c.args.sight.now c.requires.at_work c.args.slot c.args.leaf c.requires.asks)
+    (putting_leaf c.args.self.now c.args.writing c.args.sight.now c.requires.at_work c.args.slot c.args.leaf
+    c.requires.asks)
     c.index_mut-seat.result.now c.index_mut-seat.ensures.value in
-    putting_follows c.args.self.now c.args.writing c.args.sight.now c.requires.at_work c.args.slot c.args.leaf c.requires.asks
+    putting_follows c.args.self.now c.args.writing c.args.sight.now c.requires.at_work c.args.slot c.args.leaf
+    c.requires.asks
     c.index_mut-seat.result.now got
 
 pub returns : goal.returns
 returns c =
     let got : slice_get c.args.self.now.leaves.items c.args.leaf.0 ≡ Some c.index_mut-seat.result.now
     = leaf_read c.args.self.now c.args.writing c.args.sight.now c.requires.at_work c.args.leaf
-    (putting_leaf c.args.self.now c.args.writing c.args.sight.now c.requires.at_work c.args.slot c.args.leaf c.requires.asks)
+    (putting_leaf c.args.self.now c.args.writing c.args.sight.now c.requires.at_work c.args.slot c.args.leaf
+    c.requires.asks)
     c.index_mut-seat.result.now c.index_mut-seat.ensures.value in
     record {
       turn = λ config world i work. put_returns config world i c.args.self.now c.args.writing c.args.sight.now work

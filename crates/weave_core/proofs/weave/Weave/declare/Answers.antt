@@ -18,7 +18,8 @@ put_actor-requires c =
 
 pub returns : goal.returns
 returns c =
-    let put : c.put_actor.new.actors ≡ set c.args.self.now.actors.items c.args.actor (Some c.in_ok-own.own) = search rules in
+    let put : c.put_actor.new.actors ≡ set c.args.self.now.actors.items c.args.actor (Some c.in_ok-own.own) =
+    search rules in
     let items : (with_items c.args.self.now.actors c.put_actor.new.actors).items
     ≡ set c.args.self.now.actors.items c.args.actor (Some c.in_ok-own.own)
     = set_is c.args.self.now.actors c.put_actor.new.actors c.args.actor (Some c.in_ok-own.own) put in

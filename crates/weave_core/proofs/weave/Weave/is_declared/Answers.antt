@@ -8,5 +8,6 @@ returns c = record {
   declared = λ config state agrees.
       let same : c.is_some.result ≡ is_some c.actor.result = search rules in
       same ∙ some_copied c.actor.result
-      ∙ is_declared c.args.self.now c.args.actor (option_copied c.actor.result) c.actor.ensures.actor config state agrees;
+      ∙ is_declared c.args.self.now c.args.actor (option_copied c.actor.result) c.actor.ensures.actor config state
+      agrees;
 }

@@ -1,6 +1,8 @@
-use Rattle.std.proofs.Common.{rules, ◌≡◌, ◌∙◌, ◌<◌, List, Option, None, Some, ap, length, refl, set, slice_get, subst, sym}
+use Rattle.std.proofs.Common.{rules, ◌≡◌, ◌∙◌, ◌<◌, List, Option, None, Some, ap, length, refl, set, slice_get, subst}
+use Rattle.std.proofs.Common.{sym}
 use Rattle.std.specs.Vec.{with_item, with_items}
-use Rattle.weave_core.proofs.HearingLemmas.{alike, met, met_kept, nobody_meets, other_there, out_there, place_got, place_there}
+use Rattle.weave_core.proofs.HearingLemmas.{alike, met, met_kept, nobody_meets, other_there, out_there, place_got}
+use Rattle.weave_core.proofs.HearingLemmas.{place_there}
 use Rattle.weave_core.proofs.WeaveStepLemmas.{changed_there, nobody_kept, set_is, set_there}
 use Rattle.weave_core.specs.ActorAgreements.{actor_numbered}
 use Rattle.weave_core.specs.declared.actors.Actor.{Actor}
@@ -15,7 +17,8 @@ returns-in_default c =
         store = c.args.self.now.store;
         actors = with_items c.args.self.now.actors c.take_actor.new.actors;
       }) refl (set_is c.args.self.now.actors c.take_actor.new.actors c.args.other None left) c.requires.kept;
-      met = λ config state agrees. absurd (nobody_meets c.args.self.now c.args.actor c.args.other taken config state agrees
+      met = λ config state agrees. absurd (nobody_meets c.args.self.now c.args.actor c.args.other taken config state
+          agrees
           (c.requires.may config state agrees));
     }
 
@@ -23,9 +26,11 @@ pub index_mut-place-requires : goal.index_mut-place-requires
 index_mut-place-requires c =
     let taken : Some c.in-Some.ended ≡ actor_numbered c.args.self.now.actors.items c.args.other = search rules in
     let left : c.take_actor.new.actors ≡ set c.args.self.now.actors.items c.args.other None = search rules in
-    let there : c.args.actor < length c.args.self.now.actors.items = place_there c.args.self.now c.args.actor c.args.other
+    let there : c.args.actor < length c.args.self.now.actors.items = place_there c.args.self.now c.args.actor
+    c.args.other
     c.in-Some.ended taken c.requires.kept c.requires.may in
-    let here : c.args.actor < length c.take_actor.new.actors = out_there c.args.self.now.actors.items c.take_actor.new.actors
+    let here : c.args.actor < length c.take_actor.new.actors = out_there c.args.self.now.actors.items
+    c.take_actor.new.actors
     c.args.other c.args.actor left there in
     search rules
 
@@ -33,7 +38,8 @@ pub hear-requires : goal.hear-requires
 hear-requires c =
     let taken : Some c.in-Some.ended ≡ actor_numbered c.args.self.now.actors.items c.args.other = search rules in
     let left : c.take_actor.new.actors ≡ set c.args.self.now.actors.items c.args.other None = search rules in
-    let got : slice_get (set c.args.self.now.actors.items c.args.other None) c.args.actor ≡ Some c.index_mut-place.result.now
+    let got : slice_get (set c.args.self.now.actors.items c.args.other None) c.args.actor
+    ≡ Some c.index_mut-place.result.now
     = place_got c.args.self.now c.args.actor c.args.other c.in-Some.ended taken c.requires.kept c.requires.may
     (with_items c.args.self.now.actors c.take_actor.new.actors).items
     (set_is c.args.self.now.actors c.take_actor.new.actors c.args.other None left) c.index_mut-place.result.now
@@ -48,7 +54,8 @@ put_actor-requires c =
     let taken : Some c.in-Some.ended ≡ actor_numbered c.args.self.now.actors.items c.args.other = search rules in
     let left : c.take_actor.new.actors ≡ set c.args.self.now.actors.items c.args.other None = search rules in
     let same : c.as_mut_slice-2.result.now
-    ≡ set (with_items c.args.self.now.actors c.take_actor.new.actors).items c.args.actor c.hear.new.place = search rules in
+    ≡ set (with_items c.args.self.now.actors c.take_actor.new.actors).items c.args.actor c.hear.new.place =
+    search rules in
     record {
       there = subst (λ (all : List (Option Actor)). c.args.other < length all) (sym same)
           (set_there (with_items c.args.self.now.actors c.take_actor.new.actors).items c.args.actor c.args.other
@@ -64,12 +71,14 @@ returns c =
     let out : (with_items c.args.self.now.actors c.take_actor.new.actors).items
     ≡ set c.args.self.now.actors.items c.args.other None
     = set_is c.args.self.now.actors c.take_actor.new.actors c.args.other None left in
-    let got : slice_get (set c.args.self.now.actors.items c.args.other None) c.args.actor ≡ Some c.index_mut-place.result.now
+    let got : slice_get (set c.args.self.now.actors.items c.args.other None) c.args.actor
+    ≡ Some c.index_mut-place.result.now
     = place_got c.args.self.now c.args.actor c.args.other c.in-Some.ended taken c.requires.kept c.requires.may
     (with_items c.args.self.now.actors c.take_actor.new.actors).items out c.index_mut-place.result.now
     c.index_mut-place.ensures.value in
     let put : c.put_actor.new.actors
-    ≡ set (set (with_items c.args.self.now.actors c.take_actor.new.actors).items c.args.actor c.hear.new.place) c.args.other
+    ≡ set (set (with_items c.args.self.now.actors c.take_actor.new.actors).items c.args.actor c.hear.new.place)
+    c.args.other
     (Some c.in-Some.ended) = search rules in
     let items : (with_items (with_item (with_items c.args.self.now.actors c.take_actor.new.actors) c.args.actor
     c.hear.new.place) c.put_actor.new.actors).items

@@ -8,5 +8,7 @@ returns-clause-counts c = counts_noted _ _ _ _ c.reserve_one.ensures.kept c.push
 
 pub returns-clause-failed : goal.returns-clause-failed
 returns-clause-failed c = λ failed.
-    failed_noted c.args.self.now.reads.items c.reserve_one.new.self.items c.push.new.self.items (asking c.in_ok-kept.kept c.has_failed.result) c.args.name.now
-    c.reserve_one.ensures.kept c.push.ensures.added (c.has_failed.ensures.failed ∙ ap is_failed failed) c.in_ok-kept.ensures.bytes
+    failed_noted c.args.self.now.reads.items c.reserve_one.new.self.items c.push.new.self.items
+    (asking c.in_ok-kept.kept c.has_failed.result) c.args.name.now
+    c.reserve_one.ensures.kept c.push.ensures.added (c.has_failed.ensures.failed ∙ ap is_failed failed)
+    c.in_ok-kept.ensures.bytes

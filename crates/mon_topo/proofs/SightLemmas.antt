@@ -1,17 +1,17 @@
 -- Sights: how far two have seen together, and one history farther.
-use Rattle.std.proofs.Common.{◌≡◌, ℕ, zero, suc, ◌+◌, ◌<◌, Bool, true, false, cond, nat_lt, List, [], ◌∷◌, ◌++◌, length, map, set, refl, sym, ap, ◌∙◌, arith, length-append}
+use Rattle.std.proofs.Common.{◌≡◌, ℕ, zero, suc, ◌+◌, ◌<◌, List, [], ◌∷◌, ◌++◌}
+use Rattle.std.proofs.Common.{length, map, set, refl, sym, ap, ◌∙◌, arith, length-append}
 use Rattle.std.proofs.lemmas.List.{length-set, map-set}
-use Rattle.mon_topo.specs.Farther.{farther, farther_each}
-use Rattle.mon_topo.proofs.FartherLemmas.{farther_each-length}
+use Rattle.mon_value.proofs.FartherLemmas.{farther_each-length, farther_each-map}
 use Rattle.mon_topo.specs.HeldHistories.{Histories, leaf_history, range_history}
-use Rattle.mon_topo.specs.SeenHistories.{joined_histories, longer, longer_each, with_leaf_entry, with_range_entry}
+use Rattle.mon_topo.specs.SeenHistories.{joined_histories, with_leaf_entry, with_range_entry}
 use Rattle.mon_value.specs.declared.histories.Entry.{Entry}
 use Rattle.mon_value.specs.declared.histories.RangeEntry.{RangeEntry}
 use Rattle.mon_value.specs.declared.positions.Leaf.{Leaf}
 use Rattle.mon_value.specs.declared.positions.Range.{Range}
-use Rattle.weave_core.specs.declared.sights.RangeSight.{RangeSight}
-use Rattle.weave_core.specs.declared.sights.Sight.{Sight}
-use Rattle.weave_core.specs.Sights.{AreAlike, joined_sight, range_sight, sight_of, with_leaf_sight, with_range_sight}
+use Rattle.mon_topo.specs.declared.sights.RangeSight.{RangeSight}
+use Rattle.mon_topo.specs.declared.sights.Sight.{Sight}
+use Rattle.mon_topo.specs.Sights.{AreAlike, joined_sight, range_sight, sight_of, with_leaf_sight, with_range_sight}
 
 -- ---- meetings
 
@@ -53,27 +53,10 @@ range_noted_alike now mid own there range one is noted alike =
 
 -- ---- histories
 
--- how far the longer one of two is seen is the farther one of both
-module _ {X Y : Type 0} (seen : List X → Y) (far : Y → ℕ) (same : (xs : List X) → far (seen xs) ≡ length xs) where
-  longer_by : (b : Bool) (xs ys : List X) → seen (cond b ys xs) ≡ cond b (seen ys) (seen xs)
-  longer_by true xs ys = refl
-  longer_by false xs ys = refl
-
-  longer_seen : (xs ys : List X) → seen (longer xs ys) ≡ farther far (seen xs) (seen ys)
-  longer_seen xs ys =
-      longer_by (nat_lt (length xs) (length ys)) xs ys
-      ∙ (λ i. cond (nat_lt (sym (same xs) i) (sym (same ys) i)) (seen ys) (seen xs))
-
-  longer_each_seen : (xss yss : List (List X))
-      → map seen (longer_each xss yss) ≡ farther_each far (map seen xss) (map seen yss)
-  longer_each_seen [] yss = refl
-  longer_each_seen (xs ∷ xss) [] = refl
-  longer_each_seen (xs ∷ xss) (ys ∷ yss) = (λ i. longer_seen xs ys i ∷ longer_each_seen xss yss i)
-
 pub joined_seen : (a b : Histories) → joined_sight (sight_of a) (sight_of b) ≡ sight_of (joined_histories a b)
 joined_seen a b = λ i. record {
-  leaves = sym (longer_each_seen length (λ n. n) (λ xs. refl) a.leaves b.leaves) i;
-  ranges = sym (longer_each_seen range_sight (λ range. range.length) (λ history. refl) a.ranges b.ranges) i;
+  leaves = sym (farther_each-map length length (λ n. n) (λ xs. refl) a.leaves b.leaves) i;
+  ranges = sym (farther_each-map range_sight length (λ range. range.length) (λ history. refl) a.ranges b.ranges) i;
 }
 
 -- ---- one entry more

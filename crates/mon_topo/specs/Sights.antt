@@ -1,13 +1,13 @@
 -- How far histories were seen: what of someone's histories is known at run time.
-use Rattle.std.specs.Prelude.{◌≡◌, ℕ, List, length, map, set, slice_get}
+use Rattle.std.specs.Prelude.{◌≡◌, ℕ, List, length, map, replicate, set, slice_get, None}
 use Rattle.mon_value.specs.declared.histories.RangeEntry.{RangeEntry}
 use Rattle.mon_value.specs.declared.positions.Leaf.{Leaf}
 use Rattle.mon_value.specs.declared.positions.Range.{Range}
-use Rattle.mon_topo.specs.Farther.{farther_each}
+use Rattle.mon_value.specs.Farther.{farther_each}
 use Rattle.mon_topo.specs.HeldHistories.{Histories}
 use Rattle.mon_topo.specs.RangeHistories.{serving}
-use Rattle.weave_core.specs.declared.sights.RangeSight.{RangeSight}
-use Rattle.weave_core.specs.declared.sights.Sight.{Sight}
+use Rattle.mon_topo.specs.declared.sights.RangeSight.{RangeSight}
+use Rattle.mon_topo.specs.declared.sights.Sight.{Sight}
 
 -- the length of a range's history, and the first replica that serves in it
 abbrev pub range_sight : List RangeEntry → RangeSight
@@ -16,6 +16,13 @@ range_sight history = record { length = length history; first = slice_get (servi
 -- how far someone has seen histories
 abbrev pub sight_of : Histories → Sight
 sight_of seen = record { leaves = map length seen.leaves; ranges = map range_sight seen.ranges }
+
+-- nothing was seen of so many leaves and ranges
+abbrev pub no_sight : ℕ → ℕ → Sight
+no_sight leaves ranges = record {
+  leaves = replicate leaves 0;
+  ranges = replicate ranges (record { length = 0; first = None });
+}
 
 -- ---- two together
 

@@ -1,10 +1,10 @@
 // How far histories were seen.
-ghost use Rattle.std.specs.Prelude.{◌≡◌, ◌<◌, length, set};
-ghost use Rattle.mon_topo.specs.Farther.{farther_each};
-ghost use Rattle.weave_core.specs.Sights.{AreAlike, joined_sight, with_leaf_sight, with_range_sight};
+ghost use Rattle.std.specs.Prelude.{◌≡◌, ◌<◌, length, set, IfOk};
+ghost use Rattle.mon_value.specs.Farther.{farther_each};
+ghost use Rattle.mon_topo.specs.Sights.{AreAlike, joined_sight, no_sight, with_leaf_sight, with_range_sight};
 
-use mon_topo::join_lengths;
-use mon_value::{Leaf, ListOf, Range, SlotLeaf, TryCopy};
+use crate::lengths::join_lengths;
+use mon_value::{Leaf, ListOf, OutOfMemory, Range, SlotLeaf, TryCopy};
 use std::alloc::{AllocError, Global};
 
 /// How far a range's history was seen, and the first replica that serves then, if one does.
@@ -22,6 +22,20 @@ pub struct Sight {
 }
 
 impl Sight {
+    /// That of who has seen nothing of so many leaves and ranges.
+    pub fn none(alloc: Global, leaves: u32, ranges: u32) -> Result<Sight, OutOfMemory>
+        ensures none { IfOk result (λ sight. sight ≡ no_sight leaves ranges) }
+    {
+        let nothing = RangeSight {
+            length: 0,
+            first: None,
+        };
+        Ok(Sight {
+            leaves: ListOf::from_vec(vec![in alloc; 0; leaves as usize]?),
+            ranges: ListOf::from_vec(vec![in alloc; nothing; ranges as usize]?),
+        })
+    }
+
     /// Of each history as far as the farther one of both has seen it. No memory is taken.
     pub fn join(&mut self, other: &Sight)
         requires alike { AreAlike self.old other.now }

@@ -1,7 +1,0 @@
--- the places so far are joined
-use Rattle.std.proofs.Common.{◌≡◌, take}
-use Rattle.mon_topo.specs.Farther.{farther_each}
-use Rattle.weave_core.proofs.sights.join_ranges.Given as goal
-
-abbrev pub invariant-loop-i : goal.invariant-loop-i
-invariant-loop-i l = l.mine ≡ farther_each (λ range. range.length) l.initial.mine (take l.i l.theirs)
