@@ -6,7 +6,7 @@ use Rattle.std.proofs.lemmas.List.Sums.{sum_by-cons}
 use Rattle.mon_fold.proofs.GroupBounds.{total_at}
 use Rattle.mon_value.specs.Alignments.{CanAddAll, CanAlign, most_aligned, SumFits, values_of}
 use Rattle.mon_value.specs.GroupConditions.{SumsFit}
-use Rattle.mon_value.specs.Grids.{grid_times, IsDuration, IsLawful}
+use Rattle.mon_value.specs.Grids.{grid_times, IsDuration, IsLawfulGrid}
 use Rattle.mon_value.specs.Groups.{column_of}
 use Rattle.mon_value.specs.Limits.{greatest_sum}
 use Rattle.mon_value.specs.Values.{magnitude}
@@ -38,7 +38,7 @@ window_counts t w (point ∷ points) =
 
 -- a series whose points add up to no more than the bound in all can be aligned as a delta
 pub delta_aligns : (seconds : ℤ) (grid : Grid) (points : List Point)
-    → IsDuration seconds → IsLawful grid → CanAddAll (values_of points)
+    → IsDuration seconds → IsLawfulGrid grid → CanAddAll (values_of points)
     → sum_by magnitude (values_of points) ≤ most_aligned → CanAlign (Delta seconds) grid points
 delta_aligns seconds grid points looks lawful alike small =
     let fits : (time : ℤ) → SumFits (Delta seconds) points time =

@@ -25,10 +25,10 @@ use Rattle.query_core.specs.declared.courses.Course.{Course}
 use Rattle.query_core.specs.declared.loadings.Loading.{Loading}
 use Rattle.query_core.specs.declared.stages.Stage.{Stage}
 use Rattle.query_core.specs.declared.stages.Stage.TheVariants as at
-use Rattle.query_core.specs.Courses.{begun, course_of, is_entered, left, with_found}
+use Rattle.query_core.specs.Courses.{with_next_zone, course_of, is_entered, left, with_found}
 use Rattle.query_core.specs.Courses as courses
 use Rattle.query_core.specs.Loadings.{is_whole, no_word, with_word}
-use Rattle.query_core.specs.Looks.{read_at, unread}
+use Rattle.query_core.specs.Looks.{read_at, unread_look}
 use Rattle.query_core.specs.Mixtures.{LeadsTo, MayBeTold, MayMix, MayMixRoot, Settles, TurnSettles, ZoneMixes}
 use Rattle.query_core.specs.Mixtures.{root_stage, typed_of, zone_turn}
 use Rattle.query_core.specs.Program as spec
@@ -36,7 +36,7 @@ use Rattle.query_core.specs.Program.{after, begin_visits, let_some_in, next_zone
 use Rattle.query_core.specs.Rounds.{Round, next_range, round_of, with_slot}
 use Rattle.query_core.specs.Settings.{Setting}
 use Rattle.query_core.specs.Visits as visit
-use Rattle.query_core.specs.Visits.{Visits, gone_on, looked, next_leaf}
+use Rattle.query_core.specs.Visits.{Visits, gone_on, with_look, next_leaf}
 use Rattle.mql_types.specs.Soundness.{IsQueryType}
 use Rattle.cases.specs.declared.meanings.Asked.{Asked}
 use Rattle.cases.specs.Readings.{Among, AreReads, IsInBounds, ShareNoPlace, leaves_of}
@@ -155,7 +155,7 @@ module _ (setting : Setting) (moment : ℤ) (reads : List (List Row)) where
     goes_on (area ∷ areas) course is =
         by_test (Leads (MayMixRoot setting) (TurnSettles setting)) (is_entered course) _ _
         (tt, λ new settles. subst (λ (one : Stage). StageIs one) (sym settles) is)
-        (goes_on areas (left (begun course) area course.seen) is)
+        (goes_on areas (left (with_next_zone course) area course.seen) is)
 
     goes_from : (course : Course) → ZonesAre course.answers
         → Leads (MayMix setting) (Settles setting) (spec.on_from setting course)
@@ -185,7 +185,7 @@ module _ (setting : Setting) (moment : ℤ) (reads : List (List Row)) where
         (mixed : Result ZoneAnswer OverLimit) → ZoneMixes setting is.leaves moment mixed
         → Leads (MayMixRoot setting) (TurnSettles setting) (zone_turn setting course mixed)
     zone_mixed course parts is (Ok answer) mixes =
-        goes_on (drop course.begun setting.areas) (courses.kept course answer)
+        goes_on (drop course.begun setting.areas) (courses.with_zone_answer course answer)
         (one_zone course.answers parts answer is mixes)
     zone_mixed course parts is (Err over) mixes =
         (tt, λ new settles. subst (λ (one : Stage). StageIs one) (sym settles) tt)
@@ -266,7 +266,7 @@ module _ (setting : Setting) (moment : ℤ) (reads : List (List Row)) where
     no_slot_told (at.Rooting loading) is = stays (at.Rooting loading) is
     no_slot_told (at.Entering course round loading) is = stays (at.Entering course round loading) is
     no_slot_told (at.Resolving course round range) is =
-        stays (spec.refused (fault.NoReplica range (courses.founds_in course round.area))) tt
+        stays (spec.refused_stage (fault.NoReplica range (courses.founds_in course round.area))) tt
     no_slot_told (at.Reloading course round loading) is = stays (at.Reloading course round loading) is
     no_slot_told (at.Visiting course round visits leaf) is = stays (at.Visiting course round visits leaf) is
     no_slot_told (at.Ended end) is = stays (at.Ended end) is
@@ -288,7 +288,7 @@ module _ (setting : Setting) (moment : ℤ) (reads : List (List Row)) where
     unread_told (at.Resolving course round range) cut is = stays (at.Resolving course round range) is
     unread_told (at.Reloading course round loading) cut is = stays (at.Reloading course round loading) is
     unread_told (at.Visiting course round visits leaf) cut is =
-        visits_on course round (looked visits leaf (unread cut)) is
+        visits_on course round (with_look visits leaf (unread_look cut)) is
     unread_told (at.Ended end) cut is = stays (at.Ended end) is
 
     over_told : (stage : Stage) (cut : ℕ) → StageIs stage
@@ -298,7 +298,7 @@ module _ (setting : Setting) (moment : ℤ) (reads : List (List Row)) where
     over_told (at.Resolving course round range) cut is = stays (at.Resolving course round range) is
     over_told (at.Reloading course round loading) cut is = stays (at.Reloading course round loading) is
     over_told (at.Visiting course round visits leaf) cut is =
-        stays (spec.stopped setting (spec.with_zone course round (looked visits leaf (unread cut)))) tt
+        stays (spec.stopped_stage setting (spec.with_zone course round (with_look visits leaf (unread_look cut)))) tt
     over_told (at.Ended end) cut is = stays (at.Ended end) is
 
     plain_told : (stage : Stage) (answer : Told) → IsPlain answer → StageIs stage
@@ -369,7 +369,7 @@ module _ (setting : Setting) (moment : ℤ) (reads : List (List Row)) (rows : Li
     read_told (at.Reloading course round loading) cut answer is one = still (at.Reloading course round loading) is
     read_told (at.Visiting course round visits leaf) cut answer is one =
         visits_on setting moment more held over are from course round
-        (visit.kept (looked visits leaf (read_at cut answer.sent)) answer)
+        (visit.with_leaf_answer (with_look visits leaf (read_at cut answer.sent)) answer)
         (one_read course.answers visits.answers answer is one)
     read_told (at.Ended end) cut answer is one = still (at.Ended end) is
 

@@ -2,7 +2,7 @@
 ghost use Rattle.std.specs.Prelude.{◌≤◌, IfOk, IsTrue, sum_by};
 ghost use Rattle.std.specs.List.{AllByRecursion};
 ghost use Rattle.mon_value.specs.Alignments.{CanAdd, CanAddAll, CanAlign, most_aligned, values_of};
-ghost use Rattle.mon_value.specs.Grids.{IsDuration, IsLawful};
+ghost use Rattle.mon_value.specs.Grids.{IsDuration, IsLawfulGrid};
 ghost use Rattle.mon_value.specs.Values.{magnitude};
 
 use crate::sizes::room_behind;
@@ -43,7 +43,7 @@ fn is_duration(seconds: i64) -> bool
 }
 
 fn is_lawful(grid: &Grid) -> bool
-    ensures lawful { IsTrue result → IsLawful grid.now }
+    ensures lawful { IsTrue result → IsLawfulGrid grid.now }
 {
     if grid.moment < 0 {
         return false;

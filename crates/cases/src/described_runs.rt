@@ -176,7 +176,7 @@ impl Described {
 
     /// The content of a file, if there is one of that name.
     pub(crate) fn content_of(&self, name: &str) -> Option<&[u8]> {
-        for file in self.files.as_slice() {
+        for file in &self.files {
             if file.name.as_str() == name {
                 return Some(file.content.as_slice());
             }
@@ -212,7 +212,7 @@ impl Described {
 
     fn files_with(&self, change: Change) -> Result<MemoryFiles, Trouble> {
         let mut files = MemoryFiles::new(self.alloc);
-        for file in self.files.as_slice() {
+        for file in &self.files {
             let name = file.name.as_str();
             files.push(file_of(self.alloc, name, content_with(change, file))?)?;
         }

@@ -176,7 +176,7 @@ fn column_of(alloc: Global, word: &str) -> Result<Column, Trouble> {
 
 // The names of a table's columns, and its rows.
 fn write_table(text: &mut String, alloc: Global, table: &Table) -> Done {
-    for column in table.columns.as_slice() {
+    for column in &table.columns {
         put_between(text, "|")?;
         put(text, column.name.as_str())?;
     }

@@ -6,11 +6,11 @@ use crate::escapes::text_of;
 use crate::texts::{put, put_list, put_numbers};
 use crate::trouble::{Done, Trouble};
 use mon_hints::{
-    Buckets, Excerpts, Formula, MOST_BUCKETS, Pieces, Words, excerpts_of, excerpts_of_value,
-    hints_of, mask, next_bucket,
+    Buckets, Excerpts, Formula, Pieces, Words, excerpts_of, excerpts_of_value, hints_of, mask,
+    next_bucket,
 };
 use mon_schema::{Field, Fields, Kind, MetricSchema, TargetSchema};
-use mon_value::{FieldType, FieldValues, SeriesKey, Target, Text, ValueType};
+use mon_value::{FieldType, FieldValues, MOST_BUCKETS, SeriesKey, Target, Text, ValueType};
 use std::alloc::Global;
 
 /// A case of `hints_of` is `BUCKETS SCHEMA METRIC FIELD=VALUE,.. FIELD=VALUE,..`, with the fields of the target and
@@ -166,7 +166,7 @@ fn excerpts_in(alloc: Global, given: &str) -> Result<Excerpts, Trouble> {
 }
 
 fn add_excerpts(bytes: &mut Vec<u8>, excerpts: &Excerpts) -> Done {
-    for excerpt in excerpts.as_slice() {
+    for excerpt in excerpts {
         if !bytes.is_empty() {
             bytes.push(b'|')?;
         }

@@ -10,9 +10,8 @@ use crate::settings::Setting;
 use crate::texts::put;
 use crate::trouble::{Done, Trouble};
 use leaf_store::{Entry, LeafState, SlotRows};
-use mon_hints::MOST_BUCKETS;
 use mon_series::KeptPoint;
-use mon_value::{Leaf, OutOfMemory, Range, Row, RowList, SeriesKey, Slot, TryCopy};
+use mon_value::{Leaf, MOST_BUCKETS, OutOfMemory, Range, Row, RowList, SeriesKey, Slot, TryCopy};
 use std::alloc::Global;
 
 /// A case is a line `BUCKETS buckets of RANGE/SLOT ..`, and lines of what happens to a leaf: `open RANGE/SLOT POINT
@@ -294,7 +293,7 @@ fn add_cuts(text: &mut String, alloc: Global, leaf: &LeafState, replica: Replica
 
 // Adds rows, each behind a blank.
 fn add_rows(text: &mut String, alloc: Global, rows: &RowList) -> Done {
-    for row in rows.as_slice() {
+    for row in rows {
         put(text, " ")?;
         add_row(text, alloc, row)?;
     }

@@ -8,7 +8,7 @@ use std::alloc::Global;
 /// Writes the sources and operations of a query in the order of its text, with their levels and commas between them.
 pub(crate) fn write_levels(text: &mut String, alloc: Global, typed: &Typed) -> Done {
     let levels = op_levels(alloc, typed)?;
-    for line in levels.as_slice() {
+    for line in &levels {
         put_between(text, ", ")?;
         put(text, op_word(line.word))?;
         put(text, level_word(line.level))?;

@@ -12,7 +12,7 @@ use std::alloc::Global;
 pub(crate) fn write_answer(text: &mut String, setting: &Setting, given: &str) -> Done {
     let points = bytes_of(setting.alloc, given)?;
     let reads = read_rows(setting.alloc, points.as_slice(), &setting.schemas)?;
-    for read in reads.as_slice() {
+    for read in &reads {
         put_between(text, " | ")?;
         add_read(text, setting.alloc, read)?;
     }

@@ -105,7 +105,7 @@ fn write_values(text: &mut String, alloc: Global, values: &TimedValues) -> Done 
     if values.is_empty() {
         return put(text, "none");
     }
-    for value in values.as_slice() {
+    for value in values {
         put_between(text, ", ")?;
         add_value(text, alloc, value)?;
     }

@@ -55,7 +55,7 @@ fn add_trace(text: &mut String, trace: &Trace) -> Done {
 
 fn add_resolved(text: &mut String, all: &Resolveds) -> Done {
     put(text, "resolved")?;
-    for one in all.as_slice() {
+    for one in all {
         write!(text, " {}:{}@{}", one.range.0, one.slot.0, one.leaf.0)?;
     }
     put(text, "\n")
@@ -63,7 +63,7 @@ fn add_resolved(text: &mut String, all: &Resolveds) -> Done {
 
 fn add_numbers(text: &mut String, word: &str, numbers: &Cuts) -> Done {
     put(text, word)?;
-    for number in numbers.as_slice() {
+    for number in numbers {
         write!(text, " {number}")?;
     }
     put(text, "\n")

@@ -103,7 +103,7 @@ fn add_end(text: &mut String, end: &WriteEnd) -> Done {
 /// Adds leaves that were found down, as LEAF@CUT, behind a word.
 pub(crate) fn add_founds(text: &mut String, word: &str, founds: &Founds) -> Done {
     put(text, word)?;
-    for found in founds.as_slice() {
+    for found in founds {
         write!(text, " {}@{}", found.leaf.0, found.cut)?;
     }
     Ok(())
@@ -111,11 +111,11 @@ pub(crate) fn add_founds(text: &mut String, word: &str, founds: &Founds) -> Done
 
 fn add_ack(text: &mut String, ack: &Ack) -> Done {
     put(text, "took")?;
-    for slot in ack.took.as_slice() {
+    for slot in &ack.took {
         write!(text, " {}", slot.0)?;
     }
     put(text, ", missed")?;
-    for miss in ack.missed.as_slice() {
+    for miss in &ack.missed {
         write!(text, " {}@{}@{}", miss.slot.0, miss.leaf.0, miss.cut)?;
     }
     Ok(())

@@ -1,7 +1,7 @@
 -- An owner appends an entry: the book rule is kept.
 use Rattle.std.proofs.Common.{◌≡◌, ℕ, ◌+◌, ◌<◌, ◌≤◌, ◌≢◌, ◌⊎◌, inl, inr, Bool, true, false, List, [], ◌∷◌, ◌++◌}
 use Rattle.std.proofs.Common.{length, filter, get_or, set, refl, sym, ap, ◌∙◌, subst, arith, nat_eq, cond}
-use Rattle.std.specs.Prelude.{Option, Some, None, IfSome}
+use Rattle.std.specs.Prelude.{Option, Some, None, IfSome, option_map, option_to_list}
 use Rattle.std.specs.List.{Contains, sum_by}
 use mathlib.Core.List.{IsPrefix}
 use mathlib.Core.Option.{some}
@@ -17,20 +17,22 @@ use Rattle.std.proofs.lemmas.List.Sums.{sum_by-cons}
 use Rattle.mon_value.specs.declared.positions.Leaf.{Leaf}
 use Rattle.mon_value.specs.declared.positions.Range.{Range}
 use Rattle.history_book.specs.declared.views.BookEntry.{BookEntry}
-use Rattle.history_book.specs.declared.views.Histories.{Histories}
+use Rattle.mon_value.specs.declared.histories.Histories.{Histories}
 use Rattle.history_book.specs.declared.views.History.{History}
 use Rattle.history_book.specs.declared.views.History.TheVariants as of
 use Rattle.history_book.specs.declared.views.Joined.{Joined}
 use Rattle.history_book.specs.declared.views.Kept.{Kept}
 use Rattle.history_book.specs.declared.views.Purse.{Purse}
 use Rattle.history_book.specs.declared.views.SeatView.{SeatView}
-use Rattle.history_book.specs.Histories.{IsFor, entries, history_numbered, is_about, is_under, leaf_numbered, pass_of}
-use Rattle.history_book.specs.Histories.{range_numbered, same_history, with_entry}
-use Rattle.history_book.specs.Seats.{kept_in, kept_with, listed, mapped, purse_with, times_number, times_range}
+use Rattle.mon_value.specs.Positions.{leaf_numbered, range_numbered}
+use Rattle.history_book.specs.Histories.{IsFor, entries, history_numbered, is_about, is_under, pass_of}
+use Rattle.history_book.specs.Histories.{same_history, with_entry}
+use Rattle.history_book.specs.Seats.{kept_in, kept_with, purse_with, times_number, times_range}
 use Rattle.history_book.specs.Seats.{times_room}
-use Rattle.history_book.specs.BookRule.{IsJoined, IsKept, IsTrue, KeepsBookRule, has_number, has_room, holds, in_purse}
+use Rattle.history_book.specs.BookRule.{IsJoined, IsNumberKept, IsTrue, KeepsBookRule, has_number, has_room, holds}
+use Rattle.history_book.specs.BookRule.{in_purse}
 use Rattle.history_book.specs.BookRule.{kept_in_purse, owns}
-use Rattle.history_book.specs.Steps.{appended, own_history}
+use Rattle.history_book.specs.Steps.{view_after_append, own_history}
 use Rattle.history_book.proofs.ListLemmas.{prefix_push, prefix_refl}
 use Rattle.history_book.proofs.HistoryLemmas.{entries_added, entries_else, numbered_once, same_cases, same_history_refl}
 use Rattle.history_book.proofs.SumLemmas.{part_of_sum, parts_of_sum, seat_cases, seat_changed, seat_stays, sum_changed}
@@ -47,7 +49,7 @@ filter_in : {X : Type 0} (p : X → Bool) (xs : List X) (x : X) → p x ≡ true
 filter_in p xs x e = filter-append p xs (x ∷ []) ∙ ap (λ b. filter p xs ++ cond b (x ∷ []) []) e
 
 kept_number : (n : ℕ) (h : History) (e : BookEntry) (o : Option Kept) (met : List Kept) → times_kept n
-    (listed (mapped (kept_with h e) o) ++ met) ≡ times_kept n (listed o ++ met)
+    (option_to_list (option_map (kept_with h e) o) ++ met) ≡ times_kept n (option_to_list o ++ met)
 kept_number n h e None met = refl
 kept_number n h e (Some kept) met = refl
 
@@ -114,7 +116,7 @@ module _ (leaves ranges : ℕ) (whole : Histories) (words : List ℕ) (seats : L
 
   has_mine : Contains (kept_in_purse v.purse) mine
   has_mine = subst (λ o. Contains (kept_in_purse o) mine) (sym purse_is) (subst
-      (λ o. Contains (listed o ++ p.met) mine) (sym mine_is) (Contains-append_left (mine ∷ []) p.met mine
+      (λ o. Contains (option_to_list o ++ p.met) mine) (sym mine_is) (Contains-append_left (mine ∷ []) p.met mine
       (Contains-push [] mine)))
 
   has_pass : 0 < has_number (pass_of e) v
@@ -187,10 +189,10 @@ module _ (leaves ranges : ℕ) (whole : Histories) (words : List ℕ) (seats : L
   rooms_later leaf = ap (in_purse (λ q. times_room leaf q.rooms)) (sym purse_is)
 
   kept_now : kept_in_purse w.purse ≡ kept_with h e mine ∷ p.met
-  kept_now = ap (λ o. listed (mapped (kept_with h e) o) ++ p.met) mine_is
+  kept_now = ap (λ o. option_to_list (option_map (kept_with h e) o) ++ p.met) mine_is
 
   kept_was : kept_in_purse v.purse ≡ mine ∷ p.met
-  kept_was = ap kept_in_purse purse_is ∙ ap (λ o. listed o ++ p.met) mine_is
+  kept_was = ap kept_in_purse purse_is ∙ ap (λ o. option_to_list o ++ p.met) mine_is
 
   -- a number that was met is another one
   met_apart : (kept : Kept) → Contains p.met kept → kept.number ≡ pass_of e → ⊥
@@ -207,7 +209,7 @@ module _ (leaves ranges : ℕ) (whole : Histories) (words : List ℕ) (seats : L
       same in
       let b : nat_eq a m ≡ true = grind (arith, nat_tests) in ap (λ c. cond c 1 0) b in
       let kept_all : times_kept m (kept_in p) ≡ times_kept m (mine ∷ p.met) = ap
-      (λ o. times_kept m (listed o ++ p.met)) mine_is in
+      (λ o. times_kept m (option_to_list o ++ p.met)) mine_is in
       let total : has_number m v ≡ times_number m p = ap (in_purse (times_number m)) purse_is in
       let one = at_most_once leaves ranges whole words seats rule id v is m in
       let part = part_of_sum (has_number m) seats id v is in
@@ -273,19 +275,20 @@ module _ (leaves ranges : ℕ) (whole : Histories) (words : List ℕ) (seats : L
 
   kept_still : (kept : Kept) → Contains (kept_in_purse v.purse) kept
       → (kept' : Kept) × Contains (kept_in_purse w.purse) kept' × (kept'.number ≡ kept.number)
-  kept_still kept has = elim (Contains-append_cases (mine ∷ []) p.met kept (subst (λ k. Contains k kept) kept_was has)) [
-    | inl own ↦ elim (Contains-push_cases [] mine kept own) [
-      | inl none ↦ absurd (contains_none kept none)
-      | inr same ↦ (kept_with h e mine, has_new, ap (λ (k : Kept). k.number) same)
-    ]
-    | inr met ↦ (
-      kept,
-      subst (λ k. Contains k kept) (sym kept_now) (Contains-append_right (kept_with h e mine ∷ []) p.met kept met),
-      refl,
-    )
-  ]
+  kept_still kept has =
+      elim (Contains-append_cases (mine ∷ []) p.met kept (subst (λ k. Contains k kept) kept_was has)) [
+        | inl own ↦ elim (Contains-push_cases [] mine kept own) [
+          | inl none ↦ absurd (contains_none kept none)
+          | inr same ↦ (kept_with h e mine, has_new, ap (λ (k : Kept). k.number) same)
+        ]
+        | inr met ↦ (
+          kept,
+          subst (λ k. Contains k kept) (sym kept_now) (Contains-append_right (kept_with h e mine ∷ []) p.met kept met),
+          refl,
+        )
+      ]
 
-  still_kept : (x : BookEntry) → IsKept seats x → IsKept (set seats id w) x
+  still_kept : (x : BookEntry) → IsNumberKept seats x → IsNumberKept (set seats id w) x
   still_kept x k = elim (seat_stays seats id v w k.seat is k.there) [
     | inl same ↦ let s = kept_still k.kept (subst (λ (y : SeatView). Contains (kept_in_purse y.purse) k.kept)
         (sym same) k.has) in
@@ -293,7 +296,7 @@ module _ (leaves ranges : ℕ) (whole : Histories) (words : List ℕ) (seats : L
     | inr there ↦ record { seat = k.seat; there = there; kept = k.kept; has = k.has; under = k.under }
   ]
 
-  new_kept : IsKept (set seats id w) e
+  new_kept : IsNumberKept (set seats id w) e
   new_kept = record {
     seat = w;
     there = seat_changed seats id v w is;
@@ -347,7 +350,7 @@ module _ (leaves ranges : ℕ) (whole : Histories) (words : List ℕ) (seats : L
           (Contains-push_cases (entries whole h) e y
           (subst (λ xs. Contains xs y) (here whole) (subst (λ x. Contains (entries whole' x) y) (sym same) has))) [
             | inl old ↦ still_kept y (rule.kept h y old)
-            | inr new ↦ subst (IsKept (set seats id w)) new new_kept
+            | inr new ↦ subst (IsNumberKept (set seats id w)) new new_kept
           ]
       | inr apart ↦ still_kept y (rule.kept g y (subst (λ xs. Contains xs y) (entries_else h g e whole apart) has))
     ];
@@ -371,11 +374,11 @@ module _ (leaves ranges : ℕ) (whole : Histories) (words : List ℕ) (seats : L
         let o = rule.unheld m high in omega arith);
   }
 
-  appended_is : w ≡ appended e v
+  appended_is : w ≡ view_after_append e v
   appended_is = λ i. record {
     seen = with_entry (own_history (sym owns_is i)) e v.seen;
     joined = None;
-    purse = mapped (purse_with (own_history (sym owns_is i)) e) (sym purse_is i);
+    purse = option_map (purse_with (own_history (sym owns_is i)) e) (sym purse_is i);
     owns = v.owns;
     promised = v.promised;
     held = v.held;
@@ -383,7 +386,7 @@ module _ (leaves ranges : ℕ) (whole : Histories) (words : List ℕ) (seats : L
   }
 
   pub keeps_append : (x : ℕ) → x ≡ length (entries whole h) + 1
-      → KeepsBookRule leaves ranges whole' (set words (n + 1) x) (set seats id (appended e v))
+      → KeepsBookRule leaves ranges whole' (set words (n + 1) x) (set seats id (view_after_append e v))
   keeps_append x grown =
       subst (λ (y : SeatView). KeepsBookRule leaves ranges whole' (set words (n + 1) x) (set seats id y)) appended_is
       (keeps_grown x grown)

@@ -10,12 +10,13 @@ use Rattle.std.proofs.lemmas.List.{length-replicate}
 use Rattle.std.proofs.lemmas.List.Elements.{Contains-push_cases}
 use Rattle.std.proofs.lemmas.List.Sums.{sum_by-cons}
 use Rattle.history_book.specs.declared.numbers.TheConstants.{NUMBER_END}
-use Rattle.history_book.specs.declared.views.Histories.{Histories}
+use Rattle.mon_value.specs.declared.histories.Histories.{Histories}
 use Rattle.history_book.specs.declared.views.Kept.{Kept}
 use Rattle.history_book.specs.declared.views.SeatView.{SeatView}
 use Rattle.history_book.specs.Books.{word_count}
 use Rattle.history_book.specs.Histories.{empty_histories, entries, histories_in, history_numbered, is_under}
-use Rattle.history_book.specs.Histories.{numbers_on, range_numbered, same_history, same_range}
+use Rattle.mon_value.specs.Positions.{range_numbered, same_range}
+use Rattle.history_book.specs.Histories.{numbers_on, same_history}
 use Rattle.history_book.specs.Numbers.{numbers_between, times_among}
 use Rattle.history_book.specs.Seats.{new_number, times_range}
 use Rattle.history_book.specs.BookRule.{BookHolds, IsTrue, has_number, holds, owns}

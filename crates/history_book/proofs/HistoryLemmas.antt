@@ -10,11 +10,12 @@ use Rattle.mon_value.specs.Farther.{longer}
 use Rattle.mon_value.proofs.FartherLemmas.{longer_each-get}
 use Rattle.history_book.specs.declared.views.BookEntry.{BookEntry}
 use Rattle.history_book.specs.declared.views.BookEntry.TheVariants as one
-use Rattle.history_book.specs.declared.views.Histories.{Histories}
+use Rattle.mon_value.specs.declared.histories.Histories.{Histories}
 use Rattle.history_book.specs.declared.views.History.{History}
 use Rattle.history_book.specs.declared.views.History.TheVariants as of
-use Rattle.history_book.specs.Histories.{AreFronts, IsFor, empty_histories, entries, history_numbered, leaf_history}
-use Rattle.history_book.specs.Histories.{longer_of, number_of, numbered_as, range_history, same_history}
+use Rattle.mon_value.specs.Histories.{leaf_history, joined_histories, range_history}
+use Rattle.history_book.specs.Histories.{AreFronts, IsFor, empty_histories, entries, history_numbered}
+use Rattle.history_book.specs.Histories.{history_number, numbered_as, same_history}
 use Rattle.history_book.specs.Histories.{with_entry}
 use Rattle.history_book.proofs.ListLemmas.{added_else, added_here, map_longer, prefix_unmapped}
 
@@ -51,17 +52,18 @@ numbered_by leaves n m false false e f = grind (arith, nat_tests)
 pub numbered_once : (leaves n m : ℕ) → same_history (history_numbered leaves n) (history_numbered leaves m) ≡ nat_eq n m
 numbered_once leaves n m = numbered_by leaves n m (nat_lt n leaves) (nat_lt m leaves) refl refl
 
-back_by : (leaves n : ℕ) (b : Bool) → nat_lt n leaves ≡ b → number_of leaves (numbered_as b leaves n) ≡ n
+back_by : (leaves n : ℕ) (b : Bool) → nat_lt n leaves ≡ b → history_number leaves (numbered_as b leaves n) ≡ n
 back_by leaves n true e = refl
 back_by leaves n false e = let high : leaves ≤ n = grind (arith, nat_tests) in omega arith
 
 -- the number of a history that has one
-pub numbered_back : (leaves n : ℕ) → number_of leaves (history_numbered leaves n) ≡ n
+pub numbered_back : (leaves n : ℕ) → history_number leaves (history_numbered leaves n) ≡ n
 numbered_back leaves n = back_by leaves n (nat_lt n leaves) refl
 
 -- ---- the longer copies
 
-pub entries_longer : (a b : Histories) (h : History) → entries (longer_of a b) h ≡ longer (entries a h) (entries b h)
+pub entries_longer : (a b : Histories) (h : History) → entries (joined_histories a b) h
+    ≡ longer (entries a h) (entries b h)
 entries_longer a b (of.Leaf leaf) =
     ap (map (λ e. one.Leaf e)) (longer_each-get a.leaves b.leaves leaf.0) ∙ map_longer
     (λ e. one.Leaf e) (leaf_history a leaf) (leaf_history b leaf)

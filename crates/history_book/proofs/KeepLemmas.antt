@@ -2,7 +2,7 @@
 use Rattle.std.proofs.Common.{◌≡◌, ℕ, suc, ◌+◌, ◌<◌, ◌≤◌, ◌≢◌, inl, inr, Bool, true, false, List, [], ◌∷◌, ◌++◌, drop}
 use Rattle.std.proofs.Common.{length, filter, set, take, refl, sym, ap, ◌∙◌, subst, arith, cond, not, nat_eq, nat_lt}
 use Rattle.std.proofs.Common.{◌&&◌}
-use Rattle.std.specs.Prelude.{Option, Some, None, IfSome}
+use Rattle.std.specs.Prelude.{Option, Some, None, IfSome, option_map}
 use Rattle.std.specs.List.{Contains, sum_by}
 use mathlib.Core.List.{IsPrefix}
 use mathlib.Core.Option.{some, some-injective}
@@ -17,7 +17,7 @@ use Rattle.std.proofs.lemmas.List.Sums.{sum_by-take-drop}
 use Rattle.mon_value.specs.declared.positions.Leaf.{Leaf}
 use Rattle.mon_value.specs.declared.positions.Range.{Range}
 use Rattle.history_book.specs.declared.numbers.TheConstants.{NUMBER_END}
-use Rattle.history_book.specs.declared.views.Histories.{Histories}
+use Rattle.mon_value.specs.declared.histories.Histories.{Histories}
 use Rattle.history_book.specs.declared.views.History.{History}
 use Rattle.history_book.specs.declared.views.History.TheVariants as of
 use Rattle.history_book.specs.declared.views.Joined.{Joined}
@@ -25,14 +25,15 @@ use Rattle.history_book.specs.declared.views.Kept.{Kept}
 use Rattle.history_book.specs.declared.views.Purse.{Purse}
 use Rattle.history_book.specs.declared.views.SeatView.{SeatView}
 use Rattle.mon_value.specs.Farther.{longer}
-use Rattle.history_book.specs.Histories.{entries, is_about, is_under, leaf_numbered, pass_of, same_history}
-use Rattle.history_book.specs.Histories.{same_range}
+use Rattle.mon_value.specs.Positions.{leaf_numbered, same_range}
+use Rattle.history_book.specs.Histories.{entries, is_about, is_under, pass_of, same_history}
 use Rattle.history_book.specs.Numbers.{times_among}
-use Rattle.history_book.specs.Seats.{first_handed, guest_purse, mapped, new_number, no_entries, noted, times_number}
+use Rattle.history_book.specs.Seats.{first_handed, guest_purse, new_number, no_entries, with_note, times_number}
 use Rattle.history_book.specs.Seats.{times_range, times_room, with_stock_handed}
 use Rattle.history_book.specs.BookRule.{IsJoined, IsTrue, KeepsBookRule, has_number, has_room, holds, in_purse}
 use Rattle.history_book.specs.BookRule.{kept_in_purse, owns}
-use Rattle.history_book.specs.Steps.{after_deal, after_handed_number, dealt, handed_number, learned, meeting, spent}
+use Rattle.history_book.specs.Steps.{after_deal, after_handed_number, dealt, handed_number, view_after_learning}
+use Rattle.history_book.specs.Steps.{meeting, spent_view}
 use Rattle.history_book.specs.Steps.{split_off}
 use Rattle.history_book.proofs.ListLemmas.{filter_between, longer_first, longer_second, longer_whole, longer_within}
 use Rattle.history_book.proofs.ListLemmas.{prefix_nil}
@@ -89,47 +90,49 @@ true_alike whole v w was seen own held exact joined = record {
 nothing_kept : (kept : Kept) (P : Type 0) → Contains (kept_in_purse None) kept → P
 nothing_kept kept P has = absurd (contains_none kept has)
 
-noted_number : (n h l : ℕ) (o : Option Purse) → in_purse (times_number n) (mapped (noted h l) o)
+noted_number : (n h l : ℕ) (o : Option Purse) → in_purse (times_number n) (option_map (with_note h l) o)
     ≡ in_purse (times_number n) o
 noted_number n h l None = refl
 noted_number n h l (Some p) = refl
 
-noted_ranges : (r : Range) (h l : ℕ) (o : Option Purse) → in_purse (λ p. times_range r p.holds) (mapped (noted h l) o)
+noted_ranges : (r : Range) (h l : ℕ) (o : Option Purse)
+    → in_purse (λ p. times_range r p.holds) (option_map (with_note h l) o)
     ≡ in_purse
     (λ p. times_range r p.holds) o
 noted_ranges r h l None = refl
 noted_ranges r h l (Some p) = refl
 
 noted_rooms : (leaf : Leaf) (h l : ℕ) (o : Option Purse) → in_purse
-    (λ p. times_room leaf p.rooms) (mapped (noted h l) o) ≡ in_purse (λ p. times_room leaf p.rooms) o
+    (λ p. times_room leaf p.rooms) (option_map (with_note h l) o) ≡ in_purse (λ p. times_room leaf p.rooms) o
 noted_rooms leaf h l None = refl
 noted_rooms leaf h l (Some p) = refl
 
-noted_kept : (h l : ℕ) (o : Option Purse) → kept_in_purse (mapped (noted h l) o) ≡ kept_in_purse o
+noted_kept : (h l : ℕ) (o : Option Purse) → kept_in_purse (option_map (with_note h l) o) ≡ kept_in_purse o
 noted_kept h l None = refl
 noted_kept h l (Some p) = refl
 
-handed_ranges : (r : Range) (o : Option Purse) → in_purse (λ p. times_range r p.holds) (mapped with_stock_handed o)
+handed_ranges : (r : Range) (o : Option Purse) → in_purse (λ p. times_range r p.holds) (option_map with_stock_handed o)
     ≡ in_purse
     (λ p. times_range r p.holds) o
 handed_ranges r None = refl
 handed_ranges r (Some p) = refl
 
-new_ranges : (r : Range) (o : Option Purse) → in_purse (λ p. times_range r p.holds) (mapped first_handed o) ≡ 0
+new_ranges : (r : Range) (o : Option Purse) → in_purse (λ p. times_range r p.holds) (option_map first_handed o) ≡ 0
 new_ranges r None = refl
 new_ranges r (Some p) = refl
 
-handed_rooms : (leaf : Leaf) (o : Option Purse) → in_purse (λ p. times_room leaf p.rooms) (mapped with_stock_handed o)
+handed_rooms : (leaf : Leaf) (o : Option Purse)
+    → in_purse (λ p. times_room leaf p.rooms) (option_map with_stock_handed o)
     ≡ in_purse
     (λ p. times_room leaf p.rooms) o
 handed_rooms leaf None = refl
 handed_rooms leaf (Some p) = refl
 
-new_rooms : (leaf : Leaf) (o : Option Purse) → in_purse (λ p. times_room leaf p.rooms) (mapped first_handed o) ≡ 0
+new_rooms : (leaf : Leaf) (o : Option Purse) → in_purse (λ p. times_room leaf p.rooms) (option_map first_handed o) ≡ 0
 new_rooms leaf None = refl
 new_rooms leaf (Some p) = refl
 
-new_kept : (kept : Kept) (o : Option Purse) → Contains (kept_in_purse (mapped first_handed o)) kept
+new_kept : (kept : Kept) (o : Option Purse) → Contains (kept_in_purse (option_map first_handed o)) kept
     → kept ≡ new_number (guest_purse o).stock.from
 new_kept kept None has = absurd (contains_none kept has)
 new_kept kept (Some p) has =
@@ -161,9 +164,9 @@ module _ (leaves ranges : ℕ) (whole : Histories) (words : List ℕ) (seats : L
     -- ---- a length is noted
 
     pub keeps_learned : (history length : ℕ) → KeepsBookRule leaves ranges whole words
-        (set seats id (learned history length v))
+        (set seats id (view_after_learning history length v))
     keeps_learned history length =
-        let w = learned history length v in
+        let w = view_after_learning history length v in
         let same : (r : Range) → holds r w ≡ holds r v
         = λ r. let a : holds r w ≡ times_range r v.held + in_purse (λ p. times_range r p.holds) v.purse
         = ap (λ n. times_range r v.held + n) (noted_ranges r history length v.purse) in a in
@@ -282,7 +285,8 @@ module _ (leaves ranges : ℕ) (whole : Histories) (words : List ℕ) (seats : L
         let landless : (h : History) → owns h right ≡ 0 = λ h. refl in
         let none_held : (r : Range) → times_range r [] ≡ 0 = λ r. refl in
         let handless : (r : Range) → holds r right ≡ 0
-        = λ r. let a : in_purse (λ p. times_range r p.holds) (mapped first_handed v.purse) ≡ 0 = new_ranges r v.purse in
+        = λ r. let a : in_purse (λ p. times_range r p.holds) (option_map first_handed v.purse)
+        ≡ 0 = new_ranges r v.purse in
         let b = none_held r in omega arith in
         let same : (r : Range) → holds r left ≡ holds r v = λ r. ap (λ n. times_range r v.held + n)
         (handed_ranges r v.purse) in
@@ -314,25 +318,26 @@ module _ (leaves ranges : ℕ) (whole : Histories) (words : List ℕ) (seats : L
 
     -- ---- two seats become one
 
-    spent_is_true : IsTrue whole spent
+    spent_is_true : IsTrue whole spent_view
     spent_is_true = record {
       seen = λ h. subst (λ xs. IsPrefix xs (entries whole h)) (sym (no_entries_in h)) (prefix_nil (entries whole h));
-      own = λ h o. absurd (let none : owns h spent ≡ 0 = refl in omega arith);
+      own = λ h o. absurd (let none : owns h spent_view ≡ 0 = refl in omega arith);
       exact = λ kept h has. absurd (contains_none kept has);
-      held = λ r h o. absurd (let none : holds r spent ≡ 0 = refl in omega arith);
+      held = λ r h o. absurd (let none : holds r spent_view ≡ 0 = refl in omega arith);
       joined = tt;
     }
 
     pub keeps_meeting : (other : ℕ) (u : SeatView) → other ≢ id → get_elem? seats other ≡ some u
         → get_elem? (set seats id (meeting v u)) other ≡ some u → u.owns ≡ [] → u.held ≡ []
-        → KeepsBookRule leaves ranges whole words (set (set seats id (meeting v u)) other spent)
+        → KeepsBookRule leaves ranges whole words (set (set seats id (meeting v u)) other spent_view)
     keeps_meeting other u apart there there' landless handless =
         let both = meeting v u in
         let theirs = rule.seats_true u (other, there) in
         let lands : (h : History) → owns h u ≡ 0 = λ h. ap (sum_by (λ g. cond (same_history h g) 1 0)) landless in
         let hands : (r : Range) → times_range r u.held ≡ 0 = λ r. ap (times_range r) handless in
-        let held_both : (r : Range) → holds r both + holds r spent ≡ holds r v + holds r u = λ r.
-        let a = ranges_both r v.purse u.purse in let b = hands r in let c : holds r spent ≡ 0 = refl in omega arith in
+        let held_both : (r : Range) → holds r both + holds r spent_view ≡ holds r v + holds r u = λ r.
+        let a = ranges_both r v.purse u.purse in let b = hands r in let c : holds r spent_view
+        ≡ 0 = refl in omega arith in
         let joins : (h : History) → longer (entries v.seen h) (entries u.seen h) ≡ entries both.seen h
         = λ h. sym (entries_longer v.seen u.seen h) in
         let mine : (h : History) → IsPrefix (entries v.seen h) (entries both.seen h) = λ h. subst
@@ -349,7 +354,7 @@ module _ (leaves ranges : ℕ) (whole : Histories) (words : List ℕ) (seats : L
         (entries v.seen h) (entries u.seen h) (subst (IsPrefix (entries u.seen h)) (sym (was_true.own h o))
         (theirs.seen h))) ∙
         joins h in
-        keeps_union leaves ranges whole words seats rule id v is other u both spent apart there' (record {
+        keeps_union leaves ranges whole words seats rule id v is other u both spent_view apart there' (record {
           true_both = record {
             seen = within;
             own = λ h o. sym (own h o) ∙ was_true.own h o;
@@ -366,7 +371,7 @@ module _ (leaves ranges : ℕ) (whole : Histories) (words : List ℕ) (seats : L
                 (λ no_more. filter_between
                 (is_about r) (entries u.seen h) (entries both.seen h) (entries whole h) (others h) (within h)
                 (theirs.held r h
-                (let e = held_both r in let c : holds r spent ≡ 0 = refl in omega arith)));
+                (let e = held_both r in let c : holds r spent_view ≡ 0 = refl in omega arith)));
             joined = record {
               mine = mine;
               theirs = others;
@@ -378,9 +383,10 @@ module _ (leaves ranges : ℕ) (whole : Histories) (words : List ℕ) (seats : L
           owned = λ h. refl;
           landless = lands;
           gone_landless = λ h. refl;
-          numbers = λ n. let e = number_both n v.purse u.purse in let c : has_number n spent ≡ 0 = refl in omega arith;
+          numbers = λ n. let e = number_both n v.purse u.purse in let c : has_number n spent_view
+              ≡ 0 = refl in omega arith;
           ranges_held = held_both;
-          rooms = λ leaf. let e = rooms_both leaf v.purse u.purse in let c : has_room leaf spent ≡ 0 = refl in
+          rooms = λ leaf. let e = rooms_both leaf v.purse u.purse in let c : has_room leaf spent_view ≡ 0 = refl in
               omega arith;
           kept = λ kept has. subst (λ k. Contains k kept) (sym (kept_both v.purse u.purse)) (elim has [
             | inl m ↦ Contains-append_left (kept_in_purse v.purse) (kept_in_purse u.purse) kept m

@@ -8,11 +8,12 @@ use Rattle.mon_value.specs.declared.positions.Leaf.{Leaf}
 use Rattle.mon_value.specs.declared.positions.Range.{Range}
 use Rattle.history_book.specs.declared.rooms.RoomMove.{RoomMove}
 use Rattle.history_book.specs.declared.rooms.RoomMove.TheVariants as move
-use Rattle.history_book.specs.declared.views.Histories.{Histories}
+use Rattle.mon_value.specs.declared.histories.Histories.{Histories}
 use Rattle.history_book.specs.declared.views.History.{History}
 use Rattle.history_book.specs.declared.views.History.TheVariants as of
 use Rattle.history_book.specs.declared.views.SeatView.{SeatView}
-use Rattle.history_book.specs.Histories.{leaf_numbered, same_history, same_leaf}
+use Rattle.mon_value.specs.Positions.{leaf_numbered, same_leaf}
+use Rattle.history_book.specs.Histories.{same_history}
 use Rattle.history_book.specs.Seats.{guest_purse, promised_after, rooms_after, times_range, times_room}
 use Rattle.history_book.specs.BookRule.{KeepsBookRule, has_number, has_room, holds, owns}
 use Rattle.history_book.specs.Steps.{CanGiveBack, after_part, own_history, part}

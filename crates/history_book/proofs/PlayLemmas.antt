@@ -1,7 +1,7 @@
 -- Each kind of step of a book is allowed.
 use Rattle.std.proofs.Common.{◌≡◌, ℕ, zero, suc, ◌+◌, ◌^◌, ◌%◌, ◌<◌, ◌≤◌, Bool, true, false, List, [], ◌∷◌, length}
 use Rattle.std.proofs.Common.{filter, get_or, set, refl, sym, ap, ◌∙◌, subst, arith, nat_eq, cond}
-use Rattle.std.specs.Prelude.{Option, Some, None, IfSome}
+use Rattle.std.specs.Prelude.{Option, Some, None, IfSome, option_map}
 use Rattle.std.specs.List.{Contains, sum_by}
 use mathlib.Core.List.{IsPrefix}
 use mathlib.Core.Option.{none, some, some-injective}
@@ -17,21 +17,23 @@ use Rattle.mon_value.specs.declared.positions.Range.{Range}
 use Rattle.history_book.specs.declared.numbers.TheConstants.{NUMBER_END}
 use Rattle.history_book.specs.declared.rooms.RoomMove.{RoomMove}
 use Rattle.history_book.specs.declared.views.BookEntry.{BookEntry}
-use Rattle.history_book.specs.declared.views.Histories.{Histories}
+use Rattle.mon_value.specs.declared.histories.Histories.{Histories}
 use Rattle.history_book.specs.declared.views.History.{History}
 use Rattle.history_book.specs.declared.views.Joined.{Joined}
 use Rattle.history_book.specs.declared.views.Kept.{Kept}
 use Rattle.history_book.specs.declared.views.Purse.{Purse}
 use Rattle.history_book.specs.declared.views.SeatView.{SeatView}
-use Rattle.history_book.specs.Histories.{IsFor, entries, history_numbered, is_about, is_under, leaf_numbered, pass_of}
+use Rattle.mon_value.specs.Positions.{leaf_numbered}
+use Rattle.history_book.specs.Histories.{IsFor, entries, history_numbered, is_about, is_under, pass_of}
 use Rattle.history_book.specs.Histories.{same_history, with_entry}
 use Rattle.history_book.specs.Seats.{AreApart, HasEveryNumber, IsBorneOut, IsKeptIn, guest_purse, hand_of, kept_in}
-use Rattle.history_book.specs.Seats.{mapped, times_number}
+use Rattle.history_book.specs.Seats.{times_number}
 use Rattle.history_book.specs.BookRule.{BookHolds, IsJoined, IsTrue, KeepsBookRule, has_number, has_room, holds}
 use Rattle.history_book.specs.BookRule.{in_purse, kept_in_purse, owns}
 use Rattle.history_book.specs.Steps.{Appends, CanGiveBack, Confirms, IsPromised, IsUnited, Learns, Seated, after_deal}
-use Rattle.history_book.specs.Steps.{after_handed_number, after_part, appended, dealt, handed_number, history_of}
-use Rattle.history_book.specs.Steps.{learned, meeting, part, spent, split_off}
+use Rattle.history_book.specs.Steps.{after_handed_number, after_part, view_after_append, dealt, handed_number}
+use Rattle.history_book.specs.Steps.{history_of}
+use Rattle.history_book.specs.Steps.{view_after_learning, meeting, part, spent_view, split_off}
 use Rattle.history_book.proofs.ListLemmas.{prefix_contains, prefix_filter, prefix_length}
 use Rattle.history_book.proofs.HistoryLemmas.{fronts, same_history_refl}
 use Rattle.history_book.proofs.SumLemmas.{part_of_sum, parts_of_sum}
@@ -68,7 +70,7 @@ allows_learn leaves ranges slots id me n low s rule _ is _ =
     = prefix_length (entries me.0.seen h) (entries rule.0 h) (true_v.seen h) in omega arith in
     let own : 0 < owns h me.0 → found ≡ length (entries me.0.seen h) = λ o. length_is
     ∙ ap length (sym (true_v.own h o)) in
-    let w = learned (history_of (n + 1)) found me.0 in (
+    let w = view_after_learning (history_of (n + 1)) found me.0 in (
       w,
       keeps,
       tt,
@@ -220,7 +222,7 @@ splits_part leaves ranges id v moved hold h owns_is can s rule is =
     (rule.0, keeps_part leaves ranges rule.0 s.words s.views rule.1 id v is moved hold h owns_is can)
 
 pub joins_meeting : (leaves ranges id other : ℕ) (v u : SeatView) → u.owns ≡ [] → u.held
-    ≡ [] → Joins {S = Unit {0}} (holds_of leaves ranges) id v other u (meeting v u) spent
+    ≡ [] → Joins {S = Unit {0}} (holds_of leaves ranges) id v other u (meeting v u) spent_view
 joins_meeting leaves ranges id other v u landless handless s rule is apart is' = (
   rule.0,
   keeps_meeting leaves ranges rule.0 s.words s.views rule.1 id v is other u apart
@@ -240,7 +242,7 @@ abbrev given : Option ℕ → ℕ → ℕ
 given None d = d
 given (Some n) d = n
 
-own_found : (o : Option Kept) (n : ℕ) → mapped (λ (kept : Kept). kept.number) o ≡ Some n
+own_found : (o : Option Kept) (n : ℕ) → option_map (λ (kept : Kept). kept.number) o ≡ Some n
     → (mine : Kept) × (o ≡ Some mine) × (mine.number ≡ n)
 own_found None n e = absurd (none_is_none n e)
 own_found (Some kept) n e = (kept, refl, ap (λ o. given o n) e)
@@ -268,7 +270,7 @@ allows_append leaves ranges slots id me n e low fits owns_is room number about s
     let same : length (entries me.0.seen h) ≡ length (entries rule.0 h) = ap length own in
     let few : length (entries me.0.seen h) < 4611686018427387904 = room in
     let grown : x ≡ length (entries rule.0 h) + 1 = omega arith in (
-      appended e me.0,
+      view_after_append e me.0,
       keeps,
       tt,
       (

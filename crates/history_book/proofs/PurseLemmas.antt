@@ -1,7 +1,7 @@
 -- How often numbers, rooms and ranges stand in purses, and what becomes of that as purses are cut and put together.
 use Rattle.std.proofs.Common.{◌≡◌, ℕ, ◌+◌, ◌-◌, ◌<◌, ◌≤◌, ◌≢◌, Bool, true, false, not, ◌&&◌, List, [], ◌∷◌, ◌++◌}
 use Rattle.std.proofs.Common.{filter, refl, sym, ap, ◌∙◌, subst, arith, nat_eq, nat_lt, cond}
-use Rattle.std.specs.Prelude.{Option, Some, None}
+use Rattle.std.specs.Prelude.{Option, Some, None, option_map, option_to_list}
 use Rattle.std.specs.List.{Contains, count_by, sum_by}
 use mathlib.Core.Logic.{dite}
 use native.Mathlib.Decide.{ℕ_discrete}
@@ -16,10 +16,10 @@ use Rattle.history_book.specs.declared.numbers.TheConstants.{SHARE}
 use Rattle.history_book.specs.declared.views.History.{History}
 use Rattle.history_book.specs.declared.views.Kept.{Kept}
 use Rattle.history_book.specs.declared.views.Purse.{Purse}
-use Rattle.history_book.specs.Histories.{same_leaf, same_range}
+use Rattle.mon_value.specs.Positions.{same_leaf, same_range}
 use Rattle.history_book.specs.Numbers.{are_many, numbers_between, times_among}
-use Rattle.history_book.specs.Seats.{first_handed, guest_purse, held_after, holds_after, is_own_range, kept_in, listed}
-use Rattle.history_book.specs.Seats.{mapped, met_purse, new_number, no_purse, times_number, times_range, times_room}
+use Rattle.history_book.specs.Seats.{first_handed, guest_purse, held_after, holds_after, is_own_range, kept_in}
+use Rattle.history_book.specs.Seats.{met_purse, new_number, no_purse, times_number, times_range, times_room}
 use Rattle.history_book.specs.Seats.{with_stock_handed, without_one}
 use Rattle.history_book.specs.BookRule.{in_purse, kept_in_purse}
 use Rattle.history_book.specs.Steps.{both_purses}
@@ -138,7 +138,7 @@ handed_by n p true e some = cut_among n p.stock.from (p.stock.to - SHARE) p.stoc
 handed_by n p false e some = cut_among n p.stock.from p.stock.to p.stock.to some (omega arith) (omega arith)
 
 pub number_handed : (n : ℕ) (o : Option Purse) → (guest_purse o).stock.from < (guest_purse o).stock.to
-    → in_purse (times_number n) (mapped with_stock_handed o) + in_purse (times_number n) (mapped first_handed o)
+    → in_purse (times_number n) (option_map with_stock_handed o) + in_purse (times_number n) (option_map first_handed o)
     ≡ in_purse
     (times_number n) o
 number_handed n None some = refl
@@ -149,14 +149,14 @@ number_handed n (Some p) some =
     let b : sum_by (times_among n) [] ≡ 0 = refl in
     omega arith
 
-pub kept_after_handing : (o : Option Purse) → kept_in_purse (mapped with_stock_handed o) ≡ kept_in_purse o
+pub kept_after_handing : (o : Option Purse) → kept_in_purse (option_map with_stock_handed o) ≡ kept_in_purse o
 kept_after_handing None = refl
 kept_after_handing (Some p) = refl
 
 -- ---- two purses are put together
 
 kept_met : (p q : Purse) → kept_in (met_purse p q) ≡ kept_in p ++ kept_in q
-kept_met p q = sym (append_assoc (listed p.own) p.met (kept_in q))
+kept_met p q = sym (append_assoc (option_to_list p.own) p.met (kept_in q))
 
 pub kept_both : (o m : Option Purse) → kept_in_purse (both_purses o m) ≡ kept_in_purse o ++ kept_in_purse m
 kept_both None m = refl

@@ -4,14 +4,15 @@ use Rattle.std.proofs.Common.{arith}
 use Rattle.std.specs.List.{Contains, sum_by}
 use mathlib.Core.Option.{some}
 use lib.ListN.{get_elem?}
-use Rattle.history_book.specs.declared.views.Histories.{Histories}
+use Rattle.mon_value.specs.declared.histories.Histories.{Histories}
 use Rattle.history_book.specs.declared.views.History.{History}
 use Rattle.history_book.specs.declared.views.History.TheVariants as of
 use Rattle.history_book.specs.declared.views.Kept.{Kept}
 use Rattle.history_book.specs.declared.views.SeatView.{SeatView}
 use Rattle.mon_value.specs.declared.positions.Leaf.{Leaf}
 use Rattle.mon_value.specs.declared.positions.Range.{Range}
-use Rattle.history_book.specs.Histories.{history_numbered, leaf_numbered, numbered_as, range_numbered}
+use Rattle.mon_value.specs.Positions.{leaf_numbered, range_numbered}
+use Rattle.history_book.specs.Histories.{history_numbered, numbered_as}
 use Rattle.history_book.specs.BookRule.{HasSeat, IsTrue, KeepsBookRule, has_number, has_room, holds, kept_in_purse}
 use Rattle.history_book.specs.BookRule.{owns}
 use Rattle.atomic_table.proofs.Lists.{set_else}

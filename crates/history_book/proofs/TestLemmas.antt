@@ -1,7 +1,7 @@
 -- What the tests know of new owners, and of a history that has grown by an entry.
-use Rattle.std.proofs.Common.{◌≡◌, ℕ, zero, suc, ◌+◌, ◌<◌, ◌≤◌, Bool, true, false, not, List, [], ◌∷◌, ◌++◌, length}
+use Rattle.std.proofs.Common.{◌≡◌, ℕ, zero, suc, ◌+◌, ◌<◌, true, false, not, List, [], ◌∷◌, ◌++◌, length}
 use Rattle.std.proofs.Common.{map, filter, refl, sym, ap, ◌∙◌, subst, arith, nat_eq, nat_lt, cond}
-use Rattle.std.specs.Prelude.{None, All}
+use Rattle.std.specs.Prelude.{None, All, option_map}
 use Rattle.std.proofs.lemmas.Bool.Decides.{nat_tests}
 use Rattle.std.proofs.lemmas.List.{length_push, same_from_push}
 use Rattle.std.proofs.lemmas.List.Sums.{sum_by-append, sum_by-cons}
@@ -14,10 +14,11 @@ use Rattle.history_book.specs.declared.views.History.TheVariants as of
 use Rattle.mon_value.specs.declared.histories.Entry.{Entry}
 use Rattle.mon_value.specs.declared.positions.Leaf.{Leaf}
 use Rattle.mon_value.specs.declared.positions.Range.{Range}
-use Rattle.history_book.specs.Histories.{IsFor, IsOfLeaf, entries, histories_in, history_numbered, leaf_numbered}
-use Rattle.history_book.specs.Histories.{numbered_as, numbers_on, range_numbered, same_leaf, same_range}
+use Rattle.mon_value.specs.Positions.{leaf_numbered, range_numbered, same_leaf, same_range}
+use Rattle.history_book.specs.Histories.{IsFor, IsOfLeaf, entries, histories_in, history_numbered}
+use Rattle.history_book.specs.Histories.{numbered_as, numbers_on}
 use Rattle.history_book.specs.Seats.{HasRoom, HoldsOwn, Owner, Seat, after_append, after_parting, guest_purse}
-use Rattle.history_book.specs.Seats.{holds_after, is_own_range, mapped, new_owner, parted, purse_with, rooms_after}
+use Rattle.history_book.specs.Seats.{holds_after, is_own_range, new_owner, guest_seat, purse_with, rooms_after}
 use Rattle.history_book.specs.Seats.{times_range, times_room, with_guest}
 use Rattle.history_book.proofs.HistoryLemmas.{entries_added, no_entries_at}
 use Rattle.history_book.proofs.PurseLemmas.{room_made}
@@ -127,7 +128,7 @@ two_popped leaves ranges all rest first leaf range one_leaf one_range new last b
 module _ (before met gone_owner again : Owner) (seat gone : Seat) (leaf : Leaf) (is : before.history ≡ of.Leaf leaf)
     (met_is : met
     ≡ with_guest seat before)
-    (gone_is : gone ≡ parted move.Make false met) (again_is : again ≡ with_guest gone gone_owner) where
+    (gone_is : gone ≡ guest_seat move.Make false met) (again_is : again ≡ with_guest gone gone_owner) where
   pub still_held : (range : Range) → 0 < times_range range seat.purse.holds
       → 0 < times_range range (again.held ++ (guest_purse again.guest).holds)
   still_held range has =
@@ -147,7 +148,7 @@ module _ (before met gone_owner again : Owner) (seat gone : Seat) (leaf : Leaf) 
       ∙ is in
       let rooms : (guest_purse after.guest).rooms ≡ seat.purse.rooms ++ leaf ∷ []
       = ap (λ o. (guest_purse o.guest).rooms) after_is
-      ∙ ap (λ o. (guest_purse (mapped (purse_with again.history e) o.guest)).rooms) again_is
+      ∙ ap (λ o. (guest_purse (option_map (purse_with again.history e) o.guest)).rooms) again_is
       ∙ ap (λ s. s.purse.rooms) gone_is
       ∙ ap (λ o. rooms_after move.Make o.history (guest_purse o.guest).rooms) met_is
       ∙ ap (λ h. rooms_after move.Make h seat.purse.rooms) is in

@@ -10,7 +10,7 @@ use Rattle.mon_value.specs.declared.positions.Leaf.{Leaf}
 use Rattle.mon_value.specs.declared.positions.Range.{Range}
 use Rattle.history_book.specs.declared.numbers.TheConstants.{NUMBER_END}
 use Rattle.history_book.specs.declared.views.BookEntry.{BookEntry}
-use Rattle.history_book.specs.declared.views.Histories.{Histories}
+use Rattle.mon_value.specs.declared.histories.Histories.{Histories}
 use Rattle.history_book.specs.declared.views.History.{History}
 use Rattle.history_book.specs.declared.views.History.TheVariants as of
 use Rattle.history_book.specs.declared.views.Joined.{Joined}
@@ -18,8 +18,9 @@ use Rattle.history_book.specs.declared.views.Kept.{Kept}
 use Rattle.history_book.specs.declared.views.Purse.{Purse}
 use Rattle.history_book.specs.declared.views.SeatView.{SeatView}
 use Rattle.history_book.specs.Books.{word_count, word_of}
-use Rattle.history_book.specs.Histories.{entries, history_numbered, is_about, is_under, leaf_numbered, pass_of}
-use Rattle.history_book.specs.Histories.{range_numbered, same_history}
+use Rattle.mon_value.specs.Positions.{leaf_numbered, range_numbered}
+use Rattle.history_book.specs.Histories.{entries, history_numbered, is_about, is_under, pass_of}
+use Rattle.history_book.specs.Histories.{same_history}
 use Rattle.history_book.specs.Seats.{kept_in, times_number, times_range, times_room}
 
 -- ---- what a seat has
@@ -73,7 +74,7 @@ pub record IsTrue (whole : Histories) (seat : SeatView) : Type 0 where
   pub joined : IfSome seat.joined (IsJoined whole seat)
 
 -- a seat keeps the number of an entry
-pub record IsKept (seats : List SeatView) (e : BookEntry) : Type 0 where
+pub record IsNumberKept (seats : List SeatView) (e : BookEntry) : Type 0 where
   pub seat : SeatView
   pub there : HasSeat seats seat
   pub kept : Kept
@@ -94,7 +95,7 @@ pub record KeepsBookRule (leaves ranges : ℕ) (whole : Histories) (words : List
   pub numbered : (n : ℕ) → n < NUMBER_END → sum_by (has_number n) seats ≡ 1
   pub bounded : (n : ℕ) → NUMBER_END < n + 1 → sum_by (has_number n) seats ≡ 0
   -- the number of each entry is kept by a seat
-  pub kept : (history : History) (e : BookEntry) → Contains (entries whole history) e → IsKept seats e
+  pub kept : (history : History) (e : BookEntry) → Contains (entries whole history) e → IsNumberKept seats e
   -- the owner of a leaf's history promised as many rooms as seats have in it
   pub promised : (seat : SeatView) (n : ℕ) → n < leaves → HasSeat seats seat → 0 < owns (of.Leaf (leaf_numbered n)) seat
       → seat.promised ≡ sum_by (has_room (leaf_numbered n)) seats

@@ -1,9 +1,7 @@
 -- Histories of leaves and of ranges, by number or by whose they are, and what becomes of copies of them.
 use Rattle.std.specs.Prelude.{◌≡◌, ℕ, zero, suc, ◌+◌, ◌-◌, nat_eq, nat_lt, Bool, true, false, List, [], ◌∷◌, ◌++◌}
 use Rattle.std.specs.Prelude.{map, replicate}
-use Rattle.std.specs.List.{slice_index_or}
 use mathlib.Core.List.{IsPrefix}
-use Rattle.mon_value.specs.Farther.{longer_each}
 use Rattle.mon_value.specs.declared.histories.Entry.{Entry}
 use Rattle.mon_value.specs.declared.histories.Entry.TheVariants as entry
 use Rattle.mon_value.specs.declared.histories.RangeEntry.{RangeEntry}
@@ -12,17 +10,13 @@ use Rattle.mon_value.specs.declared.positions.Leaf.{Leaf}
 use Rattle.mon_value.specs.declared.positions.Range.{Range}
 use Rattle.history_book.specs.declared.views.BookEntry.{BookEntry}
 use Rattle.history_book.specs.declared.views.BookEntry.TheVariants as one
-use Rattle.history_book.specs.declared.views.Histories.{Histories}
+use Rattle.mon_value.specs.declared.histories.Histories.{Histories}
 use Rattle.history_book.specs.declared.views.History.{History}
 use Rattle.history_book.specs.declared.views.History.TheVariants as of
+use Rattle.mon_value.specs.Positions.{leaf_numbered, range_numbered, same_leaf, same_range}
+use Rattle.mon_value.specs.Histories.{leaf_history, range_history}
 
 -- ---- which histories there are
-
-abbrev pub leaf_numbered : ℕ → Leaf
-leaf_numbered n = record { 0 = n }
-
-abbrev pub range_numbered : ℕ → Range
-range_numbered n = record { 0 = n }
 
 abbrev pub numbered_as : Bool → ℕ → ℕ → History
 numbered_as true leaves n = of.Leaf (leaf_numbered n)
@@ -32,9 +26,9 @@ numbered_as false leaves n = of.Range (range_numbered (n - leaves))
 abbrev pub history_numbered : ℕ → ℕ → History
 history_numbered leaves n = numbered_as (nat_lt n leaves) leaves n
 
-abbrev pub number_of : ℕ → History → ℕ
-number_of leaves (of.Leaf leaf) = leaf.0
-number_of leaves (of.Range range) = leaves + range.0
+abbrev pub history_number : ℕ → History → ℕ
+history_number leaves (of.Leaf leaf) = leaf.0
+history_number leaves (of.Range range) = leaves + range.0
 
 -- so many numbers on from one
 abbrev pub numbers_on : ℕ → ℕ → List ℕ
@@ -43,12 +37,6 @@ numbers_on first (suc count) = first ∷ numbers_on (first + 1) count
 
 abbrev pub histories_in : ℕ → ℕ → List History
 histories_in leaves ranges = map (history_numbered leaves) (numbers_on 0 (leaves + ranges))
-
-abbrev pub same_range : Range → Range → Bool
-same_range a b = nat_eq a.0 b.0
-
-abbrev pub same_leaf : Leaf → Leaf → Bool
-same_leaf a b = nat_eq a.0 b.0
 
 abbrev pub same_history : History → History → Bool
 same_history (of.Leaf a) (of.Leaf b) = same_leaf a b
@@ -64,12 +52,6 @@ abbrev pub IsOfLeaf : History → Type 0
 IsOfLeaf history = is_of_leaf history ≡ true
 
 -- ---- what stands in them
-
-abbrev pub leaf_history : Histories → Leaf → List Entry
-leaf_history seen leaf = slice_index_or seen.leaves leaf.0 []
-
-abbrev pub range_history : Histories → Range → List RangeEntry
-range_history seen range = slice_index_or seen.ranges range.0 []
 
 abbrev pub entries : Histories → History → List BookEntry
 entries seen (of.Leaf leaf) = map (λ e. one.Leaf e) (leaf_history seen leaf)
@@ -142,8 +124,3 @@ with_entry (of.Range range) (one.Range e) seen = record {
   leaves = seen.leaves;
   ranges = added_at range.0 e seen.ranges;
 }
-
--- of each history the longer copy
-abbrev pub longer_of : Histories → Histories → Histories
-longer_of seen other =
-    record { leaves = longer_each seen.leaves other.leaves; ranges = longer_each seen.ranges other.ranges }

@@ -23,5 +23,5 @@ are_many numbers = nat_lt MANY (numbers.to - (numbers.from + 1))
 abbrev pub after_handing : Numbers → Numbers
 after_handing numbers = numbers_between (numbers.from + 1) (if are_many numbers then numbers.to - SHARE else numbers.to)
 
-abbrev pub handed : Numbers → Numbers
-handed numbers = numbers_between (if are_many numbers then numbers.to - SHARE else numbers.to) numbers.to
+abbrev pub handed_numbers : Numbers → Numbers
+handed_numbers numbers = numbers_between (if are_many numbers then numbers.to - SHARE else numbers.to) numbers.to

@@ -1,6 +1,6 @@
 -- What callers see of a seat and of an owner, and what calls make of that.
 use Rattle.std.specs.Prelude.{◌≡◌, ℕ, ◌+◌, ◌-◌, ◌<◌, nat_eq, Bool, true, false, not, List, [], ◌∷◌, ◌++◌, filter}
-use Rattle.std.specs.Prelude.{Option, Some, None, if◌then◌else◌}
+use Rattle.std.specs.Prelude.{Option, Some, None, option_map, option_to_list, if◌then◌else◌}
 use Rattle.std.specs.List.{Contains, count_by, sum_by}
 use mathlib.Core.List.{IsPrefix}
 use Rattle.mon_value.specs.declared.positions.Leaf.{Leaf}
@@ -10,15 +10,17 @@ use Rattle.history_book.specs.declared.rooms.RoomMove.TheVariants as move
 use Rattle.history_book.specs.declared.numbers.Hand.{Hand}
 use Rattle.history_book.specs.declared.numbers.TheConstants.{NUMBER_END}
 use Rattle.history_book.specs.declared.views.BookEntry.{BookEntry}
-use Rattle.history_book.specs.declared.views.Histories.{Histories}
+use Rattle.mon_value.specs.declared.histories.Histories.{Histories}
 use Rattle.history_book.specs.declared.views.History.{History}
 use Rattle.history_book.specs.declared.views.History.TheVariants as of
 use Rattle.history_book.specs.declared.views.Kept.{Kept}
 use Rattle.history_book.specs.declared.views.LengthNote.{LengthNote}
 use Rattle.history_book.specs.declared.views.Purse.{Purse}
-use Rattle.history_book.specs.Histories.{empty_histories, entries, is_under, longer_of, pass_of, same_leaf, same_range}
+use Rattle.mon_value.specs.Positions.{same_leaf, same_range}
+use Rattle.mon_value.specs.Histories.{joined_histories}
+use Rattle.history_book.specs.Histories.{empty_histories, entries, is_under, pass_of}
 use Rattle.history_book.specs.Histories.{with_entry}
-use Rattle.history_book.specs.Numbers.{after_handing, handed, numbers_between, times_among}
+use Rattle.history_book.specs.Numbers.{after_handing, handed_numbers, numbers_between, times_among}
 
 -- A seat: what it has seen, and what it has beside that
 pub record Seat : Type 0 where
@@ -61,17 +63,9 @@ numbered_purse number from to =
       holds = [];
     }
 
-abbrev pub listed : {X : Type 0} → Option X → List X
-listed None = []
-listed (Some x) = x ∷ []
-
-abbrev pub mapped : {X Y : Type 0} → (X → Y) → Option X → Option Y
-mapped f None = None
-mapped f (Some x) = Some (f x)
-
 -- the numbers whose entries it keeps: its own, and those of seats that it met
 abbrev pub kept_in : Purse → List Kept
-kept_in purse = listed purse.own ++ purse.met
+kept_in purse = option_to_list purse.own ++ purse.met
 
 -- how often a number stands in a purse
 abbrev pub times_number : ℕ → Purse → ℕ
@@ -111,15 +105,15 @@ pub record IsBorneOut (seen : Histories) (purse : Purse) : Type 0 where
       → IsKeptIn purse history e
 
 abbrev pub hand_of : Purse → Hand
-hand_of purse = record { own = mapped (λ kept. kept.number) purse.own; stock = purse.stock }
+hand_of purse = record { own = option_map (λ kept. kept.number) purse.own; stock = purse.stock }
 
 -- ---- what calls make of them
 
 abbrev pub length_note : ℕ → ℕ → LengthNote
 length_note history length = record { history = history; length = length }
 
-abbrev pub noted : ℕ → ℕ → Purse → Purse
-noted history length purse =
+abbrev pub with_note : ℕ → ℕ → Purse → Purse
+with_note history length purse =
     record {
       own = purse.own;
       met = purse.met;
@@ -150,7 +144,7 @@ first_handed purse =
     record {
       own = Some (new_number purse.stock.from);
       met = [];
-      stock = handed purse.stock;
+      stock = handed_numbers purse.stock;
       lost = [];
       notes = [];
       rooms =
@@ -177,7 +171,7 @@ kept_with history e kept = record { number = kept.number; own = with_entry histo
 abbrev pub purse_with : History → BookEntry → Purse → Purse
 purse_with history e purse =
     record {
-      own = mapped (kept_with history e) purse.own;
+      own = option_map (kept_with history e) purse.own;
       met = purse.met;
       stock = purse.stock;
       lost = purse.lost;
@@ -252,7 +246,7 @@ abbrev pub first_seat : ℕ → ℕ → Seat
 first_seat leaves ranges = record { seen = empty_histories leaves ranges; purse = numbered_purse 0 1 NUMBER_END }
 
 abbrev pub after_learn : ℕ → ℕ → Seat → Seat
-after_learn history length seat = record { seen = seat.seen; purse = noted history length seat.purse }
+after_learn history length seat = record { seen = seat.seen; purse = with_note history length seat.purse }
 
 abbrev pub without_purse : Seat → Seat
 without_purse seat = record { seen = seat.seen; purse = no_purse }
@@ -260,11 +254,14 @@ without_purse seat = record { seen = seat.seen; purse = no_purse }
 abbrev pub after_split_numbered : Seat → Seat
 after_split_numbered seat = record { seen = seat.seen; purse = with_stock_handed seat.purse }
 
-abbrev pub numbered : Seat → Seat
-numbered seat = record { seen = seat.seen; purse = first_handed seat.purse }
+abbrev pub numbered_seat : Seat → Seat
+numbered_seat seat = record { seen = seat.seen; purse = first_handed seat.purse }
 
 abbrev pub after_meet : Seat → Seat → Seat
-after_meet other seat = record { seen = longer_of seat.seen other.seen; purse = met_purse seat.purse other.purse }
+after_meet other seat = record {
+  seen = joined_histories seat.seen other.seen;
+  purse = met_purse seat.purse other.purse;
+}
 
 -- ---- owners
 
@@ -293,7 +290,7 @@ after_append e owner = record {
   promised = owner.promised;
   held = owner.held;
   notes = owner.notes;
-  guest = mapped (purse_with owner.history e) owner.guest;
+  guest = option_map (purse_with owner.history e) owner.guest;
 }
 
 -- what the owner notes itself
@@ -309,14 +306,14 @@ after_own_learn history length owner = record {
   promised = owner.promised;
   held = owner.held;
   notes = own_notes_after history length owner.guest owner.notes;
-  guest = mapped (noted history length) owner.guest;
+  guest = option_map (with_note history length) owner.guest;
 }
 
 -- a guest has come
 abbrev pub with_guest : Seat → Owner → Owner
 with_guest other owner = record {
   history = owner.history;
-  seen = longer_of owner.seen other.seen;
+  seen = joined_histories owner.seen other.seen;
   promised = owner.promised;
   held = owner.held;
   notes = owner.notes;
@@ -335,6 +332,6 @@ after_parting rooms hold owner = record {
 }
 
 -- the seat that the guest has then
-abbrev pub parted : RoomMove → Bool → Owner → Seat
-parted rooms hold owner =
+abbrev pub guest_seat : RoomMove → Bool → Owner → Seat
+guest_seat rooms hold owner =
     record { seen = owner.seen; purse = parted_purse rooms hold owner.history owner.held (guest_purse owner.guest) }

@@ -1,6 +1,6 @@
 -- What the kinds of step make of a seat's view, and what they tell.
 use Rattle.std.specs.Prelude.{◌≡◌, ℕ, ◌+◌, ◌-◌, ◌<◌, ◌≤◌, Bool, List, [], ◌∷◌, drop, take, length, filter, map, Option}
-use Rattle.std.specs.Prelude.{Some, None, IfSome}
+use Rattle.std.specs.Prelude.{Some, None, IfSome, option_map}
 use Rattle.atomic_table.specs.Table.{Me, Step}
 use Rattle.mon_value.specs.declared.positions.Leaf.{Leaf}
 use Rattle.mon_value.specs.declared.positions.Range.{Range}
@@ -8,16 +8,18 @@ use Rattle.history_book.specs.declared.numbers.TheConstants.{NUMBER_END}
 use Rattle.history_book.specs.declared.rooms.RoomMove.{RoomMove}
 use Rattle.history_book.specs.declared.rooms.RoomMove.TheVariants as move
 use Rattle.history_book.specs.declared.views.BookEntry.{BookEntry}
-use Rattle.history_book.specs.declared.views.Histories.{Histories}
+use Rattle.mon_value.specs.declared.histories.Histories.{Histories}
 use Rattle.history_book.specs.declared.views.History.{History}
 use Rattle.history_book.specs.declared.views.History.TheVariants as of
 use Rattle.history_book.specs.declared.views.Joined.{Joined}
 use Rattle.history_book.specs.declared.views.Purse.{Purse}
 use Rattle.history_book.specs.declared.views.SeatView.{SeatView}
 use Rattle.history_book.specs.Histories.{AreFronts, empty_histories, entries, histories_in, history_numbered, is_about}
-use Rattle.history_book.specs.Histories.{leaf_numbered, longer_of, numbers_on, range_numbered, with_entry}
-use Rattle.history_book.specs.Seats.{IsBorneOut, Owner, Seat, first_handed, guest_purse, held_after, mapped, met_purse}
-use Rattle.history_book.specs.Seats.{no_purse, noted, numbered_purse, own_notes_after, own_ranges, parted_purse}
+use Rattle.mon_value.specs.Positions.{leaf_numbered, range_numbered}
+use Rattle.mon_value.specs.Histories.{joined_histories}
+use Rattle.history_book.specs.Histories.{numbers_on, with_entry}
+use Rattle.history_book.specs.Seats.{IsBorneOut, Owner, Seat, first_handed, guest_purse, held_after, met_purse}
+use Rattle.history_book.specs.Seats.{no_purse, with_note, numbered_purse, own_notes_after, own_ranges, parted_purse}
 use Rattle.history_book.specs.Seats.{promised_after, purse_with, times_range, times_room, with_stock_handed}
 use Rattle.history_book.specs.BookRule.{has_room, holds, owns}
 
@@ -137,10 +139,10 @@ abbrev pub split_off : SeatView → SeatView
 split_off v = plain_view v.seen (Some no_purse)
 
 abbrev pub after_handed_number : SeatView → SeatView
-after_handed_number v = with_purse (mapped with_stock_handed v.purse) v
+after_handed_number v = with_purse (option_map with_stock_handed v.purse) v
 
 abbrev pub handed_number : SeatView → SeatView
-handed_number v = plain_view v.seen (mapped first_handed v.purse)
+handed_number v = plain_view v.seen (option_map first_handed v.purse)
 
 abbrev pub both_purses : Option Purse → Option Purse → Option Purse
 both_purses None other = other
@@ -149,7 +151,7 @@ both_purses (Some purse) (Some other) = Some (met_purse purse other)
 
 abbrev pub meeting : SeatView → SeatView → SeatView
 meeting v u = record {
-  seen = longer_of v.seen u.seen;
+  seen = joined_histories v.seen u.seen;
   joined = Some (record { mine = v.seen; theirs = u.seen; lent = (guest_purse u.purse).holds });
   purse = both_purses v.purse u.purse;
   owns = v.owns;
@@ -159,8 +161,8 @@ meeting v u = record {
 }
 
 -- a seat that met another's is spent
-abbrev pub spent : SeatView
-spent = plain_view (record { leaves = []; ranges = [] }) None
+abbrev pub spent_view : SeatView
+spent_view = plain_view (record { leaves = []; ranges = [] }) None
 
 -- the history of an owner
 abbrev pub own_history : List History → History
@@ -188,22 +190,22 @@ CanGiveBack move.Keep history rooms = Unit {0}
 CanGiveBack move.TakeBack (of.Leaf leaf) rooms = 0 < times_room leaf rooms
 CanGiveBack move.TakeBack (of.Range range) rooms = Unit {0}
 
-abbrev pub appended : BookEntry → SeatView → SeatView
-appended e v = record {
+abbrev pub view_after_append : BookEntry → SeatView → SeatView
+view_after_append e v = record {
   seen = with_entry (own_history v.owns) e v.seen;
   joined = None;
-  purse = mapped (purse_with (own_history v.owns) e) v.purse;
+  purse = option_map (purse_with (own_history v.owns) e) v.purse;
   owns = v.owns;
   promised = v.promised;
   held = v.held;
   notes = v.notes;
 }
 
-abbrev pub learned : ℕ → ℕ → SeatView → SeatView
-learned history length v = record {
+abbrev pub view_after_learning : ℕ → ℕ → SeatView → SeatView
+view_after_learning history length v = record {
   seen = v.seen;
   joined = v.joined;
-  purse = mapped (noted history length) v.purse;
+  purse = option_map (with_note history length) v.purse;
   owns = v.owns;
   promised = v.promised;
   held = v.held;
@@ -222,11 +224,11 @@ Learns leaves step before found after =
     (length (entries before.0.seen (history_numbered leaves (history_of step.word))) ≤ found)
     × (0 < owns (history_numbered leaves (history_of step.word)) before.0
     → found ≡ length (entries before.0.seen (history_numbered leaves (history_of step.word))))
-    × (after ≡ (learned (history_of step.word) found before.0, before.1))
+    × (after ≡ (view_after_learning (history_of step.word) found before.0, before.1))
 
 -- an entry was appended
 abbrev pub Appends : BookEntry → Step (Unit {0}) → Seated → ℕ → Seated → Type 0
-Appends e step before found after = after ≡ (appended e before.0, before.1)
+Appends e step before found after = after ≡ (view_after_append e before.0, before.1)
 
 -- what two seats had seen is seen by the one that they became
 pub record IsUnited (v : SeatView) (joined : Joined) : Type 0 where

@@ -4,11 +4,12 @@ ghost use Rattle.std.specs.Prelude.{IfOk, IfSome, IfNone, IsTrue};
 ghost use Rattle.history_book.specs.declared.rooms.RoomMove.TheVariants as the_move;
 ghost use Rattle.history_book.specs.Books.{HasHistory, IsShaped};
 ghost use Rattle.history_book.specs.Histories.{AreFronts, IsFor, IsOfLeaf, entries, histories_in, history_numbered};
-ghost use Rattle.history_book.specs.Histories.{is_about, number_of, pass_of};
+ghost use Rattle.history_book.specs.Histories.{is_about, history_number, pass_of};
 ghost use Rattle.history_book.specs.Numbers.{is_spent};
 ghost use Rattle.history_book.specs.Seats.{HasRoom, HoldsOwn, IsBorneOut, after_append, after_learn, after_meet};
 ghost use Rattle.history_book.specs.Seats.{after_own_learn, after_parting, after_split_numbered, first_seat};
-ghost use Rattle.history_book.specs.Seats.{guest_purse, hand_of, new_owner, numbered, parted, times_range, times_room};
+ghost use Rattle.history_book.specs.Seats.{guest_purse, hand_of, new_owner, numbered_seat, guest_seat, times_range};
+ghost use Rattle.history_book.specs.Seats.{times_room};
 ghost use Rattle.history_book.specs.Seats.{with_guest, without_purse};
 ghost use Rattle.history_book.specs.Steps.{CanGiveBack, IsPlain, IsPromised, IsUnited, after_part, dealing, meeting};
 ghost use Rattle.history_book.specs.Steps.{own_history, owner_view, part};
@@ -134,7 +135,7 @@ impl<N: BookName> Book<N> {
     /// is one, and else the owner. One step.
     pub fn learn_owner(&self, owner: &mut BookOwner<N>) -> u64
         ensures exact { result ≡ length (entries owner.old.seen owner.old.history) }
-        ensures noted { owner.new ≡ after_own_learn (number_of N.book.leaves owner.old.history) result owner.old }
+        ensures noted { owner.new ≡ after_own_learn (history_number N.book.leaves owner.old.history) result owner.old }
     {
         self.table
             .shared
@@ -172,7 +173,7 @@ impl<N: BookName> Book<N> {
     pub fn split_numbered(&self, seat: &mut BookSeat<N>) -> Option<BookSeat<N>>
         ensures spent { IfNone result ((is_spent seat.old.purse.stock ≡ true) × (seat.new ≡ seat.old)) }
         ensures handed { IfSome result (λ new.
-            (seat.old.purse.stock.from < seat.old.purse.stock.to) × (new ≡ numbered seat.old)) }
+            (seat.old.purse.stock.from < seat.old.purse.stock.to) × (new ≡ numbered_seat seat.old)) }
         ensures left { IfSome result (λ new. seat.new ≡ after_split_numbered seat.old) }
     {
         let stock = seat.hand.stock;
@@ -258,7 +259,7 @@ impl<N: BookName> Book<N> {
         requires take_back { rooms ≡ the_move.TakeBack → HasRoom owner.old }
         requires hold { IsTrue hold → HoldsOwn owner.old }
         ensures owner { owner.new ≡ after_parting rooms hold owner.old }
-        ensures seat { result ≡ parted rooms hold owner.old }
+        ensures seat { result ≡ guest_seat rooms hold owner.old }
     {
         let hand = owner.hand;
         let seat = self.part(&mut owner.seat, rooms, hold);

@@ -18,7 +18,7 @@ pub use numbers::{NUMBER_END, Numbers};
 pub use owners::{BookOwner, BookOwners};
 pub use rooms::RoomMove;
 pub use seats::{BookSeat, EndedSeat};
-pub use views::{BookEntry, Histories, History, Kept, LengthNote, Purse};
+pub use views::{BookEntry, History, Kept, LengthNote, Purse};
 
 #[cfg(test)]
 mod tests;

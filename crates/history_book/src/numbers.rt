@@ -1,6 +1,6 @@
 // The numbers that callers' entries are told apart by.
-ghost use Rattle.std.specs.Prelude.{◌≡◌, ◌<◌, ◌≤◌};
-ghost use Rattle.history_book.specs.Numbers.{after_handing, handed, is_spent};
+ghost use Rattle.std.specs.Prelude.{◌≡◌, ◌<◌};
+ghost use Rattle.history_book.specs.Numbers.{after_handing, handed_numbers, is_spent};
 
 /// More numbers than this have to be left, so that a seat that is split off gets some of them.
 pub const MANY: u64 = 1 << 33;
@@ -45,7 +45,7 @@ impl Numbers {
     /// Those that go with the first one.
     pub(crate) fn handed(self) -> Numbers
         requires { self.from < self.to }
-        ensures { result ≡ handed self }
+        ensures { result ≡ handed_numbers self }
     {
         if self.to - (self.from + 1) > MANY {
             Numbers {

@@ -98,11 +98,11 @@ impl Split<SeatView> for HandOut {
 pub(crate) struct Meet;
 
 impl Join<SeatView> for Meet {
-    ghost use Rattle.history_book.specs.Steps.{meeting, spent};
+    ghost use Rattle.history_book.specs.Steps.{meeting, spent_view};
 
     ghost both = { meeting };
 
-    ghost spent = { spent };
+    ghost spent = { spent_view };
 }
 
 /// What an owner does with rooms and with its range as its guest goes.

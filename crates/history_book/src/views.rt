@@ -1,6 +1,6 @@
 // What a seat is seen to have. No value of these is made: contracts alone speak of them.
 use crate::numbers::Numbers;
-use mon_value::{Entries, Entry, Leaf, ListOf, Range, RangeEntries, RangeEntry};
+use mon_value::{Entry, Histories, Leaf, ListOf, Range, RangeEntry};
 
 /// Whose history is meant.
 pub enum History {
@@ -12,12 +12,6 @@ pub enum History {
 pub enum BookEntry {
     Leaf(Entry),
     Range(RangeEntry),
-}
-
-/// One history for each leaf and one for each range, each oldest entry first.
-pub struct Histories {
-    pub leaves: ListOf<Entries>,
-    pub ranges: ListOf<RangeEntries>,
 }
 
 /// A number, and the entries that were appended under it.

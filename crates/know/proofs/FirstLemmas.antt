@@ -13,7 +13,7 @@ use Rattle.mon_topo.specs.Settings.{Setting, zone_of_leaf}
 use Rattle.mon_topo.specs.Zones.{leaves_in, ranges_in}
 use Rattle.history_book.specs.Histories.{empty_histories}
 use Rattle.raise_table.specs.declared.views.Hints.{Hints}
-use Rattle.know.specs.Sound.{IsSound, histories, known_bits}
+use Rattle.know.specs.Sound.{IsSound, known_bits}
 
 abbrev nothing : (X : Type 0) → List X
 nothing X = []
@@ -38,7 +38,7 @@ pub nothing_is_sound : (setting : Setting) (hints : Hints) (leaves ranges : ℕ)
     ≡ length (leaves_in setting.zones)
     → ranges ≡ length (ranges_in setting.zones) → IsSound setting hints (empty_histories leaves ranges)
 nothing_is_sound setting hints leaves ranges all_leaves all_ranges =
-    let seen = histories (empty_histories leaves ranges) in
+    let seen = empty_histories leaves ranges in
     record {
       held = record {
         all_leaves = count_of leaves (nothing Entry) ∙ all_leaves;

@@ -1,5 +1,5 @@
 -- What someone knows stays sound as bits are learned, and what two know of one truth is sound together.
-use Rattle.std.proofs.Common.{◌≡◌, ℕ, true, List, ◌++◌, refl, sym, ap, subst, ◌∙◌}
+use Rattle.std.proofs.Common.{◌≡◌, ℕ, true, List, ◌++◌, sym, subst, ◌∙◌}
 use Rattle.std.specs.List.{list_any}
 use Rattle.std.proofs.lemmas.Bool.{or_left, or_right}
 use Rattle.std.proofs.lemmas.List.Folds.{list_any-append}
@@ -8,41 +8,41 @@ use Rattle.mon_value.specs.declared.positions.Leaf.{Leaf}
 use Rattle.mon_hints.specs.Covers.{AreBitsWithin, Covers}
 use Rattle.mon_hints.specs.HistoryBuckets.{history_buckets}
 use Rattle.mon_hints.proofs.CoverLemmas.{covers_more}
-use Rattle.mon_topo.specs.HeldHistories as topo
 use Rattle.mon_topo.specs.HeldHistories.{AreHeld}
-use Rattle.mon_topo.specs.SeenHistories.{AreWithin, joined_histories}
+use Rattle.mon_topo.specs.SeenHistories.{AreWithin}
 use Rattle.mon_topo.specs.Settings.{Setting, zone_of_leaf}
-use Rattle.mon_topo.specs.Zones.{leaf_numbered}
+use Rattle.mon_value.specs.Positions.{leaf_numbered}
 use Rattle.mon_topo.proofs.FrontLemmas.{begins_from}
 use Rattle.mon_topo.proofs.HeldLemmas.{joined_seen_held, joined_seen_leaf_by}
-use Rattle.history_book.specs.declared.views.Histories.{Histories}
-use Rattle.history_book.specs.Histories.{AreFronts, leaf_history, longer_of, range_history}
+use Rattle.mon_value.specs.declared.histories.Histories.{Histories}
+use Rattle.mon_value.specs.Histories.{joined_histories, leaf_history, range_history}
+use Rattle.history_book.specs.Histories.{AreFronts}
 use Rattle.raise_table.specs.declared.places.Place.{Place}
 use Rattle.raise_table.specs.declared.places.Place.TheVariants as at
 use Rattle.raise_table.specs.declared.views.Hints.{Hints}
 use Rattle.raise_table.specs.declared.views.Note.{Note}
 use Rattle.raise_table.specs.Seats.{met}
-use Rattle.know.specs.Sound.{IsSound, bit_of_leaf, has_bit, histories, known_bits}
+use Rattle.know.specs.Sound.{IsSound, bit_of_leaf, note_has_bit, known_bits}
 
 -- ---- known bits
 
 module _ (place : Place) (bucket bit : ℕ) (some others : List Note) where
-  known_in_first : list_any (has_bit place bucket bit) some ≡ true → list_any (has_bit place bucket bit)
+  known_in_first : list_any (note_has_bit place bucket bit) some ≡ true → list_any (note_has_bit place bucket bit)
       (some ++ others) ≡ true
   known_in_first there =
-      list_any-append (has_bit place bucket bit) some others
-      ∙ or_left (list_any (has_bit place bucket bit) some) (list_any (has_bit place bucket bit) others) there
+      list_any-append (note_has_bit place bucket bit) some others
+      ∙ or_left (list_any (note_has_bit place bucket bit) some) (list_any (note_has_bit place bucket bit) others) there
 
-  known_in_second : list_any (has_bit place bucket bit) others ≡ true → list_any (has_bit place bucket bit)
+  known_in_second : list_any (note_has_bit place bucket bit) others ≡ true → list_any (note_has_bit place bucket bit)
       (some ++ others) ≡ true
   known_in_second there =
-      list_any-append (has_bit place bucket bit) some others
-      ∙ or_right (list_any (has_bit place bucket bit) some) (list_any (has_bit place bucket bit) others) there
+      list_any-append (note_has_bit place bucket bit) some others
+      ∙ or_right (list_any (note_has_bit place bucket bit) some) (list_any (note_has_bit place bucket bit) others) there
 
 -- whatever is known of a word stays known
 abbrev KnowsOn : Hints → Hints → Type 0
-KnowsOn before after = (place : Place) (bucket bit : ℕ) → list_any (has_bit place bucket bit) before.known ≡ true
-    → list_any (has_bit place bucket bit) after.known ≡ true
+KnowsOn before after = (place : Place) (bucket bit : ℕ) → list_any (note_has_bit place bucket bit) before.known ≡ true
+    → list_any (note_has_bit place bucket bit) after.known ≡ true
 
 module _ (setting : Setting) where
   bits_on : (before after : Hints) → KnowsOn before after → AreBitsWithin (known_bits setting before)
@@ -68,7 +68,7 @@ module _ (setting : Setting) where
       → IsSound setting before seen → IsSound setting after seen
   sound_learned before after more seen e =
       sound_on before after seen (λ place bucket bit there.
-      subst (λ (notes : List Note). list_any (has_bit place bucket bit) notes ≡ true) (sym e)
+      subst (λ (notes : List Note). list_any (note_has_bit place bucket bit) notes ≡ true) (sym e)
       (known_in_first place bucket bit before.known more there))
 
   -- somebody else knows and has seen just as much
@@ -77,14 +77,11 @@ module _ (setting : Setting) where
   sound_alike before after seen other e same h =
       subst (λ (s : Histories). IsSound setting after s) (sym same)
       (sound_on before after seen (λ place bucket bit there.
-      subst (λ (notes : List Note). list_any (has_bit place bucket bit) notes ≡ true) (sym e) there) h)
+      subst (λ (notes : List Note). list_any (note_has_bit place bucket bit) notes ≡ true) (sym e) there) h)
 
 -- ---- two together
 
-joined_alike : (a b : Histories) → joined_histories (histories a) (histories b) ≡ histories (longer_of a b)
-joined_alike a b = refl
-
-within : (front all : Histories) → AreFronts front all → AreWithin (histories front) (histories all)
+within : (front all : Histories) → AreFronts front all → AreWithin front all
 within front all fronts = record {
   leaves = λ leaf. begins_from (leaf_history all leaf) (leaf_history front leaf) (fronts.0 leaf).0
       (sym (fronts.0 leaf).1);
@@ -93,22 +90,19 @@ within front all fronts = record {
 }
 
 module _ (setting : Setting) (mine theirs both : Hints) (seen other all : Histories) (knows : both ≡ met mine theirs)
-    (saw : all ≡ longer_of seen other) (first : AreFronts seen all) (second : AreFronts other all)
+    (saw : all ≡ joined_histories seen other) (first : AreFronts seen all) (second : AreFronts other all)
     (h : IsSound setting mine seen) (k : IsSound setting theirs other) where
-  abbrev together : topo.Histories
-  together = joined_histories (histories seen) (histories other)
-
-  all_is : together ≡ histories all
-  all_is = joined_alike seen other ∙ ap histories (sym saw)
+  all_is : joined_histories seen other ≡ all
+  all_is = sym saw
 
   known_first : KnowsOn mine both
   known_first place bucket bit there =
-      subst (λ (x : Hints). list_any (has_bit place bucket bit) x.known ≡ true) (sym knows)
+      subst (λ (x : Hints). list_any (note_has_bit place bucket bit) x.known ≡ true) (sym knows)
       (known_in_first place bucket bit mine.known theirs.known there)
 
   known_second : KnowsOn theirs both
   known_second place bucket bit there =
-      subst (λ (x : Hints). list_any (has_bit place bucket bit) x.known ≡ true) (sym knows)
+      subst (λ (x : Hints). list_any (note_has_bit place bucket bit) x.known ≡ true) (sym knows)
       (known_in_second place bucket bit mine.known theirs.known there)
 
   abbrev IsCovered : Leaf → List Entry → Type 0
@@ -117,12 +111,11 @@ module _ (setting : Setting) (mine theirs both : Hints) (seen other all : Histor
 
   pub sound_together : IsSound setting both all
   sound_together = record {
-    held = subst (λ (s : topo.Histories). AreHeld setting.held setting.zones setting.points s) all_is
-        (joined_seen_held (histories seen) (histories other) (histories all) (within seen all first)
-        (within other all second)
+    held = subst (λ (s : Histories). AreHeld setting.held setting.zones setting.points s) all_is
+        (joined_seen_held seen other all (within seen all first) (within other all second)
         setting.held setting.zones setting.points h.held k.held);
-    covered = λ leaf. subst (λ (s : topo.Histories). IsCovered leaf (topo.leaf_history s leaf)) all_is
-        (joined_seen_leaf_by (histories seen) (histories other) leaf (IsCovered leaf)
+    covered = λ leaf. subst (λ (s : Histories). IsCovered leaf (leaf_history s leaf)) all_is
+        (joined_seen_leaf_by seen other leaf (IsCovered leaf)
         ((sound_on setting mine both seen known_first h).covered leaf)
         ((sound_on setting theirs both other known_second k).covered leaf));
   }

@@ -17,13 +17,14 @@ use Rattle.mon_hints.specs.HistoryBuckets.{history_buckets}
 use Rattle.mon_topo.specs.HeldHistories.{AreAtHome, IsBorneOut, IsHeldBy}
 use Rattle.mon_topo.specs.RangeHistories.{IsLegal}
 use Rattle.mon_topo.specs.Settings.{Setting, zone_of_leaf}
-use Rattle.mon_topo.specs.Zones.{first_replicas, leaf_numbered, leaves_in, range_numbered, ranges_in}
-use Rattle.history_book.specs.declared.views.Histories.{Histories}
+use Rattle.mon_value.specs.Positions.{leaf_numbered, range_numbered, same_range}
+use Rattle.mon_topo.specs.Zones.{first_replicas, leaves_in, ranges_in}
+use Rattle.mon_value.specs.declared.histories.Histories.{Histories}
 use Rattle.mon_value.specs.Farther.{longer_each}
-use Rattle.history_book.specs.Histories.{longer_of, same_range}
+use Rattle.mon_value.specs.Histories.{joined_histories}
 use Rattle.history_book.specs.Seats.{times_range}
 use Rattle.raise_table.specs.declared.views.Hints.{Hints}
-use Rattle.know.specs.Sound.{IsSound, histories, known_bits}
+use Rattle.know.specs.Sound.{IsSound, known_bits}
 
 -- ---- held ranges
 
@@ -47,11 +48,12 @@ each_alike : {X : Type 0} (xss : List (List X)) → longer_each xss xss ≡ xss
 each_alike [] = refl
 each_alike (xs ∷ xss) = (λ i. either_alike (nat_lt (length xs) (length xs)) xs i ∷ each_alike xss i)
 
-longer_alike : (seen : Histories) → longer_of seen seen ≡ seen
+longer_alike : (seen : Histories) → joined_histories seen seen ≡ seen
 longer_alike seen = λ i. record { leaves = each_alike seen.leaves i; ranges = each_alike seen.ranges i }
 
-pub met_alike : (mine theirs was now : Histories) → mine ≡ was → theirs ≡ was → now ≡ longer_of mine theirs → now ≡ was
-met_alike mine theirs was now e f met = met ∙ (λ i. longer_of (e i) (f i)) ∙ longer_alike was
+pub met_alike : (mine theirs was now : Histories) → mine ≡ was → theirs ≡ was → now ≡ joined_histories mine theirs
+    → now ≡ was
+met_alike mine theirs was now e f met = met ∙ (λ i. joined_histories (e i) (f i)) ∙ longer_alike was
 
 -- ---- histories
 
@@ -118,7 +120,7 @@ module _ (setting : Setting) (hints : Hints) (leaves : length (leaves_in setting
           (get_or ([] ∷ []) n []))
           range.0 here tt;
       borne_out = λ range here.
-          first_range (λ n. IsHeldBy (histories with_leaf_down) (range_numbered n) (get_or ([] ∷ []) n []))
+          first_range (λ n. IsHeldBy with_leaf_down (range_numbered n) (get_or ([] ∷ []) n []))
           range.0 here (record { kept = λ replica there. refl; borne_out = λ k e is. absurd cc });
     };
     covered = λ leaf. by_two (IsLed leaf) [] (entry.Down 1 ∷ []) (none_led leaf) (none_led leaf) (none_led leaf) leaf.0;
@@ -138,9 +140,9 @@ module _ (setting : Setting) (hints : Hints) (leaves : length (leaves_in setting
     legal_there = ((refl, omega arith, placed (first_replicas setting.zones 0) _ replicas), tt)
 
     borne_there : (k : ℕ) (e : RangeEntry) → slice_get (opened_in_range ∷ []) k ≡ Some e
-        → IsBorneOut (histories with_replica) (range_numbered 0) (opened_in_range ∷ []) k e
+        → IsBorneOut with_replica (range_numbered 0) (opened_in_range ∷ []) k e
     borne_there zero e is =
-        subst (λ (x : RangeEntry). IsBorneOut (histories with_replica) (range_numbered 0) (opened_in_range ∷ []) 0 x)
+        subst (λ (x : RangeEntry). IsBorneOut with_replica (range_numbered 0) (opened_in_range ∷ []) 0 x)
         (let same : opened_in_range ≡ e = cc in same) (record { pass = 0; entered = (0, omega arith, refl) })
     borne_there (suc k) e is = absurd cc
 
@@ -158,7 +160,7 @@ module _ (setting : Setting) (hints : Hints) (leaves : length (leaves_in setting
             first_range (λ n. IsLegal setting.held setting.zones setting.points (range_numbered n)
             (get_or ((opened_in_range ∷ []) ∷ []) n [])) range.0 here legal_there;
         borne_out = λ range here.
-            first_range (λ n. IsHeldBy (histories with_replica) (range_numbered n)
+            first_range (λ n. IsHeldBy with_replica (range_numbered n)
             (get_or ((opened_in_range ∷ []) ∷ []) n [])) range.0 here
             (record { kept = λ replica there. refl; borne_out = borne_there });
       };

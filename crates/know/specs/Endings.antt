@@ -1,6 +1,6 @@
 -- What is left of a caller's knowledge.
 use Rattle.std.specs.Prelude.{ℕ, Option}
-use Rattle.history_book.specs.declared.views.Histories.{Histories}
+use Rattle.mon_value.specs.declared.histories.Histories.{Histories}
 
 -- the number, if there was one, and the histories that were seen
 pub record Ending : Type 0 where

@@ -1,8 +1,8 @@
 -- What a caller of the store knows, and what calls make of that.
 use Rattle.std.specs.Prelude.{ℕ, ◌+◌, ◌-◌, ◌^◌, min, Option, Some, None, if◌then◌else◌}
-use Rattle.history_book.specs.declared.views.Histories.{Histories}
+use Rattle.mon_value.specs.declared.histories.Histories.{Histories}
 use Rattle.history_book.specs.declared.views.Purse.{Purse}
-use Rattle.history_book.specs.Histories.{longer_of}
+use Rattle.mon_value.specs.Histories.{joined_histories}
 use Rattle.history_book.specs.Numbers.{is_spent}
 use Rattle.history_book.specs.Seats.{Seat, first_handed, met_purse, no_purse, with_stock_handed}
 use Rattle.raise_table.specs.declared.places.Place.{Place}
@@ -21,15 +21,15 @@ pub record Knowledge : Type 0 where
 -- ---- rows that were handed out
 
 -- a count stops at its last value
-abbrev pub counted : ℕ → ℕ
-counted n = min n (2 ^ 64 - 1)
+abbrev pub stopped_count : ℕ → ℕ
+stopped_count n = min n (2 ^ 64 - 1)
 
 abbrev pub after_handing : ℕ → Knowledge → Knowledge
 after_handing rows know = record {
   hints = know.hints;
   seen = know.seen;
   purse = know.purse;
-  handed = counted (know.handed + rows);
+  handed = stopped_count (know.handed + rows);
 }
 
 -- ---- seats
@@ -43,8 +43,8 @@ abbrev pub split_off : Knowledge → Knowledge
 split_off know = record { hints = hints.without_notes know.hints; seen = know.seen; purse = no_purse; handed = 0 }
 
 -- or it has a number and a stock beside that
-abbrev pub numbered : Knowledge → Knowledge
-numbered know = record {
+abbrev pub numbered_knowledge : Knowledge → Knowledge
+numbered_knowledge know = record {
   hints = hints.without_notes know.hints;
   seen = know.seen;
   purse = first_handed know.purse;
@@ -68,9 +68,9 @@ numbers_fault know = if is_spent know.purse.stock then Some (record {}) else Non
 abbrev pub meeting : Knowledge → Knowledge → Knowledge
 meeting other know = record {
   hints = hints.met know.hints other.hints;
-  seen = longer_of know.seen other.seen;
+  seen = joined_histories know.seen other.seen;
   purse = met_purse know.purse other.purse;
-  handed = counted (know.handed + other.handed);
+  handed = stopped_count (know.handed + other.handed);
 }
 
 -- a hint word was loaded

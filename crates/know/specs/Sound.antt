@@ -6,26 +6,16 @@ use Rattle.std.specs.List.{list_any}
 use Rattle.mon_value.specs.declared.positions.Leaf.{Leaf}
 use Rattle.mon_hints.specs.Covers.{Bits, Covers}
 use Rattle.mon_hints.specs.HistoryBuckets.{history_buckets}
-use Rattle.mon_topo.specs.HeldHistories as topo
 use Rattle.mon_topo.specs.HeldHistories.{AreHeld}
 use Rattle.mon_topo.specs.Settings.{Setting, zone_of_leaf}
-use Rattle.mon_topo.specs.Sights.{sight_of}
-use Rattle.mon_topo.specs.declared.sights.Sight.{Sight}
-use Rattle.mon_topo.specs.Zones.{first_leaf, leaf_numbered}
-use Rattle.history_book.specs.declared.views.Histories.{Histories}
-use Rattle.history_book.specs.Histories.{leaf_history}
+use Rattle.mon_value.specs.Positions.{leaf_numbered}
+use Rattle.mon_topo.specs.Zones.{first_leaf}
+use Rattle.mon_value.specs.declared.histories.Histories.{Histories}
+use Rattle.mon_value.specs.Histories.{leaf_history}
 use Rattle.raise_table.specs.declared.places.Place.{Place}
 use Rattle.raise_table.specs.declared.places.Place.TheVariants as at
 use Rattle.raise_table.specs.declared.views.Hints.{Hints}
 use Rattle.raise_table.specs.declared.views.Note.{Note}
-
--- the histories that a seat of the book has seen, as histories of leaves and ranges
-abbrev pub histories : Histories → topo.Histories
-histories seen = record { leaves = seen.leaves; ranges = seen.ranges }
-
--- how far it has seen them
-abbrev pub seat_sight : Histories → Sight
-seat_sight seen = sight_of (histories seen)
 
 -- ---- known bits
 
@@ -36,13 +26,13 @@ same_place (at.Zone zone) at.Root = false
 same_place (at.Zone zone) (at.Zone other) = nat_eq zone.0 other.0
 
 -- whether a note has a bit of the word of a place and a bucket
-abbrev pub has_bit : Place → ℕ → ℕ → Note → Bool
-has_bit place bucket bit note =
+abbrev pub note_has_bit : Place → ℕ → ℕ → Note → Bool
+note_has_bit place bucket bit note =
     same_place note.place place && (nat_eq note.bucket bucket && nat_eq (bit_at note.bits bit) 1)
 
 -- whether a bit is known to be in the word of a place and a bucket
 abbrev pub is_known : Hints → Place → ℕ → ℕ → Bool
-is_known hints place bucket bit = list_any (has_bit place bucket bit) hints.known
+is_known hints place bucket bit = list_any (note_has_bit place bucket bit) hints.known
 
 -- a leaf's bit in the words of its zone: its place among the zone's leaves
 abbrev pub bit_of_leaf : Setting → Leaf → ℕ
@@ -62,6 +52,6 @@ known_bits setting hints = record {
 -- ---- the whole
 
 pub record IsSound (setting : Setting) (hints : Hints) (seen : Histories) : Type 0 where
-  pub held : AreHeld setting.held setting.zones setting.points (histories seen)
+  pub held : AreHeld setting.held setting.zones setting.points seen
   pub covered : (leaf : Leaf) → Covers (known_bits setting hints) (zone_of_leaf setting leaf) leaf
       (history_buckets setting.buckets_of (leaf_history seen leaf))

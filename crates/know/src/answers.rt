@@ -1,5 +1,6 @@
 // What calls with a caller's knowledge answer.
-use mon_value::RowList;
+use mon_value::{RowList, TryCopy};
+use std::alloc::{AllocError, Global};
 
 /// How a leaf was found: up, or down at this length of its history.
 #[derive(Clone, Copy, Debug, PartialEq, Eq)]
@@ -18,3 +19,12 @@ pub enum Copied {
 /// The stock of numbers is empty.
 #[derive(Clone, Copy, Debug, PartialEq, Eq)]
 pub struct NumbersSpent;
+
+impl TryCopy for Copied {
+    fn copy(&self, alloc: Global) -> Result<Copied, AllocError> {
+        match self {
+            Copied::Rows(rows) => Ok(Copied::Rows(rows.copy(alloc)?)),
+            Copied::Down(cut) => Ok(Copied::Down(*cut)),
+        }
+    }
+}

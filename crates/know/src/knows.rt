@@ -4,13 +4,16 @@ ghost use Rattle.mon_topo.specs.HeldHistories.{AreHeld};
 ghost use Rattle.mon_topo.specs.RangeHistories.{serving};
 ghost use Rattle.mon_topo.specs.Zones.{leaves_in, ranges_in};
 ghost use Rattle.mon_value.specs.Answers.{AnswersBy};
-ghost use Rattle.history_book.specs.Histories.{AreFronts, leaf_history, range_history};
+ghost use Rattle.mon_value.specs.Histories.{leaf_history, range_history};
+ghost use Rattle.history_book.specs.Histories.{AreFronts};
 ghost use Rattle.history_book.specs.Seats.{IsBorneOut, hand_of};
 ghost use Rattle.raise_table.specs.Seats.{HasKnown, KnowsAll, KnowsAsMuch};
 ghost use Rattle.raise_table.specs.Tables.{HasWord};
-ghost use Rattle.know.specs.Knowledge.{after_handing, after_load, after_numbering, from_seats, meeting, numbered};
+ghost use Rattle.know.specs.Knowledge.{after_handing, after_load, after_numbering, from_seats, meeting};
+ghost use Rattle.know.specs.Knowledge.{numbered_knowledge};
 ghost use Rattle.know.specs.Knowledge.{numbers_fault, split_off};
-ghost use Rattle.know.specs.Sound.{IsSound, histories, seat_sight};
+ghost use Rattle.mon_topo.specs.Sights.{sight_of};
+ghost use Rattle.know.specs.Sound.{IsSound};
 
 use crate::answers::NumbersSpent;
 use crate::ends::Ended;
@@ -36,13 +39,14 @@ pub struct Know<N: Names> {
 impl<N: Names> Model for Know<N> {
     ghost use Rattle.std.specs.Prelude.{◌≡◌};
     ghost use Rattle.know.specs.Knowledge.{Knowledge};
-    ghost use Rattle.know.specs.Sound.{IsSound, seat_sight};
+    ghost use Rattle.mon_topo.specs.Sights.{sight_of};
+    ghost use Rattle.know.specs.Sound.{IsSound};
 
     ghost Value = { Knowledge };
 
     ghost view = { λ k. record { hints = k.hints; seen = k.book.seen; purse = k.book.purse; handed = k.handed } };
 
-    ghost invariant = { λ k. (k.sight ≡ seat_sight k.book.seen)
+    ghost invariant = { λ k. (k.sight ≡ sight_of k.book.seen)
         × IsSound N.setting k.hints k.book.seen };
 }
 
@@ -50,7 +54,7 @@ impl<N: Names> Know<N> {
     /// What two seats know, where what the book's has seen is held and the known bits lead to it. No memory is taken.
     pub fn new(hints: HintSeat<N>, book: BookSeat<N>, sight: Sight) -> Know<N>
         requires sound { IsSound N.setting hints book.seen }
-        requires sight { sight ≡ seat_sight book.seen }
+        requires sight { sight ≡ sight_of book.seen }
         ensures new { result ≡ from_seats hints book }
     {
         Know {
@@ -127,7 +131,7 @@ impl<N: Names> Know<N> {
         tables: &Tables<N>,
     ) -> Result<Know<N>, Refusal<NumbersSpent>>
         ensures spent { AnswersBy result (numbers_fault self.old) }
-        ensures numbered { IfOk result (λ new. new ≡ numbered self.old) }
+        ensures numbered { IfOk result (λ new. new ≡ numbered_knowledge self.old) }
         ensures left { OnOk result (self.new ≡ after_numbering self.old) }
         ensures kept { OnErr result (self.new ≡ self.old) }
         ensures sound { IfOk result (λ new. IsSound N.setting new.hints new.seen) }
@@ -178,7 +182,7 @@ impl<N: Names> Know<N> {
     pub fn unname(self) -> Ended
         ensures number { result.number ≡ (hand_of self.purse).own }
         ensures seen { result.seen ≡ self.seen }
-        ensures held { AreHeld N.setting.held N.setting.zones N.setting.points (histories result.seen) }
+        ensures held { AreHeld N.setting.held N.setting.zones N.setting.points result.seen }
     {
         Ended::new(self.book.number(), self.book.unname())
     }

@@ -1,9 +1,10 @@
 ghost use Rattle.std.specs.Prelude.{◌≡◌, ◌<◌, ◌^◌, false, [], ◌∷◌, ◌++◌, length, map, Some, None, IfOk, IfSome, IsTrue};
 ghost use Rattle.history_book.specs.declared.rooms.RoomMove.TheVariants as the_move;
 ghost use Rattle.history_book.specs.declared.views.History.TheVariants as of;
-ghost use Rattle.history_book.specs.Histories.{IsFor, empty_histories, entries, histories_in, is_about, leaf_numbered};
-ghost use Rattle.history_book.specs.Histories.{pass_of, range_numbered};
-ghost use Rattle.history_book.specs.Seats.{after_append, after_parting, first_seat, hand_of, new_owner, parted};
+ghost use Rattle.mon_value.specs.Positions.{leaf_numbered, range_numbered};
+ghost use Rattle.history_book.specs.Histories.{IsFor, empty_histories, entries, histories_in, is_about};
+ghost use Rattle.history_book.specs.Histories.{pass_of};
+ghost use Rattle.history_book.specs.Seats.{after_append, first_seat, hand_of, new_owner, guest_seat};
 ghost use Rattle.history_book.specs.Seats.{times_range, with_guest};
 ghost use Rattle.mon_value.specs.declared.histories.Entry.TheVariants as entry;
 ghost use Rattle.mon_value.specs.declared.histories.RangeEntry.TheVariants as range_entry;
@@ -37,7 +38,7 @@ fn appended<N: Names, E: NewEntry>(
     requires number { (hand_of seat.purse).own ≡ Some (pass_of E.entry) }
     requires held { (range : a_range.Range) → IsTrue (is_about range E.entry)
         → 0 < times_range range (owner.old.held ++ seat.purse.holds) }
-    ensures seat { result ≡ parted the_move.Keep false (after_append E.entry (with_guest seat owner.old)) }
+    ensures seat { result ≡ guest_seat the_move.Keep false (after_append E.entry (with_guest seat owner.old)) }
 {
     book.meet_owner(owner, seat);
     book.append::<E>(owner);

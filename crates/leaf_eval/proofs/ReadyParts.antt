@@ -1,7 +1,7 @@
 -- The parts of which a leaf makes pieces can be evaluated, and the pieces made.
 use Rattle.std.proofs.Common.{◌≡◌, ◌≤ℤ◌, ℤ, pos, Bool, true, false, List, [], ◌∷◌, ◌++◌}
 use Rattle.std.specs.List.{AllByRecursion}
-use Rattle.mon_value.specs.Grids.{IsLawful}
+use Rattle.mon_value.specs.Grids.{IsLawfulGrid}
 use Rattle.mon_value.specs.Sources.{points_by_series}
 use Rattle.mon_value.specs.declared.grids.Grid.{Grid}
 use Rattle.mon_value.specs.declared.rows.Point.{Point}
@@ -52,7 +52,7 @@ part_or-all P false use_of part below own all = all
 module _ (here : Level → Bool) (held : SchemaLists) (grid : Grid) (source : List Row)
     (series : List (SeriesKey × List Point))
     (kept : series ≡ points_by_series source) (fit : AllByRecursion (λ (row : Row). fits held row ≡ true) source)
-    (lawful : IsLawful grid) where
+    (lawful : IsLawfulGrid grid) where
   abbrev Has : NodeTree → Type 0
   Has tree = AllByRecursion (HasFetchColumns held) (fetches tree)
 

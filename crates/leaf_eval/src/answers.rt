@@ -12,7 +12,7 @@ use mon_fold::{LeafAnswer, Pieces};
 use mon_meaning::{Meter, OverLimit, grid_of, part_by_series, piece_of, top_parts};
 use mon_series::KeptRows;
 use mon_value::Refusal;
-use mql_types::{Level, Plan, Typed};
+use mql_types::{Level, Plan};
 use std::alloc::Global;
 
 /// A leaf's part of a plan that is asked at a moment, over the rows of the leaf, which are kept by series in several

@@ -10,7 +10,7 @@ use Rattle.mon_hints.specs.Excerpts.{value_excerpts}
 use Rattle.mon_hints.specs.Fingerprints.{bucket_of, fingerprint_of}
 use Rattle.mon_hints.specs.Hints.{field_buckets, series_buckets, value_buckets}
 use Rattle.mon_hints.specs.Listings.{is_among}
-use Rattle.mon_hints.specs.declared.fingerprints.TheConstants.{MOST_BUCKETS}
+use Rattle.mon_value.specs.declared.limits.TheConstants.{MOST_BUCKETS}
 use Rattle.mon_schema.specs.SchemaLists.{SchemaLists}
 use Rattle.mon_value.specs.declared.histories.Entry.{Entry}
 use Rattle.mon_value.specs.declared.rows.Row.{Row}

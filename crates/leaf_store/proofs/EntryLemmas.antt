@@ -13,8 +13,9 @@ use Rattle.mon_value.specs.declared.rows.Row.{Row}
 use Rattle.leaf_store.specs.declared.kept.Kept.{Kept}
 use Rattle.leaf_store.specs.declared.kept.Kept.TheVariants as kept
 use Rattle.leaf_store.specs.declared.replicas.Replica.{Replica}
-use Rattle.leaf_store.specs.within.Replicas.{AllThere, IsNew, IsOpened, IsPut, Replicas, Settles, entry_of, front_rows}
-use Rattle.leaf_store.specs.within.Replicas.{opened_entry, put_entry, rows_held, shown, with_first}
+use Rattle.leaf_store.specs.within.Replicas.{AllHaveRows, IsNew, IsOpened, IsPut, Replicas, Settles, entry_of}
+use Rattle.leaf_store.specs.within.Replicas.{front_rows}
+use Rattle.leaf_store.specs.within.Replicas.{opened_entry, put_entry, rows_held, shown_entries, with_first}
 use Rattle.leaf_store.proofs.ReplicaLemmas.{holds_opened, holds_put, switch_rows, taken_rows}
 
 -- ---- rows that are there stay
@@ -168,8 +169,8 @@ some_there None e = absurd cc
 some_there (Some entry) e = (entry, refl)
 
 pub shown_kept : (old new : Replicas) (ks : List Kept) → ((k : Kept) (e : Entry) → entry_of old k ≡ Some e
-    → entry_of new k ≡ Some e) → AllThere old ks
-    → (shown new ks ≡ shown old ks) × AllThere new ks
+    → entry_of new k ≡ Some e) → AllHaveRows old ks
+    → (shown_entries new ks ≡ shown_entries old ks) × AllHaveRows new ks
 shown_kept old new [] keeps there = (refl, tt)
 shown_kept old new (k ∷ ks) keeps there =
     let found = some_there (entry_of old k) there.0 in
@@ -178,37 +179,39 @@ shown_kept old new (k ∷ ks) keeps there =
     ((λ i. with_first ((again ∙ sym found.1) i) (rest.0 i)), (ap is_some again, rest.1))
 
 pub shown_push : (replicas : Replicas) (ks : List Kept) (k : Kept) (e : Entry) → entry_of replicas k ≡ Some e
-    → shown replicas (ks ++ k ∷ []) ≡ shown replicas ks ++ e ∷ []
+    → shown_entries replicas (ks ++ k ∷ []) ≡ shown_entries replicas ks ++ e ∷ []
 shown_push replicas [] k e is = ap (λ (o : Option Entry). with_first o []) is
 shown_push replicas (first ∷ ks) k e is = ap (with_first (entry_of replicas first)) (shown_push replicas ks k e is)
     ∙ by (entry_of replicas first)
   where
-    by : (o : Option Entry) → with_first o (shown replicas ks ++ e ∷ []) ≡ with_first o (shown replicas ks) ++ e ∷ []
+    by : (o : Option Entry) → with_first o (shown_entries replicas ks ++ e ∷ [])
+        ≡ with_first o (shown_entries replicas ks) ++ e ∷ []
     by None = refl
     by (Some f) = refl
 
 pub there_push : (replicas : Replicas) (ks : List Kept) (k : Kept) (e : Entry) → entry_of replicas k ≡ Some e
-    → AllThere replicas ks → AllThere replicas (ks ++ k ∷ [])
+    → AllHaveRows replicas ks → AllHaveRows replicas (ks ++ k ∷ [])
 there_push replicas [] k e is there = (ap is_some is, tt)
 there_push replicas (first ∷ ks) k e is there = (there.0, there_push replicas ks k e is there.1)
 
-pub shown_count : (replicas : Replicas) (ks : List Kept) → AllThere replicas ks → length (shown replicas ks) ≡ length ks
+pub shown_count : (replicas : Replicas) (ks : List Kept) → AllHaveRows replicas ks → length (shown_entries replicas ks)
+    ≡ length ks
 shown_count replicas [] there = refl
 shown_count replicas (k ∷ ks) there =
     let found = some_there (entry_of replicas k) there.0 in
-    ap (λ (o : Option Entry). length (with_first o (shown replicas ks))) found.1
+    ap (λ (o : Option Entry). length (with_first o (shown_entries replicas ks))) found.1
     ∙ ap suc (shown_count replicas ks there.1)
 
-pub shown_take : (replicas : Replicas) (ks : List Kept) (n : ℕ) → AllThere replicas ks
-    → (shown replicas (take n ks) ≡ take n (shown replicas ks)) × AllThere replicas (take n ks)
+pub shown_take : (replicas : Replicas) (ks : List Kept) (n : ℕ) → AllHaveRows replicas ks
+    → (shown_entries replicas (take n ks) ≡ take n (shown_entries replicas ks)) × AllHaveRows replicas (take n ks)
 shown_take replicas [] zero there = (refl, tt)
 shown_take replicas [] (suc n) there = (refl, tt)
 shown_take replicas (k ∷ ks) zero there = (refl, tt)
 shown_take replicas (k ∷ ks) (suc n) there =
     let found = some_there (entry_of replicas k) there.0 in
     let rest = shown_take replicas ks n there.1 in (
-      ap (λ (o : Option Entry). with_first o (shown replicas (take n ks))) found.1
+      ap (λ (o : Option Entry). with_first o (shown_entries replicas (take n ks))) found.1
           ∙ ap (λ (es : List Entry). found.0 ∷ es) rest.0
-          ∙ ap (λ (o : Option Entry). take (suc n) (with_first o (shown replicas ks))) (sym found.1),
+          ∙ ap (λ (o : Option Entry). take (suc n) (with_first o (shown_entries replicas ks))) (sym found.1),
       (there.0, rest.1),
     )

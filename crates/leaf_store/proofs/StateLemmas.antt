@@ -17,7 +17,7 @@ use Rattle.mon_value.specs.LeafHistories.{brought_rows}
 use Rattle.leaf_store.specs.LeafBuckets.{key_buckets}
 use Rattle.leaf_store.specs.declared.kept.Kept.{Kept}
 use Rattle.leaf_store.specs.within.Raises.{Adds}
-use Rattle.leaf_store.specs.within.Replicas.{AllThere, Holds, Replicas, shown}
+use Rattle.leaf_store.specs.within.Replicas.{AllHaveRows, Holds, Replicas, shown_entries}
 use Rattle.leaf_store.specs.within.States.{AllSwitches}
 use Rattle.leaf_store.proofs.BucketLemmas.{history_more}
 use Rattle.leaf_store.proofs.EntryLemmas.{shown_count}
@@ -32,11 +32,11 @@ history_push first fresh moved last within =
 
 pub holds_push : (replicas : Replicas) (ks : List Kept) (fresh : List Entry) (moved : ℕ) (last : Entry) → moved
     ≤ length fresh → Holds replicas ks (drop moved fresh)
-    → IsWellFormed ((shown replicas ks ++ drop moved fresh) ++ last ∷ []) → Holds replicas ks
+    → IsWellFormed ((shown_entries replicas ks ++ drop moved fresh) ++ last ∷ []) → Holds replicas ks
     (drop moved (fresh ++ last ∷ []))
 holds_push replicas ks fresh moved last within holds formed = record {
   there = holds.there;
-  formed = subst IsWellFormed (sym (history_push (shown replicas ks) fresh moved last within)) formed;
+  formed = subst IsWellFormed (sym (history_push (shown_entries replicas ks) fresh moved last within)) formed;
   holds = holds.holds;
 }
 
@@ -116,12 +116,12 @@ raised_switch set buckets held history last is has =
 
 -- ---- the length of a history
 
-pub history_count : (replicas : Replicas) (ks : List Kept) (fresh : List Entry) (moved : ℕ) → AllThere replicas ks
+pub history_count : (replicas : Replicas) (ks : List Kept) (fresh : List Entry) (moved : ℕ) → AllHaveRows replicas ks
     → moved ≤ length fresh
-    → length ks + (length fresh - moved) ≡ length (shown replicas ks ++ drop moved fresh)
+    → length ks + (length fresh - moved) ≡ length (shown_entries replicas ks ++ drop moved fresh)
 history_count replicas ks fresh moved there within =
     (λ i. sym (shown_count replicas ks there) i + sym (length-drop moved fresh) i)
-    ∙ sym (length-append (shown replicas ks) (drop moved fresh))
+    ∙ sym (length-append (shown_entries replicas ks) (drop moved fresh))
 
 -- ---- a leaf to which nothing happened
 
@@ -134,8 +134,8 @@ nothing_holds replicas ks fresh none kept left =
     (record { there = tt; formed = tt; holds = λ range slot. refl })))
 
 pub no_history : (replicas : Replicas) (ks : List Kept) (fresh : List Entry) → replicas ≡ [] → ks ≡ [] → fresh ≡ []
-    → shown replicas ks ++ drop 0 fresh ≡ []
-no_history replicas ks fresh none kept left = λ i. shown (none i) (kept i) ++ drop 0 (left i)
+    → shown_entries replicas ks ++ drop 0 fresh ≡ []
+no_history replicas ks fresh none kept left = λ i. shown_entries (none i) (kept i) ++ drop 0 (left i)
 
 -- ---- entries that were brought
 

@@ -17,8 +17,8 @@ use Rattle.mon_value.specs.declared.rows.Row.{Row}
 use Rattle.leaf_store.specs.LeafStates.{opened_rows}
 use Rattle.leaf_store.specs.declared.kept.Kept.{Kept}
 use Rattle.leaf_store.specs.declared.replicas.Replica.{Replica}
-use Rattle.leaf_store.specs.within.Replicas.{AllThere, CanPut, CanSettle, Holds, HoldsHistory, IsNew, Replicas}
-use Rattle.leaf_store.specs.within.Replicas.{Settles, all_rows, entry_of, rows_held, shown}
+use Rattle.leaf_store.specs.within.Replicas.{AllHaveRows, CanPut, CanSettle, Holds, HoldsHistory, IsNew, Replicas}
+use Rattle.leaf_store.specs.within.Replicas.{Settles, all_rows, entry_of, rows_held, shown_entries}
 use Rattle.leaf_store.specs.within.States.{AllSwitches}
 use Rattle.leaf_store.proofs.EntryLemmas.{shown_count, shown_kept, shown_push, shown_take, there_push}
 use Rattle.mon_value.proofs.LeafHistoryLemmas.{follows, front, no_rows, replica_rows-push}
@@ -29,27 +29,27 @@ use Rattle.leaf_store.proofs.ReplicaLemmas.{switch_rows}
 pub can_settle : (replicas : Replicas) (ks : List Kept) (e : Entry) (rest : List Entry) → Holds replicas ks (e ∷ rest)
     → CanSettle replicas e
 can_settle replicas ks e rest holds = record {
-  history = shown replicas ks;
-  formed = front (shown replicas ks) (e ∷ rest) holds.formed;
+  history = shown_entries replicas ks;
+  formed = front (shown_entries replicas ks) (e ∷ rest) holds.formed;
   holds = holds.holds;
-  follows = follows (shown replicas ks) e rest holds.formed;
+  follows = follows (shown_entries replicas ks) e rest holds.formed;
 }
 
 pub settled : (old new : Replicas) (ks : List Kept) (own : Kept) (e : Entry) (rest : List Entry)
     → Holds old ks (e ∷ rest) → Settles old new e own
-    → Holds new (ks ++ own ∷ []) rest × (shown new (ks ++ own ∷ []) ++ rest ≡ shown old ks ++ e ∷ rest)
+    → Holds new (ks ++ own ∷ []) rest × (shown_entries new (ks ++ own ∷ []) ++ rest ≡ shown_entries old ks ++ e ∷ rest)
 settled old new ks own e rest holds settles =
     let stays = shown_kept old new ks settles.keeps holds.there in
-    let now : shown new (ks ++ own ∷ []) ≡ shown old ks ++ e ∷ [] =
+    let now : shown_entries new (ks ++ own ∷ []) ≡ shown_entries old ks ++ e ∷ [] =
     shown_push new ks own e settles.own_is ∙ ap (λ (es : List Entry). es ++ e ∷ []) stays.0 in
-    let all : shown new (ks ++ own ∷ []) ++ rest ≡ shown old ks ++ e ∷ rest =
-    ap (λ (es : List Entry). es ++ rest) now ∙ append_assoc (shown old ks) (e ∷ []) rest in (
+    let all : shown_entries new (ks ++ own ∷ []) ++ rest ≡ shown_entries old ks ++ e ∷ rest =
+    ap (λ (es : List Entry). es ++ rest) now ∙ append_assoc (shown_entries old ks) (e ∷ []) rest in (
       record {
         there = there_push new ks own e settles.own_is stays.1;
         formed = subst IsWellFormed (sym all) holds.formed;
         holds = subst (HoldsHistory new) (sym now)
-            (settles.holds (shown old ks) (front (shown old ks) (e ∷ rest) holds.formed)
-            (follows (shown old ks) e rest holds.formed) holds.holds);
+            (settles.holds (shown_entries old ks) (front (shown_entries old ks) (e ∷ rest) holds.formed)
+            (follows (shown_entries old ks) e rest holds.formed) holds.holds);
       },
       all,
     )
@@ -114,39 +114,39 @@ brought_more range slot before rows more es e so_far added =
 kept_by : (range : Range) (slot : Slot) (before rows more : List Row) (replicas : Replicas) (ks : List Kept) (k : Kept)
     (o : Option Entry) → entry_of replicas k ≡ o
     → is_some o ≡ true → IfSome o (λ e. more ≡ rows ++ entry_rows range slot e) → rows ≡ before ++ replica_rows range
-    slot (shown replicas ks)
-    → more ≡ before ++ replica_rows range slot (shown replicas (ks ++ k ∷ []))
+    slot (shown_entries replicas ks)
+    → more ≡ before ++ replica_rows range slot (shown_entries replicas (ks ++ k ∷ []))
 kept_by range slot before rows more replicas ks k None is there added so_far = absurd cc
 kept_by range slot before rows more replicas ks k (Some e) is there added so_far =
-    brought_more range slot before rows more (shown replicas ks) e so_far added
+    brought_more range slot before rows more (shown_entries replicas ks) e so_far added
     ∙ ap (λ (es : List Entry). before ++ replica_rows range slot es) (sym (shown_push replicas ks k e is))
 
 pub kept_more : (range : Range) (slot : Slot) (before rows more : List Row) (replicas : Replicas) (ks : List Kept)
     (k : Kept) → is_some (entry_of replicas k) ≡ true
     → IfSome (entry_of replicas k) (λ e. more ≡ rows ++ entry_rows range slot e) → rows ≡ before ++ replica_rows range
-    slot (shown replicas ks)
-    → more ≡ before ++ replica_rows range slot (shown replicas (ks ++ k ∷ []))
+    slot (shown_entries replicas ks)
+    → more ≡ before ++ replica_rows range slot (shown_entries replicas (ks ++ k ∷ []))
 kept_more range slot before rows more replicas ks k there added so_far =
     kept_by range slot before rows more replicas ks k (entry_of replicas k) refl there added so_far
 
-pub there_at : (replicas : Replicas) (ks : List Kept) (i : ℕ) (d : Kept) → AllThere replicas ks → i < length ks
+pub there_at : (replicas : Replicas) (ks : List Kept) (i : ℕ) (d : Kept) → AllHaveRows replicas ks → i < length ks
     → is_some (entry_of replicas (get_or ks i d)) ≡ true
 there_at replicas [] i d there below = absurd (omega arith)
 there_at replicas (k ∷ ks) zero d there below = there.0
 there_at replicas (k ∷ ks) (suc i) d there below = there_at replicas ks i d there.1 (omega arith)
 
 pub kept_next : (range : Range) (slot : Slot) (rows more : List Row) (replicas : Replicas) (ks : List Kept) (i : ℕ)
-    (k : Kept) → AllThere replicas ks → slice_get ks i ≡ Some k
+    (k : Kept) → AllHaveRows replicas ks → slice_get ks i ≡ Some k
     → IfSome (entry_of replicas k) (λ e. more ≡ rows ++ entry_rows range slot e) → rows ≡ replica_rows range slot
-    (shown replicas (take i ks))
-    → more ≡ replica_rows range slot (shown replicas (take (i + 1) ks))
+    (shown_entries replicas (take i ks))
+    → more ≡ replica_rows range slot (shown_entries replicas (take (i + 1) ks))
 kept_next range slot rows more replicas ks i k there is added so_far =
     let below = slice_get_within ks i k is in
     let same : get_or ks i k ≡ k = get_or_from_slice_get ks i k k is in
     kept_more range slot [] rows more replicas (take i ks) k
     (subst (λ (own : Kept). is_some (entry_of replicas own) ≡ true) same (there_at replicas ks i k there below)) added
     so_far
-    ∙ ap (λ (es : List Kept). replica_rows range slot (shown replicas es))
+    ∙ ap (λ (es : List Kept). replica_rows range slot (shown_entries replicas es))
     (ap (λ (own : Kept). take i ks ++ own ∷ []) (sym same) ∙ sym (take_more ks i k below))
 
 -- a list's first so many and the next one
@@ -159,13 +159,13 @@ take_next rows n row e =
 -- ---- rows of the first so many entries
 
 pub rows_early : (range : Range) (slot : Slot) (replicas : Replicas) (ks : List Kept) (left : List Entry) (cut : ℕ)
-    → AllThere replicas ks → cut < length ks
-    → replica_rows range slot (shown replicas (take cut ks)) ≡ replica_rows range slot
-    (take cut (shown replicas ks ++ left))
+    → AllHaveRows replicas ks → cut < length ks
+    → replica_rows range slot (shown_entries replicas (take cut ks)) ≡ replica_rows range slot
+    (take cut (shown_entries replicas ks ++ left))
 rows_early range slot replicas ks left cut there less =
-    let within : cut ≤ length (shown replicas ks) = omega (arith, less, shown_count replicas ks there) in
+    let within : cut ≤ length (shown_entries replicas ks) = omega (arith, less, shown_count replicas ks there) in
     ap (replica_rows range slot) ((shown_take replicas ks cut there).0
-    ∙ sym (take-append-le cut (shown replicas ks) left within))
+    ∙ sym (take-append-le cut (shown_entries replicas ks) left within))
 
 held_all : (b : Bool) (own : List Row) (rows : Option (List Row)) → rows ≡ cond b (Some own) None
     → (b ≡ false → own ≡ []) → all_rows rows ≡ own
@@ -175,9 +175,9 @@ held_all false own rows is none = ap all_rows is ∙ sym (none refl)
 pub rows_late : (range : Range) (slot : Slot) (replicas : Replicas) (ks : List Kept) (left : List Entry) (cut : ℕ)
     → Holds replicas ks left → length ks ≤ cut
     → all_rows (rows_held replicas range slot) ++ replica_rows range slot (take (cut - length ks) left)
-    ≡ replica_rows range slot (take cut (shown replicas ks ++ left))
+    ≡ replica_rows range slot (take cut (shown_entries replicas ks ++ left))
 rows_late range slot replicas ks left cut holds more =
-    let first = shown replicas ks in
+    let first = shown_entries replicas ks in
     let count = shown_count replicas ks holds.there in
     let all = held_all (is_opened range slot first) (replica_rows range slot first) (rows_held replicas range slot)
     (holds.holds range slot)
@@ -189,9 +189,9 @@ rows_late range slot replicas ks left cut holds more =
     ∙ ap (λ n. replica_rows range slot (take n (first ++ left))) (sym sum)
 
 -- what is left of a cut behind the entries that are kept is among those that are left
-pub cut_left : (replicas : Replicas) (ks : List Kept) (left : List Entry) (cut : ℕ) → AllThere replicas ks → cut
-    ≤ length (shown replicas ks ++ left)
+pub cut_left : (replicas : Replicas) (ks : List Kept) (left : List Entry) (cut : ℕ) → AllHaveRows replicas ks → cut
+    ≤ length (shown_entries replicas ks ++ left)
     → length ks ≤ cut → cut - length ks ≤ length left
 cut_left replicas ks left cut there within more =
-    let count = length-append (shown replicas ks) left in
+    let count = length-append (shown_entries replicas ks) left in
     omega (arith, within, more, count, shown_count replicas ks there)

@@ -1,8 +1,7 @@
 // The state of a leaf.
-ghost use Rattle.std.specs.Prelude.{◌≡◌, ◌++◌, ◌∷◌, ◌-◌, ◌<◌, ◌≤◌, ◌+◌, ◌^◌, ◌==◌, Bool, is_some, [], length, take};
+ghost use Rattle.std.specs.Prelude.{◌≡◌, ◌++◌, ◌∷◌, ◌-◌, ◌<◌, ◌≤◌, ◌+◌, Bool, is_some, [], length, take};
 ghost use Rattle.std.specs.Prelude.{drop, false};
-ghost use Rattle.std.specs.Prelude.{true, not, nat_lt, IfOk, IfSome, IfNone, OnOk, OnErr, IsTrue, vec_capacity};
-ghost use Rattle.std.specs.Prelude.{if◌then◌else◌};
+ghost use Rattle.std.specs.Prelude.{true, IfOk, IfSome, IfNone, OnOk, OnErr, IsTrue, vec_capacity};
 ghost use Rattle.std.specs.List.{count_by};
 ghost use Rattle.std.specs.Option.{option_copied};
 ghost use Rattle.mon_hints.specs.BucketSets.{HasNone, IsNext};
@@ -20,10 +19,10 @@ use crate::raised::{Raised, raise};
 use crate::replays::{push_all_brought, push_held, rows_kept, settle_entries};
 use crate::replicas::{Replica, Replicas, is_new, rows_of, takes};
 use crate::slot_rows::SlotRows;
-use mon_hints::MOST_BUCKETS;
 use mon_schema::Schemas;
 use mon_value::{
-    Entry, Leaf, MOST_SWITCHES, OutOfMemory, Range, Row, RowList, SeriesKey, Slot, TryCopy,
+    Entry, Leaf, MOST_BUCKETS, MOST_SWITCHES, OutOfMemory, Range, Row, RowList, SeriesKey, Slot,
+    TryCopy,
 };
 use std::alloc::Global;
 use std::marker::Model;
@@ -51,11 +50,11 @@ impl Model for LeafState {
 
     ghost Value = { LeafView };
 
-    ghost use Rattle.leaf_store.specs.within.States.{IsKept, leaf_view};
+    ghost use Rattle.leaf_store.specs.within.States.{IsLeafKept, leaf_view};
 
     ghost view = { leaf_view };
 
-    ghost invariant = { IsKept };
+    ghost invariant = { IsLeafKept };
 }
 
 impl LeafState {

@@ -4,14 +4,13 @@ ghost use Rattle.mon_hints.specs.BucketSets.{HasNone, IsNext, is_set, no_bucket,
 ghost use Rattle.mon_hints.specs.Hints.{series_buckets};
 ghost use Rattle.mon_hints.specs.Listings.{is_among};
 ghost use Rattle.mon_hints.specs.HistoryBuckets.{rows_buckets};
-ghost use Rattle.mon_value.specs.LeafHistories.{brought_rows};
 ghost use Rattle.leaf_store.specs.LeafBuckets.{key_buckets};
 ghost use Rattle.leaf_store.specs.within.Raises.{Adds, AddsEntry, HoldsBuckets, IsKnown, is_left};
 
 use crate::replicas::{Replica, Replicas, has_series};
-use mon_hints::{MOST_BUCKETS, next_bucket};
+use mon_hints::next_bucket;
 use mon_schema::Schemas;
-use mon_value::{Entry, MetricSchema, Row, SeriesKey, TargetSchema};
+use mon_value::{Entry, MOST_BUCKETS, MetricSchema, Row, SeriesKey, TargetSchema};
 
 // How many words have a bit for each bucket.
 const WORDS: usize = 64;

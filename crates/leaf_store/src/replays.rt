@@ -1,7 +1,8 @@
 // How the entries of a history reach replicas, and what they brought to one.
 ghost use Rattle.std.specs.Prelude.{◌≡◌, ◌≤◌, ◌++◌, length, drop, take, is_some, IfOk, IfSome, OnOk, true};
 ghost use Rattle.mon_value.specs.LeafHistories.{entry_rows, replica_rows};
-ghost use Rattle.leaf_store.specs.within.Replicas.{AllThere, Holds, SameHistory, all_rows, entry_of, rows_held, shown};
+ghost use Rattle.leaf_store.specs.within.Replicas.{AllHaveRows, Holds, SameHistory, all_rows, entry_of, rows_held};
+ghost use Rattle.leaf_store.specs.within.Replicas.{shown_entries};
 
 use crate::kept::{Kept, KeptEntries};
 use crate::replicas::{Replica, Replicas, is_same, own_rows, rows_of, settle_entry};
@@ -44,10 +45,10 @@ pub(crate) fn rows_kept(
     kept: &KeptEntries,
     cut: usize,
 ) -> Result<RowList, OutOfMemory>
-    requires there { AllThere replicas.now.entries kept.now.items }
+    requires there { AllHaveRows replicas.now.entries kept.now.items }
     requires within { cut ≤ length kept.now.items }
     ensures rows { IfOk result (λ rows.
-        rows ≡ replica_rows replica.range replica.slot (shown replicas.now.entries (take cut kept.now.items))) }
+        rows ≡ replica_rows replica.range replica.slot (shown_entries replicas.now.entries (take cut kept.now.items))) }
 {
     let mut rows = RowList::new(alloc);
     let mut number = 0;

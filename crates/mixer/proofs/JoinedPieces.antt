@@ -17,7 +17,7 @@ use Rattle.mon_value.specs.declared.tables.TimedRow.{TimedRow}
 use Rattle.mql_types.specs.Meaning.{rows_meant}
 use Rattle.mql_types.specs.Nodes.{columns_of}
 use Rattle.mql_types.specs.Pieces as up
-use Rattle.mql_types.specs.Pieces.{PartUse, TopPart, piece_meant}
+use Rattle.mql_types.specs.Pieces.{PartUse, TopPart}
 use Rattle.mon_fold.proofs.MergeableGroups as mergeable
 use Rattle.mon_fold.proofs.MergeableGroups.{first_can}
 use Rattle.mon_fold.proofs.PartialGroupLemmas.{groups_merge}

@@ -15,9 +15,11 @@ use Rattle.mon_meaning.specs.within.Paths.{Leads, first_input}
 use Rattle.mql_types.specs.ExplanationParts.{nodes}
 use Rattle.mon_meaning.proofs.PathLemmas.{Leads-pop, Leads-push, smaller_below}
 use Rattle.mixer.specs.Mixing.{part_count}
-use Rattle.mixer.specs.within.Mixtures.{CanMix, IsInput, IsWayDown, OtherCanMix, behind_first, first_rows, is_piece}
+use Rattle.mixer.specs.within.Mixtures.{CanMix, IsInput, IsWayDown, OtherCanMix, pieces_behind_first}
+use Rattle.mixer.specs.within.Mixtures.{first_piece_rows}
+use Rattle.mixer.specs.within.Mixtures.{is_piece}
 use Rattle.mixer.specs.within.Mixtures.{joins_from}
-use Rattle.mixer.specs.within.Mixtures.{other_count, other_joins, other_rows, own_joins, rows_from}
+use Rattle.mixer.specs.within.Mixtures.{other_count, other_joins, other_piece_rows, own_joins, rows_from}
 use Rattle.mixer.proofs.NodePieces.{can_above, joins_above, joins_of_piece, left_behind, one_piece, other_can_more}
 use Rattle.mixer.proofs.NodePieces.{rows_above, rows_of_piece}
 
@@ -81,7 +83,7 @@ module _ (here : Level → Bool) where
       pub counted : load ≡ start + joins_from here end all
 
     pub begun : (above : List NodeTree) (rows : List TimedRow) (left : List Piece) (load : ℕ) → IsWayDown here above top
-        → rows ≡ first_rows all → left ≡ drop 1 all → Walk above rows left load load
+        → rows ≡ first_piece_rows all → left ≡ drop 1 all → Walk above rows left load load
     begun above rows left load way made behind = record {
       end = way.end;
       leads = way.leads;
@@ -99,11 +101,11 @@ module _ (here : Level → Bool) where
       pub passed : AllByRecursion IsPassed above
       pub own : IsPassed node
       pub flowing : rows ≡ rows_from here (first_input node) all
-      pub behind : left ≡ behind_first here node all
+      pub behind : left ≡ pieces_behind_first here node all
       pub counted : load ≡ start + joins_from here (first_input node) all
       pub others : OtherCanMix load here node left
       pub operates : IsWithinRows (load + other_joins here node left)
-          → CanOperate node rows (other_rows here node left)
+          → CanOperate node rows (other_piece_rows here node left)
       pub smaller : nodes node ≤ nodes top
 
     pub next_step : (above : List NodeTree) (node : NodeTree) (rows : List TimedRow) (left : List Piece)
@@ -116,7 +118,7 @@ module _ (here : Level → Bool) where
         let own = can_above here start node all passed.1 (can_below start above top node parts.0 passed.0 can) in
         let flowing : rows ≡ rows_from here (first_input node) all =
         walk.made ∙ ap (λ tree. rows_from here tree all) (sym parts.1) in
-        let behind : left ≡ behind_first here node all =
+        let behind : left ≡ pieces_behind_first here node all =
         walk.behind ∙ ap (λ tree. drop (part_count here tree) all) (sym parts.1) in
         let counted : load ≡ start + joins_from here (first_input node) all =
         walk.counted ∙ ap (λ tree. start + joins_from here tree all) (sym parts.1) in
@@ -131,8 +133,8 @@ module _ (here : Level → Bool) where
               (other_can_more here start load node _ (omega (arith, counted)) own.1.1);
           operates = λ few.
               let same = ap (λ ps. other_joins here node ps) behind in
-              subst (λ rs. CanOperate node rs (other_rows here node left)) (sym flowing)
-              (subst (λ ps. CanOperate node (rows_from here (first_input node) all) (other_rows here node ps))
+              subst (λ rs. CanOperate node rs (other_piece_rows here node left)) (sym flowing)
+              (subst (λ ps. CanOperate node (rows_from here (first_input node) all) (other_piece_rows here node ps))
               (sym behind)
               (own.0 (omega (arith, few, same, counted))));
           smaller = smaller_below above top node parts.0;
@@ -140,19 +142,19 @@ module _ (here : Level → Bool) where
 
     pub walk_on : (above : List NodeTree) (node : NodeTree) (rows made : List TimedRow) (left behind : List Piece)
         (start load more : ℕ)
-        → Step above node rows left start load → made ≡ operation_rows node rows (other_rows here node left)
+        → Step above node rows left start load → made ≡ operation_rows node rows (other_piece_rows here node left)
         → behind ≡ drop (other_count here node) left → more ≡ load + own_joins here node rows left
         → Walk above made behind start more
     walk_on above node rows made left behind start load more step is rest counted = record {
       end = node;
       leads = step.leads;
       passed = step.passed;
-      made = is ∙ (λ i. operation_rows node (step.flowing i) (other_rows here node (step.behind i)))
+      made = is ∙ (λ i. operation_rows node (step.flowing i) (other_piece_rows here node (step.behind i)))
           ∙ sym (rows_above here node all step.own);
       behind = rest ∙ ap (drop (other_count here node)) step.behind ∙ left_behind here node all step.own;
       counted =
           let same : own_joins here node rows left
-          ≡ own_joins here node (rows_from here (first_input node) all) (behind_first here node all) =
+          ≡ own_joins here node (rows_from here (first_input node) all) (pieces_behind_first here node all) =
           λ i. own_joins here node (step.flowing i) (step.behind i) in
           omega (arith, counted, step.counted, same, joins_above here node all step.own);
     }
@@ -172,6 +174,6 @@ module _ (here : Level → Bool) where
     step_over above node rows left limit start load r step tells =
         let more = joins_below above top node step.leads step.passed in
         let same : own_joins here node rows left
-        ≡ own_joins here node (rows_from here (first_input node) all) (behind_first here node all) =
+        ≡ own_joins here node (rows_from here (first_input node) all) (pieces_behind_first here node all) =
         λ i. own_joins here node (step.flowing i) (step.behind i) in
         tells_more limit _ _ r (omega (arith, more, same, step.counted, joins_above here node all step.own)) tells

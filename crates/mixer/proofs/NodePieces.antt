@@ -11,9 +11,10 @@ use Rattle.mon_fold.specs.declared.answers.Piece.{Piece}
 use Rattle.mon_meaning.specs.Operations.{operation_rows}
 use Rattle.mon_meaning.specs.within.Paths.{first_input}
 use Rattle.mixer.specs.Mixing.{part_count}
-use Rattle.mixer.specs.within.Mixtures.{CanMix, Operates, OtherCanMix, Unless, behind_first, first_rows, is_piece}
+use Rattle.mixer.specs.within.Mixtures.{CanMix, Operates, OtherCanMix, Unless, pieces_behind_first, first_piece_rows}
+use Rattle.mixer.specs.within.Mixtures.{is_piece}
 use Rattle.mixer.specs.within.Mixtures.{joins_from}
-use Rattle.mixer.specs.within.Mixtures.{other_count, other_rows, own_joins, rows_from}
+use Rattle.mixer.specs.within.Mixtures.{other_count, other_piece_rows, own_joins, rows_from}
 
 -- ---- a node of which there is a piece
 
@@ -99,7 +100,7 @@ module _ (here : Level → Bool) where
       same_count_by (here (level_of tree)) use_of tree (top_parts here tree) (λ e. one_piece tree (piece_here tree e))
 
   pub rows_of_piece : (tree : NodeTree) (pieces : List Piece) → is_piece here tree ≡ true
-      → rows_from here tree pieces ≡ first_rows pieces
+      → rows_from here tree pieces ≡ first_piece_rows pieces
   rows_of_piece (node.Fetch info schema metric) pieces e = refl
   rows_of_piece (node.Filter info by input) pieces e = rows_if (here info.level) _ _ e
   rows_of_piece (node.Align info by input) pieces e = refl
@@ -160,7 +161,7 @@ module _ (here : Level → Bool) where
   pub rows_above : (tree : NodeTree) (pieces : List Piece) → is_piece here tree ≡ false
       → rows_from here tree pieces
       ≡ operation_rows tree (rows_from here (first_input tree) pieces)
-      (other_rows here tree (behind_first here tree pieces))
+      (other_piece_rows here tree (pieces_behind_first here tree pieces))
   rows_above (node.Fetch info schema metric) pieces e = absurd cc
   rows_above (node.Filter info by input) pieces e = rows_unless (here info.level) _ _ e
   rows_above (node.Align info by input) pieces e = absurd cc
@@ -174,7 +175,7 @@ module _ (here : Level → Bool) where
   pub joins_above : (tree : NodeTree) (pieces : List Piece) → is_piece here tree ≡ false
       → joins_from here tree pieces
       ≡ joins_from here (first_input tree) pieces
-      + own_joins here tree (rows_from here (first_input tree) pieces) (behind_first here tree pieces)
+      + own_joins here tree (rows_from here (first_input tree) pieces) (pieces_behind_first here tree pieces)
   joins_above (node.Fetch info schema metric) pieces e = absurd cc
   joins_above (node.Filter info by input) pieces e =
       omega (arith, some_unless (here info.level) (joins_from here input pieces) e)
@@ -194,7 +195,7 @@ module _ (here : Level → Bool) where
   pub can_above : (base : ℕ) (tree : NodeTree) (pieces : List Piece) → is_piece here tree ≡ false
       → CanMix base here tree pieces
       → Operates base here tree pieces
-      × (CanMix base here (first_input tree) pieces × OtherCanMix base here tree (behind_first here tree pieces))
+      × (CanMix base here (first_input tree) pieces × OtherCanMix base here tree (pieces_behind_first here tree pieces))
   can_above base (node.Fetch info schema metric) pieces e can = absurd cc
   can_above base (node.Filter info by input) pieces e can =
       let own = unless (here info.level) _ e can in (own.0, (own.1, tt))
@@ -296,7 +297,7 @@ module _ (here : Level → Bool) where
 
   -- what is left behind a node
   pub left_behind : (tree : NodeTree) (pieces : List Piece) → is_piece here tree ≡ false
-      → drop (other_count here tree) (behind_first here tree pieces) ≡ drop (part_count here tree) pieces
+      → drop (other_count here tree) (pieces_behind_first here tree pieces) ≡ drop (part_count here tree) pieces
   left_behind tree pieces e =
       drop-drop (other_count here tree) (part_count here (first_input tree)) pieces
       ∙ ap (λ n. drop n pieces) (sym (more_parts tree e))

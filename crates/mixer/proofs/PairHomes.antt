@@ -18,7 +18,7 @@ use Rattle.mql_types.specs.Branches.{anchored_with, as_joined, common_columns, j
 use Rattle.mql_types.specs.Branches.{union_columns}
 use Rattle.mql_types.specs.Levels.{common_anchor, is_location_anchor, same_anchor}
 use Rattle.mixer.proofs.HeldCells as held_cells
-use Rattle.mixer.proofs.HeldCells.{Holds, SaysIf, Tell}
+use Rattle.mixer.proofs.HeldCells.{Holds, SaysIf}
 
 agree_by : (b : Bool) (x y : Value) → b ≡ true → (not b || same_value x y) ≡ true → x ≡ y
 agree_by true x y e agree = (same_value-Decides x y).0 agree

@@ -1,7 +1,7 @@
 -- Pushed down: what leaves, zones and the root do over divided rows is what the query means, and its load.
 use Rattle.std.proofs.Common.{◌≡◌, ◌+◌, Bool, true, List, ◌++◌, refl}
 use Rattle.std.specs.List.{AllByRecursion}
-use Rattle.mon_value.specs.Grids.{IsLawful}
+use Rattle.mon_value.specs.Grids.{IsLawfulGrid}
 use Rattle.mon_value.specs.declared.grids.Grid.{Grid}
 use Rattle.mon_value.specs.declared.rows.Row.{Row}
 use Rattle.mon_schema.specs.SchemaLists.{SchemaLists}
@@ -41,7 +41,7 @@ same_level l e = e
 
 -- a tree of a typed query, on a lawful grid
 pub record IsPlanned (held : SchemaLists) (grid : Grid) (tree : NodeTree) : Type 0 where
-  pub lawful : IsLawful grid
+  pub lawful : IsLawfulGrid grid
   pub ruled : AreRows held tree
   pub levelled : AreLevelled held tree
 

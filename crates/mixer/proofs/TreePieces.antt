@@ -25,7 +25,7 @@ use Rattle.mon_fold.specs.declared.answers.Piece.TheVariants as piece
 use Rattle.mon_meaning.proofs.FilterLemmas.{filter_map-permutation}
 use Rattle.mon_meaning.proofs.OperationOrders.{group_rows-permutation, pairs-permutation, top_rows-permutation}
 use Rattle.mixer.specs.Mixing.{part_count}
-use Rattle.mixer.specs.within.Mixtures.{first_rows, rows_from}
+use Rattle.mixer.specs.within.Mixtures.{first_piece_rows, rows_from}
 use Rattle.mixer.proofs.JoinedPieces.{AllCome, ComesTo, meant_over}
 use Rattle.mixer.proofs.NodePieces.{piece_here, rows_of_piece}
 
@@ -38,14 +38,14 @@ come-drop meant (part ∷ parts) more [] all = absurd all
 come-drop meant (part ∷ parts) more (p ∷ pieces) all = come-drop meant parts more pieces all.1
 
 first_of_rows : (columns : List Column) (rows : List TimedRow) (p : Piece) → ComesTo columns up.AsRows rows p
-    → (pieces : List Piece) → IsPermutation rows (first_rows (p ∷ pieces))
+    → (pieces : List Piece) → IsPermutation rows (first_piece_rows (p ∷ pieces))
 first_of_rows columns rows (piece.Table table) comes pieces = comes.rows_are
 first_of_rows columns rows (piece.Groups groups) comes pieces = absurd comes
 
 -- groups finish to their rows grouped
 first_of_groups : (columns : List Column) (by : List ℕ) (with : List Aggregate) (rows : List TimedRow) (p : Piece)
     → ComesTo columns (up.ToGroup by with) rows p
-    → (pieces : List Piece) → IsPermutation (group_rows by with rows) (first_rows (p ∷ pieces))
+    → (pieces : List Piece) → IsPermutation (group_rows by with rows) (first_piece_rows (p ∷ pieces))
 first_of_groups columns by with rows (piece.Table table) comes pieces = absurd comes
 first_of_groups columns by with rows (piece.Groups groups) comes pieces =
     subst (λ xs. IsPermutation (group_rows by with rows) xs)
@@ -55,7 +55,8 @@ first_of_groups columns by with rows (piece.Groups groups) comes pieces =
 -- a table that was cut on the way is cut again
 first_of_cut : (columns : List Column) (most column : ℕ) (rows : List TimedRow) (p : Piece)
     → ComesTo columns (up.ToCut most column) rows p
-    → (pieces : List Piece) → IsPermutation (top_rows most column rows) (top_rows most column (first_rows (p ∷ pieces)))
+    → (pieces : List Piece) → IsPermutation (top_rows most column rows)
+    (top_rows most column (first_piece_rows (p ∷ pieces)))
 first_of_cut columns most column rows (piece.Table table) comes pieces = comes.firsts_are
 first_of_cut columns most column rows (piece.Groups groups) comes pieces = absurd comes
 
@@ -74,9 +75,9 @@ module _ (grid : Grid) (source : List Row) where
   rows_by : (b : Bool) (tree : NodeTree) (below more : List TopPart) (pieces : List Piece) (made : List TimedRow)
       → AllCome meant (part_or b up.AsRows tree below ++ more) pieces
       → (AllCome meant (below ++ more) pieces → IsPermutation (rows_meant grid tree source) made)
-      → IsPermutation (rows_meant grid tree source) (cond b (first_rows pieces) made)
+      → IsPermutation (rows_meant grid tree source) (cond b (first_piece_rows pieces) made)
   rows_by true tree below more pieces made come further =
-      one_come up.AsRows tree more pieces (λ ps. IsPermutation (rows_meant grid tree source) (first_rows ps)) come
+      one_come up.AsRows tree more pieces (λ ps. IsPermutation (rows_meant grid tree source) (first_piece_rows ps)) come
       (λ p rest comes. first_of_rows (columns_of tree) (rows_meant grid tree source) p comes rest)
   rows_by false tree below more pieces made come further = further come
 
@@ -85,21 +86,21 @@ module _ (grid : Grid) (source : List Row) where
       → rows_meant grid tree source ≡ group_rows by with (rows_meant grid input source)
       → AllCome meant (part_or b up.AsRows tree (part_or c (up.ToGroup by with) input below) ++ more) pieces
       → (AllCome meant (below ++ more) pieces → IsPermutation (rows_meant grid tree source) made)
-      → IsPermutation (rows_meant grid tree source) (cond (cond b true c) (first_rows pieces) made)
+      → IsPermutation (rows_meant grid tree source) (cond (cond b true c) (first_piece_rows pieces) made)
   group_by true c tree by with input below more pieces made is come further =
-      one_come up.AsRows tree more pieces (λ ps. IsPermutation (rows_meant grid tree source) (first_rows ps)) come
+      one_come up.AsRows tree more pieces (λ ps. IsPermutation (rows_meant grid tree source) (first_piece_rows ps)) come
       (λ p rest comes. first_of_rows (columns_of tree) (rows_meant grid tree source) p comes rest)
   group_by false true tree by with input below more pieces made is come further =
       one_come (up.ToGroup by with) input more pieces (λ ps. IsPermutation (rows_meant grid tree source)
-      (first_rows ps))
+      (first_piece_rows ps))
       come
-      (λ p rest comes. subst (λ xs. IsPermutation xs (first_rows (p ∷ rest))) (sym is)
+      (λ p rest comes. subst (λ xs. IsPermutation xs (first_piece_rows (p ∷ rest))) (sym is)
       (first_of_groups (columns_of input) by with (rows_meant grid input source) p comes rest))
   group_by false false tree by with input below more pieces made is come further = further come
 
   -- of a part that is to be cut
   cut_by : (b : Bool) (most column : ℕ) (input : NodeTree) (below more : List TopPart) (pieces : List Piece)
-      (made : List TimedRow) → (b ≡ true → made ≡ first_rows pieces)
+      (made : List TimedRow) → (b ≡ true → made ≡ first_piece_rows pieces)
       → AllCome meant (part_or b (up.ToCut most column) input below ++ more) pieces
       → (AllCome meant (below ++ more) pieces → IsPermutation (rows_meant grid input source) made)
       → IsPermutation (top_rows most column (rows_meant grid input source)) (top_rows most column made)
@@ -107,7 +108,8 @@ module _ (grid : Grid) (source : List Row) where
       subst (λ xs. IsPermutation (top_rows most column (rows_meant grid input source)) (top_rows most column xs))
       (sym (is refl))
       (one_come (up.ToCut most column) input more pieces
-      (λ ps. IsPermutation (top_rows most column (rows_meant grid input source)) (top_rows most column (first_rows ps)))
+      (λ ps. IsPermutation (top_rows most column (rows_meant grid input source))
+      (top_rows most column (first_piece_rows ps)))
       come (λ p rest comes. first_of_cut (columns_of input) most column (rows_meant grid input source) p comes rest))
   cut_by false most column input below more pieces made is come further =
       top_rows-permutation most column _ _ (further come)
@@ -133,7 +135,8 @@ module _ (grid : Grid) (source : List Row) where
         → IsPermutation (rows_meant grid tree source) (rows_from here tree pieces)
     rows_come (node.Fetch info schema metric) more pieces come =
         let tree = node.Fetch info schema metric in
-        one_come up.AsRows tree more pieces (λ ps. IsPermutation (rows_meant grid tree source) (first_rows ps)) come
+        one_come up.AsRows tree more pieces (λ ps. IsPermutation (rows_meant grid tree source) (first_piece_rows ps))
+        come
         (λ p rest comes. first_of_rows (columns_of tree) (rows_meant grid tree source) p comes rest)
     rows_come (node.Filter info by input) more pieces come =
         rows_by (here info.level) (node.Filter info by input) (top_parts here input) more pieces _ come
@@ -141,7 +144,8 @@ module _ (grid : Grid) (source : List Row) where
         (rows_come input more pieces below))
     rows_come (node.Align info by input) more pieces come =
         let tree = node.Align info by input in
-        one_come up.AsRows tree more pieces (λ ps. IsPermutation (rows_meant grid tree source) (first_rows ps)) come
+        one_come up.AsRows tree more pieces (λ ps. IsPermutation (rows_meant grid tree source) (first_piece_rows ps))
+        come
         (λ p rest comes. first_of_rows (columns_of tree) (rows_meant grid tree source) p comes rest)
     rows_come (node.GroupBy info by with input) more pieces come =
         group_by (here info.level) (here (level_of input)) (node.GroupBy info by with input) by with input

@@ -4,7 +4,7 @@ use Rattle.std.proofs.Common.{length, take, sym, ap, subst}
 use Rattle.std.specs.List.{AllByRecursion, filter, filter_map, flat_map}
 use Rattle.mon_value.specs.Alignments.{aligned_values}
 use Rattle.mon_value.specs.Columns.{FitColumns, HasType}
-use Rattle.mon_value.specs.Grids.{IsLawful}
+use Rattle.mon_value.specs.Grids.{IsLawfulGrid}
 use Rattle.mon_value.specs.Groups.{group_key, group_keys, group_rows, rows_in}
 use Rattle.mon_value.specs.Joins.{is_pair, pair_of, pairs_of}
 use Rattle.mon_value.specs.Same.{same_row, same_series, same_text, same_truth}
@@ -82,7 +82,7 @@ series_fit target found rows fit =
     (all_keys same_series same_series-Decides key_of_row (IsSeriesOf target found) rows
     (all-map (IsRowOf target found) (λ (row : Row). IsSeriesOf target found row.key) rows (λ row r. r.series) fit))
 
-align_typed : (held : SchemaLists) (grid : Grid) → IsLawful grid → (rows : List Row) → AllFit held rows
+align_typed : (held : SchemaLists) (grid : Grid) → IsLawfulGrid grid → (rows : List Row) → AllFit held rows
     → (info : NodeInfo) (by : Aligner) (input : NodeTree) → AlignOf held info by input
     → AreTyped info.columns (aligned_rows by grid (points_meant input rows))
 align_typed held grid lawful rows fit info by input own =
@@ -170,7 +170,8 @@ values_typed info items columns own rows fit =
     (λ (row : TimedRow). FitColumns (value_columns columns items) row.cells) (value_row columns items) rows
     (λ row made f e. value_made columns items own.none row made f e) fit)
 
-module _ (held : SchemaLists) (grid : Grid) (lawful : IsLawful grid) (rows : List Row) (fit : AllFit held rows) where
+module _ (held : SchemaLists) (grid : Grid) (lawful : IsLawfulGrid grid) (rows : List Row)
+    (fit : AllFit held rows) where
   pub tree_typed : (tree : NodeTree) → AreRows held tree → AreTyped (columns_of tree) (rows_meant grid tree rows)
   tree_typed (node.Fetch info schema metric) own = tt
   tree_typed (node.Filter info by input) own =

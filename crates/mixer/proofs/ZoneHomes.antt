@@ -20,7 +20,7 @@ use Rattle.mon_value.specs.declared.values.FieldValue.TheVariants as field
 use Rattle.mon_value.specs.declared.values.Value.{Value}
 use Rattle.mon_value.specs.declared.values.Value.TheVariants as value
 use Rattle.mon_value.proofs.SameLemmas.{both}
-use Rattle.mon_schema.specs.Faults.{is_location, is_text}
+use Rattle.mon_schema.specs.Faults.{is_location, is_text_field}
 use Rattle.mon_schema.specs.Fits.{field_fits, fields_fit}
 use Rattle.mon_schema.specs.SchemaLists.{SchemaLists, target_named}
 use Rattle.mon_topo.specs.Locations.{location_in, location_of, text_in_field}
@@ -74,7 +74,7 @@ none_marked [] values none = refl
 none_marked (f ∷ fs) [] none = refl
 none_marked (f ∷ fs) (x ∷ xs) none =
     let here : cond f.location 1 0 + marked_count fs ≡ 0 = sym (count_cons f fs) ∙ none in
-    none_marked_by f.location (is_text f.of) x (location_in fs xs) (unmarked_by f.location (marked_count fs) here)
+    none_marked_by f.location (is_text_field f.of) x (location_in fs xs) (unmarked_by f.location (marked_count fs) here)
     (none_marked fs xs (omega (arith, here)))
 
 text_is : (x : FieldValue) (location : List ℕ) → text_in_field x ≡ Some location
@@ -112,12 +112,12 @@ marked_holds (f ∷ fs) (x ∷ xs) zero v location few marks at is =
     let here : cond f.location 1 0 + marked_count fs ≤ 1 = omega (arith, few, count_cons f fs) in
     let none = none_marked fs xs (none_left f.location (marked_count fs) marks here) in
     ap field_as_value (sym (same_item x v at))
-    ∙ first_marked_by f.location (is_text f.of) x (location_in fs xs) location marks none is
+    ∙ first_marked_by f.location (is_text_field f.of) x (location_in fs xs) location marks none is
 marked_holds (f ∷ fs) (x ∷ xs) (suc k) v location few marks at is =
     let here : cond f.location 1 0 + marked_count fs ≤ 1 = omega (arith, few, count_cons f fs) in
     let other : f.location ≡ false = not_marked f.location (marked_count fs) (marked_some fs k marks) here in
     marked_holds fs xs k v location (omega (arith, here)) marks at
-    (later_marked_by f.location (is_text f.of) x (location_in fs xs) location other is)
+    (later_marked_by f.location (is_text_field f.of) x (location_in fs xs) location other is)
 
 -- ---- targets and their locations
 
@@ -168,7 +168,7 @@ pub record Location (o : Option (List ℕ)) : Type 0 where
   pub text : List ℕ
   pub is : o ≡ Some text
 
-text_there : (of : FieldType) (x : FieldValue) → is_text of ≡ true → field_fits of x ≡ true
+text_there : (of : FieldType) (x : FieldValue) → is_text_field of ≡ true → field_fits of x ≡ true
     → Location (text_in_field x)
 text_there of_type.Int x e fit = absurd cc
 text_there of_type.Bool x e fit = absurd cc
@@ -189,7 +189,7 @@ located_in [] values fit some = absurd cc
 located_in (f ∷ fs) [] fit some = absurd cc
 located_in (f ∷ fs) (x ∷ xs) fit some =
     let parts = both (field_fits f.of x) (fields_fit fs xs) fit in
-    located_by f.location (is_text f.of) x (location_in fs xs) (list_any is_location fs) some
+    located_by f.location (is_text_field f.of) x (location_in fs xs) (list_any is_location fs) some
     (λ t. text_there f.of x t parts.0) (λ rest. located_in fs xs parts.1 rest)
 
 -- a target that fits its schema has a location
@@ -238,7 +238,7 @@ marked_by false t any f fs e some more =
 marked_place : (fields : List Field) → list_any is_location fields ≡ true → Marked fields
 marked_place [] some = absurd cc
 marked_place (f ∷ fs) some =
-    marked_by f.location (is_text f.of) (list_any is_location fs) f fs refl some (λ rest. marked_place fs rest)
+    marked_by f.location (is_text_field f.of) (list_any is_location fs) f fs refl some (λ rest. marked_place fs rest)
 
 -- a column that is anchored as wanted, among those that have all fields
 has_field : (name : List ℕ) (next : ℕ) (fields : List Field) (columns : List Column) (k : ℕ)

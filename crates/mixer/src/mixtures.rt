@@ -5,11 +5,12 @@ ghost use Rattle.mql_types.specs.Nodes.{node_tree};
 ghost use Rattle.mql_types.specs.Soundness.{IsWithinRows};
 ghost use Rattle.mon_meaning.specs.Counts.{TellsOver};
 ghost use Rattle.mon_meaning.specs.Operations as meant;
-ghost use Rattle.mon_meaning.specs.Operations.{CanOperate, operation_load};
+ghost use Rattle.mon_meaning.specs.Operations.{CanOperate};
 ghost use Rattle.mon_meaning.specs.TopParts.{up_to};
 ghost use Rattle.mixer.specs.Mixing.{part_count};
 ghost use Rattle.mixer.specs.within.Mixtures as made;
-ghost use Rattle.mixer.specs.within.Mixtures.{CanMix, OtherCanMix, first_rows, joins_from, other_count, other_joins};
+ghost use Rattle.mixer.specs.within.Mixtures.{CanMix, OtherCanMix, first_piece_rows, joins_from, other_count};
+ghost use Rattle.mixer.specs.within.Mixtures.{other_joins};
 ghost use Rattle.mixer.specs.within.Mixtures.{rows_from};
 
 use crate::paths::way_down;
@@ -70,10 +71,10 @@ fn rows_above(
     requires operates { IsWithinRows (meter.old.load
         + other_joins (up_to setting.below) (node_tree node.now) (into_iter_items pieces.old))
         → CanOperate (node_tree node.now) rows
-        (made.other_rows (up_to setting.below) (node_tree node.now) (into_iter_items pieces.old)) }
+        (made.other_piece_rows (up_to setting.below) (node_tree node.now) (into_iter_items pieces.old)) }
     requires items { into_iter_len pieces.old ≡ length (into_iter_items pieces.old) }
     ensures rows { IfOk result (λ made_rows. made_rows ≡ meant.operation_rows (node_tree node.now) rows
-        (made.other_rows (up_to setting.below) (node_tree node.now) (into_iter_items pieces.old))) }
+        (made.other_piece_rows (up_to setting.below) (node_tree node.now) (into_iter_items pieces.old))) }
     ensures left { OnOk result (into_iter_items pieces.new
         ≡ drop (other_count (up_to setting.below) (node_tree node.now)) (into_iter_items pieces.old)) }
     ensures items { into_iter_len pieces.new ≡ length (into_iter_items pieces.new) }
@@ -98,7 +99,7 @@ fn other_rows(
     requires can { OtherCanMix meter.old.load (up_to setting.below) (node_tree node.now) (into_iter_items pieces.old) }
     requires items { into_iter_len pieces.old ≡ length (into_iter_items pieces.old) }
     ensures rows { IfOk result (λ rows. rows
-        ≡ made.other_rows (up_to setting.below) (node_tree node.now) (into_iter_items pieces.old)) }
+        ≡ made.other_piece_rows (up_to setting.below) (node_tree node.now) (into_iter_items pieces.old)) }
     ensures left { OnOk result (into_iter_items pieces.new
         ≡ drop (other_count (up_to setting.below) (node_tree node.now)) (into_iter_items pieces.old)) }
     ensures items { into_iter_len pieces.new ≡ length (into_iter_items pieces.new) }
@@ -126,7 +127,7 @@ fn other_rows(
 // The rows of the next piece: those of a table, or those that groups finish to.
 fn next_rows(alloc: Global, pieces: &mut IntoIter<Piece>) -> Result<TimedRows, OutOfMemory>
     requires items { into_iter_len pieces.old ≡ length (into_iter_items pieces.old) }
-    ensures rows { IfOk result (λ rows. rows ≡ first_rows (into_iter_items pieces.old)) }
+    ensures rows { IfOk result (λ rows. rows ≡ first_piece_rows (into_iter_items pieces.old)) }
     ensures left { into_iter_items pieces.new ≡ drop 1 (into_iter_items pieces.old) }
     ensures items { into_iter_len pieces.new ≡ length (into_iter_items pieces.new) }
 {

@@ -1,9 +1,9 @@
 -- A number that is read passes its test.
 use Rattle.std.proofs.Common.{◌≡◌, ℕ, Bool, true, false, cond, List, Option, Some, None, option_and_then, Result, Ok}
-use Rattle.std.proofs.Common.{Err, refl, ap, ◌∙◌, subst}
+use Rattle.std.proofs.Common.{Err, refl, subst}
 use Rattle.serde_json.specs.Data.{Data}
 use Rattle.serde_json.specs.Find.{as_number, as_u64, get}
-use Rattle.mon_config.specs.Objects.{number_in, number_if}
+use Rattle.mon_config.specs.Objects.{number_of_data, number_if}
 use Rattle.mon_config.specs.Shapes.{value_or_here, if_there, optional_key, under_key}
 
 -- a number that is kept for a test passes it
@@ -22,12 +22,12 @@ through key (Ok y) x h = h
 through key (Err path) x h = absurd (cc)
 
 by_there : (test : ℕ → Bool) (default n : ℕ) (there : Option Data) → test default ≡ true
-    → if_there (Ok default) (number_in test) there ≡ Ok n → test n ≡ true
+    → if_there (Ok default) (number_of_data test) there ≡ Ok n → test n ≡ true
 by_there test default n None lawful h = let same : default ≡ n = cc in subst (λ (k : ℕ). test k ≡ true) same lawful
 by_there test default n (Some d) lawful h = by_found test n (option_and_then as_u64 (as_number d)) h
 
 -- a number under a key passes its test, where its default does
 pub optional_passes : (test : ℕ → Bool) (default : ℕ) (key : List ℕ) (d : Data) (n : ℕ) → test default ≡ true
-    → optional_key default key (number_in test) d ≡ Ok n → test n ≡ true
+    → optional_key default key (number_of_data test) d ≡ Ok n → test n ≡ true
 optional_passes test default key d n lawful h = by_there test default n (get key d) lawful
-    (through key (if_there (Ok default) (number_in test) (get key d)) n h)
+    (through key (if_there (Ok default) (number_of_data test) (get key d)) n h)

@@ -1,11 +1,12 @@
 -- The configuration that a text spells, or the first of its faults.
-use Rattle.std.specs.Prelude.{ℕ, ◌≡◌, ◌+◌, nat_lt, List, [], ◌∷◌, ◌++◌, length, codes, Option, Some, None, Result, Ok}
-use Rattle.std.specs.Prelude.{Err, if◌then◌else◌}
+use Rattle.std.specs.Prelude.{ℕ, ◌≡◌, ◌<◌, ◌≤◌, ◌+◌, ◌^◌, nat_lt, List, [], ◌∷◌, ◌++◌, length, codes, Option, Some}
+use Rattle.std.specs.Prelude.{None, Result, Ok, Err, if◌then◌else◌}
 use Rattle.std.specs.Option.{ok_or}
 use Rattle.std.specs.Str.{is_utf8}
 use Rattle.serde_json.specs.Data.{Data}
 use Rattle.serde_json.specs.Read.{read}
 use Rattle.mon_value.specs.Answers.{◌>>=◌}
+use Rattle.mon_value.specs.declared.limits.TheConstants.{MOST_BUCKETS, ROW_BITS}
 use Rattle.mon_value.specs.declared.schemas.TargetSchema.{TargetSchema}
 use Rattle.mon_value.specs.declared.schemas.MetricSchema.{MetricSchema}
 use Rattle.mon_schema.specs.Faults.{target_fault, metric_fault}
@@ -96,3 +97,9 @@ config_in text = do
   data' ← json_in text
   parts ← from_top (parts_in data')
   config_of parts
+
+-- the limit of a query's load is no greater than a table may have rows, and there are some buckets, but not too many
+pub record IsLimited (config : Config) : Type 0 where
+  pub limit : config.limit ≤ 2 ^ ROW_BITS
+  pub some : 0 < config.buckets
+  pub most : config.buckets ≤ MOST_BUCKETS

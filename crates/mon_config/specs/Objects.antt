@@ -39,8 +39,8 @@ keys_of form.Range = codes "from" ∷ codes "leaves" ∷ []
 
 -- ---- values
 
-abbrev pub text_in : Data → Result (List ℕ) (List ℕ)
-text_in d = value_or_here (as_str d)
+abbrev pub text_of_data : Data → Result (List ℕ) (List ℕ)
+text_of_data d = value_or_here (as_str d)
 
 abbrev pub truth_in : Data → Result Bool (List ℕ)
 truth_in d = value_or_here (as_bool d)
@@ -53,8 +53,8 @@ whole_in d = value_or_here (option_and_then as_i64 (as_number d))
 abbrev pub number_if : (ℕ → Bool) → ℕ → Option ℕ
 number_if test n = if test n then Some n else None
 
-abbrev pub number_in : (ℕ → Bool) → Data → Result ℕ (List ℕ)
-number_in test d = value_or_here (option_and_then (number_if test) (option_and_then as_u64 (as_number d)))
+abbrev pub number_of_data : (ℕ → Bool) → Data → Result ℕ (List ℕ)
+number_of_data test d = value_or_here (option_and_then (number_if test) (option_and_then as_u64 (as_number d)))
 
 -- ---- schemas
 
@@ -71,7 +71,7 @@ field_type_in d = value_or_here (option_and_then field_type_of (as_str d))
 unfoldable pub target_field_in : Data → Result Field (List ℕ)
 target_field_in d = do
   known ← object_of (keys_of form.TargetField) d
-  name ← required_key (codes "name") text_in d
+  name ← required_key (codes "name") text_of_data d
   typed ← required_key (codes "type") field_type_in d
   location ← optional_key false (codes "location") truth_in d
   Ok (record { name = name; of = typed; location = location })
@@ -79,7 +79,7 @@ target_field_in d = do
 unfoldable pub target_in : Data → Result TargetSchema (List ℕ)
 target_in d = do
   known ← object_of (keys_of form.Target) d
-  name ← required_key (codes "name") text_in d
+  name ← required_key (codes "name") text_of_data d
   fields ← required_key (codes "fields") (list_in target_field_in) d
   Ok (record { name = name; fields = fields })
 
@@ -87,7 +87,7 @@ target_in d = do
 unfoldable pub metric_field_in : Data → Result Field (List ℕ)
 metric_field_in d = do
   known ← object_of (keys_of form.MetricField) d
-  name ← required_key (codes "name") text_in d
+  name ← required_key (codes "name") text_of_data d
   typed ← required_key (codes "type") field_type_in d
   Ok (record { name = name; of = typed; location = false })
 
@@ -122,11 +122,11 @@ with_bounds type.Text d = absent_key (codes "bounds") d >>= λ none. Ok type.Tex
 unfoldable pub metric_in : Data → Result MetricSchema (List ℕ)
 metric_in d = do
   known ← object_of (keys_of form.Metric) d
-  name ← required_key (codes "name") text_in d
+  name ← required_key (codes "name") text_of_data d
   what ← required_key (codes "kind") kind_in d
   typed ← required_key (codes "type") value_type_in d
   bounded ← with_bounds typed d
-  column ← required_key (codes "column") text_in d
+  column ← required_key (codes "column") text_of_data d
   fields ← optional_key [] (codes "fields") (list_in metric_field_in) d
   Ok (record { name = name; kind = what; value = bounded; column = column; fields = fields })
 
@@ -145,15 +145,15 @@ unfoldable pub range_in : Data → Result RangeSpec (List ℕ)
 range_in d = do
   known ← object_of (keys_of form.Range) d
   bound ← required_key (codes "from") (list_in field_value_in) d
-  leaves ← required_key (codes "leaves") (list_in text_in) d
+  leaves ← required_key (codes "leaves") (list_in text_of_data) d
   Ok (record { from = bound; leaves = leaves })
 
 unfoldable pub zone_in : Data → Result ZoneSpec (List ℕ)
 zone_in d = do
   known ← object_of (keys_of form.Zone) d
-  name ← required_key (codes "name") text_in d
-  locations ← required_key (codes "locations") (list_in text_in) d
-  leaves ← required_key (codes "leaves") (list_in text_in) d
+  name ← required_key (codes "name") text_of_data d
+  locations ← required_key (codes "locations") (list_in text_of_data) d
+  leaves ← required_key (codes "leaves") (list_in text_of_data) d
   ranges ← required_key (codes "ranges") (list_in range_in) d
   Ok (record { name = name; locations = locations; leaves = leaves; ranges = ranges })
 
@@ -162,9 +162,9 @@ zone_in d = do
 unfoldable pub parts_in : Data → Result Parts (List ℕ)
 parts_in d = do
   known ← object_of (keys_of form.Configuration) d
-  buckets ← optional_key 1024 (codes "buckets") (number_in is_bucket_count) d
-  limit ← optional_key 1000000 (codes "limit") (number_in is_limit) d
-  range_points ← optional_key 1000000 (codes "range_points") (number_in is_limit) d
+  buckets ← optional_key 1024 (codes "buckets") (number_of_data is_bucket_count) d
+  limit ← optional_key 1000000 (codes "limit") (number_of_data is_limit) d
+  range_points ← optional_key 1000000 (codes "range_points") (number_of_data is_limit) d
   targets ← required_key (codes "targets") (list_in target_in) d
   metrics ← required_key (codes "metrics") (list_in metric_in) d
   zones ← required_key (codes "zones") (list_in zone_in) d

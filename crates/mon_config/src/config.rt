@@ -1,5 +1,5 @@
 // The configuration as a whole.
-ghost use Rattle.std.specs.Prelude.{◌≡◌, IfOk};
+ghost use Rattle.std.specs.Prelude.{IfOk};
 ghost use Rattle.mon_config.specs.Configs as spec;
 ghost use Rattle.mon_config.specs.Configs.{config_in, KeepsNumbers};
 ghost use Rattle.mon_config.specs.Numbers.{AreLawful};
@@ -11,10 +11,10 @@ use crate::faults::ConfigFault;
 use crate::held::{Read, with_metrics, with_targets};
 use crate::limits::LONGEST_CONFIGURATION;
 use crate::parts::{Parts, parts_in};
-use crate::paths::{Shaped, path_from_top};
+use crate::paths::path_from_top;
 use mon_schema::Schemas;
 use mon_topo::{Topology, ZoneSpecs};
-use mon_value::{OutOfMemory, Refusal, Text, TryCopy};
+use mon_value::{OutOfMemory, Refusal, TryCopy};
 use serde_json::Value;
 use std::alloc::{AllocError, Global};
 

@@ -8,7 +8,7 @@ ghost use Rattle.mon_config.specs.Shapes.{object_of, unknown_in};
 ghost use Rattle.serde_json.specs.View.{members_view, view};
 
 use crate::paths::{Shaped, path_through_key, wrong_form};
-use mon_value::{Refusal, Text};
+use mon_value::Refusal;
 use serde_json::{Map, Value};
 use std::alloc::Global;
 

@@ -1,12 +1,12 @@
 // How the value under a key, and each value of a list, is read.
-ghost use Rattle.std.specs.Prelude.{◌≡◌, ◌+◌, ℕ, List, Ok, Result, map};
+ghost use Rattle.std.specs.Prelude.{ℕ, List, Ok, Result, map};
 ghost use Rattle.mon_value.specs.Answers.{Gives};
 ghost use Rattle.mon_config.specs.Shapes as spec;
 ghost use Rattle.serde_json.specs.Data.{Data};
 ghost use Rattle.serde_json.specs.View.{view};
 
 use crate::paths::{Shaped, path_through_index, path_through_key, wrong_form};
-use mon_value::{ListOf, Refusal, Text};
+use mon_value::{ListOf, Refusal};
 use serde_json::Value;
 use std::alloc::Global;
 use std::marker::PhantomData;

@@ -1,5 +1,4 @@
 // Targets and metrics, as a configuration spells them.
-ghost use Rattle.std.specs.Prelude.{◌≡◌};
 ghost use Rattle.mon_value.specs.Answers.{Gives};
 ghost use Rattle.mon_config.specs.Objects as spec;
 ghost use Rattle.serde_json.specs.View.{view};

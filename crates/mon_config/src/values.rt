@@ -1,9 +1,7 @@
 // The values that stand in the objects of a configuration.
-ghost use Rattle.std.specs.Prelude.{◌≡◌};
 ghost use Rattle.mon_value.specs.Answers.{Gives};
 ghost use Rattle.mon_config.specs.Objects as spec;
 ghost use Rattle.mon_config.specs.Shapes.{value_or_here};
-ghost use Rattle.serde_json.specs.View.{view};
 
 use crate::limits::GREATEST_LIMIT;
 use crate::paths::{Shaped, wrong_form};
@@ -19,7 +17,7 @@ pub(crate) struct TextReader;
 impl Reader for TextReader {
     type Item = Text;
 
-    ghost reads = { spec.text_in };
+    ghost reads = { spec.text_of_data };
 
     fn read(alloc: Global, value: &Value) -> Shaped<Text> {
         match value.as_str() {
@@ -67,7 +65,7 @@ pub(crate) struct BucketsReader;
 impl Reader for BucketsReader {
     type Item = u32;
 
-    ghost reads = { spec.number_in spec.is_bucket_count };
+    ghost reads = { spec.number_of_data spec.is_bucket_count };
 
     fn read(alloc: Global, value: &Value) -> Shaped<u32> {
         match value.as_u64() {
@@ -93,7 +91,7 @@ pub(crate) struct LimitReader;
 impl Reader for LimitReader {
     type Item = u64;
 
-    ghost reads = { spec.number_in spec.is_limit };
+    ghost reads = { spec.number_of_data spec.is_limit };
 
     fn read(alloc: Global, value: &Value) -> Shaped<u64> {
         match value.as_u64() {

@@ -9,7 +9,7 @@ use Rattle.mon_value.specs.declared.values.Value.{Value}
 use Rattle.mon_value.specs.declared.values.Value.TheVariants as value
 use Rattle.mql_ast.specs.NamedCells.{cell_named}
 use Rattle.mql_ast.specs.Sums.{bounds_named, percentile_in, put_together, sum_value}
-use Rattle.mql_ast.specs.SumWidths.{HasShares, IsTypedSum, sum_width}
+use Rattle.mql_ast.specs.SumWidths.{HasShares, IsTypedSum, sum_bits}
 use Rattle.mql_ast.specs.Trees as tree
 use Rattle.mql_ast.specs.Trees.{SumTree, sum_tree}
 use Rattle.mql_ast.specs.declared.expressions.Expr.{Expr}
@@ -77,14 +77,14 @@ value_again (tree.Percentile at name p) columns cells is = percentile_again p (b
 
 pub record Width (sum : SumTree) (columns : List Column) : Type 0 where
   pub w : ℕ
-  pub is : sum_width sum columns ≡ Some w
+  pub is : sum_bits sum columns ≡ Some w
   pub narrow : w ≤ 126
 
-width_in : (sum : SumTree) (columns : List Column) → IsSomeAnd (sum_width sum columns) (λ bits. bits ≤ 126) →
+width_in : (sum : SumTree) (columns : List Column) → IsSomeAnd (sum_bits sum columns) (λ bits. bits ≤ 126) →
     Width sum columns
-width_in sum columns typed = by (sum_width sum columns) refl typed
+width_in sum columns typed = by (sum_bits sum columns) refl typed
   where
-    by : (o : Option ℕ) → sum_width sum columns ≡ o → IsSomeAnd o (λ bits. bits ≤ 126) → Width sum columns
+    by : (o : Option ℕ) → sum_bits sum columns ≡ o → IsSomeAnd o (λ bits. bits ≤ 126) → Width sum columns
     by None e typed = absurd typed
     by (Some w) e typed = record { w = w; is = e; narrow = typed }
 

@@ -14,7 +14,7 @@ use Rattle.mon_value.specs.declared.values.ValueType.{ValueType}
 use Rattle.mon_value.specs.declared.values.ValueType.TheVariants as type
 use Rattle.mql_ast.specs.NamedCells.{column_named, place_of}
 use Rattle.mql_ast.specs.Sums.{bounds_named, is_without_values, meets_no_values, percentile_in, put_together, sum_value}
-use Rattle.mql_ast.specs.SumWidths.{CanCompute, IsTypedSum, number_width, percentile_width, sum_width}
+use Rattle.mql_ast.specs.SumWidths.{CanCompute, IsTypedSum, column_bits, percentile_width, sum_bits}
 use Rattle.mql_ast.specs.Trees as tree
 use Rattle.mql_ast.specs.Trees.{SumTree}
 use Rattle.mon_expr.proofs.ExprLemmas.{IsNumeric, Width, value_again, width_of}
@@ -32,7 +32,7 @@ two_there with o p = by (option_and_then number_in o) (option_and_then number_in
     by (Some y) None = refl
     by (Some y) (Some z) = refl
 
-number_there : (of : ValueType) (bits w : ℕ) (cell : Value) → number_width of bits ≡ Some w → HasType of cell →
+number_there : (of : ValueType) (bits w : ℕ) (cell : Value) → column_bits of bits ≡ Some w → HasType of cell →
     is_some (number_in cell) ≡ true
 number_there type.Int bits w (value.Int z) e typed = refl
 number_there type.Int bits w (value.Bool p) e typed = absurd typed
@@ -62,22 +62,22 @@ percentile_there (type.Dist own) bs bounds p (value.Text s) is typed = absurd ty
 percentile_there (type.Dist own) bs bounds p (value.Dist counts) is typed = divided_there p bounds counts
 
 number_some : (sum : SumTree) (columns : List Column) (cells : List Value) (w : ℕ) → CanCompute columns cells →
-    sum_width sum columns ≡ Some w →
+    sum_bits sum columns ≡ Some w →
     is_some (sum_number sum columns cells) ≡ not (meets_no_values sum columns cells)
 number_some (tree.Column name) columns cells w can e =
-    let f = found (column_named name.text columns) (λ column. number_width column.of column.cell_bits) w e in
+    let f = found (column_named name.text columns) (λ column. column_bits column.of column.cell_bits) w e in
     let s = stands columns cells (place_of name.text columns) f.item can f.is in
     ap (λ o. is_some (option_and_then number_in o)) s.is
     ∙ number_there f.item.of f.item.cell_bits w s.cell f.gives s.typed
 number_some (tree.Number at z) columns cells w can e = refl
 number_some (tree.Plus left right) columns cells w can e =
-    let t = together (sum_width left columns) (sum_width right columns) w e in
+    let t = together (sum_bits left columns) (sum_bits right columns) w e in
     two_there _ (sum_value left columns cells) (sum_value right columns cells)
     ∙ is_some-both (is_some (sum_number left columns cells)) (is_some (sum_number right columns cells))
     (meets_no_values left columns cells) (meets_no_values right columns cells)
     (number_some left columns cells t.u can t.left_is) (number_some right columns cells t.v can t.right_is)
 number_some (tree.Minus left right) columns cells w can e =
-    let t = together (sum_width left columns) (sum_width right columns) w e in
+    let t = together (sum_bits left columns) (sum_bits right columns) w e in
     two_there _ (sum_value left columns cells) (sum_value right columns cells)
     ∙ is_some-both (is_some (sum_number left columns cells)) (is_some (sum_number right columns cells))
     (meets_no_values left columns cells) (meets_no_values right columns cells)

@@ -18,8 +18,8 @@ use Rattle.mon_value.specs.declared.values.ValueType.{ValueType}
 use Rattle.mon_value.specs.declared.values.ValueType.TheVariants as type
 use Rattle.mql_ast.specs.NamedCells.{cell_named, column_named, place_of}
 use Rattle.mql_ast.specs.Sums.{bounds_named, bucket_bounds}
-use Rattle.mql_ast.specs.SumWidths.{CanCompute, FitWidths, HasBound, HasShares, number_width, percentile_width}
-use Rattle.mql_ast.specs.SumWidths.{sum_width, widest_percentile, width_together}
+use Rattle.mql_ast.specs.SumWidths.{CanCompute, FitWidths, HasBound, HasShares, column_bits, percentile_width}
+use Rattle.mql_ast.specs.SumWidths.{sum_bits, widest_percentile, bits_together}
 use Rattle.mql_ast.specs.Trees as tree
 use Rattle.mql_ast.specs.Trees.{SumTree}
 use Rattle.mon_expr.specs.BoundSums.{CanDivide, CanTake, terms_size}
@@ -76,7 +76,7 @@ pub record Together (left right : Option ℕ) (w : ℕ) : Type 0 where
   pub right_is : right ≡ Some v
   pub is : max u v + 1 ≡ w
 
-pub together : (left right : Option ℕ) (w : ℕ) → width_together left right ≡ Some w → Together left right w
+pub together : (left right : Option ℕ) (w : ℕ) → bits_together left right ≡ Some w → Together left right w
 together None right w e = absurd (none-some w e)
 together (Some u) None w e = absurd (none-some w e)
 together (Some u) (Some v) w e = record {
@@ -111,7 +111,7 @@ number_within o (value.Bool p) bound is within = rw is (omega arith)
 number_within o (value.Text s) bound is within = rw is (omega arith)
 number_within o (value.Dist counts) bound is within = rw is (omega arith)
 
-number_bits_are : (of : ValueType) (bits w : ℕ) → number_width of bits ≡ Some w → bits ≡ w
+number_bits_are : (of : ValueType) (bits w : ℕ) → column_bits of bits ≡ Some w → bits ≡ w
 number_bits_are type.Int bits w e = same_Some bits w e
 number_bits_are type.Bool bits w e = absurd (none-some w e)
 number_bits_are type.Text bits w e = absurd (none-some w e)
@@ -141,10 +141,10 @@ divided (type.Dist bounds) bits w e = by (nat_le bits widest_percentile) refl e
     by false narrow e = absurd (none-some w e)
 
 pub size_within : (minus : Bool) (sum : SumTree) (columns : List Column) (cells : List Value) (w : ℕ) →
-    CanCompute columns cells → sum_width sum columns ≡ Some w →
+    CanCompute columns cells → sum_bits sum columns ≡ Some w →
     terms_size (terms_of minus sum columns) cells ≤ 2 ^ w
 size_within minus (tree.Column name) columns cells w can e =
-    let f = found (column_named name.text columns) (λ column. number_width column.of column.cell_bits) w e in
+    let f = found (column_named name.text columns) (λ column. column_bits column.of column.cell_bits) w e in
     let s = stands columns cells (place_of name.text columns) f.item can f.is in
     let bits : f.item.cell_bits ≡ w = number_bits_are f.item.of f.item.cell_bits w f.gives in
     let within : option_map_or unsigned_abs (option_and_then number_in (cell_named name.text columns cells)) 0 ≤ 2 ^ w =
@@ -154,7 +154,7 @@ size_within minus (tree.Column name) columns cells w can e =
 size_within minus (tree.Number at z) columns cells w can e = let same : 63 ≡ w = same_Some 63 w e in
     subst (λ n. 2 ^ 63 + 0 ≤ 2 ^ n) same (omega arith)
 size_within minus (tree.Plus left right) columns cells w can e =
-    let t = together (sum_width left columns) (sum_width right columns) w e in
+    let t = together (sum_bits left columns) (sum_bits right columns) w e in
     let split : terms_size (terms_of minus left columns ++ terms_of minus right columns) cells
     ≡ terms_size (terms_of minus left columns) cells + terms_size (terms_of minus right columns) cells =
     size-append (terms_of minus left columns) (terms_of minus right columns) cells in
@@ -163,7 +163,7 @@ size_within minus (tree.Plus left right) columns cells w can e =
     (size_within minus left columns cells t.u can t.left_is)
     (size_within minus right columns cells t.v can t.right_is) t.is)
 size_within minus (tree.Minus left right) columns cells w can e =
-    let t = together (sum_width left columns) (sum_width right columns) w e in
+    let t = together (sum_bits left columns) (sum_bits right columns) w e in
     let split : terms_size (terms_of minus left columns ++ terms_of (not minus) right columns) cells
     ≡ terms_size (terms_of minus left columns) cells + terms_size (terms_of (not minus) right columns) cells =
     size-append (terms_of minus left columns) (terms_of (not minus) right columns) cells in
@@ -208,17 +208,17 @@ can_divide (type.Dist bs) bounds (value.Dist cs) counts bits p is typed bounded 
     }
 
 pub taken : (minus : Bool) (sum : SumTree) (columns : List Column) (cells : List Value) (w : ℕ) →
-    CanCompute columns cells → sum_width sum columns ≡ Some w → HasShares sum →
+    CanCompute columns cells → sum_bits sum columns ≡ Some w → HasShares sum →
     AllByRecursion (λ signed. CanTake signed.term cells) (terms_of minus sum columns)
 taken minus (tree.Column name) columns cells w can e shares = (tt, tt)
 taken minus (tree.Number at z) columns cells w can e shares = (tt, tt)
 taken minus (tree.Plus left right) columns cells w can e shares =
-    let t = together (sum_width left columns) (sum_width right columns) w e in
+    let t = together (sum_bits left columns) (sum_bits right columns) w e in
     taken-append cells (terms_of minus left columns) (terms_of minus right columns)
     (taken minus left columns cells t.u can t.left_is shares.0)
     (taken minus right columns cells t.v can t.right_is shares.1)
 taken minus (tree.Minus left right) columns cells w can e shares =
-    let t = together (sum_width left columns) (sum_width right columns) w e in
+    let t = together (sum_bits left columns) (sum_bits right columns) w e in
     taken-append cells (terms_of minus left columns) (terms_of (not minus) right columns)
     (taken minus left columns cells t.u can t.left_is shares.0) (taken
     (not minus) right columns cells t.v can t.right_is shares.1)

@@ -34,10 +34,10 @@ abbrev pub with_sign : Bool → ℤ → ℤ
 with_sign minus z = if minus then pos 0 -ℤ z else z
 
 -- two numbers added, where both are there
-abbrev pub added : Option ℤ → Option ℤ → Option ℤ
-added None other = None
-added (Some y) None = None
-added (Some y) (Some z) = Some (y +ℤ z)
+abbrev pub sum_of_both : Option ℤ → Option ℤ → Option ℤ
+sum_of_both None other = None
+sum_of_both (Some y) None = None
+sum_of_both (Some y) (Some z) = Some (y +ℤ z)
 
 abbrev pub signed_number : SignedTerm → List Value → Option ℤ
 signed_number signed cells = option_map (with_sign signed.minus) (term_number signed.term cells)
@@ -45,7 +45,7 @@ signed_number signed cells = option_map (with_sign signed.minus) (term_number si
 -- all terms added up
 abbrev pub terms_total : List SignedTerm → List Value → Option ℤ
 terms_total [] cells = Some (pos 0)
-terms_total (signed ∷ terms) cells = added (signed_number signed cells) (terms_total terms cells)
+terms_total (signed ∷ terms) cells = sum_of_both (signed_number signed cells) (terms_total terms cells)
 
 -- what a bound expression comes to in a row
 abbrev pub bound_value : BoundExpr → List Value → Option Value

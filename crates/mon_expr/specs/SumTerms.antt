@@ -11,17 +11,17 @@ use Rattle.mon_expr.specs.declared.bound_sums.SignedTerm.{SignedTerm}
 use Rattle.mon_expr.specs.declared.bound_sums.Term.{Term}
 use Rattle.mon_expr.specs.declared.bound_sums.Term.TheVariants as term
 
-abbrev pub signed : Bool → Term → SignedTerm
-signed minus term = record { minus = minus; term = term }
+abbrev pub signed_term : Bool → Term → SignedTerm
+signed_term minus term = record { minus = minus; term = term }
 
 -- the terms of a sum from the left, each with whether it is taken away
 abbrev pub terms_of : Bool → SumTree → List Column → List SignedTerm
-terms_of minus (tree.Column name) columns = signed minus (term.Column (place_of name.text columns)) ∷ []
-terms_of minus (tree.Number at z) columns = signed minus (term.Number z) ∷ []
+terms_of minus (tree.Column name) columns = signed_term minus (term.Column (place_of name.text columns)) ∷ []
+terms_of minus (tree.Number at z) columns = signed_term minus (term.Number z) ∷ []
 terms_of minus (tree.Plus left right) columns = terms_of minus left columns ++ terms_of minus right columns
 terms_of minus (tree.Minus left right) columns = terms_of minus left columns ++ terms_of (not minus) right columns
 terms_of minus (tree.Percentile at name p) columns =
-    signed minus (term.Percentile (place_of name.text columns) (bounds_named name.text columns) p) ∷ []
+    signed_term minus (term.Percentile (place_of name.text columns) (bounds_named name.text columns) p) ∷ []
 
 abbrev pub part_terms : Part → List Column → List SignedTerm
 part_terms part columns = terms_of part.minus (sum_tree part.sum.now) columns

@@ -1,5 +1,5 @@
 // Predicates whose columns were found once for all rows of a table.
-ghost use Rattle.std.specs.Prelude.{◌≡◌, ◌++◌, ◌∷◌, [], length, reverse, true, IsTrue, IfOk, OnErr};
+ghost use Rattle.std.specs.Prelude.{◌≡◌, ◌++◌, ◌∷◌, [], length, reverse, true, IsTrue, IfOk};
 ghost use Rattle.mql_ast.specs.Trees.{predicate_tree};
 ghost use Rattle.mon_expr.specs.BoundPredicates.{bound_truth, IsAdded, IsBoundPredicate};
 ghost use Rattle.mon_expr.specs.ConditionLists.{are_ordered, condition_truth, is_before, is_test_passed, next_of};

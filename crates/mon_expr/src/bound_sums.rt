@@ -1,5 +1,5 @@
 // Sums whose columns were found once for all rows of a table.
-ghost use Rattle.std.specs.Prelude.{◌≡◌, ◌<◌, ◌≤◌, ◌+◌, ◌^◌, ◌++◌, ◌∷◌, [], Bool, true, false, IfOk, IfSome, OnOk};
+ghost use Rattle.std.specs.Prelude.{◌≡◌, ◌<◌, ◌≤◌, ◌+◌, ◌^◌, ◌++◌, ◌∷◌, [], Bool, false, IfOk, IfSome, OnOk};
 ghost use Rattle.std.specs.Prelude.{unsigned_abs, option_and_then, slice_get};
 ghost use Rattle.mon_value.specs.Distributions as distribution;
 ghost use Rattle.mon_value.specs.Limits.{greatest_sum};

@@ -1,5 +1,5 @@
 // Conditions that lead to one another.
-ghost use Rattle.std.specs.Prelude.{◌≡◌, length, reverse, true, IsTrue};
+ghost use Rattle.std.specs.Prelude.{length, reverse, IsTrue};
 ghost use Rattle.mon_expr.specs.ConditionLists.{are_ordered, is_before};
 
 use mon_value::FieldValue;

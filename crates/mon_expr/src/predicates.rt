@@ -7,7 +7,7 @@ ghost use Rattle.mql_ast.specs.Truths.{is_compared, is_like, is_passed, predicat
 
 use crate::conditions::{is_compared, is_like};
 use crate::places::place_of;
-use mon_value::{Cells, Columns, FieldValue, Text, Value};
+use mon_value::{Cells, Columns, FieldValue, Value};
 use mql_ast::{Comparison, Name, Pattern, Predicate};
 
 /// Whether a predicate holds of the row with these cells in these columns. A condition on a column that isn't there

@@ -166,7 +166,8 @@ module _ (columns : List Column) (xs ys : List TimedRow)
   merge_typed place column (type.Dist bounds) is takes found fits =
       let front = all_front (λ (row : TimedRow). FitColumns columns row.cells) xs ys shaped in
       let back = all_back (λ (row : TimedRow). FitColumns columns row.cells) xs ys shaped in
-      let typed = λ (rows : List TimedRow) (fit : AllByRecursion (λ (row : TimedRow). FitColumns columns row.cells) rows).
+      let typed =
+      λ (rows : List TimedRow) (fit : AllByRecursion (λ (row : TimedRow). FitColumns columns row.cells) rows).
       subst (λ (t : ValueType). AllByRecursion (HasType t) (column_of place rows)) is
       (column_typed columns place column rows fit found) in
       let some = distributions_in (column_of place xs) in

@@ -1,7 +1,7 @@
 // Series brought to the times of a grid.
 ghost use Rattle.std.specs.Prelude.{◌≡◌, IfOk, OnOk, ◌++◌, option_map};
 ghost use Rattle.mon_value.specs.Alignments.{aligned_values, CanAlign, newest_point, timed_values};
-ghost use Rattle.mon_value.specs.Grids.{IsLawful, time_count};
+ghost use Rattle.mon_value.specs.Grids.{IsLawfulGrid, time_count};
 ghost use Rattle.mon_value.specs.declared.aligners.Aligner.TheVariants.{Delta, NextOlder};
 
 use crate::sliding::{Window, window_at};
@@ -70,7 +70,7 @@ fn added_values(
 
 // How many times a grid has.
 fn times_of(grid: &Grid) -> u64
-    requires { IsLawful grid.now }
+    requires { IsLawfulGrid grid.now }
     ensures { result ≡ time_count grid.now }
 {
     let every = grid.every.unsigned_abs();

@@ -10,17 +10,17 @@ use Rattle.mon_value.specs.declared.histories.Entry.{Entry}
 use Rattle.mon_value.specs.declared.positions.Leaf.{Leaf}
 use Rattle.mon_value.specs.declared.positions.Zone.{Zone}
 use Rattle.mon_value.specs.declared.rows.SeriesKey.{SeriesKey}
-use Rattle.mon_hints.specs.Covers.{AreBitsWithin, AreKept, Bits, Covers, joined_bits, with_bit}
+use Rattle.mon_hints.specs.Covers.{AreBitsWithin, StaysSet, Bits, Covers, joined_bits, with_bit}
 use Rattle.mon_hints.specs.HistoryBuckets.{history_buckets}
 use Rattle.mon_hints.specs.Listings.{is_among}
 
 -- ---- bits
 
-pub kept_bit : (bits : ℕ → ℕ → Bool) (place bucket : ℕ) → AreKept bits (with_bit bits place bucket)
+pub kept_bit : (bits : ℕ → ℕ → Bool) (place bucket : ℕ) → StaysSet bits (with_bit bits place bucket)
 kept_bit bits place bucket other n h = or_right (nat_eq other place && nat_eq n bucket) (bits other n) h
 
-pub bits_within : (some all : ℕ → ℕ → Bool) (place bucket : ℕ) → AreKept some all
-    → AreKept (with_bit some place bucket) (with_bit all place bucket)
+pub bits_within : (some all : ℕ → ℕ → Bool) (place bucket : ℕ) → StaysSet some all
+    → StaysSet (with_bit some place bucket) (with_bit all place bucket)
 bits_within some all place bucket k other n h =
     elim (or_cases (nat_eq other place && nat_eq n bucket) (some other n) h) [
       | inl new ↦ or_left (nat_eq other place && nat_eq n bucket) (all other n) new

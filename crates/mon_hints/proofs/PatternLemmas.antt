@@ -9,12 +9,14 @@ use Rattle.std.proofs.lemmas.List.Folds.{list_all-append}
 use Rattle.mon_value.proofs.SameLemmas.{same_text-Decides}
 use Rattle.mon_value.specs.Patterns.{IsMatch, last_piece, next_piece, holds_behind, is_match}
 use Rattle.mon_value.specs.Same.{same_text}
-use Rattle.mon_hints.specs.Excerpts.{are_among, back, begun, ended, front, pattern_excerpts, text_excerpts, windows}
+use Rattle.mon_hints.specs.Excerpts.{are_among, back, with_front_marks, with_back_marks, front, pattern_excerpts}
+use Rattle.mon_hints.specs.Excerpts.{text_excerpts, windows}
 use Rattle.mon_hints.proofs.WindowLemmas.{Pass, pass_back, pass_front, pass_tail}
 
 -- every excerpt passes, of pieces of which the first has these marks in front of it
 abbrev pub PiecesPass : (List ℕ → Bool) → List ℕ → List (List ℕ) → Type 0
-PiecesPass test marks pieces = list_all test (flat_map windows (ended (begun marks pieces) back)) ≡ true
+PiecesPass test marks pieces = list_all test (flat_map windows (with_back_marks (with_front_marks marks pieces) back))
+    ≡ true
 
 -- every excerpt passes, of a text with these marks in front of it
 abbrev pub TextPasses : (List ℕ → Bool) → List ℕ → List ℕ → Type 0
@@ -39,7 +41,7 @@ in_front : (test : List ℕ → Bool) (marks piece next : List ℕ) (pieces : Li
     TextPasses test marks (piece ++ rest) → PiecesPass test [] (next ∷ pieces) → PiecesPass test marks
     (piece ∷ next ∷ pieces)
 in_front test marks piece next pieces rest h later =
-    joined test (windows (marks ++ piece)) (flat_map windows (ended (next ∷ pieces) back))
+    joined test (windows (marks ++ piece)) (flat_map windows (with_back_marks (next ∷ pieces) back))
     (pass_front test (marks ++ piece) (rest ++ back) (subst (Pass test) (regrouped marks piece rest) h)) later
 
 behind : (test : List ℕ → Bool) (marks piece rest : List ℕ) → TextPasses test marks (piece ++ rest) → TextPasses test
@@ -77,10 +79,11 @@ some_behind : (test met : List ℕ → Bool) (Claim : Type 0) → ((text : List 
     text → Claim) →
     (text : List ℕ) → holds_behind met text ≡ true → TextPasses test [] text → Claim
 some_behind test met Claim follows [] e h = follows [] e h
-some_behind test met Claim follows (byte ∷ bytes) e h = elim (or_cases (met (byte ∷ bytes)) (holds_behind met bytes) e) [
-  | inl now ↦ follows (byte ∷ bytes) now h
-  | inr later ↦ some_behind test met Claim follows bytes later (pass_tail test byte (bytes ++ back) h)
-]
+some_behind test met Claim follows (byte ∷ bytes) e h =
+    elim (or_cases (met (byte ∷ bytes)) (holds_behind met bytes) e) [
+      | inl now ↦ follows (byte ∷ bytes) now h
+      | inr later ↦ some_behind test met Claim follows bytes later (pass_tail test byte (bytes ++ back) h)
+    ]
 
 pub test_passes : (test : List ℕ → Bool) (marks : List ℕ) (pieces : List (List ℕ)) (text : List ℕ) → is_match pieces
     text ≡ true →

@@ -19,13 +19,13 @@ abbrev pub Covers : Bits → Zone → Leaf → List ℕ → Type 0
 Covers bits zone leaf buckets = (bucket : ℕ) → is_among bucket buckets ≡ true → IsRaised bits zone leaf bucket
 
 -- whatever is set stays set
-abbrev pub AreKept : (ℕ → ℕ → Bool) → (ℕ → ℕ → Bool) → Type 0
-AreKept before after = (place bucket : ℕ) → before place bucket ≡ true → after place bucket ≡ true
+abbrev pub StaysSet : (ℕ → ℕ → Bool) → (ℕ → ℕ → Bool) → Type 0
+StaysSet before after = (place bucket : ℕ) → before place bucket ≡ true → after place bucket ≡ true
 
 -- some bits are among others
 pub record AreBitsWithin (some others : Bits) : Type 0 where
-  pub root : AreKept some.root others.root
-  pub zone : AreKept some.zone others.zone
+  pub root : StaysSet some.root others.root
+  pub zone : StaysSet some.zone others.zone
 
 -- the bits of both
 abbrev pub joined_bits : Bits → Bits → Bits

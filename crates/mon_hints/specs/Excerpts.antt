@@ -33,20 +33,20 @@ value_excerpts (field.Bool p) = truth_text p ∷ []
 value_excerpts (field.Text text) = text_excerpts text
 
 -- pieces with marks in front of the first
-abbrev pub begun : List ℕ → List (List ℕ) → List (List ℕ)
-begun marks [] = []
-begun marks (piece ∷ pieces) = (marks ++ piece) ∷ pieces
+abbrev pub with_front_marks : List ℕ → List (List ℕ) → List (List ℕ)
+with_front_marks marks [] = []
+with_front_marks marks (piece ∷ pieces) = (marks ++ piece) ∷ pieces
 
 -- pieces with marks behind the last
-abbrev pub ended : List (List ℕ) → List ℕ → List (List ℕ)
-ended [] marks = []
-ended (piece ∷ []) marks = (piece ++ marks) ∷ []
-ended (piece ∷ next ∷ pieces) marks = piece ∷ ended (next ∷ pieces) marks
+abbrev pub with_back_marks : List (List ℕ) → List ℕ → List (List ℕ)
+with_back_marks [] marks = []
+with_back_marks (piece ∷ []) marks = (piece ++ marks) ∷ []
+with_back_marks (piece ∷ next ∷ pieces) marks = piece ∷ with_back_marks (next ∷ pieces) marks
 
 -- the excerpts of a pattern: the windows of each of its pieces, of which the first has the marks of the front and the
 -- last those of the back
 abbrev pub pattern_excerpts : List (List ℕ) → List (List ℕ)
-pattern_excerpts pieces = flat_map windows (ended (begun front pieces) back)
+pattern_excerpts pieces = flat_map windows (with_back_marks (with_front_marks front pieces) back)
 
 -- whether all of some excerpts are among others
 abbrev pub are_among : List (List ℕ) → List (List ℕ) → Bool

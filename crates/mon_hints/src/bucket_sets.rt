@@ -3,7 +3,7 @@ ghost use Rattle.std.specs.Prelude.{◌≡◌, ℕ, ◌<◌, ◌≤◌, false, I
 ghost use Rattle.mon_hints.specs.BucketSets.{HasNone, IsNext, is_set, no_bucket, with_bucket};
 ghost use Rattle.mon_hints.specs.Words.{has_bit};
 
-use crate::fingerprints::MOST_BUCKETS;
+use mon_value::MOST_BUCKETS;
 
 // How many words have a bit for each bucket.
 const WORDS: usize = 64;

@@ -5,9 +5,6 @@ ghost use Rattle.mon_hints.specs.Labels.{with_label};
 
 use mon_value::ListOf;
 
-/// The most buckets that hints are counted by.
-pub const MOST_BUCKETS: u32 = 4_096;
-
 const START: u64 = 14_695_981_039_346_656_037;
 
 const FACTOR: u64 = 1_099_511_628_211;

@@ -9,9 +9,11 @@ ghost use Rattle.mon_hints.specs.Listings.{IsListing, is_among};
 
 use crate::bucket_sets::BucketSet;
 use crate::excerpts::{BACK_MARK, FRONT_MARK, truth_bytes};
-use crate::fingerprints::{Buckets, Fingerprint, MOST_BUCKETS};
+use crate::fingerprints::{Buckets, Fingerprint};
 use itoa::Buffer;
-use mon_value::{Field, FieldValue, MetricSchema, OutOfMemory, SeriesKey, TargetSchema};
+use mon_value::{
+    Field, FieldValue, MOST_BUCKETS, MetricSchema, OutOfMemory, SeriesKey, TargetSchema,
+};
 use std::alloc::Global;
 
 /// The buckets of a series, among so many: rising, each once.

@@ -12,7 +12,7 @@ mod masks;
 pub use excerpts::{
     BACK_MARK, Excerpt, Excerpts, FRONT_MARK, Pieces, excerpts_of, excerpts_of_value,
 };
-pub use fingerprints::{Buckets, MOST_BUCKETS, bucket_of};
+pub use fingerprints::{Buckets, bucket_of};
 pub use formulas::{Formula, buckets_of_all};
 pub use hints::{hints_of, next_bucket};
 pub use laws::{formulas_stay_true, patterns_are_in_texts};

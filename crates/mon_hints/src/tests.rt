@@ -1,11 +1,10 @@
 // The worked hints, and each call once; `cases` has tables.
 use crate::{
-    Buckets, Formula, Pieces, Words, bucket_of, excerpts_of, excerpts_of_value, hints_of, mask,
-    next_bucket,
+    Formula, Pieces, Words, bucket_of, excerpts_of, excerpts_of_value, hints_of, mask, next_bucket,
 };
 use mon_value::{
-    Field, FieldType, FieldValue, FieldValues, Fields, Kind, ListOf, MetricSchema, SeriesKey,
-    Target, TargetSchema, Text, ValueType,
+    Field, FieldType, FieldValue, FieldValues, Fields, Kind, MetricSchema, SeriesKey, Target,
+    TargetSchema, Text, ValueType,
 };
 use std::alloc::{AllocError, Global};
 use std::test::Fail;

@@ -6,7 +6,7 @@ use Rattle.std.specs.List.{AllByRecursion, filter, flat_map, sum_by}
 use Rattle.std.proofs.lemmas.List.Elements.{filter_agree}
 use Rattle.std.proofs.lemmas.List.Sums.{sum_by-cons}
 use Rattle.mon_value.specs.Alignments.{CanAlign, aligned_values}
-use Rattle.mon_value.specs.Grids.{IsLawful}
+use Rattle.mon_value.specs.Grids.{IsLawfulGrid}
 use Rattle.mon_value.specs.SeriesRows.{cells_of, row_of}
 use Rattle.mon_value.specs.declared.aligners.Aligner.{Aligner}
 use Rattle.mon_value.specs.declared.grids.Grid.{Grid}
@@ -19,11 +19,11 @@ use Rattle.mql_types.specs.Loads.{lets_in, meets, names_keys, series_cells}
 use Rattle.mql_types.specs.Meaning.{is_fetched}
 use Rattle.mql_types.specs.Nodes as node
 use Rattle.mql_types.specs.Nodes.{NodeTree}
-use Rattle.mon_meaning.specs.within.FetchViews.{FetchView, FetchesNothing, IsFetchOf, all_hold, is_met, keeps}
+use Rattle.mon_meaning.specs.within.FetchViews.{FetchView, FetchesNothing, IsFetchOf, all_hold, is_fetch_met, keeps}
 use Rattle.mon_meaning.specs.within.FetchViews.{met_rows, points_kept}
 use Rattle.mon_meaning.specs.within.MetSeries.{CanAlignMet, is_counted, met_count}
-use Rattle.mon_meaning.specs.within.Reach.{reached}
-use Rattle.mon_meaning.specs.within.KeyFilters.{KeysDecide, fetches}
+use Rattle.mon_meaning.specs.within.Reach.{points_within_reach}
+use Rattle.mon_meaning.specs.within.KeyFilters.{KeysDecide, fetches_series}
 use Rattle.mon_meaning.specs.within.SeriesMeaning.{SeriesGroup, align_load, flows, points_flowing, reach_count}
 use Rattle.mon_meaning.specs.within.SeriesMeaning.{series_rows}
 use Rattle.mon_meaning.proofs.FilterLemmas.{filter_none}
@@ -32,7 +32,8 @@ use Rattle.mon_meaning.proofs.SeriesOrders.{no_values}
 
 -- ---- what isn't met doesn't flow
 
-unfetched : (input : NodeTree) (key : SeriesKey) (value : Value) → fetches input key ≡ false → flows input key value
+unfetched : (input : NodeTree) (key : SeriesKey) (value : Value) → fetches_series input key ≡ false
+    → flows input key value
     ≡ false
 unfetched (node.Fetch info schema metric) key value e = e
 unfetched (node.Filter info by input) key value e =
@@ -77,18 +78,19 @@ decided_out (node.Top info most column input) key value decide e = refl
 decided_out (node.Join info left right) key value decide e = refl
 decided_out (node.Union info left right) key value decide e = refl
 
-unmet_by : (input : NodeTree) (key : SeriesKey) (value : Value) (b : Bool) → fetches input key ≡ b
-    → (fetches input key ≡ true → KeysDecide input key) → meets input key ≡ false → flows input key value ≡ false
+unmet_by : (input : NodeTree) (key : SeriesKey) (value : Value) (b : Bool) → fetches_series input key ≡ b
+    → (fetches_series input key ≡ true → KeysDecide input key) → meets input key ≡ false → flows input key value ≡ false
 unmet_by input key value true e decided unmet = decided_out input key value (decided e) unmet
 unmet_by input key value false e decided unmet = unfetched input key value e
 
 -- the points of a series that isn't met don't flow
-unmet : (input : NodeTree) (key : SeriesKey) → (fetches input key ≡ true → KeysDecide input key) → meets input key
+unmet : (input : NodeTree) (key : SeriesKey) → (fetches_series input key ≡ true → KeysDecide input key)
+    → meets input key
     ≡ false
     → (value : Value) → flows input key value ≡ false
-unmet input key decided e value = unmet_by input key value (fetches input key) refl decided e
+unmet input key decided e value = unmet_by input key value (fetches_series input key) refl decided e
 
-met_fetched : (input : NodeTree) (key : SeriesKey) → meets input key ≡ true → fetches input key ≡ true
+met_fetched : (input : NodeTree) (key : SeriesKey) → meets input key ≡ true → fetches_series input key ≡ true
 met_fetched (node.Fetch info schema metric) key e = e
 met_fetched (node.Filter info by input) key e =
     met_fetched input key (both (lets_in by info.columns key) (meets input key) e).1
@@ -102,7 +104,7 @@ met_fetched (node.Union info left right) key e = absurd cc
 -- ---- what is met
 
 module _ (grid : Grid) (by : Aligner) (input : NodeTree) (fetch : FetchView) (is : IsFetchOf input fetch)
-    (lawful : IsLawful grid) where
+    (lawful : IsLawfulGrid grid) where
   keeps_by : (fetched series at kept flow : Bool) → (fetched && series) ≡ true → at ≡ series
       → (fetched && (at && kept)) ≡ flow → kept ≡ flow
   keeps_by true true at kept flow e f g = ap (λ b. b && kept) (sym f) ∙ g
@@ -110,18 +112,20 @@ module _ (grid : Grid) (by : Aligner) (input : NodeTree) (fetch : FetchView) (is
   keeps_by false series at kept flow e f g = absurd cc
 
   -- the filters of points decide of the points of a series that is met
-  keeps_met : (key : SeriesKey) → (fetches input key ≡ true → KeysDecide input key) → meets input key ≡ true
+  keeps_met : (key : SeriesKey) → (fetches_series input key ≡ true → KeysDecide input key) → meets input key ≡ true
       → (value : Value) → keeps fetch key value ≡ flows input key value
   keeps_met key decided met value =
       keeps_by (is_fetched fetch.schema fetch.metric key) (all_hold fetch.of_series (series_cells key))
       (all_hold fetch.of_series (cells_of key value)) (keeps fetch key value) (flows input key value)
       (is.met key ∙ met) (is.decided key value (decided (met_fetched input key met))) (is.flowing key value)
 
-  points_met : (one : SeriesGroup) → (fetches input one.0 ≡ true → KeysDecide input one.0) → meets input one.0 ≡ true
+  points_met : (one : SeriesGroup) → (fetches_series input one.0 ≡ true → KeysDecide input one.0) → meets input one.0
+      ≡ true
       → points_kept fetch one ≡ points_flowing input one
   points_met one decided met = filter_agree _ _ (λ point. keeps_met one.0 decided met point.value) one.1
 
-  rows_met : (one : SeriesGroup) → (fetches input one.0 ≡ true → KeysDecide input one.0) → meets input one.0 ≡ true
+  rows_met : (one : SeriesGroup) → (fetches_series input one.0 ≡ true → KeysDecide input one.0) → meets input one.0
+      ≡ true
       → met_rows grid by fetch one ≡ series_rows grid by input one
   rows_met one decided met = ap (λ points. map (row_of one.0) (aligned_values by grid points))
       (points_met one decided met)
@@ -133,7 +137,8 @@ module _ (grid : Grid) (by : Aligner) (input : NodeTree) (fetch : FetchView) (is
   no_rows : (one : SeriesGroup) → points_flowing input one ≡ [] → series_rows grid by input one ≡ []
   no_rows one none = ap (map (row_of one.0)) (no_values by grid (points_flowing input one) none)
 
-  unmet_rows : (one : SeriesGroup) → (fetches input one.0 ≡ true → KeysDecide input one.0) → meets input one.0 ≡ false
+  unmet_rows : (one : SeriesGroup) → (fetches_series input one.0 ≡ true → KeysDecide input one.0) → meets input one.0
+      ≡ false
       → series_rows grid by input one ≡ []
   unmet_rows one decided e = no_rows one (none_flow one.0 one.1 (unmet input one.0 decided e))
 
@@ -141,27 +146,29 @@ module _ (grid : Grid) (by : Aligner) (input : NodeTree) (fetch : FetchView) (is
   empty_by_length [] e = refl
   empty_by_length (x ∷ xs) e = absurd (grind arith)
 
-  unreached_rows : (one : SeriesGroup) → (length (reached grid by one.1) == 0) ≡ true → series_rows grid by input one
+  unreached_rows : (one : SeriesGroup) → (length (points_within_reach grid by one.1) == 0) ≡ true
+      → series_rows grid by input one
       ≡ []
   unreached_rows one e =
       let test : Point → Bool = λ point. flows input one.0 point.value in
-      let none : reached grid by one.1 ≡ [] = empty_by_length (reached grid by one.1) e in
+      let none : points_within_reach grid by one.1 ≡ [] = empty_by_length (points_within_reach grid by one.1) e in
       ap (map (row_of one.0))
       (sym (aligned-in_reach grid by test one.1 lawful)
-      ∙ no_values by grid (filter test (reached grid by one.1)) (ap (filter test) none))
+      ∙ no_values by grid (filter test (points_within_reach grid by one.1)) (ap (filter test) none))
 
   counted_parts : (met empty : Bool) → (met && not empty) ≡ true → met ≡ true
   counted_parts true empty e = refl
   counted_parts false empty e = absurd cc
 
-  uncounted_rows : (one : SeriesGroup) (met empty : Bool) → (fetches input one.0 ≡ true → KeysDecide input one.0)
-      → meets input one.0 ≡ met → (length (reached grid by one.1) == 0) ≡ empty → (met && not empty) ≡ false
+  uncounted_rows : (one : SeriesGroup) (met empty : Bool) → (fetches_series input one.0 ≡ true → KeysDecide input one.0)
+      → meets input one.0 ≡ met → (length (points_within_reach grid by one.1) == 0) ≡ empty → (met && not empty) ≡ false
       → series_rows grid by input one ≡ []
   uncounted_rows one true true decided e f g = unreached_rows one f
   uncounted_rows one true false decided e f g = absurd cc
   uncounted_rows one false empty decided e f g = unmet_rows one decided e
 
-  rows_by : (one : SeriesGroup) (rest : List SeriesGroup) (b : Bool) → (fetches input one.0 ≡ true → KeysDecide input
+  rows_by : (one : SeriesGroup) (rest : List SeriesGroup) (b : Bool)
+      → (fetches_series input one.0 ≡ true → KeysDecide input
       one.0)
       → is_counted grid by fetch one ≡ b
       → flat_map (met_rows grid by fetch) (filter (is_counted grid by fetch) rest)
@@ -171,38 +178,42 @@ module _ (grid : Grid) (by : Aligner) (input : NodeTree) (fetch : FetchView) (is
       ≡ series_rows grid by input one ++ flat_map (series_rows grid by input) rest
   rows_by one rest true decided e ih =
       let met : meets input one.0 ≡ true =
-      sym (is.met one.0) ∙ counted_parts (is_met fetch one.0) (length (reached grid by one.1) == 0) e in
+      sym (is.met one.0) ∙ counted_parts (is_fetch_met fetch one.0) (length (points_within_reach grid by one.1) == 0)
+      e in
       let here = rows_met one decided met in
       λ i. here i ++ ih i
   rows_by one rest false decided e ih =
       let none : series_rows grid by input one ≡ [] =
-      uncounted_rows one (is_met fetch one.0) (length (reached grid by one.1) == 0) decided (sym (is.met one.0)) refl
+      uncounted_rows one (is_fetch_met fetch one.0) (length (points_within_reach grid by one.1) == 0) decided
+      (sym (is.met one.0)) refl
       e in
       ih ∙ ap (λ front. front ++ flat_map (series_rows grid by input) rest) (sym none)
 
   -- the rows of the series that are counted are all rows
   pub counted_rows : (series : List SeriesGroup)
-      → AllByRecursion (λ (one : SeriesGroup). fetches input one.0 ≡ true → KeysDecide input one.0) series
+      → AllByRecursion (λ (one : SeriesGroup). fetches_series input one.0 ≡ true → KeysDecide input one.0) series
       → flat_map (met_rows grid by fetch) (filter (is_counted grid by fetch) series)
       ≡ flat_map (series_rows grid by input) series
   counted_rows [] decided = refl
   counted_rows (one ∷ series) decided =
       rows_by one series (is_counted grid by fetch one) decided.0 refl (counted_rows series decided.1)
 
-  can_by : (one : SeriesGroup) (rest : List SeriesGroup) (b : Bool) → (fetches input one.0 ≡ true → KeysDecide input
+  can_by : (one : SeriesGroup) (rest : List SeriesGroup) (b : Bool)
+      → (fetches_series input one.0 ≡ true → KeysDecide input
       one.0)
       → is_counted grid by fetch one ≡ b → CanAlign by grid (points_flowing input one)
       → AllByRecursion (CanAlignMet grid by fetch) rest → AllByRecursion (CanAlignMet grid by fetch)
       (cond b (one ∷ rest) rest)
   can_by one rest true decided e can all =
       let met : meets input one.0 ≡ true =
-      sym (is.met one.0) ∙ counted_parts (is_met fetch one.0) (length (reached grid by one.1) == 0) e in
+      sym (is.met one.0) ∙ counted_parts (is_fetch_met fetch one.0) (length (points_within_reach grid by one.1) == 0)
+      e in
       (subst (λ points. CanAlign by grid points) (sym (points_met one decided met)) can, all)
   can_by one rest false decided e can all = all
 
   -- the series that are counted can be aligned
   pub counted_can : (series : List SeriesGroup)
-      → AllByRecursion (λ (one : SeriesGroup). fetches input one.0 ≡ true → KeysDecide input one.0) series
+      → AllByRecursion (λ (one : SeriesGroup). fetches_series input one.0 ≡ true → KeysDecide input one.0) series
       → AllByRecursion (λ (one : SeriesGroup). CanAlign by grid (points_flowing input one)) series
       → AllByRecursion (CanAlignMet grid by fetch) (filter (is_counted grid by fetch) series)
   counted_can [] decided can = tt
@@ -213,7 +224,8 @@ module _ (grid : Grid) (by : Aligner) (input : NodeTree) (fetch : FetchView) (is
   -- as many points are in reach of the series that are met
   pub counts_met : (series : List SeriesGroup)
       → sum_by (met_count grid by fetch) series ≡ sum_by (reach_count grid by input) series
-  counts_met series = λ i. sum_by (λ (one : SeriesGroup). cond (is.met one.0 i) (length (reached grid by one.1)) 0)
+  counts_met series =
+      λ i. sum_by (λ (one : SeriesGroup). cond (is.met one.0 i) (length (points_within_reach grid by one.1)) 0)
       series
 
 -- ---- where nothing is fetched
@@ -232,7 +244,7 @@ module _ (grid : Grid) (by : Aligner) (input : NodeTree) (nothing : FetchesNothi
   nothing_counted : (series : List SeriesGroup) → sum_by (reach_count grid by input) series ≡ 0
   nothing_counted [] = refl
   nothing_counted (one ∷ series) =
-      let here : reach_count grid by input one ≡ 0 = ap (λ b. cond b (length (reached grid by one.1)) 0)
+      let here : reach_count grid by input one ≡ 0 = ap (λ b. cond b (length (points_within_reach grid by one.1)) 0)
       (nothing.unmet one.0) in
       sum_by_more here (nothing_counted series)
     where

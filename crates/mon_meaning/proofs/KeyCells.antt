@@ -27,7 +27,7 @@ use Rattle.mql_types.specs.Loads.{is_key_name, names_keys, series_cells}
 use Rattle.mql_types.specs.Nodes as node
 use Rattle.mql_types.specs.Nodes.{NodeTree, columns_of}
 use Rattle.mql_types.specs.Plans.{HasFetchColumns}
-use Rattle.mon_meaning.specs.within.KeyFilters.{KeysDecide, fetches}
+use Rattle.mon_meaning.specs.within.KeyFilters.{KeysDecide, fetches_series}
 
 -- ---- cells in front of the value
 
@@ -135,7 +135,7 @@ same_columns own others by cells more e decide =
 
 -- the columns below a filter are those of the fetch
 columns_below : (held : SchemaLists) (key : SeriesKey) (input : NodeTree) → HasFetchColumns held input
-    → fetches input key ≡ true
+    → fetches_series input key ≡ true
     → columns_of input ≡ fetch_columns (target_named key.target.schema held.targets)
     (metric_named key.metric held.metrics)
 columns_below held key (node.Fetch info schema metric) has e =
@@ -181,7 +181,7 @@ keys_decide_in held key of by value =
     (truth_of_keys keys (value_column metric) (series_cells key) value refl long by)
 
 decide_below : (held : SchemaLists) (key : SeriesKey) → IsOf held key → (input : NodeTree) → HasFetchColumns held input
-    → fetches input key ≡ true → KeysDecide input key
+    → fetches_series input key ≡ true → KeysDecide input key
 decide_below held key of (node.Fetch info schema metric) has e = tt
 decide_below held key of (node.Filter info by input) has e = (
   (λ value. same_columns info.columns _ by (series_cells key) (cells_of key value)
@@ -198,6 +198,6 @@ decide_below held key of (node.Union info left right) has e = tt
 -- keys decide of the points of a series whose key fits
 pub keys_decide : (held : SchemaLists) (key : SeriesKey) → IsKeyOf held key → (input : NodeTree) → HasFetchColumns held
     input
-    → fetches input key ≡ true → KeysDecide input key
+    → fetches_series input key ≡ true → KeysDecide input key
 unfolding IsKeyOf
 keys_decide = decide_below

@@ -13,9 +13,9 @@ use Rattle.mon_value.specs.declared.grids.Grid.{Grid}
 use Rattle.mon_value.specs.declared.rows.Point.{Point}
 use Rattle.mon_value.specs.declared.rows.Row.{Row}
 use Rattle.mon_value.specs.declared.rows.SeriesKey.{SeriesKey}
-use Rattle.mon_meaning.specs.within.FetchViews.{FetchView, is_met}
+use Rattle.mon_meaning.specs.within.FetchViews.{FetchView, is_fetch_met}
 use Rattle.mon_meaning.specs.within.MetSeries.{is_counted, met_count}
-use Rattle.mon_meaning.specs.within.Reach.{reached}
+use Rattle.mon_meaning.specs.within.Reach.{points_within_reach}
 use Rattle.mon_meaning.specs.within.SeriesMeaning.{SeriesGroup}
 use Rattle.mon_meaning.proofs.FilterLemmas.{filter_twice}
 
@@ -117,7 +117,7 @@ module _ (grid : Grid) (by : Aligner) (fetch : FetchView) where
   of_metric : (group : SeriesGroup) → (counts group && is_of fetch.metric group) ≡ counts group
   of_metric group =
       of_metric_by (same_text fetch.schema group.0.target.schema) (same_text fetch.metric group.0.metric) _
-      (not (length (reached grid by group.1) == 0))
+      (not (length (points_within_reach grid by group.1) == 0))
 
   counted_of_metric : (groups : List SeriesGroup) → filter counts (filter (is_of fetch.metric) groups) ≡ filter counts
       groups
@@ -143,7 +143,7 @@ module _ (grid : Grid) (by : Aligner) (fetch : FetchView) where
       sum_if false e ih =
           let none : count_of group ≡ 0 =
           unmet_by (same_text fetch.schema group.0.target.schema) (same_text fetch.metric group.0.metric)
-          _ (length (reached grid by group.1)) e in
+          _ (length (points_within_reach grid by group.1)) e in
           omega (arith, ih, none, sum_by-cons count_of group groups)
 
   -- what was met so far with the series of the numbers that are left is all that is met; so with the points
@@ -202,7 +202,8 @@ module _ (grid : Grid) (by : Aligner) (fetch : FetchView) where
     pub one_passed : (more : List SeriesGroup) (more_load : ℕ) → count_of group ≡ 0 → more ≡ met → more_load ≡ load
         → MetSoFar groups rest start more start_load more_load
     one_passed more more_load none same counted =
-        let out : counts group ≡ false = counted_none (is_met fetch group.0) (length (reached grid by group.1)) none in
+        let out : counts group
+        ≡ false = counted_none (is_fetch_met fetch group.0) (length (points_within_reach grid by group.1)) none in
         let left = filter counts (numbered groups rest) in record {
           within = within_rest;
           met_is = ap (λ (gs : List SeriesGroup). gs ++ left) same
@@ -216,7 +217,8 @@ module _ (grid : Grid) (by : Aligner) (fetch : FetchView) where
         ≡ load + count_of group
         → MetSoFar groups rest start more start_load more_load
     one_met more more_load some added counted =
-        let in_reach : counts group ≡ true = counted_some (is_met fetch group.0) (length (reached grid by group.1))
+        let in_reach : counts group
+        ≡ true = counted_some (is_fetch_met fetch group.0) (length (points_within_reach grid by group.1))
         some in
         let left = filter counts (numbered groups rest) in record {
           within = within_rest;

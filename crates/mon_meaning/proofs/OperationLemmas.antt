@@ -6,7 +6,7 @@ use Rattle.mql_types.specs.Nodes.{NodeTree}
 use Rattle.mql_types.specs.Soundness.{IsWithinRows}
 use Rattle.mon_meaning.specs.Operations.{CanOperate, operation_rows}
 use Rattle.mon_meaning.specs.within.Paths.{first_input, other_load, other_rows}
-use Rattle.mon_meaning.specs.within.Readiness.{IsReady}
+use Rattle.mon_meaning.specs.within.Readiness.{IsNodeReady}
 use Rattle.mon_meaning.specs.within.SeriesMeaning.{SeriesGroup, load_by_series, rows_by_series}
 
 module _ (grid : Grid) (series : List SeriesGroup) where
@@ -22,7 +22,8 @@ module _ (grid : Grid) (series : List SeriesGroup) where
   rows_made (node.Join info left right) = refl
   rows_made (node.Union info left right) = refl
 
-  pub can_operate : (tree : NodeTree) → IsReady grid tree series → IsWithinRows (load_by_series grid (first_input tree)
+  pub can_operate : (tree : NodeTree) → IsNodeReady grid tree series
+      → IsWithinRows (load_by_series grid (first_input tree)
       series)
       → IsWithinRows (other_load grid tree series)
       → CanOperate tree (rows_by_series grid (first_input tree) series) (other_rows grid tree series)

@@ -9,16 +9,16 @@ use Rattle.mql_types.specs.Loads.{load_of}
 use Rattle.mql_types.specs.Meaning.{rows_meant}
 use Rattle.mql_types.specs.Nodes.{NodeTree}
 use Rattle.mon_meaning.specs.Central.{IsPartAsked}
-use Rattle.mon_meaning.specs.within.Readiness.{IsReady}
+use Rattle.mon_meaning.specs.within.Readiness.{IsNodeReady}
 use Rattle.mon_meaning.specs.within.SeriesMeaning.{SeriesGroup, load_by_series, rows_by_series}
 use Rattle.mon_meaning.proofs.ReadyLemmas.{ready}
 use Rattle.mon_meaning.proofs.SeriesOrders.{loads, rows-permutation}
 
 module _ (grid : Grid) (part : NodeTree) (series : List SeriesGroup) where
   -- a part that is asked can be evaluated
-  pub part_ready : IsPartAsked grid part series → IsReady grid part series
+  pub part_ready : IsPartAsked grid part series → IsNodeReady grid part series
   part_ready asked =
-      subst (IsReady grid part) (sym asked.kept)
+      subst (IsNodeReady grid part) (sym asked.kept)
       (ready asked.held grid asked.source asked.fit asked.lawful part asked.evaluable asked.fetched)
 
   module _ (source : List Row) (kept : series ≡ points_by_series source) where

@@ -1,9 +1,9 @@
 -- Parts to come: one that is put at the end comes first.
-use Rattle.std.proofs.Common.{◌≡◌, ◌∙◌, ℕ, ◌+◌, Bool, true, false, List, [], ◌∷◌, ◌++◌, ap, sym, refl, append_assoc}
+use Rattle.std.proofs.Common.{◌≡◌, ◌∙◌, ◌+◌, Bool, true, false, List, [], ◌∷◌, ◌++◌, ap, sym, refl, append_assoc}
 use Rattle.std.proofs.Common.{append-nil, arith}
 use Rattle.std.proofs.lemmas.List.{map-append}
 use Rattle.mql_types.specs.Nodes as node
-use Rattle.mql_types.specs.Nodes.{NodeTree, level_of, node_tree}
+use Rattle.mql_types.specs.Nodes.{NodeTree, level_of}
 use Rattle.mql_types.specs.Pieces as spec
 use Rattle.mql_types.specs.Pieces.{part_or, top_parts}
 use Rattle.mql_types.specs.declared.levels.Level.{Level}

@@ -5,7 +5,7 @@ use Rattle.mql_types.specs.Nodes as node
 use Rattle.mql_types.specs.Nodes.{NodeTree}
 use Rattle.mql_types.specs.ExplanationParts.{nodes}
 use Rattle.mon_meaning.specs.within.Paths.{Leads, first_input, own_load}
-use Rattle.mon_meaning.specs.within.Readiness.{IsReady}
+use Rattle.mon_meaning.specs.within.Readiness.{IsNodeReady}
 use Rattle.mon_meaning.specs.within.SeriesMeaning.{SeriesGroup, load_by_series}
 
 -- a node more
@@ -21,8 +21,8 @@ Leads-pop [] last top end leads = (leads.0, leads.1)
 Leads-pop (node ∷ above) last top end leads =
     let rest = Leads-pop above last (first_input node) end leads.1 in ((leads.0, rest.0), rest.1)
 
-first_ready : (grid : Grid) (series : List SeriesGroup) (tree : NodeTree) → IsReady grid tree series
-    → IsReady grid (first_input tree) series
+first_ready : (grid : Grid) (series : List SeriesGroup) (tree : NodeTree) → IsNodeReady grid tree series
+    → IsNodeReady grid (first_input tree) series
 first_ready grid series (node.Fetch info schema metric) ready = ready
 first_ready grid series (node.Filter info by input) ready = ready
 first_ready grid series (node.Align info by input) ready = ready
@@ -35,11 +35,11 @@ first_ready grid series (node.Union info left right) ready = ready.0
 -- what a tree can be evaluated to, each node on the way down can
 pub ready_below : (grid : Grid) (series : List SeriesGroup) (above : List NodeTree) (top end : NodeTree)
     → Leads above top end
-    → IsReady grid top series → IsReady grid end series
-ready_below grid series [] top end e ready = subst (λ tree. IsReady grid tree series) e ready
+    → IsNodeReady grid top series → IsNodeReady grid end series
+ready_below grid series [] top end e ready = subst (λ tree. IsNodeReady grid tree series) e ready
 ready_below grid series (node ∷ above) top end leads ready =
     ready_below grid series above (first_input node) end leads.1
-    (first_ready grid series node (subst (λ tree. IsReady grid tree series) leads.0 ready))
+    (first_ready grid series node (subst (λ tree. IsNodeReady grid tree series) leads.0 ready))
 
 first_smaller : (tree : NodeTree) → nodes (first_input tree) ≤ nodes tree
 first_smaller (node.Fetch info schema metric) = omega arith

@@ -6,16 +6,17 @@ use Rattle.std.specs.List.{AllByRecursion, filter, flat_map}
 use Rattle.std.proofs.lemmas.Int.{ints}
 use Rattle.std.proofs.lemmas.List.Elements.{filter_agree}
 use Rattle.mon_fold.proofs.AlignmentLemmas.{alike_filtered}
-use Rattle.mon_value.specs.Alignments.{AreAlike, CanAlign, SumFits, aligned_values, seconds_of, timed_values, value_at}
+use Rattle.mon_value.specs.Alignments.{CanAddUnder, CanAlign, SumFits, aligned_values, seconds_of, timed_values}
+use Rattle.mon_value.specs.Alignments.{value_at}
 use Rattle.mon_value.specs.Alignments.{value_made}
-use Rattle.mon_value.specs.Grids.{IsLawful, grid_times, least_time, time_count, times_back}
+use Rattle.mon_value.specs.Grids.{IsLawfulGrid, grid_times, least_time, time_count, times_back}
 use Rattle.mon_value.specs.Windows.{ends_within, window_of}
 use Rattle.mon_value.specs.declared.aligners.Aligner.{Aligner}
 use Rattle.mon_value.specs.declared.aligners.Aligner.TheVariants as aligner
 use Rattle.mon_value.specs.declared.grids.Grid.{Grid}
 use Rattle.mon_value.specs.declared.rows.Point.{Point}
 use Rattle.mql_types.specs.Loads.{is_in_reach}
-use Rattle.mon_meaning.specs.within.Reach.{reached}
+use Rattle.mon_meaning.specs.within.Reach.{points_within_reach}
 use Rattle.mon_meaning.proofs.FilterLemmas.{filter_swap, filter_twice}
 
 -- a time between the least of a grid and its moment
@@ -42,7 +43,7 @@ within_back (suc n) time every least moment p step low high =
     within_from n time every least moment p step (subst (λ k. least ≤ℤ (time -ℤ pos (k * p))) one low) high
 
 -- each time of a grid is
-pub times_within : (grid : Grid) → IsLawful grid → AllByRecursion (IsWithin grid) (grid_times grid)
+pub times_within : (grid : Grid) → IsLawfulGrid grid → AllByRecursion (IsWithin grid) (grid_times grid)
 times_within grid lawful =
     let every = lawful.every in
     within_back (time_count grid) grid.moment grid.every (least_time grid) grid.moment (unsigned_abs grid.every)
@@ -63,7 +64,8 @@ module _ (grid : Grid) (by : Aligner) (time : ℤ) (within : IsWithin grid time)
       (λ e. grind (arith, ints)) (λ e. grind (arith, ints))
 
   pub window_in_reach : (test : Point → Bool) (points : List Point)
-      → window_of time (seconds_of by) (filter test (reached grid by points)) ≡ window_of time (seconds_of by)
+      → window_of time (seconds_of by) (filter test (points_within_reach grid by points))
+      ≡ window_of time (seconds_of by)
       (filter test points)
   window_in_reach test points =
       ap (window_of time (seconds_of by)) (filter_swap test (is_in_reach grid by) points)
@@ -74,44 +76,46 @@ module _ (grid : Grid) (by : Aligner) (time : ℤ) (within : IsWithin grid time)
 
 values_in_reach : (grid : Grid) (by : Aligner) (test : Point → Bool) (points : List Point) (times : List ℤ)
     → AllByRecursion (IsWithin grid) times
-    → flat_map (λ time. timed_values time (value_at by (filter test (reached grid by points)) time)) times
+    → flat_map (λ time. timed_values time (value_at by (filter test (points_within_reach grid by points)) time)) times
     ≡ flat_map (λ time. timed_values time (value_at by (filter test points) time)) times
 values_in_reach grid by test points [] all = refl
 values_in_reach grid by test points (time ∷ times) all =
-    let here : value_at by (filter test (reached grid by points)) time ≡ value_at by (filter test points) time =
+    let here : value_at by (filter test (points_within_reach grid by points)) time
+    ≡ value_at by (filter test points) time =
     ap (value_made by) (window_in_reach grid by time all.0 test points) in
     let rest = values_in_reach grid by test points times all.1 in
     λ i. timed_values time (here i) ++ rest i
 
-pub aligned-in_reach : (grid : Grid) (by : Aligner) (test : Point → Bool) (points : List Point) → IsLawful grid
-    → aligned_values by grid (filter test (reached grid by points)) ≡ aligned_values by grid (filter test points)
+pub aligned-in_reach : (grid : Grid) (by : Aligner) (test : Point → Bool) (points : List Point) → IsLawfulGrid grid
+    → aligned_values by grid (filter test (points_within_reach grid by points))
+    ≡ aligned_values by grid (filter test points)
 aligned-in_reach grid by test points lawful = values_in_reach grid by test points (grid_times grid)
     (times_within grid lawful)
 
 -- ---- which series can be aligned
 
 alike_in_reach : (grid : Grid) (by : Aligner) (test : Point → Bool) (points : List Point)
-    → AreAlike by (filter test points) → AreAlike by (filter test (reached grid by points))
+    → CanAddUnder by (filter test points) → CanAddUnder by (filter test (points_within_reach grid by points))
 alike_in_reach grid (aligner.NextOlder seconds) test points alike = tt
 alike_in_reach grid (aligner.Delta seconds) test points alike =
     rw (filter_swap test (is_in_reach grid (aligner.Delta seconds)) points)
     (alike_filtered (is_in_reach grid (aligner.Delta seconds)) (filter test points) alike)
 
 sum_in_reach : (grid : Grid) (by : Aligner) (test : Point → Bool) (points : List Point) (time : ℤ) → IsWithin grid time
-    → SumFits by (filter test points) time → SumFits by (filter test (reached grid by points)) time
+    → SumFits by (filter test points) time → SumFits by (filter test (points_within_reach grid by points)) time
 sum_in_reach grid (aligner.NextOlder seconds) test points time within fits = tt
 sum_in_reach grid (aligner.Delta seconds) test points time within fits =
     rw (window_in_reach grid (aligner.Delta seconds) time within test points) fits
 
 sums_in_reach : (grid : Grid) (by : Aligner) (test : Point → Bool) (points : List Point) (times : List ℤ)
     → AllByRecursion (IsWithin grid) times → AllByRecursion (SumFits by (filter test points)) times
-    → AllByRecursion (SumFits by (filter test (reached grid by points))) times
+    → AllByRecursion (SumFits by (filter test (points_within_reach grid by points))) times
 sums_in_reach grid by test points [] within all = tt
 sums_in_reach grid by test points (time ∷ times) within all =
     (sum_in_reach grid by test points time within.0 all.0, sums_in_reach grid by test points times within.1 all.1)
 
 pub CanAlign-in_reach : (grid : Grid) (by : Aligner) (test : Point → Bool) (points : List Point)
-    → CanAlign by grid (filter test points) → CanAlign by grid (filter test (reached grid by points))
+    → CanAlign by grid (filter test points) → CanAlign by grid (filter test (points_within_reach grid by points))
 CanAlign-in_reach grid by test points can = record {
   looks_back = can.looks_back;
   lawful = can.lawful;

@@ -4,8 +4,8 @@ use Rattle.std.proofs.Common.{subst, ◌∙◌, arith}
 use Rattle.std.specs.List.{AllByRecursion, filter}
 use Rattle.mon_value.proofs.KeyedLemmas as keyed
 use Rattle.mon_value.proofs.SameLemmas.{same_series-Decides}
-use Rattle.mon_value.specs.Alignments.{AreAlike, CanAlign, SumFits, seconds_of}
-use Rattle.mon_value.specs.Grids.{IsDuration, IsLawful, grid_times}
+use Rattle.mon_value.specs.Alignments.{CanAddUnder, CanAlign, SumFits, seconds_of}
+use Rattle.mon_value.specs.Grids.{IsDuration, IsLawfulGrid, grid_times}
 use Rattle.mon_value.specs.Same.{same_series}
 use Rattle.mon_value.specs.Sources.{key_of_row, points_by_series, points_of, series_of}
 use Rattle.mon_value.specs.declared.aligners.Aligner.{Aligner}
@@ -24,8 +24,8 @@ use Rattle.mql_types.specs.Nodes.{NodeTree, columns_of}
 use Rattle.mql_types.specs.Plans.{HasFetchColumns}
 use Rattle.mql_types.specs.Plans as plan
 use Rattle.mql_types.specs.Soundness.{IsEvaluable, IsWithinRows}
-use Rattle.mon_meaning.specs.within.KeyFilters.{KeysDecide, fetches}
-use Rattle.mon_meaning.specs.within.Readiness.{IsReady}
+use Rattle.mon_meaning.specs.within.KeyFilters.{KeysDecide, fetches_series}
+use Rattle.mon_meaning.specs.within.Readiness.{IsNodeReady}
 use Rattle.mon_meaning.specs.within.SeriesMeaning.{SeriesGroup, points_flowing, rows_by_series}
 use Rattle.mon_meaning.proofs.FilterLemmas.{all-permutation}
 use Rattle.mon_meaning.proofs.KeyCells.{IsKeyOf, key_fits, keys_decide}
@@ -68,12 +68,13 @@ fits_none by [] = tt
 fits_none (aligner.Delta seconds) (time ∷ times) = (omega arith, fits_none (aligner.Delta seconds) times)
 fits_none (aligner.NextOlder seconds) (time ∷ times) = (tt, fits_none (aligner.NextOlder seconds) times)
 
-alike_none : (by : Aligner) → AreAlike by []
+alike_none : (by : Aligner) → CanAddUnder by []
 alike_none (aligner.Delta seconds) = tt
 alike_none (aligner.NextOlder seconds) = tt
 
 -- a series without points can be aligned
-align_none : (by : Aligner) (grid : Grid) (points : List Point) → IsDuration (seconds_of by) → IsLawful grid → points
+align_none : (by : Aligner) (grid : Grid) (points : List Point) → IsDuration (seconds_of by) → IsLawfulGrid grid
+    → points
     ≡ []
     → CanAlign by grid points
 align_none by grid points looks lawful none =
@@ -103,7 +104,7 @@ module _ (P : List Point → Type 0) (of : SeriesKey → List Point) where
       at_by key first keys (same_series key first) refl there all (λ left. at_key key keys left all.1)
 
 module _ (grid : Grid) (by : Aligner) (input : NodeTree) (rows : List Row) (looks : IsDuration (seconds_of by))
-    (lawful : IsLawful grid)
+    (lawful : IsLawfulGrid grid)
     (all : AllByRecursion (λ (series : SeriesKey × List Point). CanAlign by grid series.1)
     (points_by_series (points_meant input rows))) where
   abbrev passing : List Row
@@ -152,23 +153,23 @@ all-front P (x ∷ xs) ys all = let rest = all-front P xs ys all.1 in ((all.0, r
 
 module _ (held : SchemaLists) (grid : Grid) (rows : List Row) (fit : AllByRecursion (λ (row : Row). fits held row
     ≡ true) rows)
-    (lawful : IsLawful grid) where
+    (lawful : IsLawfulGrid grid) where
   row_keys : (rs : List Row) → AllByRecursion (λ (row : Row). fits held row ≡ true) rs
       → AllByRecursion (λ (row : Row). IsKeyOf held row.key) rs
   row_keys [] all = tt
   row_keys (row ∷ rs) all = (key_fits held row all.0, row_keys rs all.1)
 
   decided : (input : NodeTree) → HasFetchColumns held input
-      → AllByRecursion (λ (one : SeriesGroup). fetches input one.0 ≡ true → KeysDecide input one.0)
+      → AllByRecursion (λ (one : SeriesGroup). fetches_series input one.0 ≡ true → KeysDecide input one.0)
       (points_by_series rows)
   decided input has =
-      series_of_all (λ (one : SeriesGroup). fetches input one.0 ≡ true → KeysDecide input one.0) (IsKeyOf held)
+      series_of_all (λ (one : SeriesGroup). fetches_series input one.0 ≡ true → KeysDecide input one.0) (IsKeyOf held)
       (λ key. points_of key rows) (series_of rows) (λ key of. keys_decide held key of input has)
       (all_keys (IsKeyOf held) rows (row_keys rows fit))
 
   -- a tree that can be evaluated over the rows can be over their series
   pub ready : (tree : NodeTree) → IsEvaluable grid tree rows → AllByRecursion (HasFetchColumns held) (plan.fetches tree)
-      → IsReady grid tree (points_by_series rows)
+      → IsNodeReady grid tree (points_by_series rows)
   ready (node.Fetch info schema metric) can has = tt
   ready (node.Filter info by input) can has = ready input can has
   ready (node.Align info by input) can has = record {

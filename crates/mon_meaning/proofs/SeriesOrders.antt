@@ -27,7 +27,7 @@ use Rattle.mql_types.specs.Meaning.{aligned_rows, is_point_kept, points_meant, r
 use Rattle.mql_types.specs.Nodes as node
 use Rattle.mql_types.specs.Nodes.{NodeTree, columns_of}
 use Rattle.mql_types.specs.Loads.{is_in_reach}
-use Rattle.mon_meaning.specs.within.Reach.{reached}
+use Rattle.mon_meaning.specs.within.Reach.{points_within_reach}
 use Rattle.mon_meaning.specs.within.SeriesMeaning.{SeriesGroup, align_load, flows, load_by_series, points_flowing}
 use Rattle.mon_meaning.specs.within.SeriesMeaning.{reach_count, rows_by_series, series_rows}
 use Rattle.mon_meaning.proofs.FilterLemmas.{filter_map-permutation, filter_none, filter_swap, filter_twice}
@@ -179,14 +179,15 @@ module _ (grid : Grid) (by : Aligner) (input : NodeTree) where
   with_row : (key : SeriesKey) (row : Row) (rows : List Row) (b : Bool) → same_series key row.key ≡ b
       → sum_by counts (rows_of key rows) ≡ reach_count grid by input (key, points_of key rows)
       → sum_by counts (cond b (row ∷ rows_of key rows) (rows_of key rows))
-      ≡ cond (meets input key) (length (reached grid by (map (λ (r : Row). r.point)
+      ≡ cond (meets input key) (length (points_within_reach grid by (map (λ (r : Row). r.point)
       (cond b (row ∷ rows_of key rows) (rows_of key rows))))) 0
   with_row key row rows true e rest =
       let alike : key ≡ row.key = (same_series-Decides key row.key).0 e in
       let met : meets input row.key ≡ meets input key = ap (meets input) (sym alike) in
       sum_by-cons counts row (rows_of key rows)
       ∙ ap (λ c. cond (is_reached grid by row && c) 1 0 + sum_by counts (rows_of key rows)) met
-      ∙ one_more (is_in_reach grid by row.point) (meets input key) row.point (reached grid by (points_of key rows))
+      ∙ one_more (is_in_reach grid by row.point) (meets input key) row.point
+      (points_within_reach grid by (points_of key rows))
       (sum_by counts (rows_of key rows)) rest
   with_row key row rows false e rest = rest
 

@@ -9,7 +9,7 @@ use Rattle.mon_meaning.specs.declared.meter.OverLimit.{OverLimit}
 use Rattle.mon_meaning.specs.Counts.{TellsOver}
 use Rattle.mql_types.specs.ExplanationParts.{nodes}
 use Rattle.mon_meaning.specs.within.Paths.{Leads, first_input, own_load}
-use Rattle.mon_meaning.specs.within.Readiness.{IsReady}
+use Rattle.mon_meaning.specs.within.Readiness.{IsNodeReady}
 use Rattle.mon_meaning.specs.within.SeriesMeaning.{SeriesGroup, load_by_series, rows_by_series}
 use Rattle.mon_meaning.proofs.PathLemmas.{Leads-pop, own_loads, ready_below, smaller_below}
 
@@ -39,7 +39,7 @@ module _ (grid : Grid) (series : List SeriesGroup) (top : NodeTree) where
 
   -- the next operation, and the rows that flow into it
   pub record Step (above : List NodeTree) (node : NodeTree) (rows : List TimedRow) (start load : ℕ) : Type 0 where
-    pub ready : IsReady grid node series
+    pub ready : IsNodeReady grid node series
     pub flowing : rows ≡ rows_by_series grid (first_input node) series
     pub counted : load ≡ start + load_by_series grid (first_input node) series
     pub within : load_by_series grid (first_input node) series ≤ load
@@ -47,7 +47,7 @@ module _ (grid : Grid) (series : List SeriesGroup) (top : NodeTree) where
     pub smaller : nodes node ≤ nodes top
 
   pub next_step : (above : List NodeTree) (node : NodeTree) (rows : List TimedRow) (start load : ℕ)
-      → Walk (above ++ node ∷ []) rows start load → IsReady grid top series → Step above node rows start load
+      → Walk (above ++ node ∷ []) rows start load → IsNodeReady grid top series → Step above node rows start load
   next_step above node rows start load walk ready =
       let parts = Leads-pop above node top walk.end walk.leads in
       record {

@@ -9,7 +9,7 @@ use Rattle.std.proofs.lemmas.Bool.{cond_both}
 use Rattle.std.proofs.lemmas.Int.{ints}
 use Rattle.mon_series.specs.Splits.{points_until}
 use Rattle.mon_value.specs.Sources.{last_end}
-use Rattle.mon_value.specs.Grids.{IsLawful, least_time}
+use Rattle.mon_value.specs.Grids.{IsLawfulGrid, least_time}
 use Rattle.mon_value.specs.declared.limits.TheConstants.{LONGEST_DURATION}
 use Rattle.mon_value.specs.Windows.{EndsRise}
 use Rattle.mon_value.specs.declared.grids.Grid.{Grid}
@@ -195,7 +195,7 @@ steps_within : (w p : ℕ) → 1 ≤ p → ((w + (p - 1)) / p - 1) * p ≤ w
 steps_within w p some = steps_by ((w + (p - 1)) / p) w p (omega arith) some
 
 -- the least time of a grid is no earlier than a longest duration before the epoch, and no later than its moment
-pub least_bounds : (grid : Grid) → IsLawful grid → (neg_ℤ LONGEST_DURATION ≤ℤ least_time grid)
+pub least_bounds : (grid : Grid) → IsLawfulGrid grid → (neg_ℤ LONGEST_DURATION ≤ℤ least_time grid)
     × (least_time grid ≤ℤ grid.moment)
 least_bounds grid lawful =
     let every = lawful.every in

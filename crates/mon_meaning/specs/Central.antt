@@ -3,7 +3,7 @@ use Rattle.std.specs.Prelude.{◌≡◌, ◌<◌, ◌≤◌, ℕ, ℤ, true, Lis
 use Rattle.std.specs.Borrow.{Bor}
 use Rattle.std.specs.List.{AllByRecursion, flat_map}
 use Rattle.std.specs.List.Sorted.{IsPermutation}
-use Rattle.mon_value.specs.Grids.{IsLawful}
+use Rattle.mon_value.specs.Grids.{IsLawfulGrid}
 use Rattle.mon_value.specs.Sources.{points_by_series}
 use Rattle.mon_value.specs.declared.grids.Grid.{Grid}
 use Rattle.mon_value.specs.declared.refusals.Refusal.{Refusal}
@@ -59,6 +59,6 @@ pub record IsPartAsked (grid : Grid) (part : NodeTree) (series : List (SeriesKey
   pub kept : series ≡ points_by_series source
   pub held : SchemaLists
   pub fit : AllByRecursion (λ row. fits held row ≡ true) source
-  pub lawful : IsLawful grid
+  pub lawful : IsLawfulGrid grid
   pub evaluable : IsEvaluable grid part source
   pub fetched : AllByRecursion (HasFetchColumns held) (fetches part)

@@ -5,11 +5,11 @@ use Rattle.mon_value.specs.declared.refusals.Refusal.TheVariants as refusal
 use Rattle.mon_meaning.specs.declared.meter.OverLimit.{OverLimit}
 
 -- a number above the limit, and at most what there is to count
-pub record IsBetween (limit most : ℕ) (over : OverLimit) : Type 0 where
+pub record IsAboveLimit (limit most : ℕ) (over : OverLimit) : Type 0 where
   pub above : limit < over.load
   pub within : over.load ≤ most
 
 -- a refusal tells such a number, want of memory aside
 abbrev pub TellsOver : ℕ → ℕ → Refusal OverLimit → Type 0
-TellsOver limit most (refusal.Fault over) = IsBetween limit most over
+TellsOver limit most (refusal.Fault over) = IsAboveLimit limit most over
 TellsOver limit most refusal.OutOfMemory = Unit {0}

@@ -8,7 +8,7 @@ use Rattle.mql_types.specs.Levels.{is_leaf}
 use Rattle.mql_types.specs.Loads.{load_of}
 use Rattle.mql_types.specs.Meaning.{grid_of}
 use Rattle.mql_types.specs.Nodes.{TypedTree}
-use Rattle.mql_types.specs.Pieces.{TopPart, sent, top_parts}
+use Rattle.mql_types.specs.Pieces.{TopPart, sent_amount, top_parts}
 use Rattle.mon_fold.specs.declared.answers.LeafAnswer.{LeafAnswer}
 use Rattle.mon_meaning.specs.Standing.{AllStandFor}
 use Rattle.mon_meaning.specs.declared.meter.OverLimit.{OverLimit}
@@ -26,7 +26,7 @@ pub record IsLeafPart (typed : TypedTree) (source : List Row) (moment : ℤ) (li
   where
     pub pieces : AllStandFor (grid_of typed moment) source (top_parts is_leaf typed.tree) answer.pieces
     pub load : answer.load ≡ load_in_leaf typed source moment
-    pub sent_is : answer.sent ≡ sent typed source moment
+    pub sent_is : answer.sent ≡ sent_amount typed source moment
     pub within : load_in_leaf typed source moment ≤ limit
 
 -- the load of the leaf's part is above the limit; the number told lies between

@@ -1,7 +1,7 @@
 // Points brought to the times of a grid, as rows.
 ghost use Rattle.std.specs.Prelude.{◌≡◌, ◌+◌, ◌++◌, filter, length, map, sum_by, IfErr, IfOk, OnOk};
 ghost use Rattle.std.specs.List.{AllByRecursion, flat_map};
-ghost use Rattle.mon_value.specs.Alignments.{aligned_values, CanAlign};
+ghost use Rattle.mon_value.specs.Alignments.{aligned_values};
 ghost use Rattle.mon_value.specs.Alignments as alignment;
 ghost use Rattle.mon_value.specs.Grids as grids;
 ghost use Rattle.mon_value.specs.SeriesRows.{row_of};
@@ -12,7 +12,7 @@ ghost use Rattle.mon_meaning.specs.Counts.{TellsOver};
 ghost use Rattle.mon_meaning.specs.within.FetchViews.{met_rows, points_kept};
 ghost use Rattle.mon_meaning.specs.within.MetSeries.{CanAlignMet, is_counted, met_count, series_met};
 ghost use Rattle.mon_meaning.specs.within.Readiness.{AreAlignable};
-ghost use Rattle.mon_meaning.specs.within.SeriesMeaning.{align_load, series_rows, SeriesGroup};
+ghost use Rattle.mon_meaning.specs.within.SeriesMeaning.{align_load, series_rows};
 
 use crate::evaluation::Setting;
 use crate::fetches::{Fetch, series_cells};
@@ -65,7 +65,7 @@ fn met_series<'a>(
     fetch: &Fetch<'_>,
     meter: &mut Meter,
 ) -> Result<Vec<Met<'a>>, Refusal<OverLimit>>
-    requires lawful { grids.IsLawful setting.now.grid }
+    requires lawful { grids.IsLawfulGrid setting.now.grid }
     requires looks_back { grids.IsDuration (alignment.seconds_of by) }
     ensures met { IfOk result (λ met. series_met met.items
         ≡ filter (is_counted setting.now.grid by fetch.now) (all_held setting.now.series.now)) }
@@ -91,7 +91,7 @@ fn add_met<'a>(
     met: &mut Vec<Met<'a>>,
     meter: &mut Meter,
 ) -> Result<(), Refusal<OverLimit>>
-    requires lawful { grids.IsLawful setting.now.grid }
+    requires lawful { grids.IsLawfulGrid setting.now.grid }
     requires looks_back { grids.IsDuration (alignment.seconds_of by) }
     ensures met { OnOk result (series_met met.new.items ≡ series_met met.old.items
         ++ filter (is_counted setting.now.grid by fetch.now) (points_by_series rows.now)) }
@@ -121,7 +121,7 @@ fn reached_count(
     fetch: &Fetch<'_>,
     one: &Met<'_>,
 ) -> Result<usize, OutOfMemory>
-    requires lawful { grids.IsLawful setting.now.grid }
+    requires lawful { grids.IsLawfulGrid setting.now.grid }
     requires looks_back { grids.IsDuration (alignment.seconds_of by) }
     ensures count { IfOk result (λ count. count
         ≡ met_count setting.now.grid by fetch.now (one.now.key.now, one.now.series.now.points)) }

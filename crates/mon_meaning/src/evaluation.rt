@@ -4,8 +4,8 @@ ghost use Rattle.mql_types.specs.Nodes.{node_tree};
 ghost use Rattle.mon_meaning.specs.Central.{all_held};
 ghost use Rattle.mon_meaning.specs.Counts.{TellsOver};
 ghost use Rattle.mon_meaning.specs.within.Paths as way;
-ghost use Rattle.mon_meaning.specs.within.Paths.{first_input, IsSource, other_load, own_load};
-ghost use Rattle.mon_meaning.specs.within.Readiness.{IsReady};
+ghost use Rattle.mon_meaning.specs.within.Paths.{first_input, HasNoInput, other_load, own_load};
+ghost use Rattle.mon_meaning.specs.within.Readiness.{IsNodeReady};
 ghost use Rattle.mon_meaning.specs.within.SeriesMeaning.{load_by_series, rows_by_series};
 
 use crate::alignments::aligned_rows;
@@ -33,7 +33,7 @@ pub(crate) fn rows_of(
     tree: &Node,
     meter: &mut Meter,
 ) -> Result<TimedRows, Refusal<OverLimit>>
-    requires ready { IsReady setting.now.grid (node_tree tree.now) (all_held setting.now.series.now) }
+    requires ready { IsNodeReady setting.now.grid (node_tree tree.now) (all_held setting.now.series.now) }
     ensures rows { IfOk result (λ rows. rows
         ≡ rows_by_series setting.now.grid (node_tree tree.now) (all_held setting.now.series.now)) }
     ensures limit { meter.new.limit ≡ meter.old.limit }
@@ -57,8 +57,8 @@ fn source_rows(
     source: &Node,
     meter: &mut Meter,
 ) -> Result<TimedRows, Refusal<OverLimit>>
-    requires ready { IsReady setting.now.grid (node_tree source.now) (all_held setting.now.series.now) }
-    requires source { IsSource (node_tree source.now) }
+    requires ready { IsNodeReady setting.now.grid (node_tree source.now) (all_held setting.now.series.now) }
+    requires source { HasNoInput (node_tree source.now) }
     ensures rows { IfOk result (λ rows. rows
         ≡ rows_by_series setting.now.grid (node_tree source.now) (all_held setting.now.series.now)) }
     ensures limit { meter.new.limit ≡ meter.old.limit }
@@ -81,7 +81,7 @@ fn rows_above(
     rows: TimedRows,
     meter: &mut Meter,
 ) -> Result<TimedRows, Refusal<OverLimit>>
-    requires ready { IsReady setting.now.grid (node_tree node.now) (all_held setting.now.series.now) }
+    requires ready { IsNodeReady setting.now.grid (node_tree node.now) (all_held setting.now.series.now) }
     requires rows { rows
         ≡ rows_by_series setting.now.grid (first_input (node_tree node.now)) (all_held setting.now.series.now) }
     requires counted { load_by_series setting.now.grid (first_input (node_tree node.now))
@@ -106,7 +106,7 @@ fn other_rows(
     node: &Node,
     meter: &mut Meter,
 ) -> Result<TimedRows, Refusal<OverLimit>>
-    requires ready { IsReady setting.now.grid (node_tree node.now) (all_held setting.now.series.now) }
+    requires ready { IsNodeReady setting.now.grid (node_tree node.now) (all_held setting.now.series.now) }
     ensures rows { IfOk result (λ rows. rows
         ≡ way.other_rows setting.now.grid (node_tree node.now) (all_held setting.now.series.now)) }
     ensures limit { meter.new.limit ≡ meter.old.limit }

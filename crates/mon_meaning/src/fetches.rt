@@ -4,7 +4,7 @@ ghost use Rattle.mon_value.specs.Order.{field_as_value};
 ghost use Rattle.mql_types.specs.Loads as loads;
 ghost use Rattle.mql_types.specs.Meaning.{is_fetched};
 ghost use Rattle.mql_types.specs.Nodes.{node_tree};
-ghost use Rattle.mon_meaning.specs.within.FetchViews.{all_hold, is_met, IsFetchFound};
+ghost use Rattle.mon_meaning.specs.within.FetchViews.{all_hold, is_fetch_met, IsFetchFound};
 
 use mon_expr::BoundPredicate;
 use mon_value::{Cells, FieldValue, OutOfMemory, SeriesKey, Text, TryCopy, Value};
@@ -79,7 +79,7 @@ impl<'a> Fetch<'a> {
 
     /// Whether a series is fetched, and each filter of its fields holds of it.
     pub(crate) fn is_met(&self, alloc: Global, key: &SeriesKey) -> Result<bool, OutOfMemory>
-        ensures met { IfOk result (λ met. met ≡ is_met self.now key.now) }
+        ensures met { IfOk result (λ met. met ≡ is_fetch_met self.now key.now) }
     {
         if !self.names(key) {
             return Ok(false);

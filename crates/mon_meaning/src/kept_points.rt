@@ -4,7 +4,7 @@ ghost use Rattle.mon_value.specs.Alignments as alignment;
 ghost use Rattle.mon_value.specs.Grids as grids;
 ghost use Rattle.mon_value.specs.Windows.{EndsRise};
 ghost use Rattle.mon_meaning.specs.within.FetchViews.{points_kept};
-ghost use Rattle.mon_meaning.specs.within.Reach.{reached as points_reached};
+ghost use Rattle.mon_meaning.specs.within.Reach.{points_within_reach};
 
 use crate::fetches::{Fetch, series_cells};
 use mon_series::{KeptPoint, Series};
@@ -13,9 +13,9 @@ use std::alloc::Global;
 
 /// The points in reach: those that end where an alignment may see them at some time of the grid. Their ends find them.
 pub(crate) fn points_in_reach<'a>(series: &'a Series, by: Aligner, grid: &Grid) -> &'a [KeptPoint]
-    requires lawful { grids.IsLawful grid.now }
+    requires lawful { grids.IsLawfulGrid grid.now }
     requires looks_back { grids.IsDuration (alignment.seconds_of by) }
-    ensures reached { result.now ≡ points_reached grid.now by series.now.points }
+    ensures reached { result.now ≡ points_within_reach grid.now by series.now.points }
     ensures rises { EndsRise result.now }
 {
     match series.last() {
@@ -27,9 +27,9 @@ pub(crate) fn points_in_reach<'a>(series: &'a Series, by: Aligner, grid: &Grid) 
 // The points in reach of a series, between two places.
 fn reached_points<'a>(series: &'a Series, by: Aligner, grid: &Grid) -> &'a [KeptPoint]
     requires rises { EndsRise series.now.points }
-    requires lawful { grids.IsLawful grid.now }
+    requires lawful { grids.IsLawfulGrid grid.now }
     requires looks_back { grids.IsDuration (alignment.seconds_of by) }
-    ensures reached { result.now ≡ points_reached grid.now by series.now.points }
+    ensures reached { result.now ≡ points_within_reach grid.now by series.now.points }
     ensures rises { EndsRise result.now }
 {
     let points = series.points();
@@ -51,7 +51,7 @@ fn seconds_of(by: Aligner) -> i64
 
 // The least of a grid's times.
 fn least_time(grid: &Grid) -> i64
-    requires lawful { grids.IsLawful grid.now }
+    requires lawful { grids.IsLawfulGrid grid.now }
     ensures least { result ≡ grids.least_time grid.now }
 {
     let every = grid.every.unsigned_abs();

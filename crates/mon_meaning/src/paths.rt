@@ -2,7 +2,7 @@
 ghost use Rattle.std.specs.Prelude.{◌≡◌, ◌<◌, IfOk, IfSome, IsNone};
 ghost use Rattle.mql_types.specs.Nodes.{node_tree};
 ghost use Rattle.mql_types.specs.ExplanationParts.{nodes};
-ghost use Rattle.mon_meaning.specs.within.Paths.{first_input, IsSource, Leads, trees_of};
+ghost use Rattle.mon_meaning.specs.within.Paths.{first_input, HasNoInput, Leads, trees_of};
 
 use mon_value::OutOfMemory;
 use mql_types::Node;
@@ -21,7 +21,7 @@ pub(crate) struct Path<'a> {
 pub(crate) fn path_down<'a>(alloc: Global, tree: &'a Node) -> Result<Path<'a>, OutOfMemory>
     ensures leads { IfOk result (λ path.
         Leads (trees_of path.above.items) (node_tree tree.now) (node_tree path.source.now)) }
-    ensures source { IfOk result (λ path. IsSource (node_tree path.source.now)) }
+    ensures source { IfOk result (λ path. HasNoInput (node_tree path.source.now)) }
 {
     let mut above = Vec::new(alloc);
     let mut source = tree;
@@ -36,7 +36,7 @@ pub(crate) fn path_down<'a>(alloc: Global, tree: &'a Node) -> Result<Path<'a>, O
 fn input_of(node: &Node) -> Option<&Node>
     ensures input { IfSome result (λ input. node_tree input.now ≡ first_input (node_tree node.now)) }
     ensures smaller { IfSome result (λ input. nodes (node_tree input.now) < nodes (node_tree node.now)) }
-    ensures source { IsNone result → IsSource (node_tree node.now) }
+    ensures source { IsNone result → HasNoInput (node_tree node.now) }
 {
     match node {
         Node::Filter {

@@ -1,9 +1,9 @@
 // Rows of computed items.
 ghost use Rattle.std.specs.Prelude.{◌≡◌, ◌++◌, ◌∷◌, [], cond, map, IfOk, OnOk};
 ghost use Rattle.std.specs.List.{AllByRecursion, filter_map};
-ghost use Rattle.mon_expr.specs.BoundSums.{CanEvaluate, bound_value};
+ghost use Rattle.mon_expr.specs.BoundSums.{CanEvaluate};
 ghost use Rattle.mql_ast.specs.SumWidths.{CanCompute, HasShares, IsTypedSum};
-ghost use Rattle.mql_ast.specs.Trees.{ItemTree, item_tree, sum_tree};
+ghost use Rattle.mql_ast.specs.Trees.{ItemTree, item_tree};
 ghost use Rattle.mql_types.specs.Meaning as spec;
 ghost use Rattle.mql_types.specs.Meaning.{value_row};
 ghost use Rattle.mon_value.specs.declared.tables.TimedRow.{TimedRow};

@@ -12,7 +12,7 @@ use Rattle.mon_value.specs.declared.values.FieldValue.TheVariants as field
 use Rattle.mon_value.specs.declared.values.ValueType.TheVariants as of
 use Rattle.mon_value.specs.declared.values.Value.TheVariants as value
 use Rattle.mon_schema.specs.Fits.{counts_fit, field_fits, is_number, is_start, is_time, times_fit, value_fits}
-use Rattle.mon_points.specs.Cells.{counts_in, field_of, int_of, option_filter, times_of, truth_of, value_of}
+use Rattle.mon_points.specs.Cells.{counts_spelled, field_of, int_of, option_filter, times_of, truth_of, value_of}
 
 -- it is there, and it passes
 pub option_filter-some : {A : Type 0} (test : A → Bool) (o : Option A) (x : A) → option_filter test o ≡ Some x
@@ -85,8 +85,8 @@ value_of-bool text =
 
 pub value_of-dist : (bounds : List ℤ) (text : List ℕ)
     → value_of (of.Dist bounds) text ≡ option_map (λ counts. value.Dist counts) (option_filter (counts_fit bounds)
-    (counts_in text))
-value_of-dist bounds text = option_filter-map value.Dist (value_fits (of.Dist bounds)) (counts_in text)
+    (counts_spelled text))
+value_of-dist bounds text = option_filter-map value.Dist (value_fits (of.Dist bounds)) (counts_spelled text)
 
 pub field_of-int : (text : List ℕ) → field_of type.Int text ≡ option_map (λ z. field.Int z) (int_of text)
 field_of-int text = option_filter-map field.Int (field_fits type.Int) (number_of text)

@@ -42,20 +42,21 @@ abbrev pub count_of : List ℕ → Option ℕ
 count_of text = option_and_then natural_of (number_of text)
 
 -- the counts that all of these texts spell
-abbrev pub counts_of : List (List ℕ) → Option (List ℕ)
-counts_of [] = Some []
-counts_of (text ∷ texts) = option_map (λ counts. counts.0 ∷ counts.1) (option_zip (count_of text) (counts_of texts))
+abbrev pub counts_of_texts : List (List ℕ) → Option (List ℕ)
+counts_of_texts [] = Some []
+counts_of_texts (text ∷ texts) = option_map (λ counts. counts.0 ∷ counts.1)
+    (option_zip (count_of text) (counts_of_texts texts))
 
 -- the counts between semicolons, of any number and size
-abbrev pub counts_in : List ℕ → Option (List ℕ)
-counts_in text = counts_of (slice_split (λ byte. byte == semicolon) text)
+abbrev pub counts_spelled : List ℕ → Option (List ℕ)
+counts_spelled text = counts_of_texts (slice_split (λ byte. byte == semicolon) text)
 
 -- the value of a type that a text spells, of any size
 abbrev pub value_in : ValueType → List ℕ → Option Value
 value_in of.Int text = option_map (λ z. value.Int z) (number_of text)
 value_in of.Bool text = option_map (λ b. value.Bool b) (truth_of text)
 value_in of.Text text = Some (value.Text text)
-value_in (of.Dist bounds) text = option_map (λ counts. value.Dist counts) (counts_in text)
+value_in (of.Dist bounds) text = option_map (λ counts. value.Dist counts) (counts_spelled text)
 
 -- the same of a field
 abbrev pub field_in : FieldType → List ℕ → Option FieldValue

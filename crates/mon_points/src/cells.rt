@@ -1,6 +1,6 @@
 // What the cells of a record spell.
 ghost use Rattle.std.specs.Prelude.{◌≡◌, IfOk};
-ghost use Rattle.mon_points.specs.Cells.{count_of, counts_in, field_of, int_of, times_of, truth_of, value_of};
+ghost use Rattle.mon_points.specs.Cells.{count_of, counts_spelled, field_of, int_of, times_of, truth_of, value_of};
 ghost use Rattle.mon_points.specs.Keys as spec;
 
 use mon_schema::{counts_fit, text_fits, times_fit};
@@ -39,7 +39,7 @@ fn read_truth(cell: &str) -> Option<bool>
 
 // The counts between semicolons, of any number and size.
 fn read_counts(alloc: Global, cell: &str) -> Result<Option<Counts>, OutOfMemory>
-    ensures counts { IfOk result (λ counts. counts ≡ counts_in cell.now) }
+    ensures counts { IfOk result (λ counts. counts ≡ counts_spelled cell.now) }
 {
     let mut counts = Counts::new(alloc);
     for part in cell.split(';') {

@@ -1,4 +1,4 @@
-// The series of a cells, whose key the rows of one series share.
+// The series of a record, whose key the rows of one series share.
 ghost use Rattle.std.specs.Prelude.{◌≡◌, ◌+◌, ◌-◌, ◌<◌, ◌≤◌, ◌^◌, length, drop};
 ghost use Rattle.csv.specs.Records.{fields_of};
 ghost use Rattle.mon_value.specs.Answers.{Gives};

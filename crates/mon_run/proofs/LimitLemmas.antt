@@ -5,7 +5,7 @@ use Rattle.std.specs.List.{AllByRecursion, list_any}
 use Rattle.std.proofs.lemmas.Bool.Decides.{nat_tests}
 use Rattle.mon_config.specs.Numbers.{AreLawful, is_limit}
 use Rattle.mon_config.specs.declared.config.Config.{Config}
-use Rattle.mon_store.specs.Stores.{IsLimited}
+use Rattle.mon_config.specs.Configs.{IsLimited}
 
 -- a number that may be of buckets
 abbrev Fits : ℕ → Type 0

@@ -12,8 +12,9 @@ use Rattle.mon_value.specs.declared.rows.Row.{Row}
 use Rattle.mon_value.specs.declared.tables.Table.{Table}
 use Rattle.mon_value.specs.declared.tables.TimedRow.{TimedRow}
 use Rattle.mon_meaning.specs.Central.{IsMeant}
-use Rattle.mon_table.specs.Tables.{codes, column_names, lines_of_rows, newline, printed_table, table_text}
-use Rattle.mon_schema.specs.HeldMetrics.{AreHeld}
+use Rattle.mon_value.specs.Columns.{column_names}
+use Rattle.mon_table.specs.Tables.{codes, lines_of_rows, newline, printed_table, table_text}
+use Rattle.mon_schema.specs.HeldMetrics.{AreMetricsHeld}
 use Rattle.mon_schema.specs.HeldTargets.{AllTellLocations}
 use Rattle.mon_schema.specs.SchemaLists.{SchemaLists}
 use Rattle.mql_ast.specs.Grammar.{Spells}
@@ -69,7 +70,7 @@ pub gone_on : {A B F : Type 0} (first : Result A F) (x : A) (next : A → Result
 gone_on first x next is = sym (ap (λ answer. answer >>= next) is)
 
 -- a text's query that has a type over lawful schemas
-pub has_type : (held : SchemaLists) (query : PipeTree) (text : List ℕ) (typed : TypedTree) → AreHeld held.metrics
+pub has_type : (held : SchemaLists) (query : PipeTree) (text : List ℕ) (typed : TypedTree) → AreMetricsHeld held.metrics
     → AllTellLocations held.targets
     → Spells query text → typing held query ≡ Ok typed → IsQueryType held typed
 has_type held query text typed metrics targets spelled is = record {

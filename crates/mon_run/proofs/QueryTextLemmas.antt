@@ -13,7 +13,7 @@ use Rattle.mql_parse.specs.FaultPlaces.{too_long}
 use Rattle.mql_parse.specs.PipeReading.{text_outcome}
 use Rattle.mql_parse.specs.declared.faults.ParseFault.{ParseFault}
 use Rattle.mon_run.specs.Queries.{refused_as, tree_answer}
-use Rattle.mon_run.specs.QueryTexts.{GoesByTree, HasNoTree, IsRefused, IsTextFault}
+use Rattle.mon_run.specs.QueryTexts.{GoesByTree, HasNoTree, IsAlwaysRefused, IsTextFault}
 use Rattle.mon_run.specs.declared.outcome.LineFault.TheVariants as fault
 
 pub goes_by_tree : (text : List ℕ) → GoesByTree text
@@ -36,7 +36,7 @@ text_fault text why is = record {
 }
 
 refused_by : (text : List ℕ) (answer : Result PipeTree ParseFault) → text_outcome text ≡ answer → HasNoTree text
-    → IsRefused text
+    → IsAlwaysRefused text
 refused_by text (Ok tree) is none config rows moment =
     absurd (none tree (subst (λ (a : Result PipeTree ParseFault). IfOk a (λ t. Spells t text)) is (text_sound text)))
 refused_by text (Err why) is none config rows moment = record {
@@ -46,5 +46,5 @@ refused_by text (Err why) is none config rows moment = record {
   fault = text_fault text why is;
 }
 
-pub refused_text : (text : List ℕ) → HasNoTree text → IsRefused text
+pub refused_text : (text : List ℕ) → HasNoTree text → IsAlwaysRefused text
 refused_text text none = refused_by text (text_outcome text) refl none

@@ -15,12 +15,12 @@ use Rattle.mon_script.specs.Scripts.{script_in}
 use Rattle.mon_script.specs.declared.script.LineForm.TheVariants as form
 use Rattle.mon_script.specs.declared.script.ScriptFault.{ScriptFault}
 use Rattle.mon_script.specs.declared.script.ScriptLine.{ScriptLine}
-use Rattle.mon_run.specs.Endings.{CutShort, Did, Progress, Starved, end_in, read_in, row_in, text_in}
-use Rattle.mon_run.specs.Feeds.{Fed, fed}
+use Rattle.mon_run.specs.Endings.{CutShort, Did, Progress, Starved, end_in, read_in, row_in, text_of_step}
+use Rattle.mon_run.specs.Feeds.{Fed, feed_of}
 use Rattle.mon_run.specs.Faults.{Rose}
 use Rattle.mon_run.specs.Folders.{Files, FolderState, content_of}
 use Rattle.mon_run.specs.Sinks.{SinkState, written_then}
-use Rattle.mon_run.specs.Plans.{Accept, Ask, Command, End, IsWoven, IsWovenBy, Plan, Step, Write, command_of}
+use Rattle.mon_run.specs.Plans.{Accept, Ask, Command, End, IsRunWoven, IsWovenBy, Plan, Step, Write, command_of}
 use Rattle.mon_run.specs.Plans.{command_plan, config_plan, end_status, ending, feed_steps, file_plan, is_refused}
 use Rattle.mon_run.specs.Plans.{is_too_long, line_plan, line_rows, lines_plan, plan, plan_behind, query_steps}
 use Rattle.mon_run.specs.Plans.{read_plan, reply_steps, schedule_end, schedule_plan, script_plan}
@@ -72,7 +72,7 @@ did_accept rows {before} {after} folder sink ends came = record {
   ends = ends ∙ sym (append-nil before.ends) ∙ ap (λ (more : List LineEnd). before.ends ++ more)
       (no_items end_in (λ row. refl) rows);
   wrote = ap (λ (s : SinkState). s.written) sink ∙ nothing_written before.sink.written
-      ∙ ap (λ (more : List ℕ). written_then more before.sink.written) (no_items text_in (λ row. refl) rows);
+      ∙ ap (λ (more : List ℕ). written_then more before.sink.written) (no_items text_of_step (λ row. refl) rows);
 }
 
 -- ---- in the middle of a part
@@ -109,9 +109,9 @@ cut_at xs text rest is did cut = record {
 pub feed_plan : (config : Config) (files : Files) (rows : List Row) (name : List ℕ) (rest : Plan) → is_too_long files
     name ≡ false →
     line_plan config files rows (form.Feed name) rest ≡ plan_behind
-    (Ask name ∷ feed_steps name (fed config rows (content_of files name))) rest
+    (Ask name ∷ feed_steps name (feed_of config rows (content_of files name))) rest
 feed_plan config files rows name rest short =
-    let steps = feed_steps name (fed config rows (content_of files name)) in
+    let steps = feed_steps name (feed_of config rows (content_of files name)) in
     not_long files name (plan_behind steps rest) short ∙ plan_twice (Ask name ∷ []) steps rest
 
 -- the steps of a feed with what it told
@@ -129,7 +129,7 @@ pub feed_ran : {config : Config} {files : Files} {name : List ℕ} {answer : Ans
     Ran (line_plan config files before.rows (form.Feed name)) (line_rows config files before.rows (form.Feed name))
     before after
 feed_ran {config} {files} {name} {answer} text {before} {mid} {after} took put is =
-    let f : Fed = fed config before.rows (content_of files name) in
+    let f : Fed = feed_of config before.rows (content_of files name) in
     let did : Did (Ask name ∷ feed_steps name f) before after =
     did_by (ap (λ (steps : List Step). Ask name ∷ steps) (told_steps name text answer f took.told is))
     (did_then took.did put) in
@@ -147,7 +147,7 @@ pub feed_starved : {config : Config} {files : Files} {name : List ℕ} {answer :
     {before mid after : Progress} → Took config files name answer before mid → Did [] mid after →
     Starved (line_plan config files before.rows (form.Feed name) rest).steps before after
 feed_starved {config} {files} {name} rest {before} took none =
-    let f : Fed = fed config before.rows (content_of files name) in
+    let f : Fed = feed_of config before.rows (content_of files name) in
     let front : List Step = Ask name ∷ accepts f.accepted in
     starved_at front (End (line_end.Fed (length f.accepted) f.refused) ∷ Write (feed_text name (length f.accepted)
     f.refused) ∷ []) rest
@@ -160,7 +160,7 @@ pub feed_stops : {config : Config} {files : Files} {name : List ℕ} {answer : A
     → text ≡ feed_text name answer.accepted answer.refused →
     Stops (line_plan config files before.rows (form.Feed name) rest) stopped before after
 feed_stops {config} {files} {name} {answer} text rest stopped {before} {mid} after took stops is =
-    let f : Fed = fed config before.rows (content_of files name) in
+    let f : Fed = feed_of config before.rows (content_of files name) in
     let front : List Step = Ask name ∷ accepts f.accepted in
     let last : List Step = End (line_end.Fed answer.accepted answer.refused) ∷ Write text ∷ [] in
     let whole : line_plan config files before.rows (form.Feed name) rest ≡ plan_behind front (plan_behind last rest) =
@@ -174,10 +174,10 @@ feed_stops {config} {files} {name} {answer} text rest stopped {before} {mid} aft
 pub front_starved : (config : Config) (files : Files) (name : List ℕ) (rest : Plan) {before mid after : Progress}
     → is_too_long files name ≡ false → Did (Ask name ∷ []) before mid →
     after.folder ≡ mid.folder → after.sink ≡ mid.sink → after.ends ≡ mid.ends
-    → Front (fed config before.rows (content_of files name)).accepted mid.rows after.rows →
+    → Front (feed_of config before.rows (content_of files name)).accepted mid.rows after.rows →
     Starved (line_plan config files before.rows (form.Feed name) rest).steps before after
 front_starved config files name rest {before} {mid} {after} short did folder sink ends f =
-    let answer : Fed = fed config before.rows (content_of files name) in
+    let answer : Fed = feed_of config before.rows (content_of files name) in
     let last : List Step = End (line_end.Fed (length answer.accepted) answer.refused) ∷ Write
     (feed_text name (length answer.accepted) answer.refused) ∷ [] in
     starved_at (Ask name ∷ accepts f.front) (accepts f.left ++ last) rest
@@ -445,7 +445,7 @@ woven_by (Some woven) what {files} {content} {text} {read} has is file printed =
 -- the words are a command, which ended
 pub words_weave : (words : List (List ℕ)) (what : Command) (ended : Result Bool Stop) {before after : Progress}
     → Some what ≡ command_of words → Weaves (files_plan what) (IsWovenBy what) ended before after
-    → Weaves (words_plan words) (IsWoven words) ended before after
+    → Weaves (words_plan words) (IsRunWoven words) ended before after
 words_weave words what ended {before} {after} is weaves = record {
   woven = weaves.woven;
   printed = λ files told. by weaves.woven files (weaves.printed files told);
@@ -454,7 +454,7 @@ words_weave words what ended {before} {after} is weaves = record {
 }
   where
     by : (woven : Option Printed) (files : Files) → IfSome woven (IsWovenBy what files)
-        → IfSome woven (IsWoven words files)
+        → IfSome woven (IsRunWoven words files)
     by None files printed = tt
     by (Some woven) files printed = λ other same.
         let both : Some what ≡ Some other = is ∙ same in
@@ -463,7 +463,7 @@ words_weave words what ended {before} {after} is weaves = record {
 
 -- the words are none
 pub words_refused : (words : List (List ℕ)) (p : Progress) → command_of words ≡ None → Weaves (words_plan words)
-    (IsWoven words) (Err stop.Usage) p p
+    (IsRunWoven words) (Err stop.Usage) p p
 words_refused words p none = record {
   woven = None;
   printed = λ files told. tt;
@@ -537,15 +537,17 @@ pub file_taken : (config : Config) (files : Files) (name content : List ℕ) (an
     {before mid after : Progress} → is_too_long files name ≡ false → Did (Ask name ∷ []) before mid → mid.rows
     ≡ before.rows → content ≡ content_of files name →
     after.folder ≡ mid.folder → after.sink ≡ mid.sink → after.ends ≡ mid.ends
-    → FedAs answer (fed config mid.rows content) → after.rows ≡ mid.rows ++ (fed config mid.rows content).accepted
+    → FedAs answer (feed_of config mid.rows content) → after.rows ≡ mid.rows
+    ++ (feed_of config mid.rows content).accepted
     → Took config files name answer before after
 file_taken config files name content answer {before} {mid} {after} short did same text folder sink ends told rows =
-    let is : fed config mid.rows content ≡ fed config before.rows (content_of files name) = λ i. fed config (same i)
+    let is : feed_of config mid.rows content
+    ≡ feed_of config before.rows (content_of files name) = λ i. feed_of config (same i)
     (text i) in
     record {
       short = short;
       told = subst (FedAs answer) is told;
-      did = did_then did (did_accept (fed config before.rows (content_of files name)).accepted folder sink ends
+      did = did_then did (did_accept (feed_of config before.rows (content_of files name)).accepted folder sink ends
           (rows ∙ ap (λ (f : Fed). mid.rows ++ f.accepted) is));
     }
 

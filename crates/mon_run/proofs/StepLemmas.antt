@@ -4,7 +4,7 @@ use Rattle.std.proofs.Common.{append_assoc, append-nil}
 use Rattle.std.specs.List.{flat_map}
 use Rattle.std.proofs.lemmas.Grind.{flat_map-append}
 use Rattle.mon_value.specs.declared.rows.Row.{Row}
-use Rattle.mon_run.specs.Endings.{CutShort, Did, Progress, Starved, end_in, read_in, row_in, text_in}
+use Rattle.mon_run.specs.Endings.{CutShort, Did, Progress, Starved, end_in, read_in, row_in, text_of_step}
 use Rattle.mon_run.specs.Folders.{Files}
 use Rattle.mon_run.specs.Sinks.{written_then}
 use Rattle.mon_run.specs.Plans.{Ask, Miss, Plan, Step, Write, ending, is_too_long, plan, plan_behind, read_plan}
@@ -24,12 +24,14 @@ items_then {A} of before mid after xs ys first second =
     (flat_map of ys)
     ∙ ap (λ (items : List A). before ++ items) (sym (flat_map-append of xs ys))
 
-written_items : (before mid after : Option (List ℕ)) (xs ys : List Step) → mid ≡ written_then (flat_map text_in xs)
-    before → after ≡ written_then (flat_map text_in ys) mid → after ≡ written_then (flat_map text_in (xs ++ ys)) before
+written_items : (before mid after : Option (List ℕ)) (xs ys : List Step) → mid ≡ written_then (flat_map text_of_step xs)
+    before → after ≡ written_then (flat_map text_of_step ys) mid → after
+    ≡ written_then (flat_map text_of_step (xs ++ ys)) before
 written_items before mid after xs ys first second =
-    second ∙ ap (written_then (flat_map text_in ys)) first ∙ written_both (flat_map text_in xs) (flat_map text_in ys)
+    second ∙ ap (written_then (flat_map text_of_step ys)) first ∙ written_both (flat_map text_of_step xs)
+    (flat_map text_of_step ys)
     before
-    ∙ ap (λ (text : List ℕ). written_then text before) (sym (flat_map-append text_in xs ys))
+    ∙ ap (λ (text : List ℕ). written_then text before) (sym (flat_map-append text_of_step xs ys))
 
 pub did_none : (p : Progress) → Did [] p p
 did_none p = record {
@@ -63,7 +65,7 @@ did_front {xs} done step first second = did_by (sym (append_assoc xs done (step 
 
 -- only a read was added
 pub read_alone : {step : Step} {before after : Progress} → flat_map row_in (step ∷ []) ≡ [] → flat_map end_in
-    (step ∷ []) ≡ [] → flat_map text_in (step ∷ []) ≡ [] →
+    (step ∷ []) ≡ [] → flat_map text_of_step (step ∷ []) ≡ [] →
     after.folder.files ≡ before.folder.files → after.folder.asked ≡ before.folder.asked ++ flat_map read_in (step ∷ [])
     → after.rows ≡ before.rows → after.ends ≡ before.ends → after.sink.written ≡ before.sink.written →
     Did (step ∷ []) before after

@@ -6,7 +6,7 @@ use Rattle.mon_value.specs.declared.rows.Row.{Row}
 use Rattle.mon_run.specs.Faults.{Rose}
 use Rattle.mon_run.specs.Folders.{Files, FolderState, asking}
 use Rattle.mon_run.specs.Sinks.{SinkState, written_then}
-use Rattle.mon_run.specs.Plans.{Accept, Ask, End, IsWoven, Miss, Plan, Step, Write, plan, run_plan}
+use Rattle.mon_run.specs.Plans.{Accept, Ask, End, IsRunWoven, Miss, Plan, Step, Write, plan, run_plan}
 use Rattle.mon_run.specs.Texts.{read_text}
 use Rattle.mon_run.specs.declared.outcome.LineEnd.{LineEnd}
 use Rattle.mon_run.specs.declared.outside.folder.Asked.{Asked}
@@ -45,12 +45,12 @@ end_in (Accept row) = []
 end_in (End end) = end ∷ []
 end_in (Write text) = []
 
-abbrev pub text_in : Step → List ℕ
-text_in (Ask name) = []
-text_in (Miss name) = []
-text_in (Accept row) = []
-text_in (End end) = []
-text_in (Write text) = text
+abbrev pub text_of_step : Step → List ℕ
+text_of_step (Ask name) = []
+text_of_step (Miss name) = []
+text_of_step (Accept row) = []
+text_of_step (End end) = []
+text_of_step (Write text) = text
 
 -- the steps were done, and nothing else: just their files were read, their rows accepted, their lines ended and
 -- their texts written, in their order
@@ -59,7 +59,7 @@ pub record Did (steps : List Step) (before after : Progress) : Type 0 where
   pub asked : after.folder.asked ≡ before.folder.asked ++ flat_map read_in steps
   pub rows : after.rows ≡ before.rows ++ flat_map row_in steps
   pub ends : after.ends ≡ before.ends ++ flat_map end_in steps
-  pub wrote : after.sink.written ≡ written_then (flat_map text_in steps) before.sink.written
+  pub wrote : after.sink.written ≡ written_then (flat_map text_of_step steps) before.sink.written
 
 -- ---- how far a run comes
 
@@ -109,7 +109,7 @@ RunIs p status before after = Follows p status before after ⊎ Misses p status 
 -- that printed; without it, the plan of a schedule ends for want of memory before anything is written.
 pub record Runs (files : Files) (words : List (List ℕ)) (status : ℕ) (before after : Progress) : Type 0 where
   pub woven : Option Printed
-  pub printed : IfSome woven (IsWoven words files)
+  pub printed : IfSome woven (IsRunWoven words files)
   pub is : RunIs (run_plan woven files words) status before after
 
 -- ---- causes, over any folder and sink

@@ -15,45 +15,45 @@ use Rattle.mon_run.specs.declared.outcome.RowRefusal.{RowRefusal}
 -- ---- records
 
 -- what becomes of a record: its row is accepted, or it is refused
-abbrev pub Verdict : Type 0
-Verdict = Result Row RowRefused
+abbrev pub RecordVerdict : Type 0
+RecordVerdict = Result Row RowRefused
 
 -- a row is accepted unless it is not written
-abbrev pub unless : Row → Option WriteFault → Verdict
-unless row None = Ok row
-unless row (Some fault) = Err (refused.Write fault)
+abbrev pub verdict_unless : Row → Option WriteFault → RecordVerdict
+verdict_unless row None = Ok row
+verdict_unless row (Some fault) = Err (refused.Write fault)
 
 -- what becomes of a row behind those that were accepted before it
-abbrev pub row_verdict : Config → List Row → Row → Verdict
-row_verdict config rows row = unless row (write_fault config rows row)
+abbrev pub row_verdict : Config → List Row → Row → RecordVerdict
+row_verdict config rows row = verdict_unless row (write_fault config rows row)
 
-abbrev pub verdict : Config → List Row → RowRead → Verdict
+abbrev pub verdict : Config → List Row → RowRead → RecordVerdict
 verdict config rows (read.Fault fault) = Err (refused.Read fault)
 verdict config rows (read.Row row) = row_verdict config rows row
 
 -- the row that was accepted, if one was
-abbrev pub taken : Verdict → List Row
-taken (Ok row) = row ∷ []
-taken (Err fault) = []
+abbrev pub accepted_row : RecordVerdict → List Row
+accepted_row (Ok row) = row ∷ []
+accepted_row (Err fault) = []
 
 -- why it was refused, if it was
-abbrev pub fault_in : Verdict → Option RowRefused
+abbrev pub fault_in : RecordVerdict → Option RowRefused
 fault_in (Ok row) = None
 fault_in (Err fault) = Some fault
 
 -- what becomes of records, each behind the rows that were accepted before it
-abbrev pub verdicts : Config → List Row → List RowRead → List Verdict
+abbrev pub verdicts : Config → List Row → List RowRead → List RecordVerdict
 verdicts config rows [] = []
 verdicts config rows (read ∷ reads) =
-    verdict config rows read ∷ verdicts config (rows ++ taken (verdict config rows read)) reads
+    verdict config rows read ∷ verdicts config (rows ++ accepted_row (verdict config rows read)) reads
 
 -- the refusal of a record with its number
-abbrev pub refusal_of : ℕ → Verdict → List RowRefusal
+abbrev pub refusal_of : ℕ → RecordVerdict → List RowRefusal
 refusal_of n (Ok row) = []
 refusal_of n (Err fault) = record { number = n; fault = fault } ∷ []
 
 -- the refusals of records that are numbered on from n
-abbrev pub refusals : ℕ → List Verdict → List RowRefusal
+abbrev pub refusals : ℕ → List RecordVerdict → List RowRefusal
 refusals n [] = []
 refusals n (v ∷ vs) = refusal_of n v ++ refusals (n + 1) vs
 
@@ -64,9 +64,9 @@ pub record Fed : Type 0 where
   pub accepted : List Row
   pub refused : List RowRefusal
 
-abbrev pub fed_by : List Verdict → Fed
-fed_by vs = record { accepted = flat_map taken vs; refused = refusals 1 vs }
+abbrev pub fed_by : List RecordVerdict → Fed
+fed_by vs = record { accepted = flat_map accepted_row vs; refused = refusals 1 vs }
 
 -- a feed of a file's content behind the rows that were accepted before it; records are numbered from 1
-abbrev pub fed : Config → List Row → List ℕ → Fed
-fed config rows content = fed_by (verdicts config rows (reads_of config.schemas content))
+abbrev pub feed_of : Config → List Row → List ℕ → Fed
+feed_of config rows content = fed_by (verdicts config rows (reads_of config.schemas content))

@@ -12,7 +12,7 @@ use Rattle.mon_script.specs.declared.script.LineForm.{LineForm}
 use Rattle.mon_script.specs.declared.script.LineForm.TheVariants as form
 use Rattle.mon_script.specs.declared.script.ScriptFault.{ScriptFault}
 use Rattle.mon_script.specs.declared.script.ScriptLine.{ScriptLine}
-use Rattle.mon_run.specs.Feeds.{Fed, fed}
+use Rattle.mon_run.specs.Feeds.{Fed, feed_of}
 use Rattle.mon_run.specs.Folders.{Files, content_of}
 use Rattle.mon_run.specs.Queries.{query_answer, refuses, reply_of}
 use Rattle.mon_run.specs.Texts.{config_text, feed_text, schedule_text, script_text, too_long_text, usage_text}
@@ -97,7 +97,7 @@ query_steps config rows moment text = reply_steps (reply_of moment (query_answer
 
 -- the rows that a line accepts
 abbrev pub line_rows : Config → Files → List Row → LineForm → List Row
-line_rows config files rows (form.Feed name) = (fed config rows (content_of files name)).accepted
+line_rows config files rows (form.Feed name) = (feed_of config rows (content_of files name)).accepted
 line_rows config files rows (form.Query moment text) = []
 
 -- a line is refused where its query is
@@ -113,7 +113,7 @@ end_status false = 0
 -- a line before the rest of a plan
 abbrev pub line_plan : Config → Files → List Row → LineForm → Plan → Plan
 line_plan config files rows (form.Feed name) rest =
-    read_plan files name (plan_behind (feed_steps name (fed config rows (content_of files name))) rest)
+    read_plan files name (plan_behind (feed_steps name (feed_of config rows (content_of files name))) rest)
 line_plan config files rows (form.Query moment text) rest = plan_behind (query_steps config rows moment text) rest
 
 -- the lines of a script, behind those that ran before: whether one of them was refused, and the rows that they accepted
@@ -142,8 +142,8 @@ IsWovenBy what files woven =
     (config : Config) → config_in (content_of files what.config) ≡ Ok config
     → IsPrinted config (content_of files what.file) woven
 
-abbrev pub IsWoven : List (List ℕ) → Files → Printed → Type 0
-IsWoven words files woven = (what : Command) → command_of words ≡ Some what → IsWovenBy what files woven
+abbrev pub IsRunWoven : List (List ℕ) → Files → Printed → Type 0
+IsRunWoven words files woven = (what : Command) → command_of words ≡ Some what → IsWovenBy what files woven
 
 -- ---- the whole run, where its schedule, if it has one, printed this
 

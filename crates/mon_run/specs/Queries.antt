@@ -3,7 +3,8 @@ use Rattle.std.specs.Prelude.{ℕ, ℤ, nat_lt, Bool, true, false, List, Result,
 use Rattle.mon_value.specs.Answers.{◌>>=◌}
 use Rattle.mon_value.specs.declared.rows.Row.{Row}
 use Rattle.mon_config.specs.declared.config.Config.{Config}
-use Rattle.mon_table.specs.Tables.{column_names, table_text}
+use Rattle.mon_value.specs.Columns.{column_names}
+use Rattle.mon_table.specs.Tables.{table_text}
 use Rattle.mql_ast.specs.Trees.{PipeTree}
 use Rattle.mql_parse.specs.PipeReading.{text_outcome}
 use Rattle.mql_types.specs.Loads.{load}

@@ -35,6 +35,6 @@ pub record IsRefusedText (text : List ℕ) (answer : Result (List ℕ) LineFault
   pub fault : IsTextFault text why
 
 -- a text that no tree spells is refused, over whatever rows
-abbrev pub IsRefused : List ℕ → Type 0
-IsRefused text =
+abbrev pub IsAlwaysRefused : List ℕ → Type 0
+IsAlwaysRefused text =
     (config : Config) (rows : List Row) (moment : ℤ) → IsRefusedText text (query_answer config rows moment text)

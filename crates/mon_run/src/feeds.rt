@@ -1,7 +1,7 @@
 // A feed: the records of a points file, each accepted or refused.
 ghost use Rattle.std.specs.Prelude.{◌≡◌, ◌+◌, ◌≤◌, ◌++◌, length, IfOk, OnErr, OnOk};
 ghost use Rattle.mon_run.specs.Feeds as spec;
-ghost use Rattle.mon_store.specs.Stores.{AreSound, IsKept, accepted_rows};
+ghost use Rattle.mon_store.specs.Stores.{AreSound, IsStoreKept, accepted_rows};
 ghost use Rattle.mon_run.specs.within.Takings.{FedAs, Front};
 
 use crate::outcome::{RowRefusal, RowRefusals, RowRefused};
@@ -29,10 +29,10 @@ pub(crate) fn feed(
 ) -> Result<Fed, OutOfMemory>
     requires short { length content.now ≤ LONGEST_FILE }
     requires sound { AreSound config.now store.old }
-    ensures fed { IfOk result (λ fed. FedAs fed (spec.fed config.now (accepted_rows store.old) content.now)) }
+    ensures fed { IfOk result (λ fed. FedAs fed (spec.feed_of config.now (accepted_rows store.old) content.now)) }
     ensures rows { OnOk result (accepted_rows store.new
-        ≡ accepted_rows store.old ++ (spec.fed config.now (accepted_rows store.old) content.now).accepted) }
-    ensures front { OnErr result (Front (spec.fed config.now (accepted_rows store.old) content.now).accepted
+        ≡ accepted_rows store.old ++ (spec.feed_of config.now (accepted_rows store.old) content.now).accepted) }
+    ensures front { OnErr result (Front (spec.feed_of config.now (accepted_rows store.old) content.now).accepted
         (accepted_rows store.old) (accepted_rows store.new)) }
     ensures sound { OnOk result (AreSound config.now store.new) }
 {
@@ -59,10 +59,10 @@ fn take(
     number: u32,
     read: RowRead,
 ) -> Result<(), OutOfMemory>
-    requires kept { IsKept config.now store.old }
-    ensures kept { OnOk result (IsKept config.now store.new) }
+    requires kept { IsStoreKept config.now store.old }
+    ensures kept { OnOk result (IsStoreKept config.now store.new) }
     ensures taken { OnOk result (accepted_rows store.new
-        ≡ accepted_rows store.old ++ spec.taken (spec.verdict config.now (accepted_rows store.old) read)) }
+        ≡ accepted_rows store.old ++ spec.accepted_row (spec.verdict config.now (accepted_rows store.old) read)) }
     ensures refused { OnOk result (refused.new ≡ refused.old
         ++ spec.refusal_of number (spec.verdict config.now (accepted_rows store.old) read)) }
     ensures rows { OnErr result (accepted_rows store.new ≡ accepted_rows store.old) }
@@ -80,12 +80,12 @@ fn fault_of(
     store: &mut Store,
     read: RowRead,
 ) -> Result<Option<RowRefused>, OutOfMemory>
-    requires kept { IsKept config.now store.old }
-    ensures kept { OnOk result (IsKept config.now store.new) }
+    requires kept { IsStoreKept config.now store.old }
+    ensures kept { OnOk result (IsStoreKept config.now store.new) }
     ensures refused { IfOk result (λ fault.
         fault ≡ spec.fault_in (spec.verdict config.now (accepted_rows store.old) read)) }
     ensures taken { OnOk result (accepted_rows store.new
-        ≡ accepted_rows store.old ++ spec.taken (spec.verdict config.now (accepted_rows store.old) read)) }
+        ≡ accepted_rows store.old ++ spec.accepted_row (spec.verdict config.now (accepted_rows store.old) read)) }
     ensures rows { OnErr result (accepted_rows store.new ≡ accepted_rows store.old) }
 {
     match read {
@@ -96,12 +96,13 @@ fn fault_of(
 
 // Writes a row, or says why it is refused.
 fn write(config: &Config, store: &mut Store, row: &Row) -> Result<Option<RowRefused>, OutOfMemory>
-    requires kept { IsKept config.now store.old }
-    ensures kept { OnOk result (IsKept config.now store.new) }
+    requires kept { IsStoreKept config.now store.old }
+    ensures kept { OnOk result (IsStoreKept config.now store.new) }
     ensures refused { IfOk result (λ fault.
         fault ≡ spec.fault_in (spec.row_verdict config.now (accepted_rows store.old) row.now)) }
     ensures taken { OnOk result (accepted_rows store.new
-        ≡ accepted_rows store.old ++ spec.taken (spec.row_verdict config.now (accepted_rows store.old) row.now)) }
+        ≡ accepted_rows store.old
+        ++ spec.accepted_row (spec.row_verdict config.now (accepted_rows store.old) row.now)) }
     ensures rows { OnErr result (accepted_rows store.new ≡ accepted_rows store.old) }
 {
     match store.write(config, row) {

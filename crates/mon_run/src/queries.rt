@@ -7,7 +7,7 @@ ghost use Rattle.mql_parse.specs.PipeReading.{text_outcome};
 ghost use Rattle.mql_types.specs.Nodes.{typed_tree};
 ghost use Rattle.mql_types.specs.Typing.{typing};
 ghost use Rattle.mon_run.specs.Queries as spec;
-ghost use Rattle.mon_run.specs.QueryTexts.{GoesByTree, HasNoTree, IsRefused};
+ghost use Rattle.mon_run.specs.QueryTexts.{GoesByTree, HasNoTree, IsAlwaysRefused};
 ghost use Rattle.mql_types.specs.Soundness.{IsQueryType};
 ghost use Rattle.mon_store.specs.Stores.{AreSound, accepted_rows};
 ghost use Rattle.mon_table.specs.Tables.{printed_table};
@@ -123,7 +123,7 @@ fn table_within(
 /// its fault.
 pub fn queries_go_by_their_trees()
     ensures spelled { (text : List ℕ) → GoesByTree text }
-    ensures unspelled { (text : List ℕ) → HasNoTree text → IsRefused text }
+    ensures unspelled { (text : List ℕ) → HasNoTree text → IsAlwaysRefused text }
 {}
 
 // The tree of a query's text.

@@ -4,12 +4,13 @@ ghost use Rattle.std.specs.Prelude.{string_bytes};
 ghost use Rattle.std.specs.List.{AllByRecursion};
 ghost use Rattle.mon_config.specs.Numbers.{AreLawful};
 ghost use Rattle.mon_run.specs.Folders.{Told};
-ghost use Rattle.mon_script.specs.Lawful.{IsLawful, IsLawfulLine};
+ghost use Rattle.mon_script.specs.Lawful.{IsLawfulForm, IsLawfulLine};
 ghost use Rattle.mon_script.specs.Scripts.{script_in};
 ghost use Rattle.mon_run.specs.Endings.{Did};
 ghost use Rattle.mon_run.specs.Plans as plan;
 ghost use Rattle.mon_run.specs.Plans.{Ask, End, Write};
-ghost use Rattle.mon_store.specs.Stores.{AreSound, IsLimited, accepted_rows};
+ghost use Rattle.mon_config.specs.Configs.{IsLimited};
+ghost use Rattle.mon_store.specs.Stores.{AreSound, accepted_rows};
 ghost use Rattle.mon_run.specs.within.Takings.{FileTaken, TakeStops};
 ghost use Rattle.mon_run.specs.within.Stops.{Between, Closes, Continues, Ends, HasRead, LineRuns, LineStops, PutStops};
 ghost use Rattle.mon_run.specs.within.Stops.{ReadStops, StopsBetween, Weaves, WriteStops, files_plan, words_plan};
@@ -69,7 +70,7 @@ impl<'f, 'o, 'l, F: Folder, O: Sink> Run<'f, 'o, 'l, F, O> {
         requires fresh { accepted_rows self.old.log.now.store ≡ [] }
         ensures continues { Continues F.state O.state self.old self.new }
         ensures ended { Between F.state O.state (Weaves (words_plan (map string_bytes words.now))
-            (plan.IsWoven (map string_bytes words.now)) result) self.old self.new }
+            (plan.IsRunWoven (map string_bytes words.now)) result) self.old self.new }
     {
         match command_in(words) {
             Some((verb, config, file)) => self.files(verb, config, file),
@@ -140,7 +141,7 @@ impl<'f, 'o, 'l, F: Folder, O: Sink> Run<'f, 'o, 'l, F, O> {
 
     // Runs a line, and says whether it was refused.
     fn line(&mut self, config: &Config, form: &LineForm) -> Result<bool, Stop>
-        requires lawful { IsLawful form.now }
+        requires lawful { IsLawfulForm form.now }
         requires sound { AreSound config.now self.old.log.now.store }
         ensures continues { Continues F.state O.state self.old self.new }
         ensures refused { IfOk result (λ refused. refused
@@ -199,7 +200,7 @@ impl<'f, 'o, 'l, F: Folder, O: Sink> Run<'f, 'o, 'l, F, O> {
 
     // Runs a query, and says whether it was refused.
     fn query(&mut self, config: &Config, moment: i64, text: &Text) -> Result<bool, Stop>
-        requires lawful { IsLawful (LineForm.Query moment text.now) }
+        requires lawful { IsLawfulForm (LineForm.Query moment text.now) }
         requires sound { AreSound config.now self.old.log.now.store }
         ensures continues { Continues F.state O.state self.old self.new }
         ensures refused { IfOk result (λ refused. refused

@@ -7,7 +7,7 @@ use Rattle.mon_value.specs.declared.schemas.MetricSchema.{MetricSchema}
 use Rattle.mon_schema.specs.SchemaLists.{SchemaLists, target_named, metric_named}
 use Rattle.mon_schema.specs.Faults.{target_fault, metric_fault, is_target_over}
 use Rattle.mon_schema.specs.Faults.{is_target_named, is_target_taken, is_metric_over, is_metric_named, is_metric_taken}
-use Rattle.mon_schema.specs.HeldMetrics.{AreHeld, IsHeld}
+use Rattle.mon_schema.specs.HeldMetrics.{AreMetricsHeld, IsHeld}
 use Rattle.mon_schema.specs.HeldTargets.{AllTellLocations, TellsLocation}
 
 -- a chain of tests that ends without a fault has passed the third
@@ -44,8 +44,8 @@ metric_named-free held metric h =
     _ _ _ _ (λ e. cc) (λ e. cc) (λ e. cc) h))
 
 -- a metric more at the end of a map
-pub held_more : (metrics : List MetricSchema) (metric : MetricSchema) → AreHeld metrics → IsHeld metric
-    → AreHeld (metrics ++ metric ∷ [])
+pub held_more : (metrics : List MetricSchema) (metric : MetricSchema) → AreMetricsHeld metrics → IsHeld metric
+    → AreMetricsHeld (metrics ++ metric ∷ [])
 held_more [] metric all one = (one, tt)
 held_more (first ∷ metrics) metric all one = (all.0, held_more metrics metric all.1 one)
 

@@ -24,13 +24,13 @@ abbrev pub texts_repeat : List (List ℕ) → Bool
 texts_repeat [] = false
 texts_repeat (text ∷ texts) = list_any (same_text text) texts || texts_repeat texts
 
-abbrev pub is_text : FieldType → Bool
-is_text of.Text = true
-is_text of.Int = false
-is_text of.Bool = false
+abbrev pub is_text_field : FieldType → Bool
+is_text_field of.Text = true
+is_text_field of.Int = false
+is_text_field of.Bool = false
 
-abbrev pub names_of : List Field → List (List ℕ)
-names_of fields = map (λ field. field.name) fields
+abbrev pub names_of_fields : List Field → List (List ℕ)
+names_of_fields fields = map (λ field. field.name) fields
 
 -- every field has a lawful name
 abbrev pub have_names : List Field → Bool
@@ -38,7 +38,7 @@ have_names fields = list_all (λ field. is_column_name field.name) fields
 
 -- a text field that is marked as the location
 abbrev pub is_location : Field → Bool
-is_location field = field.location && is_text field.of
+is_location field = field.location && is_text_field field.of
 
 -- the most target schemas are held, or it has too many fields or none
 abbrev pub is_target_over : SchemaLists → TargetSchema → Bool
@@ -51,7 +51,8 @@ is_target_named schema = is_name schema.name && have_names schema.fields
 
 -- its name is held, or two of its fields have one name
 abbrev pub is_target_taken : SchemaLists → TargetSchema → Bool
-is_target_taken held schema = is_some (target_named schema.name held.targets) || texts_repeat (names_of schema.fields)
+is_target_taken held schema = is_some (target_named schema.name held.targets)
+    || texts_repeat (names_of_fields schema.fields)
 
 -- a target schema is refused for the first of these
 abbrev pub target_fault : SchemaLists → TargetSchema → Option SchemaFault
@@ -74,7 +75,7 @@ is_metric_named metric =
 -- its name is held, or two of its columns have one name
 abbrev pub is_metric_taken : SchemaLists → MetricSchema → Bool
 is_metric_taken held metric =
-    is_some (metric_named metric.name held.metrics) || texts_repeat (metric.column ∷ names_of metric.fields)
+    is_some (metric_named metric.name held.metrics) || texts_repeat (metric.column ∷ names_of_fields metric.fields)
 
 -- at least one bound and not too many, each above the one before it
 abbrev pub are_bounds : List ℤ → Bool

@@ -3,7 +3,7 @@ use Rattle.std.specs.Prelude.{◌≡◌, ℕ, List, map, Vec}
 use Rattle.std.specs.List.{AllByRecursion}
 use Rattle.std.specs.declared.alloc.Global.{Global}
 use Rattle.indexmap.specs.IndexMap.{values}
-use Rattle.mon_schema.specs.HeldMetrics.{AreHeld}
+use Rattle.mon_schema.specs.HeldMetrics.{AreMetricsHeld}
 use Rattle.mon_schema.specs.HeldTargets.{AllTellLocations}
 use Rattle.mon_schema.specs.SchemaLists.{SchemaLists}
 use Rattle.mon_schema.specs.declared.table.Schemas.TheInside.{Inside}
@@ -13,10 +13,10 @@ schema_lists held = record { targets = values held.targets; metrics = values hel
 
 -- each schema is kept under its name, each target schema tells where its targets are, and each metric is as schemas
 -- take it
-pub record AreKept (inside : Inside) : Type 0 where
+pub record AreSchemasKept (inside : Inside) : Type 0 where
   pub targets : AllByRecursion (λ entry. entry.0.items ≡ entry.1.name) inside.targets.entries
   pub metrics : AllByRecursion (λ entry. entry.0.items ≡ entry.1.name) inside.metrics.entries
-  pub held : AreHeld (values inside.metrics)
+  pub held : AreMetricsHeld (values inside.metrics)
   pub located : AllTellLocations (values inside.targets)
 
 -- the entries of a map as contracts see them: each name with its schema

@@ -24,5 +24,5 @@ pub record IsHeld (metric : MetricSchema) : Type 0 where
   pub bounded : is_bounded metric.value ≡ true
   pub met : is_kind_met metric.kind metric.value ≡ true
 
-abbrev pub AreHeld : List MetricSchema → Type 0
-AreHeld metrics = AllByRecursion IsHeld metrics
+abbrev pub AreMetricsHeld : List MetricSchema → Type 0
+AreMetricsHeld metrics = AllByRecursion IsHeld metrics

@@ -5,14 +5,14 @@ use Rattle.std.specs.List.{list_all}
 use Rattle.mon_value.specs.Same.{same_text}
 use Rattle.mon_schema.specs.declared.limits.TheConstants.{LONGEST_METRIC_NAME, LONGEST_NAME}
 
-abbrev pub is_within : ℕ → ℕ → ℕ → Bool
-is_within low high byte = nat_le low byte && nat_le byte high
+abbrev pub is_byte_within : ℕ → ℕ → ℕ → Bool
+is_byte_within low high byte = nat_le low byte && nat_le byte high
 
 abbrev pub is_letter : ℕ → Bool
-is_letter byte = is_within 65 90 byte || is_within 97 122 byte
+is_letter byte = is_byte_within 65 90 byte || is_byte_within 97 122 byte
 
 abbrev pub is_digit : ℕ → Bool
-is_digit byte = is_within 48 57 byte
+is_digit byte = is_byte_within 48 57 byte
 
 -- a letter or `_`
 abbrev pub is_name_start : ℕ → Bool

@@ -19,7 +19,7 @@ pub(crate) fn have_names(fields: &Fields) -> bool
 /// Whether two fields have one name.
 #[tactic(auto, using(crate::proofs::FieldNameLemmas::field_names))]
 pub(crate) fn names_repeat(fields: &Fields) -> bool
-    ensures repeat { result ≡ spec.texts_repeat (spec.names_of fields.now) }
+    ensures repeat { result ≡ spec.texts_repeat (spec.names_of_fields fields.now) }
 {
     let mut rest = fields.as_slice();
     while let Some((field, others)) = rest.split_first() {
@@ -34,7 +34,7 @@ pub(crate) fn names_repeat(fields: &Fields) -> bool
 /// Whether two columns have one name: a metric's own and those of its fields.
 #[tactic(auto, using(crate::proofs::FieldNameLemmas::field_names))]
 pub(crate) fn columns_repeat(column: &Text, fields: &Fields) -> bool
-    ensures repeat { result ≡ spec.texts_repeat (column.now ∷ spec.names_of fields.now) }
+    ensures repeat { result ≡ spec.texts_repeat (column.now ∷ spec.names_of_fields fields.now) }
 {
     is_named(fields.as_slice(), column) || names_repeat(fields)
 }

@@ -2,7 +2,6 @@
 ghost use Rattle.std.specs.Prelude.{◌≡◌, true};
 ghost use Rattle.mon_value.specs.Distributions as distribution;
 ghost use Rattle.mon_schema.specs.Faults as spec;
-ghost use Rattle.mon_schema.specs.Fits.{is_number as is_64_bits};
 ghost use Rattle.mon_schema.specs.HeldMetrics.{AreNumbers, HasNumbers};
 
 use crate::limits::MOST_BOUNDS;

@@ -30,11 +30,11 @@ impl Model for Schemas {
 
     ghost Value = { SchemaLists };
 
-    ghost use Rattle.mon_schema.specs.Held.{schema_lists, AreKept};
+    ghost use Rattle.mon_schema.specs.Held.{schema_lists, AreSchemasKept};
 
     ghost view = { schema_lists };
 
-    ghost invariant = { AreKept };
+    ghost invariant = { AreSchemasKept };
 }
 
 impl Schemas {
@@ -42,7 +42,7 @@ impl Schemas {
     ghost use Rattle.mon_schema.specs.SchemaLists.{with_target, with_metric};
     ghost use Rattle.mon_schema.specs.Faults.{target_fault, metric_fault};
     ghost use Rattle.mon_schema.specs.Fits.{fits};
-    ghost use Rattle.mon_schema.specs.HeldMetrics.{AreHeld, HasNumbers};
+    ghost use Rattle.mon_schema.specs.HeldMetrics.{AreMetricsHeld, HasNumbers};
     ghost use Rattle.mon_schema.specs.HeldTargets.{AllTellLocations};
 
     /// No schemas, which take their memory from `alloc` as they are added.
@@ -145,7 +145,7 @@ impl Schemas {
 
     /// Each metric that is held has lawful bounds, and a kind that its type meets.
     pub fn metrics_are_lawful(&self)
-        ensures held { AreHeld self.now.metrics }
+        ensures held { AreMetricsHeld self.now.metrics }
     {
         let _ = &self.metrics;
     }

@@ -8,7 +8,7 @@ use Rattle.std.proofs.lemmas.Int.{ints}
 use Rattle.std.specs.Option.{ok_or}
 use Rattle.mon_value.specs.Answers.{◌>>=◌}
 use Rattle.mon_value.specs.Numbers.{number_of}
-use Rattle.mon_script.specs.Lawful.{IsLawful, IsLawfulLine}
+use Rattle.mon_script.specs.Lawful.{IsLawfulForm, IsLawfulLine}
 use Rattle.mon_script.specs.Lines.{behind_front, cut_at, is_remark}
 use Rattle.mon_script.specs.Scripts.{asked_at, form_by, form_of, is_file_name, is_moment, line_at, moment_of}
 use Rattle.mon_script.specs.Scripts.{not_built, script_from, space}
@@ -33,27 +33,28 @@ number_lawful None moment e = cc
 number_lawful (Some z) moment e = in_bounds z moment (int_le (pos 0) z) (int_le z (pos (2 ^ 63 - 1))) refl e
 
 asked_lawful : (text : List ℕ) (moment : ℤ) (what : LineForm) (utf8 : Bool) → pos 0 ≤ℤ moment
-    → cond utf8 (Some (form.Query moment text)) None ≡ Some what → IsLawful what
-asked_lawful text moment what true all e = let same : form.Query moment text ≡ what = cc in subst IsLawful same all
+    → cond utf8 (Some (form.Query moment text)) None ≡ Some what → IsLawfulForm what
+asked_lawful text moment what true all e = let same : form.Query moment text ≡ what = cc in subst IsLawfulForm same all
 asked_lawful text moment what false all e = cc
 
 query_lawful : (text : List ℕ) (moment : Option ℤ) (what : LineForm) → ((m : ℤ) → moment ≡ Some m → pos 0 ≤ℤ m) →
-    option_and_then (asked_at text) moment ≡ Some what → IsLawful what
+    option_and_then (asked_at text) moment ≡ Some what → IsLawfulForm what
 query_lawful text None what all e = cc
 query_lawful text (Some m) what all e = asked_lawful text m what (is_utf8 text) (all m refl) e
 
 text_lawful : (cut : Option (List ℕ × List ℕ)) (what : LineForm) →
-    option_and_then (λ words. option_and_then (asked_at words.1) (moment_of words.0)) cut ≡ Some what → IsLawful what
+    option_and_then (λ words. option_and_then (asked_at words.1) (moment_of words.0)) cut ≡ Some what
+    → IsLawfulForm what
 text_lawful None what e = cc
 text_lawful (Some words) what e = query_lawful words.1 (moment_of words.0) what (λ m. number_lawful (number_of words.0)
     m) e
 
 name_lawful : (name : List ℕ) (fits : Bool) (what : LineForm) → cond fits (Some (form.Feed name)) None ≡ Some what
-    → IsLawful what
-name_lawful name true what e = let same : form.Feed name ≡ what = cc in subst IsLawful same tt
+    → IsLawfulForm what
+name_lawful name true what e = let same : form.Feed name ≡ what = cc in subst IsLawfulForm same tt
 name_lawful name false what e = cc
 
-form_lawful : (feed query : Option (List ℕ)) (what : LineForm) → form_by feed query ≡ Some what → IsLawful what
+form_lawful : (feed query : Option (List ℕ)) (what : LineForm) → form_by feed query ≡ Some what → IsLawfulForm what
 form_lawful (Some name) query what e = name_lawful name (is_file_name name) what e
 form_lawful None (Some text) what e = text_lawful (cut_at space text) what e
 form_lawful None None what e = cc
@@ -61,7 +62,7 @@ form_lawful None None what e = cc
 abbrev pub AllLawful : Script → Type 0
 AllLawful script = AllByRecursion IsLawfulLine script
 
-rest_lawful : (number : ℕ) (what : LineForm) (rest : Result Script ScriptFault) (script : Script) → IsLawful what
+rest_lawful : (number : ℕ) (what : LineForm) (rest : Result Script ScriptFault) (script : Script) → IsLawfulForm what
     → ((lines : Script) → rest ≡ Ok lines → AllLawful lines) →
     rest >>= (λ lines. Ok (line_at number what ∷ lines)) ≡ Ok script → AllLawful script
 rest_lawful number what (Err fault) script lawful all e = cc
@@ -69,7 +70,7 @@ rest_lawful number what (Ok lines) script lawful all e = let same : line_at numb
     subst AllLawful same (lawful, all lines refl)
 
 line_lawful : (number : ℕ) (fault : ScriptFault) (what : Option LineForm) (rest : Result Script ScriptFault)
-    (script : Script) → ((w : LineForm) → what ≡ Some w → IsLawful w) → ((lines : Script) → rest ≡ Ok lines
+    (script : Script) → ((w : LineForm) → what ≡ Some w → IsLawfulForm w) → ((lines : Script) → rest ≡ Ok lines
     → AllLawful lines) →
     ok_or what fault >>= (λ w. rest >>= (λ lines. Ok (line_at number w ∷ lines))) ≡ Ok script → AllLawful script
 line_lawful number fault None rest script each all e = cc

@@ -5,9 +5,9 @@ use Rattle.mon_script.specs.declared.script.LineForm.TheVariants as form
 use Rattle.mon_script.specs.declared.script.ScriptLine.{ScriptLine}
 
 -- the moment of a query is no less than 0
-abbrev pub IsLawful : LineForm → Type 0
-IsLawful (form.Feed name) = Unit {0}
-IsLawful (form.Query moment text) = pos 0 ≤ℤ moment
+abbrev pub IsLawfulForm : LineForm → Type 0
+IsLawfulForm (form.Feed name) = Unit {0}
+IsLawfulForm (form.Query moment text) = pos 0 ≤ℤ moment
 
 abbrev pub IsLawfulLine : ScriptLine → Type 0
-IsLawfulLine line = IsLawful line.what
+IsLawfulLine line = IsLawfulForm line.what

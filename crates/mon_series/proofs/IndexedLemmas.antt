@@ -7,9 +7,9 @@ use Rattle.mon_value.specs.declared.rows.Row.{Row}
 use Rattle.mon_value.specs.declared.rows.SeriesKey.{SeriesKey}
 use Rattle.mon_series.specs.SeriesMaps.{series_held}
 use Rattle.mon_series.specs.declared.placing.Place.{Place}
-use Rattle.mon_series.specs.within.KeptRows.{AreKept}
+use Rattle.mon_series.specs.within.KeptRows.{AreRowsKept}
 use Rattle.mon_series.specs.within.Metrics.{HasNumbers, Index, NumbersKeys, SameNumbers, TakesNumber}
-use Rattle.mon_series.specs.within.Places.{Group, place_at, rows_at}
+use Rattle.mon_series.specs.within.Places.{Group, place_at, rows_at_places}
 use Rattle.mon_series.proofs.GroupLemmas.{keys_by_series}
 use Rattle.mon_series.proofs.HeldLemmas.{Entries}
 use Rattle.mon_series.proofs.KeptLemmas.{IsPushed, new_pushed, unchanged}
@@ -21,53 +21,58 @@ numbered_by index rows rows' same has = subst (HasNumbers index) (sym same) has
 
 -- nothing came, and there may be room for a number more
 pub stays_kept : {groups groups' : List Group} {places places' : List Place} {index room : Index}
-    → AreKept groups places index → SameNumbers index room
-    → groups' ≡ groups → places' ≡ places → AreKept groups' places' room
+    → AreRowsKept groups places index → SameNumbers index room
+    → groups' ≡ groups → places' ≡ places → AreRowsKept groups' places' room
 stays_kept {groups} {groups'} {places} {places'} {index} {room} kept more same stayed =
     let as_before = unchanged kept.placed same stayed in record {
       placed = as_before.0;
-      numbered = numbered_by room (rows_at groups places) (rows_at groups' places') as_before.1 (λ metric. more metric
+      numbered = numbered_by room (rows_at_places groups places) (rows_at_places groups' places') as_before.1
+          (λ metric. more metric
           ∙ kept.numbered metric);
     }
 
 -- a row of a series that is there came, or none
 pub known_kept : {E : Type 0} {groups groups' : List Group} {places places' : List Place} {index : Index}
     {rows : List Row} (row : Row) (at : ℕ)
-    (result : Result (Unit {0}) E) → AreKept groups places index → rows_at groups places ≡ rows
+    (result : Result (Unit {0}) E) → AreRowsKept groups places index → rows_at_places groups places ≡ rows
     → slice_get (series_of rows) at ≡ Some row.key
-    → IsPushed row groups groups' places places' result → AreKept groups' places' index
+    → IsPushed row groups groups' places places' result → AreRowsKept groups' places' index
 known_kept {E} {groups} {groups'} {places} {places'} {index} {rows} row at (Ok done) kept seen there pushed = record {
   placed = pushed.kept;
-  numbered = numbered_by index (rows ++ row ∷ []) (rows_at groups' places')
+  numbered = numbered_by index (rows ++ row ∷ []) (rows_at_places groups' places')
       (pushed.rows ∙ ap (λ (rs : List Row). rs ++ row ∷ []) seen)
-      (numbers_known index rows row at there (numbered_by index (rows_at groups places) rows (sym seen) kept.numbered));
+      (numbers_known index rows row at there
+      (numbered_by index (rows_at_places groups places) rows (sym seen) kept.numbered));
 }
 known_kept {E} {groups} {groups'} {places} {places'} {index} {rows} row at (Err error) kept seen there pushed = record {
   placed = pushed.kept;
-  numbered = numbered_by index (rows_at groups places) (rows_at groups' places') pushed.same kept.numbered;
+  numbered = numbered_by index (rows_at_places groups places) (rows_at_places groups' places')
+      pushed.same kept.numbered;
 }
 
 -- the first row of a series came
 pub first_kept : {groups groups' : List Group} {places places' : List Place} {index : Index} {rows : List Row}
     (row : Row) (room new : Index)
-    (number count : ℕ) → AreKept groups places index → rows_at groups places ≡ rows → points_of row.key rows ≡ []
+    (number count : ℕ) → AreRowsKept groups places index → rows_at_places groups places ≡ rows
+    → points_of row.key rows ≡ []
     → number ≡ length (series_of rows) → SameNumbers index room → TakesNumber room new row.key.metric number → count
     ≡ length groups
     → groups' ≡ groups ++ (row.key, row.point ∷ []) ∷ [] → places' ≡ places ++ place_at count 0 ∷ [] → count
     + 1 < 2 ^ 32
-    → AreKept groups' places' new × (rows_at groups' places' ≡ rows ++ row ∷ [])
+    → AreRowsKept groups' places' new × (rows_at_places groups' places' ≡ rows ++ row ∷ [])
 first_kept {groups} {groups'} {places} {places'} {index} {rows} row room new number count kept seen first number_is
     stays more count_is grown placed few =
     let done : Result (Unit {0}) (Unit {0}) = Ok tt in
     let pushed : IsPushed row groups groups' places places' done =
     new_pushed kept.placed seen row groups' places' done first grown
     (placed ∙ ap (λ n. places ++ place_at n 0 ∷ []) count_is) (subst (λ (n : ℕ). n + 1 < 2 ^ 32) count_is few) tt tt in
-    let all : rows_at groups' places' ≡ rows ++ row ∷ [] = pushed.rows ∙ ap (λ (rs : List Row). rs ++ row ∷ []) seen in
+    let all : rows_at_places groups' places' ≡ rows ++ row ∷ [] = pushed.rows
+    ∙ ap (λ (rs : List Row). rs ++ row ∷ []) seen in
     let has : HasNumbers room rows =
-    λ metric. stays metric ∙ numbered_by index (rows_at groups places) rows (sym seen) kept.numbered metric in (
+    λ metric. stays metric ∙ numbered_by index (rows_at_places groups places) rows (sym seen) kept.numbered metric in (
       record {
         placed = pushed.kept;
-        numbered = numbered_by new (rows ++ row ∷ []) (rows_at groups' places') all
+        numbered = numbered_by new (rows ++ row ∷ []) (rows_at_places groups' places') all
             (numbers_new room new rows row number first number_is has more);
       },
       all,
@@ -79,11 +84,12 @@ keys_held (entry ∷ entries) = ap (λ (keys : List SeriesKey). entry.0 ∷ keys
 
 -- copies of the series and the places, and numbers of their own
 pub copy_kept : {groups' : List Group} {places places' : List Place} {index new : Index} (entries : Entries)
-    → AreKept (series_held entries) places index
-    → groups' ≡ series_held entries → places' ≡ places → NumbersKeys new (keys_of entries) → AreKept groups' places' new
+    → AreRowsKept (series_held entries) places index
+    → groups' ≡ series_held entries → places' ≡ places → NumbersKeys new (keys_of entries)
+    → AreRowsKept groups' places' new
 copy_kept {groups'} {places} {places'} {index} {new} entries kept same stayed numbers =
     let as_before = unchanged kept.placed same stayed in
-    let keys : keys_of entries ≡ series_of (rows_at groups' places') =
-    keys_held entries ∙ ap keys_in kept.placed.grouped ∙ keys_by_series (rows_at (series_held entries) places)
+    let keys : keys_of entries ≡ series_of (rows_at_places groups' places') =
+    keys_held entries ∙ ap keys_in kept.placed.grouped ∙ keys_by_series (rows_at_places (series_held entries) places)
     ∙ ap series_of (sym as_before.1) in
     record { placed = as_before.0; numbered = subst (NumbersKeys new) keys numbers }

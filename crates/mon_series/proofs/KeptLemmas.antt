@@ -14,8 +14,9 @@ use Rattle.mon_value.specs.declared.rows.Point.{Point}
 use Rattle.mon_value.specs.declared.rows.Row.{Row}
 use Rattle.mon_value.specs.declared.rows.SeriesKey.{SeriesKey}
 use Rattle.mon_series.specs.declared.placing.Place.{Place}
-use Rattle.mon_series.specs.within.Places.{AllThere, Group, IsKept, TakesRow, count_at, place_at, row_at, row_of_parts}
-use Rattle.mon_series.specs.within.Places.{rows_at, with_point_at}
+use Rattle.mon_series.specs.within.Places.{HaveRows, Group, AreGroupsKept, TakesRow, count_at, place_at, row_at}
+use Rattle.mon_series.specs.within.Places.{row_of_parts}
+use Rattle.mon_series.specs.within.Places.{rows_at_places, with_point_at}
 use Rattle.mon_series.proofs.GroupLemmas.{IsFirst, first_by_series, found_first, group_by_series, grown_first}
 use Rattle.mon_series.proofs.GroupLemmas.{grown_last, keys_by_series, series_number}
 use Rattle.mon_series.proofs.PlaceLemmas.{Keeps, keeps_grown, keeps_new, keys_in, row_grown, row_listed, row_new}
@@ -24,35 +25,38 @@ use Rattle.mon_series.proofs.PlaceLemmas.{row_parts, rows_added, rows_kept, ther
 -- what is kept after a push, and which rows it has
 pub record IsPushed {E : Type 0} (row : Row) (groups groups' : List Group) (places places' : List Place)
     (result : Result (Unit {0}) E) : Type 0 where
-  pub kept : IsKept groups' places'
-  pub rows : OnOk result (rows_at groups' places' ≡ rows_at groups places ++ row ∷ [])
-  pub same : OnErr result (rows_at groups' places' ≡ rows_at groups places)
+  pub kept : AreGroupsKept groups' places'
+  pub rows : OnOk result (rows_at_places groups' places' ≡ rows_at_places groups places ++ row ∷ [])
+  pub same : OnErr result (rows_at_places groups' places' ≡ rows_at_places groups places)
 
 -- all is kept as it was
-pub unchanged : {groups groups' : List Group} {places places' : List Place} → IsKept groups places → groups' ≡ groups
+pub unchanged : {groups groups' : List Group} {places places' : List Place} → AreGroupsKept groups places → groups'
+    ≡ groups
     → places' ≡ places
-    → IsKept groups' places' × (rows_at groups' places' ≡ rows_at groups places)
+    → AreGroupsKept groups' places' × (rows_at_places groups' places' ≡ rows_at_places groups places)
 unchanged {groups} {groups'} {places} {places'} kept same stayed = (
-  subst (λ (ps : List Place). IsKept groups' ps) (sym stayed) (subst (λ (gs : List Group). IsKept gs places) (sym same)
+  subst (λ (ps : List Place). AreGroupsKept groups' ps) (sym stayed)
+      (subst (λ (gs : List Group). AreGroupsKept gs places) (sym same)
       kept),
-  (λ i. rows_at (same i) (stayed i)),
+  (λ i. rows_at_places (same i) (stayed i)),
 )
 
 -- a row came: its place is there, and whatever was there stays
 grown_by : {groups groups' : List Group} {places places' : List Place} (row : Row) (series point : ℕ)
-    → IsKept groups places → Keeps groups groups'
+    → AreGroupsKept groups places → Keeps groups groups'
     → row_at groups' series point ≡ Some row → groups' ≡ with_point groups row.key row.point → places' ≡ places
     ++ place_at series point ∷ []
-    → length groups' < 2 ^ 32 → IsKept groups' places' × (rows_at groups' places' ≡ rows_at groups places ++ row ∷ [])
+    → length groups' < 2 ^ 32 → AreGroupsKept groups' places'
+    × (rows_at_places groups' places' ≡ rows_at_places groups places ++ row ∷ [])
 grown_by {groups} {groups'} {places} {places'} row series point kept keeps there grown placed few =
     let stays = rows_kept groups groups' places keeps kept.there in
-    let rows : rows_at groups' places' ≡ rows_at groups places ++ row ∷ [] =
-    ap (rows_at groups') placed ∙ rows_added groups' places series point row there
+    let rows : rows_at_places groups' places' ≡ rows_at_places groups places ++ row ∷ [] =
+    ap (rows_at_places groups') placed ∙ rows_added groups' places series point row there
     ∙ ap (λ (rs : List Row). rs ++ row ∷ []) stays.0 in (
       record {
         grouped = grown ∙ ap (λ (gs : List Group). with_point gs row.key row.point) kept.grouped
-            ∙ sym (points_by_series-push (rows_at groups places) row) ∙ ap points_by_series (sym rows);
-        there = subst (AllThere groups') (sym placed) (there_added groups' places series point row there stays.1);
+            ∙ sym (points_by_series-push (rows_at_places groups places) row) ∙ ap points_by_series (sym rows);
+        there = subst (HaveRows groups') (sym placed) (there_added groups' places series point row there stays.1);
         few = few;
       },
       rows,
@@ -99,8 +103,8 @@ some_points key rows has none =
     let count = length-map (rows_of key rows) (λ (row : Row). row.point) in
     omega (arith, some, count, ap length none)
 
-module _ {groups : List Group} {places : List Place} {rows : List Row} (kept : IsKept groups places)
-    (seen : rows_at groups places ≡ rows) where
+module _ {groups : List Group} {places : List Place} {rows : List Row} (kept : AreGroupsKept groups places)
+    (seen : rows_at_places groups places ≡ rows) where
   grouped : groups ≡ points_by_series rows
   grouped = kept.grouped ∙ ap points_by_series seen
 

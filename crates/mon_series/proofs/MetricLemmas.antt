@@ -17,7 +17,7 @@ use Rattle.mon_value.specs.declared.rows.SeriesKey.{SeriesKey}
 use Rattle.mon_series.specs.MetricNumbers.{numbers_from}
 use Rattle.mon_series.specs.SeriesPoints.{SeriesPoints}
 use Rattle.mon_series.specs.within.Metrics.{HasNumbers, HasRoom, Index, IsPlace, NumbersKeys, SameNumbers, TakesNumber}
-use Rattle.mon_series.specs.within.Metrics.{listed}
+use Rattle.mon_series.specs.within.Metrics.{listed_numbers}
 use Rattle.mon_series.proofs.FirstLemmas.{IsFirst}
 
 -- ---- places
@@ -52,9 +52,10 @@ place_new metric (e ∷ index) numbers none =
 
 -- ---- the same numbers
 
-listed_same : (b : Bool) (one two : RoomList ℕ) (rest more : Option (RoomList ℕ)) → one.items ≡ two.items → listed rest
-    ≡ listed more
-    → listed (cond b (Some one) rest) ≡ listed (cond b (Some two) more)
+listed_same : (b : Bool) (one two : RoomList ℕ) (rest more : Option (RoomList ℕ)) → one.items ≡ two.items
+    → listed_numbers rest
+    ≡ listed_numbers more
+    → listed_numbers (cond b (Some one) rest) ≡ listed_numbers (cond b (Some two) more)
 listed_same true one two rest more same others = same
 listed_same false one two rest more same others = others
 
@@ -74,7 +75,7 @@ pub same_new : (index : Index) (key : List ℕ) (numbers : RoomList ℕ) → num
     (index ++ (key, numbers) ∷ [])
 same_new [] key numbers none metric = by (same_text metric key)
   where
-    by : (b : Bool) → listed (cond b (Some numbers) None) ≡ []
+    by : (b : Bool) → listed_numbers (cond b (Some numbers) None) ≡ []
     by true = none
     by false = refl
 same_new (e ∷ index) key numbers none metric =
@@ -86,14 +87,14 @@ same_new (e ∷ index) key numbers none metric =
 
 taken_here : (b : Bool) (before after : RoomList ℕ) (number : ℕ) (rest : Option (RoomList ℕ)) → after.items
     ≡ before.items ++ number ∷ []
-    → listed (cond b (Some after) rest) ≡ listed (cond b (Some before) rest) ++ cond b (number ∷ []) []
+    → listed_numbers (cond b (Some after) rest) ≡ listed_numbers (cond b (Some before) rest) ++ cond b (number ∷ []) []
 taken_here true before after number rest more = more
-taken_here false before after number rest more = sym (append-nil (listed rest))
+taken_here false before after number rest more = sym (append-nil (listed_numbers rest))
 
 taken_behind : (b same : Bool) (own : RoomList ℕ) (number : ℕ) (rest new : Option (RoomList ℕ))
     → (b ≡ true → same ≡ false)
-    → listed new ≡ listed rest ++ cond same (number ∷ []) []
-    → listed (cond b (Some own) new) ≡ listed (cond b (Some own) rest) ++ cond same (number ∷ []) []
+    → listed_numbers new ≡ listed_numbers rest ++ cond same (number ∷ []) []
+    → listed_numbers (cond b (Some own) new) ≡ listed_numbers (cond b (Some own) rest) ++ cond same (number ∷ []) []
 taken_behind true same own number rest new apart more = sym (append-nil own.items)
     ∙ ap (λ c. own.items ++ cond c (number ∷ []) []) (sym (apart refl))
 taken_behind false same own number rest new apart more = more
@@ -114,7 +115,7 @@ takes (e ∷ index) metric key zero number before after place there more other =
     let is : metric ≡ e.0 = (same_text-Decides metric e.0).0 place in
     taken_here (same_text other e.0) e.1 after number (lookup (same_text other) index)
     (more ∙ ap (λ (p : List ℕ × RoomList ℕ). p.1.items ++ number ∷ []) (sym same))
-    ∙ ap (λ (k : List ℕ). listed (cond (same_text other e.0) (Some e.1) (lookup (same_text other) index))
+    ∙ ap (λ (k : List ℕ). listed_numbers (cond (same_text other e.0) (Some e.1) (lookup (same_text other) index))
     ++ cond (same_text other k) (number ∷ []) []) (sym is)
 takes (e ∷ index) metric key (suc at) number before after place there more other =
     taken_behind (same_text other e.0) (same_text other metric) e.1 number (lookup (same_text other) index)
@@ -224,7 +225,7 @@ none_numbered index number left all none at_first same = record {
   done = [];
   split = ap keys_of same;
   count = at_first;
-  numbered = λ metric. ap (λ (es : Index). listed (lookup (same_text metric) es)) none;
+  numbered = λ metric. ap (λ (es : Index). listed_numbers (lookup (same_text metric) es)) none;
 }
 
 pub one_numbered : (index same new : Index) (number next : ℕ) (left rest all : Entries) (key : SeriesKey)

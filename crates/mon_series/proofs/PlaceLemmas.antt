@@ -6,8 +6,8 @@ use Rattle.mon_value.specs.declared.rows.Point.{Point}
 use Rattle.mon_value.specs.declared.rows.Row.{Row}
 use Rattle.mon_value.specs.declared.rows.SeriesKey.{SeriesKey}
 use Rattle.mon_series.specs.declared.placing.Place.{Place}
-use Rattle.mon_series.specs.within.Places.{AllThere, Group, count_at, place_at, row_at, row_of_parts, rows_at}
-use Rattle.mon_series.specs.within.Places.{with_point_at, with_row}
+use Rattle.mon_series.specs.within.Places.{HaveRows, Group, count_at, place_at, row_at, row_of_parts, rows_at_places}
+use Rattle.mon_series.specs.within.Places.{with_point_at, with_found_row}
 
 -- ---- lists
 
@@ -72,51 +72,53 @@ there_at : (o : Option Row) → is_some o ≡ true → (row : Row) × (o ≡ Som
 there_at None e = absurd cc
 there_at (Some row) e = (row, refl)
 
-pub rows_kept : (groups groups' : List Group) (places : List Place) → Keeps groups groups' → AllThere groups places
-    → (rows_at groups' places ≡ rows_at groups places) × AllThere groups' places
+pub rows_kept : (groups groups' : List Group) (places : List Place) → Keeps groups groups' → HaveRows groups places
+    → (rows_at_places groups' places ≡ rows_at_places groups places) × HaveRows groups' places
 rows_kept groups groups' [] keeps there = (refl, tt)
 rows_kept groups groups' (place ∷ places) keeps there =
     let found = there_at (row_at groups place.series place.point) there.0 in
     let again : row_at groups' place.series place.point ≡ Some found.0 = keeps place.series place.point found.0
     found.1 in
     let rest = rows_kept groups groups' places keeps there.1 in (
-      (λ i. with_row ((again ∙ sym found.1) i) (rest.0 i)),
+      (λ i. with_found_row ((again ∙ sym found.1) i) (rest.0 i)),
       (ap is_some again, rest.1),
     )
 
 pub rows_added : (groups : List Group) (places : List Place) (series point : ℕ) (row : Row) → row_at groups series
     point ≡ Some row
-    → rows_at groups (places ++ place_at series point ∷ []) ≡ rows_at groups places ++ row ∷ []
-rows_added groups [] series point row e = ap (λ (o : Option Row). with_row o []) e
+    → rows_at_places groups (places ++ place_at series point ∷ []) ≡ rows_at_places groups places ++ row ∷ []
+rows_added groups [] series point row e = ap (λ (o : Option Row). with_found_row o []) e
 rows_added groups (place ∷ places) series point row e =
-    ap (with_row (row_at groups place.series place.point)) (rows_added groups places series point row e)
+    ap (with_found_row (row_at groups place.series place.point)) (rows_added groups places series point row e)
     ∙ by (row_at groups place.series place.point)
   where
-    by : (o : Option Row) → with_row o (rows_at groups places ++ row ∷ []) ≡ with_row o (rows_at groups places)
+    by : (o : Option Row) → with_found_row o (rows_at_places groups places ++ row ∷ [])
+        ≡ with_found_row o (rows_at_places groups places)
         ++ row ∷ []
     by None = refl
     by (Some first) = refl
 
 pub there_added : (groups : List Group) (places : List Place) (series point : ℕ) (row : Row) → row_at groups series
     point ≡ Some row
-    → AllThere groups places → AllThere groups (places ++ place_at series point ∷ [])
+    → HaveRows groups places → HaveRows groups (places ++ place_at series point ∷ [])
 there_added groups [] series point row e there = (ap is_some e, tt)
 there_added groups (place ∷ places) series point row e there =
     (there.0, there_added groups places series point row e there.1)
 
 -- as many rows as places
-pub rows_count : (groups : List Group) (places : List Place) → AllThere groups places → length (rows_at groups places)
+pub rows_count : (groups : List Group) (places : List Place) → HaveRows groups places
+    → length (rows_at_places groups places)
     ≡ length places
 rows_count groups [] there = refl
 rows_count groups (place ∷ places) there =
     let found = there_at (row_at groups place.series place.point) there.0 in
-    ap (λ (o : Option Row). length (with_row o (rows_at groups places))) found.1
+    ap (λ (o : Option Row). length (with_found_row o (rows_at_places groups places))) found.1
     ∙ ap suc (rows_count groups places there.1)
 
 -- a place that is listed has a row, with the same number
-pub row_listed : (groups : List Group) (places : List Place) (n : ℕ) (place : Place) → AllThere groups places
+pub row_listed : (groups : List Group) (places : List Place) (n : ℕ) (place : Place) → HaveRows groups places
     → slice_get places n ≡ Some place
-    → (row : Row) × (row_at groups place.series place.point ≡ Some row) × (slice_get (rows_at groups places) n
+    → (row : Row) × (row_at groups place.series place.point ≡ Some row) × (slice_get (rows_at_places groups places) n
     ≡ Some row)
 row_listed groups [] n place there listed = absurd cc
 row_listed groups (first ∷ places) zero place there listed =
@@ -124,12 +126,16 @@ row_listed groups (first ∷ places) zero place there listed =
     let found = there_at (row_at groups first.series first.point) there.0 in (
       found.0,
       ap (λ (p : Place). row_at groups p.series p.point) (sym same) ∙ found.1,
-      ap (λ (o : Option Row). slice_get (with_row o (rows_at groups places)) zero) found.1,
+      ap (λ (o : Option Row). slice_get (with_found_row o (rows_at_places groups places)) zero) found.1,
     )
 row_listed groups (first ∷ places) (suc n) place there listed =
     let found = there_at (row_at groups first.series first.point) there.0 in
-    let rest = row_listed groups places n place there.1 listed in
-    (rest.0, rest.1, ap (λ (o : Option Row). slice_get (with_row o (rows_at groups places)) (suc n)) found.1 ∙ rest.2)
+    let rest = row_listed groups places n place there.1 listed in (
+      rest.0,
+      rest.1,
+      ap (λ (o : Option Row). slice_get (with_found_row o (rows_at_places groups places)) (suc n))
+          found.1 ∙ rest.2,
+    )
 
 -- a row at a place is the point of that number in the group of that number
 pub row_parts : (groups : List Group) (series point : ℕ) (row : Row) → row_at groups series point ≡ Some row

@@ -102,7 +102,7 @@ impl KeptPoint {
         match &self.form {
             Form::Number { number, .. } => Some(i128::from(*number)),
             Form::Truth { .. } => None,
-            Form::Boxed(point) => number_of(&point.value),
+            Form::Boxed(point) => whole_of(&point.value),
         }
     }
 
@@ -145,7 +145,7 @@ fn short_form(point: &Point) -> Option<Form>
 }
 
 // The number that a value is, if it is one.
-fn number_of(value: &Value) -> Option<i128>
+fn whole_of(value: &Value) -> Option<i128>
     ensures number { result ≡ number_in value.now }
 {
     match value {

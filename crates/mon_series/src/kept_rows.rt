@@ -43,12 +43,12 @@ impl Model for KeptRows {
     ghost Value = { List Row };
 
     ghost use Rattle.mon_series.specs.SeriesMaps.{series_held};
-    ghost use Rattle.mon_series.specs.within.KeptRows.{AreKept};
-    ghost use Rattle.mon_series.specs.within.Places.{rows_at};
+    ghost use Rattle.mon_series.specs.within.KeptRows.{AreRowsKept};
+    ghost use Rattle.mon_series.specs.within.Places.{rows_at_places};
 
-    ghost view = { λ rows. rows_at (series_held rows.series.entries) rows.order.items };
+    ghost view = { λ rows. rows_at_places (series_held rows.series.entries) rows.order.items };
 
-    ghost invariant = { λ rows. AreKept (series_held rows.series.entries) rows.order.items rows.by_metric.entries };
+    ghost invariant = { λ rows. AreRowsKept (series_held rows.series.entries) rows.order.items rows.by_metric.entries };
 }
 
 impl KeptRows {

@@ -21,7 +21,8 @@ use Rattle.mon_topo.proofs.PartLemmas.{zone_of_part}
 use Rattle.mon_topo.specs.Locations.{location_of}
 use Rattle.mon_topo.specs.RangeHistories.{IsInZoneOf}
 use Rattle.mon_topo.specs.Replicas.{HasReplicas}
-use Rattle.mon_topo.specs.Zones.{first_leaf, first_replicas, leaf_zones, ranges_in, zone_at, zone_numbered, zone_of}
+use Rattle.mon_value.specs.Positions.{zone_numbered}
+use Rattle.mon_topo.specs.Zones.{first_leaf, first_replicas, leaf_zones, ranges_in, zone_at, zone_of}
 use Rattle.mon_config.specs.declared.config.Config.{Config}
 use Rattle.mql_types.specs.Nodes.{TypedTree}
 use Rattle.mql_types.specs.Soundness.{IsQueryType, IsTyped}
@@ -31,9 +32,9 @@ use Rattle.mon_meaning.specs.declared.meter.OverLimit.{OverLimit}
 use Rattle.mixer.specs.Divisions.{AreApart, IsDivided, ShareNoLocation, ShareNoTarget, all_rows, has_location, together}
 use Rattle.leaf_store.specs.LeafStates.{LeafView}
 use Rattle.mon_store.specs.Writes.{is_range, range_of_key}
-use Rattle.mon_store.specs.within.Divisions.{divided_rows, leaf_rows, zone_rows}
-use Rattle.mon_store.specs.Stores.{AllFit, AreKept, range_rows, rows_kept}
-use Rattle.mon_store.specs.within.Leaves.{first_slot, first_slots, is_at, leaf_of}
+use Rattle.mon_store.specs.within.Divisions.{divided_rows, divided_leaf_rows, zone_rows}
+use Rattle.mon_store.specs.Stores.{AllFit, AreReplicasKept, range_rows, rows_kept}
+use Rattle.mon_store.specs.within.Leaves.{first_slot, first_slots, is_on_leaf, leaf_of}
 use Rattle.mon_store.proofs.DivisionPoints.{points_divided}
 use Rattle.mon_store.proofs.LeafRowLemmas.{LiesOn, lie_on, no_targets}
 use Rattle.mon_store.proofs.ListedLemmas.{all_append, all_flat, all_listed, all_weaker, apart_listed, map_listed}
@@ -55,7 +56,7 @@ every P f each [] = tt
 every P f each (x ∷ xs) = (each x, every P f each xs)
 
 module _ (config : Config) (rows : List Row) (P : Row → Type 0) (all : AllByRecursion P rows) where
-  pub all_on_leaf : (n : ℕ) → AllByRecursion P (leaf_rows config rows n)
+  pub all_on_leaf : (n : ℕ) → AllByRecursion P (divided_leaf_rows config rows n)
   all_on_leaf n =
       let slots : List RangeSlot = first_slots config.topology n (length (ranges_in config.topology)) in
       all_flat P (λ (own : RangeSlot). range_rows config own.range rows) slots
@@ -65,7 +66,7 @@ module _ (config : Config) (rows : List Row) (P : Row → Type 0) (all : AllByRe
   all_in_zone : (z : ℕ) → AllByRecursion P (together (zone_rows config rows z))
   all_in_zone z =
       all_together P (zone_rows config rows z)
-      (all_listed (AllByRecursion P) (λ i. leaf_rows config rows (first_leaf config.topology z + i))
+      (all_listed (AllByRecursion P) (λ i. divided_leaf_rows config rows (first_leaf config.topology z + i))
       (length (zone_at config.topology z).leaves) (λ i within. all_on_leaf (first_leaf config.topology z + i)))
 
   pub all_divided : AllByRecursion P (all_rows (divided_rows config rows))
@@ -92,9 +93,9 @@ typed_for held typed rows has fit = record {
 
 -- the rows on a leaf
 pub leaf_typed : (config : Config) (typed : TypedTree) (rows : List Row) (n : ℕ) → IsQueryType config.schemas typed
-    → AllFit config.schemas rows → IsTyped typed (leaf_rows config rows n)
+    → AllFit config.schemas rows → IsTyped typed (divided_leaf_rows config rows n)
 leaf_typed config typed rows n has fit =
-    typed_for config.schemas typed (leaf_rows config rows n) has
+    typed_for config.schemas typed (divided_leaf_rows config rows n) has
     (all_on_leaf config rows (λ row. fits config.schemas row ≡ true) fit n)
 
 -- ---- zones
@@ -114,7 +115,7 @@ all_at P (y ∷ xs) (suc i) x e all = all_at P xs i x e all.1
 one_zone : (z y : ℕ) → Some (zone_numbered z) ≡ Some (zone_numbered y) → z ≡ y
 one_zone z y same = let is : zone_numbered z ≡ zone_numbered y = cc in ap (λ (zone : Zone). zone.0) is
 
-leaf_is : (n : ℕ) (leaf : Leaf) → is_at n (Some leaf) ≡ true → leaf.0 ≡ n
+leaf_is : (n : ℕ) (leaf : Leaf) → is_on_leaf n (Some leaf) ≡ true → leaf.0 ≡ n
 leaf_is n leaf here = let same : nat_eq leaf.0 n ≡ true = here in grind (arith, nat_tests)
 
 module _ (config : Config) (has : AllHave config.topology) (z i : ℕ) (there : z < length config.topology)
@@ -123,7 +124,7 @@ module _ (config : Config) (has : AllHave config.topology) (z i : ℕ) (there : 
   n = first_leaf config.topology z + i
 
   on_leaf : (range : Range) (o : Option Leaf) → range_of_key config row.key ≡ Some range
-      → leaf_of config.topology range first_slot ≡ o → is_at n o ≡ true → LiesIn config z row
+      → leaf_of config.topology range first_slot ≡ o → is_on_leaf n o ≡ true → LiesIn config z row
   on_leaf range None at first here = absurd cc
   on_leaf range (Some leaf) at first here =
       let zones = config.topology in
@@ -151,11 +152,13 @@ lie_in : (config : Config) → AllHave config.topology → (rows : List Row) (z 
     → AllByRecursion (LiesIn config z) (together (zone_rows config rows z))
 lie_in config has rows z there =
     all_together (LiesIn config z) (zone_rows config rows z)
-    (all_listed (AllByRecursion (LiesIn config z)) (λ i. leaf_rows config rows (first_leaf config.topology z + i))
+    (all_listed (AllByRecursion (LiesIn config z))
+    (λ i. divided_leaf_rows config rows (first_leaf config.topology z + i))
     (length (zone_at config.topology z).leaves)
     (λ i within. all_weaker (LiesOn config (first_leaf config.topology z + i)) (LiesIn config z)
     (λ row lies. in_zone config has z i there within row lies)
-    (leaf_rows config rows (first_leaf config.topology z + i)) (lie_on config rows (first_leaf config.topology z + i))))
+    (divided_leaf_rows config rows (first_leaf config.topology z + i))
+    (lie_on config rows (first_leaf config.topology z + i))))
 
 module _ (config : Config) (z y : ℕ) (lt : z < y) where
   text_by : (location other : List ℕ) (b : Bool) → same_text location other ≡ b
@@ -191,9 +194,11 @@ module _ (config : Config) (z y : ℕ) (lt : z < y) where
 leaves_apart : (config : Config) (rows : List Row) (z : ℕ) → AreApart ShareNoTarget (zone_rows config rows z)
 leaves_apart config rows z =
     let first = first_leaf config.topology z in
-    apart_listed ShareNoTarget (λ i. leaf_rows config rows (first + i)) (length (zone_at config.topology z).leaves)
-    (λ i j lt within. no_targets config (first + i) (first + j) (omega (arith, lt)) (leaf_rows config rows (first + i))
-    (leaf_rows config rows (first + j)) (lie_on config rows (first + i)) (lie_on config rows (first + j)))
+    apart_listed ShareNoTarget (λ i. divided_leaf_rows config rows (first + i))
+    (length (zone_at config.topology z).leaves)
+    (λ i j lt within. no_targets config (first + i) (first + j) (omega (arith, lt))
+    (divided_leaf_rows config rows (first + i))
+    (divided_leaf_rows config rows (first + j)) (lie_on config rows (first + i)) (lie_on config rows (first + j)))
 
 zones_apart : (config : Config) → AllHave config.topology → (rows : List Row)
     → AreApart (ShareNoLocation config.schemas) (map together (divided_rows config rows))
@@ -209,7 +214,7 @@ module _ (config : Config) (leaves : List LeafView) (order : List Range) where
   abbrev rows : List Row
   rows = rows_kept leaves order
 
-  pub is_divided : (typed : TypedTree) → AreKept config leaves order → AllHave config.topology
+  pub is_divided : (typed : TypedTree) → AreReplicasKept config leaves order → AllHave config.topology
       → IsQueryType config.schemas
       typed
       → AllFit config.schemas rows → IsDivided typed (divided_rows config rows)
@@ -222,13 +227,13 @@ module _ (config : Config) (leaves : List LeafView) (order : List Range) where
     zones_apart = zones_apart config has rows;
   }
 
-  pub divided_points : AreKept config leaves order → AllHave config.topology → (key : SeriesKey)
+  pub divided_points : AreReplicasKept config leaves order → AllHave config.topology → (key : SeriesKey)
       → points_of key (all_rows (divided_rows config rows)) ≡ points_of key rows
   divided_points kept has key = points_divided config has rows key kept.placed
 
   -- an answer over the rows of all zones is one over the rows as they were accepted
   pub answer_divided : (typed : TypedTree) (moment : ℤ) (limit : ℕ) (result : Result Table (Refusal OverLimit))
-      → AreKept config leaves order → AllHave config.topology
+      → AreReplicasKept config leaves order → AllHave config.topology
       → IsAnswer typed (all_rows (divided_rows config rows)) moment limit result → IsAnswer typed rows moment limit
       result
   answer_divided typed moment limit result kept has =

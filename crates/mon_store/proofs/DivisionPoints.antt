@@ -17,14 +17,15 @@ use Rattle.mon_value.specs.declared.rows.Point.{Point}
 use Rattle.mon_value.specs.declared.rows.Row.{Row}
 use Rattle.mon_value.specs.declared.rows.SeriesKey.{SeriesKey}
 use Rattle.mon_topo.specs.Replicas.{HasReplicas}
-use Rattle.mon_topo.specs.Zones.{first_leaf, first_replicas, leaves_in, range_numbered, ranges_in, zone_at}
+use Rattle.mon_value.specs.Positions.{range_numbered}
+use Rattle.mon_topo.specs.Zones.{first_leaf, first_replicas, leaves_in, ranges_in, zone_at}
 use Rattle.mon_topo.specs.declared.zones.ZoneSpec.{ZoneSpec}
 use Rattle.mon_config.specs.declared.config.Config.{Config}
 use Rattle.mixer.specs.Divisions.{all_rows, together}
 use Rattle.mon_store.specs.Writes.{is_range, range_of_key}
-use Rattle.mon_store.specs.within.Divisions.{divided_rows, leaf_rows, listed, slots_rows, zone_rows}
+use Rattle.mon_store.specs.within.Divisions.{divided_rows, divided_leaf_rows, values_below, slots_rows, zone_rows}
 use Rattle.mon_store.specs.Stores.{range_rows}
-use Rattle.mon_store.specs.within.Leaves.{first_slot, first_slots, is_at, leaf_of}
+use Rattle.mon_store.specs.within.Leaves.{first_slot, first_slots, is_on_leaf, leaf_of}
 use Rattle.mon_store.proofs.LeafRowLemmas.{first_replica, is_in}
 use Rattle.mon_store.proofs.OpenLemmas.{replica_there}
 use Rattle.mon_topo.proofs.PlacedRangeLemmas.{range_known}
@@ -112,7 +113,7 @@ is_range_below n None = false
 is_range_below n (Some range) = nat_lt range.0 n
 
 next_leaf : (points : List Point) (n : ℕ) (o : Option Leaf)
-    → cond (is_below n o) points [] ++ cond (is_at n o) points [] ≡ cond (is_below (suc n) o) points []
+    → cond (is_below n o) points [] ++ cond (is_on_leaf n o) points [] ≡ cond (is_below (suc n) o) points []
 next_leaf points n None = refl
 next_leaf points n (Some leaf) =
     ap (λ b. cond (nat_lt leaf.0 n && true) points [] ++ cond b points []) (sym (and_true (nat_eq leaf.0 n)))
@@ -172,28 +173,29 @@ module _ (config : Config) (has : AllHave config.topology) (rows : List Row) (ke
   last_by most false true is = refl
   last_by most false false is = refl
 
-  none_first : (n : ℕ) (o : Option Range) → [] ≡ cond (is_range_below 0 o && is_at n (leaf_for o)) points []
+  none_first : (n : ℕ) (o : Option Range) → [] ≡ cond (is_range_below 0 o && is_on_leaf n (leaf_for o)) points []
   none_first n None = refl
   none_first n (Some range) =
       let below : nat_lt range.0 0 ≡ false = grind (arith, nat_tests) in
-      ap (λ b. cond (b && is_at n (leaf_of config.topology range first_slot)) points []) (sym below)
+      ap (λ b. cond (b && is_on_leaf n (leaf_of config.topology range first_slot)) points []) (sym below)
 
   next_range : (n most : ℕ) (o : Option Range)
-      → cond (is_range_below most o && is_at n (leaf_for o)) points []
-      ++ cond (is_range (range_numbered most) o && is_at n (leaf_of zones (range_numbered most) first_slot)) points []
-      ≡ cond (is_range_below (suc most) o && is_at n (leaf_for o)) points []
+      → cond (is_range_below most o && is_on_leaf n (leaf_for o)) points []
+      ++ cond (is_range (range_numbered most) o && is_on_leaf n (leaf_of zones (range_numbered most) first_slot))
+      points []
+      ≡ cond (is_range_below (suc most) o && is_on_leaf n (leaf_for o)) points []
   next_range n most None = refl
   next_range n most (Some range) =
-      next points range.0 most (is_at n (leaf_of zones range first_slot))
-      (is_at n (leaf_of zones (range_numbered most) first_slot))
-      (λ same. ap (λ k. is_at n (leaf_of zones (range_numbered k) first_slot)) same)
+      next points range.0 most (is_on_leaf n (leaf_of zones range first_slot))
+      (is_on_leaf n (leaf_of zones (range_numbered most) first_slot))
+      (λ same. ap (λ k. is_on_leaf n (leaf_of zones (range_numbered k) first_slot)) same)
 
   slot_points : (n most : ℕ) → points_of key (slots_rows config rows (first_slots zones n most))
-      ≡ cond (is_range_below most (range_of_key config key) && is_at n home) points []
+      ≡ cond (is_range_below most (range_of_key config key) && is_on_leaf n home) points []
   slot_points n zero = none_first n (range_of_key config key)
   slot_points n (suc most) =
       let front = first_slots zones n most in
-      let here = is_at n (leaf_of zones (range_numbered most) first_slot) in
+      let here = is_on_leaf n (leaf_of zones (range_numbered most) first_slot) in
       let last : List RangeSlot = cond here (first_replica most ∷ []) [] in
       ap (points_of key) (flat_map-append (λ (own : RangeSlot). range_rows config own.range rows) front last)
       ∙ points_append key (slots_rows config rows front) (slots_rows config rows last)
@@ -202,16 +204,16 @@ module _ (config : Config) (has : AllHave config.topology) (rows : List Row) (ke
       ∙ next_range n most (range_of_key config key)
 
   known_by : (n : ℕ) (o : Option Range) → range_of_key config key ≡ o
-      → cond (is_range_below (length (ranges_in zones)) o && is_at n (leaf_for o)) points []
-      ≡ cond (is_at n (leaf_for o)) points []
+      → cond (is_range_below (length (ranges_in zones)) o && is_on_leaf n (leaf_for o)) points []
+      ≡ cond (is_on_leaf n (leaf_for o)) points []
   known_by n None is = refl
   known_by n (Some range) is =
       let within : range.0 < length (ranges_in zones) = range_known config.schemas config.topology key.target range
       is in
       let below : nat_lt range.0 (length (ranges_in zones)) ≡ true = grind (arith, nat_tests) in
-      ap (λ b. cond (b && is_at n (leaf_of zones range first_slot)) points []) below
+      ap (λ b. cond (b && is_on_leaf n (leaf_of zones range first_slot)) points []) below
 
-  leaf_points : (n : ℕ) → points_of key (leaf_rows config rows n) ≡ cond (is_at n home) points []
+  leaf_points : (n : ℕ) → points_of key (divided_leaf_rows config rows n) ≡ cond (is_on_leaf n home) points []
   leaf_points n = slot_points n (length (ranges_in zones)) ∙ known_by n (range_of_key config key) refl
 
   -- the points, where the leaf is below a number
@@ -219,16 +221,17 @@ module _ (config : Config) (has : AllHave config.topology) (rows : List Row) (ke
   shown n = cond (is_below n home) points []
 
   zone_points : (a count : ℕ)
-      → shown a ++ points_of key (together (listed (λ i. leaf_rows config rows (a + i)) count)) ≡ shown (a + count)
+      → shown a ++ points_of key (together (values_below (λ i. divided_leaf_rows config rows (a + i)) count))
+      ≡ shown (a + count)
   zone_points a zero =
       let same : a ≡ a + 0 = omega arith in
       append-nil (shown a) ∙ ap shown same
   zone_points a (suc count) =
-      let f : ℕ → List Row = λ i. leaf_rows config rows (a + i) in
-      let front = together (listed f count) in
+      let f : ℕ → List Row = λ i. divided_leaf_rows config rows (a + i) in
+      let front = together (values_below f count) in
       let same : suc (a + count) ≡ a + suc count = omega arith in
       ap (λ points. shown a ++ points)
-      (ap (points_of key) (together_push (listed f count) (f count)) ∙ points_append key front (f count))
+      (ap (points_of key) (together_push (values_below f count) (f count)) ∙ points_append key front (f count))
       ∙ sym (append_assoc (shown a) (points_of key front) (points_of key (f count)))
       ∙ (λ i. zone_points a count i ++ leaf_points (a + count) i)
       ∙ next_leaf points (a + count) home
@@ -241,10 +244,10 @@ module _ (config : Config) (has : AllHave config.topology) (rows : List Row) (ke
       ap (λ b. cond (b && true) points []) (sym below)
 
   zones_points : (z : ℕ) → z ≤ length zones
-      → points_of key (together (map together (listed (zone_rows config rows) z))) ≡ shown (first_leaf zones z)
+      → points_of key (together (map together (values_below (zone_rows config rows) z))) ≡ shown (first_leaf zones z)
   zones_points zero within = none_shown home ∙ ap shown (sym (first_none zones))
   zones_points (suc z) within =
-      let front = listed (zone_rows config rows) z in
+      let front = values_below (zone_rows config rows) z in
       let last = together (zone_rows config rows z) in
       ap (λ lists. points_of key (together lists)) (map-append together front (zone_rows config rows z ∷ []))
       ∙ ap (points_of key) (together_push (map together front) last)

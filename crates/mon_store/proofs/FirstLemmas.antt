@@ -8,7 +8,7 @@ use Rattle.mon_value.specs.declared.positions.Range.{Range}
 use Rattle.mon_value.specs.declared.positions.RangeSlot.{RangeSlot}
 use Rattle.mon_topo.specs.declared.zones.ZoneSpec.{ZoneSpec}
 use Rattle.mon_store.proofs.ListedLemmas.{all_push}
-use Rattle.mon_store.specs.within.Leaves.{AreBare, HasFirsts, IsPushed, first_slot, first_slots, is_at, leaf_of}
+use Rattle.mon_store.specs.within.Leaves.{AreBare, HasFirsts, IsPushed, first_slot, first_slots, is_on_leaf, leaf_of}
 
 pub bare_none : (firsts : List (List RangeSlot)) → firsts ≡ [] → AreBare 0 firsts
 bare_none firsts none = subst (AreBare 0) (sym none) (refl, tt)
@@ -56,7 +56,7 @@ firsts_more zones range leaf old new firsts at many changed = record {
         → slots ≡ first_slots zones n (suc range.0)
     by n slots true same is =
         let was = was_pushed own (slice_get old n) slots is in
-        was.is ∙ (λ i. firsts.each n was.before was.there i ++ cond (sym (ap (is_at n) at ∙ same) i) (own ∷ []) [])
+        was.is ∙ (λ i. firsts.each n was.before was.there i ++ cond (sym (ap (is_on_leaf n) at ∙ same) i) (own ∷ []) [])
     by n slots false apart is =
         firsts.each n slots is ∙ sym (append-nil (first_slots zones n range.0))
-        ∙ ap (λ b. first_slots zones n range.0 ++ cond b (own ∷ []) []) (sym (ap (is_at n) at ∙ apart))
+        ∙ ap (λ b. first_slots zones n range.0 ++ cond b (own ∷ []) []) (sym (ap (is_on_leaf n) at ∙ apart))

@@ -14,7 +14,8 @@ use Rattle.mon_value.specs.declared.positions.Leaf.{Leaf}
 use Rattle.mon_value.specs.declared.positions.Range.{Range}
 use Rattle.mon_value.specs.declared.positions.Slot.{Slot}
 use Rattle.mon_value.specs.declared.rows.Row.{Row}
-use Rattle.mon_store.specs.within.Leaves.{AllKeep, HasEntry, Keeps, first_rows, first_slot, is_at, with_row}
+use Rattle.mon_store.specs.within.Leaves.{AllKeep, HasEntry, Keeps, first_replica_rows, first_slot, is_on_leaf}
+use Rattle.mon_store.specs.within.Leaves.{with_replica_row}
 use Rattle.mon_store.specs.within.Leaves as store
 
 or_false : (p : Bool) → (p || false) ≡ p
@@ -33,7 +34,7 @@ or_back false false = refl
 pub put_keeps : {on : Range → Slot → Bool} {rows : Range → Slot → List Row} {history : List Entry} (pass : ℕ)
     (range : Range) (slot : Slot) (row : Row)
     → Keeps on rows history → on range slot ≡ true → IsSource (rows range slot ++ row ∷ [])
-    → Keeps on (with_row rows range slot row) (history ++ entry.Put pass range slot row ∷ [])
+    → Keeps on (with_replica_row rows range slot row) (history ++ entry.Put pass range slot row ∷ [])
 put_keeps {on} {rows} {history} pass range slot row keeps here source =
     let last = entry.Put pass range slot row in record {
       formed = IsWellFormed-push history last keeps.formed (
@@ -105,7 +106,8 @@ all_alike on rows rows' leaves keeps alike n leaf there =
     keeps_alike (keeps n leaf there) (λ range slot. refl) (λ range slot here. known (on range slot) range slot refl
     here)
   where
-    known : (o : Option Leaf) (range : Range) (slot : Slot) → on range slot ≡ o → is_at n o ≡ true → rows' range slot
+    known : (o : Option Leaf) (range : Range) (slot : Slot) → on range slot ≡ o → is_on_leaf n o ≡ true
+        → rows' range slot
         ≡ rows range slot
     known None range slot is here = absurd cc
     known (Some l) range slot is here = alike range slot l is
@@ -123,12 +125,13 @@ was_changed last (Some before) history e = record { before = before; there = ref
 
 apart_from : (on : Range → Slot → Option Leaf) (range other : Range) (slot place : Slot) (leaf : Leaf) (n : ℕ)
     → on range slot ≡ Some leaf
-    → nat_eq leaf.0 n ≡ false → is_at n (on other place) ≡ true → (b : Bool) → same_replica other place range slot ≡ b
+    → nat_eq leaf.0 n ≡ false → is_on_leaf n (on other place) ≡ true → (b : Bool)
+    → same_replica other place range slot ≡ b
     → b ≡ false
 apart_from on range other slot place leaf n at apart here true same =
     let both = parts_same other range place slot same in
     let moved : on other place ≡ Some leaf = (λ i. on (both.0 i) (both.1 i)) ∙ at in
-    let clash : is_at n (Some leaf) ≡ true = ap (is_at n) (sym moved) ∙ here in absurd cc
+    let clash : is_on_leaf n (Some leaf) ≡ true = ap (is_on_leaf n) (sym moved) ∙ here in absurd cc
 apart_from on range other slot place leaf n at apart here false same = refl
 
 -- a row is put to a replica
@@ -136,7 +139,7 @@ pub all_put : (on : Range → Slot → Option Leaf) (rows : Range → Slot → L
     (pass : ℕ) (range : Range) (slot : Slot) (leaf : Leaf) (row : Row)
     → AllKeep on rows old → on range slot ≡ Some leaf → IsSource (rows range slot ++ row ∷ [])
     → HasEntry leaf (entry.Put pass range slot row) old new
-    → AllKeep on (with_row rows range slot row) new
+    → AllKeep on (with_replica_row rows range slot row) new
 all_put on rows old new pass range slot leaf row keeps at source changed n state there =
     by (nat_eq leaf.0 n) refl (sym (changed n) ∙ there)
   where
@@ -145,12 +148,13 @@ all_put on rows old new pass range slot leaf row keeps at source changed n state
 
     by : (b : Bool) → nat_eq leaf.0 n ≡ b → cond b (option_map (λ (h : List Entry). h ++ last ∷ []) (slice_get old n))
         (slice_get old n) ≡ Some state
-        → Keeps (λ other place. is_at n (on other place)) (with_row rows range slot row) state
+        → Keeps (λ other place. is_on_leaf n (on other place)) (with_replica_row rows range slot row) state
     by true same is =
         let was = was_changed last (slice_get old n) state is in
-        subst (λ (s : List Entry). Keeps (λ other place. is_at n (on other place)) (with_row rows range slot row) s)
+        subst (λ (s : List Entry). Keeps (λ other place. is_on_leaf n (on other place))
+        (with_replica_row rows range slot row) s)
         (sym was.is)
-        (put_keeps pass range slot row (keeps n was.before was.there) (ap (is_at n) at ∙ same) source)
+        (put_keeps pass range slot row (keeps n was.before was.there) (ap (is_on_leaf n) at ∙ same) source)
     by false apart is =
         keeps_alike (keeps n state is) (λ other place. refl)
         (λ other place here.
@@ -162,14 +166,15 @@ all_put on rows old new pass range slot leaf row keeps at source changed n state
 abbrev pub with_replica : (Range → Slot → Option Leaf) → Range → Slot → Leaf → Range → Slot → Option Leaf
 with_replica on range slot leaf other place = cond (same_replica other place range slot) (Some leaf) (on other place)
 
-at_more : (b : Bool) (n : ℕ) (leaf : Leaf) (o : Option Leaf) → nat_eq leaf.0 n ≡ true → is_at n (cond b (Some leaf) o)
-    ≡ (b || is_at n o)
+at_more : (b : Bool) (n : ℕ) (leaf : Leaf) (o : Option Leaf) → nat_eq leaf.0 n ≡ true
+    → is_on_leaf n (cond b (Some leaf) o)
+    ≡ (b || is_on_leaf n o)
 at_more true n leaf o here = here
 at_more false n leaf o here = refl
 
 at_same : (b : Bool) (n : ℕ) (leaf : Leaf) (o : Option Leaf) → nat_eq leaf.0 n ≡ false → (b ≡ true → o ≡ None)
-    → is_at n (cond b (Some leaf) o) ≡ is_at n o
-at_same true n leaf o apart none = apart ∙ ap (is_at n) (sym (none refl))
+    → is_on_leaf n (cond b (Some leaf) o) ≡ is_on_leaf n o
+at_same true n leaf o apart none = apart ∙ ap (is_on_leaf n) (sym (none refl))
 at_same false n leaf o apart none = refl
 
 -- a replica is opened
@@ -191,12 +196,12 @@ all_open on old new pass range slot leaf keeps none changed n state there =
 
     by : (b : Bool) → nat_eq leaf.0 n ≡ b → cond b (option_map (λ (h : List Entry). h ++ last ∷ []) (slice_get old n))
         (slice_get old n) ≡ Some state
-        → Keeps (λ other place. is_at n (with_replica on range slot leaf other place)) store.no_rows state
+        → Keeps (λ other place. is_on_leaf n (with_replica on range slot leaf other place)) store.no_rows state
     by true same is =
         let was = was_changed last (slice_get old n) state is in
-        subst (λ (s : List Entry). Keeps (λ other place. is_at n (with_replica on range slot leaf other place))
+        subst (λ (s : List Entry). Keeps (λ other place. is_on_leaf n (with_replica on range slot leaf other place))
         store.no_rows s) (sym was.is)
-        (keeps_alike (open_keeps pass range slot (keeps n was.before was.there) (ap (is_at n) none))
+        (keeps_alike (open_keeps pass range slot (keeps n was.before was.there) (ap (is_on_leaf n) none))
         (λ other place. at_more (same_replica other place range slot) n leaf (on other place) same)
         (λ other place here. refl))
     by false apart is =
@@ -245,25 +250,25 @@ flat_map_one f (x ∷ xs) (suc n) rows each there =
 rows_by : (on : Range → Slot → Option Leaf) (rows : Range → Slot → List Row) (leaves : List (List Entry))
     (range : Range) (o : Option Leaf) → AllKeep on rows leaves
     → on range first_slot ≡ o → (m : ℕ) (history : List Entry) → slice_get leaves m ≡ Some history
-    → replica_rows range first_slot history ≡ cond (is_at m o) (rows range first_slot) []
-rows_by on rows leaves range o keeps at m history there = by (is_at m o) refl
+    → replica_rows range first_slot history ≡ cond (is_on_leaf m o) (rows range first_slot) []
+rows_by on rows leaves range o keeps at m history there = by (is_on_leaf m o) refl
   where
-    by : (b : Bool) → is_at m o ≡ b → replica_rows range first_slot history ≡ cond b (rows range first_slot) []
-    by true here = (keeps m history there).held range first_slot (ap (is_at m) at ∙ here)
+    by : (b : Bool) → is_on_leaf m o ≡ b → replica_rows range first_slot history ≡ cond b (rows range first_slot) []
+    by true here = (keeps m history there).held range first_slot (ap (is_on_leaf m) at ∙ here)
     by false apart = no_rows range first_slot history (keeps m history there).formed ((keeps m history there).opened
-        range first_slot ∙ ap (is_at m) at ∙ apart)
+        range first_slot ∙ ap (is_on_leaf m) at ∙ apart)
 
 -- the rows of a range are those that the leaf of its first replica keeps
 pub first_rows-at : (on : Range → Slot → Option Leaf) (rows : Range → Slot → List Row) (leaves : List (List Entry))
     (range : Range) (leaf : Leaf) → AllKeep on rows leaves
-    → on range first_slot ≡ Some leaf → leaf.0 < length leaves → first_rows leaves range ≡ rows range first_slot
+    → on range first_slot ≡ Some leaf → leaf.0 < length leaves → first_replica_rows leaves range ≡ rows range first_slot
 first_rows-at on rows leaves range leaf keeps at there =
     flat_map_one (replica_rows range first_slot) leaves leaf.0 (rows range first_slot)
     (λ m state here. rows_by on rows leaves range (Some leaf) keeps at m state here) there
 
 pub first_rows-none : (on : Range → Slot → Option Leaf) (rows : Range → Slot → List Row) (leaves : List (List Entry))
     (range : Range) → AllKeep on rows leaves
-    → on range first_slot ≡ None → first_rows leaves range ≡ []
+    → on range first_slot ≡ None → first_replica_rows leaves range ≡ []
 first_rows-none on rows leaves range keeps none =
     flat_map_none (replica_rows range first_slot) leaves
     (λ m state here. rows_by on rows leaves range None keeps none m state here)

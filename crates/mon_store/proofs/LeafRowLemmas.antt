@@ -16,22 +16,24 @@ use Rattle.mon_value.specs.declared.rows.Row.{Row}
 use Rattle.mon_value.specs.declared.rows.SeriesKey.{SeriesKey}
 use Rattle.mon_value.specs.declared.rows.Target.{Target}
 use Rattle.mon_topo.specs.Locations.{range_for}
-use Rattle.mon_topo.specs.Zones.{range_numbered, ranges_in}
+use Rattle.mon_value.specs.Positions.{range_numbered}
+use Rattle.mon_topo.specs.Zones.{ranges_in}
 use Rattle.mon_topo.specs.declared.zones.ZoneSpec.{ZoneSpec}
 use Rattle.mon_config.specs.declared.config.Config.{Config}
 use Rattle.leaf_store.specs.LeafStates.{LeafView}
 use Rattle.leaf_eval.specs.Replicas.{AreApart, AreOpened, ShareNoSeries, has_series, replica_rows_of, replicas_rows}
 use Rattle.mixer.specs.Divisions.{ShareNoTarget, has_target}
 use Rattle.mon_store.specs.Writes.{is_range, range_of_key}
-use Rattle.mon_store.specs.within.Divisions.{leaf_rows}
-use Rattle.mon_store.specs.Stores.{AreKept, range_rows, rows_kept}
-use Rattle.mon_store.specs.within.Leaves.{Keeps, first_rows, first_slot, first_slots, histories, is_at, leaf_of}
+use Rattle.mon_store.specs.within.Divisions.{divided_leaf_rows}
+use Rattle.mon_store.specs.Stores.{AreReplicasKept, range_rows, rows_kept}
+use Rattle.mon_store.specs.within.Leaves.{Keeps, first_replica_rows, first_slot, first_slots, histories, is_on_leaf}
+use Rattle.mon_store.specs.within.Leaves.{leaf_of}
 use Rattle.mon_store.proofs.ListedLemmas.{all_flat, all_push, all_weaker, flat_alike}
 
 -- ---- the first replicas on a leaf
 
 pub record IsFirstOn (zones : List ZoneSpec) (leaf most : ℕ) (own : RangeSlot) : Type 0 where
-  pub at : is_at leaf (leaf_of zones own.range first_slot) ≡ true
+  pub at : is_on_leaf leaf (leaf_of zones own.range first_slot) ≡ true
   pub slot : own.slot ≡ first_slot
   pub below : own.range.0 < most
 
@@ -39,7 +41,7 @@ pub record IsFirstOn (zones : List ZoneSpec) (leaf most : ℕ) (own : RangeSlot)
 abbrev pub first_replica : ℕ → RangeSlot
 first_replica n = record { range = range_numbered n; slot = first_slot }
 
-firsts_by : (zones : List ZoneSpec) (leaf most : ℕ) (b : Bool) → is_at leaf (leaf_of zones (range_numbered most)
+firsts_by : (zones : List ZoneSpec) (leaf most : ℕ) (b : Bool) → is_on_leaf leaf (leaf_of zones (range_numbered most)
     first_slot) ≡ b
     → AllByRecursion (IsFirstOn zones leaf (suc most)) (first_slots zones leaf most)
     → AllByRecursion (IsFirstOn zones leaf (suc most)) (first_slots zones leaf most ++ cond b (first_replica most ∷ [])
@@ -54,7 +56,7 @@ pub firsts_on : (zones : List ZoneSpec) (leaf most : ℕ) → AllByRecursion (Is
     (first_slots zones leaf most)
 firsts_on zones leaf zero = tt
 firsts_on zones leaf (suc most) =
-    firsts_by zones leaf most (is_at leaf (leaf_of zones (range_numbered most) first_slot)) refl
+    firsts_by zones leaf most (is_on_leaf leaf (leaf_of zones (range_numbered most) first_slot)) refl
     (all_weaker (IsFirstOn zones leaf most) (IsFirstOn zones leaf (suc most))
     (λ own is. record { at = is.at; slot = is.slot; below = omega (arith, is.below) })
     (first_slots zones leaf most) (firsts_on zones leaf most))
@@ -123,13 +125,14 @@ replicas_push history (own ∷ replicas) last apart all = (
   replicas_push history replicas last apart.1 all.1,
 )
 
-module _ (config : Config) (leaves : List LeafView) (order : List Range) (kept : AreKept config leaves order) where
+module _ (config : Config) (leaves : List LeafView) (order : List Range)
+    (kept : AreReplicasKept config leaves order) where
   abbrev rows : List Row
   rows = rows_kept leaves order
 
   module _ (n : ℕ) (state : LeafView) (at : slice_get leaves n ≡ Some state) where
-    keeps : Keeps (λ range slot. is_at n (leaf_of config.topology range slot))
-        (λ range slot. first_rows (histories leaves) range)
+    keeps : Keeps (λ range slot. is_on_leaf n (leaf_of config.topology range slot))
+        (λ range slot. first_replica_rows (histories leaves) range)
         state.history
     keeps =
         kept.alike.keep n state.history
@@ -152,7 +155,7 @@ module _ (config : Config) (leaves : List LeafView) (order : List Range) (kept :
     own_in most own is =
         subst (AllByRecursion (InRange config own.range)) (sym (own_rows most own is)) (in_range config own.range rows)
 
-    apart_by : (most : ℕ) (b : Bool) → is_at n (leaf_of config.topology (range_numbered most) first_slot) ≡ b
+    apart_by : (most : ℕ) (b : Bool) → is_on_leaf n (leaf_of config.topology (range_numbered most) first_slot) ≡ b
         → AreApart state.history (first_slots config.topology n most)
         → AreApart state.history (first_slots config.topology n most ++ cond b (first_replica most ∷ []) [])
     apart_by most true here front =
@@ -170,7 +173,7 @@ module _ (config : Config) (leaves : List LeafView) (order : List Range) (kept :
     apart_below : (most : ℕ) → AreApart state.history (first_slots config.topology n most)
     apart_below zero = tt
     apart_below (suc most) =
-        apart_by most (is_at n (leaf_of config.topology (range_numbered most) first_slot)) refl (apart_below most)
+        apart_by most (is_on_leaf n (leaf_of config.topology (range_numbered most) first_slot)) refl (apart_below most)
 
     module _ (slots : List RangeSlot) (are : slots ≡ first_slots config.topology n
         (length (ranges_in config.topology))) where
@@ -186,7 +189,7 @@ module _ (config : Config) (leaves : List LeafView) (order : List Range) (kept :
       pub leaf_apart : AreApart state.history slots
       leaf_apart = subst (AreApart state.history) (sym are) (apart_below most)
 
-      pub leaf_source : replicas_rows state.history slots ≡ leaf_rows config rows n
+      pub leaf_source : replicas_rows state.history slots ≡ divided_leaf_rows config rows n
       leaf_source =
           ap (replicas_rows state.history) are
           ∙ flat_alike (λ (own : RangeSlot). replica_rows own.range own.slot state.history)
@@ -200,10 +203,10 @@ module _ (config : Config) (leaves : List LeafView) (order : List Range) (kept :
 pub record LiesOn (config : Config) (leaf : ℕ) (row : Row) : Type 0 where
   pub range : Range
   pub at : range_of_key config row.key ≡ Some range
-  pub first : is_at leaf (leaf_of config.topology range first_slot) ≡ true
+  pub first : is_on_leaf leaf (leaf_of config.topology range first_slot) ≡ true
 
 pub lie_on : (config : Config) (rows : List Row) (leaf : ℕ) → AllByRecursion (LiesOn config leaf)
-    (leaf_rows config rows leaf)
+    (divided_leaf_rows config rows leaf)
 lie_on config rows leaf =
     let most = length (ranges_in config.topology) in
     all_flat (LiesOn config leaf) (λ (own : RangeSlot). range_rows config own.range rows)
@@ -214,7 +217,7 @@ lie_on config rows leaf =
     (in_range config own.range rows))
     (first_slots config.topology leaf most) (firsts_on config.topology leaf most))
 
-pub one_leaf : (n m : ℕ) (o : Option Leaf) → is_at n o ≡ true → is_at m o ≡ true → n ≡ m
+pub one_leaf : (n m : ℕ) (o : Option Leaf) → is_on_leaf n o ≡ true → is_on_leaf m o ≡ true → n ≡ m
 one_leaf n m None one two = absurd cc
 one_leaf n m (Some leaf) one two =
     let first : nat_eq leaf.0 n ≡ true = one in
@@ -238,8 +241,8 @@ module _ (config : Config) (n m : ℕ) (lt : n < m) where
       let both : Some there.range ≡ Some here.range =
       sym there.at ∙ ap (range_for config.schemas config.topology) alike ∙ here.at in
       let range : there.range ≡ here.range = cc in
-      let moved : is_at m (leaf_of config.topology here.range first_slot) ≡ true =
-      ap (λ (r : Range). is_at m (leaf_of config.topology r first_slot)) (sym range) ∙ there.first in
+      let moved : is_on_leaf m (leaf_of config.topology here.range first_slot) ≡ true =
+      ap (λ (r : Range). is_on_leaf m (leaf_of config.topology r first_slot)) (sym range) ∙ there.first in
       absurd (omega (arith, lt, one_leaf n m (leaf_of config.topology here.range first_slot) here.first moved))
   target_by row other false same here there = refl
 

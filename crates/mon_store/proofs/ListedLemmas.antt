@@ -6,7 +6,7 @@ use Rattle.std.proofs.lemmas.Bool.{cases_lt}
 use Rattle.std.proofs.lemmas.List.{map-append}
 use Rattle.mon_value.specs.declared.rows.Row.{Row}
 use Rattle.mixer.specs.Divisions.{AreApart}
-use Rattle.mon_store.specs.within.Divisions.{listed}
+use Rattle.mon_store.specs.within.Divisions.{values_below}
 
 -- ---- what holds of each item
 
@@ -38,15 +38,16 @@ flat_alike f g (x ∷ xs) all = λ i. all.0 i ++ flat_alike f g xs all.1 i
 -- ---- lists by numbers
 
 pub all_listed : {X : Type 0} (P : X → Type 0) (f : ℕ → X) (n : ℕ) → ((i : ℕ) → i < n → P (f i))
-    → AllByRecursion P (listed f n)
+    → AllByRecursion P (values_below f n)
 all_listed P f zero each = tt
 all_listed P f (suc n) each =
-    all_push P (listed f n) (f n) (all_listed P f n (λ i lt. each i (omega (arith, lt)))) (each n (omega arith))
+    all_push P (values_below f n) (f n) (all_listed P f n (λ i lt. each i (omega (arith, lt)))) (each n (omega arith))
 
-pub map_listed : {X Y : Type 0} (g : X → Y) (f : ℕ → X) (n : ℕ) → map g (listed f n) ≡ listed (λ i. g (f i)) n
+pub map_listed : {X Y : Type 0} (g : X → Y) (f : ℕ → X) (n : ℕ) → map g (values_below f n)
+    ≡ values_below (λ i. g (f i)) n
 map_listed g f zero = refl
 map_listed g f (suc n) =
-    map-append g (listed f n) (f n ∷ []) ∙ ap (λ front. front ++ g (f n) ∷ []) (map_listed g f n)
+    map-append g (values_below f n) (f n ∷ []) ∙ ap (λ front. front ++ g (f n) ∷ []) (map_listed g f n)
 
 apart_push : (Apart : List Row → List Row → Type 0) (xs : List (List Row)) (x : List Row) → AreApart Apart xs
     → AllByRecursion (λ other. Apart other x) xs → AreApart Apart (xs ++ x ∷ [])
@@ -55,21 +56,22 @@ apart_push Apart (y ∷ xs) x apart all = (all_push (Apart y) xs x apart.0 all.0
 
 -- children that share nothing with those of greater numbers
 pub apart_listed : (Apart : List Row → List Row → Type 0) (f : ℕ → List Row) (n : ℕ)
-    → ((i j : ℕ) → i < j → j < n → Apart (f i) (f j)) → AreApart Apart (listed f n)
+    → ((i j : ℕ) → i < j → j < n → Apart (f i) (f j)) → AreApart Apart (values_below f n)
 apart_listed Apart f zero each = tt
 apart_listed Apart f (suc n) each =
-    apart_push Apart (listed f n) (f n) (apart_listed Apart f n (λ i j lt below. each i j lt (omega (arith, below))))
+    apart_push Apart (values_below f n) (f n)
+    (apart_listed Apart f n (λ i j lt below. each i j lt (omega (arith, below))))
     (all_listed (λ other. Apart other (f n)) f n (λ i lt. each i n lt (omega arith)))
 
 -- what a list by numbers has behind one of them
 pub record Split {X : Type 0} (f : ℕ → X) (n m : ℕ) : Type 0 where
   pub rest : List X
-  pub is : listed f n ≡ listed f m ++ f m ∷ rest
+  pub is : values_below f n ≡ values_below f m ++ f m ∷ rest
 
 split_on : {X : Type 0} (f : ℕ → X) (n m : ℕ) → Split f n m → Split f (suc n) m
 split_on f n m split = record {
   rest = split.rest ++ f n ∷ [];
-  is = ap (λ front. front ++ f n ∷ []) split.is ∙ append_assoc (listed f m) (f m ∷ split.rest) (f n ∷ []);
+  is = ap (λ front. front ++ f n ∷ []) split.is ∙ append_assoc (values_below f m) (f m ∷ split.rest) (f n ∷ []);
 }
 
 split_by : {X : Type 0} (f : ℕ → X) (n m : ℕ) → m < suc n → (m < n → Split f n m) → (m < n) ⊎ (n ≤ m) → Split f (suc n)
@@ -77,7 +79,7 @@ split_by : {X : Type 0} (f : ℕ → X) (n m : ℕ) → m < suc n → (m < n →
 split_by f n m within earlier (inl lt) = split_on f n m (earlier lt)
 split_by f n m within earlier (inr le) =
     let same : n ≡ m = omega (arith, within, le) in
-    record { rest = []; is = ap (λ k. listed f k ++ f k ∷ []) same }
+    record { rest = []; is = ap (λ k. values_below f k ++ f k ∷ []) same }
 
 pub listed_split : {X : Type 0} (f : ℕ → X) (n m : ℕ) → m < n → Split f n m
 listed_split f zero m within = absurd (omega (arith, within))

@@ -22,8 +22,8 @@ use Rattle.mon_topo.specs.Zones.{first_replicas, leaves_in, leaves_named, no_ran
 use Rattle.leaf_store.specs.LeafStates.{LeafView, with_entry}
 use Rattle.mon_store.proofs.KeepLemmas.{all_open, with_replica}
 use Rattle.leaf_store.specs.LeafLists.{IsChanged}
-use Rattle.mon_store.specs.within.Leaves.{AllKeep, AreOpened, HasEntry, Keeps, MayCome, histories, is_at}
-use Rattle.mon_store.specs.within.Leaves.{is_before, leaf_of, nowhere, opened_before, with_promise}
+use Rattle.mon_store.specs.within.Leaves.{AllKeep, AreLeavesOpened, HasEntry, Keeps, MayCome, histories, is_on_leaf}
+use Rattle.mon_store.specs.within.Leaves.{is_slot_before, leaf_of, nowhere, opened_before, with_promise}
 use Rattle.mon_store.specs.within.Leaves as store
 
 -- ---- leaves that change
@@ -156,15 +156,15 @@ moved on on' leaves same = subst (λ (o : Range → Slot → Option Leaf). AllKe
     (λ i range slot. sym (same range slot) i)
 
 -- none is in front of the first
-pub opened_none : (zones : List ZoneSpec) (leaves : List LeafView) → AreOpened nowhere zones leaves
-    → AreOpened (opened_before zones 0 0) zones leaves
+pub opened_none : (zones : List ZoneSpec) (leaves : List LeafView) → AreLeavesOpened nowhere zones leaves
+    → AreLeavesOpened (opened_before zones 0 0) zones leaves
 opened_none zones leaves opened = record {
   count = opened.count;
   keep = moved nowhere (opened_before zones 0 0) (histories leaves)
-      (λ range slot. by range slot (is_before 0 0 range slot) (never range slot)) opened.keep;
+      (λ range slot. by range slot (is_slot_before 0 0 range slot) (never range slot)) opened.keep;
 }
   where
-    never : (range : Range) (slot : Slot) → is_before 0 0 range slot ≡ false
+    never : (range : Range) (slot : Slot) → is_slot_before 0 0 range slot ≡ false
     never range slot = by_parts (nat_lt range.0 0) (nat_eq range.0 0) (nat_lt slot.0 0) (grind (arith, nat_tests))
         (grind (arith, nat_tests))
       where
@@ -203,7 +203,7 @@ next_place r p a b = by (nat_eq a r) (nat_lt a r) (nat_lt b (p + 1)) (nat_eq b p
 
 replica_more : (zones : List ZoneSpec) (range : Range) (place : ℕ) (leaf : Leaf) (other : Range) (slot : Slot)
     (b c : Bool)
-    → same_replica other slot range (record { 0 = place }) ≡ b → is_before range.0 place other slot ≡ c
+    → same_replica other slot range (record { 0 = place }) ≡ b → is_slot_before range.0 place other slot ≡ c
     → leaf_of zones range (record { 0 = place }) ≡ Some leaf
     → cond (b || c) (leaf_of zones other slot) None ≡ cond b (Some leaf) (cond c (leaf_of zones other slot) None)
 replica_more zones range place leaf other slot true c same before at =
@@ -224,24 +224,25 @@ not_yet zones range place =
     by p false r e f = λ i. e i || false
 
 pub opened_more : (zones : List ZoneSpec) (old new : List LeafView) (range : Range) (place : ℕ) (leaf : Leaf)
-    → AreOpened (opened_before zones range.0 place) zones old → leaf_of zones range (record { 0 = place }) ≡ Some leaf
+    → AreLeavesOpened (opened_before zones range.0 place) zones old → leaf_of zones range (record { 0 = place })
+    ≡ Some leaf
     → length new ≡ length old
     → HasEntry leaf (entry.Opened 0 range (record { 0 = place }) []) (histories old) (histories new)
-    → AreOpened (opened_before zones range.0 (place + 1)) zones new
+    → AreLeavesOpened (opened_before zones range.0 (place + 1)) zones new
 opened_more zones old new range place leaf opened at many more = record {
   count = many ∙ opened.count;
   keep = moved (with_replica (opened_before zones range.0 place) range (record { 0 = place }) leaf)
       (opened_before zones range.0 (place + 1)) (histories new)
       (λ other slot. ap (λ b. cond b (leaf_of zones other slot) None) (next_place range.0 place other.0 slot.0)
       ∙ replica_more zones range place leaf other slot (same_replica other slot range (record { 0 = place }))
-      (is_before range.0 place other slot) refl refl at)
+      (is_slot_before range.0 place other slot) refl refl at)
       (all_open (opened_before zones range.0 place) (histories old) (histories new) 0 range (record { 0 = place }) leaf
       opened.keep (not_yet zones range place) more);
 }
 
 -- a replica may be opened where it comes next
 pub may_open : (zones : List ZoneSpec) (leaves : List LeafView) (range : Range) (place : ℕ) (leaf : Leaf)
-    → AreOpened (opened_before zones range.0 place) zones leaves
+    → AreLeavesOpened (opened_before zones range.0 place) zones leaves
     → IfSome (slice_get leaves leaf.0)
     (λ state. IsWellFormed (state.history ++ entry.Opened 0 range (record { 0 = place }) [] ∷ []))
 may_open zones leaves range place leaf opened = by (slice_get leaves leaf.0) refl
@@ -253,7 +254,7 @@ may_open zones leaves range place leaf opened = by (slice_get leaves leaf.0) ref
         let keeps = opened.keep leaf.0 state.history (history_at leaves leaf.0
         ∙ ap (λ o. option_map (λ (l : LeafView). l.history) o) there) in
         IsWellFormed-push state.history (entry.Opened 0 range (record { 0 = place }) []) keeps.formed
-        (keeps.up, keeps.opened range (record { 0 = place }) ∙ ap (is_at leaf.0) (not_yet zones range place), tt)
+        (keeps.up, keeps.opened range (record { 0 = place }) ∙ ap (is_on_leaf leaf.0) (not_yet zones range place), tt)
 
 -- all replicas of a range are opened
 past_range : (r p a b : ℕ) (o : Option Leaf) → (a ≡ r → p ≤ b → o ≡ None)
@@ -279,8 +280,8 @@ same_number : (a b : Range) → a.0 ≡ b.0 → a ≡ b
 same_number a b e = λ i. record { 0 = e i }
 
 pub opened_range : (zones : List ZoneSpec) (leaves : List LeafView) (range : Range) (place : ℕ)
-    → AreOpened (opened_before zones range.0 place) zones leaves → length (first_replicas zones range.0) ≤ place
-    → AreOpened (opened_before zones (range.0 + 1) 0) zones leaves
+    → AreLeavesOpened (opened_before zones range.0 place) zones leaves → length (first_replicas zones range.0) ≤ place
+    → AreLeavesOpened (opened_before zones (range.0 + 1) 0) zones leaves
 opened_range zones leaves range place opened past = record {
   count = opened.count;
   keep = moved (opened_before zones range.0 place) (opened_before zones (range.0 + 1) 0) (histories leaves)
@@ -311,9 +312,10 @@ all_before n a b o none = by (nat_lt a n) (nat_eq a n) (nat_lt b 0) refl refl re
     by false true false e f g = sym (none (grind (arith, nat_tests)))
     by false false z e f g = sym (none (grind (arith, nat_tests)))
 
-pub opened_all : (zones : List ZoneSpec) (leaves : List LeafView) (r : ℕ) → AreOpened (opened_before zones r 0) zones
+pub opened_all : (zones : List ZoneSpec) (leaves : List LeafView) (r : ℕ)
+    → AreLeavesOpened (opened_before zones r 0) zones
     leaves → length (ranges_in zones) ≤ r
-    → AreOpened (leaf_of zones) zones leaves
+    → AreLeavesOpened (leaf_of zones) zones leaves
 opened_all zones leaves r opened past = record {
   count = opened.count;
   keep = moved (opened_before zones r 0) (leaf_of zones) (histories leaves)

@@ -15,14 +15,15 @@ use Rattle.mon_value.specs.declared.positions.Leaf.{Leaf}
 use Rattle.mon_value.specs.declared.positions.Range.{Range}
 use Rattle.mon_value.specs.declared.positions.Slot.{Slot}
 use Rattle.mon_value.specs.declared.rows.Row.{Row}
-use Rattle.mon_topo.specs.Replicas.{same_leaf}
+use Rattle.mon_value.specs.Positions.{same_leaf, same_range}
 use Rattle.mon_topo.specs.declared.zones.ZoneSpec.{ZoneSpec}
 use Rattle.mon_topo.specs.Zones.{first_replicas}
 use Rattle.leaf_store.specs.LeafStates.{LeafView}
 use Rattle.mon_store.proofs.KeepLemmas.{all_alike, all_put}
 use Rattle.leaf_store.specs.LeafLists.{IsChanged}
-use Rattle.mon_store.specs.within.Leaves.{AllKeep, AreAlike, HasEntry, MayCome, Untouched, first_rows}
-use Rattle.mon_store.specs.within.Leaves.{histories, is_at, leaf_of, same_range, with_promise, with_row, with_row_from}
+use Rattle.mon_store.specs.within.Leaves.{AllKeep, AreReplicasAlike, HasEntry, MayCome, Untouched, first_replica_rows}
+use Rattle.mon_store.specs.within.Leaves.{histories, is_on_leaf, leaf_of, with_promise, with_replica_row}
+use Rattle.mon_store.specs.within.Leaves.{with_row_from}
 
 abbrev slot_at : ℕ → Slot
 slot_at place = record { 0 = place }
@@ -120,7 +121,7 @@ pub put_more : (zones : List ZoneSpec) (rows : Range → List Row) (mid new : Li
     → IsSource (rows range ++ row ∷ []) → HasEntry leaf (entry.Put 0 range (slot_at place) row) mid new
     → AllKeep (leaf_of zones) (with_row_from rows range place row) new
 put_more zones rows mid new range place leaf row keep at source more =
-    all_alike (leaf_of zones) (with_row (with_row_from rows range (place + 1) row) range (slot_at place) row)
+    all_alike (leaf_of zones) (with_replica_row (with_row_from rows range (place + 1) row) range (slot_at place) row)
     (with_row_from rows range place row) new
     (all_put (leaf_of zones) (with_row_from rows range (place + 1) row) mid new 0 range (slot_at place) leaf row keep at
     (source_at (rows range) row (same_range range range) (nat_le (place + 1) place) (not_le place) source) more)
@@ -152,7 +153,7 @@ pub is_there : (zones : List ZoneSpec) (rows : Range → Slot → List Row) (lea
 is_there zones rows leaves range slot leaf keep at =
     each (slice_get leaves leaf.0)
     (λ state there. (keep leaf.0 state.history (history_at leaves leaf.0 state there)).opened range slot
-    ∙ ap (is_at leaf.0) at ∙ eq_itself leaf.0)
+    ∙ ap (is_on_leaf leaf.0) at ∙ eq_itself leaf.0)
 
 -- none of the later replicas is on the leaf
 pub apart_later : (xs : List Leaf) (n : ℕ) (leaf : Leaf) → IsDistinct same_leaf xs → slice_get xs n ≡ Some leaf
@@ -189,7 +190,7 @@ pub may_put : (zones : List ZoneSpec) (rows : Range → List Row) (old reserved 
 may_put zones rows old reserved mid range place leaf row keep at source changed same =
     each (slice_get mid leaf.0) (λ state there.
     let keeps = keep leaf.0 state.history (history_at mid leaf.0 state there) in
-    let on = ap (is_at leaf.0) at ∙ eq_itself leaf.0 in
+    let on = ap (is_on_leaf leaf.0) at ∙ eq_itself leaf.0 in
     let held = keeps.held range (slot_at place) on in record {
       formed = IsWellFormed-push state.history (entry.Put 0 range (slot_at place) row) keeps.formed (
         keeps.up,
@@ -234,11 +235,13 @@ untouched_rest replicas place n leaf old new at rest none =
     ∙ none)).1
 
 -- rows that are alike where histories are kept
-pub alike_kept : (zones : List ZoneSpec) (old new : List LeafView) → AreAlike zones old → length new ≡ length old
-    → histories new ≡ histories old → AreAlike zones new
+pub alike_kept : (zones : List ZoneSpec) (old new : List LeafView) → AreReplicasAlike zones old → length new
+    ≡ length old
+    → histories new ≡ histories old → AreReplicasAlike zones new
 alike_kept zones old new alike many same = record {
   count = many ∙ alike.count;
-  keep = subst (λ (h : List (List Entry)). AllKeep (leaf_of zones) (λ range slot. first_rows h range) h) (sym same)
+  keep = subst (λ (h : List (List Entry)). AllKeep (leaf_of zones) (λ range slot. first_replica_rows h range) h)
+      (sym same)
       alike.keep;
 }
 

@@ -5,7 +5,7 @@ use Rattle.std.proofs.Common.{arith, option_map}
 use Rattle.std.specs.List.{AllByRecursion}
 use Rattle.std.proofs.lemmas.Bool.Decides.{nat_tests}
 use Rattle.mon_value.specs.declared.positions.Leaf.{Leaf}
-use Rattle.mon_topo.specs.Zones.{leaf_numbered}
+use Rattle.mon_value.specs.Positions.{leaf_numbered}
 use Rattle.leaf_store.specs.LeafStates.{LeafView, with_settled}
 use Rattle.mon_store.proofs.OpenLemmas.{histories_kept}
 use Rattle.leaf_store.specs.LeafLists.{IsChanged}

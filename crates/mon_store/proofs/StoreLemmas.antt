@@ -15,15 +15,18 @@ use Rattle.mon_value.specs.declared.positions.Range.{Range}
 use Rattle.mon_value.specs.declared.positions.Slot.{Slot}
 use Rattle.mon_value.specs.declared.rows.Row.{Row}
 use Rattle.mon_topo.specs.Replicas.{HasReplicas}
-use Rattle.mon_topo.specs.Zones.{first_replicas, leaves_in, range_numbered, ranges_in}
+use Rattle.mon_value.specs.Positions.{range_numbered, same_range}
+use Rattle.mon_topo.specs.Zones.{first_replicas, leaves_in, ranges_in}
 use Rattle.mon_topo.specs.declared.zones.ZoneSpec.{ZoneSpec}
 use Rattle.mon_config.specs.declared.config.Config.{Config}
 use Rattle.leaf_store.specs.LeafStates.{LeafView}
 use Rattle.mon_store.proofs.ListedLemmas.{all_push}
 use Rattle.mon_store.specs.Writes.{is_range, range_of_key}
-use Rattle.mon_store.specs.Stores.{AreKept, range_rows, rows_kept}
-use Rattle.mon_store.specs.within.Leaves.{AllKeep, AreAlike, AreOpened, first_rows, first_slot, histories, is_at}
-use Rattle.mon_store.specs.within.Leaves.{leaf_of, same_range, with_row_from}
+use Rattle.mon_store.specs.Stores.{AreReplicasKept, range_rows, rows_kept}
+use Rattle.mon_store.specs.within.Leaves.{AllKeep, AreReplicasAlike, AreLeavesOpened, first_replica_rows, first_slot}
+use Rattle.mon_store.specs.within.Leaves.{histories}
+use Rattle.mon_store.specs.within.Leaves.{is_on_leaf}
+use Rattle.mon_store.specs.within.Leaves.{leaf_of, with_row_from}
 use Rattle.mon_store.specs.within.Leaves as store
 use Rattle.mon_store.proofs.KeepLemmas.{all_alike, first_rows-at, first_rows-none}
 use Rattle.mon_store.proofs.OpenLemmas.{no_replicas, replica_there}
@@ -70,21 +73,24 @@ module _ (zones : List ZoneSpec) (has : AllHave zones) where
   and_zero false n = refl
 
   pub is_more : (old new : List LeafView) (range : Range) (row : Row) → range.0 < length (ranges_in zones)
-      → AreAlike zones old → length new ≡ length old
-      → AllKeep (leaf_of zones) (with_row_from (first_rows (histories old)) range 0 row) (histories new)
-      → IsMore range row (first_rows (histories old)) (first_rows (histories new))
+      → AreReplicasAlike zones old → length new ≡ length old
+      → AllKeep (leaf_of zones) (with_row_from (first_replica_rows (histories old)) range 0 row) (histories new)
+      → IsMore range row (first_replica_rows (histories old)) (first_replica_rows (histories new))
   is_more old new range row there alike many keep other = by (leaf_of zones other first_slot) refl
     where
       by : (o : Option Leaf) → leaf_of zones other first_slot ≡ o
-          → first_rows (histories new) other ≡ first_rows (histories old) other ++ cond (same_range range other)
+          → first_replica_rows (histories new) other ≡ first_replica_rows (histories old) other
+          ++ cond (same_range range other)
           (row ∷ []) []
       by (Some leaf) at =
           let within = first_at other leaf at in
           let count = many_histories new in
           let old_count = alike.count in
-          first_rows-at (leaf_of zones) (with_row_from (first_rows (histories old)) range 0 row) (histories new) other
+          first_rows-at (leaf_of zones) (with_row_from (first_replica_rows (histories old)) range 0 row)
+          (histories new) other
           leaf keep at (omega arith)
-          ∙ ap (λ b. first_rows (histories old) other ++ cond b (row ∷ []) []) (and_zero (same_range range other) 0)
+          ∙ ap (λ b. first_replica_rows (histories old) other ++ cond b (row ∷ []) [])
+          (and_zero (same_range range other) 0)
       by None at =
           first_rows-none (leaf_of zones) _ (histories new) other keep at
           ∙ (λ i. sym (first_rows-none (leaf_of zones) _ (histories old) other alike.keep at) i ++ cond (sym apart i)
@@ -105,15 +111,15 @@ module _ (zones : List ZoneSpec) (has : AllHave zones) where
               split false same = refl
 
   pub alike_more : (old new : List LeafView) (range : Range) (row : Row) → range.0 < length (ranges_in zones)
-      → AreAlike zones old → length new ≡ length old
-      → AllKeep (leaf_of zones) (with_row_from (first_rows (histories old)) range 0 row) (histories new)
-      → AreAlike zones new
+      → AreReplicasAlike zones old → length new ≡ length old
+      → AllKeep (leaf_of zones) (with_row_from (first_replica_rows (histories old)) range 0 row) (histories new)
+      → AreReplicasAlike zones new
   alike_more old new range row there alike many keep = record {
     count = many ∙ alike.count;
-    keep = all_alike (leaf_of zones) (with_row_from (first_rows (histories old)) range 0 row)
-        (λ other slot. first_rows (histories new) other) (histories new) keep
+    keep = all_alike (leaf_of zones) (with_row_from (first_replica_rows (histories old)) range 0 row)
+        (λ other slot. first_replica_rows (histories new) other) (histories new) keep
         (λ other slot leaf at. is_more old new range row there alike many keep other
-        ∙ ap (λ b. first_rows (histories old) other ++ cond b (row ∷ []) [])
+        ∙ ap (λ b. first_replica_rows (histories old) other ++ cond b (row ∷ []) [])
         (sym (and_zero (same_range range other) slot.0)));
   }
 
@@ -121,22 +127,22 @@ module _ (zones : List ZoneSpec) (has : AllHave zones) where
 
 -- the rows with one more
 pub rows_more : (config : Config) (old new : List LeafView) (order : List Range) (range : Range) (row : Row)
-    → AllHave config.topology → AreKept config old order
+    → AllHave config.topology → AreReplicasKept config old order
     → range.0 < length (ranges_in config.topology) → length new ≡ length old
-    → AllKeep (leaf_of config.topology) (with_row_from (first_rows (histories old)) range 0 row) (histories new)
+    → AllKeep (leaf_of config.topology) (with_row_from (first_replica_rows (histories old)) range 0 row) (histories new)
     → rows_kept new (order ++ range ∷ []) ≡ rows_kept old order ++ row ∷ []
 rows_more config old new order range row has kept there many keep =
-    in_turn-push order (first_rows (histories old)) (first_rows (histories new)) range row
+    in_turn-push order (first_replica_rows (histories old)) (first_replica_rows (histories new)) range row
     (is_more config.topology has old new range row there kept.alike many keep) kept.ordered
 
 range_back : (range other : Range) (o : Option Range) → o ≡ Some range → is_range other o ≡ same_range range other
 range_back range other o at = ap (is_range other) at
 
 pub kept_more : (config : Config) (old new : List LeafView) (order : List Range) (range : Range) (row : Row)
-    → AllHave config.topology → AreKept config old order
+    → AllHave config.topology → AreReplicasKept config old order
     → range_of_key config row.key ≡ Some range → range.0 < length (ranges_in config.topology) → length new ≡ length old
-    → AllKeep (leaf_of config.topology) (with_row_from (first_rows (histories old)) range 0 row) (histories new)
-    → AreKept config new (order ++ range ∷ [])
+    → AllKeep (leaf_of config.topology) (with_row_from (first_replica_rows (histories old)) range 0 row) (histories new)
+    → AreReplicasKept config new (order ++ range ∷ [])
 kept_more config old new order range row has kept at there many keep =
     let zones = config.topology in
     let more = is_more zones has old new range row there kept.alike many keep in
@@ -148,7 +154,8 @@ kept_more config old new order range row has kept at there many keep =
           (row ∷ []) [])
           ∙ sym (range_rows-push config other (rows_kept old order) row)
           ∙ ap (range_rows config other) (sym rows);
-      ordered = in_order_more order (first_rows (histories old)) (first_rows (histories new)) range row more
+      ordered = in_order_more order (first_replica_rows (histories old)) (first_replica_rows (histories new))
+          range row more
           kept.ordered;
       placed = subst (AllByRecursion (λ (r : Row). is_some (range_of_key config r.key) ≡ true)) (sym rows)
           (all_push _ (rows_kept old order) row kept.placed (ap is_some at));
@@ -157,39 +164,41 @@ kept_more config old new order range row has kept at there many keep =
 -- where histories stay, what is kept stays
 pub rows_same : (old new : List LeafView) (order : List Range) → histories new ≡ histories old → rows_kept new order
     ≡ rows_kept old order
-rows_same old new order same = ap (λ h. store.in_turn (first_rows h) order) same
+rows_same old new order same = ap (λ h. store.in_turn (first_replica_rows h) order) same
 
-pub kept_same : (config : Config) (old new : List LeafView) (order : List Range) → AreKept config old order
+pub kept_same : (config : Config) (old new : List LeafView) (order : List Range) → AreReplicasKept config old order
     → length new ≡ length old → histories new ≡ histories old
-    → AreKept config new order
+    → AreReplicasKept config new order
 kept_same config old new order kept many same = record {
   alike = record {
     count = many ∙ kept.alike.count;
-    keep = subst (λ (h : List (List Entry)). AllKeep (leaf_of config.topology) (λ range slot. first_rows h range) h)
+    keep = subst (λ (h : List (List Entry)). AllKeep (leaf_of config.topology)
+        (λ range slot. first_replica_rows h range) h)
         (sym same) kept.alike.keep;
   };
   ranged = λ range.
-      ap (λ h. first_rows h range) same ∙ kept.ranged range ∙ ap (range_rows config range)
+      ap (λ h. first_replica_rows h range) same ∙ kept.ranged range ∙ ap (range_rows config range)
       (sym (rows_same old new order same));
-  ordered = λ range. ap (λ h. length (first_rows h range)) same ∙ kept.ordered range;
+  ordered = λ range. ap (λ h. length (first_replica_rows h range)) same ∙ kept.ordered range;
   placed = subst (AllByRecursion (λ (r : Row). is_some (range_of_key config r.key) ≡ true))
       (sym (rows_same old new order same)) kept.placed;
 }
 
 -- a range's rows are a source, also with a row that ends later than its series
 pub goes_on : (zones : List ZoneSpec) (leaves : List LeafView) (range : Range) (leaf : Leaf) (row : Row)
-    → AreAlike zones leaves → leaf_of zones range first_slot ≡ Some leaf
-    → leaf.0 < length (leaves_in zones) → IfSome (last_end (points_of row.key (first_rows (histories leaves) range)))
+    → AreReplicasAlike zones leaves → leaf_of zones range first_slot ≡ Some leaf
+    → leaf.0 < length (leaves_in zones)
+    → IfSome (last_end (points_of row.key (first_replica_rows (histories leaves) range)))
     (λ last. last <ℤ row.point.end)
-    → IsSource (first_rows (histories leaves) range ++ row ∷ [])
+    → IsSource (first_replica_rows (histories leaves) range ++ row ∷ [])
 goes_on zones leaves range leaf row alike at there later =
-    source_more (first_rows (histories leaves) range) row
+    source_more (first_replica_rows (histories leaves) range) row
     (let many = many_histories leaves in let count = alike.count in
     let history = get_or (histories leaves) leaf.0 [] in
     let is : slice_get (histories leaves) leaf.0 ≡ Some history = slice_get-get_or (histories leaves) leaf.0 []
     (omega arith) in
     let keeps = alike.keep leaf.0 history is in
-    subst IsSource (keeps.held range first_slot (ap (is_at leaf.0) at ∙ eq_itself leaf.0))
+    subst IsSource (keeps.held range first_slot (ap (is_on_leaf leaf.0) at ∙ eq_itself leaf.0))
     (rows_source range first_slot history keeps.formed))
     later
   where
@@ -198,24 +207,25 @@ goes_on zones leaves range leaf row alike at there later =
 
 -- the rows of the replica that a leaf has of a range
 pub own_rows : (zones : List ZoneSpec) (leaves : List LeafView) (range : Range) (leaf : Leaf) (state : LeafView)
-    → AreAlike zones leaves
+    → AreReplicasAlike zones leaves
     → leaf_of zones range first_slot ≡ Some leaf → slice_get leaves leaf.0 ≡ Some state
-    → replica_rows range first_slot state.history ≡ first_rows (histories leaves) range
+    → replica_rows range first_slot state.history ≡ first_replica_rows (histories leaves) range
 own_rows zones leaves range leaf state alike at there =
     (alike.keep leaf.0 state.history (slice_get-map (λ (l : LeafView). l.history) leaves leaf.0
     ∙ ap (λ o. option_map (λ (l : LeafView). l.history) o) there)).held
-    range first_slot (ap (is_at leaf.0) at ∙ eq_itself leaf.0)
+    range first_slot (ap (is_on_leaf leaf.0) at ∙ eq_itself leaf.0)
   where
     eq_itself : (n : ℕ) → nat_eq n n ≡ true
     eq_itself n = grind (arith, nat_tests)
 
 -- ---- no rows
 
-pub no_first_rows : (zones : List ZoneSpec) (leaves : List LeafView) → AllHave zones → AreOpened (leaf_of zones) zones
-    leaves → (range : Range) → first_rows (histories leaves) range ≡ []
+pub no_first_rows : (zones : List ZoneSpec) (leaves : List LeafView) → AllHave zones
+    → AreLeavesOpened (leaf_of zones) zones
+    leaves → (range : Range) → first_replica_rows (histories leaves) range ≡ []
 no_first_rows zones leaves has opened range = by (leaf_of zones range first_slot) refl
   where
-    by : (o : Option Leaf) → leaf_of zones range first_slot ≡ o → first_rows (histories leaves) range ≡ []
+    by : (o : Option Leaf) → leaf_of zones range first_slot ≡ o → first_replica_rows (histories leaves) range ≡ []
     by None at = first_rows-none (leaf_of zones) store.no_rows (histories leaves) range opened.keep at
     by (Some leaf) at =
         let within = first_at zones has range leaf at in
@@ -224,12 +234,13 @@ no_first_rows zones leaves has opened range = by (leaf_of zones range first_slot
         first_rows-at (leaf_of zones) store.no_rows (histories leaves) range leaf opened.keep at (omega arith)
 
 pub kept_none : (config : Config) (leaves : List LeafView) → AllHave config.topology
-    → AreOpened (leaf_of config.topology) config.topology leaves → AreKept config leaves []
+    → AreLeavesOpened (leaf_of config.topology) config.topology leaves → AreReplicasKept config leaves []
 kept_none config leaves has opened =
     let none = no_first_rows config.topology leaves has opened in record {
       alike = record {
         count = opened.count;
-        keep = all_alike (leaf_of config.topology) store.no_rows (λ range slot. first_rows (histories leaves) range)
+        keep = all_alike (leaf_of config.topology) store.no_rows
+            (λ range slot. first_replica_rows (histories leaves) range)
             (histories leaves) opened.keep
             (λ range slot leaf at. none range);
       };

@@ -7,8 +7,8 @@ use Rattle.std.proofs.lemmas.Bool.Decides.{nat_tests}
 use Rattle.mon_value.specs.declared.refusals.Refusal.{Refusal}
 use Rattle.mon_value.specs.declared.rows.Row.{Row}
 use Rattle.mon_value.specs.declared.tables.Table.{Table}
-use Rattle.mon_topo.specs.Faults.{IsLawful, are_few}
-use Rattle.mon_topo.specs.Places.{unless}
+use Rattle.mon_topo.specs.Faults.{AreLawfulZones, are_few}
+use Rattle.mon_topo.specs.Places.{place_unless}
 use Rattle.mon_topo.specs.declared.places.Place.{Place}
 use Rattle.mon_topo.specs.Zones.{first_leaf, leaves_in, ranges_in, zone_at}
 use Rattle.mon_topo.specs.declared.zones.ZoneSpec.{ZoneSpec}
@@ -21,7 +21,7 @@ use Rattle.mixer.specs.Divisions.{all_rows}
 use Rattle.mixer.specs.ZoneAnswers.{AllLeafParts, AllZoneParts, IsRefusedByZone, IsZoneAnswer, IsZonePart}
 use Rattle.mixer.specs.declared.zone_answers.ZoneAnswer.{ZoneAnswer}
 use Rattle.mon_config.specs.declared.config.Config.{Config}
-use Rattle.mon_store.specs.within.Divisions.{divided_rows, leaf_rows, listed, zone_rows}
+use Rattle.mon_store.specs.within.Divisions.{divided_rows, divided_leaf_rows, values_below, zone_rows}
 use Rattle.mon_store.proofs.ListedLemmas.{listed_split}
 
 module _ (typed : TypedTree) (moment : ℤ) (limit : ℕ) where
@@ -35,13 +35,13 @@ module _ (typed : TypedTree) (moment : ℤ) (limit : ℕ) where
 
   -- a leaf more
   pub leaf_parts_more : (f : ℕ → List Row) (n : ℕ) (parts : List LeafAnswer) (part : LeafAnswer) → AllLeafParts typed
-      (listed f n) moment limit parts
-      → IsLeafPart typed (f n) moment limit part → AllLeafParts typed (listed f (n + 1)) moment limit
+      (values_below f n) moment limit parts
+      → IsLeafPart typed (f n) moment limit part → AllLeafParts typed (values_below f (n + 1)) moment limit
       (parts ++ part ∷ [])
   leaf_parts_more f n parts part all one =
       let next : suc n ≡ n + 1 = omega arith in
-      subst (λ k. AllLeafParts typed (listed f k) moment limit (parts ++ part ∷ [])) next
-      (leaf_parts_push (listed f n) parts (f n) part all one)
+      subst (λ k. AllLeafParts typed (values_below f k) moment limit (parts ++ part ∷ [])) next
+      (leaf_parts_push (values_below f n) parts (f n) part all one)
 
   zone_parts_push : (zones : List (List (List Row))) (parts : List ZoneAnswer) (leaves : List (List Row))
       (part : ZoneAnswer)
@@ -55,13 +55,13 @@ module _ (typed : TypedTree) (moment : ℤ) (limit : ℕ) where
 
   -- a zone more
   pub zone_parts_more : (f : ℕ → List (List Row)) (n : ℕ) (parts : List ZoneAnswer) (part : ZoneAnswer)
-      → AllZoneParts typed (listed f n) moment limit parts
-      → IsZonePart typed (f n) moment limit part → AllZoneParts typed (listed f (n + 1)) moment limit
+      → AllZoneParts typed (values_below f n) moment limit parts
+      → IsZonePart typed (f n) moment limit part → AllZoneParts typed (values_below f (n + 1)) moment limit
       (parts ++ part ∷ [])
   zone_parts_more f n parts part all one =
       let next : suc n ≡ n + 1 = omega arith in
-      subst (λ k. AllZoneParts typed (listed f k) moment limit (parts ++ part ∷ [])) next
-      (zone_parts_push (listed f n) parts (f n) part all one)
+      subst (λ k. AllZoneParts typed (values_below f k) moment limit (parts ++ part ∷ [])) next
+      (zone_parts_push (values_below f n) parts (f n) part all one)
 
   -- an answer that came, and one that didn't
   pub part_of : (rows : List Row) (result : Result LeafAnswer (Refusal OverLimit)) (part : LeafAnswer)
@@ -118,7 +118,8 @@ zone_leaf_there (zone ∷ zones) (suc z) i there within =
 
 -- ---- there are few leaves
 
-few_by : (good : Bool) (where_at : Place) (rest : Option Place) → option_or (unless good where_at) rest ≡ None → good
+few_by : (good : Bool) (where_at : Place) (rest : Option Place) → option_or (place_unless good where_at) rest ≡ None
+    → good
     ≡ true
 few_by true where_at rest none = refl
 few_by false where_at rest none = absurd cc
@@ -128,7 +129,7 @@ middle true true c e = refl
 middle true false c e = absurd cc
 middle false b c e = absurd cc
 
-pub few_leaves : (zones : List ZoneSpec) → IsLawful zones → length (leaves_in zones) ≤ 64
+pub few_leaves : (zones : List ZoneSpec) → AreLawfulZones zones → length (leaves_in zones) ≤ 64
 few_leaves zones lawful =
     let few = few_by (are_few zones) _ _ lawful.few in
     let le = middle (nat_le (length zones) 32) (nat_le (length (leaves_in zones)) 64)
@@ -142,21 +143,22 @@ module _ (config : Config) (rows : List Row) (zone place : ℕ) where
   zones = divided_rows config rows
 
   abbrev leaf_at : ℕ → List Row
-  leaf_at i = leaf_rows config rows (first_leaf config.topology zone + i)
+  leaf_at i = divided_leaf_rows config rows (first_leaf config.topology zone + i)
 
   pub record InZone : Type 0 where
     pub first : List (List Row)
     pub rest : List (List Row)
     pub after : List (List (List Row))
-    pub is : zones ≡ listed (zone_rows config rows) zone ++ (first ++ leaf_at place ∷ rest) ∷ after
+    pub is : zones ≡ values_below (zone_rows config rows) zone ++ (first ++ leaf_at place ∷ rest) ∷ after
 
   pub in_zone_at : zone < length config.topology → place < length (zone_at config.topology zone).leaves → InZone
   in_zone_at there within =
       let outer = listed_split (zone_rows config rows) (length config.topology) zone there in
       let inner = listed_split leaf_at (length (zone_at config.topology zone).leaves) place within in record {
-        first = listed leaf_at place;
+        first = values_below leaf_at place;
         rest = inner.rest;
         after = outer.rest;
-        is = outer.is ∙ ap (λ (leaves : List (List Row)). listed (zone_rows config rows) zone ++ leaves ∷ outer.rest)
+        is = outer.is
+            ∙ ap (λ (leaves : List (List Row)). values_below (zone_rows config rows) zone ++ leaves ∷ outer.rest)
             inner.is;
       }

@@ -14,8 +14,8 @@ use Rattle.mon_config.specs.declared.config.Config.{Config}
 use Rattle.leaf_store.specs.LeafStates.{LeafView}
 use Rattle.mon_store.specs.Writes.{fault_behind, range_of_key, write_fault}
 use Rattle.mon_store.specs.declared.faults.WriteFault.{WriteFault}
-use Rattle.mon_store.specs.Stores.{AreKept, rows_kept}
-use Rattle.mon_store.specs.within.Leaves.{AreAlike, first_rows, first_slot, histories, leaf_of}
+use Rattle.mon_store.specs.Stores.{AreReplicasKept, rows_kept}
+use Rattle.mon_store.specs.within.Leaves.{AreReplicasAlike, first_replica_rows, first_slot, histories, leaf_of}
 use Rattle.mon_store.proofs.OpenLemmas.{replica_at, replica_there}
 use Rattle.mon_store.proofs.PutLemmas.{is_there}
 use Rattle.mon_store.proofs.RangeRowLemmas.{fault_ranged, is_later}
@@ -47,22 +47,22 @@ module _ (zones : List ZoneSpec) (has : AllHave zones) (range : Range) (there : 
   pub first_leaf_there : (d : Leaf) → (get_or replicas 0 d).0 < length (leaves_in zones)
   first_leaf_there d = replica_there zones range 0 (get_or replicas 0 d) (has range.0 there) (first_replica d)
 
-  pub first_opened : (leaves : List LeafView) (d : Leaf) → AreAlike zones leaves
+  pub first_opened : (leaves : List LeafView) (d : Leaf) → AreReplicasAlike zones leaves
       → IfSome (slice_get leaves (get_or replicas 0 d).0) (λ state. is_opened range first_slot state.history ≡ true)
-  first_opened leaves d alike = is_there zones (λ other slot. first_rows (histories leaves) other) leaves range
+  first_opened leaves d alike = is_there zones (λ other slot. first_replica_rows (histories leaves) other) leaves range
       first_slot (get_or replicas 0 d) alike.keep (first_replica d)
 
   -- why the row is refused
   pub fault_known : (leaves : List LeafView) (d : Leaf) (row : Row) (limit : ℕ) (fault : Option WriteFault)
-      → AreAlike zones leaves
+      → AreReplicasAlike zones leaves
       → IfSome (slice_get leaves (get_or replicas 0 d).0)
       (λ state. fault ≡ fault_behind (replica_rows range first_slot state.history) row limit)
-      → fault ≡ fault_behind (first_rows (histories leaves) range) row limit
+      → fault ≡ fault_behind (first_replica_rows (histories leaves) range) row limit
   fault_known leaves d row limit fault alike is = by (slice_get leaves (get_or replicas 0 d).0) refl is
     where
       by : (o : Option LeafView) → slice_get leaves (get_or replicas 0 d).0 ≡ o
           → IfSome o (λ state. fault ≡ fault_behind (replica_rows range first_slot state.history) row limit)
-          → fault ≡ fault_behind (first_rows (histories leaves) range) row limit
+          → fault ≡ fault_behind (first_replica_rows (histories leaves) range) row limit
       by None none is =
           absurd (let within = first_leaf_there d in let count = alike.count in
           let found = slice_get-get_or leaves (get_or replicas 0 d).0 (get_or leaves 0 empty) (omega arith) in
@@ -83,19 +83,19 @@ module _ (zones : List ZoneSpec) (has : AllHave zones) (range : Range) (there : 
 
   -- a row without a fault may be put
   pub row_goes_on : (leaves : List LeafView) (d : Leaf) (row : Row) (limit : ℕ) (fault : Option WriteFault)
-      → AreAlike zones leaves
-      → fault ≡ fault_behind (first_rows (histories leaves) range) row limit → fault ≡ None
-      → IsSource (first_rows (histories leaves) range ++ row ∷ [])
+      → AreReplicasAlike zones leaves
+      → fault ≡ fault_behind (first_replica_rows (histories leaves) range) row limit → fault ≡ None
+      → IsSource (first_replica_rows (histories leaves) range ++ row ∷ [])
   row_goes_on leaves d row limit fault alike is none =
       goes_on zones leaves range (get_or replicas 0 d) row alike (first_replica d) (first_leaf_there d)
-      (is_later (first_rows (histories leaves) range) row limit (sym is ∙ none))
+      (is_later (first_replica_rows (histories leaves) range) row limit (sym is ∙ none))
 
 -- why a row is refused, where its range's leaves were settled
 pub write_fault_known : (config : Config) (old mid : List LeafView) (order : List Range) (range : Range) (row : Row)
     (fault : Option WriteFault)
-    → AreKept config old order → histories mid ≡ histories old → range_of_key config row.key ≡ Some range
-    → fault ≡ fault_behind (first_rows (histories mid) range) row config.range_points
+    → AreReplicasKept config old order → histories mid ≡ histories old → range_of_key config row.key ≡ Some range
+    → fault ≡ fault_behind (first_replica_rows (histories mid) range) row config.range_points
     → write_fault config (rows_kept old order) row ≡ fault
 write_fault_known config old mid order range row fault kept same at is =
-    fault_ranged config range (rows_kept old order) (first_rows (histories mid) range) row fault at
-    (ap (λ h. first_rows h range) same ∙ kept.ranged range) is
+    fault_ranged config range (rows_kept old order) (first_replica_rows (histories mid) range) row fault at
+    (ap (λ h. first_replica_rows h range) same ∙ kept.ranged range) is

@@ -6,7 +6,8 @@ use Rattle.std.proofs.lemmas.Bool.Decides.{nat_tests}
 use Rattle.std.proofs.lemmas.List.Elements.{filter-append}
 use Rattle.mon_value.specs.declared.positions.Range.{Range}
 use Rattle.mon_value.specs.declared.rows.Row.{Row}
-use Rattle.mon_store.specs.within.Leaves.{AreInOrder, first_of, in_turn, same_range, without_first}
+use Rattle.mon_value.specs.Positions.{same_range}
+use Rattle.mon_store.specs.within.Leaves.{AreInOrder, first_row, in_turn, without_first}
 
 -- a row more of a range
 abbrev pub IsMore : Range → Row → (Range → List Row) → (Range → List Row) → Type 0
@@ -30,7 +31,7 @@ no_items : {X : Type 0} (xs : List X) → length xs ≡ 0 → xs ≡ []
 no_items [] none = refl
 no_items (x ∷ xs) none = absurd (omega (arith, none))
 
-first_front : (xs ys : List Row) (n : ℕ) → length xs ≡ suc n → first_of (xs ++ ys) ≡ first_of xs
+first_front : (xs ys : List Row) (n : ℕ) → length xs ≡ suc n → first_row (xs ++ ys) ≡ first_row xs
 first_front [] ys n some = absurd (omega (arith, some))
 first_front (x ∷ xs) ys n some = refl
 
@@ -81,14 +82,14 @@ pub in_turn-push : (order : List Range) (old new : Range → List Row) (range : 
     new → AreInOrder old order
     → in_turn new (order ++ range ∷ []) ≡ in_turn old order ++ row ∷ []
 in_turn-push [] old new range row more counts =
-    ap (λ rows. first_of rows ∷ [])
+    ap (λ rows. first_row rows ∷ [])
     (more range ∙ (λ i. no_items (old range) (counts range) i ++ cond (same_itself range i) (row ∷ []) []))
 in_turn-push (first ∷ order) old new range row more counts =
     let some : length (old first) ≡ suc (length (filter (same_range first) order)) =
     counts first ∙ ap (λ (b : Bool). length (cond b (first ∷ filter (same_range first) order)
     (filter (same_range first) order))) (same_itself first) in
-    let front : first_of (new first) ≡ first_of (old first) =
-    ap first_of (more first) ∙ first_front (old first) (cond (same_range range first) (row ∷ []) [])
+    let front : first_row (new first) ≡ first_row (old first) =
+    ap first_row (more first) ∙ first_front (old first) (cond (same_range range first) (row ∷ []) [])
     (length (filter (same_range first) order)) some in
     let rest = in_turn-push order (without_first first old) (without_first first new) range row
     (λ other. more_by old new range first other row order (same_range first other) refl (more other) (counts other))

@@ -1,8 +1,6 @@
 -- What a store has: the rows that it has taken, each with its range's replicas.
-use Rattle.std.specs.Prelude.{◌≡◌, ◌≤◌, ◌<◌, ◌^◌, true, is_some, List, filter, length}
+use Rattle.std.specs.Prelude.{◌≡◌, true, is_some, List, filter, length}
 use Rattle.std.specs.List.{AllByRecursion}
-use Rattle.mon_hints.specs.declared.fingerprints.TheConstants.{MOST_BUCKETS}
-use Rattle.mon_value.specs.declared.limits.TheConstants.{ROW_BITS}
 use Rattle.mon_value.specs.declared.positions.Range.{Range}
 use Rattle.mon_value.specs.declared.rows.Row.{Row}
 use Rattle.mon_schema.specs.Fits.{fits}
@@ -11,14 +9,11 @@ use Rattle.mon_topo.specs.Zones.{ranges_in}
 use Rattle.mon_config.specs.declared.config.Config.{Config}
 use Rattle.leaf_store.specs.LeafStates.{LeafView}
 use Rattle.mon_store.specs.Writes.{is_range, range_of_key}
-use Rattle.mon_store.specs.within.Leaves.{AreAlike, AreInOrder, AreSettled, HasFirsts, first_rows, histories, in_turn}
+use Rattle.mon_store.specs.within.Leaves.{AreReplicasAlike, AreInOrder, AreSettled, HasFirsts, first_replica_rows}
+use Rattle.mon_store.specs.within.Leaves.{histories}
+use Rattle.mon_store.specs.within.Leaves.{in_turn}
 use Rattle.mon_store.specs.declared.store.Store.{Store}
-
--- the limit of a query's load is no greater than a table may have rows, and the number of buckets is one
-pub record IsLimited (config : Config) : Type 0 where
-  pub limit : config.limit ≤ 2 ^ ROW_BITS
-  pub some : 0 < config.buckets
-  pub most : config.buckets ≤ MOST_BUCKETS
+use Rattle.mon_config.specs.Configs.{IsLimited}
 
 -- each row is of a target schema and a metric that are held
 abbrev pub AllFit : SchemaLists → List Row → Type 0
@@ -30,31 +25,32 @@ range_rows config range rows = filter (λ row. is_range range (range_of_key conf
 
 -- rows in the order in which they came, by what is kept of them
 abbrev pub rows_kept : List LeafView → List Range → List Row
-rows_kept leaves order = in_turn (first_rows (histories leaves)) order
+rows_kept leaves order = in_turn (first_replica_rows (histories leaves)) order
 
 -- the rows that a store has taken, in their order
 abbrev pub accepted_rows : Store → List Row
 accepted_rows store = rows_kept store.leaves.states.items store.order.items
 
 -- the rows of each range are those of its replicas
-pub record AreKept (config : Config) (leaves : List LeafView) (order : List Range) : Type 0 where
-  pub alike : AreAlike config.topology leaves
-  pub ranged : (range : Range) → first_rows (histories leaves) range ≡ range_rows config range (rows_kept leaves order)
-  pub ordered : AreInOrder (first_rows (histories leaves)) order
+pub record AreReplicasKept (config : Config) (leaves : List LeafView) (order : List Range) : Type 0 where
+  pub alike : AreReplicasAlike config.topology leaves
+  pub ranged : (range : Range) → first_replica_rows (histories leaves) range
+      ≡ range_rows config range (rows_kept leaves order)
+  pub ordered : AreInOrder (first_replica_rows (histories leaves)) order
   pub placed : AllByRecursion (λ row. is_some (range_of_key config row.key) ≡ true) (rows_kept leaves order)
 
 -- what a store of a configuration keeps: the rows, and the first replicas on each leaf
-pub record IsKept (config : Config) (store : Store) : Type 0 where
+pub record IsStoreKept (config : Config) (store : Store) : Type 0 where
   pub limited : IsLimited config
-  pub rows : AreKept config store.leaves.states.items store.order.items
+  pub rows : AreReplicasKept config store.leaves.states.items store.order.items
   pub firsts : HasFirsts config.topology (length (ranges_in config.topology)) store.firsts.items
 
 -- all rows of a store are with their replicas
-abbrev pub IsReady : Store → Type 0
-IsReady store = AreSettled store.leaves.states.items
+abbrev pub IsStoreReady : Store → Type 0
+IsStoreReady store = AreSettled store.leaves.states.items
 
 -- a store of rows of the schemas that are held, all with their replicas: what queries ask for
 pub record AreSound (config : Config) (store : Store) : Type 0 where
   pub fit : AllFit config.schemas (accepted_rows store)
-  pub kept : IsKept config store
-  pub settled : IsReady store
+  pub kept : IsStoreKept config store
+  pub settled : IsStoreReady store

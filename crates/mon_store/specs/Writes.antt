@@ -22,8 +22,8 @@ is_range range None = false
 is_range range (Some other) = nat_eq other.0 range.0
 
 -- how many rows lie in a range
-abbrev pub rows_in : Config → Range → List Row → ℕ
-rows_in config range = count_by (λ row. is_range range (range_of_key config row.key))
+abbrev pub count_in_range : Config → Range → List Row → ℕ
+count_in_range config range = count_by (λ row. is_range range (range_of_key config row.key))
 
 -- a point is old where its series' last end is at or above its own
 abbrev pub old_fault : Option ℤ → Point → Option WriteFault
@@ -39,7 +39,7 @@ abbrev pub range_fault : Config → List Row → Row → Option Range → Option
 range_fault config rows row None = Some fault.NoZone
 range_fault config rows row (Some range) =
     option_or (old_fault (last_end (points_of row.key rows)) row.point)
-    (full_fault config.range_points (rows_in config range rows))
+    (full_fault config.range_points (count_in_range config range rows))
 
 -- why a row is refused behind the rows that were taken before it
 abbrev pub write_fault : Config → List Row → Row → Option WriteFault

@@ -4,24 +4,25 @@ ghost use Rattle.std.specs.Prelude.{IfSome, OnErr, OnOk};
 ghost use Rattle.mon_value.specs.LeafHistories.{IsWellFormed, is_opened, replica_rows};
 ghost use Rattle.mon_value.specs.Sources.{IsSource};
 ghost use Rattle.mon_topo.specs.Replicas.{HasReplicas};
-ghost use Rattle.mon_topo.specs.Zones.{first_replicas, leaf_numbered, ranges_in};
+ghost use Rattle.mon_value.specs.Positions.{leaf_numbered};
+ghost use Rattle.mon_topo.specs.Zones.{first_replicas, ranges_in};
 ghost use Rattle.std.specs.List.{AllByRecursion};
 ghost use Rattle.mon_store.specs.Writes as writes;
 ghost use Rattle.mon_store.specs.Writes.{fault_behind};
 ghost use Rattle.mon_store.specs.within.Leaves as spec;
 ghost use Rattle.leaf_store.specs.LeafLists.{IsChanged};
-ghost use Rattle.mon_store.specs.within.Leaves.{AllKeep, AreAlike, AreOpened, HasEntry, IsSettled};
-ghost use Rattle.mon_store.specs.within.Leaves.{AreSettled, MayCome, first_rows, first_slot, histories, leaf_of};
+ghost use Rattle.mon_store.specs.within.Leaves.{AllKeep, AreReplicasAlike, AreLeavesOpened, HasEntry, IsSettled};
+ghost use Rattle.mon_store.specs.within.Leaves.{AreSettled, MayCome, first_replica_rows, first_slot, histories};
+ghost use Rattle.mon_store.specs.within.Leaves.{leaf_of};
 ghost use Rattle.mon_store.specs.within.Leaves.{with_row_from};
 ghost use Rattle.leaf_store.specs.LeafStates.{with_entry, with_settled};
 
 use crate::faults::WriteFault;
 use leaf_store::{Entry, LeafState};
 use mon_config::Config;
-use mon_hints::MOST_BUCKETS;
 use mon_series::KeptRows;
 use mon_topo::{Topology, ranges_have_replicas};
-use mon_value::{Leaf, OutOfMemory, Range, Row, RowList, Slot, TryCopy};
+use mon_value::{Leaf, MOST_BUCKETS, OutOfMemory, Range, Row, RowList, Slot, TryCopy};
 use std::alloc::Global;
 
 /// A state for each leaf, in the order of their numbers.
@@ -47,7 +48,7 @@ impl LeafStates {
         requires some { 0 < config.now.buckets }
         requires most { config.now.buckets ≤ MOST_BUCKETS }
         ensures opened { IfOk result (λ leaves.
-            AreOpened (leaf_of config.now.topology) config.now.topology leaves.states.items) }
+            AreLeavesOpened (leaf_of config.now.topology) config.now.topology leaves.states.items) }
     {
         let mut leaves = LeafStates::new(alloc);
         leaves.add_leaves(config)?;
@@ -60,7 +61,7 @@ impl LeafStates {
         requires some { 0 < config.now.buckets }
         requires most { config.now.buckets ≤ MOST_BUCKETS }
         requires none { self.old.states.items ≡ [] }
-        ensures opened { OnOk result (AreOpened spec.nowhere config.now.topology self.new.states.items) }
+        ensures opened { OnOk result (AreLeavesOpened spec.nowhere config.now.topology self.new.states.items) }
     {
         for leaf in 0..config.topology.leaves() {
             let state = LeafState::new(self.alloc, Leaf(leaf), config.buckets, &config.schemas)?;
@@ -71,8 +72,8 @@ impl LeafStates {
 
     // Opens the first replicas of all ranges.
     fn open_ranges(&mut self, topology: &Topology) -> Result<(), OutOfMemory>
-        requires none { AreOpened spec.nowhere topology.now self.old.states.items }
-        ensures opened { OnOk result (AreOpened (leaf_of topology.now) topology.now self.new.states.items) }
+        requires none { AreLeavesOpened spec.nowhere topology.now self.old.states.items }
+        ensures opened { OnOk result (AreLeavesOpened (leaf_of topology.now) topology.now self.new.states.items) }
     {
         ranges_have_replicas(topology);
         for range in 0..topology.ranges() {
@@ -85,9 +86,10 @@ impl LeafStates {
     fn open_range(&mut self, topology: &Topology, range: Range) -> Result<(), OutOfMemory>
         requires there { range.0 < length (ranges_in topology.now) }
         requires replicas { HasReplicas topology.now range }
-        requires before { AreOpened (spec.opened_before topology.now range.0 0) topology.now self.old.states.items }
+        requires before { AreLeavesOpened (spec.opened_before topology.now range.0 0)
+            topology.now self.old.states.items }
         ensures opened { OnOk result
-            (AreOpened (spec.opened_before topology.now (range.0 + 1) 0) topology.now self.new.states.items) }
+            (AreLeavesOpened (spec.opened_before topology.now (range.0 + 1) 0) topology.now self.new.states.items) }
     {
         let mut slot = 0;
         for leaf in topology.first_replicas(range).as_slice() {
@@ -140,11 +142,11 @@ impl LeafStates {
     ) -> Result<(), OutOfMemory>
         requires there { range.0 < length (ranges_in topology.now) }
         requires replicas { HasReplicas topology.now range }
-        requires alike { AreAlike topology.now self.old.states.items }
-        requires source { IsSource (first_rows (histories self.old.states.items) range ++ row.now ∷ []) }
+        requires alike { AreReplicasAlike topology.now self.old.states.items }
+        requires source { IsSource (first_replica_rows (histories self.old.states.items) range ++ row.now ∷ []) }
         ensures count { length self.new.states.items ≡ length self.old.states.items }
         ensures put { OnOk result (AllKeep (leaf_of topology.now)
-            (with_row_from (first_rows (histories self.old.states.items)) range slot row.now)
+            (with_row_from (first_replica_rows (histories self.old.states.items)) range slot row.now)
             (histories self.new.states.items)) }
         ensures kept { OnErr result (histories self.new.states.items ≡ histories self.old.states.items) }
         ensures others { (n : ℕ) → spec.Untouched n (drop slot (first_replicas topology.now range.0))

@@ -5,10 +5,11 @@ ghost use Rattle.mon_value.specs.Sources.{IsSource};
 ghost use Rattle.mon_topo.specs.Replicas.{HasReplicas};
 ghost use Rattle.mon_topo.specs.Zones.{ranges_in};
 ghost use Rattle.mon_config.specs.declared.config.Config.{Config as ConfigView};
-ghost use Rattle.mon_store.specs.Stores.{IsKept, IsLimited, IsReady, accepted_rows};
+ghost use Rattle.mon_config.specs.Configs.{IsLimited};
+ghost use Rattle.mon_store.specs.Stores.{IsStoreKept, IsStoreReady, accepted_rows};
 ghost use Rattle.mon_store.specs.Writes as spec;
 ghost use Rattle.mon_store.specs.Writes.{write_fault};
-ghost use Rattle.mon_store.specs.within.Leaves.{AreBare, HasFirsts, IsPushed, first_rows, histories};
+ghost use Rattle.mon_store.specs.within.Leaves.{AreBare, HasFirsts, IsPushed, first_replica_rows, histories};
 
 use crate::faults::WriteFault;
 use crate::leaf_states::LeafStates;
@@ -42,8 +43,8 @@ impl Store {
     pub fn open(alloc: Global, config: &Config) -> Result<Store, OutOfMemory>
         requires limited { IsLimited config.now }
         ensures rows { IfOk result (λ store. accepted_rows store ≡ []) }
-        ensures kept { IfOk result (IsKept config.now) }
-        ensures settled { IfOk result IsReady }
+        ensures kept { IfOk result (IsStoreKept config.now) }
+        ensures settled { IfOk result IsStoreReady }
     {
         ranges_have_replicas(&config.topology);
         let mut leaves = LeafStates::open(alloc, config)?;
@@ -74,8 +75,8 @@ impl Store {
     /// Writes a row to each first replica of its range, behind the rows that are there, or says why it is refused.
     /// Where memory runs out the rows stay.
     pub fn write(&mut self, config: &Config, row: &Row) -> Result<(), Refusal<WriteFault>>
-        requires kept { IsKept config.now self.old }
-        ensures kept { IsKept config.now self.new }
+        requires kept { IsStoreKept config.now self.old }
+        ensures kept { IsStoreKept config.now self.new }
         ensures refused { AnswersBy result (write_fault config.now (accepted_rows self.old) row.now) }
         ensures written { OnOk result (accepted_rows self.new ≡ accepted_rows self.old ++ row.now ∷ []) }
         ensures rows { OnErr result (accepted_rows self.new ≡ accepted_rows self.old) }
@@ -89,8 +90,8 @@ impl Store {
     /// Gets a store ready for queries: the rows of all leaves' entries go to their replicas. The rows stay.
     pub fn settle(&mut self) -> Result<(), OutOfMemory>
         ensures rows { accepted_rows self.new ≡ accepted_rows self.old }
-        ensures kept { (config : ConfigView) → IsKept config self.old → IsKept config self.new }
-        ensures settled { OnOk result (IsReady self.new) }
+        ensures kept { (config : ConfigView) → IsStoreKept config self.old → IsStoreKept config self.new }
+        ensures settled { OnOk result (IsStoreReady self.new) }
     {
         self.leaves.settle_all()
     }
@@ -102,10 +103,10 @@ impl Store {
         range: Range,
         row: &Row,
     ) -> Result<(), Refusal<WriteFault>>
-        requires kept { IsKept config.now self.old }
+        requires kept { IsStoreKept config.now self.old }
         requires range { spec.range_of_key config.now row.now.key ≡ Some range }
         requires there { range.0 < length (ranges_in config.now.topology) }
-        ensures kept { IsKept config.now self.new }
+        ensures kept { IsStoreKept config.now self.new }
         ensures refused { AnswersBy result (write_fault config.now (accepted_rows self.old) row.now) }
         ensures written { OnOk result (accepted_rows self.new ≡ accepted_rows self.old ++ row.now ∷ []) }
         ensures rows { OnErr result (accepted_rows self.new ≡ accepted_rows self.old) }
@@ -124,11 +125,11 @@ impl Store {
 
     // Puts a row that has no fault behind those that are there.
     fn append(&mut self, config: &Config, range: Range, row: &Row) -> Result<(), OutOfMemory>
-        requires kept { IsKept config.now self.old }
+        requires kept { IsStoreKept config.now self.old }
         requires range { spec.range_of_key config.now row.now.key ≡ Some range }
         requires there { range.0 < length (ranges_in config.now.topology) }
-        requires source { IsSource (first_rows (histories self.old.leaves.states.items) range ++ row.now ∷ []) }
-        ensures kept { IsKept config.now self.new }
+        requires source { IsSource (first_replica_rows (histories self.old.leaves.states.items) range ++ row.now ∷ []) }
+        ensures kept { IsStoreKept config.now self.new }
         ensures written { OnOk result (accepted_rows self.new ≡ accepted_rows self.old ++ row.now ∷ []) }
         ensures rows { OnErr result (accepted_rows self.new ≡ accepted_rows self.old) }
     {

@@ -1,5 +1,5 @@
 // The table of a query, by the leaves, their zones and the root.
-ghost use Rattle.std.specs.Prelude.{◌≡◌, ◌<◌, ◌≤ℤ◌, length, pos, IfErr, IfOk};
+ghost use Rattle.std.specs.Prelude.{◌<◌, ◌≤ℤ◌, length, pos, IfErr, IfOk};
 ghost use Rattle.mql_types.specs.Nodes.{typed_tree};
 ghost use Rattle.mon_meaning.specs.Central.{IsAnswer, IsRefusedBy};
 ghost use Rattle.mon_meaning.specs.LeafAnswers.{IsLeafAnswer};
@@ -7,7 +7,7 @@ ghost use Rattle.mon_topo.specs.Zones.{leaves_in};
 ghost use Rattle.mixer.specs.Divisions.{all_rows};
 ghost use Rattle.mixer.specs.ZoneAnswers.{IsZonePart};
 ghost use Rattle.mql_types.specs.Soundness.{IsQueryType};
-ghost use Rattle.mon_store.specs.within.Divisions.{divided_rows, leaf_rows, zone_rows};
+ghost use Rattle.mon_store.specs.within.Divisions.{divided_rows, divided_leaf_rows, zone_rows};
 ghost use Rattle.mon_store.specs.Stores.{AreSound, accepted_rows};
 
 use crate::store::Store;
@@ -89,7 +89,7 @@ impl Store {
         requires moment { pos 0 ≤ℤ moment }
         requires there { leaf.0 < length (leaves_in config.now.topology) }
         ensures answer { IsLeafAnswer (typed_tree plan.now.typed)
-            (leaf_rows config.now (accepted_rows self.now) leaf.0) moment config.now.limit result }
+            (divided_leaf_rows config.now (accepted_rows self.now) leaf.0) moment config.now.limit result }
     {
         ranges_have_replicas(&config.topology);
         eval_leaf(

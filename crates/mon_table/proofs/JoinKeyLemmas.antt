@@ -9,7 +9,7 @@ use Rattle.mon_value.proofs.SameLemmas.{eq-same_value, same_row-Decides}
 use Rattle.mon_value.specs.Same.{same_row, same_value}
 use Rattle.mon_value.specs.declared.tables.TimedRow.{TimedRow}
 use Rattle.mon_value.specs.declared.values.Value.{Value}
-use Rattle.mon_table.specs.JoinKeys.{entry_rows, key_row, same_join_key}
+use Rattle.mon_table.specs.JoinKeys.{rows_under_key, key_row, same_join_key}
 use Rattle.mon_table.specs.References.{rows_behind}
 use Rattle.mon_table.specs.declared.keys.JoinKey.{JoinKey}
 use Rattle.mon_table.specs.contracts.keys.JoinKeyPartialEq.TheImpl as derived
@@ -49,25 +49,25 @@ module _ {S : Type 0} (m n : IndexMap JoinKey (Vec (Bor TimedRow) Global) S) (ke
     (rows : Vec (Bor TimedRow) Global) where
   added_at : (other : JoinKey) (b : Bool) → same_join_key key other ≡ b → get same_join_key n other
       ≡ cond b (Some rows) (get same_join_key m other)
-      → rows_behind rows.items ≡ entry_rows (get same_join_key m key) ++ row ∷ []
-      → entry_rows (get same_join_key n other) ≡ entry_rows (get same_join_key m other)
+      → rows_behind rows.items ≡ rows_under_key (get same_join_key m key) ++ row ∷ []
+      → rows_under_key (get same_join_key n other) ≡ rows_under_key (get same_join_key m other)
       ++ cond (same_join_key other key) (row ∷ []) []
   added_at other true same new grown =
       let one : key_row key ≡ key_row other = (same_row-Decides (key_row key) (key_row other)).0 same in
-      ap entry_rows new
+      ap rows_under_key new
       ∙ grown
-      ∙ ap (λ (k : TimedRow). entry_rows (get (λ (a b : JoinKey). same_row k (key_row b)) m key) ++ row ∷ []) one
-      ∙ ap (λ c. entry_rows (get same_join_key m other) ++ cond c (row ∷ []) [])
+      ∙ ap (λ (k : TimedRow). rows_under_key (get (λ (a b : JoinKey). same_row k (key_row b)) m key) ++ row ∷ []) one
+      ∙ ap (λ c. rows_under_key (get same_join_key m other) ++ cond c (row ∷ []) [])
       (sym (same_row-back (key_row key) (key_row other) true same))
   added_at other false apart new grown =
-      ap entry_rows new
-      ∙ sym (append-nil (entry_rows (get same_join_key m other)))
-      ∙ ap (λ c. entry_rows (get same_join_key m other) ++ cond c (row ∷ []) [])
+      ap rows_under_key new
+      ∙ sym (append-nil (rows_under_key (get same_join_key m other)))
+      ∙ ap (λ c. rows_under_key (get same_join_key m other) ++ cond c (row ∷ []) [])
       (sym (same_row-back (key_row key) (key_row other) false apart))
 
   -- a row more under its key
   pub entry_rows-added : UpdatesBy same_join_key (same_join_key key) m n (Some rows) → rows_behind rows.items
-      ≡ entry_rows (get same_join_key m key) ++ row ∷ []
-      → (other : JoinKey) → entry_rows (get same_join_key n other) ≡ entry_rows (get same_join_key m other)
+      ≡ rows_under_key (get same_join_key m key) ++ row ∷ []
+      → (other : JoinKey) → rows_under_key (get same_join_key n other) ≡ rows_under_key (get same_join_key m other)
       ++ cond (same_join_key other key) (row ∷ []) []
   entry_rows-added updates grown other = added_at other (same_join_key key other) refl (updates.0 other) grown

@@ -7,11 +7,11 @@ use Rattle.mon_value.specs.declared.tables.Table.{Table}
 use Rattle.mon_value.specs.declared.tables.TimedRow.{TimedRow}
 use Rattle.mon_table.specs.Tables.{table_text}
 
-abbrev pub table_of : List Column → List TimedRow → Table
-table_of columns rows = record { columns = columns; rows = rows }
+abbrev pub table_with : List Column → List TimedRow → Table
+table_with columns rows = record { columns = columns; rows = rows }
 
 abbrev pub joined_rows : List Column → List Column → List TimedRow → List TimedRow → List TimedRow
-joined_rows lefts rights rows others = (join_of (table_of lefts rows) (table_of rights others)).rows
+joined_rows lefts rights rows others = (join_of (table_with lefts rows) (table_with rights others)).rows
 
 -- two joins of the same bags have the same bag of rows
 abbrev pub JoinsAlike :
@@ -21,7 +21,7 @@ JoinsAlike lefts rights rows rows' others others' =
     → IsPermutation (joined_rows lefts rights rows others) (joined_rows lefts rights rows' others')
 
 abbrev pub united_rows : List Column → List TimedRow → List TimedRow → List TimedRow
-united_rows columns rows others = (union_of (table_of columns rows) (table_of columns others)).rows
+united_rows columns rows others = (union_of (table_with columns rows) (table_with columns others)).rows
 
 -- two unions of the same bags have the same bag of rows
 abbrev pub UnionsAlike : List Column → List TimedRow → List TimedRow → List TimedRow → List TimedRow → Type 0

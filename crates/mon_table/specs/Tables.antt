@@ -7,9 +7,9 @@ use Rattle.csv.specs.Writing.{default_writer, row_text}
 use Rattle.csv.specs.declared.writer.WriterBuilder.{WriterBuilder}
 use Rattle.mon_value.specs.Order.{sorted_rows}
 pub use Rattle.mon_value.specs.Values.{value_text}
-use Rattle.mon_value.specs.declared.columns.Column.{Column}
 use Rattle.mon_value.specs.declared.tables.Table.{Table}
 use Rattle.mon_value.specs.declared.tables.TimedRow.{TimedRow}
+use Rattle.mon_value.specs.Columns.{column_names}
 
 -- the writer of lines of any number of cells
 abbrev pub line_writer : WriterBuilder
@@ -42,9 +42,6 @@ lines_of_rows names rows = csv_line (codes "time" ∷ names) ++ row_lines rows
 abbrev pub table_text : List (List ℕ) → List TimedRow → List ℕ
 table_text names rows =
     lines_of_rows names (sorted_rows rows) ++ decimal (length rows) ++ codes " rows" ++ newline
-
-abbrev pub column_names : List Column → List (List ℕ)
-column_names columns = map (λ column. column.name) columns
 
 -- what a table prints
 abbrev pub printed_table : Table → List ℕ

@@ -1,5 +1,5 @@
 // The pairs of a join.
-ghost use Rattle.std.specs.Prelude.{◌≡◌, ◌≤◌, ◌+◌, ◌++◌, length, map, IfOk, OnOk};
+ghost use Rattle.std.specs.Prelude.{◌≡◌, ◌+◌, ◌++◌, length, map, IfOk, OnOk};
 ghost use Rattle.std.specs.List.{flat_map};
 ghost use Rattle.mon_table.specs.JoinRoom.{over_room, rows_within_room, table_within_room};
 ghost use Rattle.mon_table.specs.References.{rows_behind};

@@ -1,9 +1,10 @@
 // The text of a table.
-ghost use Rattle.std.specs.Prelude.{◌≡◌, ◌++◌, ◌∷◌, [], map, IfOk, OnOk, IsUtf8, string_bytes};
+ghost use Rattle.std.specs.Prelude.{◌≡◌, ◌++◌, ◌∷◌, [], IfOk, OnOk, IsUtf8, string_bytes};
 ghost use Rattle.csv.specs.Records.{AllText, fields_of, partial_of};
 ghost use Rattle.mon_table.specs.CsvLines.{IsBetweenLines, lines_in};
 ghost use Rattle.mon_table.specs.References.{rows_behind};
 ghost use Rattle.mon_table.specs.Tables as spec;
+ghost use Rattle.mon_value.specs.Columns.{column_names};
 ghost use Rattle.mon_value.specs.Order.{sorted_rows};
 
 use csv::{ByteRecord, Writer, WriterBuilder};
@@ -49,7 +50,7 @@ fn references<'a>(alloc: Global, rows: &'a TimedRows) -> Result<Vec<&'a TimedRow
 // The lines of a table.
 fn lines_of(alloc: Global, columns: &Columns, rows: &[&TimedRow]) -> Result<String, OutOfMemory>
     ensures text { IfOk result (λ text. string_bytes text
-        ≡ spec.lines_of_rows (spec.column_names columns.now) (rows_behind rows.now)) }
+        ≡ spec.lines_of_rows (column_names columns.now) (rows_behind rows.now)) }
 {
     let mut writer = line_writer(alloc);
     let mut cells = ByteRecord::new(alloc);
@@ -109,7 +110,7 @@ fn into_text(writer: Writer<Vec<u8>>) -> Result<String, OutOfMemory>
 
 // The names of the columns, as cells.
 fn name_columns(cells: &mut ByteRecord, columns: &Columns) -> Result<(), OutOfMemory>
-    ensures names { OnOk result (fields_of cells.new ≡ spec.codes "time" ∷ spec.column_names columns.now) }
+    ensures names { OnOk result (fields_of cells.new ≡ spec.codes "time" ∷ column_names columns.now) }
     ensures texts { OnOk result (AllText (fields_of cells.new)) }
 {
     cells.clear();

@@ -1,7 +1,7 @@
 // The right rows of a join by their keys.
 ghost use Rattle.std.specs.Prelude.{◌≡◌, IfOk, OnOk};
 ghost use Rattle.std.specs.Option.{option_copied};
-ghost use Rattle.mon_table.specs.JoinKeys.{AddsUnderKey, KeepsByKey, entry_rows, key_row};
+ghost use Rattle.mon_table.specs.JoinKeys.{AddsUnderKey, KeepsByKey, rows_under_key, key_row};
 ghost use Rattle.mon_table.specs.RightSides.{side_at};
 ghost use Rattle.mon_value.specs.Groups.{rows_in};
 
@@ -65,7 +65,8 @@ impl<'a> RightRows<'a> {
 
     /// The rows of a key, if there is one.
     pub(crate) fn of_key(&self, key: &JoinKey<'a>) -> Option<&Vec<&'a TimedRow>>
-        ensures found { entry_rows (option_copied result) ≡ rows_in self.now.rights (key_row key.now) self.now.rows }
+        ensures found { rows_under_key (option_copied result)
+            ≡ rows_in self.now.rights (key_row key.now) self.now.rows }
     {
         self.by_key.get(key)
     }

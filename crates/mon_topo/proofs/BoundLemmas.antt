@@ -17,7 +17,7 @@ use Rattle.mon_value.specs.Order.{field_as_value, field_cmp}
 use Rattle.mon_value.specs.declared.rows.Target.{Target}
 use Rattle.mon_value.specs.declared.values.FieldValue.{FieldValue}
 use Rattle.mon_topo.proofs.PlaceLemmas.{passed}
-use Rattle.mon_topo.specs.Bounds.{bound_at, bound_cmp, is_above, is_within, last_within, target_bound, IsHeldAt}
+use Rattle.mon_topo.specs.Bounds.{bound_at, bound_cmp, is_above, is_bound_below, last_within, target_bound, IsHeldAt}
 use Rattle.mon_topo.specs.Faults.{disorder_in, fall_in}
 use Rattle.mon_topo.specs.Zones.{no_range}
 use Rattle.mon_topo.specs.declared.places.Place.TheVariants as place
@@ -43,7 +43,7 @@ below a b c Greater p ab bc lt le = absurd (cc)
 
 -- what is below a bound that is not above a target is not above it either
 within_below : (before bound : List FieldValue) (target : Target)
-    → is_above before bound ≡ true → is_within bound target ≡ true → is_within before target ≡ true
+    → is_above before bound ≡ true → is_bound_below bound target ≡ true → is_bound_below before target ≡ true
 within_below before bound target = below before bound (target_bound target) _ _ refl refl
 
 -- ---- bounds that rise
@@ -63,7 +63,7 @@ rise i j before (range ∷ ranges) e =
 -- a bound is not above a target where a later one isn't
 all_before : (target : Target) (before : List FieldValue) (ranges : List RangeSpec) → Rise before ranges
     → (j : ℕ) (d : RangeSpec)
-    → j < length ranges → is_within (get_or ranges j d).from target ≡ true → is_within before target ≡ true
+    → j < length ranges → is_bound_below (get_or ranges j d).from target ≡ true → is_bound_below before target ≡ true
 all_before target before [] up j d there within = absurd (omega arith)
 all_before target before (range ∷ ranges) up zero d there within = within_below before range.from target up.0 within
 all_before target before (range ∷ ranges) up (suc j) d there within =
@@ -71,7 +71,7 @@ all_before target before (range ∷ ranges) up (suc j) d there within =
     (all_before target range.from ranges up.1 j d (omega arith) within)
 
 parted : (target : Target) (before : List FieldValue) (ranges : List RangeSpec) → Rise before ranges
-    → IsPartitionedBy (λ range. is_within range.from target) ranges
+    → IsPartitionedBy (λ range. is_bound_below range.from target) ranges
 parted target before [] up i j d le there within = absurd (omega arith)
 parted target before (range ∷ ranges) up zero zero d le there within = within
 parted target before (range ∷ ranges) up zero (suc j) d le there within =
@@ -84,8 +84,9 @@ parted target before (range ∷ ranges) up (suc i) (suc j) d le there within =
 
 pub record IsLast (target : Target) (ranges : List RangeSpec) (j : ℕ) : Type 0 where
   pub there : j < length ranges
-  pub within : (d : RangeSpec) → is_within (get_or ranges j d).from target ≡ true
-  pub later : (k : ℕ) (d : RangeSpec) → j < k → k < length ranges → is_within (get_or ranges k d).from target ≡ false
+  pub within : (d : RangeSpec) → is_bound_below (get_or ranges j d).from target ≡ true
+  pub later : (k : ℕ) (d : RangeSpec) → j < k → k < length ranges → is_bound_below (get_or ranges k d).from target
+      ≡ false
 
 one_of : (b : Bool) → cond {A = Option ℕ} b (Some 0) None ≡ None → b ≡ false
 one_of true e = absurd (cc)
@@ -99,29 +100,30 @@ no_later (Some j) b e = absurd (cc)
 
 -- none is found where each bound is above the target
 none_within : (target : Target) (ranges : List RangeSpec) → last_within target ranges ≡ None → (k : ℕ) (d : RangeSpec)
-    → k < length ranges → is_within (get_or ranges k d).from target ≡ false
+    → k < length ranges → is_bound_below (get_or ranges k d).from target ≡ false
 none_within target [] e k d there = absurd (omega arith)
 none_within target (range ∷ ranges) e zero d there =
-    (no_later (last_within target ranges) (is_within range.from target) e).1
+    (no_later (last_within target ranges) (is_bound_below range.from target) e).1
 none_within target (range ∷ ranges) e (suc k) d there =
-    none_within target ranges (no_later (last_within target ranges) (is_within range.from target) e).0 k d (omega arith)
+    none_within target ranges (no_later (last_within target ranges) (is_bound_below range.from target) e).0 k d
+    (omega arith)
 
 later_than_first : (target : Target) (range : RangeSpec) (ranges : List RangeSpec)
-    → ((k : ℕ) (d : RangeSpec) → k < length ranges → is_within (get_or ranges k d).from target ≡ false)
+    → ((k : ℕ) (d : RangeSpec) → k < length ranges → is_bound_below (get_or ranges k d).from target ≡ false)
     → (k : ℕ) (d : RangeSpec) → 0 < k → k < length (range ∷ ranges)
-    → is_within (get_or (range ∷ ranges) k d).from target ≡ false
+    → is_bound_below (get_or (range ∷ ranges) k d).from target ≡ false
 later_than_first target range ranges none zero d above there = absurd (omega arith)
 later_than_first target range ranges none (suc k) d above there = none k d (omega arith)
 
 later_than_next : (target : Target) (range : RangeSpec) (ranges : List RangeSpec) (j : ℕ) → IsLast target ranges j
     → (k : ℕ) (d : RangeSpec) → suc j < k → k < length (range ∷ ranges)
-    → is_within (get_or (range ∷ ranges) k d).from target ≡ false
+    → is_bound_below (get_or (range ∷ ranges) k d).from target ≡ false
 later_than_next target range ranges j last zero d above there = absurd (omega arith)
 later_than_next target range ranges j last (suc k) d above there = last.later k d (omega arith) (omega arith)
 
 last_at : (target : Target) (range : RangeSpec) (ranges : List RangeSpec) (j : ℕ)
     → ((m : ℕ) → last_within target ranges ≡ Some m → IsLast target ranges m)
-    → (o : Option ℕ) (b : Bool) → last_within target ranges ≡ o → is_within range.from target ≡ b
+    → (o : Option ℕ) (b : Bool) → last_within target ranges ≡ o → is_bound_below range.from target ≡ b
     → option_or (option_map (λ (k : ℕ). suc k) o) (cond {A = Option ℕ} b (Some 0) None) ≡ Some j
     → IsLast target (range ∷ ranges) j
 last_at target range ranges j more None true is same e =
@@ -146,7 +148,8 @@ found_last : (target : Target) (ranges : List RangeSpec) (j : ℕ) → last_with
     → IsLast target ranges j
 found_last target [] j e = absurd (cc)
 found_last target (range ∷ ranges) j e =
-    last_at target range ranges j (found_last target ranges) (last_within target ranges) (is_within range.from target)
+    last_at target range ranges j (found_last target ranges) (last_within target ranges)
+    (is_bound_below range.from target)
     refl refl e
 
 -- ---- a zone's ranges in order
@@ -154,15 +157,16 @@ found_last target (range ∷ ranges) j e =
 -- ranges of which the first begins at the empty bound, and each other one above the one before it
 pub record AreInOrder (ranges : List RangeSpec) : Type 0 where
   pub some : 0 < length ranges
-  pub first : (target : Target) → is_within (bound_at ranges 0) target ≡ true
-  pub parts : (target : Target) → IsPartitionedBy (λ range. is_within range.from target) ranges
+  pub first : (target : Target) → is_bound_below (bound_at ranges 0) target ≡ true
+  pub parts : (target : Target) → IsPartitionedBy (λ range. is_bound_below range.from target) ranges
 
-empty_within : (bound : List FieldValue) (target : Target) → (length bound == 0) ≡ true → is_within bound target ≡ true
+empty_within : (bound : List FieldValue) (target : Target) → (length bound == 0) ≡ true → is_bound_below bound target
+    ≡ true
 empty_within [] target e = refl
 empty_within (v ∷ bound) target e = absurd (grind (arith, nat_tests))
 
 parted_all : (target : Target) (range : RangeSpec) (ranges : List RangeSpec) → Rise range.from ranges
-    → IsPartitionedBy (λ other. is_within other.from target) (range ∷ ranges)
+    → IsPartitionedBy (λ other. is_bound_below other.from target) (range ∷ ranges)
 parted_all target range ranges up zero zero d le there within = within
 parted_all target range ranges up zero (suc j) d le there within =
     all_before target range.from ranges up j d (omega arith) within
@@ -204,9 +208,10 @@ held_once target ranges j order last = (
     only : (other : ℕ) → IsHeldAt target ranges other → (other < j) ⊎ (j ≤ other) → (j < other) ⊎ (other ≤ j) → other
         ≡ j
     only other held (inl below) up =
-        let next : is_within (bound_at ranges (other + 1)) target ≡ true = order.parts target (other + 1) j no_range
+        let next : is_bound_below (bound_at ranges (other + 1)) target
+        ≡ true = order.parts target (other + 1) j no_range
         (omega arith) last.there (last.within no_range) in
-        let none : is_within (bound_at ranges (other + 1)) target ≡ false = held.before_next
+        let none : is_bound_below (bound_at ranges (other + 1)) target ≡ false = held.before_next
         (omega (arith, last.there)) in
         absurd (cc)
     only other held (inr le) (inl above) =
@@ -217,18 +222,20 @@ held_once target ranges j order last = (
 
 -- what a binary search finds: behind the last
 point_last : (target : Target) (ranges : List RangeSpec) (p : ℕ) → p ≤ length ranges
-    → IsPartitionPoint (λ range. is_within range.from target ≡ true) (λ range. is_within range.from target ≡ false)
+    → IsPartitionPoint (λ range. is_bound_below range.from target ≡ true) (λ range. is_bound_below range.from target
+    ≡ false)
     ranges p
     → (j : ℕ) → IsLast target ranges j → p ≡ j + 1
 point_last target ranges p le point j last = by (cases_lt j p) (cases_lt (j + 1) p)
   where
     by : (j < p) ⊎ (p ≤ j) → (j + 1 < p) ⊎ (p ≤ j + 1) → p ≡ j + 1
     by (inr below) up =
-        let none : is_within (get_or ranges j no_range).from target ≡ false = point.1 j no_range below last.there in
+        let none : is_bound_below (get_or ranges j no_range).from target
+        ≡ false = point.1 j no_range below last.there in
         let some = last.within no_range in
         absurd (cc)
     by (inl above) (inl more) =
-        let some : is_within (get_or ranges (j + 1) no_range).from target ≡ true = point.0 (j + 1) no_range
+        let some : is_bound_below (get_or ranges (j + 1) no_range).from target ≡ true = point.0 (j + 1) no_range
         (omega arith) more in
         let none = last.later (j + 1) no_range (omega arith) (omega arith) in
         absurd (cc)
@@ -245,7 +252,8 @@ has_one target ranges order =
     (some.0, some.1, once.0, once.1)
 
 pub point_found : (target : Target) (ranges : List RangeSpec) (p : ℕ) → AreInOrder ranges → p ≤ length ranges
-    → IsPartitionPoint (λ range. is_within range.from target ≡ true) (λ range. is_within range.from target ≡ false)
+    → IsPartitionPoint (λ range. is_bound_below range.from target ≡ true) (λ range. is_bound_below range.from target
+    ≡ false)
     ranges p
     → (0 < p) × (last_within target ranges ≡ Some (p - 1))
 point_found target ranges p order le point =

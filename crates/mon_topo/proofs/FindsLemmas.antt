@@ -7,7 +7,7 @@ use Rattle.std.specs.Option.{option_or}
 use Rattle.std.proofs.lemmas.Map.Made.{is_some-lookup}
 use Rattle.mon_value.specs.Same.{same_text}
 use Rattle.mon_value.proofs.SameLemmas.{same_text-Decides}
-use Rattle.mon_topo.specs.Indexed.{all_numbered, located, numbered, with_name, FindsPlaces}
+use Rattle.mon_topo.specs.Indexed.{all_numbered, numbered_locations, numbered_texts, with_name, FindsPlaces}
 use Rattle.mon_topo.specs.declared.zones.ZoneSpec.{ZoneSpec}
 
 option_or-cond : {X : Type 0} (b : Bool) (x : X) (o p : Option X)
@@ -32,7 +32,7 @@ position_from-append test n (x ∷ xs) ys =
     ∙ sym (option_or-cond (test x) n (position_from test (n + 1) xs) (position_from test (n + length (x ∷ xs)) ys))
 
 pub lookup-numbered : (text : List ℕ) (n : ℕ) (texts : List (List ℕ))
-    → lookup (same_text text) (numbered n texts) ≡ position_from (same_text text) n texts
+    → lookup (same_text text) (numbered_texts n texts) ≡ position_from (same_text text) n texts
 lookup-numbered text n [] = refl
 lookup-numbered text n (t ∷ texts) = ap (cond (same_text text t) (Some n)) (lookup-numbered text (n + 1) texts)
 
@@ -52,15 +52,16 @@ lookup-all_numbered text i (t ∷ texts) =
     by false b = refl
 
 pub lookup-located : (location : List ℕ) (i : ℕ) (zones : List ZoneSpec)
-    → lookup (same_text location) (located i zones)
+    → lookup (same_text location) (numbered_locations i zones)
     ≡ position_from (λ zone. list_any (same_text location) zone.locations) i zones
 lookup-located location i [] = refl
 lookup-located location i (zone ∷ zones) =
     let own : Bool = list_any (same_text location) zone.locations in
-    lookup-append (same_text location) (all_numbered i zone.locations) (located (i + 1) zones)
-    ∙ ap (λ o. option_or o (lookup (same_text location) (located (i + 1) zones))) (lookup-all_numbered location i
+    lookup-append (same_text location) (all_numbered i zone.locations) (numbered_locations (i + 1) zones)
+    ∙ ap (λ o. option_or o (lookup (same_text location) (numbered_locations (i + 1) zones)))
+    (lookup-all_numbered location i
     zone.locations)
-    ∙ or_one own i (lookup (same_text location) (located (i + 1) zones))
+    ∙ or_one own i (lookup (same_text location) (numbered_locations (i + 1) zones))
     ∙ ap (cond own (Some i)) (lookup-located location (i + 1) zones)
 
 -- ---- a map to which names are added, of which only the new ones go in

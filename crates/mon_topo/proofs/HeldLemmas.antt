@@ -20,12 +20,14 @@ use Rattle.mon_value.proofs.LeafHistoryLemmas.{IsWellFormed-push}
 use Rattle.mon_value.specs.Farther.{longer, longer_each}
 use Rattle.mon_value.proofs.FartherLemmas.{farther_each-length, longer_each-get}
 use Rattle.mon_schema.specs.SchemaLists.{SchemaLists}
-use Rattle.mon_topo.specs.HeldHistories.{AreAtHome, AreHeld, BeginsWith, Histories, IsBorneOut, IsHeldBy, IsMissed}
-use Rattle.mon_topo.specs.HeldHistories.{IsOpened, IsTaken, leaf_history, range_history}
+use Rattle.mon_value.specs.declared.histories.Histories.{Histories}
+use Rattle.mon_topo.specs.HeldHistories.{AreAtHome, AreHeld, BeginsWith, IsBorneOut, IsHeldBy, IsMissed}
+use Rattle.mon_value.specs.Histories.{joined_histories, leaf_history, range_history}
+use Rattle.mon_topo.specs.HeldHistories.{IsOpened, IsTaken}
 use Rattle.mon_topo.specs.RangeHistories as range
-use Rattle.mon_topo.specs.RangeHistories.{acked, opened, serving}
-use Rattle.mon_topo.specs.SeenHistories.{AreWithin, joined_histories, with_leaf_entry, with_range_entry}
-use Rattle.mon_topo.specs.Zones.{leaf_numbered, range_numbered}
+use Rattle.mon_topo.specs.RangeHistories.{acknowledged_rows, opened_slots, serving}
+use Rattle.mon_topo.specs.SeenHistories.{AreWithin, with_leaf_entry, with_range_entry}
+use Rattle.mon_value.specs.Positions.{leaf_numbered, range_numbered}
 use Rattle.mon_topo.specs.declared.zones.ZoneSpec.{ZoneSpec}
 use Rattle.mon_topo.proofs.FrontLemmas.{begins-flat_map, begins_itself, begins_length, begins_push, begins_same}
 use Rattle.mon_topo.proofs.FrontLemmas.{begins_through, contains_on, longer_by, longer_first, longer_second}
@@ -58,20 +60,20 @@ module _ (before after : Histories) (grow : LeavesGrow before after) where
   IsBorneOut-grows r history k (range_entry.Opened pass slot leaf) h = record {
     pass = h.pass;
     entered = contains_on (leaf_history after leaf) (leaf_history before leaf)
-        (entry.Opened h.pass r slot (acked (take k history))) (grow leaf) h.entered;
+        (entry.Opened h.pass r slot (acknowledged_rows (take k history))) (grow leaf) h.entered;
   }
   IsBorneOut-grows r history k (range_entry.Acked pass row ack) h = (
     λ replica there took. record {
       put = contains_on (leaf_history after replica.leaf) (leaf_history before replica.leaf)
           (entry.Put pass ack.range replica.slot row) (grow replica.leaf) (h.0 replica there took).put;
     },
-    λ miss there. IsMissed-grows (opened (take k history)) miss (h.1 miss there),
+    λ miss there. IsMissed-grows (opened_slots (take k history)) miss (h.1 miss there),
   )
 
   pub IsHeldBy-grows : (r : Range) (history : List RangeEntry) → IsHeldBy before r history → IsHeldBy after r history
   IsHeldBy-grows r history h = record {
     kept = λ replica there.
-        begins_through (acked history) (replica_rows r replica.slot (leaf_history before replica.leaf))
+        begins_through (acknowledged_rows history) (replica_rows r replica.slot (leaf_history before replica.leaf))
         (replica_rows r replica.slot (leaf_history after replica.leaf))
         (h.kept replica there)
         (begins-flat_map (leaf.entry_rows r replica.slot) (leaf_history after replica.leaf)
@@ -270,13 +272,13 @@ leaf_entry_within l e a b in_a in_b whole h = record {
 borne_front : (seen : Histories) (r : Range) (history more : List RangeEntry) (k : ℕ) (x : RangeEntry)
     → k ≤ length history → IsBorneOut seen r history k x → IsBorneOut seen r (history ++ more) k x
 borne_front seen r history more k (range_entry.Opened pass slot leaf) short h =
-    subst (λ (front : List RangeEntry). IsOpened r (record { slot = slot; leaf = leaf }) (acked front)
+    subst (λ (front : List RangeEntry). IsOpened r (record { slot = slot; leaf = leaf }) (acknowledged_rows front)
     (leaf_history seen leaf)) (sym (take-append-le k history more short)) h
 borne_front seen r history more k (range_entry.Acked pass row ack) short h =
     subst (λ (front : List RangeEntry).
-    ((replica : SlotLeaf) → Contains (opened front) replica → Contains ack.took replica.slot
+    ((replica : SlotLeaf) → Contains (opened_slots front) replica → Contains ack.took replica.slot
     → IsTaken seen pass row ack replica)
-    × ((miss : Miss) → Contains ack.missed miss → IsMissed seen (opened front) miss))
+    × ((miss : Miss) → Contains ack.missed miss → IsMissed seen (opened_slots front) miss))
     (sym (take-append-le k history more short)) h
 
 module _ (seen : Histories) (r : Range) (e : RangeEntry) where
@@ -310,7 +312,7 @@ module _ (seen : Histories) (r : Range) (e : RangeEntry) where
     module _ (held : SchemaLists) (zones : List ZoneSpec) (points : ℕ) (h : AreHeld held zones points seen)
         (kept : (replica : SlotLeaf) → Contains (serving (range_history seen r ++ e ∷ [])) replica
         → BeginsWith (replica_rows r replica.slot (leaf_history seen replica.leaf))
-        (acked (range_history seen r ++ e ∷ [])))
+        (acknowledged_rows (range_history seen r ++ e ∷ [])))
         (borne_out : IsBorneOut seen r (range_history seen r ++ e ∷ []) (length (range_history seen r)) e) where
       still_held : IsHeldBy seen r (range_history seen r ++ e ∷ [])
       still_held = record {

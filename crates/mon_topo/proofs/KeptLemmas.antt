@@ -8,10 +8,11 @@ use Rattle.mon_topo.proofs.BoundLemmas.{has_one, point_found}
 use Rattle.mon_topo.proofs.LawfulLemmas.{few, zone_in_order}
 use Rattle.mon_topo.proofs.SizeLemmas.{parts_so_far}
 use Rattle.mon_topo.proofs.SpanLemmas.{get_or-spans_from}
-use Rattle.mon_topo.specs.Bounds.{is_within, last_within, range_of, HasOneRange}
-use Rattle.mon_topo.specs.Faults.{IsLawful}
+use Rattle.mon_topo.specs.Bounds.{is_bound_below, last_within, range_of, HasOneRange}
+use Rattle.mon_topo.specs.Faults.{AreLawfulZones}
 use Rattle.mon_topo.specs.Indexed.{spans_from}
-use Rattle.mon_topo.specs.Zones.{first_leaf, first_range, no_zone, range_numbered, ranges_in, zone_at, IsRangeOf}
+use Rattle.mon_value.specs.Positions.{range_numbered}
+use Rattle.mon_topo.specs.Zones.{first_leaf, first_range, no_zone, ranges_in, zone_at, IsRangeOf}
 use Rattle.mon_topo.specs.declared.spans.ZoneSpan.{ZoneSpan}
 use Rattle.mon_topo.specs.declared.zones.RangeSpec.{RangeSpec}
 use Rattle.mon_topo.specs.declared.zones.ZoneSpec.{ZoneSpec}
@@ -36,11 +37,12 @@ span_kept zones spans i span is there at =
 
 -- ---- the range that a binary search finds
 
-pub ranges_parted : (zones : List ZoneSpec) (i : ℕ) (target : Target) (ranges : List RangeSpec) → IsLawful zones
+pub ranges_parted : (zones : List ZoneSpec) (i : ℕ) (target : Target) (ranges : List RangeSpec) → AreLawfulZones zones
     → i < length zones
-    → ranges ≡ (zone_at zones i).ranges → IsPartitionedBy (λ range. is_within range.from target) ranges
+    → ranges ≡ (zone_at zones i).ranges → IsPartitionedBy (λ range. is_bound_below range.from target) ranges
 ranges_parted zones i target ranges lawful there is =
-    subst (λ (rs : List RangeSpec). IsPartitionedBy (λ (range : RangeSpec). is_within range.from target) rs) (sym is)
+    subst (λ (rs : List RangeSpec). IsPartitionedBy (λ (range : RangeSpec). is_bound_below range.from target) rs)
+    (sym is)
     ((zone_in_order zones lawful.ordered i there).parts target)
 
 pub record IsFound (zones : List ZoneSpec) (i : ℕ) (target : Target) (p : ℕ) : Type 0 where
@@ -51,18 +53,19 @@ pub record IsFound (zones : List ZoneSpec) (i : ℕ) (target : Target) (p : ℕ)
   pub last : last_within target (zone_at zones i).ranges ≡ Some (p - 1)
 
 pub range_searched : (zones : List ZoneSpec) (i : ℕ) (target : Target) (ranges : List RangeSpec) (p : ℕ)
-    → IsLawful zones → i < length zones
+    → AreLawfulZones zones → i < length zones
     → ranges ≡ (zone_at zones i).ranges → p ≤ length ranges
-    → IsPartitionPoint (λ range. is_within range.from target ≡ true) (λ range. is_within range.from target ≡ false)
+    → IsPartitionPoint (λ range. is_bound_below range.from target ≡ true) (λ range. is_bound_below range.from target
+    ≡ false)
     ranges p
     → IsFound zones i target p
 range_searched zones i target ranges p lawful there is le point =
     let own = (zone_at zones i).ranges in
     let order = zone_in_order zones lawful.ordered i there in
-    let at : IsPartitionPoint (λ (range : RangeSpec). is_within range.from target ≡ true) (λ (range : RangeSpec).
-    is_within range.from target ≡ false) own p =
-    subst (λ (rs : List RangeSpec). IsPartitionPoint (λ (range : RangeSpec). is_within range.from target ≡ true)
-    (λ (range : RangeSpec). is_within range.from target ≡ false) rs p) is point in
+    let at : IsPartitionPoint (λ (range : RangeSpec). is_bound_below range.from target ≡ true) (λ (range : RangeSpec).
+    is_bound_below range.from target ≡ false) own p =
+    subst (λ (rs : List RangeSpec). IsPartitionPoint (λ (range : RangeSpec). is_bound_below range.from target ≡ true)
+    (λ (range : RangeSpec). is_bound_below range.from target ≡ false) rs p) is point in
     let long : length ranges ≡ length own = ap length is in
     let found = point_found target own p order (omega arith) at in
     let most = few zones lawful.few in
@@ -86,7 +89,7 @@ pub range_known : (zones : List ZoneSpec) (i : ℕ) (target : Target) (p first :
 range_known zones i target p first found is = omega (arith, found.some, found.own, found.all, is)
 
 -- each target has one range
-pub one_range : (zones : List ZoneSpec) → IsLawful zones → (zone : ℕ) (target : Target) → zone < length zones
+pub one_range : (zones : List ZoneSpec) → AreLawfulZones zones → (zone : ℕ) (target : Target) → zone < length zones
     → HasOneRange zones zone target
 one_range zones lawful zone target there =
     let one = has_one target (zone_at zones zone).ranges (zone_in_order zones lawful.ordered zone there) in

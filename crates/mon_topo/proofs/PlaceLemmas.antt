@@ -2,7 +2,7 @@
 use Rattle.std.proofs.Common.{◌≡◌, ◌∙◌, ℕ, zero, suc, ◌+◌, ◌<◌, Bool, true, false, List, [], ◌∷◌, Option, Some, None}
 use Rattle.std.proofs.Common.{get_or, length, refl, ap, arith}
 use Rattle.std.specs.Option.{option_or}
-use Rattle.mon_topo.specs.Places.{first_at, unless}
+use Rattle.mon_topo.specs.Places.{first_at, place_unless}
 use Rattle.mon_topo.specs.declared.places.Place.{Place}
 
 -- an element that isn't at fault leaves it to the rest
@@ -16,7 +16,7 @@ pub first_at-found : {X : Type 0} (fault : ℕ → X → Option Place) (i : ℕ)
 first_at-found fault i x rest place e = ap (λ o. option_or o (first_at fault (i + 1) rest)) e
 
 -- what is as it must be, and a rest without a fault
-pub passed : (good : Bool) (place : Place) (rest : Option Place) → option_or (unless good place) rest ≡ None
+pub passed : (good : Bool) (place : Place) (rest : Option Place) → option_or (place_unless good place) rest ≡ None
     → (good ≡ true) × (rest ≡ None)
 passed true place rest e = (refl, e)
 passed false place rest e = absurd (cc)

@@ -10,9 +10,10 @@ use Rattle.mon_value.specs.declared.positions.Zone.{Zone}
 use Rattle.mon_value.specs.declared.rows.Target.{Target}
 use Rattle.mon_topo.proofs.PartLemmas.{length-zones_of, zone_of_part}
 use Rattle.mon_topo.proofs.PositionLemmas.{found_within}
-use Rattle.mon_topo.specs.Bounds.{is_within, last_within, range_of}
+use Rattle.mon_topo.specs.Bounds.{is_bound_below, last_within, range_of}
 use Rattle.mon_topo.specs.Locations.{location_of, range_for}
-use Rattle.mon_topo.specs.Zones.{first_range, range_numbered, range_zones, ranges_in, zone_at, zone_numbered, zone_of}
+use Rattle.mon_value.specs.Positions.{range_numbered, zone_numbered}
+use Rattle.mon_topo.specs.Zones.{first_range, range_zones, ranges_in, zone_at, zone_of}
 use Rattle.mon_topo.specs.declared.zones.RangeSpec.{RangeSpec}
 use Rattle.mon_topo.specs.declared.zones.ZoneSpec.{ZoneSpec}
 use Rattle.mon_schema.specs.SchemaLists.{SchemaLists}
@@ -32,7 +33,8 @@ last_below : (target : Target) (ranges : List RangeSpec) (j : ℕ) → last_with
     → j < length ranges
 last_below target [] j is = absurd cc
 last_below target (range ∷ ranges) j is =
-    last_by ranges j (last_within target ranges) (is_within range.from target) (λ k e. last_below target ranges k e) is
+    last_by ranges j (last_within target ranges) (is_bound_below range.from target)
+    (λ k e. last_below target ranges k e) is
 
 module _ (zones : List ZoneSpec) (z : ℕ) (there : z < length zones) (target : Target) (range : Range) where
   zoned_by : (o : Option ℕ) → last_within target (zone_at zones z).ranges ≡ o

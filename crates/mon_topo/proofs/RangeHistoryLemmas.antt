@@ -15,7 +15,7 @@ use Rattle.mon_value.specs.declared.positions.SlotLeaf.{SlotLeaf}
 use Rattle.mon_value.specs.declared.rows.Row.{Row}
 use Rattle.mon_schema.specs.SchemaLists.{SchemaLists}
 use Rattle.mon_topo.specs.RangeHistories as spec
-use Rattle.mon_topo.specs.RangeHistories.{acked, is_missed, opened, serving, serving_after}
+use Rattle.mon_topo.specs.RangeHistories.{acknowledged_rows, is_missed, opened_slots, serving, serving_after}
 use Rattle.mon_topo.specs.declared.zones.ZoneSpec.{ZoneSpec}
 
 -- ---- lists
@@ -93,9 +93,10 @@ module _ (held : SchemaLists) (zones : List ZoneSpec) (points : ℕ) (r : Range)
   IsLegal-push history e h may = GoesOn-push_range [] history e h may
 
 -- one more acknowledgement adds its row
-pub acked-push : (history : List RangeEntry) (pass : ℕ) (row : Row) (ack : Ack)
-    → acked (history ++ range_entry.Acked pass row ack ∷ []) ≡ acked history ++ row ∷ []
-acked-push history pass row ack = flat_map-append spec.acked_row history (range_entry.Acked pass row ack ∷ [])
+pub acknowledged_rows-push : (history : List RangeEntry) (pass : ℕ) (row : Row) (ack : Ack)
+    → acknowledged_rows (history ++ range_entry.Acked pass row ack ∷ []) ≡ acknowledged_rows history ++ row ∷ []
+acknowledged_rows-push history pass row ack =
+    flat_map-append spec.acked_row history (range_entry.Acked pass row ack ∷ [])
 
 abbrev pub not_missed : Ack → SlotLeaf → Bool
 not_missed ack replica = not (is_missed ack.missed replica)
@@ -154,9 +155,9 @@ apart_around (first ∷ before) behind here h =
 
 -- each replica has the number of those before it; those that serve are told apart, and are among them
 pub record AreNumbered (history : List RangeEntry) : Type 0 where
-  pub numbered : (k : ℕ) (replica : SlotLeaf) → slice_get (opened history) k ≡ Some replica → replica.slot.0 ≡ k
+  pub numbered : (k : ℕ) (replica : SlotLeaf) → slice_get (opened_slots history) k ≡ Some replica → replica.slot.0 ≡ k
   pub apart : AreApart (serving history)
-  pub among : All (Contains (opened history)) (serving history)
+  pub among : All (Contains (opened_slots history)) (serving history)
 
 pub get_there : {X : Type 0} (xs : List X) (k : ℕ) (x : X) → k < length xs → get_or xs k x ≡ x → slice_get xs k ≡ Some x
 get_there [] k x l e = absurd (omega arith)
@@ -164,24 +165,25 @@ get_there (y ∷ xs) zero x l e = ap Some e
 get_there (y ∷ xs) (suc k) x l e = get_there xs k x (omega arith) e
 
 pub slot_below : (history : List RangeEntry) → AreNumbered history → (replica : SlotLeaf)
-    → Contains (opened history) replica → replica.slot.0 < length (opened history)
+    → Contains (opened_slots history) replica → replica.slot.0 < length (opened_slots history)
 slot_below history h replica there =
-    let l : there.0 < length (opened history) = there.1 in
+    let l : there.0 < length (opened_slots history) = there.1 in
     let e : replica.slot.0 ≡ there.0 = h.numbered there.0 replica
-    (get_there (opened history) there.0 replica there.1 there.2) in
+    (get_there (opened_slots history) there.0 replica there.1 there.2) in
     omega arith
 
 some_same : {X : Type 0} (x y : X) → Some x ≡ Some y → x ≡ y
 some_same x y e = cc
 
 -- two replicas of one slot are one
-pub one_replica : (history : List RangeEntry) → AreNumbered history → (a b : SlotLeaf) → Contains (opened history) a
-    → Contains (opened history) b → a.slot.0 ≡ b.slot.0 → a ≡ b
+pub one_replica : (history : List RangeEntry) → AreNumbered history → (a b : SlotLeaf)
+    → Contains (opened_slots history) a
+    → Contains (opened_slots history) b → a.slot.0 ≡ b.slot.0 → a ≡ b
 one_replica history h a b in_a in_b e =
-    let at_a = get_there (opened history) in_a.0 a in_a.1 in_a.2 in
-    let at_b = get_there (opened history) in_b.0 b in_b.1 in_b.2 in
+    let at_a = get_there (opened_slots history) in_a.0 a in_a.1 in_a.2 in
+    let at_b = get_there (opened_slots history) in_b.0 b in_b.1 in_b.2 in
     let place : in_a.0 ≡ in_b.0 = sym (h.numbered in_a.0 a at_a) ∙ e ∙ h.numbered in_b.0 b at_b in
-    some_same a b (sym at_a ∙ ap (slice_get (opened history)) place ∙ at_b)
+    some_same a b (sym at_a ∙ ap (slice_get (opened_slots history)) place ∙ at_b)
 
 pub serving_after-opened : (replicas : List SlotLeaf) (history : List RangeEntry) (pass : ℕ) (replica : SlotLeaf)
     → serving_after replicas (history ++ range_entry.Opened pass replica.slot replica.leaf ∷ []) ≡ serving_after
@@ -194,39 +196,41 @@ serving_after-opened replicas (range_entry.Acked p row ack ∷ history) pass rep
 
 module _ (held : SchemaLists) (zones : List ZoneSpec) (points : ℕ) (r : Range) where
   opened-push : (history : List RangeEntry) (e : RangeEntry)
-      → opened (history ++ e ∷ []) ≡ opened history ++ (spec.opened_slot e ++ [])
+      → opened_slots (history ++ e ∷ []) ≡ opened_slots history ++ (spec.opened_slot e ++ [])
   opened-push history e = flat_map-append spec.opened_slot history (e ∷ [])
 
   numbered-push : (history : List RangeEntry) (e : RangeEntry) → AreNumbered history
       → spec.MayFollow held zones points r history e → AreNumbered (history ++ e ∷ [])
   numbered-push history (range_entry.Opened pass slot leaf) h may =
       let replica : SlotLeaf = record { slot = slot; leaf = leaf } in
-      let all : opened (history ++ range_entry.Opened pass slot leaf ∷ []) ≡ opened history ++ replica ∷ [] =
+      let all : opened_slots (history ++ range_entry.Opened pass slot leaf ∷ []) ≡ opened_slots history ++ replica
+      ∷ [] =
       opened-push history (range_entry.Opened pass slot leaf) in
       let serve : serving (history ++ range_entry.Opened pass slot leaf ∷ []) ≡ serving history ++ replica ∷ [] =
       serving_after-opened [] history pass replica in
       record {
-        numbered = λ k x there. elim (get-push (opened history) replica x k
+        numbered = λ k x there. elim (get-push (opened_slots history) replica x k
             (sym (ap (λ xs. slice_get xs k) all) ∙ there)) [
               | inl old ↦ h.numbered k x old.1
               | inr new ↦ sym (ap (λ (y : SlotLeaf). y.slot.0) new.1) ∙ may.0 ∙ sym new.0
             ];
         apart = subst AreApart (sym serve) (apart-push (serving history) replica h.apart
-            (all_on (Contains (opened history)) (λ (old : SlotLeaf). replica.slot.0 ≢ old.slot.0)
-            (λ old there e. (let l : old.slot.0 < length (opened history) = slot_below history h old there in
-            let m : slot.0 ≡ length (opened history) = may.0 in
+            (all_on (Contains (opened_slots history)) (λ (old : SlotLeaf). replica.slot.0 ≢ old.slot.0)
+            (λ old there e. (let l : old.slot.0 < length (opened_slots history) = slot_below history h old there in
+            let m : slot.0 ≡ length (opened_slots history) = may.0 in
             let n : slot.0 ≡ old.slot.0 = e in
             omega arith)) (serving history) h.among));
-        among = subst (All (Contains (opened (history ++ range_entry.Opened pass slot leaf ∷ [])))) (sym serve)
+        among = subst (All (Contains (opened_slots (history ++ range_entry.Opened pass slot leaf ∷ [])))) (sym serve)
             (subst (λ (xs : List SlotLeaf). All (Contains xs) (serving history ++ replica ∷ [])) (sym all)
-            (all_append (Contains (opened history ++ replica ∷ [])) (serving history) (replica ∷ [])
-            (all_on (Contains (opened history)) (Contains (opened history ++ replica ∷ []))
-            (λ x. Contains-append_left (opened history) (replica ∷ []) x) (serving history) h.among)
-            (Contains-push (opened history) replica, tt)));
+            (all_append (Contains (opened_slots history ++ replica ∷ [])) (serving history) (replica ∷ [])
+            (all_on (Contains (opened_slots history)) (Contains (opened_slots history ++ replica ∷ []))
+            (λ x. Contains-append_left (opened_slots history) (replica ∷ []) x) (serving history) h.among)
+            (Contains-push (opened_slots history) replica, tt)));
       }
   numbered-push history (range_entry.Acked pass row ack) h may =
-      let all : opened (history ++ range_entry.Acked pass row ack ∷ []) ≡ opened history = opened-push history
-      (range_entry.Acked pass row ack) ∙ append-nil (opened history) in
+      let all : opened_slots (history ++ range_entry.Acked pass row ack ∷ [])
+      ≡ opened_slots history = opened-push history
+      (range_entry.Acked pass row ack) ∙ append-nil (opened_slots history) in
       let serve = serving-push history pass row ack in
       record {
         numbered = λ k x there. h.numbered k x (sym (ap (λ xs. slice_get xs k) all) ∙ there);
@@ -234,8 +238,8 @@ module _ (held : SchemaLists) (zones : List ZoneSpec) (points : ℕ) (r : Range)
             (apart-filter (λ x. not (spec.is_missed ack.missed x)) (serving history) h.apart);
         among = subst (λ (xs : List SlotLeaf). All (Contains xs)
             (serving (history ++ range_entry.Acked pass row ack ∷ []))) (sym all)
-            (subst (All (Contains (opened history))) (sym serve)
-            (all_filter (Contains (opened history)) (λ x. not (spec.is_missed ack.missed x)) (serving history)
+            (subst (All (Contains (opened_slots history))) (sym serve)
+            (all_filter (Contains (opened_slots history)) (λ x. not (spec.is_missed ack.missed x)) (serving history)
             h.among));
       }
 

@@ -11,11 +11,13 @@ use Rattle.mon_value.specs.Answers.{RefusesBy}
 use Rattle.mon_value.specs.Same.{same_text}
 use Rattle.mon_value.specs.declared.refusals.Refusal.{Refusal}
 use Rattle.mon_value.specs.declared.refusals.Refusal.TheVariants as refusal
-use Rattle.mon_topo.proofs.NumberedLemmas.{keys-append, keys-located, keys-numbered, length-numbered, located-append}
-use Rattle.mon_topo.proofs.NumberedLemmas.{numbered-append}
+use Rattle.mon_topo.proofs.NumberedLemmas.{keys-append, keys-located, keys-numbered, length-numbered}
+use Rattle.mon_topo.proofs.NumberedLemmas.{numbered_locations-append}
+use Rattle.mon_topo.proofs.NumberedLemmas.{numbered_texts-append}
 use Rattle.mon_topo.specs.Faults.{repeat_behind, repeat_in, repeated_at, stood}
-use Rattle.mon_topo.specs.Indexed.{all_numbered, located, names_of, numbered, with_name, with_zone}
-use Rattle.mon_topo.specs.Places.{unless}
+use Rattle.mon_topo.specs.Indexed.{all_numbered, numbered_locations, names_of_zones, numbered_texts, with_name}
+use Rattle.mon_topo.specs.Indexed.{with_zone_names}
+use Rattle.mon_topo.specs.Places.{place_unless}
 use Rattle.mon_topo.specs.Zones.{leaves_in, locations_in, zone_names_in}
 use Rattle.mon_topo.specs.declared.names.Names.{Names}
 use Rattle.mon_topo.specs.declared.places.Place.{Place}
@@ -30,12 +32,12 @@ refused_first refusal.OutOfMemory a b e = tt
 -- what a zone repeats of names, or of itself
 abbrev pub seen_repeat : Names → ℕ → ZoneSpec → Option Place
 seen_repeat names i zone =
-    option_or (unless (not (list_any (same_text zone.name) (keys_of names.zones))) (place.ZoneName i))
+    option_or (place_unless (not (list_any (same_text zone.name) (keys_of names.zones))) (place.ZoneName i))
     (option_or (repeat_in (place.Location i) (keys_of names.locations) zone.locations)
     (repeat_in (place.Leaf i) (keys_of names.leaves) zone.leaves))
 
 pub seen_repeat-names_of : (zones : List ZoneSpec) (i : ℕ) (zone : ZoneSpec) (names : Names)
-    → names ≡ names_of (take i zones) → seen_repeat names i zone ≡ repeat_behind zones i zone
+    → names ≡ names_of_zones (take i zones) → seen_repeat names i zone ≡ repeat_behind zones i zone
 seen_repeat-names_of zones i zone names is =
     let before = take i zones in
     let by_name : keys_of names.zones ≡ zone_names_in before = ap (λ (n : Names). keys_of n.zones) is ∙ keys-numbered 0
@@ -44,30 +46,34 @@ seen_repeat-names_of zones i zone names is =
     ∙ keys-located 0 before in
     let by_leaf : keys_of names.leaves ≡ leaves_in before = ap (λ (n : Names). keys_of n.leaves) is ∙ keys-numbered 0
     (leaves_in before) in
-    λ k. option_or (unless (not (list_any (same_text zone.name) (by_name k))) (place.ZoneName i))
+    λ k. option_or (place_unless (not (list_any (same_text zone.name) (by_name k))) (place.ZoneName i))
     (option_or (repeat_in (place.Location i) (by_location k) zone.locations) (repeat_in (place.Leaf i) (by_leaf k)
     zone.leaves))
 
 grown : (before : List ZoneSpec) (zone : ZoneSpec) (i : ℕ) → length before ≡ i
-    → with_zone (names_of before) i zone ≡ names_of (before ++ zone ∷ [])
+    → with_zone_names (names_of_zones before) i zone ≡ names_of_zones (before ++ zone ∷ [])
 grown before zone i long =
     let names = zone_names_in before in
-    let by_name : numbered 0 names ++ (zone.name, i) ∷ [] ≡ numbered 0 (zone_names_in (before ++ zone ∷ [])) =
-    ap (λ n. numbered 0 names ++ (zone.name, n) ∷ [])
+    let by_name : numbered_texts 0 names ++ (zone.name, i) ∷ []
+    ≡ numbered_texts 0 (zone_names_in (before ++ zone ∷ [])) =
+    ap (λ n. numbered_texts 0 names ++ (zone.name, n) ∷ [])
     (omega (arith, long, length-map before (λ (z : ZoneSpec). z.name)))
-    ∙ sym (numbered-append 0 names (zone.name ∷ []))
-    ∙ ap (numbered 0) (sym (map-append (λ (z : ZoneSpec). z.name) before (zone ∷ []))) in
-    let by_location : located 0 before ++ all_numbered i zone.locations ≡ located 0 (before ++ zone ∷ []) =
-    ap (λ n. located 0 before ++ all_numbered n zone.locations) (omega (arith, long))
-    ∙ ap (λ more. located 0 before ++ more) (sym (append-nil (all_numbered (0 + length before) zone.locations)))
-    ∙ sym (located-append 0 before (zone ∷ [])) in
-    let by_leaf : numbered 0 (leaves_in before) ++ numbered (length (numbered 0 (leaves_in before))) zone.leaves
-    ≡ numbered 0 (leaves_in (before ++ zone ∷ [])) =
-    ap (λ n. numbered 0 (leaves_in before) ++ numbered n zone.leaves) (length-numbered 0 (leaves_in before)
+    ∙ sym (numbered_texts-append 0 names (zone.name ∷ []))
+    ∙ ap (numbered_texts 0) (sym (map-append (λ (z : ZoneSpec). z.name) before (zone ∷ []))) in
+    let by_location : numbered_locations 0 before ++ all_numbered i zone.locations
+    ≡ numbered_locations 0 (before ++ zone ∷ []) =
+    ap (λ n. numbered_locations 0 before ++ all_numbered n zone.locations) (omega (arith, long))
+    ∙ ap (λ more. numbered_locations 0 before ++ more)
+    (sym (append-nil (all_numbered (0 + length before) zone.locations)))
+    ∙ sym (numbered_locations-append 0 before (zone ∷ [])) in
+    let by_leaf : numbered_texts 0 (leaves_in before)
+    ++ numbered_texts (length (numbered_texts 0 (leaves_in before))) zone.leaves
+    ≡ numbered_texts 0 (leaves_in (before ++ zone ∷ [])) =
+    ap (λ n. numbered_texts 0 (leaves_in before) ++ numbered_texts n zone.leaves) (length-numbered 0 (leaves_in before)
     ∙ omega arith)
-    ∙ sym (numbered-append 0 (leaves_in before) zone.leaves)
-    ∙ ap (λ more. numbered 0 (leaves_in before ++ more)) (sym (append-nil zone.leaves))
-    ∙ ap (numbered 0) (sym (flat_map-append (λ (z : ZoneSpec). z.leaves) before (zone ∷ []))) in
+    ∙ sym (numbered_texts-append 0 (leaves_in before) zone.leaves)
+    ∙ ap (λ more. numbered_texts 0 (leaves_in before ++ more)) (sym (append-nil zone.leaves))
+    ∙ ap (numbered_texts 0) (sym (flat_map-append (λ (z : ZoneSpec). z.leaves) before (zone ∷ []))) in
     λ k. record { zones = by_name k; locations = by_location k; leaves = by_leaf k }
 
 length-take-within : (zones : List ZoneSpec) (i : ℕ) → i < length zones → length (take i zones) ≡ i
@@ -75,13 +81,13 @@ length-take-within zones i there = grind (arith, common_steps)
 
 -- the names with those of the zone at hand are those of the zones up to it
 pub names_more : (zones : List ZoneSpec) (i : ℕ) (zone : ZoneSpec) (names new : Names) → i < length zones
-    → zone ≡ get_or zones i zone → names ≡ names_of (take i zones) → new ≡ with_zone names i zone
-    → new ≡ names_of (take (i + 1) zones)
+    → zone ≡ get_or zones i zone → names ≡ names_of_zones (take i zones) → new ≡ with_zone_names names i zone
+    → new ≡ names_of_zones (take (i + 1) zones)
 names_more zones i zone names new there at is more =
-    more ∙ ap (λ (n : Names). with_zone n i zone) is
+    more ∙ ap (λ (n : Names). with_zone_names n i zone) is
     ∙ grown (take i zones) zone i (length-take-within zones i there)
-    ∙ ap (λ (z : ZoneSpec). names_of (take i zones ++ z ∷ [])) at
-    ∙ ap names_of (sym (take_more zones i zone there))
+    ∙ ap (λ (z : ZoneSpec). names_of_zones (take i zones ++ z ∷ [])) at
+    ∙ ap names_of_zones (sym (take_more zones i zone there))
 
 -- ---- texts that go into a map one after another
 
@@ -105,7 +111,7 @@ pub repeated : (place_of : ℕ → Place) (old so_far own : List (List ℕ × �
     → so_far ≡ old ++ own → keys_of own ≡ take j texts → not (list_any (same_text text) (keys_of so_far)) ≡ false
     → repeated_at place_of (keys_of old) texts j text ≡ Some (place_of j)
 repeated place_of old so_far own texts j text is keys again =
-    ap (λ b. unless (not b) (place_of j))
+    ap (λ b. place_unless (not b) (place_of j))
     (sym (known old so_far own texts j text is keys) ∙ turned (list_any (same_text text) (keys_of so_far)) again)
 
 pub unrepeated : (place_of : ℕ → Place) (old so_far own : List (List ℕ × ℕ)) (texts : List (List ℕ)) (j : ℕ)
@@ -113,7 +119,7 @@ pub unrepeated : (place_of : ℕ → Place) (old so_far own : List (List ℕ × 
     → so_far ≡ old ++ own → keys_of own ≡ take j texts → not (list_any (same_text text) (keys_of so_far)) ≡ true
     → repeated_at place_of (keys_of old) texts j text ≡ None
 unrepeated place_of old so_far own texts j text is keys new =
-    ap (λ b. unless (not b) (place_of j))
+    ap (λ b. place_unless (not b) (place_of j))
     (sym (known old so_far own texts j text is keys) ∙ unturned (list_any (same_text text) (keys_of so_far)) new)
 
 pub with_new_name : (so_far new : List (List ℕ × ℕ)) (text : List ℕ) (n : ℕ)
@@ -141,23 +147,23 @@ texts-take-within texts j there = grind (arith, common_steps)
 
 -- how many leaves there are with those of the zone so far
 pub leaves_so_far : (old so_far : List (List ℕ × ℕ)) (texts : List (List ℕ)) (j : ℕ) → j < length texts
-    → so_far ≡ old ++ numbered (length old) (take j texts) → length so_far ≡ length old + j
+    → so_far ≡ old ++ numbered_texts (length old) (take j texts) → length so_far ≡ length old + j
 leaves_so_far old so_far texts j there is =
-    ap length is ∙ length-append old (numbered (length old) (take j texts))
+    ap length is ∙ length-append old (numbered_texts (length old) (take j texts))
     ∙ ap (λ n. length old + n) (length-numbered (length old) (take j texts) ∙ texts-take-within texts j there)
 
 -- one leaf more
 pub leaves_more : (old so_far new : List (List ℕ × ℕ)) (texts : List (List ℕ)) (j : ℕ) (text : List ℕ)
     → j < length texts
-    → text ≡ get_or texts j text → so_far ≡ old ++ numbered (length old) (take j texts)
-    → new ≡ so_far ++ (text, length so_far) ∷ [] → new ≡ old ++ numbered (length old) (take (j + 1) texts)
+    → text ≡ get_or texts j text → so_far ≡ old ++ numbered_texts (length old) (take j texts)
+    → new ≡ so_far ++ (text, length so_far) ∷ [] → new ≡ old ++ numbered_texts (length old) (take (j + 1) texts)
 leaves_more old so_far new texts j text there at is more =
     let front = take j texts in
     more ∙ ap (λ es. es ++ (text, length so_far) ∷ []) is
-    ∙ append_assoc old (numbered (length old) front) ((text, length so_far) ∷ [])
+    ∙ append_assoc old (numbered_texts (length old) front) ((text, length so_far) ∷ [])
     ∙ ap (λ es. old ++ es)
-    (ap (λ n. numbered (length old) front ++ (text, n) ∷ []) (leaves_so_far old so_far texts j there is
+    (ap (λ n. numbered_texts (length old) front ++ (text, n) ∷ []) (leaves_so_far old so_far texts j there is
     ∙ ap (λ n. length old + n) (sym (texts-take-within texts j there)))
-    ∙ sym (numbered-append (length old) front (text ∷ []))
-    ∙ ap (λ (t : List ℕ). numbered (length old) (front ++ t ∷ [])) at
-    ∙ ap (numbered (length old)) (sym (take_more texts j text there)))
+    ∙ sym (numbered_texts-append (length old) front (text ∷ []))
+    ∙ ap (λ (t : List ℕ). numbered_texts (length old) (front ++ t ∷ [])) at
+    ∙ ap (numbered_texts (length old)) (sym (take_more texts j text there)))

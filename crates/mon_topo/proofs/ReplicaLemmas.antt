@@ -18,12 +18,13 @@ use Rattle.mon_topo.proofs.PositionLemmas.{position_found, position_there}
 use Rattle.mon_topo.proofs.SizeLemmas.{parts_so_far}
 use Rattle.mon_topo.specs.Faults.{are_replicas, bad_replicas_in_range, bad_replicas_in_zone, no_leaf_at}
 use Rattle.mon_topo.specs.Faults.{no_leaf_in_range, no_leaf_in_zone, repeat_behind, repeat_in, repeated_at, stood}
-use Rattle.mon_topo.specs.Faults.{IsLawful}
-use Rattle.mon_topo.specs.Places.{first_at, unless}
+use Rattle.mon_topo.specs.Faults.{AreLawfulZones}
+use Rattle.mon_topo.specs.Places.{first_at, place_unless}
 use Rattle.mon_topo.specs.RangeHistories.{IsInZoneOf}
-use Rattle.mon_topo.specs.Replicas.{same_leaf, HasReplicas}
-use Rattle.mon_topo.specs.Zones.{first_replicas, leaf_numbered, leaves_in, leaves_named, locations_in, no_range}
-use Rattle.mon_topo.specs.Zones.{no_zone, range_numbered, ranges_in, zone_names_in}
+use Rattle.mon_topo.specs.Replicas.{HasReplicas}
+use Rattle.mon_value.specs.Positions.{leaf_numbered, range_numbered, same_leaf}
+use Rattle.mon_topo.specs.Zones.{first_replicas, leaves_in, leaves_named, locations_in, no_range}
+use Rattle.mon_topo.specs.Zones.{no_zone, ranges_in, zone_names_in}
 use Rattle.mon_topo.specs.declared.places.Place.{Place}
 use Rattle.mon_topo.specs.declared.places.Place.TheVariants as place
 use Rattle.mon_topo.specs.declared.zones.RangeSpec.{RangeSpec}
@@ -227,7 +228,7 @@ leaves_of zones range (name ∷ names) all =
 
 -- ---- the leaves that hold a range at first
 
-good : (b : Bool) (p : Place) → unless b p ≡ None → b ≡ true
+good : (b : Bool) (p : Place) → place_unless b p ≡ None → b ≡ true
 good true p e = refl
 good false p e = absurd (cc)
 
@@ -260,7 +261,7 @@ each_named zones r part (name ∷ names) new known =
     new known.0 in
     (named zones r name part fresh known.0, each_named zones r part names new known.1)
 
-pub has_replicas : (zones : List ZoneSpec) → IsLawful zones → (r : ℕ) → r < length (ranges_in zones)
+pub has_replicas : (zones : List ZoneSpec) → AreLawfulZones zones → (r : ℕ) → r < length (ranges_in zones)
     → HasReplicas zones (range_numbered r)
 has_replicas zones lawful r there =
     let part = part_at (λ (zone : ZoneSpec). zone.ranges) zones no_zone r there in
@@ -276,7 +277,7 @@ has_replicas zones lawful r there =
     part.there) j no_range part.within)) in
     let before = take i zones in
     let repeats = none_at (repeat_behind zones) zones lawful.apart i no_zone part.there in
-    let by_name = unless (not (list_any (same_text zone.name) (zone_names_in before))) (place.ZoneName i) in
+    let by_name = place_unless (not (list_any (same_text zone.name) (zone_names_in before))) (place.ZoneName i) in
     let by_location = repeat_in (place.Location i) (locations_in before) zone.locations in
     let by_leaf = repeat_in (place.Leaf i) (leaves_in before) zone.leaves in
     let none = neither by_location by_leaf (neither by_name (option_or by_location by_leaf) repeats).1 in

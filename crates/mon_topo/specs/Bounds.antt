@@ -13,7 +13,8 @@ use Rattle.mon_value.specs.declared.values.FieldValue.{FieldValue}
 use Rattle.mon_value.specs.declared.values.FieldValue.TheVariants as value
 use Rattle.mon_topo.specs.declared.zones.RangeSpec.{RangeSpec}
 use Rattle.mon_topo.specs.declared.zones.ZoneSpec.{ZoneSpec}
-use Rattle.mon_topo.specs.Zones.{first_range, no_range, range_numbered, zone_at}
+use Rattle.mon_value.specs.Positions.{range_numbered}
+use Rattle.mon_topo.specs.Zones.{first_range, no_range, zone_at}
 
 -- bounds are compared from the front, field by field; a bound that another one begins with is the lesser
 abbrev pub bound_cmp : List FieldValue → List FieldValue → Ordering
@@ -24,8 +25,8 @@ abbrev pub target_bound : Target → List FieldValue
 target_bound target = value.Text target.schema ∷ target.fields
 
 -- whether a bound is not above a target
-abbrev pub is_within : List FieldValue → Target → Bool
-is_within bound target = is_le (bound_cmp bound (target_bound target))
+abbrev pub is_bound_below : List FieldValue → Target → Bool
+is_bound_below bound target = is_le (bound_cmp bound (target_bound target))
 
 -- whether a bound is above the one before it
 abbrev pub is_above : List FieldValue → List FieldValue → Bool
@@ -38,15 +39,15 @@ bound_at ranges j = (slice_index_or ranges j no_range).from
 -- a range holds the targets from its bound on, up to the next range's bound
 pub record IsHeldAt (target : Target) (ranges : List RangeSpec) (j : ℕ) : Type 0 where
   pub there : j < length ranges
-  pub begun : is_within (bound_at ranges j) target ≡ true
-  pub before_next : j + 1 < length ranges → is_within (bound_at ranges (j + 1)) target ≡ false
+  pub begun : is_bound_below (bound_at ranges j) target ≡ true
+  pub before_next : j + 1 < length ranges → is_bound_below (bound_at ranges (j + 1)) target ≡ false
 
 -- the last of a zone's ranges whose bound is not above a target
 abbrev pub last_within : Target → List RangeSpec → Option ℕ
 last_within target [] = None
 last_within target (range ∷ ranges) =
     option_or (option_map (λ j. suc j) (last_within target ranges))
-    (if is_within range.from target then Some 0 else None)
+    (if is_bound_below range.from target then Some 0 else None)
 
 -- the range of a zone that a target lies in
 abbrev pub range_of : List ZoneSpec → ℕ → Target → Option Range

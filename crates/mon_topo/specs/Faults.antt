@@ -23,7 +23,7 @@ use Rattle.mon_topo.specs.declared.places.Place.TheVariants as place
 use Rattle.mon_topo.specs.declared.zones.RangeSpec.{RangeSpec}
 use Rattle.mon_topo.specs.declared.zones.ZoneSpec.{ZoneSpec}
 use Rattle.mon_topo.specs.Bounds.{is_above}
-use Rattle.mon_topo.specs.Places.{first_at, place_path, unless}
+use Rattle.mon_topo.specs.Places.{first_at, place_path, place_unless}
 use Rattle.mon_topo.specs.Zones.{leaves_in, locations_in, ranges_in, zone_names_in}
 
 -- ---- too many
@@ -35,18 +35,19 @@ are_few zones =
     && (nat_le (length (leaves_in zones)) MOST_LEAVES && nat_le (length (ranges_in zones)) MOST_RANGES)
 
 abbrev pub leaves_over : ℕ → ZoneSpec → Option Place
-leaves_over i zone = unless (nat_le (length zone.leaves) MOST_LEAVES_OF_ZONE) (place.Leaves i)
+leaves_over i zone = place_unless (nat_le (length zone.leaves) MOST_LEAVES_OF_ZONE) (place.Leaves i)
 
 abbrev pub too_many : List ZoneSpec → Option Place
-too_many zones = option_or (unless (are_few zones) place.Zones) (first_at leaves_over 0 zones)
+too_many zones = option_or (place_unless (are_few zones) place.Zones) (first_at leaves_over 0 zones)
 
 -- ---- names
 
 abbrev pub bad_leaf : ℕ → ℕ → List ℕ → Option Place
-bad_leaf i j leaf = unless (is_name leaf) (place.Leaf i j)
+bad_leaf i j leaf = place_unless (is_name leaf) (place.Leaf i j)
 
 abbrev pub bad_name_in : ℕ → ZoneSpec → Option Place
-bad_name_in i zone = option_or (unless (is_name zone.name) (place.ZoneName i)) (first_at (bad_leaf i) 0 zone.leaves)
+bad_name_in i zone = option_or (place_unless (is_name zone.name) (place.ZoneName i))
+    (first_at (bad_leaf i) 0 zone.leaves)
 
 abbrev pub bad_name : List ZoneSpec → Option Place
 bad_name = first_at bad_name_in 0
@@ -58,7 +59,7 @@ abbrev pub stood : List (List ℕ) → List (List ℕ) → ℕ → List ℕ → 
 stood before texts j text = list_any (same_text text) (before ++ take j texts)
 
 abbrev pub repeated_at : (ℕ → Place) → List (List ℕ) → List (List ℕ) → ℕ → List ℕ → Option Place
-repeated_at place_of before texts j text = unless (not (stood before texts j text)) (place_of j)
+repeated_at place_of before texts j text = place_unless (not (stood before texts j text)) (place_of j)
 
 -- the first text of a list that stood earlier
 abbrev pub repeat_in : (ℕ → Place) → List (List ℕ) → List (List ℕ) → Option Place
@@ -67,7 +68,7 @@ repeat_in place_of before texts = first_at (repeated_at place_of before texts) 0
 -- what a zone repeats of the zones before it, or of itself
 abbrev pub repeat_of : List ZoneSpec → ℕ → ZoneSpec → Option Place
 repeat_of before i zone =
-    option_or (unless (not (list_any (same_text zone.name) (zone_names_in before))) (place.ZoneName i))
+    option_or (place_unless (not (list_any (same_text zone.name) (zone_names_in before))) (place.ZoneName i))
     (option_or (repeat_in (place.Location i) (locations_in before) zone.locations)
     (repeat_in (place.Leaf i) (leaves_in before) zone.leaves))
 
@@ -80,7 +81,7 @@ duplicate zones = first_at (repeat_behind zones) 0 zones
 -- ---- the leaves of ranges
 
 abbrev pub no_leaf_at : ZoneSpec → ℕ → ℕ → ℕ → List ℕ → Option Place
-no_leaf_at zone i j k leaf = unless (list_any (same_text leaf) zone.leaves) (place.Replica i j k)
+no_leaf_at zone i j k leaf = place_unless (list_any (same_text leaf) zone.leaves) (place.Replica i j k)
 
 abbrev pub no_leaf_in_range : ZoneSpec → ℕ → ℕ → RangeSpec → Option Place
 no_leaf_in_range zone i j range = first_at (no_leaf_at zone i j) 0 range.leaves
@@ -97,7 +98,7 @@ abbrev pub are_replicas : List (List ℕ) → Bool
 are_replicas leaves = (nat_le 1 (length leaves) && nat_le (length leaves) MOST_REPLICAS) && not (texts_repeat leaves)
 
 abbrev pub bad_replicas_in_range : ℕ → ℕ → RangeSpec → Option Place
-bad_replicas_in_range i j range = unless (are_replicas range.leaves) (place.Replicas i j)
+bad_replicas_in_range i j range = place_unless (are_replicas range.leaves) (place.Replicas i j)
 
 abbrev pub bad_replicas_in_zone : ℕ → ZoneSpec → Option Place
 bad_replicas_in_zone i zone = first_at (bad_replicas_in_range i) 0 zone.ranges
@@ -134,7 +135,7 @@ is_bound held (value.Int z ∷ values) = false
 is_bound held (value.Bool p ∷ values) = false
 
 abbrev pub bad_bound_in_range : SchemaLists → ℕ → ℕ → RangeSpec → Option Place
-bad_bound_in_range held i j range = unless (is_bound held range.from) (place.Bound i j)
+bad_bound_in_range held i j range = place_unless (is_bound held range.from) (place.Bound i j)
 
 abbrev pub bad_bound_in_zone : SchemaLists → ℕ → ZoneSpec → Option Place
 bad_bound_in_zone held i zone = first_at (bad_bound_in_range held i) 0 zone.ranges
@@ -148,13 +149,13 @@ bad_bound held = first_at (bad_bound_in_zone held) 0
 abbrev pub fall_in : ℕ → ℕ → List FieldValue → List RangeSpec → Option Place
 fall_in i j before [] = None
 fall_in i j before (range ∷ ranges) =
-    option_or (unless (is_above before range.from) (place.Bound i j)) (fall_in i (j + 1) range.from ranges)
+    option_or (place_unless (is_above before range.from) (place.Bound i j)) (fall_in i (j + 1) range.from ranges)
 
 -- a zone has a range, the first bound is empty, and each is above the one before it
 abbrev pub disorder_in : ℕ → List RangeSpec → Option Place
 disorder_in i [] = Some (place.Ranges i)
 disorder_in i (range ∷ ranges) =
-    option_or (unless (length range.from == 0) (place.Bound i 0)) (fall_in i 1 range.from ranges)
+    option_or (place_unless (length range.from == 0) (place.Bound i 0)) (fall_in i 1 range.from ranges)
 
 abbrev pub disorder_in_zone : ℕ → ZoneSpec → Option Place
 disorder_in_zone i zone = disorder_in i zone.ranges
@@ -179,7 +180,7 @@ topology_fault held zones =
 
 -- ---- zones that passed, whatever the schemas are
 
-pub record IsLawful (zones : List ZoneSpec) : Type 0 where
+pub record AreLawfulZones (zones : List ZoneSpec) : Type 0 where
   pub few : too_many zones ≡ None
   pub named : bad_name zones ≡ None
   pub apart : duplicate zones ≡ None

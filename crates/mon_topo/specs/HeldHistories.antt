@@ -1,6 +1,5 @@
 -- What the histories of leaves and of ranges that someone has seen say of one another.
-use Rattle.std.specs.Prelude.{◌≡◌, ◌<◌, ℕ, true, List, [], length, take, slice_get, Some, Contains}
-use Rattle.std.specs.List.{slice_index_or}
+use Rattle.std.specs.Prelude.{◌≡◌, ◌<◌, ℕ, true, List, length, take, slice_get, Some, Contains}
 use Rattle.mon_value.specs.LeafHistories.{IsDownAt, IsWellFormed, replica_rows}
 use Rattle.mon_value.specs.declared.histories.Ack.{Ack}
 use Rattle.mon_value.specs.declared.histories.Entry.{Entry}
@@ -16,19 +15,10 @@ use Rattle.mon_schema.specs.Fits.{fits}
 use Rattle.mon_schema.specs.SchemaLists.{SchemaLists}
 use Rattle.mon_topo.specs.declared.zones.ZoneSpec.{ZoneSpec}
 use Rattle.mon_topo.specs.Locations.{LiesIn}
-use Rattle.mon_topo.specs.RangeHistories.{acked, opened, serving, IsLegal}
+use Rattle.mon_topo.specs.RangeHistories.{acknowledged_rows, opened_slots, serving, IsLegal}
 use Rattle.mon_topo.specs.Zones.{leaves_in, ranges_in}
-
--- one history for each leaf and one for each range
-pub record Histories : Type 0 where
-  pub leaves : List (List Entry)
-  pub ranges : List (List RangeEntry)
-
-abbrev pub leaf_history : Histories → Leaf → List Entry
-leaf_history seen leaf = slice_index_or seen.leaves leaf.0 []
-
-abbrev pub range_history : Histories → Range → List RangeEntry
-range_history seen range = slice_index_or seen.ranges range.0 []
+use Rattle.mon_value.specs.Histories.{leaf_history, range_history}
+use Rattle.mon_value.specs.declared.histories.Histories.{Histories}
 
 -- a list begins with another one
 abbrev pub BeginsWith : {X : Type 0} → List X → List X → Type 0
@@ -53,16 +43,16 @@ pub record IsMissed (seen : Histories) (replicas : List SlotLeaf) (miss : Miss) 
 -- what an entry at the place k of a range's history says of the leaves
 abbrev pub IsBorneOut : Histories → Range → List RangeEntry → ℕ → RangeEntry → Type 0
 IsBorneOut seen range history k (range_entry.Opened pass slot leaf) =
-    IsOpened range (record { slot = slot; leaf = leaf }) (acked (take k history)) (leaf_history seen leaf)
+    IsOpened range (record { slot = slot; leaf = leaf }) (acknowledged_rows (take k history)) (leaf_history seen leaf)
 IsBorneOut seen range history k (range_entry.Acked pass row ack) =
-    ((replica : SlotLeaf) → Contains (opened (take k history)) replica → Contains ack.took replica.slot
+    ((replica : SlotLeaf) → Contains (opened_slots (take k history)) replica → Contains ack.took replica.slot
     → IsTaken seen pass row ack replica)
-    × ((miss : Miss) → Contains ack.missed miss → IsMissed seen (opened (take k history)) miss)
+    × ((miss : Miss) → Contains ack.missed miss → IsMissed seen (opened_slots (take k history)) miss)
 
 -- the leaves' histories bear out a range's
 pub record IsHeldBy (seen : Histories) (range : Range) (history : List RangeEntry) : Type 0 where
   pub kept : (replica : SlotLeaf) → Contains (serving history) replica
-      → BeginsWith (replica_rows range replica.slot (leaf_history seen replica.leaf)) (acked history)
+      → BeginsWith (replica_rows range replica.slot (leaf_history seen replica.leaf)) (acknowledged_rows history)
   pub borne_out : (k : ℕ) (entry : RangeEntry) → slice_get history k ≡ Some entry
       → IsBorneOut seen range history k entry
 

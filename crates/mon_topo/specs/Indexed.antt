@@ -7,7 +7,8 @@ use Rattle.mon_value.specs.declared.positions.Leaf.{Leaf}
 use Rattle.mon_topo.specs.declared.names.Names.{Names}
 use Rattle.mon_topo.specs.declared.spans.ZoneSpan.{ZoneSpan}
 use Rattle.mon_topo.specs.declared.zones.ZoneSpec.{ZoneSpec}
-use Rattle.mon_topo.specs.Zones.{leaf_numbered, leaves_in, leaves_named, ranges_in}
+use Rattle.mon_value.specs.Positions.{leaf_numbered}
+use Rattle.mon_topo.specs.Zones.{leaves_in, leaves_named, ranges_in}
 
 -- ---- names with numbers
 
@@ -16,18 +17,18 @@ abbrev pub with_name : List (List ℕ × ℕ) → List ℕ → ℕ → List (Lis
 with_name entries name n = if list_any (same_text name) (keys_of entries) then entries else entries ++ (name, n) ∷ []
 
 -- texts that are numbered on from n
-abbrev pub numbered : ℕ → List (List ℕ) → List (List ℕ × ℕ)
-numbered n [] = []
-numbered n (text ∷ texts) = (text, n) ∷ numbered (n + 1) texts
+abbrev pub numbered_texts : ℕ → List (List ℕ) → List (List ℕ × ℕ)
+numbered_texts n [] = []
+numbered_texts n (text ∷ texts) = (text, n) ∷ numbered_texts (n + 1) texts
 
 -- texts that have one number
 abbrev pub all_numbered : ℕ → List (List ℕ) → List (List ℕ × ℕ)
 all_numbered n = map (λ text. (text, n))
 
 -- the locations of zones that are numbered on from i, each with the number of its zone
-abbrev pub located : ℕ → List ZoneSpec → List (List ℕ × ℕ)
-located i [] = []
-located i (zone ∷ zones) = all_numbered i zone.locations ++ located (i + 1) zones
+abbrev pub numbered_locations : ℕ → List ZoneSpec → List (List ℕ × ℕ)
+numbered_locations i [] = []
+numbered_locations i (zone ∷ zones) = all_numbered i zone.locations ++ numbered_locations (i + 1) zones
 
 -- each text is found with what it is to be found with
 abbrev pub Finds : List (List ℕ × ℕ) → (List ℕ → Option ℕ) → Type 0
@@ -40,19 +41,19 @@ FindsPlaces entries texts = Finds entries (λ text. position_from (same_text tex
 -- ---- what is kept of zones
 
 -- names with those of one zone more, which has the number i
-abbrev pub with_zone : Names → ℕ → ZoneSpec → Names
-with_zone names i zone = record {
+abbrev pub with_zone_names : Names → ℕ → ZoneSpec → Names
+with_zone_names names i zone = record {
   zones = names.zones ++ (zone.name, i) ∷ [];
   locations = names.locations ++ all_numbered i zone.locations;
-  leaves = names.leaves ++ numbered (length names.leaves) zone.leaves;
+  leaves = names.leaves ++ numbered_texts (length names.leaves) zone.leaves;
 }
 
 -- the names of zones
-abbrev pub names_of : List ZoneSpec → Names
-names_of zones = record {
-  zones = numbered 0 (map (λ zone. zone.name) zones);
-  locations = located 0 zones;
-  leaves = numbered 0 (leaves_in zones);
+abbrev pub names_of_zones : List ZoneSpec → Names
+names_of_zones zones = record {
+  zones = numbered_texts 0 (map (λ zone. zone.name) zones);
+  locations = numbered_locations 0 zones;
+  leaves = numbered_texts 0 (leaves_in zones);
 }
 
 -- where the leaves and the ranges of each zone begin, and how many there are, behind so many of earlier zones

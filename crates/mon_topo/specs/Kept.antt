@@ -3,13 +3,13 @@ use Rattle.std.specs.Prelude.{◌≡◌}
 use Rattle.std.specs.List.{list_any, position_from}
 use Rattle.mon_value.specs.Same.{same_text}
 use Rattle.mon_topo.specs.declared.topology.Topology.TheInside.{Inside}
-use Rattle.mon_topo.specs.Faults.{IsLawful}
+use Rattle.mon_topo.specs.Faults.{AreLawfulZones}
 use Rattle.mon_topo.specs.Indexed.{all_replicas, spans_from, Finds, FindsPlaces}
 use Rattle.mon_topo.specs.Zones.{leaves_in, range_names}
 
-abbrev pub IsKept : Inside → Type 0
-IsKept topology =
-    IsLawful topology.zones
+abbrev pub IsTopologyKept : Inside → Type 0
+IsTopologyKept topology =
+    AreLawfulZones topology.zones
     × (topology.spans.items ≡ spans_from 0 0 topology.zones)
     × (topology.leaf_names ≡ leaves_in topology.zones)
     × (topology.replicas.items ≡ all_replicas topology.zones)

@@ -21,8 +21,8 @@ place_path (place.Replica i j k) =
     ++ (codes "].ranges[" ++ (decimal j ++ (codes "].leaves[" ++ (decimal k ++ codes "]")))))
 
 -- the place, unless it is as it must be
-abbrev pub unless : Bool → Place → Option Place
-unless good place = if good then None else Some place
+abbrev pub place_unless : Bool → Place → Option Place
+place_unless good place = if good then None else Some place
 
 -- the first place at fault among elements that are numbered on from i
 abbrev pub first_at : {X : Type 0} → (ℕ → X → Option Place) → ℕ → List X → Option Place

@@ -17,6 +17,7 @@ use Rattle.mon_topo.specs.declared.limits.TheConstants.{MOST_REPLICAS, MOST_SLOT
 use Rattle.mon_topo.specs.declared.zones.ZoneSpec.{ZoneSpec}
 use Rattle.mon_topo.specs.Locations.{LiesIn}
 use Rattle.mon_topo.specs.Zones.{first_replicas, leaf_zones, range_zones}
+use Rattle.mon_value.specs.Positions.{same_slot}
 
 -- ---- what a history says
 
@@ -26,8 +27,8 @@ acked_row (entry.Opened pass slot leaf) = []
 acked_row (entry.Acked pass row ack) = row ∷ []
 
 -- the rows that were acknowledged
-abbrev pub acked : List RangeEntry → List Row
-acked = flat_map acked_row
+abbrev pub acknowledged_rows : List RangeEntry → List Row
+acknowledged_rows = flat_map acked_row
 
 -- the replica that an entry opens, if it does
 abbrev pub opened_slot : RangeEntry → List SlotLeaf
@@ -35,11 +36,8 @@ opened_slot (entry.Opened pass slot leaf) = record { slot = slot; leaf = leaf } 
 opened_slot (entry.Acked pass row ack) = []
 
 -- the replicas that the range ever had
-abbrev pub opened : List RangeEntry → List SlotLeaf
-opened = flat_map opened_slot
-
-abbrev pub same_slot : Slot → Slot → Bool
-same_slot a b = nat_eq a.0 b.0
+abbrev pub opened_slots : List RangeEntry → List SlotLeaf
+opened_slots = flat_map opened_slot
 
 -- whether a row was acknowledged without a replica
 abbrev pub is_missed : List Miss → SlotLeaf → Bool
@@ -99,10 +97,11 @@ module _ (held : SchemaLists) (zones : List ZoneSpec) (points : ℕ) (range : Ra
   -- what an entry must be behind a history
   abbrev pub MayFollow : List RangeEntry → RangeEntry → Type 0
   MayFollow history (entry.Opened pass slot leaf) =
-      (slot.0 ≡ length (opened history)) × (slot.0 < MOST_SLOTS) × IsPlaced zones range slot.0 leaf (serving history)
+      (slot.0 ≡ length (opened_slots history)) × (slot.0 < MOST_SLOTS)
+      × IsPlaced zones range slot.0 leaf (serving history)
   MayFollow history (entry.Acked pass row ack) =
       IsAckOf range (serving history) ack × LiesIn held zones range row.key.target
-      × IsSource (acked history ++ row ∷ []) × (length (acked history) < points)
+      × IsSource (acknowledged_rows history ++ row ∷ []) × (length (acknowledged_rows history) < points)
 
   -- each entry may follow those before it
   abbrev pub GoesOn : List RangeEntry → List RangeEntry → Type 0

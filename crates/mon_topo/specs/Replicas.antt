@@ -1,15 +1,12 @@
 -- The leaves that hold a range at first.
-use Rattle.std.specs.Prelude.{◌<◌, ◌≤◌, nat_eq, Bool, List, length}
+use Rattle.std.specs.Prelude.{◌<◌, ◌≤◌, List, length}
 use Rattle.std.specs.List.{AllByRecursion, IsDistinct}
-use Rattle.mon_value.specs.declared.positions.Leaf.{Leaf}
 use Rattle.mon_value.specs.declared.positions.Range.{Range}
 use Rattle.mon_topo.specs.declared.limits.TheConstants.{MOST_REPLICAS}
 use Rattle.mon_topo.specs.declared.zones.ZoneSpec.{ZoneSpec}
 use Rattle.mon_topo.specs.RangeHistories.{IsInZoneOf}
 use Rattle.mon_topo.specs.Zones.{first_replicas}
-
-abbrev pub same_leaf : Leaf → Leaf → Bool
-same_leaf a b = nat_eq a.0 b.0
+use Rattle.mon_value.specs.Positions.{same_leaf}
 
 -- one to three leaves of the range's zone, each once
 pub record HasReplicas (zones : List ZoneSpec) (range : Range) : Type 0 where

@@ -1,25 +1,17 @@
--- Histories that someone has seen: those of two together, and with one entry more.
+-- Histories that someone has seen: a part of others, and with one entry more.
 use Rattle.std.specs.Prelude.{[], ◌∷◌, ◌++◌, set}
-use Rattle.mon_value.specs.Farther.{longer_each}
 use Rattle.mon_value.specs.declared.histories.Entry.{Entry}
 use Rattle.mon_value.specs.declared.histories.RangeEntry.{RangeEntry}
 use Rattle.mon_value.specs.declared.positions.Leaf.{Leaf}
 use Rattle.mon_value.specs.declared.positions.Range.{Range}
-use Rattle.mon_topo.specs.HeldHistories.{BeginsWith, Histories, leaf_history, range_history}
+use Rattle.mon_value.specs.Histories.{leaf_history, range_history}
+use Rattle.mon_value.specs.declared.histories.Histories.{Histories}
+use Rattle.mon_topo.specs.HeldHistories.{BeginsWith}
 
 -- histories that were seen are a part of others: each of the others begins with what was seen of it
 pub record AreWithin (part whole : Histories) : Type 0 where
   pub leaves : (leaf : Leaf) → BeginsWith (leaf_history whole leaf) (leaf_history part leaf)
   pub ranges : (range : Range) → BeginsWith (range_history whole range) (range_history part range)
-
--- ---- what two have seen together
-
--- of each history the longer one
-abbrev pub joined_histories : Histories → Histories → Histories
-joined_histories a b = record {
-  leaves = longer_each a.leaves b.leaves;
-  ranges = longer_each a.ranges b.ranges;
-}
 
 -- ---- one entry more
 

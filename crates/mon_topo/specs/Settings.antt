@@ -5,7 +5,8 @@ use Rattle.mon_value.specs.declared.positions.Leaf.{Leaf}
 use Rattle.mon_value.specs.declared.positions.Zone.{Zone}
 use Rattle.mon_value.specs.declared.rows.SeriesKey.{SeriesKey}
 use Rattle.mon_schema.specs.SchemaLists.{SchemaLists}
-use Rattle.mon_topo.specs.Zones.{leaf_zones, zone_numbered}
+use Rattle.mon_value.specs.Positions.{zone_numbered}
+use Rattle.mon_topo.specs.Zones.{leaf_zones}
 use Rattle.mon_topo.specs.declared.zones.ZoneSpec.{ZoneSpec}
 
 -- the schemas, the zones, how many rows a range holds, and the hint buckets of each series

@@ -9,17 +9,9 @@ use Rattle.mon_value.specs.declared.positions.Range.{Range}
 use Rattle.mon_value.specs.declared.positions.Zone.{Zone}
 use Rattle.mon_topo.specs.declared.zones.RangeSpec.{RangeSpec}
 use Rattle.mon_topo.specs.declared.zones.ZoneSpec.{ZoneSpec}
+use Rattle.mon_value.specs.Positions.{leaf_numbered, range_numbered, zone_numbered}
 
 -- ---- places
-
-abbrev pub zone_numbered : ℕ → Zone
-zone_numbered n = record { 0 = n }
-
-abbrev pub leaf_numbered : ℕ → Leaf
-leaf_numbered n = record { 0 = n }
-
-abbrev pub range_numbered : ℕ → Range
-range_numbered n = record { 0 = n }
 
 -- a zone that says nothing
 abbrev pub no_zone : ZoneSpec

@@ -1,6 +1,5 @@
 // The bounds of ranges, and how they are compared.
 ghost use Rattle.std.specs.Prelude.{◌≡◌, ◌∷◌};
-ghost use Rattle.std.specs.Option.{option_copied};
 ghost use Rattle.mon_topo.specs.Bounds as order;
 ghost use Rattle.mon_topo.specs.Faults as spec;
 ghost use Rattle.mon_topo.specs.Places.{first_at};
@@ -13,7 +12,7 @@ use std::cmp::Ordering;
 
 /// Whether a bound is not above a target.
 pub(crate) fn is_within(bound: &FieldValues, target: &Target) -> bool
-    ensures within { result ≡ order.is_within bound.now target.now }
+    ensures within { result ≡ order.is_bound_below bound.now target.now }
 {
     let Some((first, fields)) = bound.as_slice().split_first() else {
         return true;
@@ -26,7 +25,7 @@ pub(crate) fn is_within(bound: &FieldValues, target: &Target) -> bool
 
 // Whether a bound of a schema's name and fields is not above a target.
 fn is_text_within(schema: &Text, fields: &[FieldValue], target: &Target) -> bool
-    ensures within { result ≡ order.is_within (FieldValue.Text schema.now ∷ fields.now) target.now }
+    ensures within { result ≡ order.is_bound_below (FieldValue.Text schema.now ∷ fields.now) target.now }
 {
     match schema.cmp(&target.schema) {
         Ordering::Less => true,

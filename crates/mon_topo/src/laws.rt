@@ -3,7 +3,8 @@ ghost use Rattle.std.specs.Prelude.{◌<◌, ℕ, length};
 ghost use Rattle.mon_value.specs.declared.rows.Target.{Target};
 ghost use Rattle.mon_topo.specs.Bounds.{HasOneRange};
 ghost use Rattle.mon_topo.specs.Replicas.{HasReplicas};
-ghost use Rattle.mon_topo.specs.Zones.{range_numbered, ranges_in};
+ghost use Rattle.mon_value.specs.Positions.{range_numbered};
+ghost use Rattle.mon_topo.specs.Zones.{ranges_in};
 
 use crate::topology::Topology;
 

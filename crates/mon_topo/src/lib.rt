@@ -14,6 +14,7 @@ mod naming;
 mod places;
 mod ranges;
 mod repeats;
+mod sight_laws;
 mod sights;
 mod sizes;
 mod spans;
@@ -27,6 +28,7 @@ pub use limits::{
 };
 pub use locations::location_of;
 pub use mon_value::{Leaf, LeafCounts, Leaves, Range, Slot, Zone};
+pub use sight_laws::{sights_grow, sights_join};
 pub use sights::{RangeSight, Sight};
 pub use topology::Topology;
 pub use zones::{RangeSpec, RangeSpecs, ZoneSpec, ZoneSpecs};

@@ -1,8 +1,5 @@
 // What is kept beside the zones of a topology.
-ghost use Rattle.std.specs.Prelude.{◌≡◌, ◌+◌, ◌<◌, ◌^◌, ◌++◌, ℕ, List, Some, None, length, map, IfOk, IfSome, OnOk};
-ghost use Rattle.std.specs.List.{flat_map};
-ghost use Rattle.std.specs.Map.{lookup};
-ghost use Rattle.mon_value.specs.Same.{same_text};
+ghost use Rattle.std.specs.Prelude.{◌≡◌, ◌+◌, ◌<◌, ◌^◌, ◌++◌, ℕ, List, Some, None, length, map, IfOk, OnOk};
 ghost use Rattle.mon_topo.specs.Faults.{too_many};
 ghost use Rattle.mon_topo.specs.Indexed as kept;
 ghost use Rattle.mon_topo.specs.Zones as spec;

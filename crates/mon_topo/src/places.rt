@@ -1,6 +1,6 @@
 // The places of zones at which a fault may stand.
-ghost use Rattle.std.specs.Prelude.{◌≡◌, IfOk, not, if◌then◌else◌};
-ghost use Rattle.mon_topo.specs.Places.{place_path, unless};
+ghost use Rattle.std.specs.Prelude.{◌≡◌, IfOk};
+ghost use Rattle.mon_topo.specs.Places.{place_path};
 
 use mon_value::{OutOfMemory, Text};
 use std::alloc::Global;
@@ -45,11 +45,4 @@ pub(crate) fn path_to(alloc: Global, place: Place) -> Result<Text, OutOfMemory>
         Place::Replica(i, j, k) => format!(in alloc; "$.zones[{i}].ranges[{j}].leaves[{k}]")?,
     };
     Ok(Text::from_string(path))
-}
-
-/// The place, unless it is as it must be.
-pub(crate) fn unless(good: bool, place: Place) -> Option<Place>
-    ensures place { result ≡ unless good place }
-{
-    if good { None } else { Some(place) }
 }

@@ -1,5 +1,5 @@
 // The names of zones, which are found once they stand apart.
-ghost use Rattle.std.specs.Prelude.{◌≡◌, ◌+◌, ◌<◌, ◌≤◌, ◌^◌, ◌++◌, not, length, None, IfOk, OnOk};
+ghost use Rattle.std.specs.Prelude.{◌≡◌, ◌+◌, ◌<◌, ◌^◌, ◌++◌, not, length, None, IfOk, OnOk};
 ghost use Rattle.std.specs.List.{list_any};
 ghost use Rattle.std.specs.Map.{keys_of};
 ghost use Rattle.std.specs.Option.{option_or};
@@ -19,7 +19,7 @@ use std::alloc::Global;
 pub(crate) fn names_of(alloc: Global, zones: &[ZoneSpec]) -> Result<Names, Refusal<Place>>
     requires few { spec.too_many zones.now ≡ None }
     ensures apart { AnswersBy result (spec.duplicate zones.now) }
-    ensures names { IfOk result (λ names. names ≡ kept.names_of zones.now) }
+    ensures names { IfOk result (λ names. names ≡ kept.names_of_zones zones.now) }
 {
     let mut names = Names {
         zones: NameMap::new(alloc),
@@ -37,10 +37,10 @@ fn add_zone(names: &mut Names, i: usize, zone: &ZoneSpec) -> Result<(), Refusal<
     requires zones { i < 2 ^ 32 }
     requires leaves { length names.old.leaves + length zone.now.leaves < 2 ^ 32 }
     ensures apart { AnswersBy result (option_or
-        (place.unless (not (list_any (same_text zone.now.name) (keys_of names.old.zones))) (Place.ZoneName i))
+        (place.place_unless (not (list_any (same_text zone.now.name) (keys_of names.old.zones))) (Place.ZoneName i))
         (option_or (spec.repeat_in (Place.Location i) (keys_of names.old.locations) zone.now.locations)
         (spec.repeat_in (Place.Leaf i) (keys_of names.old.leaves) zone.now.leaves))) }
-    ensures added { OnOk result (names.new ≡ kept.with_zone names.old i zone.now) }
+    ensures added { OnOk result (names.new ≡ kept.with_zone_names names.old i zone.now) }
 {
     if !names.zones.add(zone.name.as_bytes(), i as u32)? {
         return Err(Refusal::Fault(Place::ZoneName(i)));
@@ -67,7 +67,7 @@ fn add_locations(locations: &mut NameMap, i: usize, texts: &[Text]) -> Result<()
 fn add_leaves(leaves: &mut NameMap, i: usize, texts: &[Text]) -> Result<(), Refusal<Place>>
     requires room { length leaves.old + length texts.now < 2 ^ 32 }
     ensures apart { AnswersBy result (spec.repeat_in (Place.Leaf i) (keys_of leaves.old) texts.now) }
-    ensures added { OnOk result (leaves.new ≡ leaves.old ++ kept.numbered (length leaves.old) texts.now) }
+    ensures added { OnOk result (leaves.new ≡ leaves.old ++ kept.numbered_texts (length leaves.old) texts.now) }
 {
     for (j, text) in texts.iter().enumerate() {
         let number = leaves.len() as u32;

@@ -1,11 +1,10 @@
 // How many zones, leaves and ranges there are.
 ghost use Rattle.std.specs.Prelude.{◌≡◌, nat_le, length};
 ghost use Rattle.mon_topo.specs.Faults as spec;
-ghost use Rattle.mon_topo.specs.Places.{first_at};
 ghost use Rattle.mon_topo.specs.Zones.{leaves_in, ranges_in};
 
 use crate::limits::{MOST_LEAVES, MOST_LEAVES_OF_ZONE, MOST_RANGES, MOST_ZONES};
-use crate::places::{Place, unless};
+use crate::places::Place;
 use crate::zones::ZoneSpec;
 
 /// The place at which there are too many zones, leaves or ranges.

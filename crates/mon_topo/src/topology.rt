@@ -1,9 +1,9 @@
 // The topology of a store.
-ghost use Rattle.std.specs.Prelude.{◌≡◌, ◌<◌, ℕ, Some, None, length, map, slice_get, IfOk, IfSome, OnOk};
+ghost use Rattle.std.specs.Prelude.{◌≡◌, ◌<◌, Some, None, length, slice_get, IfOk, IfSome, OnOk};
 ghost use Rattle.mon_value.specs.Answers.{AnswersBy};
 ghost use Rattle.mon_topo.specs.Bounds.{range_of};
 ghost use Rattle.mon_topo.specs.Faults as spec_faults;
-ghost use Rattle.mon_topo.specs.Faults.{topology_fault, IsLawful};
+ghost use Rattle.mon_topo.specs.Faults.{topology_fault, AreLawfulZones};
 ghost use Rattle.mon_topo.specs.Indexed as kept;
 ghost use Rattle.mon_topo.specs.Zones as spec;
 ghost use Rattle.mon_topo.specs.Zones.{zone_at};
@@ -46,9 +46,9 @@ impl Model for Topology {
 
     ghost view = { λ topology. topology.zones };
 
-    ghost use Rattle.mon_topo.specs.Kept.{IsKept};
+    ghost use Rattle.mon_topo.specs.Kept.{IsTopologyKept};
 
-    ghost invariant = { IsKept };
+    ghost invariant = { IsTopologyKept };
 }
 
 impl Topology {
@@ -100,7 +100,7 @@ impl Topology {
     /// How many zones there are. They are lawful together.
     pub fn zones(&self) -> u32
         ensures count { result ≡ length self.now }
-        ensures lawful { IsLawful self.now }
+        ensures lawful { AreLawfulZones self.now }
     {
         self.zones.len() as u32
     }
@@ -206,8 +206,8 @@ fn lawful_names(
     schemas: &Schemas,
 ) -> Result<Names, Refusal<TopoFault>>
     ensures answer { AnswersBy result (topology_fault schemas.now zones.now) }
-    ensures names { IfOk result (λ names. names ≡ kept.names_of zones.now) }
-    ensures lawful { OnOk result (IsLawful zones.now) }
+    ensures names { IfOk result (λ names. names ≡ kept.names_of_zones zones.now) }
+    ensures lawful { OnOk result (AreLawfulZones zones.now) }
 {
     refused_at(alloc, TopoKind::TooMany, too_many(zones))?;
     refused_at(alloc, TopoKind::BadName, bad_name(zones))?;
@@ -223,7 +223,7 @@ fn lawful_names(
 fn names_apart(alloc: Global, zones: &[ZoneSpec]) -> Result<Names, Refusal<TopoFault>>
     requires few { spec_faults.too_many zones.now ≡ None }
     ensures answer { AnswersBy result (spec_faults.fault_at TopoKind.Duplicate (spec_faults.duplicate zones.now)) }
-    ensures names { IfOk result (λ names. names ≡ kept.names_of zones.now) }
+    ensures names { IfOk result (λ names. names ≡ kept.names_of_zones zones.now) }
 {
     match names_of(alloc, zones) {
         Ok(names) => Ok(names),
@@ -237,8 +237,8 @@ fn names_apart(alloc: Global, zones: &[ZoneSpec]) -> Result<Names, Refusal<TopoF
 
 // The topology of lawful zones and their names.
 fn topology_of(alloc: Global, zones: ZoneSpecs, names: Names) -> Result<Topology, OutOfMemory>
-    requires lawful { IsLawful zones }
-    requires names { names ≡ kept.names_of zones }
+    requires lawful { AreLawfulZones zones }
+    requires names { names ≡ kept.names_of_zones zones }
     ensures zones { IfOk result (λ topology. topology ≡ zones) }
 {
     let spans = spans_of(alloc, zones.as_slice())?;

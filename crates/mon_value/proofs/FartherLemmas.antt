@@ -62,7 +62,8 @@ module _ {X Y : Type 0} (seen : X → Y) (own : X → ℕ) (far : Y → ℕ) (sa
       either_seen (nat_lt (own x) (own y)) x y
       ∙ (λ i. cond (nat_lt (sym (same x) i) (sym (same y) i)) (seen y) (seen x))
 
-  pub farther_each-map : (xs ys : List X) → map seen (farther_each own xs ys) ≡ farther_each far (map seen xs) (map seen ys)
+  pub farther_each-map : (xs ys : List X) → map seen (farther_each own xs ys)
+      ≡ farther_each far (map seen xs) (map seen ys)
   farther_each-map [] ys = refl
   farther_each-map (x ∷ xs) [] = refl
   farther_each-map (x ∷ xs) (y ∷ ys) = (λ i. farther-seen x y i ∷ farther_each-map xs ys i)

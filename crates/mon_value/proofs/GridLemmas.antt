@@ -6,7 +6,7 @@ use Rattle.std.proofs.lemmas.Bool.{cases_eq, cases_lt}
 use Rattle.std.specs.List.{AllByRecursion}
 use Rattle.std.proofs.lemmas.Int.{ints}
 use Rattle.mon_value.specs.declared.grids.Grid.{Grid}
-use Rattle.mon_value.specs.Grids.{IsLawful, time_count, times_back, grid_times}
+use Rattle.mon_value.specs.Grids.{IsLawfulGrid, time_count, times_back, grid_times}
 
 pub length-times_back : (n : ℕ) (t e : ℤ) → length (times_back n t e) ≡ n
 length-times_back zero t e = refl
@@ -43,7 +43,7 @@ count_some w p some more =
     ]
 
 -- each time of a grid is above `within` seconds before the moment, and at most the moment
-pub grid_between : (grid : Grid) → IsLawful grid
+pub grid_between : (grid : Grid) → IsLawfulGrid grid
     → AllByRecursion (λ time. ((grid.moment -ℤ grid.within) <ℤ time) × (time ≤ℤ grid.moment)) (grid_times grid)
 grid_between grid lawful =
     let every = lawful.every in

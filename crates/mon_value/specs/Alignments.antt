@@ -2,7 +2,7 @@
 use Rattle.std.specs.Prelude.{◌≡◌, ◌≤◌, ◌^◌, ℕ, ℤ, sum_by, length, List, [], ◌∷◌, map, Option, Some, None, option_map}
 use Rattle.std.specs.List.{AllByRecursion, flat_map}
 use Rattle.mon_value.specs.Groups.{total_of}
-use Rattle.mon_value.specs.Grids.{IsDuration, IsLawful, grid_times}
+use Rattle.mon_value.specs.Grids.{IsDuration, IsLawfulGrid, grid_times}
 use Rattle.mon_value.specs.Values.{magnitude}
 use Rattle.mon_value.specs.Windows.{window_of}
 use Rattle.mon_value.specs.declared.aligners.Aligner.{Aligner}
@@ -68,9 +68,9 @@ abbrev pub most_aligned : ℕ
 most_aligned = 2 ^ 124
 
 -- an aligner that adds meets values that can be added
-abbrev pub AreAlike : Aligner → List Point → Type 0
-AreAlike (NextOlder seconds) points = Unit {0}
-AreAlike (Delta seconds) points = CanAddAll (values_of points)
+abbrev pub CanAddUnder : Aligner → List Point → Type 0
+CanAddUnder (NextOlder seconds) points = Unit {0}
+CanAddUnder (Delta seconds) points = CanAddAll (values_of points)
 
 -- an aligner that adds meets no more than so much for a time
 abbrev pub SumFits : Aligner → List Point → ℤ → Type 0
@@ -80,6 +80,6 @@ SumFits (Delta seconds) points time = sum_by magnitude (values_of (window_of tim
 -- a series that an aligner can bring to the times of a grid
 pub record CanAlign (by : Aligner) (grid : Grid) (points : List Point) : Type 0 where
   pub looks_back : IsDuration (seconds_of by)
-  pub lawful : IsLawful grid
-  pub alike : AreAlike by points
+  pub lawful : IsLawfulGrid grid
+  pub alike : CanAddUnder by points
   pub sums : AllByRecursion (SumFits by points) (grid_times grid)

@@ -1,5 +1,5 @@
 -- Columns and what stands in them.
-use Rattle.std.specs.Prelude.{◌≡◌, ◌+◌, List, [], ◌∷◌, length}
+use Rattle.std.specs.Prelude.{◌≡◌, ◌+◌, ℕ, List, [], ◌∷◌, length, map}
 use Rattle.std.specs.List.{AllByRecursion}
 use Rattle.mon_value.specs.declared.columns.Column.{Column}
 use Rattle.mon_value.specs.declared.tables.Table.{Table}
@@ -29,3 +29,6 @@ FitColumns (column ∷ columns) (cell ∷ cells) = HasType column.of cell × Fit
 -- each row has one cell for each column
 abbrev pub IsWhole : Table → Type 0
 IsWhole table = AllByRecursion (λ row. length row.cells ≡ length table.columns) table.rows
+
+abbrev pub column_names : List Column → List (List ℕ)
+column_names columns = map (λ column. column.name) columns

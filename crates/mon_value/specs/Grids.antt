@@ -30,7 +30,7 @@ abbrev pub least_time : Grid → ℤ
 least_time grid = grid.moment -ℤ pos ((time_count grid - 1) * unsigned_abs grid.every)
 
 -- a grid that a query may have
-pub record IsLawful (grid : Grid) : Type 0 where
+pub record IsLawfulGrid (grid : Grid) : Type 0 where
   pub moment : pos 0 ≤ℤ grid.moment
   pub every : IsDuration grid.every
   pub within : IsDuration grid.within

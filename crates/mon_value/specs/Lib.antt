@@ -7,6 +7,7 @@ pub mod Farther
 pub mod Grids
 pub mod GroupConditions
 pub mod Groups
+pub mod Histories
 pub mod Joins
 pub mod Keyed
 pub mod LeafHistories
@@ -18,6 +19,7 @@ pub mod Numbers
 pub mod Order
 pub mod Parts
 pub mod Patterns
+pub mod Positions
 pub mod Rooms
 pub mod Same
 pub mod SeriesRows

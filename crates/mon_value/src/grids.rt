@@ -1,7 +1,7 @@
 // The times of a table's rows.
 ghost use Rattle.std.specs.Prelude.{◌≡◌, ◌↔◌, ◌<◌, ◌-◌, ◌*◌, ℕ, ℤ, pos, ◌-ℤ◌, ◌<ℤ◌, ◌≤ℤ◌, [], ◌∷◌, length};
 ghost use Rattle.std.specs.Prelude.{slice_index_or, unsigned_abs};
-ghost use Rattle.mon_value.specs.Grids.{grid_times, IsLawful, least_time, time_count};
+ghost use Rattle.mon_value.specs.Grids.{grid_times, IsLawfulGrid, least_time, time_count};
 
 use crate::copying::TryCopy;
 use crate::lists::ListOf;
@@ -46,14 +46,14 @@ impl TryCopy for TimedValue {
 /// whole number of steps before it. A grid whose step is as long as its reach has its moment alone.
 pub fn grids_reach_back()
     ensures number { (grid : Grid) → length (grid_times grid) ≡ time_count grid }
-    ensures steps { (grid : Grid) (k : ℕ) (d : ℤ) → IsLawful grid → k < time_count grid
+    ensures steps { (grid : Grid) (k : ℕ) (d : ℤ) → IsLawfulGrid grid → k < time_count grid
         → slice_index_or (grid_times grid) k d ≡ grid.moment -ℤ pos (k * unsigned_abs grid.every) }
-    ensures reach { (grid : Grid) (k : ℕ) → IsLawful grid → (k < time_count grid)
+    ensures reach { (grid : Grid) (k : ℕ) → IsLawfulGrid grid → (k < time_count grid)
         ↔ ((grid.moment -ℤ grid.within) <ℤ (grid.moment -ℤ pos (k * unsigned_abs grid.every))) }
     ensures once { (grid : Grid) → grid.every ≡ grid.within → pos 1 ≤ℤ grid.within
         → grid_times grid ≡ grid.moment ∷ [] }
-    ensures least { (grid : Grid) (k : ℕ) (d : ℤ) → IsLawful grid → k < time_count grid
+    ensures least { (grid : Grid) (k : ℕ) (d : ℤ) → IsLawfulGrid grid → k < time_count grid
         → least_time grid ≤ℤ slice_index_or (grid_times grid) k d }
-    ensures last { (grid : Grid) (d : ℤ) → IsLawful grid
+    ensures last { (grid : Grid) (d : ℤ) → IsLawfulGrid grid
         → slice_index_or (grid_times grid) (time_count grid - 1) d ≡ least_time grid }
 {}

@@ -68,6 +68,12 @@ pub enum RangeEntry {
 /// A range's history, oldest entry first.
 pub type RangeEntries = ListOf<RangeEntry>;
 
+/// One history for each leaf and one for each range. No value of it is made: contracts alone speak of them.
+pub struct Histories {
+    pub leaves: ListOf<Entries>,
+    pub ranges: ListOf<RangeEntries>,
+}
+
 impl TryCopy for Miss {
     fn copy(&self, _alloc: Global) -> Result<Miss, AllocError> {
         Ok(*self)

@@ -22,5 +22,8 @@ pub const SUM_BITS: u32 = 87;
 /// most 2 to that power.
 pub const WIDEST_SUM: u32 = 126;
 
+/// The most buckets of hints. A number of buckets is a power of two.
+pub const MOST_BUCKETS: u32 = 4_096;
+
 /// The most times that a leaf goes down or comes up.
 pub const MOST_SWITCHES: u64 = 65_536;

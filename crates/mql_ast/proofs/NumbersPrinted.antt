@@ -174,8 +174,8 @@ positive_printed most n one low small s rest e f =
     (behind t).bytes else None) f.is
     ∙ positive_here most n f.at rest one low small e
 
-abbrev number_of : ℕ → Rest → Option (ℕ × Rest)
-number_of most t = if head t == 48 then Some (0, behind t) else (if is_digit (head t)
+abbrev number_read : ℕ → Rest → Option (ℕ × Rest)
+number_read most t = if head t == 48 then Some (0, behind t) else (if is_digit (head t)
     && not (head t == 48) then digits_from most (head t - 48) (behind t).at (behind t).bytes else None)
 
 number_here : (t : Bool) (most n at : ℕ) (rest : List ℕ) → (n == 0) ≡ t → n ≤ most → n < 2 ^ 64
@@ -185,7 +185,7 @@ number_here true most n at rest z low small e =
     let none : n ≡ 0 = eqb-true n 0 z in
     let is : decimal n ≡ 48 ∷ [] = ap decimal none ∙ decimal_digit 0 (omega arith) in
     ap (λ t. number_at most (record { at = at; bytes = t ++ rest })) is
-    ∙ ap (λ t. number_of most t) (no_blank at 48 rest refl)
+    ∙ ap (λ t. number_read most t) (no_blank at 48 rest refl)
     ∙ ap (λ m. Some (m, rest_behind at (48 ∷ []) rest)) (sym none)
     ∙ ap (λ t. Some (n, rest_behind at t rest)) (sym is)
 number_here false most n at rest z low small e =
@@ -265,7 +265,7 @@ signed_here (negsuc n) (below low) at rest e =
 signed_from : (s t : Rest) → skip s ≡ skip t → signed_at s ≡ signed_at t
 signed_from s t h =
     ap (λ u. if head u == 45 then option_and_then (λ n. Some (minus n.0, n.1)) (number_at (2 ^ 63) (behind u))
-    else option_and_then (λ n. Some (pos n.0, n.1)) (number_of (2 ^ 63 - 1) u)) h
+    else option_and_then (λ n. Some (pos n.0, n.1)) (number_read (2 ^ 63 - 1) u)) h
 
 pub signed_printed : (z : ℤ) → InRange z → (s : Rest) (rest : List ℕ) → is_digit (first_of rest) ≡ false
     → (f : From s (signed_decimal z ++ rest)) →

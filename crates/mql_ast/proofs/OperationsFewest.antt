@@ -8,7 +8,7 @@ use Rattle.mql_ast.specs.declared.operations.FoldWord.{FoldWord}
 use Rattle.mql_ast.specs.declared.operations.FoldWord.TheVariants as fold
 use Rattle.mql_ast.specs.Rests.{Rest, skip}
 use Rattle.mql_ast.specs.Trees.{ItemTree, DeedTree, OpTree}
-use Rattle.mql_ast.specs.Printed.{separated, comma, name_text, sum_text, predicate_text, item_text, fold_text}
+use Rattle.mql_ast.specs.Printed.{separated_texts, comma, name_text, sum_text, predicate_text, item_text, fold_text}
 use Rattle.mql_ast.specs.Printed.{aggregate_text, duration_text, deed_text, ops_text}
 use Rattle.mql_ast.specs.Grammar.{NameList, one_name, more_names, Grouping, no_names, some_names, fold_named, Folded}
 use Rattle.mql_ast.specs.Grammar.{counted, folded, Folding, unnamed, named, FoldingList, one_folding, more_foldings}
@@ -27,27 +27,29 @@ comma_bare : IsBare comma
 unfolding parentheses
 comma_bare = refl
 
-one_text : (A : Type 0) (text : A → List ℕ) (x : A) → parentheses (separated comma (map text (x ∷ []))) ≡ parentheses
+one_text : (A : Type 0) (text : A → List ℕ) (x : A) → parentheses (separated_texts comma (map text (x ∷ [])))
+    ≡ parentheses
     (text x)
 one_text A text x = omega (arith, parentheses_append (text x) [], no_parentheses)
 
 more_text : (A : Type 0) (text : A → List ℕ) (xs : List A) (x : A) → (xs ≡ [] → ⊥)
-    → parentheses (separated comma (map text (xs ++ x ∷ []))) ≡ parentheses (separated comma (map text xs))
+    → parentheses (separated_texts comma (map text (xs ++ x ∷ []))) ≡ parentheses (separated_texts comma (map text xs))
     + parentheses (text x)
-more_text A text xs x some = ap parentheses (separated_push A text xs x some) ∙ between (separated comma (map text xs))
+more_text A text xs x some = ap parentheses (separated_push A text xs x some)
+    ∙ between (separated_texts comma (map text xs))
     comma (text x) comma_bare
 
 -- a bare text before another
 pub after_bare : (a b : List ℕ) → parentheses a ≡ 0 → parentheses (a ++ b) ≡ parentheses b
 after_bare a b h = omega (arith, parentheses_append a b, h)
 
-names_left : {s r : Rest} {ns : List Name} → NameList s r ns → parentheses (separated comma (map name_text ns))
+names_left : {s r : Rest} {ns : List Name} → NameList s r ns → parentheses (separated_texts comma (map name_text ns))
     + left r ≤ left s
 names_left {s = s} {r = r} (one_name {n = n} e) = omega (arith, one_text Name name_text n, name_left s r n e)
 names_left {r = r} (more_names {m = m} {k = k} {ns = ns} {n = n} L g e) =
     omega (arith, more_text Name name_text ns n (names_some L), names_left L, sign_left 44 m k g, name_left k r n e)
 
-grouping_left : {s r : Rest} {ns : List Name} → Grouping s r ns → parentheses (separated comma (map name_text ns))
+grouping_left : {s r : Rest} {ns : List Name} → Grouping s r ns → parentheses (separated_texts comma (map name_text ns))
     + left r ≤ left s
 grouping_left {s = s} {r = r} (no_names {m = m} g h) =
     omega (arith, no_parentheses, sign_left 91 s m g, sign_left 93 m r h)
@@ -94,7 +96,7 @@ folding_left {s = s} (named {m = m} {k = k} {j = j} {n = n} {w = w} {c = c} e g 
     )
 
 foldings_left : {s r : Rest} {xs : List Aggregate} → FoldingList s r xs
-    → parentheses (separated comma (map aggregate_text xs)) + left r ≤ left s
+    → parentheses (separated_texts comma (map aggregate_text xs)) + left r ≤ left s
 foldings_left (one_folding {a = a} e) = omega (arith, one_text Aggregate aggregate_text a, folding_left e)
 foldings_left (more_foldings {m = m} {k = k} {as' = xs} {a = a} L g e) =
     omega (
@@ -111,7 +113,7 @@ item_left {s = s} (labelled {m = m} {k = k} {n = n} {e = e} h g S) =
     omega (arith, labelled_text n.text (sum_text false e), name_left s m n h, sign_left 58 m k g, sum_left S)
 
 items_left : {d : ℕ} {s r : Rest} {xs : List ItemTree} → ItemList d s r xs
-    → parentheses (separated comma (map item_text xs)) + left r ≤ left s
+    → parentheses (separated_texts comma (map item_text xs)) + left r ≤ left s
 items_left (one_item {i = i} e) = omega (arith, one_text ItemTree item_text i, item_left e)
 items_left (more_items {m = m} {k = k} {items = xs} {i = i} L g e) =
     omega (arith, more_text ItemTree item_text xs i (items_some L), items_left L, sign_left 44 m k g, item_left e)
@@ -200,8 +202,8 @@ deed_left {s = s} {r = r} (align_next_older {m = m} {k = k} {j = j} {i = i} {z =
       sign_left 41 i r c,
     )
 deed_left {s = s} (group_by {m = m} {k = k} {j = j} {ns = ns} {as' = xs} w G g L) =
-    let names = separated comma (map name_text ns) in
-    let folds = separated comma (map aggregate_text xs) in
+    let names = separated_texts comma (map name_text ns) in
+    let folds = separated_texts comma (map aggregate_text xs) in
     omega (
       arith,
       after_bare (codes "group_by [") (names ++ (codes "], " ++ folds)) group_by_bare,
@@ -214,7 +216,7 @@ deed_left {s = s} (group_by {m = m} {k = k} {j = j} {ns = ns} {as' = xs} w G g L
 deed_left {s = s} {r = r} (value {m = m} {k = k} {j = j} {items = xs} w g L c) =
     omega (
       arith,
-      closed_text (codes "value [") (separated comma (map item_text xs)) 93 refl,
+      closed_text (codes "value [") (separated_texts comma (map item_text xs)) 93 refl,
       value_bare,
       word_left (codes "value") s m w,
       sign_left 91 m k g,

@@ -10,11 +10,11 @@ use Rattle.mql_ast.specs.declared.operations.FoldWord.{FoldWord}
 use Rattle.mql_ast.specs.declared.operations.FoldWord.TheVariants as fold
 use Rattle.mql_ast.specs.Bytes.{is_letter}
 use Rattle.mql_ast.specs.Rests.{Rest, first_of, skip}
-use Rattle.mql_ast.specs.Tokens.{word_at, name_at}
+use Rattle.mql_ast.specs.Tokens.{keyword_at, name_at}
 use Rattle.mql_ast.specs.Trees as tree
-use Rattle.mql_ast.specs.Trees.{SumTree, ItemTree, DeedTree, OpTree}
+use Rattle.mql_ast.specs.Trees.{ItemTree, DeedTree, OpTree}
 use Rattle.mql_ast.specs.Places.{name_content, label_content, item_content, aggregate_content, deed_content, op_content}
-use Rattle.mql_ast.specs.Printed.{separated, comma, name_text, sum_text, predicate_text, item_text, fold_text}
+use Rattle.mql_ast.specs.Printed.{separated_texts, comma, name_text, sum_text, predicate_text, item_text, fold_text}
 use Rattle.mql_ast.specs.Printed.{column_text, aggregate_text, duration_text, deed_text, ops_text}
 use Rattle.mql_ast.specs.Grammar.{NameList, one_name, more_names, Grouping, no_names, some_names, fold_named, Folded}
 use Rattle.mql_ast.specs.Grammar.{counted, folded, Folding, unnamed, named, FoldingList, one_folding, more_foldings}
@@ -45,7 +45,7 @@ names_some (one_name e) h = cc
 names_some (more_names {ns = ns} {n = n} L g e) h = push_is_some Name ns n h
 
 names_part : {s r : Rest} {ns : List Name} → NameList s r ns → Prints (List Name) NameList (map name_content) ns
-    (separated comma (map name_text ns))
+    (separated_texts comma (map name_text ns))
 names_part {s = s} {r = r} (one_name {n = n} e) = one_printed Name NameHere NameList name_content name_text
     (λ q t x h. one_name h) n (name_part s r n e)
 names_part {r = r} (more_names {k = k} {ns = ns} {n = n} L g e) =
@@ -144,7 +144,7 @@ folding_part {s = s} (named {m = m} {n = n} {w = w} {c = c} e g h F) q rest ends
       }) x.same;
       spelled = named (name_printed n.text (name_lawful s m n e) q (58 ∷ 32 ∷ last) refl f)
           (sign_printed 58 refl refl i j.bytes (here i.at i.bytes))
-          (ap (λ t. word_at t j) (fold_same w) ∙ word_printed word (fold_letter w) j (folded_text c ++ rest) b)
+          (ap (λ t. keyword_at t j) (fold_same w) ∙ word_printed word (fold_letter w) j (folded_text c ++ rest) b)
           x.spelled;
     }
 
@@ -153,7 +153,7 @@ foldings_some (one_folding e) h = cc
 foldings_some (more_foldings {as' = xs} {a = x} L g e) h = push_is_some Aggregate xs x h
 
 foldings_part : {s r : Rest} {xs : List Aggregate} → FoldingList s r xs → Prints (List Aggregate) FoldingList
-    (map aggregate_content) xs (separated comma (map aggregate_text xs))
+    (map aggregate_content) xs (separated_texts comma (map aggregate_text xs))
 foldings_part (one_folding {a = a} e) = one_printed Aggregate Folding FoldingList aggregate_content aggregate_text
     (λ q t x h. one_folding h) a (folding_part e)
 foldings_part (more_foldings {as' = xs} {a = a} L g e) =
@@ -192,7 +192,7 @@ items_some (one_item e) h = cc
 items_some (more_items {items = xs} {i = x} L g e) h = push_is_some ItemTree xs x h
 
 items_part : {d : ℕ} {s r : Rest} {xs : List ItemTree} → ItemList d s r xs → (k : ℕ) → d ≤ k → Prints (List ItemTree)
-    (ItemList k) (map item_content) xs (separated comma (map item_text xs))
+    (ItemList k) (map item_content) xs (separated_texts comma (map item_text xs))
 items_part (one_item {i = i} e) k h = one_printed ItemTree (ItemOf k) (ItemList k) item_content item_text
     (λ q t x f. one_item f) i (item_part e k h)
 items_part (more_items {items = xs} {i = i} L g e) k h =
@@ -202,7 +202,7 @@ items_part (more_items {items = xs} {i = i} L g e) k h =
 -- names in brackets
 grouping_part : {s r : Rest} {ns : List Name} → Grouping s r ns → (at : ℕ) (rest : List ℕ) →
     Spelled (List Name) Grouping (map name_content)
-    (record { at = at; bytes = 32 ∷ 91 ∷ (separated comma (map name_text ns) ++ (93 ∷ rest)) }) ns rest
+    (record { at = at; bytes = 32 ∷ 91 ∷ (separated_texts comma (map name_text ns) ++ (93 ∷ rest)) }) ns rest
 grouping_part (no_names g h) at rest =
     let s : Rest = record { at = at; bytes = 32 ∷ 91 ∷ 93 ∷ rest } in
     let m : Rest = record { at = at + 1 + 1; bytes = 93 ∷ rest } in
@@ -214,7 +214,7 @@ grouping_part (no_names g h) at rest =
           (behind_blank at (91 ∷ m.bytes))) (sign_printed 93 refl refl m rest (here m.at m.bytes));
     }
 grouping_part (some_names {ns = ns} g L h) at rest =
-    let text = separated comma (map name_text ns) in
+    let text = separated_texts comma (map name_text ns) in
     let m : Rest = record { at = at + 1 + 1; bytes = text ++ (93 ∷ rest) } in
     let s : Rest = record { at = at; bytes = 32 ∷ 91 ∷ m.bytes } in
     let x = names_part L m (93 ∷ rest) refl (here m.at m.bytes) in
@@ -274,8 +274,8 @@ next_older_part d z duration s rest ends from =
 group_by_part : {m k j r : Rest} {ns : List Name} {xs : List Aggregate} → Grouping m k ns → FoldingList j r xs
     → (d : ℕ) → DeedPrints d (tree.GroupBy ns xs)
 group_by_part {ns = ns} {xs = xs} G L d s rest ends from =
-    let names = separated comma (map name_text ns) in
-    let folds = separated comma (map aggregate_text xs) in
+    let names = separated_texts comma (map name_text ns) in
+    let folds = separated_texts comma (map aggregate_text xs) in
     let last = folds ++ rest in
     let f = regrouped from (ap (λ t. codes "group_by [" ++ t) (append_assoc names (codes "], " ++ folds) rest)) in
     let m = rest_behind f.at (codes "group_by") (32 ∷ 91 ∷ (names ++ (93 ∷ 44 ∷ 32 ∷ last))) in
@@ -294,7 +294,7 @@ group_by_part {ns = ns} {xs = xs} G L d s rest ends from =
 value_part : {e : ℕ} {k j : Rest} {xs : List ItemTree} → ItemList e k j xs → (d : ℕ) → e ≤ d
     → DeedPrints d (tree.Value xs)
 value_part {xs = xs} L d h s rest ends from =
-    let items = separated comma (map item_text xs) in
+    let items = separated_texts comma (map item_text xs) in
     let f = regrouped from (ap (λ t. codes "value [" ++ t) (append_assoc items (codes "]") rest)) in
     let m = rest_behind f.at (codes "value") (32 ∷ 91 ∷ (items ++ (93 ∷ rest))) in
     let k : Rest = record { at = m.at + 1 + 1; bytes = items ++ (93 ∷ rest) } in

@@ -9,7 +9,8 @@ use Rattle.mon_value.specs.Texts.{text_in}
 use Rattle.mql_ast.specs.Rests.{Rest}
 use Rattle.mql_ast.specs.Tokens.{sign_at}
 use Rattle.mql_ast.specs.Printed as printed
-use Rattle.mql_ast.specs.Printed.{sign_text, escaped, is_text_mark, is_pattern_mark, quoted, separated, pattern_signs}
+use Rattle.mql_ast.specs.Printed.{sign_text, escaped_text, is_text_mark, is_pattern_mark, quotation}
+use Rattle.mql_ast.specs.Printed.{pattern_signs}
 use Rattle.mql_ast.specs.Quotes.{Open, Whole, Escape, More, begins_character, further, Sign, Plain, Dot, Backslash}
 use Rattle.mql_ast.specs.Quotes.{is_mark, PatternStep, PatternEnd, PatternCut, PatternPass, PatternKeep, PatternUnfit}
 use Rattle.mql_ast.specs.Quotes.{PatternBad, kept_sign, unfit, pattern_step, with_piece, after_pattern_step}
@@ -183,19 +184,21 @@ pattern_lawful s r pieces h =
 
 -- a byte of a piece as it stands in the quotes
 abbrev sign_bytes : ℕ → List ℕ
-sign_bytes b = escaped is_text_mark (sign_text is_pattern_mark b)
+sign_bytes b = escaped_text is_text_mark (sign_text is_pattern_mark b)
 
-escaped_join : (marks : ℕ → Bool) (a b : List ℕ) → escaped marks (a ++ b) ≡ escaped marks a ++ escaped marks b
+escaped_join : (marks : ℕ → Bool) (a b : List ℕ) → escaped_text marks (a ++ b) ≡ escaped_text marks a
+    ++ escaped_text marks b
 escaped_join marks [] b = refl
 escaped_join marks (c ∷ a) b = ap (λ t. sign_text marks c ++ t) (escaped_join marks a b)
-    ∙ sym (append_assoc (sign_text marks c) (escaped marks a) (escaped marks b))
+    ∙ sym (append_assoc (sign_text marks c) (escaped_text marks a) (escaped_text marks b))
 
 -- those bytes, by whether the byte is a mark of patterns and of texts
 abbrev by_marks : Bool → Bool → ℕ → List ℕ
 by_marks p t b = if p then 92 ∷ 92 ∷ ((if t then 92 ∷ b ∷ [] else b ∷ []) ++ [])
     else (if t then 92 ∷ b ∷ [] else b ∷ []) ++ []
 
-marked : (p : Bool) (b : ℕ) → escaped is_text_mark (if p then 92 ∷ b ∷ [] else b ∷ []) ≡ by_marks p (is_text_mark b) b
+marked : (p : Bool) (b : ℕ) → escaped_text is_text_mark (if p then 92 ∷ b ∷ [] else b ∷ [])
+    ≡ by_marks p (is_text_mark b) b
 marked true b = refl
 marked false b = refl
 
@@ -285,7 +288,7 @@ piece_byte u next b pieces content at rest g c =
 
 -- a piece as it stands in the quotes
 abbrev piece_bytes : List ℕ → List ℕ
-piece_bytes piece = escaped is_text_mark (escaped is_pattern_mark piece)
+piece_bytes piece = escaped_text is_text_mark (escaped_text is_pattern_mark piece)
 
 piece_again : (u : Open) (p : List ℕ) (pieces : List (List ℕ)) (content : List ℕ) (at : ℕ) (rest : List ℕ) → Good u
     → Runs u p →
@@ -295,7 +298,7 @@ piece_again u [] pieces content at rest g r =
     ap (λ v. pattern_from v Plain pieces content at rest) r ∙ ap (λ t. pattern_from Whole Plain pieces t at rest)
     (sym (append-nil content))
 piece_again u (b ∷ bs) pieces content at rest g r =
-    let join = escaped_join is_text_mark (sign_text is_pattern_mark b) (escaped is_pattern_mark bs) in
+    let join = escaped_join is_text_mark (sign_text is_pattern_mark b) (escaped_text is_pattern_mark bs) in
     let i = place_behind at (sign_bytes b) in
     ap (λ t. pattern_from u Plain pieces content at (t ++ rest)) join
     ∙ ap (λ t. pattern_from u Plain pieces content at t) (append_assoc (sign_bytes b) (piece_bytes bs) rest)
@@ -308,10 +311,10 @@ piece_again u (b ∷ bs) pieces content at rest g r =
 
 -- the signs behind a piece
 abbrev signs_behind : List (List ℕ) → List ℕ
-signs_behind pieces = printed.behind (codes ".*") (map (escaped is_pattern_mark) pieces)
+signs_behind pieces = printed.each_behind (codes ".*") (map (escaped_text is_pattern_mark) pieces)
 
 abbrev ends_at : ℕ → List ℕ → List ℕ → Rest
-ends_at at signs rest = record { at = place_behind at (escaped is_text_mark signs) + 1; bytes = rest }
+ends_at at signs rest = record { at = place_behind at (escaped_text is_text_mark signs) + 1; bytes = rest }
 
 piece_closed : (p : List ℕ) (before : List (List ℕ)) (go : List (List ℕ) → Option (List (List ℕ) × Rest)) → is_utf8 p
     ≡ true → with_piece (text_in p) before go ≡ go (before ++ p ∷ [])
@@ -319,42 +322,43 @@ piece_closed p before go h = ap (λ o. with_piece o before go) (if_true (is_utf8
 
 pieces_again : (others : List (List ℕ)) (p : List ℕ) (before : List (List ℕ)) (at : ℕ) (rest : List ℕ) → IsPiece p
     → ArePieces others →
-    pattern_from Whole Plain before [] at (escaped is_text_mark (escaped is_pattern_mark p ++ signs_behind others)
+    pattern_from Whole Plain before [] at
+    (escaped_text is_text_mark (escaped_text is_pattern_mark p ++ signs_behind others)
     ++ (34 ∷ rest)) ≡ Some
-    (before ++ p ∷ others, ends_at at (escaped is_pattern_mark p ++ signs_behind others) rest)
+    (before ++ p ∷ others, ends_at at (escaped_text is_pattern_mark p ++ signs_behind others) rest)
 pieces_again [] p before at rest piece all =
-    let same = ap (escaped is_text_mark) (append-nil (escaped is_pattern_mark p)) in
+    let same = ap (escaped_text is_text_mark) (append-nil (escaped_text is_pattern_mark p)) in
     let i = place_behind at (piece_bytes p) in
     ap (λ t. pattern_from Whole Plain before [] at (t ++ (34 ∷ rest))) same
     ∙ piece_again Whole p before [] at (34 ∷ rest) tt piece.runs
     ∙ piece_closed p before (with_end (record { at = i + 1; bytes = rest })) piece.utf8
     ∙ ap (λ t. Some (before ++ p ∷ [], record { at = place_behind at t + 1; bytes = rest })) (sym same)
 pieces_again (q ∷ qs) p before at rest piece all =
-    let signs = escaped is_pattern_mark q ++ signs_behind qs in
-    let join = escaped_join is_text_mark (escaped is_pattern_mark p) (46 ∷ 42 ∷ signs) in
-    let tail = escaped is_text_mark signs ++ (34 ∷ rest) in
+    let signs = escaped_text is_pattern_mark q ++ signs_behind qs in
+    let join = escaped_join is_text_mark (escaped_text is_pattern_mark p) (46 ∷ 42 ∷ signs) in
+    let tail = escaped_text is_text_mark signs ++ (34 ∷ rest) in
     let i = place_behind at (piece_bytes p) in
     ap (λ t. pattern_from Whole Plain before [] at (t ++ (34 ∷ rest))) join
     ∙ ap (λ t. pattern_from Whole Plain before [] at t)
-    (append_assoc (piece_bytes p) (46 ∷ 42 ∷ escaped is_text_mark signs) (34 ∷ rest))
+    (append_assoc (piece_bytes p) (46 ∷ 42 ∷ escaped_text is_text_mark signs) (34 ∷ rest))
     ∙ piece_again Whole p before [] at (46 ∷ 42 ∷ tail) tt piece.runs
     ∙ piece_closed p before (λ ps. pattern_from Whole Plain ps [] (i + 1 + 1) tail) piece.utf8
     ∙ pieces_again qs q (before ++ p ∷ []) (i + 1 + 1) rest all.0 all.1
     ∙ ap (λ ps. Some (ps, ends_at (i + 1 + 1) signs rest)) (append_assoc before (p ∷ []) (q ∷ qs))
     ∙ ap (λ n. Some (before ++ p ∷ q ∷ qs, record { at = n + 1; bytes = rest }))
-    (sym (ap (place_behind at) join ∙ place_join at (piece_bytes p) (46 ∷ 42 ∷ escaped is_text_mark signs)))
+    (sym (ap (place_behind at) join ∙ place_join at (piece_bytes p) (46 ∷ 42 ∷ escaped_text is_text_mark signs)))
 
 -- a pattern that is printed here is read
 pub pattern_printed : (pieces : List (List ℕ)) → IsPattern pieces → (s : Rest) (rest : List ℕ)
-    → (f : From s (quoted (pattern_signs pieces) ++ rest)) →
-    pattern_at s ≡ Some (pieces, rest_behind f.at (quoted (pattern_signs pieces)) rest)
+    → (f : From s (quotation (pattern_signs pieces) ++ rest)) →
+    pattern_at s ≡ Some (pieces, rest_behind f.at (quotation (pattern_signs pieces)) rest)
 pattern_printed pieces p s rest f =
     let signs = pattern_signs (p.first ∷ p.others) in
-    let bytes = escaped is_text_mark signs in
-    let g = regrouped f (ap (λ ps. quoted (pattern_signs ps) ++ rest) p.is ∙ ap (λ t. 34 ∷ t)
+    let bytes = escaped_text is_text_mark signs in
+    let g = regrouped f (ap (λ ps. quotation (pattern_signs ps) ++ rest) p.is ∙ ap (λ t. 34 ∷ t)
     (append_assoc bytes (34 ∷ []) rest)) in
     ap (λ o. option_and_then (λ quote. pattern_from Whole Plain [] [] quote.at quote.bytes) o)
     (sign_printed 34 refl refl s (bytes ++ (34 ∷ rest)) g)
     ∙ pieces_again p.others p.first [] (f.at + 1) rest p.lawful.0 p.lawful.1
     ∙ ap (λ n. Some (p.first ∷ p.others, record { at = n; bytes = rest })) (sym (place_push (f.at + 1) 34 bytes))
-    ∙ ap (λ ps. Some (ps, rest_behind f.at (quoted (pattern_signs ps)) rest)) (sym p.is)
+    ∙ ap (λ ps. Some (ps, rest_behind f.at (quotation (pattern_signs ps)) rest)) (sym p.is)

@@ -12,7 +12,7 @@ use Rattle.mql_ast.specs.Trees.{branches}
 use Rattle.mql_ast.specs.Places.{name_content, label_content, sum_content, predicate_content, item_content}
 use Rattle.mql_ast.specs.Places.{aggregate_content, deed_content, op_content, pipe_content, source_content}
 use Rattle.mql_ast.specs.Places.{branches_content}
-use Rattle.mql_ast.specs.Printed.{separated, comma, in_parentheses, name_text, label_text, column_text, fold_text}
+use Rattle.mql_ast.specs.Printed.{separated_texts, comma, in_parentheses, name_text, label_text, column_text, fold_text}
 use Rattle.mql_ast.specs.Printed.{sum_text, predicate_text, item_text, aggregate_text, deed_text, ops_text, how_text}
 use Rattle.mql_ast.specs.Printed.{pipe_text, source_text, branches_text, further_text}
 use Rattle.mql_ast.specs.Grammar.{how_word, Pipe, flow, Source, fetch, join, PipeList, two_pipes, more_pipes}
@@ -151,10 +151,10 @@ deed_kept : (what : DeedTree) → deed_text (deed_content what) ≡ deed_text wh
 deed_kept (tree.Filter p) = ap (λ t. codes "filter " ++ t) (predicate_kept 0 p)
 deed_kept (tree.Align by) = refl
 deed_kept (tree.GroupBy ns xs) =
-    both (λ a b. codes "group_by [" ++ (separated comma a ++ (codes "], " ++ separated comma b)))
+    both (λ a b. codes "group_by [" ++ (separated_texts comma a ++ (codes "], " ++ separated_texts comma b)))
     (texts_kept Name name_text name_content (λ n. refl) ns) (texts_kept Aggregate aggregate_text aggregate_content
     aggregate_kept xs)
-deed_kept (tree.Value xs) = ap (λ a. codes "value [" ++ (separated comma a ++ codes "]"))
+deed_kept (tree.Value xs) = ap (λ a. codes "value [" ++ (separated_texts comma a ++ codes "]"))
     (texts_kept ItemTree item_text item_content item_kept xs)
 deed_kept (tree.Top n c) = refl
 deed_kept (tree.Every z) = refl

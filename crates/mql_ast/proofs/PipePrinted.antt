@@ -7,9 +7,9 @@ use Rattle.mql_ast.specs.declared.pipes.How.{How}
 use Rattle.mql_ast.specs.declared.pipes.How.TheVariants as how
 use Rattle.mql_ast.specs.Bytes.{is_letter}
 use Rattle.mql_ast.specs.Rests.{Rest, first_of, skip}
-use Rattle.mql_ast.specs.Tokens.{word_at}
+use Rattle.mql_ast.specs.Tokens.{keyword_at}
 use Rattle.mql_ast.specs.Trees as tree
-use Rattle.mql_ast.specs.Trees.{OpTree, PipeTree, SourceTree, BranchTrees, branches}
+use Rattle.mql_ast.specs.Trees.{OpTree, PipeTree, SourceTree, branches}
 use Rattle.mql_ast.specs.Places.{pipe_content, source_content, branches_content, SpellsButForPlaces}
 use Rattle.mql_ast.specs.Printed.{ops_text, how_text, pipe_text, source_text, branches_text, further_text}
 use Rattle.mql_ast.specs.Grammar.{start, levels, SpellsAtLength, how_word, Pipe, flow, Source, fetch, join, PipeList}
@@ -39,7 +39,7 @@ how_letter : (h : How) → is_letter (first_of (how_text h)) ≡ true
 how_letter how.Join = refl
 how_letter how.Union = refl
 
-colons : (at : ℕ) (bytes : List ℕ) → word_at (codes "::") (record { at = at; bytes = 58 ∷ 58 ∷ bytes })
+colons : (at : ℕ) (bytes : List ℕ) → keyword_at (codes "::") (record { at = at; bytes = 58 ∷ 58 ∷ bytes })
     ≡ Some (record { at = at + 1 + 1; bytes = bytes })
 unfolding skip
 colons at bytes = refl
@@ -109,7 +109,7 @@ join_part d at how_at ps h list s rest ends from =
       same = ap (λ all. tree.Branches 0 all h 0) (branches_of a.placed ∙ ap branches a.same ∙ sym (branches_of ps));
       spelled = join (sign_printed 123 refl refl s m.bytes f) a.spelled (sign_printed 125 refl refl k j.bytes
           (here k.at k.bytes)) (sign_printed 124 refl refl j i.bytes (behind_blank j.at (124 ∷ i.bytes)))
-          (ap (λ t. word_at t i) (how_same h) ∙ word_printed (how_text h) (how_letter h) i rest b);
+          (ap (λ t. keyword_at t i) (how_same h) ∙ word_printed (how_text h) (how_letter h) i rest b);
     }
 
 two_part : (d : ℕ) (p q : PipeTree) → PipePrints d p → PipePrints d q → ListPrints d (p ∷ q ∷ [])

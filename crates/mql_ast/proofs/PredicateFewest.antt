@@ -10,17 +10,18 @@ use Rattle.mql_ast.specs.declared.predicates.Comparison.{Comparison}
 use Rattle.mql_ast.specs.declared.predicates.Comparison.TheVariants as comparison
 use Rattle.mql_ast.specs.Bytes.{is_digit}
 use Rattle.mql_ast.specs.Rests.{Rest, head, behind, skip}
-use Rattle.mql_ast.specs.Tokens.{sign_at, word_at, signed_at}
+use Rattle.mql_ast.specs.Tokens.{sign_at, keyword_at, signed_at}
 use Rattle.mql_ast.specs.Trees as tree
 use Rattle.mql_ast.specs.Trees.{SumTree, PredicateTree}
 use Rattle.mql_ast.specs.Printed as printed
-use Rattle.mql_ast.specs.Printed.{sign_text, escaped, is_text_mark, is_pattern_mark, quoted, pattern_signs, value_text}
+use Rattle.mql_ast.specs.Printed.{sign_text, escaped_text, is_text_mark, is_pattern_mark, quotation, pattern_signs}
+use Rattle.mql_ast.specs.Printed.{value_text}
 use Rattle.mql_ast.specs.Printed.{comparison_text, predicate_text, sum_text, share_text}
 use Rattle.mql_ast.specs.Quotes.{Open, Whole, TextStep, TextEnd, TextPass, TextKeep, TextBad, text_step}
 use Rattle.mql_ast.specs.Quotes.{after_text_step, text_from, text_at, Sign, Plain, PatternStep, PatternEnd, PatternCut}
 use Rattle.mql_ast.specs.Quotes.{PatternPass, PatternKeep, PatternUnfit, PatternBad, pattern_step, after_pattern_step}
 use Rattle.mql_ast.specs.Quotes.{pattern_from, pattern_at}
-use Rattle.mql_ast.specs.Grammar.{or_equal, and_equal, comparison_at, value_at, Sum, one_term, plus, minus, Term}
+use Rattle.mql_ast.specs.Grammar.{or_equal, and_equal, comparison_at, literal_at, Sum, one_term, plus, minus, Term}
 use Rattle.mql_ast.specs.Grammar.{column, number, percentile, sum_in_parentheses, Disjunction, one_conjunction, or}
 use Rattle.mql_ast.specs.Grammar.{Conjunction, one_negation, and, Negation, not, in_parentheses, compare, like}
 use Rattle.mql_ast.specs.Parentheses.{parentheses}
@@ -54,20 +55,20 @@ sign_same : (b : ℕ) (t : Bool) → parentheses (if t then 92 ∷ b ∷ [] else
 sign_same b true = other_byte 92 (b ∷ []) refl
 sign_same b false = refl
 
-escaped_same : (marks : ℕ → Bool) (bytes : List ℕ) → parentheses (escaped marks bytes) ≡ parentheses bytes
+escaped_same : (marks : ℕ → Bool) (bytes : List ℕ) → parentheses (escaped_text marks bytes) ≡ parentheses bytes
 escaped_same marks [] = refl
 escaped_same marks (b ∷ bs) =
     omega (
       arith,
-      parentheses_append (sign_text marks b) (escaped marks bs),
+      parentheses_append (sign_text marks b) (escaped_text marks bs),
       sign_same b (marks b),
       escaped_same marks bs,
       parentheses_append (b ∷ []) bs,
     )
 
-quoted_same : (bytes : List ℕ) → parentheses (quoted bytes) ≡ parentheses bytes
+quoted_same : (bytes : List ℕ) → parentheses (quotation bytes) ≡ parentheses bytes
 quoted_same bytes =
-    let signs = escaped is_text_mark bytes in
+    let signs = escaped_text is_text_mark bytes in
     omega (
       arith,
       other_byte 34 (signs ++ 34 ∷ []) refl,
@@ -107,7 +108,7 @@ text_from_left u content at (b ∷ bs) text r h =
     text_on (text_step u b) b (record { at = at + 1; bytes = bs }) r content text (λ next more. text_from next more
     (at + 1) bs) (λ next more e. text_from_left next more (at + 1) bs text r e) h
 
-text_left : (s r : Rest) (text : List ℕ) → text_at s ≡ Some (text, r) → parentheses (quoted text) + left r ≤ left s
+text_left : (s r : Rest) (text : List ℕ) → text_at s ≡ Some (text, r) → parentheses (quotation text) + left r ≤ left s
 text_left s r text h =
     let x = followed (sign_at 34 s) (λ quote. text_from Whole [] quote.at quote.bytes) (text, r) h in
     omega (
@@ -164,12 +165,13 @@ pattern_from_left u m pieces content at (b ∷ bs) all r h =
     pattern_from next sign ps more (at + 1) bs)
     (λ next sign ps more e. pattern_from_left next sign ps more (at + 1) bs all r e) h
 
-behind_same : (ps : List (List ℕ)) → parentheses (printed.behind (codes ".*") (map (escaped is_pattern_mark) ps))
+behind_same : (ps : List (List ℕ))
+    → parentheses (printed.each_behind (codes ".*") (map (escaped_text is_pattern_mark) ps))
     ≡ total ps
 behind_same [] = no_parentheses
 behind_same (p ∷ ps) =
-    let signs = escaped is_pattern_mark p in
-    let more = printed.behind (codes ".*") (map (escaped is_pattern_mark) ps) in
+    let signs = escaped_text is_pattern_mark p in
+    let more = printed.each_behind (codes ".*") (map (escaped_text is_pattern_mark) ps) in
     omega (
       arith,
       other_byte 46 (42 ∷ (signs ++ more)) refl,
@@ -184,14 +186,14 @@ signs_same [] = no_parentheses
 signs_same (p ∷ ps) =
     omega (
       arith,
-      parentheses_append (escaped is_pattern_mark p)
-          (printed.behind (codes ".*") (map (escaped is_pattern_mark) ps)),
+      parentheses_append (escaped_text is_pattern_mark p)
+          (printed.each_behind (codes ".*") (map (escaped_text is_pattern_mark) ps)),
       escaped_same is_pattern_mark p,
       behind_same ps,
     )
 
 pattern_left : (s r : Rest) (pieces : List (List ℕ)) → pattern_at s ≡ Some (pieces, r)
-    → parentheses (quoted (pattern_signs pieces)) + left r ≤ left s
+    → parentheses (quotation (pattern_signs pieces)) + left r ≤ left s
 pattern_left s r pieces h =
     let x = followed (sign_at 34 s) (λ quote. pattern_from Whole Plain [] [] quote.at quote.bytes) (pieces, r) h in
     omega (
@@ -214,18 +216,18 @@ false_none = refl
 abbrev ValueLeft : Rest → FieldValue × Rest → Type 0
 ValueLeft s x = parentheses (value_text x.0) + left x.1 ≤ left s
 
-value_left : (s : Rest) (x : FieldValue × Rest) → value_at s ≡ Some x → ValueLeft s x
+value_left : (s : Rest) (x : FieldValue × Rest) → literal_at s ≡ Some x → ValueLeft s x
 value_left s x =
     let b = head (skip s) in
     if_given (b == 34) (option_and_then text_value (text_at s)) _ x (ValueLeft s x)
     (λ h. let t = followed (text_at s) text_value x h in subst (ValueLeft s) (given (field.Text t.0.0, t.0.1) x t.2)
     (text_left s t.0.1 t.0.0 t.1))
-    (if_given (b == 116) (option_and_then (truth_value true) (word_at (codes "true") s)) _ x (ValueLeft s x)
-    (λ h. let t = followed (word_at (codes "true") s) (truth_value true) x h in
+    (if_given (b == 116) (option_and_then (truth_value true) (keyword_at (codes "true") s)) _ x (ValueLeft s x)
+    (λ h. let t = followed (keyword_at (codes "true") s) (truth_value true) x h in
     subst (ValueLeft s) (given (field.Bool true, t.0) x t.2)
     (omega (arith, true_none, word_left (codes "true") s t.0 t.1)))
-    (if_given (b == 102) (option_and_then (truth_value false) (word_at (codes "false") s)) _ x (ValueLeft s x)
-    (λ h. let t = followed (word_at (codes "false") s) (truth_value false) x h in
+    (if_given (b == 102) (option_and_then (truth_value false) (keyword_at (codes "false") s)) _ x (ValueLeft s x)
+    (λ h. let t = followed (keyword_at (codes "false") s) (truth_value false) x h in
     subst (ValueLeft s) (given (field.Bool false, t.0) x t.2)
     (omega (arith, false_none, word_left (codes "false") s t.0 t.1)))
     (if_given (b == 45 || is_digit b) (option_and_then number_value (signed_at s)) None x (ValueLeft s x)
@@ -461,5 +463,5 @@ mutual
         name_left s m n h,
         word_left (codes "=~") m k g,
         pattern_left k r ps i,
-        between n.text (codes " =~ ") (quoted (pattern_signs ps)) like_bare,
+        between n.text (codes " =~ ") (quotation (pattern_signs ps)) like_bare,
       )

@@ -11,13 +11,13 @@ use Rattle.mql_ast.specs.declared.predicates.Comparison.TheVariants as compariso
 use Rattle.mql_ast.specs.declared.predicates.Literal.{Literal}
 use Rattle.mql_ast.specs.Bytes.{is_blank, is_digit}
 use Rattle.mql_ast.specs.Rests.{Rest, head, skip}
-use Rattle.mql_ast.specs.Tokens.{past, word_at, signed_at}
+use Rattle.mql_ast.specs.Tokens.{past, keyword_at, signed_at}
 use Rattle.mql_ast.specs.Quotes.{text_at}
 use Rattle.mql_ast.specs.Trees as tree
 use Rattle.mql_ast.specs.Trees.{PredicateTree}
 use Rattle.mql_ast.specs.Places.{predicate_content}
-use Rattle.mql_ast.specs.Printed.{predicate_text, comparison_text, value_text, quoted, pattern_signs}
-use Rattle.mql_ast.specs.Grammar.{comparison_at, value_at, literal, Disjunction, one_conjunction, or, Conjunction}
+use Rattle.mql_ast.specs.Printed.{predicate_text, comparison_text, value_text, quotation, pattern_signs}
+use Rattle.mql_ast.specs.Grammar.{comparison_at, literal_at, literal, Disjunction, one_conjunction, or, Conjunction}
 use Rattle.mql_ast.specs.Grammar.{one_negation, and, Negation, not, in_parentheses, compare, like}
 use Rattle.mql_ast.proofs.TokensPrinted.{if_true, if_false, both, given, followed, Ends, From, regrouped, here}
 use Rattle.mql_ast.proofs.TokensPrinted.{behind_blank, rest_behind, no_blank, sign_printed, no_digit, IsName}
@@ -87,12 +87,12 @@ not_printed d p text f s rest ends from =
           not (sign_printed 33 refl refl s bytes from) x.spelled;
     }
 
-ampersands : (at : ℕ) (bytes : List ℕ) → word_at (codes "&&") (record { at = at; bytes = 32 ∷ 38 ∷ 38 ∷ bytes })
+ampersands : (at : ℕ) (bytes : List ℕ) → keyword_at (codes "&&") (record { at = at; bytes = 32 ∷ 38 ∷ 38 ∷ bytes })
     ≡ Some (record { at = at + 1 + 1 + 1; bytes = bytes })
 unfolding skip
 ampersands at bytes = refl
 
-bars : (at : ℕ) (bytes : List ℕ) → word_at (codes "||") (record { at = at; bytes = 32 ∷ 124 ∷ 124 ∷ bytes })
+bars : (at : ℕ) (bytes : List ℕ) → keyword_at (codes "||") (record { at = at; bytes = 32 ∷ 124 ∷ 124 ∷ bytes })
     ≡ Some (record { at = at + 1 + 1 + 1; bytes = bytes })
 unfolding skip
 bars at bytes = refl
@@ -139,7 +139,8 @@ comparison_printed comparison.AtMost at bytes = refl
 comparison_printed comparison.Greater at bytes = refl
 comparison_printed comparison.AtLeast at bytes = refl
 
-likeness_printed : (at : ℕ) (bytes : List ℕ) → word_at (codes "=~") (record { at = at; bytes = 32 ∷ 61 ∷ 126 ∷ bytes })
+likeness_printed : (at : ℕ) (bytes : List ℕ)
+    → keyword_at (codes "=~") (record { at = at; bytes = 32 ∷ 61 ∷ 126 ∷ bytes })
     ≡ Some (record { at = at + 1 + 1 + 1; bytes = bytes })
 unfolding skip
 likeness_printed at bytes = refl
@@ -161,18 +162,18 @@ number_value x = Some (field.Int x.0, x.1)
 
 value_step : (a b c d : Bool) (s r : Rest) (v : FieldValue) →
     (if a then option_and_then text_value (text_at s) else
-    (if b then option_and_then (truth_value true) (word_at (codes "true") s) else
-    (if c then option_and_then (truth_value false) (word_at (codes "false") s) else
+    (if b then option_and_then (truth_value true) (keyword_at (codes "true") s) else
+    (if c then option_and_then (truth_value false) (keyword_at (codes "false") s) else
     (if d then option_and_then number_value (signed_at s) else None)))) ≡ Some (v, r) → IsWritten v
 value_step true b c d s r v h =
     let x = followed (text_at s) text_value (v, r) h in
     subst IsWritten (ap (λ p. p.0) (given (field.Text x.0.0, x.0.1) (v, r) x.2))
     (written_text (text_lawful s x.0.1 x.0.0 x.1))
 value_step false true c d s r v h =
-    let x = followed (word_at (codes "true") s) (truth_value true) (v, r) h in
+    let x = followed (keyword_at (codes "true") s) (truth_value true) (v, r) h in
     subst IsWritten (ap (λ p. p.0) (given (field.Bool true, x.0) (v, r) x.2)) written_truth
 value_step false false true d s r v h =
-    let x = followed (word_at (codes "false") s) (truth_value false) (v, r) h in
+    let x = followed (keyword_at (codes "false") s) (truth_value false) (v, r) h in
     subst IsWritten (ap (λ p. p.0) (given (field.Bool false, x.0) (v, r) x.2)) written_truth
 value_step false false false true s r v h =
     let x = followed (signed_at s) number_value (v, r) h in
@@ -180,7 +181,7 @@ value_step false false false true s r v h =
     (written_number (signed_lawful s x.0.1 x.0.0 x.1))
 value_step false false false false s r v h = absurd (cc)
 
-value_lawful : (s r : Rest) (v : FieldValue) → value_at s ≡ Some (v, r) → IsWritten v
+value_lawful : (s r : Rest) (v : FieldValue) → literal_at s ≡ Some (v, r) → IsWritten v
 value_lawful s r v h = let b = head (skip s) in value_step (b == 34) (b == 116) (b == 102) (b == 45 || is_digit b) s r
     v h
 
@@ -188,8 +189,8 @@ value_lawful s r v h = let b = head (skip s) in value_step (b == 34) (b == 116) 
 abbrev value_by : ℕ → Rest → Option (FieldValue × Rest)
 value_by b s =
     if b == 34 then option_and_then text_value (text_at s) else
-    (if b == 116 then option_and_then (truth_value true) (word_at (codes "true") s) else
-    (if b == 102 then option_and_then (truth_value false) (word_at (codes "false") s) else
+    (if b == 116 then option_and_then (truth_value true) (keyword_at (codes "true") s) else
+    (if b == 102 then option_and_then (truth_value false) (keyword_at (codes "false") s) else
     (if b == 45 || is_digit b then option_and_then number_value (signed_at s) else None)))
 
 number_no_blank : (b : ℕ) → (b == 45 || is_digit b) ≡ true → is_blank b ≡ false
@@ -210,7 +211,7 @@ false_here at rest = refl
 
 -- a value that is printed here is read
 value_printed : (v : FieldValue) → IsWritten v → (s : Rest) (rest : List ℕ) → Ends rest
-    → (f : From s (value_text v ++ rest)) → value_at s ≡ Some (v, rest_behind f.at (value_text v) rest)
+    → (f : From s (value_text v ++ rest)) → literal_at s ≡ Some (v, rest_behind f.at (value_text v) rest)
 value_printed (field.Text bytes) (written_text t) s rest ends f =
     ap (λ b. value_by b s) (ap head (f.is ∙ no_blank f.at 34 _ refl))
     ∙ ap (λ o. option_and_then text_value o) (text_printed bytes t s rest f)
@@ -250,9 +251,9 @@ compare_printed d n how v name written s rest ends f =
 
 like_printed : (d at : ℕ) (n : Name) (pieces : List (List ℕ)) → IsName n.text → IsPattern pieces →
     PrintedAs Negation d (tree.Like n (record { at = at; pieces = pieces }))
-    (n.text ++ (codes " =~ " ++ quoted (pattern_signs pieces)))
+    (n.text ++ (codes " =~ " ++ quotation (pattern_signs pieces)))
 like_printed d at n pieces name pattern s rest ends f =
-    let text = quoted (pattern_signs pieces) in
+    let text = quotation (pattern_signs pieces) in
     let behind_name = codes " =~ " ++ (text ++ rest) in
     let m = rest_behind f.at n.text behind_name in
     let k : Rest = record { at = m.at + 1 + 1 + 1; bytes = 32 ∷ (text ++ rest) } in

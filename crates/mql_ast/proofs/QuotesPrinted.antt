@@ -8,9 +8,9 @@ use Rattle.std.proofs.lemmas.Bool.{leb-true}
 use Rattle.mon_value.specs.Texts.{text_in}
 use Rattle.mql_ast.specs.Rests.{Rest}
 use Rattle.mql_ast.specs.Tokens.{sign_at}
-use Rattle.mql_ast.specs.Printed.{sign_text, escaped, is_text_mark, quoted}
+use Rattle.mql_ast.specs.Printed.{sign_text, escaped_text, is_text_mark, quotation}
 use Rattle.mql_ast.specs.Quotes.{Open, Whole, Escape, More, begins_character, further, TextStep, TextEnd, TextPass}
-use Rattle.mql_ast.specs.Quotes.{TextKeep, TextBad, kept, text_step, after_text_step, text_from, text_at}
+use Rattle.mql_ast.specs.Quotes.{TextKeep, TextBad, kept_open, text_step, after_text_step, text_from, text_at}
 use Rattle.mql_ast.proofs.TokensPrinted.{if_true, if_false, or_false, and_true, given, chosen, followed, From}
 use Rattle.mql_ast.proofs.TokensPrinted.{regrouped, place_behind, place_push, place_join, rest_behind, sign_printed}
 
@@ -86,7 +86,7 @@ text_if : (u : Open) (b : ℕ) (t : Bool) (x y : TextStep) → (t ≡ true → T
 text_if u b true x y f g = f refl
 text_if u b false x y f g = g refl
 
-kept_fits : (b : ℕ) (o : Option Open) → begins_character b ≡ o → TextFits Whole b (kept o)
+kept_fits : (b : ℕ) (o : Option Open) → begins_character b ≡ o → TextFits Whole b (kept_open o)
 kept_fits b None e = tt
 kept_fits b (Some next) e = (e, plain_good next (begins_good b next e))
 
@@ -176,7 +176,7 @@ text_byte Whole next b content at bs g h m =
     let both = or_false (b == 34) (b == 92) m in
     ap (λ step. after_text_step step b (record { at = at + 1; bytes = bs }) content
     (λ n more. text_from n more (at + 1) bs))
-    (if_false (b == 34) _ _ both.0 ∙ if_false (b == 92) _ _ both.1 ∙ ap kept h)
+    (if_false (b == 34) _ _ both.0 ∙ if_false (b == 92) _ _ both.1 ∙ ap kept_open h)
 text_byte Escape next b content at bs g h m = absurd g
 text_byte (More left low high) next b content at bs g h m =
     let c = chosen (nat_le low b && nat_le b high) (further left) next h in
@@ -224,8 +224,8 @@ text_step_again false u next b content at escapes rest answer m g h e = text_byt
 
 text_again : (u : Open) (more content : List ℕ) (at : ℕ) (rest : List ℕ) → Good u → Runs u more
     → is_utf8 (content ++ more) ≡ true →
-    text_from u content at (escaped is_text_mark more ++ (34 ∷ rest))
-    ≡ Some (content ++ more, record { at = place_behind at (escaped is_text_mark more) + 1; bytes = rest })
+    text_from u content at (escaped_text is_text_mark more ++ (34 ∷ rest))
+    ≡ Some (content ++ more, record { at = place_behind at (escaped_text is_text_mark more) + 1; bytes = rest })
 text_again u [] content at rest g r e =
     ap (λ v. text_from v content at (34 ∷ rest)) r
     ∙ text_closes content at rest (subst (λ t. is_utf8 t ≡ true) (append-nil content) e)
@@ -234,18 +234,18 @@ text_again u (b ∷ bs) content at rest g r e =
     let same = append_assoc content (b ∷ []) bs in
     let signs = sign_text is_text_mark b in
     let i = place_behind at signs in
-    text_step_again (is_text_mark b) u r.0 b content at (escaped is_text_mark bs) (34 ∷ rest) _ refl g r.1
+    text_step_again (is_text_mark b) u r.0 b content at (escaped_text is_text_mark bs) (34 ∷ rest) _ refl g r.1
     (text_again r.0 bs (content ++ b ∷ []) i rest (content_good u r.0 b r.1) r.2
     (subst (λ t. is_utf8 t ≡ true) (sym same) e)
-    ∙ ap (λ t. Some (t, record { at = place_behind i (escaped is_text_mark bs) + 1; bytes = rest })) same
+    ∙ ap (λ t. Some (t, record { at = place_behind i (escaped_text is_text_mark bs) + 1; bytes = rest })) same
     ∙ ap (λ n. Some (content ++ b ∷ bs, record { at = n + 1; bytes = rest }))
-    (sym (place_join at signs (escaped is_text_mark bs))))
+    (sym (place_join at signs (escaped_text is_text_mark bs))))
 
 -- a text that is printed here is read
-pub text_printed : (text : List ℕ) → IsText text → (s : Rest) (rest : List ℕ) → (f : From s (quoted text ++ rest))
-    → text_at s ≡ Some (text, rest_behind f.at (quoted text) rest)
+pub text_printed : (text : List ℕ) → IsText text → (s : Rest) (rest : List ℕ) → (f : From s (quotation text ++ rest))
+    → text_at s ≡ Some (text, rest_behind f.at (quotation text) rest)
 text_printed text t s rest f =
-    let signs = escaped is_text_mark text in
+    let signs = escaped_text is_text_mark text in
     ap (λ o. option_and_then (λ quote. text_from Whole [] quote.at quote.bytes) o)
     (sign_printed 34 refl refl s (signs ++ (34 ∷ rest))
     (regrouped f (ap (λ b. 34 ∷ b) (append_assoc signs (34 ∷ []) rest))))

@@ -10,7 +10,7 @@ use Rattle.std.proofs.lemmas.List.Sums.{sum_by-append}
 use Rattle.mql_ast.specs.declared.names.Name.{Name}
 use Rattle.mql_ast.specs.Bytes.{is_blank, is_letter, is_digit, is_word_byte, is_metric_byte}
 use Rattle.mql_ast.specs.Rests.{Rest, first_of, behind_blanks, behind_first, head, behind, skip}
-use Rattle.mql_ast.specs.Tokens.{sign_at, past, word_at, behind_word, word_here, name_at, with_byte, metric_from}
+use Rattle.mql_ast.specs.Tokens.{sign_at, past, keyword_at, behind_word, word_here, name_at, with_byte, metric_from}
 use Rattle.mql_ast.specs.Tokens.{metric_name, metric_behind, metric_at, digits_from, positive_at, number_at, minus}
 use Rattle.mql_ast.specs.Tokens.{signed_at, unit_seconds, longest, with_unit, duration_at}
 use Rattle.mql_ast.specs.Printed.{duration_text}
@@ -111,7 +111,7 @@ past_left [] s r h = subst (λ q. left q ≤ left s) (given s r h) (omega arith)
 past_left (c ∷ cs) s r h = past_step (head s == c) (past cs (behind s)) (behind s) s r (λ e. past_left cs (behind s) r
     e) (behind_left s) h
 
-pub word_left : (word : List ℕ) (s r : Rest) → word_at word s ≡ Some r → left r ≤ left s
+pub word_left : (word : List ℕ) (s r : Rest) → keyword_at word s ≡ Some r → left r ≤ left s
 word_left word s r h = omega (arith, past_left word (skip s) r h, skip_left s)
 
 -- bytes that pass a test which a parenthesis fails
@@ -192,7 +192,7 @@ metric_left s r n h =
     let m = metric_lawful s r n h in
     let none : parentheses n.text ≡ 0 = ap parentheses m.is ∙ other_byte 47 m.others refl ∙ metric_none_from true
     m.others m.bytes in
-    let slash = followed (word_at (codes "/") s) (metric_behind (skip s).at) (n, r) h in
+    let slash = followed (keyword_at (codes "/") s) (metric_behind (skip s).at) (n, r) h in
     let read = followed (metric_from true slash.0.at slash.0.bytes) (λ x. Some (metric_name (skip s).at x.0, x.1))
     (n, r) slash.2 in
     let x = read.0 in

@@ -7,7 +7,7 @@ use Rattle.std.proofs.lemmas.Bool.{eq-eqb}
 use Rattle.mql_ast.specs.declared.names.Name.{Name}
 use Rattle.mql_ast.specs.Bytes.{is_blank, is_letter, is_digit, is_word_byte, is_metric_byte}
 use Rattle.mql_ast.specs.Rests.{Rest, first_of, head, behind, skip}
-use Rattle.mql_ast.specs.Tokens.{sign_at, past, word_at, word_bytes, behind_word, word_here, name_at, with_byte}
+use Rattle.mql_ast.specs.Tokens.{sign_at, past, keyword_at, word_bytes, behind_word, word_here, name_at, with_byte}
 use Rattle.mql_ast.specs.Tokens.{metric_from, metric_name, metric_behind, metric_at}
 
 pub if_true : {A : Type 0} (t : Bool) (x y : A) → t ≡ true → (if t then x else y) ≡ x
@@ -118,7 +118,7 @@ past_printed (b ∷ bs) at bytes = if_true (b == b) _ _ (eq-eqb b b refl) ∙ pa
 
 -- a word that is printed here is read
 pub word_printed : (word : List ℕ) → is_letter (first_of word) ≡ true → (s : Rest) (bytes : List ℕ)
-    → (f : From s (word ++ bytes)) → word_at word s ≡ Some (rest_behind f.at word bytes)
+    → (f : From s (word ++ bytes)) → keyword_at word s ≡ Some (rest_behind f.at word bytes)
 word_printed [] h s bytes f = absurd (cc)
 word_printed (b ∷ bs) h s bytes f = ap (past (b ∷ bs)) (f.is ∙ no_blank f.at b (bs ++ bytes) (letter_no_blank b h))
     ∙ past_printed (b ∷ bs) f.at bytes
@@ -268,7 +268,7 @@ pub record IsMetric (text : List ℕ) : Type 0 where
 
 pub metric_lawful : (s r : Rest) (n : Name) → metric_at s ≡ Some (n, r) → IsMetric n.text
 metric_lawful s r n h =
-    let slash = followed (word_at (codes "/") s) (metric_behind (skip s).at) (n, r) h in
+    let slash = followed (keyword_at (codes "/") s) (metric_behind (skip s).at) (n, r) h in
     let read = followed (metric_from true slash.0.at slash.0.bytes) (λ x. Some (metric_name (skip s).at x.0, x.1))
     (n, r) slash.2 in
     let x = read.0 in

@@ -18,7 +18,7 @@ use Rattle.mql_ast.specs.Trees as tree
 use Rattle.mql_ast.specs.Trees.{SumTree, PredicateTree, ItemTree, DeedTree, OpTree, PipeTree, SourceTree, branches}
 use Rattle.mql_ast.specs.Bytes.{is_digit, is_word_byte}
 use Rattle.mql_ast.specs.Rests.{Rest, head, behind, skip}
-use Rattle.mql_ast.specs.Tokens.{sign_at, word_at, name_at, metric_at, positive_at, signed_at, duration_at}
+use Rattle.mql_ast.specs.Tokens.{sign_at, keyword_at, name_at, metric_at, positive_at, signed_at, duration_at}
 use Rattle.mql_ast.specs.Quotes.{text_at, pattern_at}
 
 -- no letter, digit or `_` stands here, so a word may end before it
@@ -41,12 +41,12 @@ comparison_at s =
     (if head t == 62 then or_equal comparison.Greater comparison.AtLeast (behind t) else None)))
 
 -- literal = [ "-" ] number | text | "true" | "false"
-abbrev pub value_at : Rest → Option (FieldValue × Rest)
-value_at s =
+abbrev pub literal_at : Rest → Option (FieldValue × Rest)
+literal_at s =
     let b = head (skip s) in
     if b == 34 then option_and_then (λ x. Some (field.Text x.0, x.1)) (text_at s) else
-    (if b == 116 then option_and_then (λ r. Some (field.Bool true, r)) (word_at (codes "true") s) else
-    (if b == 102 then option_and_then (λ r. Some (field.Bool false, r)) (word_at (codes "false") s) else
+    (if b == 116 then option_and_then (λ r. Some (field.Bool true, r)) (keyword_at (codes "true") s) else
+    (if b == 102 then option_and_then (λ r. Some (field.Bool false, r)) (keyword_at (codes "false") s) else
     (if b == 45 || is_digit b then option_and_then (λ x. Some (field.Int x.0, x.1)) (signed_at s) else None)))
 
 abbrev pub literal : Rest → FieldValue → Literal
@@ -78,12 +78,12 @@ mutual
 mutual
   pub data Disjunction : ℕ → Rest → Rest → PredicateTree → Type 0 where
     one_conjunction : {d : ℕ} {s r : Rest} {p : PredicateTree} → Conjunction d s r p → Disjunction d s r p
-    or : {d : ℕ} {s m k r : Rest} {l p : PredicateTree} → Disjunction d s m l → word_at (codes "||") m ≡ Some k →
+    or : {d : ℕ} {s m k r : Rest} {l p : PredicateTree} → Disjunction d s m l → keyword_at (codes "||") m ≡ Some k →
         Conjunction d k r p → Disjunction d s r (tree.Or l p)
 
   pub data Conjunction : ℕ → Rest → Rest → PredicateTree → Type 0 where
     one_negation : {d : ℕ} {s r : Rest} {p : PredicateTree} → Negation d s r p → Conjunction d s r p
-    and : {d : ℕ} {s m k r : Rest} {l p : PredicateTree} → Conjunction d s m l → word_at (codes "&&") m ≡ Some k →
+    and : {d : ℕ} {s m k r : Rest} {l p : PredicateTree} → Conjunction d s m l → keyword_at (codes "&&") m ≡ Some k →
         Negation d k r p → Conjunction d s r (tree.And l p)
 
   pub data Negation : ℕ → Rest → Rest → PredicateTree → Type 0 where
@@ -92,10 +92,10 @@ mutual
     in_parentheses : {d : ℕ} {s m k r : Rest} {p : PredicateTree} → sign_at 40 s ≡ Some m → Disjunction d m k p →
         sign_at 41 k ≡ Some r → Negation (suc d) s r p
     compare : {d : ℕ} {s m k r : Rest} {n : Name} {c : Comparison} {v : FieldValue} →
-        name_at s ≡ Some (n, m) → comparison_at m ≡ Some (c, k) → value_at k ≡ Some (v, r) →
+        name_at s ≡ Some (n, m) → comparison_at m ≡ Some (c, k) → literal_at k ≡ Some (v, r) →
         Negation d s r (tree.Compare n c (literal k v))
     like : {d : ℕ} {s m k r : Rest} {n : Name} {ps : List (List ℕ)} →
-        name_at s ≡ Some (n, m) → word_at (codes "=~") m ≡ Some k → pattern_at k ≡ Some (ps, r) →
+        name_at s ≡ Some (n, m) → keyword_at (codes "=~") m ≡ Some k → pattern_at k ≡ Some (ps, r) →
         Negation d s r (tree.Like n (record { at = (skip k).at; pieces = ps }))
 
 -- name { "," name }
@@ -132,7 +132,7 @@ pub data Folding : Rest → Rest → Aggregate → Type 0 where
       name_at s ≡ Some (n, m) → n.text ≡ fold_named w → Folded w m r c →
       Folding s r (record { at = (skip s).at; name = None; fold = w; column = c })
   named : {s m k j r : Rest} {n : Name} {w : FoldWord} {c : Option Name} →
-      name_at s ≡ Some (n, m) → sign_at 58 m ≡ Some k → word_at (fold_named w) k ≡ Some j → Folded w j r c →
+      name_at s ≡ Some (n, m) → sign_at 58 m ≡ Some k → keyword_at (fold_named w) k ≡ Some j → Folded w j r c →
       Folding s r (record { at = (skip k).at; name = Some n; fold = w; column = c })
 
 -- agg { "," agg }
@@ -157,26 +157,27 @@ pub data ItemList : ℕ → Rest → Rest → List ItemTree → Type 0 where
 -- op = "filter" or | "align" aligner "(" duration ")" | "group_by" "[" [ name { "," name } ] "]" "," agg { "," agg }
 --    | "value" "[" item { "," item } "]" | "top" number "," name | "every" duration | "within" duration
 pub data Deed : ℕ → Rest → Rest → DeedTree → Type 0 where
-  filter : {d : ℕ} {s m r : Rest} {p : PredicateTree} → word_at (codes "filter") s ≡ Some m → Apart m →
+  filter : {d : ℕ} {s m r : Rest} {p : PredicateTree} → keyword_at (codes "filter") s ≡ Some m → Apart m →
       Disjunction d m r p → Deed d s r (tree.Filter p)
   align_delta : {d : ℕ} {s m k j i r : Rest} {z : ℤ} →
-      word_at (codes "align") s ≡ Some m → Apart m → word_at (codes "delta") m ≡ Some k → sign_at 40 k ≡ Some j →
+      keyword_at (codes "align") s ≡ Some m → Apart m → keyword_at (codes "delta") m ≡ Some k → sign_at 40 k ≡ Some j →
       duration_at j ≡ Some (z, i) → sign_at 41 i ≡ Some r → Deed d s r (tree.Align (aligner.Delta z))
   align_next_older : {d : ℕ} {s m k j i r : Rest} {z : ℤ} →
-      word_at (codes "align") s ≡ Some m → Apart m → word_at (codes "next_older") m ≡ Some k → sign_at 40 k ≡ Some j →
+      keyword_at (codes "align") s ≡ Some m → Apart m → keyword_at (codes "next_older") m ≡ Some k → sign_at 40 k
+      ≡ Some j →
       duration_at j ≡ Some (z, i) → sign_at 41 i ≡ Some r → Deed d s r (tree.Align (aligner.NextOlder z))
   group_by : {d : ℕ} {s m k j r : Rest} {ns : List Name} {as' : List Aggregate} →
-      word_at (codes "group_by") s ≡ Some m → Grouping m k ns → sign_at 44 k ≡ Some j → FoldingList j r as' →
+      keyword_at (codes "group_by") s ≡ Some m → Grouping m k ns → sign_at 44 k ≡ Some j → FoldingList j r as' →
       Deed d s r (tree.GroupBy ns as')
   value : {d : ℕ} {s m k j r : Rest} {items : List ItemTree} →
-      word_at (codes "value") s ≡ Some m → sign_at 91 m ≡ Some k → ItemList d k j items → sign_at 93 j ≡ Some r →
+      keyword_at (codes "value") s ≡ Some m → sign_at 91 m ≡ Some k → ItemList d k j items → sign_at 93 j ≡ Some r →
       Deed d s r (tree.Value items)
   top : {d : ℕ} {s m k j r : Rest} {n : ℕ} {c : Name} →
-      word_at (codes "top") s ≡ Some m → Apart m → positive_at 16777216 m ≡ Some (n, k) → sign_at 44 k ≡ Some j →
+      keyword_at (codes "top") s ≡ Some m → Apart m → positive_at 16777216 m ≡ Some (n, k) → sign_at 44 k ≡ Some j →
       name_at j ≡ Some (c, r) → Deed d s r (tree.Top n c)
-  every : {d : ℕ} {s m r : Rest} {z : ℤ} → word_at (codes "every") s ≡ Some m → Apart m →
+  every : {d : ℕ} {s m r : Rest} {z : ℤ} → keyword_at (codes "every") s ≡ Some m → Apart m →
       duration_at m ≡ Some (z, r) → Deed d s r (tree.Every z)
-  within : {d : ℕ} {s m r : Rest} {z : ℤ} → word_at (codes "within") s ≡ Some m → Apart m →
+  within : {d : ℕ} {s m r : Rest} {z : ℤ} → keyword_at (codes "within") s ≡ Some m → Apart m →
       duration_at m ≡ Some (z, r) → Deed d s r (tree.Within z)
 
 -- { "|" op }
@@ -199,11 +200,11 @@ mutual
 
   pub data Source : ℕ → Rest → Rest → SourceTree → Type 0 where
     fetch : {d : ℕ} {s m k j r : Rest} {n w : Name} →
-        word_at (codes "fetch") s ≡ Some m → Apart m → name_at m ≡ Some (n, k) → word_at (codes "::") k ≡ Some j →
+        keyword_at (codes "fetch") s ≡ Some m → Apart m → name_at m ≡ Some (n, k) → keyword_at (codes "::") k ≡ Some j →
         metric_at j ≡ Some (w, r) → Source d s r (tree.Fetch (skip s).at n w)
     join : {d : ℕ} {s m k j i r : Rest} {ps : List PipeTree} {h : How} →
         sign_at 123 s ≡ Some m → PipeList d m k ps → sign_at 125 k ≡ Some j → sign_at 124 j ≡ Some i →
-        word_at (how_word h) i ≡ Some r →
+        keyword_at (how_word h) i ≡ Some r →
         Source (suc d) s r (tree.Branches (skip s).at (branches ps) h (skip i).at)
 
   pub data PipeList : ℕ → Rest → Rest → List PipeTree → Type 0 where

@@ -25,9 +25,9 @@ use Rattle.mql_ast.specs.Trees.{PipeTree, Flow, SourceTree, Fetch, Branches, Bra
 abbrev pub sign_text : (ℕ → Bool) → ℕ → List ℕ
 sign_text marks c = if marks c then 92 ∷ c ∷ [] else c ∷ []
 
-abbrev pub escaped : (ℕ → Bool) → List ℕ → List ℕ
-escaped marks [] = []
-escaped marks (c ∷ cs) = sign_text marks c ++ escaped marks cs
+abbrev pub escaped_text : (ℕ → Bool) → List ℕ → List ℕ
+escaped_text marks [] = []
+escaped_text marks (c ∷ cs) = sign_text marks c ++ escaped_text marks cs
 
 -- what stands behind a backslash in a text in quotes
 abbrev pub is_text_mark : ℕ → Bool
@@ -39,18 +39,18 @@ is_pattern_mark c =
     c == 46 || c == 42 || c == 43 || c == 63 || c == 40 || c == 41 || c == 91 || c == 93
     || c == 123 || c == 125 || c == 124 || c == 94 || c == 36 || c == 92
 
-abbrev pub quoted : List ℕ → List ℕ
-quoted bytes = codes "\"" ++ (escaped is_text_mark bytes ++ codes "\"")
+abbrev pub quotation : List ℕ → List ℕ
+quotation bytes = codes "\"" ++ (escaped_text is_text_mark bytes ++ codes "\"")
 
 -- each text behind the separator
-abbrev pub behind : List ℕ → List (List ℕ) → List ℕ
-behind separator [] = []
-behind separator (x ∷ xs) = separator ++ (x ++ behind separator xs)
+abbrev pub each_behind : List ℕ → List (List ℕ) → List ℕ
+each_behind separator [] = []
+each_behind separator (x ∷ xs) = separator ++ (x ++ each_behind separator xs)
 
 -- texts with a separator between each two
-abbrev pub separated : List ℕ → List (List ℕ) → List ℕ
-separated separator [] = []
-separated separator (x ∷ xs) = x ++ behind separator xs
+abbrev pub separated_texts : List ℕ → List (List ℕ) → List ℕ
+separated_texts separator [] = []
+separated_texts separator (x ∷ xs) = x ++ each_behind separator xs
 
 abbrev pub in_parentheses : Bool → List ℕ → List ℕ
 in_parentheses true text = codes "(" ++ (text ++ codes ")")
@@ -58,12 +58,12 @@ in_parentheses false text = text
 
 -- the text before which a pattern's pieces are put in quotes
 abbrev pub pattern_signs : List (List ℕ) → List ℕ
-pattern_signs pieces = separated (codes ".*") (map (escaped is_pattern_mark) pieces)
+pattern_signs pieces = separated_texts (codes ".*") (map (escaped_text is_pattern_mark) pieces)
 
 abbrev pub value_text : FieldValue → List ℕ
 value_text (field.Int z) = signed_decimal z
 value_text (field.Bool b) = truth_text b
-value_text (field.Text bytes) = quoted bytes
+value_text (field.Text bytes) = quotation bytes
 
 abbrev pub comparison_text : Comparison → List ℕ
 comparison_text comparison.Equal = codes "=="
@@ -78,7 +78,7 @@ condition_text column how literal =
     column.text ++ (codes " " ++ (comparison_text how ++ (codes " " ++ value_text literal.value)))
 
 abbrev pub likeness_text : Name → Pattern → List ℕ
-likeness_text column pattern = column.text ++ (codes " =~ " ++ quoted (pattern_signs pattern.pieces))
+likeness_text column pattern = column.text ++ (codes " =~ " ++ quotation (pattern_signs pattern.pieces))
 
 -- a predicate where what binds at least so close needs no parentheses: 0 is `||`, 1 is `&&`, 2 is `!`
 abbrev pub predicate_text : ℕ → PredicateTree → List ℕ
@@ -148,9 +148,9 @@ abbrev pub deed_text : DeedTree → List ℕ
 deed_text (Filter predicate) = codes "filter " ++ predicate_text 0 predicate
 deed_text (Align by) = codes "align " ++ aligner_text by
 deed_text (GroupBy names aggregates) =
-    codes "group_by [" ++ (separated comma (map name_text names)
-    ++ (codes "], " ++ separated comma (map aggregate_text aggregates)))
-deed_text (Value items) = codes "value [" ++ (separated comma (map item_text items) ++ codes "]")
+    codes "group_by [" ++ (separated_texts comma (map name_text names)
+    ++ (codes "], " ++ separated_texts comma (map aggregate_text aggregates)))
+deed_text (Value items) = codes "value [" ++ (separated_texts comma (map item_text items) ++ codes "]")
 deed_text (Top n column) = codes "top " ++ (decimal n ++ (codes ", " ++ column.text))
 deed_text (Every seconds) = codes "every " ++ duration_text seconds
 deed_text (Within seconds) = codes "within " ++ duration_text seconds

@@ -40,12 +40,12 @@ pub data TextStep : Type 0 where
   TextKeep : Open → TextStep
   TextBad : TextStep
 
-abbrev pub kept : Option Open → TextStep
-kept None = TextBad
-kept (Some unfinished) = TextKeep unfinished
+abbrev pub kept_open : Option Open → TextStep
+kept_open None = TextBad
+kept_open (Some unfinished) = TextKeep unfinished
 
 abbrev pub text_step : Open → ℕ → TextStep
-text_step Whole b = if b == 34 then TextEnd else (if b == 92 then TextPass Escape else kept (begins_character b))
+text_step Whole b = if b == 34 then TextEnd else (if b == 92 then TextPass Escape else kept_open (begins_character b))
 text_step Escape b = if b == 34 || b == 92 then TextKeep Whole else TextBad
 text_step (More left low high) b = if nat_le low b && nat_le b high then TextKeep (further left) else TextBad
 

@@ -19,11 +19,11 @@ abbrev pub widest_percentile : ℕ
 widest_percentile = 119
 
 -- the width in bits of a column of numbers
-abbrev pub number_width : ValueType → ℕ → Option ℕ
-number_width type.Int bits = Some bits
-number_width type.Bool bits = None
-number_width type.Text bits = None
-number_width (type.Dist bounds) bits = None
+abbrev pub column_bits : ValueType → ℕ → Option ℕ
+column_bits type.Int bits = Some bits
+column_bits type.Bool bits = None
+column_bits type.Text bits = None
+column_bits (type.Dist bounds) bits = None
 
 -- the width in bits of a percentile of a column of distributions that are not too wide
 abbrev pub percentile_width : ValueType → ℕ → Option ℕ
@@ -33,23 +33,23 @@ percentile_width type.Bool bits = None
 percentile_width type.Text bits = None
 
 -- one bit more than the wider of two numbers
-abbrev pub width_together : Option ℕ → Option ℕ → Option ℕ
-width_together left right = option_map (λ both. max both.0 both.1 + 1) (option_zip left right)
+abbrev pub bits_together : Option ℕ → Option ℕ → Option ℕ
+bits_together left right = option_map (λ both. max both.0 both.1 + 1) (option_zip left right)
 
 -- the width in bits of the number that a sum comes to, if it comes to a number
-abbrev pub sum_width : SumTree → List Column → Option ℕ
-sum_width (tree.Column name) columns =
-    option_and_then (λ column. number_width column.of column.cell_bits) (column_named name.text columns)
-sum_width (tree.Number at z) columns = Some NUMBER_BITS
-sum_width (tree.Plus left right) columns = width_together (sum_width left columns) (sum_width right columns)
-sum_width (tree.Minus left right) columns = width_together (sum_width left columns) (sum_width right columns)
-sum_width (tree.Percentile at name p) columns =
+abbrev pub sum_bits : SumTree → List Column → Option ℕ
+sum_bits (tree.Column name) columns =
+    option_and_then (λ column. column_bits column.of column.cell_bits) (column_named name.text columns)
+sum_bits (tree.Number at z) columns = Some NUMBER_BITS
+sum_bits (tree.Plus left right) columns = bits_together (sum_bits left columns) (sum_bits right columns)
+sum_bits (tree.Minus left right) columns = bits_together (sum_bits left columns) (sum_bits right columns)
+sum_bits (tree.Percentile at name p) columns =
     option_and_then (λ column. percentile_width column.of column.cell_bits) (column_named name.text columns)
 
 -- a sum that is a column of any type, or a number that is not too wide
 abbrev pub IsTypedSum : SumTree → List Column → Type 0
 IsTypedSum (tree.Column name) columns = IsSome (column_named name.text columns)
-IsTypedSum sum columns = IsSomeAnd (sum_width sum columns) (λ bits. bits ≤ WIDEST_SUM)
+IsTypedSum sum columns = IsSomeAnd (sum_bits sum columns) (λ bits. bits ≤ WIDEST_SUM)
 
 -- each percentile is one from 1 to 100
 abbrev pub HasShares : SumTree → Type 0

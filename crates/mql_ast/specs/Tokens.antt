@@ -16,8 +16,8 @@ past [] s = Some s
 past (c ∷ cs) s = if head s == c then past cs (behind s) else None
 
 -- a keyword or a sign of several bytes
-abbrev pub word_at : List ℕ → Rest → Option Rest
-word_at word s = past word (skip s)
+abbrev pub keyword_at : List ℕ → Rest → Option Rest
+keyword_at word s = past word (skip s)
 
 abbrev pub word_bytes : List ℕ → List ℕ
 word_bytes [] = []
@@ -55,7 +55,7 @@ metric_behind at slash = option_and_then (λ x. Some (metric_name at x.0, x.1)) 
 
 -- a metric's name: one or more parts, each a slash and one or more letters, digits, `_` or dots
 abbrev pub metric_at : Rest → Option (Name × Rest)
-metric_at s = option_and_then (metric_behind (skip s).at) (word_at (codes "/") s)
+metric_at s = option_and_then (metric_behind (skip s).at) (keyword_at (codes "/") s)
 
 -- the value of digits behind others, where it is at most so much
 abbrev pub digits_from : ℕ → ℕ → ℕ → List ℕ → Option (ℕ × Rest)

@@ -5,7 +5,7 @@ use Rattle.std.proofs.lemmas.Bool.{false≢true}
 use Rattle.mql_ast.specs.declared.names.Name.{Name}
 use Rattle.mql_ast.specs.Bytes.{is_blank, is_letter, is_digit, is_word_byte}
 use Rattle.mql_ast.specs.Rests.{Rest, first_of, behind_first, behind_blanks, head, behind, skip}
-use Rattle.mql_ast.specs.Tokens.{sign_at, past, word_at, behind_word, word_here, name_at}
+use Rattle.mql_ast.specs.Tokens.{sign_at, past, keyword_at, behind_word, word_here, name_at}
 use Rattle.mql_parse.specs.Behind.{From, Behind}
 
 pub from_itself : (s : Rest) → From s s
@@ -136,5 +136,5 @@ past_behind c cs nonzero s r e =
     let t = chosen_any (head s == c) (past cs (behind s)) r e in
     behind_from s (behind s) r (tested_behind (λ x. x == c) nonzero s t.0) (past_from cs (behind s) r t.1)
 
-pub word_behind : (c : ℕ) (cs : List ℕ) → 0 == c ≡ false → (s r : Rest) → word_at (c ∷ cs) s ≡ Some r → Behind s r
+pub word_behind : (c : ℕ) (cs : List ℕ) → 0 == c ≡ false → (s r : Rest) → keyword_at (c ∷ cs) s ≡ Some r → Behind s r
 word_behind c cs nonzero s r e = from_behind s (skip s) r (skip_from s) (past_behind c cs nonzero (skip s) r e)

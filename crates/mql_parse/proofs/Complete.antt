@@ -38,8 +38,8 @@ pub positive_read : (most : ℕ) (s r : Rest) (n : ℕ) → positive_at most s �
     reading.positive most s ≡ Ok (n, r)
 positive_read most s r n e = read_of (positive_at most s) (reading.positive most s) (n, r) (positive_links most s) e
 
-pub signed_read : (s r : Rest) (z : ℤ) → signed_at s ≡ Some (z, r) → reading.signed s ≡ Ok (z, r)
-signed_read s r z e = read_of (signed_at s) (reading.signed s) (z, r) (signed_links s) e
+pub signed_read : (s r : Rest) (z : ℤ) → signed_at s ≡ Some (z, r) → reading.signed_reading s ≡ Ok (z, r)
+signed_read s r z e = read_of (signed_at s) (reading.signed_reading s) (z, r) (signed_links s) e
 
 pub duration_read : (s r : Rest) (z : ℤ) → duration_at s ≡ Some (z, r) → reading.duration s ≡ Ok (z, r)
 duration_read s r z e = read_of (duration_at s) (reading.duration s) (z, r) (duration_links s) e

@@ -6,7 +6,7 @@ use Rattle.mql_ast.specs.Trees.{PredicateTree, DeedTree, Filter, GroupBy, Value,
 use Rattle.mql_ast.specs.Rests.{Rest, skip}
 use Rattle.mql_parse.specs.declared.faults.What.{What}
 use Rattle.mql_parse.specs.declared.faults.What.TheVariants as what
-use Rattle.mql_parse.specs.Outcomes.{Outcome, unexpected, sign, map_outcome, up_to}
+use Rattle.mql_parse.specs.Outcomes.{Outcome, unexpected_fault, sign, map_outcome, up_to}
 use Rattle.mql_parse.specs.TokenReading as reading
 use Rattle.mql_parse.specs.SumReading as sums
 use Rattle.mql_parse.specs.PredicateReading as predicates
@@ -66,7 +66,8 @@ aligner_first : (x : Spot) → First x next next what.Aligner (λ m. pipes.align
 aligner_first x =
     first_keyword x (DeedGoes x) what.Aligner 100 (codes "elta") _ _ (aligned_keyword x 100 (codes "elta") _ refl refl)
     (λ h k. at_byte x what.Aligner what.Aligner 100 refl refl h)
-    (first_keyword x (DeedGoes x) what.Aligner 110 (codes "ext_older") _ (λ m. Err (unexpected what.Aligner (skip m)))
+    (first_keyword x (DeedGoes x) what.Aligner 110 (codes "ext_older") _
+    (λ m. Err (unexpected_fault what.Aligner (skip m)))
     (aligned_keyword x 110 (codes "ext_older") _ refl refl)
     (λ h k. at_byte x what.Aligner what.Aligner 110 refl refl h)
     (first_unexpected x next what.Aligner))
@@ -74,9 +75,9 @@ aligner_first x =
 aligner_before : (x : Spot) → Before x next next (DeedGoes x) (λ m. pipes.aligner_here (skip m))
 aligner_before x =
     before_keyword x (DeedGoes x) 100 (codes "elta") _ _ (aligned_keyword x 100 (codes "elta") _ refl refl)
-    (before_keyword x (DeedGoes x) 110 (codes "ext_older") _ (λ m. Err (unexpected what.Aligner (skip m)))
+    (before_keyword x (DeedGoes x) 110 (codes "ext_older") _ (λ m. Err (unexpected_fault what.Aligner (skip m)))
     (aligned_keyword x 110 (codes "ext_older") _ refl refl)
-    (before_skip x next (DeedGoes x) (λ t. Err (unexpected what.Aligner t))
+    (before_skip x next (DeedGoes x) (λ t. Err (unexpected_fault what.Aligner t))
     (before_unexpected x next (DeedGoes x) what.Aligner)))
 
 align_keyword : (x : Spot) → Keyword x (DeedGoes x) 97 (codes "lign") pipes.align
@@ -175,7 +176,7 @@ deed_first x d =
     (at_bytes x w w 116 111 refl refl)
     (first_keyword x G w 101 (codes "very") _ _ (duration_keyword x Every 101 (codes "very") refl refl)
     (λ h k. at_byte x w w 101 refl refl h)
-    (first_keyword x G w 119 (codes "ithin") _ (λ s. Err (unexpected w (skip s)))
+    (first_keyword x G w 119 (codes "ithin") _ (λ s. Err (unexpected_fault w (skip s)))
     (duration_keyword x Within 119 (codes "ithin") refl refl)
     (λ h k. at_byte x w w 119 refl refl h)
     (first_unexpected x next w))))))
@@ -189,9 +190,10 @@ deed_before x d =
     (before_keyword x G 118 (codes "alue") _ _ (value_keyword x d)
     (before_keyword x G 116 (codes "op") _ _ (top_keyword x)
     (before_keyword x G 101 (codes "very") _ _ (duration_keyword x Every 101 (codes "very") refl refl)
-    (before_keyword x G 119 (codes "ithin") _ (λ s. Err (unexpected what.Operation (skip s)))
+    (before_keyword x G 119 (codes "ithin") _ (λ s. Err (unexpected_fault what.Operation (skip s)))
     (duration_keyword x Within 119 (codes "ithin") refl refl)
-    (before_skip x next G (λ t. Err (unexpected what.Operation t)) (before_unexpected x next G what.Operation)))))))
+    (before_skip x next G (λ t. Err (unexpected_fault what.Operation t))
+    (before_unexpected x next G what.Operation)))))))
 
 -- filters
 abbrev filtered : ℕ → PredicateTree × Bool → OpTree × Bool

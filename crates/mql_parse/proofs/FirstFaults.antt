@@ -10,7 +10,7 @@ use Rattle.mql_parse.specs.declared.faults.ParseFault.{ParseFault}
 use Rattle.mql_parse.specs.declared.faults.ParseKind.TheVariants.{BadToken, Expected}
 use Rattle.mql_parse.specs.declared.faults.What.{What}
 use Rattle.mql_parse.specs.declared.faults.What.TheVariants as what
-use Rattle.mql_parse.specs.Outcomes.{Outcome, kind_of, unexpected, exact}
+use Rattle.mql_parse.specs.Outcomes.{Outcome, kind_of, unexpected_fault, exact}
 use Rattle.mql_parse.specs.PipeReading as pipes
 use Rattle.mql_parse.specs.Steadiness.{next, Reaches}
 use Rattle.mql_parse.proofs.Steady.{skip_on, reaches_before, steady_to, steady_map}
@@ -61,7 +61,7 @@ unfolding pipes.fetch
 fetch_first t h =
     let m = behind t in
     let on = exact what.Fetch (codes "etch") m in
-    subst (λ b. FetchFirst t.at ((if b then on else Err (unexpected what.Fetch t)) >>= behind_fetch t.at)) (sym h)
+    subst (λ b. FetchFirst t.at ((if b then on else Err (unexpected_fault what.Fetch t)) >>= behind_fetch t.at)) (sym h)
     (later t.at (on >>= behind_fetch t.at)
     (reaches_before next (t.at + 1) m.at (on >>= behind_fetch t.at) (passed (λ b. b == 102) refl t h)
     ((steady_to _ _ (fetch_steady_by t.at (codes "etch"))).reaches m)))
@@ -81,7 +81,7 @@ unfolding pipes.source_with
 source_first d s =
     let t = skip s in
     first_if t.at (head t == 102) (pipes.fetch t) _ (fetch_first t)
-    (λ _. first_if t.at (head t == 123) (pipes.pipe_group d t (behind t)) (Err (unexpected what.Fetch t))
+    (λ _. first_if t.at (head t == 123) (pipes.pipe_group d t (behind t)) (Err (unexpected_fault what.Fetch t))
     (group_first d t) (λ _ e. expected_fetch t.bytes))
 
 pub pipe_first : (d : ℕ) (s : Rest) → FetchFirst (skip s).at (pipes.pipe d s)

@@ -7,7 +7,7 @@ use Rattle.mql_ast.specs.Rests.{Rest, head, behind, skip}
 use Rattle.mql_parse.specs.declared.faults.ParseKind.TheVariants.{TooDeep}
 use Rattle.mql_parse.specs.declared.faults.What.{What}
 use Rattle.mql_parse.specs.declared.faults.What.TheVariants as what
-use Rattle.mql_parse.specs.Outcomes.{Outcome, unexpected, map_outcome}
+use Rattle.mql_parse.specs.Outcomes.{Outcome, unexpected_fault, map_outcome}
 use Rattle.mql_parse.specs.Repeats.{Done, Stuck, goes_on, repetition}
 use Rattle.mql_parse.specs.PredicateReading as predicates
 use Rattle.mql_parse.specs.PredicateReading.{Deeper, Opposite, Group}
@@ -47,7 +47,7 @@ negation_first x d =
     (first_if x next what.Name (λ b. b == 40) _ _ (deeper_far x d Group 40 refl)
     (opening_begins x what.Name refl)
     (first_if x next what.Name is_letter (λ s. predicates.condition (skip s))
-    (λ s. Err (unexpected what.Name (skip s)))
+    (λ s. Err (unexpected_fault what.Name (skip s)))
     (λ s e h. first_wider x what.Name (predicates.condition (skip s)) (condition_far x s e h))
     (λ h. refl) (first_unexpected x next what.Name)))
 
@@ -58,11 +58,12 @@ unfolding predicates.negation_with
 negation_before_with x opposite group f g =
     before_if x next NoMore (λ b. b == 33) _ _ (before_skip x next NoMore (λ t. opposite t (behind t)) f)
     (before_if x next NoMore (λ b. b == 40) _ _ (before_skip x next NoMore (λ t. group t (behind t)) g)
-    (before_if x next NoMore is_letter (λ s. predicates.condition (skip s)) (λ s. Err (unexpected what.Name (skip s)))
+    (before_if x next NoMore is_letter (λ s. predicates.condition (skip s))
+    (λ s. Err (unexpected_fault what.Name (skip s)))
     (before_skip x next NoMore predicates.condition
     (before_of x here next NoMore predicates.condition (meets_to x here NoMore predicates.condition
     (condition_meets x))))
-    (before_skip x next NoMore (λ t. Err (unexpected what.Name t)) (before_unexpected x next NoMore what.Name))))
+    (before_skip x next NoMore (λ t. Err (unexpected_fault what.Name t)) (before_unexpected x next NoMore what.Name))))
 
 -- what may go on a chain
 abbrev pub AndGoes : Spot → PredicateTree → Type 0
@@ -75,7 +76,7 @@ OrGoes x p = Begun x what.Bar
 abbrev second_sign : ℕ → What → (PredicateTree → PredicateTree) → (Rest → Outcome PredicateTree) → Rest →
     Outcome (PredicateTree × Bool)
 second_sign b w join part u =
-    if head u == b then map_outcome (λ y. (join y, true)) (part (behind u)) else Err (unexpected w u)
+    if head u == b then map_outcome (λ y. (join y, true)) (part (behind u)) else Err (unexpected_fault w u)
 
 abbrev double_state : ℕ → What → (PredicateTree → PredicateTree) → (Rest → Outcome PredicateTree) → PredicateTree →
     Rest → Outcome (PredicateTree × Bool)
@@ -88,10 +89,10 @@ double_shape : (b : ℕ) (w : What) (join : PredicateTree → PredicateTree → 
 double_shape b w join part left s =
     let u = behind (skip s) in
     let on = goes_on (join left) (part (behind u)) in
-    turn_if_read (head (skip s) == b) (if head u == b then on else Stuck (unexpected w u)) (Done left s)
+    turn_if_read (head (skip s) == b) (if head u == b then on else Stuck (unexpected_fault w u)) (Done left s)
     ∙ ap (λ o. if head (skip s) == b then o else Ok ((left, false), s))
-    (turn_if_read (head u == b) on (Stuck (unexpected w u))
-    ∙ ap (λ o. if head u == b then o else Err (unexpected w u)) (goes_on_read (join left) (part (behind u))))
+    (turn_if_read (head u == b) on (Stuck (unexpected_fault w u))
+    ∙ ap (λ o. if head u == b then o else Err (unexpected_fault w u)) (goes_on_read (join left) (part (behind u))))
 
 module _ (x : Spot) (P G : PredicateTree → Type 0) (b : ℕ) (w : What)
     (join : PredicateTree → PredicateTree → PredicateTree) (part : Rest → Outcome PredicateTree)
@@ -102,7 +103,7 @@ module _ (x : Spot) (P G : PredicateTree → Type 0) (b : ℕ) (w : What)
       let further = λ (u : Rest). map_outcome (λ y. (join left y, true)) (part u) in
       let there : Meets x next next (OfState G) further =
       meets_map x next next P (OfState G) (λ y. (join left y, true)) part (goes left) k in
-      meets_if_here x next (OfState G) (λ c. c == b) (λ u. further (behind u)) (λ u. Err (unexpected w u)) blank
+      meets_if_here x next (OfState G) (λ c. c == b) (λ u. further (behind u)) (λ u. Err (unexpected_fault w u)) blank
       (far_behind x next (OfState G) (λ c. c == b) z further (steady_from next further there.steady))
       (before_behind x next (OfState G) further (meets_from x next (OfState G) further there))
       (meets_unexpected x next (OfState G) w)

@@ -10,7 +10,7 @@ use Rattle.mql_ast.specs.Bytes.{is_blank}
 use Rattle.mql_ast.specs.Rests.{Rest, first_of, head, behind, skip}
 use Rattle.mql_parse.specs.declared.faults.What.{What}
 use Rattle.mql_parse.specs.declared.faults.What.TheVariants as what
-use Rattle.mql_parse.specs.Outcomes.{Outcome, unexpected, exact, sign, up_to}
+use Rattle.mql_parse.specs.Outcomes.{Outcome, unexpected_fault, exact, sign, up_to}
 use Rattle.mql_parse.specs.Repeats.{Done, Again, on_read, repetition, list_turn}
 use Rattle.mql_parse.specs.TokenReading as reading
 use Rattle.mql_parse.specs.Folds as folds
@@ -78,7 +78,7 @@ letter_meets x b read other z blank f g =
 fold_behind_me_meets : (x : Spot) → Meets x here here NoMore folds.fold_behind_me
 fold_behind_me_meets x =
     letter_meets x 97 (folds.read_as fold.Mean (codes "n")) _ refl refl (read_as_meets x fold.Mean (codes "n") refl)
-    (letter_meets x 114 (folds.read_as fold.Merge (codes "ge")) (λ s. Err (unexpected what.Aggregate s)) refl refl
+    (letter_meets x 114 (folds.read_as fold.Merge (codes "ge")) (λ s. Err (unexpected_fault what.Aggregate s)) refl refl
     (read_as_meets x fold.Merge (codes "ge") refl) (meets_unexpected x here NoMore what.Aggregate))
 
 fold_behind_m_meets : (x : Spot) → Meets x here here NoMore folds.fold_behind_m
@@ -86,7 +86,8 @@ unfolding folds.fold_behind_m
 fold_behind_m_meets x =
     letter_meets x 105 (folds.read_as fold.Min (codes "n")) _ refl refl (read_as_meets x fold.Min (codes "n") refl)
     (letter_meets x 97 (folds.read_as fold.Max (codes "x")) _ refl refl (read_as_meets x fold.Max (codes "x") refl)
-    (letter_meets x 101 folds.fold_behind_me (λ s. Err (unexpected what.Aggregate s)) refl refl (fold_behind_me_meets x)
+    (letter_meets x 101 folds.fold_behind_me (λ s. Err (unexpected_fault what.Aggregate s)) refl refl
+    (fold_behind_me_meets x)
     (meets_unexpected x here NoMore what.Aggregate)))
 
 fold_first : (x : Spot) → First x next here what.Aggregate (λ s. folds.fold_here (skip s))
@@ -107,7 +108,7 @@ fold_first x =
     (exact_fails what.Aggregate 97 (codes "ggregate") (λ r. Ok (fold.Aggregate, r)))
     (at_bytes x what.Aggregate what.Aggregate 97 103 refl refl))
     (first_if x here what.Aggregate (λ b. b == 109) (λ s. folds.fold_behind_m (behind (skip s)))
-    (λ s. Err (unexpected what.Aggregate (skip s)))
+    (λ s. Err (unexpected_fault what.Aggregate (skip s)))
     (λ s e h. passed_far x here what.Aggregate (λ b. b == 109) refl folds.fold_behind_m (fold_behind_m_meets x).steady s
     e h)
     (at_byte x what.Aggregate what.Aggregate 109 refl refl) (first_unexpected x here what.Aggregate))))
@@ -121,7 +122,7 @@ fold_before x =
     (before_if_here x here NoMore (λ b. b == 115) _ _ (word fold.Sum (codes "sum") refl)
     (before_if_here x here NoMore (λ b. b == 97) _ _ (word fold.Aggregate (codes "aggregate") refl)
     (before_if_here x here NoMore (λ b. b == 109) (λ s. folds.fold_behind_m (behind s))
-    (λ s. Err (unexpected what.Aggregate s))
+    (λ s. Err (unexpected_fault what.Aggregate s))
     (before_behind x here NoMore folds.fold_behind_m (fold_behind_m_meets x))
     (before_unexpected x here NoMore what.Aggregate))))
 
@@ -183,20 +184,20 @@ bare_fold_first : (x : Spot) (at : ℕ) (o : Option FoldWord) →
 bare_fold_first x at None = first_unexpected x next what.Colon
 bare_fold_first x at (Some word) =
     first_if x next what.OpenParenthesis (λ b. b == 40) (λ r. folds.fold_call at None word (behind (skip r)))
-    (λ r. Err (unexpected what.OpenParenthesis (skip r)))
+    (λ r. Err (unexpected_fault what.OpenParenthesis (skip r)))
     (λ s e h. passed_far x next what.OpenParenthesis (λ b. b == 40) refl (folds.fold_call at None word)
     (steady_from next (folds.fold_call at None word) (fold_call_meets x at None word).steady) s e h)
     (opening_begins x what.OpenParenthesis refl) (first_unexpected x next what.OpenParenthesis)
 
 bare_fold_before : (x : Spot) (at : ℕ) (o : Option FoldWord) →
     Before x next next NoMore (λ r. folds.bare_fold at o (skip r))
-bare_fold_before x at None = before_skip x next NoMore (λ t. Err (unexpected what.Colon t))
+bare_fold_before x at None = before_skip x next NoMore (λ t. Err (unexpected_fault what.Colon t))
     (before_unexpected x next NoMore what.Colon)
 bare_fold_before x at (Some word) =
     before_if x next NoMore (λ b. b == 40) (λ r. folds.fold_call at None word (behind (skip r)))
-    (λ r. Err (unexpected what.OpenParenthesis (skip r)))
+    (λ r. Err (unexpected_fault what.OpenParenthesis (skip r)))
     (before_part_behind x next NoMore (folds.fold_call at None word) (fold_call_meets x at None word))
-    (before_skip x next NoMore (λ t. Err (unexpected what.OpenParenthesis t))
+    (before_skip x next NoMore (λ t. Err (unexpected_fault what.OpenParenthesis t))
     (before_unexpected x next NoMore what.OpenParenthesis))
 
 abbrev behind_label : Name × Rest → Outcome Aggregate
@@ -212,12 +213,12 @@ fold_fails r h =
     subst (λ s. Failed (if head s == 99 then folds.read_as fold.Count (codes "count") s else
     (if head s == 115 then folds.read_as fold.Sum (codes "sum") s else
     (if head s == 97 then folds.read_as fold.Aggregate (codes "aggregate") s else
-    (if head s == 109 then folds.fold_behind_m (behind s) else Err (unexpected what.Aggregate s))))))
+    (if head s == 109 then folds.fold_behind_m (behind s) else Err (unexpected_fault what.Aggregate s))))))
     (sym (skip_off r (ap is_blank same)))
     (subst (λ b. Failed (if b == 99 then folds.read_as fold.Count (codes "count") r else
     (if b == 115 then folds.read_as fold.Sum (codes "sum") r else
     (if b == 97 then folds.read_as fold.Aggregate (codes "aggregate") r else
-    (if b == 109 then folds.fold_behind_m (behind r) else Err (unexpected what.Aggregate r))))))
+    (if b == 109 then folds.fold_behind_m (behind r) else Err (unexpected_fault what.Aggregate r))))))
     (sym same) tt)
 
 -- two colons don't stand behind a name

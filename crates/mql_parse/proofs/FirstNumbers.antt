@@ -9,7 +9,7 @@ use Rattle.mql_ast.specs.Tokens.{minus, unit_seconds, longest}
 use Rattle.mql_parse.specs.declared.faults.ParseKind.TheVariants.{NumberTooLarge}
 use Rattle.mql_parse.specs.declared.faults.What.{What}
 use Rattle.mql_parse.specs.declared.faults.What.TheVariants as what
-use Rattle.mql_parse.specs.Outcomes.{Outcome, fault, unexpected, map_outcome}
+use Rattle.mql_parse.specs.Outcomes.{Outcome, fault, unexpected_fault, map_outcome}
 use Rattle.mql_parse.specs.TokenReading as reading
 use Rattle.mql_parse.specs.Steadiness.{here, next, Reaches, Steady}
 use Rattle.mql_parse.proofs.Steady.{steady_from, steady_ok, steady_map}
@@ -65,9 +65,9 @@ map_meets x f (Err g) p h = λ e w k. by_part w (h e w k)
 -- metrics
 slash_meets : (x : Spot) (after : Bool) (at : ℕ) (bs cs : List ℕ) →
     Splits x (record { at = at; bytes = bs }) (record { at = at; bytes = cs }) →
-    MeetsOutcome {A = List ℕ} x here NoMore (if after then Err (unexpected what.Metric (record
+    MeetsOutcome {A = List ℕ} x here NoMore (if after then Err (unexpected_fault what.Metric (record
     { at = at; bytes = bs })) else Ok ([], record { at = at; bytes = bs }))
-    (if after then Err (unexpected what.Metric (record { at = at; bytes = cs })) else Ok
+    (if after then Err (unexpected_fault what.Metric (record { at = at; bytes = cs })) else Ok
     ([], record { at = at; bytes = cs }))
 slash_meets x true at bs cs c = λ e w k. inr tt
 slash_meets x false at bs cs c = λ l. inl (record { at = at; bytes = cs }, (refl, c))
@@ -85,7 +85,7 @@ metric_spot x after at (b ∷ bs) e =
     by_tests : (t u : Bool) → MeetsOutcome x here NoMore
         (if t then reading.with_byte b (reading.metric_from false (at + 1) bs) else
         (if u then reading.with_byte b (reading.metric_from true (at + 1) bs) else
-        (if after then Err (unexpected what.Metric (record { at = at; bytes = b ∷ bs }))
+        (if after then Err (unexpected_fault what.Metric (record { at = at; bytes = b ∷ bs }))
         else Ok ([], record { at = at; bytes = b ∷ bs })))) (reading.metric_from after at (instead x))
     by_tests true u = beyond_meets x here NoMore (at + 1) _ _ (further false) (omega (arith, e))
     by_tests false true = beyond_meets x here NoMore (at + 1) _ _ (further true) (omega (arith, e))
@@ -148,7 +148,7 @@ unfolding reading.positive
 first_positive x most =
     first_if x here what.Number begins_positive
     (λ s. reading.digits most (head (skip s) - 48) (behind (skip s)).at (behind (skip s)).bytes)
-    (λ s. Err (unexpected what.Number (skip s)))
+    (λ s. Err (unexpected_fault what.Number (skip s)))
     (λ s e h. passed_far x here what.Number begins_positive refl
     (λ r. reading.digits most (head (skip s) - 48) r.at r.bytes) (digits_steady most (head (skip s) - 48)) s e h)
     (λ h. digit_begins x what.Number refl (and_first (is_digit x.byte) (not (x.byte == 48)) h))
@@ -159,9 +159,9 @@ unfolding reading.positive
 before_positive x most =
     let digits_behind = λ (b : ℕ) (t : Rest). reading.digits most (b - 48) (behind t).at (behind t).bytes in
     before_skip x here NoMore (λ t. if begins_positive (head t) then digits_behind (head t) t else Err
-    (unexpected what.Number t))
+    (unexpected_fault what.Number t))
     (before_if_here x here NoMore begins_positive (λ t. digits_behind (head t) t)
-    (λ t. Err (unexpected what.Number t))
+    (λ t. Err (unexpected_fault what.Number t))
     (before_head x here NoMore digits_behind
     (λ b. before_behind x here NoMore (λ t. reading.digits most (b - 48) t.at t.bytes) (meets_digits x most (b - 48))))
     (before_unexpected x here NoMore what.Number))
@@ -191,8 +191,8 @@ mapped_number : {A : Type 0} (x : Spot) (f : ℕ → A) (most : ℕ) →
     Meets x next here NoMore (λ s. map_outcome f (reading.number most s))
 mapped_number x f most = meets_map x next here NoMore NoMore f (reading.number most) (λ n h. h) (meets_number x most)
 
-pub before_signed : (x : Spot) → Before x next here NoMore reading.signed
-unfolding reading.signed
+pub before_signed : (x : Spot) → Before x next here NoMore reading.signed_reading
+unfolding reading.signed_reading
 before_signed x = before_if x here NoMore (λ b. b == 45)
     (λ s. map_outcome minus (reading.number (2 ^ 63) (behind (skip s))))
     (λ s. map_outcome pos (reading.number (2 ^ 63 - 1) s))
@@ -214,7 +214,7 @@ number_far x most w s e h =
 
     by_tests : (t u : Bool) → u ≡ true → FirstOutcome x here w (if t then Ok (0, behind (skip s)) else
         (if u && not t then reading.digits most (head (skip s) - 48) (behind (skip s)).at (behind (skip s)).bytes
-        else Err (unexpected what.Number (skip s))))
+        else Err (unexpected_fault what.Number (skip s))))
     by_tests true u g = far {A = ℕ} (λ r. Ok (0, r)) (steady_ok here 0)
     by_tests false true g = far (λ r. reading.digits most (head (skip s) - 48) r.at r.bytes)
         (digits_steady most (head (skip s) - 48))
@@ -227,8 +227,8 @@ map_first x to w f (Ok y) h = h
 map_first x to w f (Err g) h = h
 
 pub signed_far : (x : Spot) (w : What) (s : Rest) → next s ≡ x.at →
-    (head (skip s) == 45 || is_digit (head (skip s))) ≡ true → FirstOutcome x here w (reading.signed s)
-unfolding reading.signed
+    (head (skip s) == 45 || is_digit (head (skip s))) ≡ true → FirstOutcome x here w (reading.signed_reading s)
+unfolding reading.signed_reading
 signed_far x w s e h = by_test (head (skip s) == 45) refl h
   where
     by_test : (t : Bool) → (head (skip s) == 45) ≡ t → (t || is_digit (head (skip s))) ≡ true →
@@ -244,7 +244,7 @@ signed_far x w s e h = by_test (head (skip s) == 45) refl h
 -- units stand directly behind their number
 abbrev units_by : ℕ → ℕ → Rest → Outcome ℤ
 units_by n b r =
-    if unit_seconds b == 0 then Err (unexpected what.Unit r) else
+    if unit_seconds b == 0 then Err (unexpected_fault what.Unit r) else
     (if nat_le (n * unit_seconds b) longest then Ok (pos (n * unit_seconds b), behind r)
     else Err (fault NumberTooLarge r))
 
@@ -253,9 +253,9 @@ units_same : (x : Spot) (n b : ℕ) (s t : Rest) → Splits x s t → s.at < x.a
 units_same x n b s t c l = by_tests (unit_seconds b == 0) (nat_le (n * unit_seconds b) longest)
   where
     by_tests : (t' u : Bool) → MeetsOutcome x here NoMore
-        (if t' then Err (unexpected what.Unit s) else (if u then Ok (pos (n * unit_seconds b), behind s) else
+        (if t' then Err (unexpected_fault what.Unit s) else (if u then Ok (pos (n * unit_seconds b), behind s) else
         Err (fault NumberTooLarge s)))
-        (if t' then Err (unexpected what.Unit t) else (if u then Ok (pos (n * unit_seconds b), behind t) else
+        (if t' then Err (unexpected_fault what.Unit t) else (if u then Ok (pos (n * unit_seconds b), behind t) else
         Err (fault NumberTooLarge t)))
     by_tests true u = λ e w k. inr tt
     by_tests false true = λ e. inl (behind t, (refl, splits_behind x s t c l))
@@ -270,8 +270,9 @@ units_spot x n s t e = by_tests (unit_seconds (head s) == 0) (nat_le (n * unit_s
     of_bytes at (b ∷ bs) g = omega arith
 
     by_tests : (t' u : Bool) → (unit_seconds (head s) == 0) ≡ t' → MeetsOutcome x here NoMore
-        (if t' then Err (unexpected what.Unit s) else (if u then Ok (pos (n * unit_seconds (head s)), behind s) else
-        Err (fault NumberTooLarge s))) (Err (unexpected what.Unit t))
+        (if t' then Err (unexpected_fault what.Unit s)
+        else (if u then Ok (pos (n * unit_seconds (head s)), behind s) else
+        Err (fault NumberTooLarge s))) (Err (unexpected_fault what.Unit t))
     by_tests true u h = λ d w k. inr tt
     by_tests false true h = λ l. absurd (omega (arith, l, e, of_bytes s.at s.bytes h))
     by_tests false false h = λ d w k. inr tt

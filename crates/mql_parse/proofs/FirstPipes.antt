@@ -10,7 +10,7 @@ use Rattle.mql_ast.specs.Rests.{Rest, head, behind, skip}
 use Rattle.mql_ast.specs.Tokens.{metric_name}
 use Rattle.mql_parse.specs.declared.faults.ParseKind.TheVariants.{TooDeep}
 use Rattle.mql_parse.specs.declared.faults.What.TheVariants as what
-use Rattle.mql_parse.specs.Outcomes.{Outcome, unexpected, exact, sign, map_outcome}
+use Rattle.mql_parse.specs.Outcomes.{Outcome, unexpected_fault, exact, sign, map_outcome}
 use Rattle.mql_parse.specs.Repeats.{Done, Again, Stuck, repetition}
 use Rattle.mql_parse.specs.TokenReading as reading
 use Rattle.mql_parse.specs.PipeReading as pipes
@@ -145,7 +145,7 @@ how_first : (x : Spot) → First x next next what.How (λ m. pipes.how_here (ski
 how_first x =
     first_keyword x NoMore what.How 106 (codes "oin") _ _ (how_keyword x 106 (codes "oin") how.Join refl refl)
     (λ h k. at_byte x what.How what.How 106 refl refl h)
-    (first_keyword x NoMore what.How 117 (codes "nion") _ (λ m. Err (unexpected what.How (skip m)))
+    (first_keyword x NoMore what.How 117 (codes "nion") _ (λ m. Err (unexpected_fault what.How (skip m)))
     (how_keyword x 117 (codes "nion") how.Union refl refl)
     (λ h k. at_byte x what.How what.How 117 refl refl h)
     (first_unexpected x next what.How))
@@ -153,9 +153,9 @@ how_first x =
 how_before : (x : Spot) → Before x next next NoMore (λ m. pipes.how_here (skip m))
 how_before x =
     before_keyword x NoMore 106 (codes "oin") _ _ (how_keyword x 106 (codes "oin") how.Join refl refl)
-    (before_keyword x NoMore 117 (codes "nion") _ (λ m. Err (unexpected what.How (skip m)))
+    (before_keyword x NoMore 117 (codes "nion") _ (λ m. Err (unexpected_fault what.How (skip m)))
     (how_keyword x 117 (codes "nion") how.Union refl refl)
-    (before_skip x next NoMore (λ t. Err (unexpected what.How t)) (before_unexpected x next NoMore what.How)))
+    (before_skip x next NoMore (λ t. Err (unexpected_fault what.How t)) (before_unexpected x next NoMore what.How)))
 
 abbrev named_at : ℕ → List PipeTree → ℕ → Rest → Outcome SourceTree
 named_at at all n m = map_outcome (λ by. Branches at (branches all) by n) (pipes.how_here (skip m))
@@ -249,9 +249,9 @@ branch_shape so_far pipe r =
     let all = so_far ++ pipe ∷ [] in
     let t = skip r in
     turn_if_read (head t == 59) (Again all (behind t))
-    (if head t == 125 then Done all (behind t) else Stuck (unexpected what.CloseBrace t))
+    (if head t == 125 then Done all (behind t) else Stuck (unexpected_fault what.CloseBrace t))
     ∙ ap (λ o. if head t == 59 then Ok ((all, true), behind t) else o)
-    (turn_if_read (head t == 125) (Done all (behind t)) (Stuck (unexpected what.CloseBrace t)))
+    (turn_if_read (head t == 125) (Done all (behind t)) (Stuck (unexpected_fault what.CloseBrace t)))
 
 branch_turn_meets : (x : Spot) (pipe : Rest → Outcome PipeTree) → Meets x next next (PipeGoes x) pipe →
     (so_far : List PipeTree) → Meets x next next (OfState NoMore) (λ s. turn_read (pipes.branch_turn pipe so_far s))
@@ -326,7 +326,7 @@ source_first x d =
     first_keyword x NoMore what.Fetch 102 (codes "etch") pipes.fetch _ (fetch_keyword x)
     (at_bytes x what.Fetch what.Fetch 102 101 refl refl)
     (first_if x next what.Fetch (λ b. b == 123) (λ s. pipes.pipe_group d (skip s) (behind (skip s)))
-    (λ s. Err (unexpected what.Fetch (skip s))) (group_far x d) (open_brace_begins x what.Fetch refl)
+    (λ s. Err (unexpected_fault what.Fetch (skip s))) (group_far x d) (open_brace_begins x what.Fetch refl)
     (first_unexpected x next what.Fetch))
 
 source_before : (x : Spot) (d : ℕ) → Before x here next NoMore (λ t. pipes.pipe_group d t (behind t)) →
@@ -335,9 +335,9 @@ unfolding pipes.source_with
 source_before x d k =
     before_keyword x NoMore 102 (codes "etch") pipes.fetch _ (fetch_keyword x)
     (before_if x next NoMore (λ b. b == 123) (λ s. pipes.pipe_group d (skip s) (behind (skip s)))
-    (λ s. Err (unexpected what.Fetch (skip s)))
+    (λ s. Err (unexpected_fault what.Fetch (skip s)))
     (before_skip x next NoMore (λ t. pipes.pipe_group d t (behind t)) k)
-    (before_skip x next NoMore (λ t. Err (unexpected what.Fetch t)) (before_unexpected x next NoMore what.Fetch)))
+    (before_skip x next NoMore (λ t. Err (unexpected_fault what.Fetch t)) (before_unexpected x next NoMore what.Fetch)))
 
 pipe_meets_with : (x : Spot) (d : ℕ) → Before x here next NoMore (λ t. pipes.pipe_group d t (behind t)) →
     Meets x next next (PipeGoes x) (pipes.pipe d)

@@ -11,10 +11,10 @@ use Rattle.mql_ast.specs.Bytes.{is_letter, is_digit}
 use Rattle.mql_ast.specs.Rests.{Rest, first_of, head, behind, skip}
 use Rattle.mql_ast.specs.Tokens.{word_here}
 use Rattle.mql_parse.specs.declared.faults.What.TheVariants as what
-use Rattle.mql_parse.specs.Outcomes.{Outcome, unexpected, exact, sign, map_outcome}
+use Rattle.mql_parse.specs.Outcomes.{Outcome, unexpected_fault, exact, sign, map_outcome}
 use Rattle.mql_parse.specs.TokenReading as reading
 use Rattle.mql_parse.specs.PredicateReading as predicates
-use Rattle.mql_parse.specs.PredicateReading.{Compared, WithValue, WithPattern, Deeper, Opposite, Group}
+use Rattle.mql_parse.specs.PredicateReading.{Compared, WithValue, WithPattern}
 use Rattle.mql_parse.specs.Steadiness.{here, next}
 use Rattle.mql_parse.proofs.Steady.{steady_from, steady_ok, steady_map}
 use Rattle.mql_parse.proofs.TokenSteady.{text_steady}
@@ -41,7 +41,7 @@ byte_meets x a test other z n k =
 behind_equals_meets : (x : Spot) → Meets x here here NoMore predicates.behind_equals
 behind_equals_meets x =
     byte_meets x (WithValue comparison.Equal) (λ b. b == 61) _ refl refl
-    (byte_meets x WithPattern (λ b. b == 126) (λ s. Err (unexpected what.Comparison s)) refl refl
+    (byte_meets x WithPattern (λ b. b == 126) (λ s. Err (unexpected_fault what.Comparison s)) refl refl
     (meets_unexpected x here NoMore what.Comparison))
 
 maybe_equal_meets : (x : Spot) (without with : Comparison) →
@@ -76,7 +76,7 @@ comparison_first x =
     (at_byte x what.Comparison what.Comparison 60 refl refl)
     (first_if x here what.Comparison (λ b. b == 62)
     (λ s. predicates.maybe_equal comparison.Greater comparison.AtLeast (behind (skip s)))
-    (λ s. Err (unexpected what.Comparison (skip s)))
+    (λ s. Err (unexpected_fault what.Comparison (skip s)))
     (λ s e h. passed_far x here what.Comparison (λ b. b == 62) refl
     (predicates.maybe_equal comparison.Greater comparison.AtLeast)
     (maybe_equal_meets x comparison.Greater comparison.AtLeast).steady s e h)
@@ -95,10 +95,10 @@ comparison_before x =
     (maybe_equal_meets x comparison.Less comparison.AtMost))
     (before_if x here NoMore (λ b. b == 62)
     (λ s. predicates.maybe_equal comparison.Greater comparison.AtLeast (behind (skip s)))
-    (λ s. Err (unexpected what.Comparison (skip s)))
+    (λ s. Err (unexpected_fault what.Comparison (skip s)))
     (before_behind_skip x here NoMore (predicates.maybe_equal comparison.Greater comparison.AtLeast)
     (maybe_equal_meets x comparison.Greater comparison.AtLeast))
-    (before_skip x here NoMore (λ t. Err (unexpected what.Comparison t))
+    (before_skip x here NoMore (λ t. Err (unexpected_fault what.Comparison t))
     (before_unexpected x here NoMore what.Comparison)))))
 
 comparison_meets : (x : Spot) → Meets x next here NoMore predicates.comparison_kind
@@ -141,9 +141,10 @@ value_first x =
     e h)
     (second_or x what.Text 102 (codes "alse") (λ t. exact what.Truth (codes "false") t >>= no)
     (exact_fails what.Truth 102 (codes "alse") no) (at_bytes x what.Text what.Truth 102 97 refl refl))
-    (first_if x here what.Text (λ b. b == 45 || is_digit b) (λ s. map_outcome (λ z. field.Int z) (reading.signed s))
-    (λ s. Err (unexpected what.Text (skip s)))
-    (λ s e h. map_first x here what.Text (λ z. field.Int z) (reading.signed s) (signed_far x what.Text s e h))
+    (first_if x here what.Text (λ b. b == 45 || is_digit b)
+    (λ s. map_outcome (λ z. field.Int z) (reading.signed_reading s))
+    (λ s. Err (unexpected_fault what.Text (skip s)))
+    (λ s e h. map_first x here what.Text (λ z. field.Int z) (reading.signed_reading s) (signed_far x what.Text s e h))
     (minus_or_digit x what.Text refl refl) (first_unexpected x here what.Text))))
 
 value_before : (x : Spot) → Before x next here NoMore predicates.value
@@ -154,10 +155,11 @@ value_before x =
     (meets_map x here here NoMore NoMore (λ y. field.Text y) reading.text (λ y h. h) (meets_text x)))
     (before_if x here NoMore (λ b. b == 116) _ _ (truth_before x 116 (codes "rue") true refl)
     (before_if x here NoMore (λ b. b == 102) _ _ (truth_before x 102 (codes "alse") false refl)
-    (before_if x here NoMore (λ b. b == 45 || is_digit b) (λ s. map_outcome (λ z. field.Int z) (reading.signed s))
-    (λ s. Err (unexpected what.Text (skip s)))
-    (before_map x next here (λ z. field.Int z) reading.signed (before_signed x))
-    (before_skip x here NoMore (λ t. Err (unexpected what.Text t)) (before_unexpected x here NoMore what.Text)))))
+    (before_if x here NoMore (λ b. b == 45 || is_digit b)
+    (λ s. map_outcome (λ z. field.Int z) (reading.signed_reading s))
+    (λ s. Err (unexpected_fault what.Text (skip s)))
+    (before_map x next here (λ z. field.Int z) reading.signed_reading (before_signed x))
+    (before_skip x here NoMore (λ t. Err (unexpected_fault what.Text t)) (before_unexpected x here NoMore what.Text)))))
 
 abbrev like : Name → ℕ → Rest → Outcome PredicateTree
 like column n q = map_outcome (λ ps. Like column (record { at = n; pieces = ps })) (reading.pattern q)

@@ -10,7 +10,7 @@ use Rattle.mql_ast.specs.Tokens.{word_here}
 use Rattle.mql_parse.specs.declared.faults.ParseKind.TheVariants.{TooDeep}
 use Rattle.mql_parse.specs.declared.faults.What.{What}
 use Rattle.mql_parse.specs.declared.faults.What.TheVariants as what
-use Rattle.mql_parse.specs.Outcomes.{Outcome, unexpected, sign, map_outcome}
+use Rattle.mql_parse.specs.Outcomes.{Outcome, unexpected_fault, sign, map_outcome}
 use Rattle.mql_parse.specs.Repeats.{Done, goes_on, repetition}
 use Rattle.mql_parse.specs.TokenReading as reading
 use Rattle.mql_parse.specs.SumReading as sums
@@ -76,9 +76,9 @@ word_term_meets x = meets_then x here next next (SumGoes x) (λ t. Ok (word_here
 
 number_term_before : (x : Spot) → Before x next next (SumGoes x) sums.number_term
 number_term_before x =
-    before_next x next (SumGoes x) (λ n s. map_outcome (λ z. seen_sum (Number n z) false) (reading.signed s))
-    (λ n. before_to x next (SumGoes x) (λ s. map_outcome (λ z. seen_sum (Number n z) false) (reading.signed s))
-    (before_map x next here (λ z. seen_sum (Number n z) false) reading.signed (before_signed x)))
+    before_next x next (SumGoes x) (λ n s. map_outcome (λ z. seen_sum (Number n z) false) (reading.signed_reading s))
+    (λ n. before_to x next (SumGoes x) (λ s. map_outcome (λ z. seen_sum (Number n z) false) (reading.signed_reading s))
+    (before_map x next here (λ z. seen_sum (Number n z) false) reading.signed_reading (before_signed x)))
 
 -- a term begins with a name
 term_first_with : (x : Spot) (group : Rest → Rest → Outcome SumSeen) →
@@ -90,11 +90,11 @@ term_first_with x group k =
     first_if x next what.Name (λ b. b == 40) (λ s. group (skip s) (behind (skip s))) _ k
     (opening_begins x what.Name refl)
     (first_if x next what.Name (λ b. b == 45 || is_digit b) sums.number_term _
-    (λ s e h. map_first x next what.Name (λ z. seen_sum (Number (skip s).at z) false) (reading.signed s)
-    (first_wider x what.Name (reading.signed s) (signed_far x what.Name s e h)))
+    (λ s e h. map_first x next what.Name (λ z. seen_sum (Number (skip s).at z) false) (reading.signed_reading s)
+    (first_wider x what.Name (reading.signed_reading s) (signed_far x what.Name s e h)))
     (minus_or_digit x what.Name refl refl)
     (first_if x next what.Name is_letter (λ s. sums.word_read (word_here (skip s)))
-    (λ s. Err (unexpected what.Name (skip s)))
+    (λ s. Err (unexpected_fault what.Name (skip s)))
     (first_word x next sums.word_read what.Name (λ a. steady_from next (λ r. sums.word_read (a, r))
     (word_read_meets x a).steady))
     (λ h. refl) (first_unexpected x next what.Name)))
@@ -108,10 +108,10 @@ term_before_with x group k =
     (before_skip x next (SumGoes x) (λ t. group t (behind t)) k)
     (before_if x next (SumGoes x) (λ b. b == 45 || is_digit b) sums.number_term _ (number_term_before x)
     (before_if x next (SumGoes x) is_letter (λ s. sums.word_read (word_here (skip s)))
-    (λ s. Err (unexpected what.Name (skip s)))
+    (λ s. Err (unexpected_fault what.Name (skip s)))
     (before_skip x next (SumGoes x) (λ t. sums.word_read (word_here t))
     (before_of x here next (SumGoes x) (λ t. sums.word_read (word_here t)) (word_term_meets x)))
-    (before_skip x next (SumGoes x) (λ t. Err (unexpected what.Name t))
+    (before_skip x next (SumGoes x) (λ t. Err (unexpected_fault what.Name t))
     (before_unexpected x next (SumGoes x) what.Name))))
 
 -- further terms

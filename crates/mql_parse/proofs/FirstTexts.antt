@@ -12,19 +12,19 @@ use Rattle.mon_value.specs.declared.refusals.Refusal.TheVariants as refusal
 use Rattle.mql_ast.specs.declared.pipes.Query.{Query}
 use Rattle.mql_ast.specs.Bytes.{is_blank}
 use Rattle.mql_ast.specs.Rests.{Rest, first_of, head, behind, skip}
-use Rattle.mql_ast.specs.Tokens.{sign_at, past, word_at}
+use Rattle.mql_ast.specs.Tokens.{sign_at, past, keyword_at}
 use Rattle.mql_ast.specs.Trees.{PipeTree, SourceTree, query_tree}
 use Rattle.mql_ast.specs.Grammar.{start, levels, longest_text, Pipe, flow, Source, fetch, join, SpellsAtLength, Begins}
 use Rattle.mql_parse.specs.declared.faults.ParseFault.{ParseFault}
 use Rattle.mql_parse.specs.declared.faults.ParseKind.TheVariants.{Expected}
 use Rattle.mql_parse.specs.declared.faults.What.{What}
 use Rattle.mql_parse.specs.declared.faults.What.TheVariants as what
-use Rattle.mql_parse.specs.Outcomes.{Outcome, fault, unexpected}
+use Rattle.mql_parse.specs.Outcomes.{Outcome, fault, unexpected_fault}
 use Rattle.mql_parse.specs.PipeReading.{pipe, behind_query, query_end_in, query_end, query_within, query, text_outcome}
 use Rattle.mql_parse.specs.FaultDepths.{SpellsWithin}
 use Rattle.mql_parse.specs.FaultPlaces.{FaultOf}
 use Rattle.mql_parse.specs.WordOrder.{rank, stands_alone, allows}
-use Rattle.mql_parse.specs.FaultTokens.{IsBare, followed, MayFollow, MayCome, ExpectedKind}
+use Rattle.mql_parse.specs.FaultTokens.{IsBare, with_token_behind, MayStandBehind, MayCome, ExpectedKind}
 use Rattle.mql_parse.specs.FaultFirsts.{FirstKind}
 use Rattle.mql_parse.specs.Steadiness.{next}
 use Rattle.mql_parse.proofs.RestLemmas.{skip_off}
@@ -60,7 +60,7 @@ end_first : (x : Spot) (tree : PipeTree) (r : Rest) (bs : List ℕ) (p : Outcome
     (p >>= query_end) ≡ Ok other → (w : What) → f.kind ≡ Expected w → Begun x w
 end_first x tree r [] p other f h e place done w k = absurd (cc)
 end_first x tree r (b ∷ bs) p other f h e place done w k =
-    let same : unexpected (behind_query tree) (skip r) ≡ f = cc in
+    let same : unexpected_fault (behind_query tree) (skip r) ≡ f = cc in
     let here : next r ≡ x.at = ap (λ g. g.at) same ∙ place in
     let named : w ≡ behind_query tree = kind_names (behind_query tree) (skip r).bytes w (ap (λ g. g.kind) same ∙ k) in
     by_part named (h (omega (arith, here)))
@@ -68,7 +68,7 @@ end_first x tree r (b ∷ bs) p other f h e place done w k =
     by_part : w ≡ behind_query tree → ((q : Rest) × ((p ≡ Ok (tree, q)) × Splits x r q)) ⊎
         ((next r ≡ x.at) × PipeGoes x tree) → Begun x w
     by_part n (inl c) =
-        absurd (refused other (query_end (tree, c.0)) (unexpected (behind_query tree) (skip c.0))
+        absurd (refused other (query_end (tree, c.0)) (unexpected_fault (behind_query tree) (skip c.0))
         (sym (ap (λ z. z >>= query_end) c.1.0) ∙ done) (more_left tree c.0 c.0.bytes (some_instead x r c.0 c.1.1)))
     by_part n (inr c) = subst (Begun x) (sym n) c.1
 
@@ -139,7 +139,7 @@ follows_allowed text f e w k c front first v token bare begun =
 
 -- what begins a text is `fetch` or a brace
 fetch_first : (v : What) (b : ℕ) (rest : List ℕ) (m : Rest) → is_blank b ≡ false → Starts v b (first_of rest) →
-    word_at (codes "fetch") (start (b ∷ rest)) ≡ Some m → allows what.Fetch v ≡ true
+    keyword_at (codes "fetch") (start (b ∷ rest)) ≡ Some m → allows what.Fetch v ≡ true
 fetch_first v b rest m h k f =
     let here = skip_off (start (b ∷ rest)) h in
     let first : (b == 102) ≡ true = ap (λ t. head t == 102) (sym here) ∙ some_by _ _ m f in
@@ -161,7 +161,7 @@ brace_first v b rest m h k f =
 
 source_first : {d : ℕ} {s r : Rest} {t : SourceTree} → Source d s r t → (v : What) (b : ℕ) (rest : List ℕ) →
     s ≡ start (b ∷ rest) → is_blank b ≡ false → Starts v b (first_of rest) → allows what.Fetch v ≡ true
-source_first (fetch f a n c m) v b rest e h k = fetch_first v b rest _ h k (ap (word_at (codes "fetch")) (sym e) ∙ f)
+source_first (fetch f a n c m) v b rest e h k = fetch_first v b rest _ h k (ap (keyword_at (codes "fetch")) (sym e) ∙ f)
 source_first (join f p g i w) v b rest e h k = brace_first v b rest _ h k (ap (sign_at 123) (sym e) ∙ f)
 
 start_allowed : {d : ℕ} {s r : Rest} {tree : PipeTree} → Pipe d s r tree → (v : What) (b : ℕ) (rest : List ℕ) →
@@ -254,7 +254,7 @@ comes_follows text f e w k c front first g = by_begun g.begun g.parts g.way g.cl
       quotes = λ e closed. never_closed (opens e) closed;
     })
 
-fetch_follows : MayFollow [] what.Fetch
+fetch_follows : MayStandBehind [] what.Fetch
 fetch_follows = record {
   token = codes "fetch";
   is_token = refl;
@@ -279,9 +279,9 @@ no_more : (begun rest : List ℕ) (b c : ℕ) → b ∷ (begun ++ c ∷ rest) �
 no_more [] rest b c h = cc
 no_more (x ∷ begun) rest b c h = cc
 
-name_follows : (front : List ℕ) → MayCome front what.Name → Begins (followed front (codes "_"))
+name_follows : (front : List ℕ) → MayCome front what.Name → Begins (with_token_behind front (codes "_"))
 name_follows front (inl g) = absurd (no_more g.begun g.rest g.first g.next g.token)
-name_follows front (inr g) = subst (λ t. Begins (followed front t)) g.is_token g.begins
+name_follows front (inr g) = subst (λ t. Begins (with_token_behind front t)) g.is_token g.begins
 
 -- what is allowed where a name is expected, if it is no keyword's word
 name_allows : (n m : ℕ) (alone : Bool) → n ≡ 1 → alone ≡ false → (m ≡ 0 → ⊥) →
@@ -293,7 +293,7 @@ first_of_query : (text : List ℕ) (f : ParseFault) → query text ≡ Err f →
 first_of_query text f e w k v m =
     by_front (take f.at text) refl (arrived text f e w k) (expected_of_query text f e w k) m
   where
-    by_name : (front : List ℕ) → MayCome front w → MayFollow front v → (t : Bool) → (rank w == 1) ≡ t →
+    by_name : (front : List ℕ) → MayCome front w → MayStandBehind front v → (t : Bool) → (rank w == 1) ≡ t →
         (t || allows w v) ≡ true → allows w v ≡ true
     by_name front c m false h a = a
     by_name front c m true h a =
@@ -303,7 +303,7 @@ first_of_query text f e w k v m =
         (λ none. m.no_name (ap (λ n. n == 0 || n == 6 || (nat_le 8 n && nat_le n 11)) none) named)
 
     by_front : (front : List ℕ) → take f.at text ≡ front → Arrives levels front w → MayCome front w →
-        MayFollow front v → allows w v ≡ true
+        MayStandBehind front v → allows w v ≡ true
     by_front [] q g c m = subst (λ u. allows u v ≡ true) (sym g) (begins_allowed v m.token m.is_token m.begins)
     by_front (b ∷ front) q g c m =
         by_name (b ∷ front) c m (rank w == 1) refl

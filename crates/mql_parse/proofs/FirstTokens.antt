@@ -10,7 +10,7 @@ use Rattle.mql_ast.specs.Rests.{Rest, first_of, behind_first, head, behind, skip
 use Rattle.mql_ast.specs.Tokens.{word_bytes, behind_word, word_here}
 use Rattle.mql_parse.specs.declared.faults.What.{What}
 use Rattle.mql_parse.specs.declared.faults.What.TheVariants as what
-use Rattle.mql_parse.specs.Outcomes.{Outcome, unexpected, exact, apart}
+use Rattle.mql_parse.specs.Outcomes.{Outcome, unexpected_fault, exact, apart}
 use Rattle.mql_parse.specs.TokenReading as reading
 use Rattle.mql_parse.specs.Steadiness.{here, next, Steady, unit_read}
 use Rattle.mql_parse.proofs.RestLemmas.{skip_off}
@@ -25,7 +25,7 @@ use Rattle.mql_parse.proofs.Spots.{beyond}
 
 -- a fault here, and a choice by the byte that stands here
 pub meets_unexpected : {A : Type 0} (x : Spot) (to : Rest → ℕ) (G : A → Type 0) (w : What) →
-    Meets {A = A} x here to G (λ s. Err (unexpected w s))
+    Meets {A = A} x here to G (λ s. Err (unexpected_fault w s))
 meets_unexpected x to G w = record { steady = steady_unexpected to w; agrees = λ s t c e v k. inr tt }
 
 pub meets_if_here : {A : Type 0} (x : Spot) (to : Rest → ℕ) (G : A → Type 0) (test : ℕ → Bool)
@@ -80,9 +80,10 @@ meets_exact x w (c ∷ cs) h =
     let first = both (10 == c) (not (0 == c) && all_solid cs) h in
     let second = both (0 == c) (all_solid cs) first.1 in
     meets_by x here here NoMore (λ s. unit_read (exact w (c ∷ cs) s))
-    (λ s. if head s == c then unit_read (exact w cs (behind s)) else Err (unexpected w s))
-    (λ s. unit_if (head s == c) (exact w cs (behind s)) (Err (unexpected w s)))
-    (meets_if_here x here NoMore (λ b. b == c) (λ s. unit_read (exact w cs (behind s))) (λ s. Err (unexpected w s))
+    (λ s. if head s == c then unit_read (exact w cs (behind s)) else Err (unexpected_fault w s))
+    (λ s. unit_if (head s == c) (exact w cs (behind s)) (Err (unexpected_fault w s)))
+    (meets_if_here x here NoMore (λ b. b == c) (λ s. unit_read (exact w cs (behind s)))
+    (λ s. Err (unexpected_fault w s))
     first.0
     (far_behind x here NoMore (λ b. b == c) second.0 (λ s. unit_read (exact w cs s)) (exact_steady w cs))
     (before_behind x here NoMore (λ s. unit_read (exact w cs s)) (meets_exact x w cs second.1))
@@ -93,9 +94,10 @@ pub first_exact : (x : Spot) (w : What) (c : ℕ) (cs : List ℕ) → (0 == c) �
     ((x.byte == c) ≡ true → Begun x w) → First x next here w (λ s. unit_read (exact w (c ∷ cs) (skip s)))
 first_exact x w c cs z h =
     first_by x next here w (λ s. unit_read (exact w (c ∷ cs) (skip s)))
-    (λ s. if head (skip s) == c then unit_read (exact w cs (behind (skip s))) else Err (unexpected w (skip s)))
-    (λ s. unit_if (head (skip s) == c) (exact w cs (behind (skip s))) (Err (unexpected w (skip s))))
-    (first_if x here w (λ b. b == c) (λ s. unit_read (exact w cs (behind (skip s)))) (λ s. Err (unexpected w (skip s)))
+    (λ s. if head (skip s) == c then unit_read (exact w cs (behind (skip s))) else Err (unexpected_fault w (skip s)))
+    (λ s. unit_if (head (skip s) == c) (exact w cs (behind (skip s))) (Err (unexpected_fault w (skip s))))
+    (first_if x here w (λ b. b == c) (λ s. unit_read (exact w cs (behind (skip s))))
+    (λ s. Err (unexpected_fault w (skip s)))
     (λ s e k. passed_far x here w (λ b. b == c) z (λ s. unit_read (exact w cs s)) (exact_steady w cs) s e k)
     h (first_unexpected x here w))
 
@@ -109,8 +111,9 @@ pub exact_fails : {B : Type 0} (w : What) (c : ℕ) (cs : List ℕ) (on : Rest �
 exact_fails w c [] on r h = absurd (false≢true (sym h))
 exact_fails w c (next ∷ cs) on r h = either (head r == c)
   where
-    either : (t : Bool) → Failed ((if t then exact w (next ∷ cs) (behind r) else Err (unexpected w r)) >>= on)
-    either true = subst (λ b. Failed ((if b then exact w cs (behind (behind r)) else Err (unexpected w (behind r)))
+    either : (t : Bool) → Failed ((if t then exact w (next ∷ cs) (behind r) else Err (unexpected_fault w r)) >>= on)
+    either true =
+        subst (λ b. Failed ((if b then exact w cs (behind (behind r)) else Err (unexpected_fault w (behind r)))
         >>= on))
         (sym h) tt
     either false = tt
@@ -131,7 +134,8 @@ pub keyword_far : {B : Type 0} (x : Spot) (to : Rest → ℕ) (v w : What) (c : 
     (on : Rest → Outcome B) → (0 == c) ≡ false → Steady here to on → (s : Rest) → next s ≡ x.at →
     (head (skip s) == c) ≡ true → FirstOutcome x to v (exact w (c ∷ cs) (skip s) >>= on)
 keyword_far x to v w c cs on z k s e h =
-    subst (λ b. FirstOutcome x to v ((if b then exact w cs (behind (skip s)) else Err (unexpected w (skip s))) >>= on))
+    subst (λ b. FirstOutcome x to v ((if b then exact w cs (behind (skip s)) else Err (unexpected_fault w (skip s)))
+    >>= on))
     (sym h)
     (passed_far x to v (λ b. b == c) z (λ r. exact w cs r >>= on)
     (steady_behind_pass here here to (exact w cs) on (exact_steady w cs) k) s e h)
@@ -141,17 +145,18 @@ word_not_blank : (b : ℕ) → is_word_byte b ≡ true → is_blank b ≡ false
 word_not_blank b h = grind (arith, nat_tests)
 
 apart_on : {B : Type 0} (t : Bool) (w : What) (s : Rest) (on : Rest → Outcome B) →
-    ((if t then Err (unexpected w s) else Ok s) >>= on) ≡ (if t then Err (unexpected w s) else on s)
+    ((if t then Err (unexpected_fault w s) else Ok s) >>= on) ≡ (if t then Err (unexpected_fault w s) else on s)
 apart_on true w s on = refl
 apart_on false w s on = refl
 
 abbrev apart_then : {B : Type 0} → What → (Rest → Outcome B) → Rest → Outcome B
-apart_then w on s = if is_word_byte (head s) then Err (unexpected w s) else on s
+apart_then w on s = if is_word_byte (head s) then Err (unexpected_fault w s) else on s
 
 pub meets_apart : {B : Type 0} (x : Spot) (to : Rest → ℕ) (H : B → Type 0) (w : What) (on : Rest → Outcome B) →
     First x next to w on → Meets x next to H on → Meets x here to H (λ s. apart w s >>= on)
 meets_apart {B = B} x to H w on first k =
-    meets_by x here to H (λ s. apart w s >>= on) (λ s. if is_word_byte (head s) then Err (unexpected w s) else on s)
+    meets_by x here to H (λ s. apart w s >>= on)
+    (λ s. if is_word_byte (head s) then Err (unexpected_fault w s) else on s)
     (λ s. apart_on (is_word_byte (head s)) w s on)
     (record {
       steady = steady;
@@ -159,31 +164,32 @@ meets_apart {B = B} x to H w on first k =
           (λ l. beyond_meets x to H s.at (apart_then w on s) (apart_then w on t) (steady.reaches s) l);
     })
   where
-    steady : Steady here to (λ s. if is_word_byte (head s) then Err (unexpected w s) else on s)
-    steady = steady_if here to (λ s. is_word_byte (head s)) (λ s. Err (unexpected w s)) on (head_test is_word_byte)
+    steady : Steady here to (λ s. if is_word_byte (head s) then Err (unexpected_fault w s) else on s)
+    steady = steady_if here to (λ s. is_word_byte (head s)) (λ s. Err (unexpected_fault w s)) on
+        (head_test is_word_byte)
         (steady_unexpected to w) (steady_from to on k.steady)
 
     before : (s t : Rest) → Splits x s t → s.at < x.at → MeetsOutcome x to H
-        (if is_word_byte (head s) then Err (unexpected w s) else on s)
-        (if is_word_byte (head t) then Err (unexpected w t) else on t)
-    before s t c l = if_same x to H (is_word_byte (head s)) (is_word_byte (head t)) (Err (unexpected w s))
-        (Err (unexpected w t)) (on s) (on t) (ap is_word_byte (splits_head x s t c l))
+        (if is_word_byte (head s) then Err (unexpected_fault w s) else on s)
+        (if is_word_byte (head t) then Err (unexpected_fault w t) else on t)
+    before s t c l = if_same x to H (is_word_byte (head s)) (is_word_byte (head t)) (Err (unexpected_fault w s))
+        (Err (unexpected_fault w t)) (on s) (on t) (ap is_word_byte (splits_head x s t c l))
         (λ e. absurd (omega (arith, l, e))) (k.agrees s t c)
 
     chosen : (b : Bool) (s t : Rest) → is_word_byte (head s) ≡ b → Splits x s t → s.at ≡ x.at →
-        MeetsOutcome x to H (if b then Err (unexpected w s) else on s) (on t)
+        MeetsOutcome x to H (if b then Err (unexpected_fault w s) else on s) (on t)
     chosen true s t h c e =
         let stands = skip_off s (word_not_blank (head s) h) in
-        first_meets x to H w (Err (unexpected w s)) (on t) (λ d v g. kind_names w s.bytes v g)
+        first_meets x to H w (Err (unexpected_fault w s)) (on t) (λ d v g. kind_names w s.bytes v g)
         (first.refuses s t c (ap (λ r. r.at) stands ∙ e))
     chosen false s t h c e = k.agrees s t c
 
     at_spot : (s t : Rest) → Splits x s t → s.at ≡ x.at → MeetsOutcome x to H
-        (if is_word_byte (head s) then Err (unexpected w s) else on s)
-        (if is_word_byte (head t) then Err (unexpected w t) else on t)
+        (if is_word_byte (head s) then Err (unexpected_fault w s) else on s)
+        (if is_word_byte (head t) then Err (unexpected_fault w t) else on t)
     at_spot s t c e =
-        subst (λ b. MeetsOutcome x to H (if is_word_byte (head s) then Err (unexpected w s) else on s)
-        (if is_word_byte b then Err (unexpected w t) else on t)) (sym (splits_blank x s t c e))
+        subst (λ b. MeetsOutcome x to H (if is_word_byte (head s) then Err (unexpected_fault w s) else on s)
+        (if is_word_byte b then Err (unexpected_fault w t) else on t)) (sym (splits_blank x s t c e))
         (chosen (is_word_byte (head s)) s t refl c e)
 
 -- words
@@ -248,14 +254,14 @@ first_word x to on w k s e h =
 pub first_name : (x : Spot) → First x next here what.Name reading.name
 unfolding reading.name
 first_name x = first_if x here what.Name is_letter (λ s. Ok (word_here (skip s)))
-    (λ s. Err (unexpected what.Name (skip s)))
+    (λ s. Err (unexpected_fault what.Name (skip s)))
     (λ s e h. word_far x (skip s).at (skip s).bytes e h) (λ h. refl) (first_unexpected x here what.Name)
 
 before_name : (x : Spot) → Before x next here NoMore reading.name
 unfolding reading.name
 before_name x = before_skip x here NoMore
-    (λ t. if is_letter (head t) then Ok (word_here t) else Err (unexpected what.Name t))
-    (before_if_here x here NoMore is_letter (λ t. Ok (word_here t)) (λ t. Err (unexpected what.Name t))
+    (λ t. if is_letter (head t) then Ok (word_here t) else Err (unexpected_fault what.Name t))
+    (before_if_here x here NoMore is_letter (λ t. Ok (word_here t)) (λ t. Err (unexpected_fault what.Name t))
     (before_of x here here NoMore (λ t. Ok (word_here t)) (meets_word x))
     (before_unexpected x here NoMore what.Name))
 

@@ -5,7 +5,7 @@ use Rattle.std.proofs.lemmas.Bool.{false≢true, cases_lt}
 use Rattle.mon_value.specs.Answers.{◌>>=◌}
 use Rattle.mql_ast.specs.Rests.{Rest, first_of, behind_first, head, behind, skip}
 use Rattle.mql_parse.specs.declared.faults.What.{What}
-use Rattle.mql_parse.specs.Outcomes.{Outcome, unexpected, map_outcome}
+use Rattle.mql_parse.specs.Outcomes.{Outcome, unexpected_fault, map_outcome}
 use Rattle.mql_parse.specs.Repeats.{Turn, Done, Again, Stuck, turn_outcome, goes_on, repetition, list_or_end, on_read}
 use Rattle.mql_parse.specs.Repeats.{list_turn}
 use Rattle.mql_parse.specs.Behind.{Behind}
@@ -237,7 +237,7 @@ module _ {A : Type 0} (x : Spot) (G : A → Type 0) (turn : A → Rest → Turn 
 abbrev pub list_state : {A : Type 0} → ℕ → ℕ → What → A → Rest → Outcome (A × Bool)
 list_state between close w all r =
     if head (skip r) == between then Ok ((all, true), behind (skip r)) else
-    (if head (skip r) == close then Ok ((all, false), behind (skip r)) else Err (unexpected w (skip r)))
+    (if head (skip r) == close then Ok ((all, false), behind (skip r)) else Err (unexpected_fault w (skip r)))
 
 list_shape : {A : Type 0} (close : ℕ) (w : What) (so_far : List A) (a : A) (r : Rest) →
     turn_read (list_or_end close w so_far (a, r)) ≡ list_state 44 close w (so_far ++ a ∷ []) r
@@ -245,9 +245,9 @@ list_shape close w so_far a r =
     let all = so_far ++ a ∷ [] in
     let t = skip r in
     turn_if_read (head t == 44) (Again all (behind t))
-    (if head t == close then Done all (behind t) else Stuck (unexpected w t))
+    (if head t == close then Done all (behind t) else Stuck (unexpected_fault w t))
     ∙ ap (λ o. if head t == 44 then Ok ((all, true), behind t) else o)
-    (turn_if_read (head t == close) (Done all (behind t)) (Stuck (unexpected w t)))
+    (turn_if_read (head t == close) (Done all (behind t)) (Stuck (unexpected_fault w t)))
 
 module _ {A : Type 0} (x : Spot) (between close : ℕ) (w : What) (n : (0 == between) ≡ false)
     (z : (0 == close) ≡ false) (goes : (x.byte == between) ≡ true → Begun x w)
@@ -258,7 +258,8 @@ module _ {A : Type 0} (x : Spot) (between close : ℕ) (w : What) (n : (0 == bet
       (λ s e h. passed_far {A = A × Bool} x next w (λ b. b == between) n (λ r. Ok ((all, true), r))
       (steady_from next (λ r. Ok ((all, true), r)) (steady_ok next (all, true))) s e h)
       goes
-      (first_if x next w (λ b. b == close) (λ r. Ok ((all, false), behind (skip r))) (λ r. Err (unexpected w (skip r)))
+      (first_if x next w (λ b. b == close) (λ r. Ok ((all, false), behind (skip r)))
+      (λ r. Err (unexpected_fault w (skip r)))
       (λ s e h. passed_far {A = A × Bool} x next w (λ b. b == close) z (λ r. Ok ((all, false), r))
       (steady_from next (λ r. Ok ((all, false), r)) (steady_ok next (all, false))) s e h)
       closes (first_unexpected x next w))
@@ -269,9 +270,9 @@ module _ {A : Type 0} (x : Spot) (between close : ℕ) (w : What) (n : (0 == bet
       before_if x next G (λ b. b == between) (λ r. Ok ((all, true), behind (skip r))) _
       (before_part_behind x next G (λ r. Ok ((all, true), r)) (meets_ok x next G (all, true)))
       (before_if x next G (λ b. b == close) (λ r. Ok ((all, false), behind (skip r)))
-      (λ r. Err (unexpected w (skip r)))
+      (λ r. Err (unexpected_fault w (skip r)))
       (before_part_behind x next G (λ r. Ok ((all, false), r)) (meets_ok x next G (all, false)))
-      (before_skip x next G (λ r. Err (unexpected w r)) (before_unexpected x next G w)))
+      (before_skip x next G (λ r. Err (unexpected_fault w r)) (before_unexpected x next G w)))
 
   -- a turn that reads a part, and then what stands behind it
   pub part_meets : {P : Type 0} (G : P → Type 0) (part : Rest → Outcome P) (on : P × Rest → Turn A) (all : P → A) →

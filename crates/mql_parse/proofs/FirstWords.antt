@@ -8,14 +8,14 @@ use Rattle.mql_ast.specs.declared.predicates.Comparison.{Comparison}
 use Rattle.mql_ast.specs.declared.pipes.How.TheVariants as how
 use Rattle.mql_ast.specs.Bytes.{is_blank, is_digit}
 use Rattle.mql_ast.specs.Rests.{Rest, first_of, head, behind, skip}
-use Rattle.mql_ast.specs.Tokens.{sign_at, word_at, metric_at, metric_behind, positive_at, number_at, duration_at}
+use Rattle.mql_ast.specs.Tokens.{sign_at, keyword_at, metric_at, metric_behind, positive_at, number_at, duration_at}
 use Rattle.mql_ast.specs.Tokens.{longest, with_unit}
 use Rattle.mql_ast.specs.Quotes.{Whole, Plain, text_from, pattern_from}
 use Rattle.mql_ast.specs.Grammar.{start, comparison_at, how_word}
 use Rattle.mql_parse.specs.declared.faults.What.{What}
 use Rattle.mql_parse.specs.declared.faults.What.TheVariants as what
 use Rattle.mql_parse.specs.WordOrder.{rank, stands_alone, allows}
-use Rattle.mql_parse.specs.FaultTokens.{IsWhole, IsOneOf, IsBare, aligner_words, fold_words, operation_words}
+use Rattle.mql_parse.specs.FaultTokens.{IsReadWhole, IsOneOf, IsBare, aligner_words, fold_words, operation_words}
 use Rattle.mql_parse.proofs.RestLemmas.{skip_off}
 
 -- the word that letters begin
@@ -108,24 +108,25 @@ number_digit most b rest x h f =
     by_zero true e g = ap is_digit (same_byte b 48 e)
     by_zero false e g = positive_digit most b rest x h g
 
-number_starts : (most : ℕ) (t more : List ℕ) → IsWhole (number_at most) t → StartsOn what.Number more t
+number_starts : (most : ℕ) (t more : List ℕ) → IsReadWhole (number_at most) t → StartsOn what.Number more t
 unfolding skip
 number_starts most [] more h = absurd (none_some _ h.1.1)
 number_starts most (b ∷ rest) more h =
     (h.0, digit_starts what.Number b _ (omega arith) (number_digit most b rest _ h.0 h.1.1))
 
-unit_starts : (t more : List ℕ) → IsWhole duration_at t → StartsOn what.Unit more t
+unit_starts : (t more : List ℕ) → IsReadWhole duration_at t → StartsOn what.Unit more t
 unfolding skip
 unit_starts [] more h = absurd (none_some _ h.1.1)
 unit_starts (b ∷ rest) more h =
     let read = given (positive_at longest (start (b ∷ rest))) with_unit _ h.1.1 in
     (h.0, digit_starts what.Unit b _ (omega arith) (positive_digit longest b rest read.0 h.0 read.1))
 
-metric_starts : (t more : List ℕ) → IsWhole metric_at t → StartsOn what.Metric more t
+metric_starts : (t more : List ℕ) → IsReadWhole metric_at t → StartsOn what.Metric more t
 unfolding skip
 metric_starts [] more h = absurd (none_some _ h.1.1)
 metric_starts (b ∷ rest) more h =
-    let read = given (word_at (codes "/") (start (b ∷ rest))) (metric_behind (skip (start (b ∷ rest))).at) _ h.1.1 in (
+    let read = given (keyword_at (codes "/") (start (b ∷ rest))) (metric_behind (skip (start (b ∷ rest))).at)
+    _ h.1.1 in (
       h.0,
       byte_starts what.Metric b 47 _ (ap (λ t. head t == 47) (sym (solid b rest h.0)) ∙ some_by _ _ read.0 read.1)
           (inl refl),
@@ -170,7 +171,7 @@ comparison_by b o p q r x c e = first (b == 61) refl e
     first true e f = byte_starts what.Comparison b 61 c e (inl refl)
     first false e f = second (b == 33) refl f
 
-comparison_starts : (t more : List ℕ) → IsWhole comparison_at t → StartsOn what.Comparison more t
+comparison_starts : (t more : List ℕ) → IsReadWhole comparison_at t → StartsOn what.Comparison more t
 unfolding skip
 comparison_starts [] more h = absurd (none_some _ h.1.1)
 comparison_starts (b ∷ rest) more h =

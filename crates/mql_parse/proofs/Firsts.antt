@@ -10,7 +10,7 @@ use Rattle.mql_parse.specs.declared.faults.ParseFault.{ParseFault}
 use Rattle.mql_parse.specs.declared.faults.ParseKind.{ParseKind}
 use Rattle.mql_parse.specs.declared.faults.ParseKind.TheVariants.{BadToken, Expected}
 use Rattle.mql_parse.specs.declared.faults.What.{What}
-use Rattle.mql_parse.specs.Outcomes.{Outcome, fault, kind_of, unexpected, sign, map_outcome, up_to}
+use Rattle.mql_parse.specs.Outcomes.{Outcome, fault, kind_of, unexpected_fault, sign, map_outcome, up_to}
 use Rattle.mql_parse.specs.Steadiness.{here, next, Reaches, Steady, unit_read}
 use Rattle.mql_parse.proofs.FirstWords.{allowed, leads, allowed_later}
 use Rattle.mql_parse.proofs.Spots.{beyond}
@@ -216,7 +216,7 @@ kind_names w (b ∷ bs) v h = either (is_alphabet b) h
     either false k = absurd (cc)
 
 pub first_unexpected : {A : Type 0} (x : Spot) (to : Rest → ℕ) (w : What) →
-    First {A = A} x next to w (λ s. Err (unexpected w (skip s)))
+    First {A = A} x next to w (λ s. Err (unexpected_fault w (skip s)))
 first_unexpected x to w = record {
   names = λ s h e v k. kind_names w (skip s).bytes v k;
   refuses = λ s t c h. inr tt;
@@ -352,7 +352,7 @@ pub before_part_behind : {A : Type 0} (x : Spot) (to : Rest → ℕ) (G : A → 
 before_part_behind x to G read k = before_behind_skip x to G read (meets_from x to G read k)
 
 pub before_unexpected : {A : Type 0} (x : Spot) (to : Rest → ℕ) (G : A → Type 0) (w : What) →
-    Before {A = A} x here to G (λ s. Err (unexpected w s))
+    Before {A = A} x here to G (λ s. Err (unexpected_fault w s))
 before_unexpected x to G w = record {
   steady = steady_unexpected to w;
   agrees = λ s t c l e. absurd (omega (arith, l, e));
@@ -407,10 +407,10 @@ first_behind_pass x from mid to w pass on f g =
 
 -- a sign
 abbrev sign_read : ℕ → What → Rest → Outcome (Unit {0})
-sign_read b w s = if head (skip s) == b then Ok (tt, behind (skip s)) else Err (unexpected w (skip s))
+sign_read b w s = if head (skip s) == b then Ok (tt, behind (skip s)) else Err (unexpected_fault w (skip s))
 
 sign_is : (b : ℕ) (w : What) (s : Rest) → unit_read (sign b w s) ≡ sign_read b w s
-sign_is b w s = unit_if (head (skip s) == b) (Ok (behind (skip s))) (Err (unexpected w (skip s)))
+sign_is b w s = unit_if (head (skip s) == b) (Ok (behind (skip s))) (Err (unexpected_fault w (skip s)))
 
 sign_far : (x : Spot) (b : ℕ) (w : What) → (0 == b) ≡ false → (s : Rest) → next s ≡ x.at →
     (head (skip s) == b) ≡ true → FirstOutcome {A = Unit {0}} x here w (Ok (tt, behind (skip s)))
@@ -421,15 +421,15 @@ pub first_sign : (x : Spot) (b : ℕ) (w : What) → (0 == b) ≡ false → ((x.
     First x next here w (λ s. unit_read (sign b w s))
 first_sign x b w z h =
     first_by x next here w (λ s. unit_read (sign b w s)) (sign_read b w) (sign_is b w)
-    (first_if x here w (λ c. c == b) (λ s. Ok (tt, behind (skip s))) (λ s. Err (unexpected w (skip s)))
+    (first_if x here w (λ c. c == b) (λ s. Ok (tt, behind (skip s))) (λ s. Err (unexpected_fault w (skip s)))
     (sign_far x b w z) h (first_unexpected x here w))
 
 pub before_sign : (x : Spot) (b : ℕ) (w : What) → Before x next here NoMore (λ s. unit_read (sign b w s))
 before_sign x b w =
     before_by x next here NoMore (λ s. unit_read (sign b w s)) (sign_read b w) (sign_is b w)
-    (before_if x here NoMore (λ c. c == b) (λ s. Ok (tt, behind (skip s))) (λ s. Err (unexpected w (skip s)))
+    (before_if x here NoMore (λ c. c == b) (λ s. Ok (tt, behind (skip s))) (λ s. Err (unexpected_fault w (skip s)))
     (before_behind_skip x here NoMore (λ s. Ok (tt, s)) (meets_ok x here NoMore tt))
-    (before_skip x here NoMore (λ s. Err (unexpected w s)) (before_unexpected x here NoMore w)))
+    (before_skip x here NoMore (λ s. Err (unexpected_fault w s)) (before_unexpected x here NoMore w)))
 
 pub meets_sign : (x : Spot) (b : ℕ) (w : What) → (0 == b) ≡ false → ((x.byte == b) ≡ true → Begun x w) →
     Meets x next here NoMore (λ s. unit_read (sign b w s))

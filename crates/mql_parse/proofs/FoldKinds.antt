@@ -6,7 +6,7 @@ use Rattle.mql_ast.specs.declared.operations.FoldWord.{FoldWord}
 use Rattle.mql_ast.specs.declared.operations.FoldWord.TheVariants as fold
 use Rattle.mql_ast.specs.Rests.{Rest, head, behind, skip}
 use Rattle.mql_parse.specs.declared.faults.What.TheVariants as what
-use Rattle.mql_parse.specs.Outcomes.{unexpected, exact, sign, up_to}
+use Rattle.mql_parse.specs.Outcomes.{unexpected_fault, exact, sign, up_to}
 use Rattle.mql_parse.specs.Repeats.{Done, Again, repetition, list_turn}
 use Rattle.mql_parse.specs.TokenReading as reading
 use Rattle.mql_parse.specs.Folds as folds
@@ -34,7 +34,7 @@ fold_behind_me_fits s =
     (λ h. behind_fits (λ b. b == 97) refl refl s h (folds.read_as fold.Mean (codes "n") (behind s))
     (read_as_fits fold.Mean (codes "n") refl (behind s)))
     (λ _. if_fits None s (head s == 114) (folds.read_as fold.Merge (codes "ge") (behind s))
-    (Err (unexpected what.Aggregate s))
+    (Err (unexpected_fault what.Aggregate s))
     (λ h. behind_fits (λ b. b == 114) refl refl s h (folds.read_as fold.Merge (codes "ge") (behind s))
     (read_as_fits fold.Merge (codes "ge") refl (behind s))) (λ _. unexpected_fits what.Aggregate s))
 
@@ -47,7 +47,7 @@ fold_behind_m_fits s =
     (λ _. if_fits None s (head s == 97) (folds.read_as fold.Max (codes "x") (behind s)) _
     (λ h. behind_fits (λ b. b == 97) refl refl s h (folds.read_as fold.Max (codes "x") (behind s))
     (read_as_fits fold.Max (codes "x") refl (behind s)))
-    (λ _. if_fits None s (head s == 101) (folds.fold_behind_me (behind s)) (Err (unexpected what.Aggregate s))
+    (λ _. if_fits None s (head s == 101) (folds.fold_behind_me (behind s)) (Err (unexpected_fault what.Aggregate s))
     (λ h. behind_fits (λ b. b == 101) refl refl s h (folds.fold_behind_me (behind s))
     (fold_behind_me_fits (behind s))) (λ _. unexpected_fits what.Aggregate s)))
 
@@ -60,7 +60,7 @@ fold_here_fits s =
     (λ _. read_as_fits fold.Sum (codes "sum") refl s)
     (λ _. if_fits None s (head s == 97) (folds.read_as fold.Aggregate (codes "aggregate") s) _
     (λ _. read_as_fits fold.Aggregate (codes "aggregate") refl s)
-    (λ _. if_fits None s (head s == 109) (folds.fold_behind_m (behind s)) (Err (unexpected what.Aggregate s))
+    (λ _. if_fits None s (head s == 109) (folds.fold_behind_m (behind s)) (Err (unexpected_fault what.Aggregate s))
     (λ h. behind_fits (λ b. b == 109) refl refl s h (folds.fold_behind_m (behind s))
     (fold_behind_m_fits (behind s))) (λ _. unexpected_fits what.Aggregate s))))
 
@@ -92,7 +92,8 @@ labelled_fold_fits label s =
 bare_fold_fits : (at : ℕ) (word : Option FoldWord) (t : Rest) → Fits None t (folds.bare_fold at word t)
 bare_fold_fits at None t = unexpected_fits what.Colon t
 bare_fold_fits at (Some word) t =
-    if_fits None t (head t == 40) (folds.fold_call at None word (behind t)) (Err (unexpected what.OpenParenthesis t))
+    if_fits None t (head t == 40) (folds.fold_call at None word (behind t))
+    (Err (unexpected_fault what.OpenParenthesis t))
     (λ h. behind_fits (λ b. b == 40) refl refl t h (folds.fold_call at None word (behind t))
     (fold_call_fits at None word (behind t))) (λ _. unexpected_fits what.OpenParenthesis t)
 

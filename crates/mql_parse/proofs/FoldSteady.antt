@@ -7,7 +7,7 @@ use Rattle.mql_ast.specs.declared.operations.FoldWord.{FoldWord}
 use Rattle.mql_ast.specs.declared.operations.FoldWord.TheVariants as fold
 use Rattle.mql_ast.specs.Rests.{Rest, head, behind, skip}
 use Rattle.mql_parse.specs.declared.faults.What.TheVariants as what
-use Rattle.mql_parse.specs.Outcomes.{unexpected, exact, sign, up_to}
+use Rattle.mql_parse.specs.Outcomes.{unexpected_fault, exact, sign, up_to}
 use Rattle.mql_parse.specs.Repeats.{Done, Again, list_turn}
 use Rattle.mql_parse.specs.TokenReading as reading
 use Rattle.mql_parse.specs.Folds as folds
@@ -102,7 +102,7 @@ bare_fold_steady : (at : ℕ) (word : Option FoldWord) → Steady here next (fol
 bare_fold_steady at None = steady_unexpected next what.Colon
 bare_fold_steady at (Some word) =
     steady_if here next (λ t. head t == 40) (λ t. folds.fold_call at None word (behind t))
-    (λ t. Err (unexpected what.OpenParenthesis t)) (head_test (λ b. b == 40))
+    (λ t. Err (unexpected_fault what.OpenParenthesis t)) (head_test (λ b. b == 40))
     (steady_behind next (folds.fold_call at None word)
     (steady_from next (folds.fold_call at None word) (fold_call_steady at None word)))
     (steady_unexpected next what.OpenParenthesis)

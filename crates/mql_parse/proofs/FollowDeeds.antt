@@ -7,7 +7,7 @@ use Rattle.mql_ast.specs.Trees.{PredicateTree, DeedTree, Filter, Align, GroupBy,
 use Rattle.mql_ast.specs.Rests.{Rest, head, skip}
 use Rattle.mql_parse.specs.declared.faults.What.{What}
 use Rattle.mql_parse.specs.declared.faults.What.TheVariants as what
-use Rattle.mql_parse.specs.Outcomes.{Outcome, unexpected, exact, sign, apart, map_outcome, up_to}
+use Rattle.mql_parse.specs.Outcomes.{Outcome, unexpected_fault, exact, sign, apart, map_outcome, up_to}
 use Rattle.mql_parse.specs.Repeats.{Done, Again, repetition}
 use Rattle.mql_parse.specs.TokenReading as reading
 use Rattle.mql_parse.specs.SumReading as sums
@@ -65,8 +65,8 @@ aligner_follows x =
     (follows_map x here next (λ z. Align (aligner.Delta z)) (λ z. Align (aligner.Delta z))
     (pipes.aligned_for (codes "delta")) (pipes.aligned_for (codes "delta"))
     (aligned_for_follows x (codes "delta") refl)))
-    (follows_taken x 110 next Any older older (λ t. Err (unexpected what.Aligner t))
-    (λ t. Err (unexpected what.Aligner t)) refl
+    (follows_taken x 110 next Any older older (λ t. Err (unexpected_fault what.Aligner t))
+    (λ t. Err (unexpected_fault what.Aligner t)) refl
     (taken x 110 next Any older older
     (follows_map x here next (λ z. Align (aligner.NextOlder z)) (λ z. Align (aligner.NextOlder z))
     (pipes.aligned_for (codes "next_older")) (pipes.aligned_for (codes "next_older"))
@@ -143,8 +143,8 @@ deed_follows x d =
     (pipes.duration_deed Every (codes "every")) _ _ refl
     (taken x 101 next Any _ _ (duration_deed_follows x Every (codes "every") refl))
     (follows_taken x 119 next Any (pipes.duration_deed Within (codes "within"))
-    (pipes.duration_deed Within (codes "within")) (λ t. Err (unexpected what.Operation t))
-    (λ t. Err (unexpected what.Operation t)) refl
+    (pipes.duration_deed Within (codes "within")) (λ t. Err (unexpected_fault what.Operation t))
+    (λ t. Err (unexpected_fault what.Operation t)) refl
     (taken x 119 next Any _ _ (duration_deed_follows x Within (codes "within") refl))
     (follows_unexpected x next Any what.Operation what.Operation))))))
 

@@ -7,7 +7,7 @@ use Rattle.mql_ast.specs.declared.operations.FoldWord.{FoldWord}
 use Rattle.mql_ast.specs.declared.operations.FoldWord.TheVariants as fold
 use Rattle.mql_ast.specs.Rests.{Rest, behind, skip}
 use Rattle.mql_parse.specs.declared.faults.What.TheVariants as what
-use Rattle.mql_parse.specs.Outcomes.{Outcome, unexpected, exact, sign, up_to}
+use Rattle.mql_parse.specs.Outcomes.{Outcome, unexpected_fault, exact, sign, up_to}
 use Rattle.mql_parse.specs.Repeats.{Done, Again, list_turn, repetition}
 use Rattle.mql_parse.specs.TokenReading as reading
 use Rattle.mql_parse.specs.Folds as folds
@@ -53,8 +53,8 @@ fold_behind_me_follows x =
     (behind_taken x 97 here Same (folds.read_as fold.Mean (codes "n")) (folds.read_as fold.Mean (codes "n")) refl
     (read_as_follows x fold.Mean (codes "n") refl))
     (follows_taken x 114 here Same (λ s. folds.read_as fold.Merge (codes "ge") (behind s))
-    (λ s. folds.read_as fold.Merge (codes "ge") (behind s)) (λ s. Err (unexpected what.Aggregate s))
-    (λ s. Err (unexpected what.Aggregate s)) refl
+    (λ s. folds.read_as fold.Merge (codes "ge") (behind s)) (λ s. Err (unexpected_fault what.Aggregate s))
+    (λ s. Err (unexpected_fault what.Aggregate s)) refl
     (behind_taken x 114 here Same (folds.read_as fold.Merge (codes "ge")) (folds.read_as fold.Merge (codes "ge")) refl
     (read_as_follows x fold.Merge (codes "ge") refl))
     (follows_unexpected x here Same what.Aggregate what.Aggregate))
@@ -71,7 +71,7 @@ fold_behind_m_follows x =
     (behind_taken x 97 here Same (folds.read_as fold.Max (codes "x")) (folds.read_as fold.Max (codes "x")) refl
     (read_as_follows x fold.Max (codes "x") refl))
     (follows_taken x 101 here Same (λ s. folds.fold_behind_me (behind s)) (λ s. folds.fold_behind_me (behind s))
-    (λ s. Err (unexpected what.Aggregate s)) (λ s. Err (unexpected what.Aggregate s)) refl
+    (λ s. Err (unexpected_fault what.Aggregate s)) (λ s. Err (unexpected_fault what.Aggregate s)) refl
     (behind_taken x 101 here Same folds.fold_behind_me folds.fold_behind_me refl (fold_behind_me_follows x))
     (follows_unexpected x here Same what.Aggregate what.Aggregate)))
 
@@ -86,7 +86,7 @@ fold_here_follows x =
     (folds.read_as fold.Aggregate (codes "aggregate")) _ _ refl
     (taken x 97 here Same _ _ (read_as_follows x fold.Aggregate (codes "aggregate") refl))
     (follows_taken x 109 here Same (λ s. folds.fold_behind_m (behind s)) (λ s. folds.fold_behind_m (behind s))
-    (λ s. Err (unexpected what.Aggregate s)) (λ s. Err (unexpected what.Aggregate s)) refl
+    (λ s. Err (unexpected_fault what.Aggregate s)) (λ s. Err (unexpected_fault what.Aggregate s)) refl
     (behind_taken x 109 here Same folds.fold_behind_m folds.fold_behind_m refl (fold_behind_m_follows x))
     (follows_unexpected x here Same what.Aggregate what.Aggregate))))
 
@@ -139,8 +139,8 @@ bare_fold_follows : (x : Swap) (m n : ℕ) (word : Option FoldWord) →
 bare_fold_follows x m n None = follows_unexpected x next Any what.Colon what.Colon
 bare_fold_follows x m n (Some word) =
     follows_taken x 40 next Any (λ t. folds.fold_call m None word (behind t))
-    (λ t. folds.fold_call n None word (behind t)) (λ t. Err (unexpected what.OpenParenthesis t))
-    (λ t. Err (unexpected what.OpenParenthesis t)) refl
+    (λ t. folds.fold_call n None word (behind t)) (λ t. Err (unexpected_fault what.OpenParenthesis t))
+    (λ t. Err (unexpected_fault what.OpenParenthesis t)) refl
     (part_taken x 40 next Any (folds.fold_call m None word) (folds.fold_call n None word) refl
     (fold_call_follows x m n None None word))
     (follows_unexpected x next Any what.OpenParenthesis what.OpenParenthesis)

@@ -8,7 +8,7 @@ use Rattle.mql_ast.specs.Trees.{PipeTree, Flow, SourceTree, Fetch, Branches, bra
 use Rattle.mql_ast.specs.Rests.{Rest, behind, skip}
 use Rattle.mql_parse.specs.declared.faults.ParseKind.TheVariants.{TooDeep}
 use Rattle.mql_parse.specs.declared.faults.What.TheVariants as what
-use Rattle.mql_parse.specs.Outcomes.{Outcome, fault, unexpected, exact, sign, apart, map_outcome}
+use Rattle.mql_parse.specs.Outcomes.{Outcome, fault, unexpected_fault, exact, sign, apart, map_outcome}
 use Rattle.mql_parse.specs.Repeats.{Done, Again, Stuck, repetition}
 use Rattle.mql_parse.specs.TokenReading as reading
 use Rattle.mql_parse.specs.PipeReading as pipes
@@ -39,7 +39,7 @@ how_follows x =
     follows_taken x 106 here Any (how_word how.Join (codes "join")) (how_word how.Join (codes "join")) _ _ refl
     (taken x 106 here Any _ _ (how_word_follows x how.Join (codes "join") refl))
     (follows_taken x 117 here Any (how_word how.Union (codes "union")) (how_word how.Union (codes "union"))
-    (λ t. Err (unexpected what.How t)) (λ t. Err (unexpected what.How t)) refl
+    (λ t. Err (unexpected_fault what.How t)) (λ t. Err (unexpected_fault what.How t)) refl
     (taken x 117 here Any _ _ (how_word_follows x how.Union (codes "union") refl))
     (follows_unexpected x here Any what.How what.How))
 
@@ -94,10 +94,12 @@ branch_behind_follows x one two a b =
     let both = two ++ b ∷ [] in
     turn_next_taken x 59 Any (λ r. Again all r) (λ r. Again both r) _ _ refl
     (turn_follows_from x Any (λ r. Again all r) (λ r. Again both r) (follows_again x Any all both tt))
-    (turn_next_taken x 125 Any (λ r. Done all r) (λ r. Done both r) (λ r. Stuck (unexpected what.CloseBrace (skip r)))
-    (λ r. Stuck (unexpected what.CloseBrace (skip r))) refl
+    (turn_next_taken x 125 Any (λ r. Done all r) (λ r. Done both r)
+    (λ r. Stuck (unexpected_fault what.CloseBrace (skip r)))
+    (λ r. Stuck (unexpected_fault what.CloseBrace (skip r))) refl
     (turn_follows_from x Any (λ r. Done all r) (λ r. Done both r) (follows_done x Any all both tt))
-    (turn_follows_skip x Any (λ t. Stuck (unexpected what.CloseBrace t)) (λ t. Stuck (unexpected what.CloseBrace t))
+    (turn_follows_skip x Any (λ t. Stuck (unexpected_fault what.CloseBrace t))
+    (λ t. Stuck (unexpected_fault what.CloseBrace t))
     (follows_stuck x Any what.CloseBrace)))
 
 branch_turn_follows : (x : Swap) (pipe : Rest → Outcome PipeTree) → Follows x next next Any pipe pipe →
@@ -140,8 +142,8 @@ unfolding pipes.source_with
 source_follows_with x group k =
     next_taken x 102 next Any pipes.fetch pipes.fetch _ _ refl (taken x 102 next Any _ _ (fetch_follows x))
     (next_taken x 123 next Any (λ t. group t (behind t)) (λ t. group t (behind t))
-    (λ s. Err (unexpected what.Fetch (skip s))) (λ s. Err (unexpected what.Fetch (skip s))) refl k
-    (follows_skip x next Any (λ t. Err (unexpected what.Fetch t)) (λ t. Err (unexpected what.Fetch t))
+    (λ s. Err (unexpected_fault what.Fetch (skip s))) (λ s. Err (unexpected_fault what.Fetch (skip s))) refl k
+    (follows_skip x next Any (λ t. Err (unexpected_fault what.Fetch t)) (λ t. Err (unexpected_fault what.Fetch t))
     (follows_unexpected x next Any what.Fetch what.Fetch)))
 
 pipe_follows_with : (x : Swap) (group : Rest → Rest → Outcome SourceTree) →

@@ -13,7 +13,7 @@ use Rattle.mql_ast.specs.Tokens.{word_here}
 use Rattle.mql_parse.specs.declared.faults.ParseKind.TheVariants.{TooDeep}
 use Rattle.mql_parse.specs.declared.faults.What.{What}
 use Rattle.mql_parse.specs.declared.faults.What.TheVariants as what
-use Rattle.mql_parse.specs.Outcomes.{Outcome, fault, unexpected, exact, sign, map_outcome}
+use Rattle.mql_parse.specs.Outcomes.{Outcome, fault, unexpected_fault, exact, sign, map_outcome}
 use Rattle.mql_parse.specs.Repeats.{Turn, Done, Stuck, goes_on, repetition}
 use Rattle.mql_parse.specs.TokenReading as reading
 use Rattle.mql_parse.specs.PredicateReading as predicates
@@ -50,7 +50,7 @@ behind_equals_follows x =
     follows_taken x 61 here Same (λ s. Ok (WithValue comparison.Equal, behind s))
     (λ s. Ok (WithValue comparison.Equal, behind s)) _ _ refl (byte_follows x 61 refl (WithValue comparison.Equal))
     (follows_taken x 126 here Same (λ s. Ok (WithPattern, behind s)) (λ s. Ok (WithPattern, behind s))
-    (λ s. Err (unexpected what.Comparison s)) (λ s. Err (unexpected what.Comparison s)) refl
+    (λ s. Err (unexpected_fault what.Comparison s)) (λ s. Err (unexpected_fault what.Comparison s)) refl
     (byte_follows x 126 refl WithPattern) (follows_unexpected x here Same what.Comparison what.Comparison))
 
 maybe_equal_follows : (x : Swap) (without with : Comparison) →
@@ -82,7 +82,8 @@ comparison_follows x =
     (behind_taken x 60 here Same less less refl (maybe_equal_follows x comparison.Less comparison.AtMost))
     (next_taken x 62 here Same (λ t. more (behind t)) (λ t. more (behind t)) _ _ refl
     (behind_taken x 62 here Same more more refl (maybe_equal_follows x comparison.Greater comparison.AtLeast))
-    (follows_skip x here Same (λ t. Err (unexpected what.Comparison t)) (λ t. Err (unexpected what.Comparison t))
+    (follows_skip x here Same (λ t. Err (unexpected_fault what.Comparison t))
+    (λ t. Err (unexpected_fault what.Comparison t))
     (follows_unexpected x here Same what.Comparison what.Comparison)))))
   where
     less : Rest → Outcome Compared
@@ -103,7 +104,7 @@ value_follows : (x : Swap) → Follows x next here Any predicates.value predicat
 unfolding predicates.value
 value_follows x =
     let quoted = λ (t : Rest). map_outcome (λ y. field.Text y) (reading.text t) in
-    let number = λ (s : Rest). map_outcome (λ z. field.Int z) (reading.signed s) in
+    let number = λ (s : Rest). map_outcome (λ z. field.Int z) (reading.signed_reading s) in
     next_taken x 34 here Any (λ t. quoted (behind t)) (λ t. quoted (behind t)) _ _ refl
     (behind_taken x 34 here Any quoted quoted refl
     (follows_map x here here (λ y. field.Text y) (λ y. field.Text y) reading.text reading.text (text_follows x)))
@@ -116,8 +117,9 @@ value_follows x =
     (follows_if x next here Any (λ s. head (skip s) == 45 || is_digit (head (skip s)))
     (λ s. head (skip s) == 45 || is_digit (head (skip s))) number number _ _
     (next_tests x (λ b. b == 45 || is_digit b) blind_start)
-    (follows_map x next here (λ z. field.Int z) (λ z. field.Int z) reading.signed reading.signed (signed_follows x))
-    (follows_skip x here Any (λ t. Err (unexpected what.Text t)) (λ t. Err (unexpected what.Text t))
+    (follows_map x next here (λ z. field.Int z) (λ z. field.Int z) reading.signed_reading reading.signed_reading
+    (signed_follows x))
+    (follows_skip x here Any (λ t. Err (unexpected_fault what.Text t)) (λ t. Err (unexpected_fault what.Text t))
     (follows_unexpected x here Any what.Text what.Text)))))
 
 compares_how_follows : (x : Swap) (a b : Name) (how : Compared) →
@@ -168,10 +170,10 @@ negation_follows_with x opposite group f g =
     (next_taken x 40 next Any (λ t. group t (behind t)) (λ t. group t (behind t)) _ _ refl g
     (follows_if x next next Any (λ s. is_letter (head (skip s))) (λ s. is_letter (head (skip s)))
     (λ s. predicates.condition (skip s)) (λ s. predicates.condition (skip s))
-    (λ s. Err (unexpected what.Name (skip s))) (λ s. Err (unexpected what.Name (skip s)))
+    (λ s. Err (unexpected_fault what.Name (skip s))) (λ s. Err (unexpected_fault what.Name (skip s)))
     (next_tests x is_letter blind_letter)
     (follows_skip x next Any predicates.condition predicates.condition (condition_follows x))
-    (follows_skip x next Any (λ t. Err (unexpected what.Name t)) (λ t. Err (unexpected what.Name t))
+    (follows_skip x next Any (λ t. Err (unexpected_fault what.Name t)) (λ t. Err (unexpected_fault what.Name t))
     (follows_unexpected x next Any what.Name what.Name))))
 
 -- a part behind the second of two signs
@@ -182,13 +184,13 @@ double_follows : (x : Swap) (b : ℕ) (w : What) (join : PredicateTree → Predi
 double_follows x b w join part n k one two =
     turn_next_taken x b Any (second one) (second two) (λ s. Done one s) (λ s. Done two s) n
     (turn_taken x b Any (λ u. goes_on (join one) (part u)) (λ u. goes_on (join two) (part u))
-    (λ u. Stuck (unexpected w u)) (λ u. Stuck (unexpected w u)) n
+    (λ u. Stuck (unexpected_fault w u)) (λ u. Stuck (unexpected_fault w u)) n
     (follows_goes_on x here Any (join one) (join two) part part (λ c d. tt) (follows_from x next Any part part k))
     (follows_stuck x Any w))
     (follows_done x Any one two tt)
   where
     second : PredicateTree → Rest → Turn PredicateTree
-    second left u = if head u == b then goes_on (join left) (part (behind u)) else Stuck (unexpected w u)
+    second left u = if head u == b then goes_on (join left) (part (behind u)) else Stuck (unexpected_fault w u)
 
 and_turn_follows : (x : Swap) (part : Rest → Outcome PredicateTree) → Follows x next next Any part part →
     (one two : PredicateTree) → FollowsTurn x next Any (predicates.and_turn part one) (predicates.and_turn part two)

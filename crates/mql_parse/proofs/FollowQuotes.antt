@@ -9,7 +9,8 @@ use Rattle.mon_value.specs.Texts.{text_in}
 use Rattle.mql_ast.specs.Bytes.{is_digit}
 use Rattle.mql_ast.specs.Rests.{Rest}
 use Rattle.mql_ast.specs.Quotes.{Open, Whole, Escape, More, begins_character, begins_long_character, further, TextStep}
-use Rattle.mql_ast.specs.Quotes.{TextEnd, TextPass, TextKeep, TextBad, kept, text_step, Sign, Plain, Dot, Backslash}
+use Rattle.mql_ast.specs.Quotes.{TextEnd, TextPass, TextKeep, TextBad, kept_open, text_step, Sign, Plain, Dot}
+use Rattle.mql_ast.specs.Quotes.{Backslash}
 use Rattle.mql_ast.specs.Quotes.{is_mark, PatternStep, PatternEnd, PatternCut, PatternPass, PatternKeep, PatternUnfit}
 use Rattle.mql_ast.specs.Quotes.{PatternBad, kept_sign, unfit, pattern_step}
 use Rattle.mql_parse.specs.declared.faults.ParseKind.TheVariants.{BadToken}
@@ -63,14 +64,14 @@ step_if : (t : Bool) (s r : TextStep) → StepHigh s → StepHigh r → StepHigh
 step_if true s r f g = f
 step_if false s r f g = g
 
-kept_high : (o : Option Open) → IfSome o High → StepHigh (kept o)
+kept_high : (o : Option Open) → IfSome o High → StepHigh (kept_open o)
 kept_high None h = tt
 kept_high (Some u) h = h
 
 pub text_step_high : (u : Open) (b : ℕ) → StepHigh (text_step u b)
 text_step_high Whole b =
     step_if (b == 34) TextEnd _ tt
-    (step_if (b == 92) (TextPass Escape) (kept (begins_character b)) tt
+    (step_if (b == 92) (TextPass Escape) (kept_open (begins_character b)) tt
     (kept_high (begins_character b) (character_high b)))
 text_step_high Escape b = step_if (b == 34 || b == 92) (TextKeep Whole) TextBad tt tt
 text_step_high (More left low high) b =
@@ -101,10 +102,10 @@ digit_begins d h =
 
 digit_step : (d : ℕ) → is_digit d ≡ true → text_step Whole d ≡ TextKeep Whole
 digit_step d h =
-    ap (λ t. if t then TextEnd else (if d == 92 then TextPass Escape else kept (begins_character d)))
+    ap (λ t. if t then TextEnd else (if d == 92 then TextPass Escape else kept_open (begins_character d)))
     (not_same d 34 h refl)
-    ∙ ap (λ t. if t then TextPass Escape else kept (begins_character d)) (not_same d 92 h refl)
-    ∙ ap kept (digit_begins d h)
+    ∙ ap (λ t. if t then TextPass Escape else kept_open (begins_character d)) (not_same d 92 h refl)
+    ∙ ap kept_open (digit_begins d h)
 
 digit_sign : (d : ℕ) → is_digit d ≡ true → pattern_step Whole Plain d ≡ PatternKeep Whole Plain
 digit_sign d h =

@@ -9,7 +9,7 @@ use Rattle.mql_ast.specs.Rests.{Rest, head, behind, skip}
 use Rattle.mql_ast.specs.Tokens.{word_here}
 use Rattle.mql_parse.specs.declared.faults.ParseKind.TheVariants.{TooDeep}
 use Rattle.mql_parse.specs.declared.faults.What.TheVariants as what
-use Rattle.mql_parse.specs.Outcomes.{Outcome, fault, unexpected, sign, map_outcome}
+use Rattle.mql_parse.specs.Outcomes.{Outcome, fault, unexpected_fault, sign, map_outcome}
 use Rattle.mql_parse.specs.Repeats.{Done, goes_on, repetition, list_turn}
 use Rattle.mql_parse.specs.TokenReading as reading
 use Rattle.mql_parse.specs.SumReading as sums
@@ -62,10 +62,11 @@ word_term_follows x =
 
 number_term_follows : (x : Swap) → Follows x next next Any sums.number_term sums.number_term
 number_term_follows x =
-    let read = λ (n : ℕ) (s : Rest). map_outcome (λ z. seen_sum (Number n z) false) (reading.signed s) in
+    let read = λ (n : ℕ) (s : Rest). map_outcome (λ z. seen_sum (Number n z) false) (reading.signed_reading s) in
     follows_next x next Any read read
     (λ m n. follows_map x next next (λ z. seen_sum (Number m z) false) (λ z. seen_sum (Number n z) false)
-    reading.signed reading.signed (follows_to x next Any reading.signed reading.signed (signed_follows x)))
+    reading.signed_reading reading.signed_reading
+    (follows_to x next Any reading.signed_reading reading.signed_reading (signed_follows x)))
 
 pub blind_start : Blind (λ b. b == 45 || is_digit b)
 blind_start d h = grind (arith, nat_tests)
@@ -81,11 +82,11 @@ term_follows_with x group k =
     (next_tests x (λ b. b == 45 || is_digit b) blind_start) (number_term_follows x)
     (follows_if x next next Any (λ s. is_letter (head (skip s))) (λ s. is_letter (head (skip s)))
     (λ s. sums.word_read (word_here (skip s))) (λ s. sums.word_read (word_here (skip s)))
-    (λ s. Err (unexpected what.Name (skip s))) (λ s. Err (unexpected what.Name (skip s)))
+    (λ s. Err (unexpected_fault what.Name (skip s))) (λ s. Err (unexpected_fault what.Name (skip s)))
     (next_tests x is_letter blind_letter)
     (follows_skip x next Any (λ t. sums.word_read (word_here t)) (λ t. sums.word_read (word_here t))
     (word_term_follows x))
-    (follows_skip x next Any (λ t. Err (unexpected what.Name t)) (λ t. Err (unexpected what.Name t))
+    (follows_skip x next Any (λ t. Err (unexpected_fault what.Name t)) (λ t. Err (unexpected_fault what.Name t))
     (follows_unexpected x next Any what.Name what.Name))))
 
 term_turn_follows : (x : Swap) (term : Rest → Outcome SumSeen) → Follows x next next Any term term →

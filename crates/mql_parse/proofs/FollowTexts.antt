@@ -12,7 +12,7 @@ use Rattle.mql_parse.specs.declared.faults.ParseFault.{ParseFault}
 use Rattle.mql_parse.specs.declared.faults.ParseKind.TheVariants.{Expected, NumberTooLarge}
 use Rattle.mql_parse.specs.declared.faults.What.TheVariants as what
 use Rattle.mql_parse.specs.FaultNumbers.{IsNumber, CouldEndSmaller}
-use Rattle.mql_parse.specs.Outcomes.{Outcome, fault, unexpected}
+use Rattle.mql_parse.specs.Outcomes.{Outcome, fault, unexpected_fault}
 use Rattle.mql_parse.specs.PipeReading.{pipe, behind_query, query_end_in, query_end, query_within, query}
 use Rattle.mql_parse.specs.Steadiness.{next}
 use Rattle.mql_parse.proofs.TextSteady.{begins_here, more_left}
@@ -43,14 +43,14 @@ end_too_large : (x : Swap) (a : PipeTree) (r : Rest) (bs : List ℕ) (p : Outcom
     (p >>= query_end) ≡ Ok tree → ⊥
 end_too_large x a r [] p tree f h e place done = absurd (cc)
 end_too_large x a r (b ∷ bs) p tree f h e place done =
-    let same : unexpected (behind_query a) (skip r) ≡ f = cc in
+    let same : unexpected_fault (behind_query a) (skip r) ≡ f = cc in
     let here : next r ≡ x.at = ap (λ g. g.at) same ∙ place in
     by_part (h (omega (arith, here)))
   where
     by_part : Failed p ⊎ ReadToo x Any a r p → ⊥
     by_part (inl g) = failed_end p tree g done
     by_part (inr z) =
-        refused tree (query_end (z.0, z.1.0)) (unexpected (behind_query z.0) (skip z.1.0))
+        refused tree (query_end (z.0, z.1.0)) (unexpected_fault (behind_query z.0) (skip z.1.0))
         (sym (ap (λ y. y >>= query_end) z.1.1.0) ∙ done)
         (more_left z.0 z.1.0 z.1.0.bytes (some_left x r z.1.0 z.1.1.1.0))
 

@@ -16,7 +16,7 @@ use Rattle.mql_parse.specs.declared.faults.ParseKind.TheVariants.{NumberTooLarge
 use Rattle.mql_parse.specs.declared.faults.What.{What}
 use Rattle.mql_parse.specs.declared.faults.What.TheVariants as what
 use Rattle.mql_parse.specs.FaultNumbers.{AreDigits}
-use Rattle.mql_parse.specs.Outcomes.{Outcome, fault, unexpected, exact, apart, map_outcome}
+use Rattle.mql_parse.specs.Outcomes.{Outcome, fault, unexpected_fault, exact, apart, map_outcome}
 use Rattle.mql_parse.specs.TokenReading as reading
 use Rattle.mql_parse.specs.SumReading.{is_percentile}
 use Rattle.mql_parse.specs.Folds.{fold_of}
@@ -47,12 +47,12 @@ pub exact_follows : (x : Swap) (w : What) (cs : List ℕ) → no_counts cs ≡ t
 exact_follows x w [] h = ok_any x here tt tt
 exact_follows x w (c ∷ cs) h =
     let both = not_false (counts c) (no_counts cs) h in
-    let by_head = λ (s : Rest). if head s == c then unit_read (exact w cs (behind s)) else Err (unexpected w s) in
-    let same = λ (s : Rest). unit_if (head s == c) (exact w cs (behind s)) (Err (unexpected w s)) in
+    let by_head = λ (s : Rest). if head s == c then unit_read (exact w cs (behind s)) else Err (unexpected_fault w s) in
+    let same = λ (s : Rest). unit_if (head s == c) (exact w cs (behind s)) (Err (unexpected_fault w s)) in
     follows_by x here here Any (λ s. unit_read (exact w (c ∷ cs) s)) by_head (λ s. unit_read (exact w (c ∷ cs) s))
     by_head same same
     (follows_taken x c here Any (λ s. unit_read (exact w cs (behind s))) (λ s. unit_read (exact w cs (behind s)))
-    (λ s. Err (unexpected w s)) (λ s. Err (unexpected w s)) both.0
+    (λ s. Err (unexpected_fault w s)) (λ s. Err (unexpected_fault w s)) both.0
     (behind_taken x c here Any (λ s. unit_read (exact w cs s)) (λ s. unit_read (exact w cs s)) both.0
     (exact_follows x w cs both.1))
     (follows_unexpected x here Any w w))
@@ -65,11 +65,12 @@ blind_letter d h = grind (arith, nat_tests)
 
 pub apart_follows : (x : Swap) (w : What) → FollowsPass x here here (apart w) (apart w)
 apart_follows x w =
-    let by_head = λ (s : Rest). if is_word_byte (head s) then Err (unexpected w s) else Ok (tt, s) in
-    let same = λ (s : Rest). unit_if (is_word_byte (head s)) (Err (unexpected w s)) (Ok s) in
+    let by_head = λ (s : Rest). if is_word_byte (head s) then Err (unexpected_fault w s) else Ok (tt, s) in
+    let same = λ (s : Rest). unit_if (is_word_byte (head s)) (Err (unexpected_fault w s)) (Ok s) in
     follows_by x here here Any (λ s. unit_read (apart w s)) by_head (λ s. unit_read (apart w s)) by_head same same
-    (follows_if x here here Any (λ s. is_word_byte (head s)) (λ s. is_word_byte (head s)) (λ s. Err (unexpected w s))
-    (λ s. Err (unexpected w s)) (λ s. Ok (tt, s)) (λ s. Ok (tt, s)) (head_tests x is_word_byte blind_word)
+    (follows_if x here here Any (λ s. is_word_byte (head s)) (λ s. is_word_byte (head s))
+    (λ s. Err (unexpected_fault w s))
+    (λ s. Err (unexpected_fault w s)) (λ s. Ok (tt, s)) (λ s. Ok (tt, s)) (head_tests x is_word_byte blind_word)
     (follows_unexpected x here Any w w) (ok_any x here tt tt))
 
 -- words that are the same, or that end in a digit, which no keyword does
@@ -255,10 +256,10 @@ module _ (x : Swap) where
 pub name_follows : (x : Swap) → Follows x next here AlikeNames reading.name reading.name
 unfolding reading.name
 name_follows x =
-    let read = λ (t : Rest). if is_letter (head t) then Ok (word_here t) else Err (unexpected what.Name t) in
+    let read = λ (t : Rest). if is_letter (head t) then Ok (word_here t) else Err (unexpected_fault what.Name t) in
     follows_skip x here AlikeNames read read
     (follows_if x here here AlikeNames (λ t. is_letter (head t)) (λ t. is_letter (head t)) (λ t. Ok (word_here t))
-    (λ t. Ok (word_here t)) (λ t. Err (unexpected what.Name t)) (λ t. Err (unexpected what.Name t))
+    (λ t. Ok (word_here t)) (λ t. Err (unexpected_fault what.Name t)) (λ t. Err (unexpected_fault what.Name t))
     (head_tests x is_letter blind_letter) (word_follows x) (follows_unexpected x here AlikeNames what.Name what.Name))
 
 pub name_next : (x : Swap) → Follows x next next AlikeNames reading.name reading.name
@@ -298,8 +299,8 @@ module _ (x : Swap) where
   -- where a metric ends
   metric_end : (after : Bool) (m n : ℕ) (bs cs : List ℕ) → Pair x (rest_at m bs) (rest_at n cs) →
       FollowsIn {A = List ℕ} x here Any
-      (if after then Err (unexpected what.Metric (rest_at m bs)) else Ok ([], rest_at m bs))
-      (if after then Err (unexpected what.Metric (rest_at n cs)) else Ok ([], rest_at n cs))
+      (if after then Err (unexpected_fault what.Metric (rest_at m bs)) else Ok ([], rest_at m bs))
+      (if after then Err (unexpected_fault what.Metric (rest_at n cs)) else Ok ([], rest_at n cs))
   metric_end true m n bs cs c = λ e. inr tt
   metric_end false m n bs cs c = λ l. inr ([], (rest_at n cs, (refl, (c, tt))))
 
@@ -328,7 +329,7 @@ module _ (x : Swap) where
   metric_digit after d m bs h =
       ap (λ t. if t then reading.with_byte d (reading.metric_from false (m + 1) bs) else
       (if d == 47 && not after then reading.with_byte d (reading.metric_from true (m + 1) bs) else
-      (if after then Err (unexpected what.Metric (rest_at m (d ∷ bs))) else Ok ([], rest_at m (d ∷ bs)))))
+      (if after then Err (unexpected_fault what.Metric (rest_at m (d ∷ bs))) else Ok ([], rest_at m (d ∷ bs)))))
       (digit_is_metric d h)
 
   metric_run : (ds : List ℕ) (m n : ℕ) → AreDigits ds → m + length ds ≡ x.at →
@@ -451,14 +452,14 @@ module _ (x : Swap) (most : ℕ) where
   from_digit t =
       if is_digit (head t) && not (head t == 48)
       then reading.digits most (head t - 48) (behind t).at (behind t).bytes
-      else Err (unexpected what.Number t)
+      else Err (unexpected_fault what.Number t)
 
   from_digit_ahead : (common : List ℕ) (m n : ℕ) → m + length common + 1 + length x.digits ≡ x.at →
       FollowsIn x here Any (from_digit (rest_at m (common ++ numbered x)))
       (from_digit (rest_at n (common ++ with_one x)))
   from_digit_ahead [] m n h =
       subst (λ t. FollowsIn x here Any (if t then reading.digits most (x.digit - 48) (m + 1)
-      (x.digits ++ x.byte ∷ x.after) else Err (unexpected what.Number (rest_at m (numbered x))))
+      (x.digits ++ x.byte ∷ x.after) else Err (unexpected_fault what.Number (rest_at m (numbered x))))
       (from_digit (rest_at n (with_one x)))) (sym x.begins)
       (digits_run x.digits (x.digit - 48) (49 - 48) (m + 1) (n + 1) x.goes_on (omega (arith, h)))
   from_digit_ahead (c ∷ common) m n h =
@@ -494,8 +495,8 @@ module _ (x : Swap) (most : ℕ) where
       (reading.positive most) refl
       (behind_taken x 48 here Any (λ t. Ok (0, t)) (λ t. Ok (0, t)) refl (ok_any x here 0 0)) positive_follows
 
-pub signed_follows : (x : Swap) → Follows x next here Any reading.signed reading.signed
-unfolding reading.signed
+pub signed_follows : (x : Swap) → Follows x next here Any reading.signed_reading reading.signed_reading
+unfolding reading.signed_reading
 signed_follows x =
     let negative = λ (t : Rest). map_outcome minus (reading.number (2 ^ 63) t) in
     let other = λ (t : Rest). map_outcome pos (reading.number (2 ^ 63 - 1) t) in
@@ -511,9 +512,9 @@ signed_follows x =
 units_in : (x : Swap) (b v w : ℕ) (s t r q : Rest) →
     ((unit_seconds b == 0) ≡ false → r.at ≤ x.at → Pair x r q) →
     FollowsIn {A = ℤ} x here Any
-    (if unit_seconds b == 0 then Err (unexpected what.Unit s) else
+    (if unit_seconds b == 0 then Err (unexpected_fault what.Unit s) else
     (if nat_le (v * unit_seconds b) longest then Ok (pos (v * unit_seconds b), r) else Err (fault NumberTooLarge s)))
-    (if unit_seconds b == 0 then Err (unexpected what.Unit t) else
+    (if unit_seconds b == 0 then Err (unexpected_fault what.Unit t) else
     (if nat_le (w * unit_seconds b) longest then Ok (pos (w * unit_seconds b), q) else Err (fault NumberTooLarge t)))
 units_in x b v w s t r q f =
     if_follows x here Any (unit_seconds b == 0) (unit_seconds b == 0) _ _ _ _ refl (λ _ e. inr tt)
@@ -525,7 +526,7 @@ module _ (x : Swap) (v w : ℕ) where
   units_ahead : (common : List ℕ) (m n : ℕ) → m + length common + 1 + length x.digits ≡ x.at →
       FollowsIn x here Any (reading.units (v, rest_at m (common ++ numbered x)))
       (reading.units (w, rest_at n (common ++ with_one x)))
-  units_ahead [] m n h = where_failed x here Any _ (Err (unexpected what.Unit (rest_at n (with_one x)))) tt
+  units_ahead [] m n h = where_failed x here Any _ (Err (unexpected_fault what.Unit (rest_at n (with_one x)))) tt
   units_ahead (c ∷ common) m n h =
       units_in x c v w (rest_at m (c ∷ (common ++ numbered x))) (rest_at n (c ∷ (common ++ with_one x)))
       (rest_at (m + 1) (common ++ numbered x)) (rest_at (n + 1) (common ++ with_one x))

@@ -5,7 +5,7 @@ use Rattle.std.proofs.lemmas.Bool.{cases_lt, eqb-true}
 use Rattle.mql_ast.specs.Rests.{Rest, head, behind, skip}
 use Rattle.mql_parse.specs.declared.faults.ParseKind.TheVariants.{NumberTooLarge}
 use Rattle.mql_parse.specs.declared.faults.What.{What}
-use Rattle.mql_parse.specs.Outcomes.{Outcome, unexpected}
+use Rattle.mql_parse.specs.Outcomes.{Outcome, unexpected_fault}
 use Rattle.mql_parse.specs.Repeats.{Turn, Done, Again, Stuck, turn_outcome, goes_on, repetition, list_or_end, on_read}
 use Rattle.mql_parse.specs.Repeats.{list_turn}
 use Rattle.mql_parse.specs.Behind.{Behind}
@@ -59,7 +59,7 @@ follows_again x G a b g =
     record { reaches = λ s. omega arith; follows = λ s t c l k. inr (b, (t, (refl, (c, g)))) }
 
 pub follows_stuck : {A : Type 0} (x : Swap) (G : A → A → Type 0) (w : What) →
-    FollowsTurn x here G (λ s. Stuck (unexpected w s)) (λ s. Stuck (unexpected w s))
+    FollowsTurn x here G (λ s. Stuck (unexpected_fault w s)) (λ s. Stuck (unexpected_fault w s))
 follows_stuck x G w = record { reaches = λ s. omega arith; follows = λ s t c l e. inr tt }
 
 -- a turn that looks farther at once
@@ -221,13 +221,14 @@ list_or_end_follows x close w n one two a b =
     let all = one ++ a ∷ [] in
     let both = two ++ b ∷ [] in
     turn_next_taken x 44 Any (λ r. Again all r) (λ r. Again both r)
-    (λ r. if head (skip r) == close then Done all (behind (skip r)) else Stuck (unexpected w (skip r)))
-    (λ r. if head (skip r) == close then Done both (behind (skip r)) else Stuck (unexpected w (skip r))) refl
+    (λ r. if head (skip r) == close then Done all (behind (skip r)) else Stuck (unexpected_fault w (skip r)))
+    (λ r. if head (skip r) == close then Done both (behind (skip r)) else Stuck (unexpected_fault w (skip r))) refl
     (turn_follows_from x Any (λ r. Again all r) (λ r. Again both r) (follows_again x Any all both tt))
-    (turn_next_taken x close Any (λ r. Done all r) (λ r. Done both r) (λ r. Stuck (unexpected w (skip r)))
-    (λ r. Stuck (unexpected w (skip r))) n
+    (turn_next_taken x close Any (λ r. Done all r) (λ r. Done both r) (λ r. Stuck (unexpected_fault w (skip r)))
+    (λ r. Stuck (unexpected_fault w (skip r))) n
     (turn_follows_from x Any (λ r. Done all r) (λ r. Done both r) (follows_done x Any all both tt))
-    (turn_follows_skip x Any (λ r. Stuck (unexpected w r)) (λ r. Stuck (unexpected w r)) (follows_stuck x Any w)))
+    (turn_follows_skip x Any (λ r. Stuck (unexpected_fault w r)) (λ r. Stuck (unexpected_fault w r))
+    (follows_stuck x Any w)))
 
 pub list_turn_follows : {A : Type 0} (x : Swap) (close : ℕ) (w : What) (part : Rest → Outcome A) →
     counts close ≡ false → Follows x next next Any part part → (one two : List A) →

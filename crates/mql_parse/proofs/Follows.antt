@@ -9,7 +9,7 @@ use Rattle.mql_parse.specs.declared.faults.ParseFault.{ParseFault}
 use Rattle.mql_parse.specs.declared.faults.ParseKind.{ParseKind}
 use Rattle.mql_parse.specs.declared.faults.ParseKind.TheVariants.{NumberTooLarge}
 use Rattle.mql_parse.specs.declared.faults.What.{What}
-use Rattle.mql_parse.specs.Outcomes.{Outcome, unexpected, fault, sign, map_outcome, up_to}
+use Rattle.mql_parse.specs.Outcomes.{Outcome, unexpected_fault, fault, sign, map_outcome, up_to}
 use Rattle.mql_parse.specs.Steadiness.{here, next, Reaches, unit_read}
 pub use Rattle.mql_parse.proofs.Swaps.{Swap, counts, Pair, Blind, blind_sign, head_alike, skip_pair, behind_pair}
 use Rattle.mql_parse.proofs.Steady.{skip_on, behind_on, reaches_before, if_reaches, pass_bind, unit_if}
@@ -64,7 +64,7 @@ pub follows_fault : {A : Type 0} (x : Swap) (to : Rest → ℕ) (G : A → A →
 follows_fault x to G kind = record { reaches = λ s. omega arith; follows = λ s t c l e. inr tt }
 
 pub follows_unexpected : {A : Type 0} (x : Swap) (to : Rest → ℕ) (G : A → A → Type 0) (w v : What) →
-    Follows x here to G (λ s. Err (unexpected w s)) (λ s. Err (unexpected v s))
+    Follows x here to G (λ s. Err (unexpected_fault w s)) (λ s. Err (unexpected_fault v s))
 follows_unexpected x to G w v = record { reaches = λ s. omega arith; follows = λ s t c l e. inr tt }
 
 -- readers that are the same
@@ -314,15 +314,15 @@ follows_next x to G read other k = record {
 pub sign_here : (x : Swap) (b : ℕ) (w v : What) → counts b ≡ false → FollowsPass x next here (sign b w) (sign b v)
 sign_here x b w v n =
     follows_by x next here Any (λ s. unit_read (sign b w s))
-    (λ s. if head (skip s) == b then Ok (tt, behind (skip s)) else Err (unexpected w (skip s)))
+    (λ s. if head (skip s) == b then Ok (tt, behind (skip s)) else Err (unexpected_fault w (skip s)))
     (λ s. unit_read (sign b v s))
-    (λ s. if head (skip s) == b then Ok (tt, behind (skip s)) else Err (unexpected v (skip s)))
-    (λ s. unit_if (head (skip s) == b) (Ok (behind (skip s))) (Err (unexpected w (skip s))))
-    (λ s. unit_if (head (skip s) == b) (Ok (behind (skip s))) (Err (unexpected v (skip s))))
-    (next_taken x b here Any (λ s. Ok (tt, behind s)) (λ s. Ok (tt, behind s)) (λ s. Err (unexpected w (skip s)))
-    (λ s. Err (unexpected v (skip s))) n
+    (λ s. if head (skip s) == b then Ok (tt, behind (skip s)) else Err (unexpected_fault v (skip s)))
+    (λ s. unit_if (head (skip s) == b) (Ok (behind (skip s))) (Err (unexpected_fault w (skip s))))
+    (λ s. unit_if (head (skip s) == b) (Ok (behind (skip s))) (Err (unexpected_fault v (skip s))))
+    (next_taken x b here Any (λ s. Ok (tt, behind s)) (λ s. Ok (tt, behind s)) (λ s. Err (unexpected_fault w (skip s)))
+    (λ s. Err (unexpected_fault v (skip s))) n
     (behind_taken x b here Any (λ s. Ok (tt, s)) (λ s. Ok (tt, s)) n (ok_any x here tt tt))
-    (follows_skip x here Any (λ s. Err (unexpected w s)) (λ s. Err (unexpected v s))
+    (follows_skip x here Any (λ s. Err (unexpected_fault w s)) (λ s. Err (unexpected_fault v s))
     (follows_unexpected x here Any w v)))
 
 pub sign_follows : (x : Swap) (b : ℕ) (w v : What) → counts b ≡ false → FollowsPass x next next (sign b w) (sign b v)

@@ -14,7 +14,7 @@ use Rattle.mql_parse.specs.declared.faults.ParseFault.{ParseFault}
 use Rattle.mql_parse.specs.declared.faults.ParseKind.TheVariants.{Expected}
 use Rattle.mql_parse.specs.declared.faults.What.{What}
 use Rattle.mql_parse.specs.declared.faults.What.TheVariants as what
-use Rattle.mql_parse.specs.Outcomes.{Outcome, fault, unexpected}
+use Rattle.mql_parse.specs.Outcomes.{Outcome, fault, unexpected_fault}
 use Rattle.mql_parse.specs.FaultDepths.{SpellsWithin, BeginsWithin}
 use Rattle.mql_parse.specs.PipeReading as pipes
 use Rattle.mql_parse.proofs.RestLemmas.{skip_off}
@@ -160,7 +160,7 @@ finished d text e h first f = record {
 
 -- behind a whole pipe
 missing : (d : ℕ) (v : List ℕ) (groups : Bool) → PipeText d v → Longer d groups v → (r : Rest) →
-    Finish (λ u. PipeText d (v ++ u)) r (unexpected (if groups then what.Comma else what.Bar) (skip r))
+    Finish (λ u. PipeText d (v ++ u)) r (unexpected_fault (if groups then what.Comma else what.Bar) (skip r))
 missing d v false g h r =
     wrong what.Bar r 124 [] (codes "every" ++ duration_default.text) refl (λ bs e. one_more_operation d v bs e g)
 missing d v true g h r =
@@ -170,8 +170,8 @@ ended : (d : ℕ) (text : List ℕ) (tree : PipeTree) (r : Rest) (bs : List ℕ)
     0 < (skip r).at → Cut (PipeSeen d tree) (start text) r → FrontBegins d text (pipes.query_end_in tree r bs)
 ended d text tree r [] h k c = tt
 ended d text tree r (b ∷ bs) h k c =
-    finished d text (unexpected (pipes.behind_query tree) (skip r)) h (λ e w q. absurd (omega (arith, e, k)))
-    (finish_before {N = PipeText d} (start text) r (unexpected (pipes.behind_query tree) (skip r)) c.front c.bytes
+    finished d text (unexpected_fault (pipes.behind_query tree) (skip r)) h (λ e w q. absurd (omega (arith, e, k)))
+    (finish_before {N = PipeText d} (start text) r (unexpected_fault (pipes.behind_query tree) (skip r)) c.front c.bytes
     c.place (missing d c.front (pipes.groups_last (pipes.ops_of tree)) c.is.0 c.is.1 r))
 
 piped : (d : ℕ) (text : List ℕ) → ((skip (start text)).at == 0) ≡ true → (o : Outcome PipeTree) → FetchFirst 0 o →

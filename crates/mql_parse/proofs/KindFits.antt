@@ -11,7 +11,7 @@ use Rattle.mql_parse.specs.declared.faults.ParseFault.{ParseFault}
 use Rattle.mql_parse.specs.declared.faults.ParseKind.{ParseKind}
 use Rattle.mql_parse.specs.declared.faults.ParseKind.TheVariants.{BadToken, Expected, TooDeep}
 use Rattle.mql_parse.specs.declared.faults.What.{What}
-use Rattle.mql_parse.specs.Outcomes.{Outcome, kind_of, fault, unexpected, sign, map_outcome, up_to}
+use Rattle.mql_parse.specs.Outcomes.{Outcome, kind_of, fault, unexpected_fault, sign, map_outcome, up_to}
 use Rattle.mql_parse.specs.Repeats.{Turn, Done, Again, Stuck, turn_outcome, repetition, goes_on, on_read, list_or_end}
 use Rattle.mql_parse.specs.Repeats.{list_turn}
 use Rattle.mql_parse.specs.Behind.{Behind}
@@ -211,7 +211,7 @@ kind_of_fits w (b ∷ bs) = either (is_alphabet b)
     either true = tt
     either false = refl
 
-pub unexpected_fits : (w : What) (s : Rest) → FaultFits None s (unexpected w s)
+pub unexpected_fits : (w : What) (s : Rest) → FaultFits None s (unexpected_fault w s)
 unexpected_fits w s = record {
   front = [];
   left = s.bytes;
@@ -221,8 +221,9 @@ unexpected_fits w s = record {
       s.bytes;
 }
 
-pub unexpected_next : (w : What) (s : Rest) → FaultFits None s (unexpected w (skip s))
-unexpected_next w s = fault_before None s (skip s) (unexpected w (skip s)) (skip_outside s) (unexpected_fits w (skip s))
+pub unexpected_next : (w : What) (s : Rest) → FaultFits None s (unexpected_fault w (skip s))
+unexpected_next w s =
+    fault_before None s (skip s) (unexpected_fault w (skip s)) (skip_outside s) (unexpected_fits w (skip s))
 
 -- a fault of another kind, which the byte here may have
 byte_kind : (kind : ParseKind) (test : ℕ → Bool) → test 0 ≡ false →
@@ -245,7 +246,7 @@ deep_fits n none f = fault_fits TooDeep (λ b. b == n) none
 
 -- signs
 pub sign_fits : (b : ℕ) → (0 == b) ≡ false → (34 == b) ≡ false → (w : What) (s : Rest) → PassFits s (sign b w s)
-sign_fits b none fails w s = if_pass s (head (skip s) == b) (Ok (behind (skip s))) (Err (unexpected w (skip s)))
+sign_fits b none fails w s = if_pass s (head (skip s) == b) (Ok (behind (skip s))) (Err (unexpected_fault w (skip s)))
     (λ h. part_outside (λ c. c == b) none fails s h) (λ h. unexpected_next w s)
 
 pub up_to_fits : {A : Type 0} (b : ℕ) → (0 == b) ≡ false → (34 == b) ≡ false → (w : What) (s : Rest) (x : Outcome A) →
@@ -276,9 +277,9 @@ pub list_turn_fits : {A : Type 0} (close : ℕ) → (0 == close) ≡ false → (
 list_turn_fits close none fails w part parts so_far s = on_read_fits s (list_or_end close w so_far) (part s) (parts s)
     (λ a r. let all = so_far ++ a ∷ [] in
     if_turn r (head (skip r) == 44) (Again all (behind (skip r)))
-    (if head (skip r) == close then Done all (behind (skip r)) else Stuck (unexpected w (skip r)))
+    (if head (skip r) == close then Done all (behind (skip r)) else Stuck (unexpected_fault w (skip r)))
     (λ h. part_outside (λ b. b == 44) refl refl r h)
-    (λ _. if_turn r (head (skip r) == close) (Done all (behind (skip r))) (Stuck (unexpected w (skip r)))
+    (λ _. if_turn r (head (skip r) == close) (Done all (behind (skip r))) (Stuck (unexpected_fault w (skip r)))
     (λ h. part_outside (λ b. b == close) none fails r h) (λ _. unexpected_next w r)))
 
 module _ {A : Type 0} (turn : A → Rest → Turn A) (behind : GoesBehind turn)

@@ -16,7 +16,7 @@ use Rattle.mql_ast.specs.Quotes.{PatternBad, pattern_step}
 use Rattle.mql_parse.specs.declared.faults.ParseFault.{ParseFault}
 use Rattle.mql_parse.specs.declared.faults.What.{What}
 use Rattle.mql_parse.specs.declared.faults.What.TheVariants as what
-use Rattle.mql_parse.specs.Outcomes.{Outcome, exact, sign, map_outcome, unexpected}
+use Rattle.mql_parse.specs.Outcomes.{Outcome, exact, sign, map_outcome, unexpected_fault}
 use Rattle.mql_parse.specs.TokenReading as reading
 
 -- a test that chooses between what is there and a fault
@@ -38,17 +38,17 @@ bind_links o (Ok x) f g e h = ap (option_and_then f) e ∙ h x
 bind_links o (Err x) f g e h = ap (option_and_then f) e
 
 pub sign_links : (b : ℕ) (w : What) (s : Rest) → grammar.sign_at b s ≡ result_ok (sign b w s)
-sign_links b w s = chosen_links (head (skip s) == b) (behind (skip s)) (unexpected w (skip s))
+sign_links b w s = chosen_links (head (skip s) == b) (behind (skip s)) (unexpected_fault w (skip s))
 
 pub past_links : (w : What) (cs : List ℕ) (s : Rest) → grammar.past cs s ≡ result_ok (exact w cs s)
 past_links w [] s = refl
 past_links w (c ∷ cs) s =
-    either_links (head s == c) (grammar.past cs (behind s)) None (exact w cs (behind s)) (Err (unexpected w s))
+    either_links (head s == c) (grammar.past cs (behind s)) None (exact w cs (behind s)) (Err (unexpected_fault w s))
     (past_links w cs (behind s)) refl
 
 pub name_links : (s : Rest) → grammar.name_at s ≡ result_ok (reading.name s)
 unfolding reading.name
-name_links s = chosen_links (is_letter (head (skip s))) (word_here (skip s)) (unexpected what.Name (skip s))
+name_links s = chosen_links (is_letter (head (skip s))) (word_here (skip s)) (unexpected_fault what.Name (skip s))
 
 with_byte_links : (b : ℕ) (o : Option (List ℕ × Rest)) (r : Outcome (List ℕ)) → o ≡ result_ok r →
     grammar.with_byte b o ≡ result_ok (reading.with_byte b r)
@@ -84,7 +84,7 @@ unfolding reading.positive
 positive_links most s =
     let t = skip s in
     either_links (is_digit (head t) && not (head t == 48)) _ None
-    (reading.digits most (head t - 48) (behind t).at (behind t).bytes) (Err (unexpected what.Number t))
+    (reading.digits most (head t - 48) (behind t).at (behind t).bytes) (Err (unexpected_fault what.Number t))
     (digits_links most (head t - 48) (behind t).at (behind t).bytes) refl
 
 pub number_links : (most : ℕ) (s : Rest) → grammar.number_at most s ≡ result_ok (reading.number most s)
@@ -93,8 +93,8 @@ number_links most s =
     either_links (head (skip s) == 48) (Some (0, behind (skip s))) _ (Ok (0, behind (skip s)))
     (reading.positive most s) refl (positive_links most s)
 
-pub signed_links : (s : Rest) → grammar.signed_at s ≡ result_ok (reading.signed s)
-unfolding reading.signed
+pub signed_links : (s : Rest) → grammar.signed_at s ≡ result_ok (reading.signed_reading s)
+unfolding reading.signed_reading
 signed_links s =
     either_links (head (skip s) == 45) _ _ (map_outcome minus (reading.number (2 ^ 63) (behind (skip s))))
     (map_outcome pos (reading.number (2 ^ 63 - 1) s))
@@ -105,7 +105,7 @@ signed_links s =
 
 units_links : (n : ℕ × Rest) → grammar.with_unit n ≡ result_ok (reading.units n)
 units_links n =
-    either_links (unit_seconds (head n.1) == 0) None _ (Err (unexpected what.Unit n.1)) _ refl
+    either_links (unit_seconds (head n.1) == 0) None _ (Err (unexpected_fault what.Unit n.1)) _ refl
     (either_links (nat_le (n.0 * unit_seconds (head n.1)) longest) (Some _) None (Ok _) (Err _) refl refl)
 
 pub duration_links : (s : Rest) → grammar.duration_at s ≡ result_ok (reading.duration s)

@@ -8,7 +8,7 @@ use Rattle.mql_ast.specs.declared.operations.FoldWord.TheVariants as fold
 use Rattle.mql_ast.specs.Trees.{SumTree, ItemTree}
 use Rattle.mql_ast.specs.Bytes.{is_letter}
 use Rattle.mql_ast.specs.Rests.{Rest, head, behind, skip}
-use Rattle.mql_ast.specs.Tokens.{sign_at, word_at, past, name_at}
+use Rattle.mql_ast.specs.Tokens.{sign_at, keyword_at, past, name_at}
 use Rattle.mql_ast.specs.Grammar as grammar
 use Rattle.mql_ast.specs.Grammar.{NameList, one_name, more_names, Grouping, no_names, some_names, fold_named, Folded}
 use Rattle.mql_ast.specs.Grammar.{counted, Folding, unnamed, named, FoldingList, one_folding, more_foldings, ItemOf}
@@ -233,7 +233,8 @@ merge_read s r e =
     ∙ if_true (head (behind (behind s)) == 114) _ _ j.0
     ∙ read_as_read fold.Merge (codes "ge") (behind (behind (behind s))) r j.1
 
-fold_word_read : (w : FoldWord) (k r : Rest) → word_at (fold_named w) k ≡ Some r → folds.fold_here (skip k) ≡ Ok (w, r)
+fold_word_read : (w : FoldWord) (k r : Rest) → keyword_at (fold_named w) k ≡ Some r → folds.fold_here (skip k)
+    ≡ Ok (w, r)
 fold_word_read fold.Count k r e = count_read (skip k) r e
 fold_word_read fold.Sum k r e = summed_read (skip k) r e
 fold_word_read fold.Min k r e = min_read (skip k) r e
@@ -288,7 +289,7 @@ unnamed_read s m k r n w c e f h g =
     ∙ ap (λ at. Ok (folds.aggregate_of at None w c, r)) (place_of_name s m n e))
 
 named_read : (s m k j i r : Rest) (n : Name) (w : FoldWord) (c : Option Name) → name_at s ≡ Some (n, m) →
-    sign_at 58 m ≡ Some k → word_at (fold_named w) k ≡ Some j → sign_at 40 j ≡ Some i →
+    sign_at 58 m ≡ Some k → keyword_at (fold_named w) k ≡ Some j → sign_at 40 j ≡ Some i →
     folds.fold_call (skip k).at (Some n) w i ≡ Ok (folds.aggregate_of (skip k).at (Some n) w c, r) →
     folds.aggregate s ≡ Ok (folds.aggregate_of (skip k).at (Some n) w c, r)
 unfolding folds.aggregate

@@ -16,7 +16,7 @@ use Rattle.mql_ast.specs.Grammar.{FoldingList, one_folding, more_foldings, ItemO
 use Rattle.mql_ast.specs.Grammar.{one_item, more_items}
 use Rattle.mql_parse.specs.declared.faults.What.{What}
 use Rattle.mql_parse.specs.declared.faults.What.TheVariants as what
-use Rattle.mql_parse.specs.Outcomes.{Outcome, unexpected, exact, sign, map_outcome, up_to}
+use Rattle.mql_parse.specs.Outcomes.{Outcome, unexpected_fault, exact, sign, map_outcome, up_to}
 use Rattle.mql_parse.specs.Repeats.{Done, Again, Stuck, list_or_end, list_turn, repetition}
 use Rattle.mql_parse.specs.FaultTokens.{IsBare}
 use Rattle.mql_parse.specs.TokenReading as reading
@@ -78,7 +78,7 @@ module _ {A : Type 0} (part : Rest → Outcome A) (close : ℕ) (w : What) (clos
       (λ x v g. let t = skip x.1 in let all = so_far ++ x.0 ∷ [] in
       if_turns x.1 (head t == 44) (Again all (behind t)) _
       (λ h. record { way = cut_as x.1 (behind t) (sign_cut 44 comma x.1 h) (λ u k. further y v u f g k) })
-      (λ _. if_turns x.1 (head t == close) (Done all (behind t)) (Stuck (unexpected w t))
+      (λ _. if_turns x.1 (head t == close) (Done all (behind t)) (Stuck (unexpected_fault w t))
       (λ h. record { way = cut_as x.1 (behind t) (sign_cut close closes x.1 h) (λ u k. listed y v u f g k) })
       (λ _. record {
         way = wrong w x.1 close [] [] token
@@ -268,7 +268,7 @@ module _ (s m : Rest) (bs v x : List ℕ) (e : AreBlanks bs) (q : v ≡ bs ++ 10
   -- where it can't go on
   m_stuck : (f : FoldWord) (b : ℕ) (cs : List ℕ) → fold_named f ≡ 109 ∷ (x ++ b ∷ cs) →
       (IsBare what.Aggregate (109 ∷ x) → ⊥) → IsBare what.Aggregate (109 ∷ (x ++ b ∷ cs)) → Finish AnyFoldWord s
-      (unexpected what.Aggregate m)
+      (unexpected_fault what.Aggregate m)
   m_stuck f b cs spelled u token =
       begun_here {L = AnyFoldWord} what.Aggregate s m (v ++ x) bs (109 ∷ x) b cs [] bytes place split (u, token)
       (λ e. absurd (cc)) (
@@ -286,7 +286,7 @@ behind_me_ends s m bs v e q bytes place =
     (λ h. m_on s m bs v x e q bytes place fold.Mean 97
     (codes "n") refl refl h refl mean_word.fronts.1.1 mean_word.bare)
     (λ _. if_ends s (head m == 114) (folds.read_as fold.Merge (codes "ge") (behind m))
-    (Err (unexpected what.Aggregate m))
+    (Err (unexpected_fault what.Aggregate m))
     (λ h. m_on s m bs v x e q bytes place fold.Merge 114 (codes "ge") refl refl h refl merge_word.fronts.1.1
     merge_word.bare)
     (λ _. record {
@@ -308,7 +308,7 @@ behind_m_ends s m c =
     (λ h. m_on s m bs v [] e q bytes place fold.Min 105 (codes "n") refl refl h refl min_word.fronts.1 min_word.bare)
     (λ _. if_ends s (head m == 97) (folds.read_as fold.Max (codes "x") (behind m)) _
     (λ h. m_on s m bs v [] e q bytes place fold.Max 97 (codes "x") refl refl h refl max_word.fronts.1 max_word.bare)
-    (λ _. if_ends s (head m == 101) (folds.fold_behind_me (behind m)) (Err (unexpected what.Aggregate m))
+    (λ _. if_ends s (head m == 101) (folds.fold_behind_me (behind m)) (Err (unexpected_fault what.Aggregate m))
     (λ h. let k = byte_is 101 refl m h in
     behind_me_ends s (behind m) bs v e q
     (c.bytes ∙ ap (λ t. v ++ t) (k.bytes ∙ ap (λ t. t ++ (behind m).bytes) k.is)
@@ -329,7 +329,7 @@ fold_here_ends s =
     (λ _. whole_ends s fold.Sum 115 (codes "um") refl sum_word sum_word_text)
     (λ _. if_ends s (head t == 97) (folds.read_as fold.Aggregate (codes "aggregate") t) _
     (λ _. whole_ends s fold.Aggregate 97 (codes "ggregate") refl aggregate_word aggregate_text)
-    (λ _. if_ends s (head t == 109) (folds.fold_behind_m (behind t)) (Err (unexpected what.Aggregate t))
+    (λ _. if_ends s (head t == 109) (folds.fold_behind_m (behind t)) (Err (unexpected_fault what.Aggregate t))
     (λ h. behind_m_ends s (behind t) (first_is 109 refl s h))
     (λ _. record {
       way = wrong what.Aggregate s 115 (codes "um") [] sum_word.bare
@@ -480,13 +480,13 @@ bare_fold_ends at text m w f None h =
     }
 bare_fold_ends at text m w f (Some g) h =
     let t = skip m in
-    if_ends m (head t == 40) (folds.fold_call at None g (behind t)) (Err (unexpected what.OpenParenthesis t))
+    if_ends m (head t == 40) (folds.fold_call at None g (behind t)) (Err (unexpected_fault what.OpenParenthesis t))
     (λ k. cut_then m (behind t) (folds.fold_call at None g (behind t)) (sign_cut 40 open_parenthesis m k)
     (λ v l. ends_as (behind t) (folds.fold_call at None g (behind t)) (fold_call_ends at None g (behind t) v l)
     (λ x u q. unnamed_text text g w (v ++ u) h f q) (λ u q. unnamed_text text g w (v ++ u) h f q)))
     (λ _. record { way = opened })
   where
-    opened : Finish (λ u. FoldingText (w ++ u)) m (unexpected what.OpenParenthesis (skip m))
+    opened : Finish (λ u. FoldingText (w ++ u)) m (unexpected_fault what.OpenParenthesis (skip m))
     opened =
         let c = skip_cut m in
         let v = c.front ++ 10 ∷ [] in

@@ -11,14 +11,14 @@ use Rattle.mql_ast.specs.declared.operations.FoldWord.TheVariants as fold
 use Rattle.mql_ast.specs.Trees.{ItemTree}
 use Rattle.mql_ast.specs.Bytes.{is_letter}
 use Rattle.mql_ast.specs.Rests.{Rest, head, behind, skip}
-use Rattle.mql_ast.specs.Tokens.{sign_at, word_at, past, name_at, word_here}
+use Rattle.mql_ast.specs.Tokens.{sign_at, keyword_at, past, name_at, word_here}
 use Rattle.mql_ast.specs.Grammar as grammar
 use Rattle.mql_ast.specs.Grammar.{NameList, one_name, more_names, fold_named, Folded, counted, Folding, unnamed, named}
 use Rattle.mql_ast.specs.Grammar.{FoldingList, one_folding, more_foldings, ItemOf, single, labelled, ItemList}
 use Rattle.mql_ast.specs.Grammar.{one_item, more_items}
 use Rattle.mql_parse.specs.declared.faults.What.{What}
 use Rattle.mql_parse.specs.declared.faults.What.TheVariants as what
-use Rattle.mql_parse.specs.Outcomes.{Outcome, sign, exact, map_outcome, up_to, unexpected}
+use Rattle.mql_parse.specs.Outcomes.{Outcome, sign, exact, map_outcome, up_to, unexpected_fault}
 use Rattle.mql_parse.specs.Repeats.{Turn, Done, Stuck, on_read, list_or_end, list_turn, repetition}
 use Rattle.mql_parse.specs.TokenReading as reading
 use Rattle.mql_parse.specs.SumReading as sums
@@ -52,7 +52,7 @@ module _ {A : Type 0} (part : Rest → Outcome A) (Part : Rest → A × Rest →
         behind_behind m x.1 (behind t) (left m x p)
             (sign_behind 44 refl x.1 (behind t) e),
       ))
-      (λ _. if_turn (head t == close) _ (Stuck (unexpected w t)) ends _
+      (λ _. if_turn (head t == close) _ (Stuck (unexpected_fault w t)) ends _
       (λ h. stops x p (behind t) (sign_here close x.1 h)) (λ _. tt)))
 
   -- each turn that goes on leaves less
@@ -63,7 +63,7 @@ module _ {A : Type 0} (part : Rest → Outcome A) (Part : Rest → A × Rest →
       (λ x p. let t = skip x.1 in
       if_turn (head t == 44) _ _ (λ b r. Unit {0}) _ (λ h. let e = sign_here 44 x.1 h in behind_behind m x.1
       (behind t) (left m x p) (sign_behind 44 refl x.1 (behind t) e))
-      (λ _. if_turn (head t == close) _ (Stuck (unexpected w t)) (λ b r. Unit {0}) _ (λ h. tt) (λ _. tt)))
+      (λ _. if_turn (head t == close) _ (Stuck (unexpected_fault w t)) (λ b r. Unit {0}) _ (λ h. tt) (λ _. tt)))
 
   module _ (Parts : Rest → Rest → List A → Type 0) (one : (s : Rest) (x : A × Rest) → Part s x → Parts s x.1 (x.0 ∷ []))
       (more : (s m k : Rest) (all : List A) (x : A × Rest) → Parts s m all → sign_at 44 m ≡ Some k → Part k x →
@@ -154,10 +154,11 @@ fold_of_sound word =
         either false f = h
 
 abbrev IsFoldWord : Rest → FoldWord × Rest → Type 0
-IsFoldWord k x = word_at (fold_named x.0) k ≡ Some x.1
+IsFoldWord k x = keyword_at (fold_named x.0) k ≡ Some x.1
 
 read_as_sound : (k : Rest) (w : FoldWord) (end : List ℕ) (m : Rest) →
-    ((r : Rest) → past end m ≡ Some r → word_at (fold_named w) k ≡ Some r) → IfOk (folds.read_as w end m) (IsFoldWord k)
+    ((r : Rest) → past end m ≡ Some r → keyword_at (fold_named w) k ≡ Some r)
+    → IfOk (folds.read_as w end m) (IsFoldWord k)
 read_as_sound k w end m h =
     bind_sound (exact what.Aggregate end m) _ (λ r. past end m ≡ Some r) (IsFoldWord k)
     (exact_sound what.Aggregate end m) (λ r e. h r e)
@@ -267,7 +268,7 @@ folded_behind {s = s} {r = r} (grammar.folded {m = m} {k = k} {n = n} h e f g) =
     behind_behind s m r (sign_behind 40 refl s m e)
     (behind_behind m k r (name_behind m k n f) (sign_behind 41 refl k r g))
 
-fold_word_behind : (w : FoldWord) (k j : Rest) → word_at (fold_named w) k ≡ Some j → Behind k j
+fold_word_behind : (w : FoldWord) (k j : Rest) → keyword_at (fold_named w) k ≡ Some j → Behind k j
 fold_word_behind fold.Count k j e = word_behind 99 (codes "ount") refl k j e
 fold_word_behind fold.Sum k j e = word_behind 115 (codes "um") refl k j e
 fold_word_behind fold.Min k j e = word_behind 109 (codes "in") refl k j e

@@ -11,8 +11,8 @@ use Rattle.mql_ast.specs.Tokens as grammar
 use Rattle.mql_ast.specs.Tokens.{metric_name, metric_behind}
 use Rattle.mql_parse.specs.declared.faults.ParseFault.{ParseFault}
 use Rattle.mql_parse.specs.declared.faults.What.TheVariants as what
-use Rattle.mql_parse.specs.Outcomes.{unexpected}
-use Rattle.mql_parse.specs.FaultTokens.{IsWhole, IsBare}
+use Rattle.mql_parse.specs.Outcomes.{unexpected_fault}
+use Rattle.mql_parse.specs.FaultTokens.{IsReadWhole, IsBare}
 use Rattle.mql_parse.specs.TokenReading as reading
 use Rattle.mql_parse.proofs.Endings.{Stops, Anyhow, Text, Default, Finish, Ends, Reads, done_ends}
 use Rattle.mql_parse.proofs.TextFronts.{MetricOpen, slash_open, metric_byte_open, metric_slash_open, open_metric}
@@ -73,7 +73,7 @@ metric_from_halts : (after : Bool) (at : ℕ) (bs : List ℕ) → Halts what.Met
     (reading.metric_from after at bs)
 metric_from_halts after at [] =
     let s = at_place at [] in
-    if_halts after (Err (unexpected what.Metric s)) (Ok ([], s))
+    if_halts after (Err (unexpected_fault what.Metric s)) (Ok ([], s))
     (λ h. halted_unexpected {K = MetricOpen after} {L = MetricText after} what.Metric s 97 [] (slash_open after h)
     (one_more after) (λ e. cc))
     (λ h. record { way = record { front = []; bytes = refl; place = omega arith; is = none_more after h } })
@@ -92,7 +92,7 @@ metric_from_halts after at (b ∷ bs) =
     (halts_on {N = MetricOpen after} {M = MetricText after} s m (b ∷ []) slash refl (omega arith)
     (metric_from_halts true (at + 1) bs)
     (λ u k. metric_slash_open after b u h g k) (λ u f. metric_slash after b u h g f)))
-    (λ g. if_halts after (Err (unexpected what.Metric s)) (Ok ([], s))
+    (λ g. if_halts after (Err (unexpected_fault what.Metric s)) (Ok ([], s))
     (λ h. halted_unexpected {K = MetricOpen after} {L = MetricText after} what.Metric s 97 [] (slash_open after h)
     (one_more after) (λ e. cc))
     (λ h. record { way = record { front = []; bytes = refl; place = omega arith; is = none_more after h } })))
@@ -118,7 +118,7 @@ slash_text bs u e f =
 
 slash_token : (u : List ℕ) → MetricText true u → IsBare what.Metric (47 ∷ u)
 slash_token u f =
-    subst (IsWhole grammar.metric_at) (append-nil (47 ∷ u)) (refl, (slash_text [] u tt f).fills [] refl 0)
+    subst (IsReadWhole grammar.metric_at) (append-nil (47 ∷ u)) (refl, (slash_text [] u tt f).fills [] refl 0)
 
 pub if_bind : {A B : Type 0} {left : B → Rest} {P : B → List ℕ → Type 0} {E : List ℕ → Type 0} (s : Rest) (t : Bool)
     (x : A) (e : ParseFault) (f : A → Result B ParseFault) → (t ≡ true → Ends left P E s (f x)) →
@@ -133,7 +133,8 @@ metric_ends s =
     let m = behind t in
     let on = reading.metric_from true m.at m.bytes in
     let named : List ℕ → Name = λ read. record { at = t.at; text = 47 ∷ read } in
-    if_bind s (head t == 47) m (unexpected what.Metric t) (λ slash. reading.metric_from true slash.at slash.bytes >>=
+    if_bind s (head t == 47) m (unexpected_fault what.Metric t)
+    (λ slash. reading.metric_from true slash.at slash.bytes >>=
     λ read. Ok (record { at = t.at; text = 47 ∷ read.0 }, read.1))
     (λ h. let c = first_cut (λ b. b == 47) refl s h in
     let v : c.front ≡ c.is.0 ++ 47 ∷ [] = c.is.1.1 ∙ ap (λ b. c.is.0 ++ b ∷ []) (equal_byte (head t) 47 h) in

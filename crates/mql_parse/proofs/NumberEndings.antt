@@ -13,9 +13,9 @@ use Rattle.mon_value.specs.Answers.{◌>>=◌}
 use Rattle.mql_parse.specs.declared.faults.ParseFault.{ParseFault}
 use Rattle.mql_parse.specs.declared.faults.ParseKind.TheVariants.{NumberTooLarge}
 use Rattle.mql_parse.specs.declared.faults.What.TheVariants as what
-use Rattle.mql_parse.specs.Outcomes.{Outcome, fault, unexpected, map_outcome}
+use Rattle.mql_parse.specs.Outcomes.{Outcome, fault, unexpected_fault, map_outcome}
 use Rattle.mql_parse.specs.FaultNumbers.{AreDigits, IsNumber}
-use Rattle.mql_parse.specs.FaultTokens.{IsWhole, IsBare}
+use Rattle.mql_parse.specs.FaultTokens.{IsReadWhole, IsBare}
 use Rattle.mql_parse.specs.TokenReading as reading
 use Rattle.mql_parse.proofs.RestLemmas.{skip_off}
 use Rattle.mql_parse.proofs.BehindLemmas.{sign_taken}
@@ -271,7 +271,7 @@ unfolding reading.positive
 positive_end most le s =
     let t = skip s in
     let more = reading.digits most (head t - 48) (behind t).at (behind t).bytes in
-    if_ends s (is_digit (head t) && not (head t == 48)) more (Err (unexpected what.Number t))
+    if_ends s (is_digit (head t) && not (head t == 48)) more (Err (unexpected_fault what.Number t))
     (λ h. behind_first most le s (behind t) (head t) h (first_cut (λ b. is_digit b && not (b == 48)) refl s h) more
     (digits_end most (head t - 48) (behind t).at (behind t).bytes
     (first_small most (head t) le (and_first (is_digit (head t)) (not (head t == 48)) h))))
@@ -391,7 +391,7 @@ module _ (s r : Rest) (v : ℕ) (c : Cut (IsPositive longest v) s r) (u : (unit_
 
 -- a number and a unit, and a number alone
 with_seconds : (v : ℕ) (w : List ℕ) → nat_le v longest ≡ true → PositiveText longest v w →
-    is_blank (first_of w) ≡ false → IsWhole grammar.duration_at (w ++ 115 ∷ [])
+    is_blank (first_of w) ≡ false → IsReadWhole grammar.duration_at (w ++ 115 ∷ [])
 with_seconds v w m f h =
     let n = f (115 ∷ []) refl 0 in (
       first_blank w h,
@@ -406,7 +406,7 @@ with_seconds v w m f h =
     first_blank [] h = refl
     first_blank (b ∷ w) h = h
 
-without_unit : (v : ℕ) (w : List ℕ) → PositiveText longest v w → IsWhole grammar.duration_at w → ⊥
+without_unit : (v : ℕ) (w : List ℕ) → PositiveText longest v w → IsReadWhole grammar.duration_at w → ⊥
 without_unit v w f h =
     let n = f [] refl 0 in
     let none : grammar.duration_at (at_place 0 w) ≡ None =
@@ -415,11 +415,11 @@ without_unit v w f h =
 
 -- the unit of a number
 unit_missing : (s r : Rest) (v : ℕ) → Cut (IsPositive longest v) s r →
-    Finish (Text Worded true (Token grammar.duration_at)) s (unexpected what.Unit r)
+    Finish (Text Worded true (Token grammar.duration_at)) s (unexpected_fault what.Unit r)
 unit_missing s r v c = let n = c.is.1.1.1 in by_number n.1.0 n.1.1.1.0 n.1.1.1.1.0 n.1.1.1.1.1
   where
     by_number : (u : List ℕ) → IsNumber u → c.front ≡ c.is.1.1.1.0 ++ u → PositiveText longest v u →
-        Finish (Text Worded true (Token grammar.duration_at)) s (unexpected what.Unit r)
+        Finish (Text Worded true (Token grammar.duration_at)) s (unexpected_fault what.Unit r)
     by_number [] k q f = absurd k
     by_number (b ∷ u) k q f =
         begun_here {L = Text Worded true (Token grammar.duration_at)} what.Unit s r c.front c.is.1.1.1.0 (b ∷ u) 115 []
@@ -443,7 +443,7 @@ duration_ends s = by_number (reading.positive longest s) (positive_end longest r
         let c = h.way in
         let r = x.1 in
         let seconds = x.0 * unit_seconds (head r) in
-        if_ends s (unit_seconds (head r) == 0) (Err (unexpected what.Unit r)) _
+        if_ends s (unit_seconds (head r) == 0) (Err (unexpected_fault what.Unit r)) _
         (λ u. record { way = unit_missing s r x.0 c })
         (λ u. if_ends s (nat_le seconds longest) (Ok (pos seconds, behind r)) (Err (fault NumberTooLarge r))
         (λ m. ends_before_it s r c.front (Ok (pos seconds, behind r)) c.bytes c.place
@@ -537,8 +537,8 @@ signed_plain s x f =
     (unsigned (head t) (Some (0, behind t)) (grammar.digits_from (2 ^ 63 - 1) (head t - 48) (behind t).at
     (behind t).bytes) x f) ∙ ap (option_and_then (λ n. Some (pos n.0, n.1))) f
 
-pub signed_ends : (s : Rest) → Reads (Text Worded false (Token grammar.signed_at)) s (reading.signed s)
-unfolding reading.signed
+pub signed_ends : (s : Rest) → Reads (Text Worded false (Token grammar.signed_at)) s (reading.signed_reading s)
+unfolding reading.signed_reading
 signed_ends s =
     let t = skip s in
     if_ends s (head t == 45) (map_outcome minus (reading.number (2 ^ 63) (behind t)))

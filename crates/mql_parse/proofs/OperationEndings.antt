@@ -12,7 +12,7 @@ use Rattle.mql_ast.specs.Tokens.{positive_at, duration_at}
 use Rattle.mql_ast.specs.Grammar as grammar
 use Rattle.mql_ast.specs.Grammar.{Deed, align_delta, align_next_older}
 use Rattle.mql_parse.specs.declared.faults.What.TheVariants as what
-use Rattle.mql_parse.specs.Outcomes.{Outcome, unexpected, exact, sign, map_outcome, up_to}
+use Rattle.mql_parse.specs.Outcomes.{Outcome, unexpected_fault, exact, sign, map_outcome, up_to}
 use Rattle.mql_parse.specs.TokenReading as reading
 use Rattle.mql_parse.specs.SumReading.{items}
 use Rattle.mql_parse.specs.PredicateReading as predicates
@@ -98,7 +98,7 @@ aligner_ends m =
     (ends_as m delta (aligned_ends 100 (codes "elta") refl delta_opens refl delta_word m)
     (λ x w f. changed (λ x z k. inl k) w f) (λ w f. changed (λ x z k. inl k) w f)) (λ x. refl) (λ x w f. f))
     (λ _. if_ends m (head t == 110) (map_outcome (λ z. tree.Align (aligner.NextOlder z)) next)
-    (Err (unexpected what.Aligner t))
+    (Err (unexpected_fault what.Aligner t))
     (λ _. done_ends m next (λ x. (tree.Align (aligner.NextOlder x.0), x.1))
     (ends_as m next (aligned_ends 110 (codes "ext_older") refl next_opens refl next_older_word m)
     (λ x w f. changed (λ x z k. inr k) w f) (λ w f. changed (λ x z k. inr k) w f)) (λ x. refl) (λ x w f. f))
@@ -351,7 +351,7 @@ deed_ends d s =
     (λ _. if_ends s (b == 101) every _
     (λ _. other_deed d s every (lasting_ends d 101 (codes "very") tree.Every refl refl every_word (every_span d) s)
     (lasting_other tree.Every (λ z. refl) (codes "every") t))
-    (λ _. if_ends s (b == 119) within (Err (unexpected what.Operation t))
+    (λ _. if_ends s (b == 119) within (Err (unexpected_fault what.Operation t))
     (λ _. other_deed d s within (lasting_ends d 119 (codes "ithin") tree.Within refl refl within_word (within_span d) s)
     (lasting_other tree.Within (λ z. refl) (codes "within") t))
     (λ _. record {

@@ -12,7 +12,7 @@ use Rattle.mql_ast.specs.Trees as tree
 use Rattle.mql_ast.specs.Trees.{PredicateTree, ItemTree, DeedTree, OpTree, PipeTree, SourceTree, branches}
 use Rattle.mql_ast.specs.Bytes.{is_blank, is_letter, is_word_byte}
 use Rattle.mql_ast.specs.Rests.{Rest, head, behind, skip}
-use Rattle.mql_ast.specs.Tokens.{sign_at, word_at, past, name_at, metric_at, positive_at, duration_at}
+use Rattle.mql_ast.specs.Tokens.{sign_at, keyword_at, past, name_at, metric_at, positive_at, duration_at}
 use Rattle.mql_ast.specs.Grammar as grammar
 use Rattle.mql_ast.specs.Grammar.{Apart, Grouping, FoldingList, ItemList, Disjunction, Deed, align_delta}
 use Rattle.mql_ast.specs.Grammar.{align_next_older, Ops, no_ops, more_ops, how_word, Pipe, flow, Source, PipeList}
@@ -345,7 +345,7 @@ ops_read d s r ops l u =
 
 -- sources
 fetch_read : (t m k j r : Rest) (n w : Name) → past (codes "fetch") t ≡ Some m → Apart m → name_at m ≡ Some (n, k) →
-    word_at (codes "::") k ≡ Some j → metric_at j ≡ Some (w, r) →
+    keyword_at (codes "::") k ≡ Some j → metric_at j ≡ Some (w, r) →
     pipes.fetch t ≡ Ok (tree.Fetch t.at n w, r)
 unfolding pipes.fetch
 fetch_read t m k j r n w e a f g h =
@@ -359,7 +359,7 @@ fetch_here : (d : ℕ) (s : Rest) → (head (skip s) == 102) ≡ true → pipes.
 unfolding pipes.source_with
 fetch_here d s h = if_true (head (skip s) == 102) _ _ h
 
-how_read : (h : How) (i r : Rest) → word_at (how_word h) i ≡ Some r → pipes.how_here (skip i) ≡ Ok (h, r)
+how_read : (h : How) (i r : Rest) → keyword_at (how_word h) i ≡ Some r → pipes.how_here (skip i) ≡ Ok (h, r)
 how_read how.Join i r e =
     if_true (head (skip i) == 106) _ _ (first_past 106 (codes "oin") (skip i) r e).0
     ∙ bound (exact what.How (codes "join") (skip i)) _ r _ (exact_read what.How (codes "join") (skip i) r e) refl
@@ -370,7 +370,8 @@ how_read how.Union i r e =
     ∙ bound (exact what.How (codes "union") (skip i)) _ r _ (exact_read what.How (codes "union") (skip i) r e) refl
 
 branches_how_read : (at : ℕ) (ps : List PipeTree) (j i r : Rest) (h : How) → sign_at 124 j ≡ Some i →
-    word_at (how_word h) i ≡ Some r → pipes.branches_how at ps j ≡ Ok (tree.Branches at (branches ps) h (skip i).at, r)
+    keyword_at (how_word h) i ≡ Some r → pipes.branches_how at ps j
+    ≡ Ok (tree.Branches at (branches ps) h (skip i).at, r)
 unfolding pipes.branches_how
 branches_how_read at ps j i r h e f =
     bound (sign 124 what.Bar j) _ i _ (sign_read 124 what.Bar j i e)

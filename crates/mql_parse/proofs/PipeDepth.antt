@@ -4,7 +4,7 @@ use Rattle.std.proofs.Common.{Err}
 use Rattle.mql_ast.specs.Trees.{Filter, Value, Every, Within, OpTree, PipeTree, Flow, SourceTree}
 use Rattle.mql_ast.specs.Rests.{Rest, head, behind, skip}
 use Rattle.mql_parse.specs.declared.faults.What.TheVariants as what
-use Rattle.mql_parse.specs.Outcomes.{Outcome, unexpected, exact, sign, map_outcome}
+use Rattle.mql_parse.specs.Outcomes.{Outcome, unexpected_fault, exact, sign, map_outcome}
 use Rattle.mql_parse.specs.Repeats.{Done, Again, Stuck, repetition}
 use Rattle.mql_parse.specs.SumReading as sums
 use Rattle.mql_parse.specs.PredicateReading as predicates
@@ -87,7 +87,7 @@ branch_behind_shallow so_far x =
     let t = skip x.1 in
     let all = so_far ++ x.0 ∷ [] in
     if_turn_shallow (head t == 59) (Again all (behind t)) _ (again_shallow all (behind t))
-    (if_turn_shallow (head t == 125) (Done all (behind t)) (Stuck (unexpected what.CloseBrace t))
+    (if_turn_shallow (head t == 125) (Done all (behind t)) (Stuck (unexpected_fault what.CloseBrace t))
     (done_shallow all (behind t)) (stuck_shallow what.CloseBrace t))
 
 branch_turn_deepens : (pipe pipe' : Rest → Outcome PipeTree) → ((s : Rest) → Deepens next (pipe s) (pipe' s)) →
@@ -125,7 +125,7 @@ source_deepens_with group group' k s =
     let t = skip s in
     deepens_if next (head t == 102) _ _ _ _ (λ _. deepens_same next (pipes.fetch t) (fetch_shallow t))
     (λ _. deepens_if next (head t == 123) _ _ _ _ (k t)
-    (λ _. deepens_same next (Err (unexpected what.Fetch t)) (unexpected_shallow what.Fetch t)))
+    (λ _. deepens_same next (Err (unexpected_fault what.Fetch t)) (unexpected_shallow what.Fetch t)))
 
 pipe_deepens_with : (d e : ℕ) → d < e →
     ((t : Rest) → (head t == 123) ≡ true →

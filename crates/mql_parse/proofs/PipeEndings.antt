@@ -8,12 +8,12 @@ use Rattle.mql_ast.specs.declared.pipes.How.TheVariants as how
 use Rattle.mql_ast.specs.Trees as tree
 use Rattle.mql_ast.specs.Trees.{DeedTree, OpTree, PipeTree, SourceTree, branches}
 use Rattle.mql_ast.specs.Rests.{Rest, head, behind, skip}
-use Rattle.mql_ast.specs.Tokens.{word_at, sign_at, metric_at}
+use Rattle.mql_ast.specs.Tokens.{keyword_at, sign_at, metric_at}
 use Rattle.mql_ast.specs.Grammar as grammar
 use Rattle.mql_ast.specs.Grammar.{Deed, no_ops, more_ops, how_word, Pipe, flow, Source, PipeList, two_pipes, more_pipes}
 use Rattle.mql_parse.specs.declared.faults.ParseKind.TheVariants.{TooDeep}
 use Rattle.mql_parse.specs.declared.faults.What.TheVariants as what
-use Rattle.mql_parse.specs.Outcomes.{Outcome, unexpected, exact, sign}
+use Rattle.mql_parse.specs.Outcomes.{Outcome, unexpected_fault, exact, sign}
 use Rattle.mql_parse.specs.Repeats.{Done, Again, Stuck, repetition}
 use Rattle.mql_parse.specs.TokenReading as reading
 use Rattle.mql_parse.specs.PipeReading as pipes
@@ -199,7 +199,7 @@ pipe_default d =
 
 -- how branches are joined
 abbrev HowSpan : List ℕ → List ℕ → Type 0
-HowSpan x z = (at : ℕ) → (n : ℕ × How) × (word_at (how_word n.1) (at_place at x) ≡ Some (at_place n.0 z))
+HowSpan x z = (at : ℕ) → (n : ℕ × How) × (keyword_at (how_word n.1) (at_place at x) ≡ Some (at_place n.0 z))
 
 join_span : (x z : List ℕ) → WordSpan (codes "join") x z → HowSpan x z
 join_span x z k at = let n = k at in ((n.0, how.Join), n.1)
@@ -219,7 +219,7 @@ how_ends s =
     (λ _. done_ends s joined (λ r. (how.Join, r))
     (ends_as s joined (word_ends Anyhow what.How 106 (codes "oin") refl tt refl join_word s)
     (λ r w f. changed join_span w f) (λ w f. changed join_span w f)) (λ r. refl) (λ r w f. f))
-    (λ _. if_ends s (head t == 117) (united >>= λ r. Ok (how.Union, r)) (Err (unexpected what.How t))
+    (λ _. if_ends s (head t == 117) (united >>= λ r. Ok (how.Union, r)) (Err (unexpected_fault what.How t))
     (λ _. done_ends s united (λ r. (how.Union, r))
     (ends_as s united (word_ends Anyhow what.How 117 (codes "nion") refl tt refl union_word s)
     (λ r w f. changed union_span w f) (λ w f. changed union_span w f)) (λ r. refl) (λ r w f. f))
@@ -328,7 +328,7 @@ ReadsPipe d s o = Ends {A = PipeTree × Rest} behind_read (λ x. PipeSeen d x.0)
 -- what may come behind the first of several branches
 branch_missing : (d : ℕ) (w v : List ℕ) → Text Parted true (SignSpan 123) w → (groups : Bool) → PipeText d v →
     Longer d groups v → (r : Rest) → Finish (λ u. SourceText (suc d) (w ++ (v ++ u))) r
-    (unexpected (if groups then what.Comma else what.Semicolon) (skip r))
+    (unexpected_fault (if groups then what.Comma else what.Semicolon) (skip r))
 branch_missing d w v f false g h r =
     let end = last_branch ++ bar_how_default.text in
     wrong what.Semicolon r 59 [] end refl
@@ -361,7 +361,7 @@ module _ (d : ℕ) (piped : (s : Rest) → ReadsPipe d s (pipes.pipe d s)) where
       (λ x v g. let t = skip x.1 in let all = so_far ++ x.0 ∷ [] in
       if_turns x.1 (head t == 59) (Again all (behind t)) _
       (λ h. record { way = cut_as x.1 (behind t) (sign_cut 59 semicolon x.1 h) (λ u k. begun_text d w v u f g.0 k) })
-      (λ _. if_turns x.1 (head t == 125) (Done all (behind t)) (Stuck (unexpected what.CloseBrace t))
+      (λ _. if_turns x.1 (head t == 125) (Done all (behind t)) (Stuck (unexpected_fault what.CloseBrace t))
       (λ h. record {
         way = cut_as x.1 (behind t) (sign_cut 125 close_brace x.1 h)
             (λ u k. closed_text d w v u f g.0 k);
@@ -386,7 +386,7 @@ module _ (d : ℕ) (piped : (s : Rest) → ReadsPipe d s (pipes.pipe d s)) where
             (last_closed d (v ++ semi.text) (first_branch d v semi.text g semi.is)) q.is;
       })
       (λ first v g. let r = first.1 in let m = behind (skip r) in
-      if_bind r (head (skip r) == 59) m (unexpected (pipes.behind_branch first.0) (skip r))
+      if_bind r (head (skip r) == 59) m (unexpected_fault (pipes.behind_branch first.0) (skip r))
       (λ more. repetition (pipes.branch_turn (pipes.pipe d)) (first.0 ∷ []) more >>=
       λ all. pipes.branches_how (skip s).at all.0 all.1)
       (λ h. cut_then r m _ (sign_cut 59 semicolon r h)
@@ -411,7 +411,8 @@ module _ (d : ℕ) (grouped : (s : Rest) → (head (skip s) == 123) ≡ true →
   source_ends_with s =
       let t = skip s in
       if_ends s (head t == 102) (pipes.fetch t) _ (λ _. fetch_ends d s)
-      (λ _. if_ends s (head t == 123) (pipes.pipe_group d t (behind t)) (Err (unexpected what.Fetch t)) (grouped s)
+      (λ _. if_ends s (head t == 123) (pipes.pipe_group d t (behind t)) (Err (unexpected_fault what.Fetch t))
+      (grouped s)
       (λ _. record { way = wrong what.Fetch s 102 (codes "etch") in_fetch.text fetch_word.bare (fetch_text d) }))
 
   pipe_ends_with : (s : Rest) → ReadsPipe d s (pipes.pipe d s)

@@ -10,7 +10,7 @@ use Rattle.mql_ast.specs.Trees.{PipeTree, Flow, SourceTree, Fetch, Branches, bra
 use Rattle.mql_ast.specs.Rests.{Rest, head, behind, skip}
 use Rattle.mql_parse.specs.declared.faults.What.{What}
 use Rattle.mql_parse.specs.declared.faults.What.TheVariants as what
-use Rattle.mql_parse.specs.Outcomes.{Outcome, unexpected, exact, sign, apart, map_outcome, up_to}
+use Rattle.mql_parse.specs.Outcomes.{Outcome, unexpected_fault, exact, sign, apart, map_outcome, up_to}
 use Rattle.mql_parse.specs.Repeats.{Done, Again, Stuck, repetition}
 use Rattle.mql_parse.specs.TokenReading as reading
 use Rattle.mql_parse.specs.SumReading as sums
@@ -48,7 +48,7 @@ aligner_fits t =
     (aligned_for_fits (codes "delta") refl t))
     (λ _. if_fits None t (head t == 110)
     (map_outcome (λ z. Align (aligner.NextOlder z)) (pipes.aligned_for (codes "next_older") t))
-    (Err (unexpected what.Aligner t))
+    (Err (unexpected_fault what.Aligner t))
     (λ _. map_fits None t (λ z. Align (aligner.NextOlder z)) (pipes.aligned_for (codes "next_older") t)
     (aligned_for_fits (codes "next_older") refl t)) (λ _. unexpected_fits what.Aligner t))
 
@@ -100,7 +100,7 @@ deed_fits d t =
     (λ _. if_fits None t (head t == 101) (pipes.duration_deed Every (codes "every") t) _
     (λ _. duration_deed_fits Every (codes "every") refl t)
     (λ _. if_fits None t (head t == 119) (pipes.duration_deed Within (codes "within") t)
-    (Err (unexpected what.Operation t)) (λ _. duration_deed_fits Within (codes "within") refl t)
+    (Err (unexpected_fault what.Operation t)) (λ _. duration_deed_fits Within (codes "within") refl t)
     (λ _. unexpected_fits what.Operation t))))))
 
 filter_fits : (d : ℕ) (t : Rest) → Fits None t (pipes.filter_here d t)
@@ -146,7 +146,7 @@ how_word_fits h word plain t = pass_then t (exact what.How word t) (λ r. Ok (h,
 how_fits : (t : Rest) → Fits None t (pipes.how_here t)
 how_fits t =
     if_fits None t (head t == 106) _ _ (λ _. how_word_fits how.Join (codes "join") refl t)
-    (λ _. if_fits None t (head t == 117) _ (Err (unexpected what.How t))
+    (λ _. if_fits None t (head t == 117) _ (Err (unexpected_fault what.How t))
     (λ _. how_word_fits how.Union (codes "union") refl t) (λ _. unexpected_fits what.How t))
 
 branches_how_fits : (at : ℕ) (all : List PipeTree) (s : Rest) → Fits None s (pipes.branches_how at all s)
@@ -175,7 +175,8 @@ unfolding pipes.branch_turn
 branch_turn_fits pipe k so_far s = on_read_fits s (pipes.branch_behind so_far) (pipe s) (k s)
     (λ p r. let all = so_far ++ p ∷ [] in
     if_turn r (head (skip r) == 59) (Again all (behind (skip r))) _ (λ h. part_outside (λ b. b == 59) refl refl r h)
-    (λ _. if_turn r (head (skip r) == 125) (Done all (behind (skip r))) (Stuck (unexpected what.CloseBrace (skip r)))
+    (λ _. if_turn r (head (skip r) == 125) (Done all (behind (skip r)))
+    (Stuck (unexpected_fault what.CloseBrace (skip r)))
     (λ h. part_outside (λ b. b == 125) refl refl r h) (λ _. unexpected_next what.CloseBrace r)))
 
 branches_fits_by : (d : ℕ) → ((s : Rest) → Fits None s (pipes.pipe d s)) → (at : ℕ) (s : Rest) →
@@ -197,7 +198,7 @@ unfolding pipes.source_with
 source_fits_with group k s =
     let t = skip s in
     if_fits None s (head t == 102) (pipes.fetch t) _ (λ _. skip_fits s (pipes.fetch t) (fetch_fits t))
-    (λ _. if_fits None s (head t == 123) (group t (behind t)) (Err (unexpected what.Fetch t))
+    (λ _. if_fits None s (head t == 123) (group t (behind t)) (Err (unexpected_fault what.Fetch t))
     (λ h. skip_fits s (group t (behind t)) (k t h)) (λ _. unexpected_next what.Fetch s))
 
 pipe_fits_with : (group : Rest → Rest → Outcome SourceTree) →

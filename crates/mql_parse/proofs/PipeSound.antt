@@ -8,10 +8,10 @@ use Rattle.mql_ast.specs.declared.operations.Aggregate.{Aggregate}
 use Rattle.mql_ast.specs.declared.pipes.How.{How}
 use Rattle.mql_ast.specs.declared.pipes.How.TheVariants as how
 use Rattle.mql_ast.specs.Trees as tree
-use Rattle.mql_ast.specs.Trees.{PredicateTree, ItemTree, DeedTree, OpTree, PipeTree, SourceTree, branches}
+use Rattle.mql_ast.specs.Trees.{PredicateTree, ItemTree, DeedTree, OpTree, PipeTree, SourceTree}
 use Rattle.mql_ast.specs.Bytes.{is_word_byte}
 use Rattle.mql_ast.specs.Rests.{Rest, head, behind, skip}
-use Rattle.mql_ast.specs.Tokens.{sign_at, word_at, past, name_at, metric_at, positive_at, duration_at}
+use Rattle.mql_ast.specs.Tokens.{sign_at, keyword_at, past, name_at, metric_at, positive_at, duration_at}
 use Rattle.mql_ast.specs.Grammar as grammar
 use Rattle.mql_ast.specs.Grammar.{Apart, NameList, Grouping, no_names, some_names, FoldingList, ItemList, Disjunction}
 use Rattle.mql_ast.specs.Grammar.{one_conjunction, or, Deed, align_delta, align_next_older, Ops, no_ops, more_ops}
@@ -19,7 +19,7 @@ use Rattle.mql_ast.specs.Grammar.{how_word, Pipe, flow, Source, PipeList, two_pi
 use Rattle.mql_parse.specs.declared.faults.ParseKind.TheVariants.{TooDeep}
 use Rattle.mql_parse.specs.declared.faults.What.{What}
 use Rattle.mql_parse.specs.declared.faults.What.TheVariants as what
-use Rattle.mql_parse.specs.Outcomes.{Outcome, fault, sign, exact, apart, unexpected}
+use Rattle.mql_parse.specs.Outcomes.{Outcome, fault, sign, exact, apart, unexpected_fault}
 use Rattle.mql_parse.specs.Repeats.{Done, Again, Stuck, goes_on, repetition, list_turn}
 use Rattle.mql_parse.specs.TokenReading as reading
 use Rattle.mql_parse.specs.SumReading.{items}
@@ -46,7 +46,7 @@ IsFiltered d s ((p, true), r) = (m : Rest) × (Disjunction d s m p × (sign_at 1
 
 filter_turn_of : (d : ℕ) (ends on : PredicateTree × Bool → Rest → Type 0) (l : PredicateTree × Bool) (m : Rest) →
     ends (l.0, false) m → ((r : Rest) → sign_at 124 m ≡ Some r → ends (l.0, true) r) →
-    ((k : Rest) → word_at (codes "||") m ≡ Some k → (x : PredicateTree × Rest) → IsConjunction d k x →
+    ((k : Rest) → keyword_at (codes "||") m ≡ Some k → (x : PredicateTree × Rest) → IsConjunction d k x →
     on (tree.Or l.0 x.0, false) x.1) → OfTurn (predicates.filter_turn (predicates.conjunction d) l m) ends on
 unfolding predicates.filter_turn
 filter_turn_of d ends on l m stops barred goes =
@@ -339,7 +339,7 @@ ops_from {s = s} no_ops = from_itself s
 ops_from {s = s} {r = r} (more_ops {m = m} {k = k} l e w) =
     from_trans s m r (ops_from l) (to_from m r (behind_behind m k r (sign_behind 124 refl m k e) (deed_behind w)))
 
-how_behind : (h : How) (i r : Rest) → word_at (how_word h) i ≡ Some r → Behind i r
+how_behind : (h : How) (i r : Rest) → keyword_at (how_word h) i ≡ Some r → Behind i r
 how_behind how.Join i r e = word_behind 106 (codes "oin") refl i r e
 how_behind how.Union i r e = word_behind 117 (codes "nion") refl i r e
 
@@ -383,7 +383,7 @@ fetch_sound d s =
     (λ y h. grammar.fetch e p.1 (subst (λ n. name_at n ≡ Some x) p.0 f) g h)))))
 
 abbrev IsHow : Rest → How × Rest → Type 0
-IsHow i x = word_at (how_word x.0) i ≡ Some x.1
+IsHow i x = keyword_at (how_word x.0) i ≡ Some x.1
 
 how_sound : (i : Rest) → IfOk (pipes.how_here (skip i)) (IsHow i)
 how_sound i =
@@ -419,7 +419,7 @@ module _ (d : ℕ) (pipe : Rest → Outcome PipeTree) (piped : (s : Rest) → If
         behind_behind m x.1 (behind t) (pipe_behind p)
             (sign_behind 59 refl x.1 (behind t) e),
       ))
-      (λ _. if_turn (head t == 125) _ (Stuck (unexpected what.CloseBrace t)) ends _
+      (λ _. if_turn (head t == 125) _ (Stuck (unexpected_fault what.CloseBrace t)) ends _
       (λ h. stops x p (behind t) (sign_here 125 x.1 h)) (λ _. tt)))
 
   -- branches up to a semicolon
@@ -485,7 +485,8 @@ branch_turn_behind d all m =
     (λ x p. let t = skip x.1 in
     if_turn (head t == 59) _ _ (λ b r. Unit {0}) _ (λ h. let e = sign_here 59 x.1 h in behind_behind m x.1 (behind t)
     (pipe_behind p) (sign_behind 59 refl x.1 (behind t) e))
-    (λ _. if_turn (head t == 125) _ (Stuck (unexpected what.CloseBrace t)) (λ b r. Unit {0}) _ (λ h. tt) (λ _. tt)))
+    (λ _. if_turn (head t == 125) _ (Stuck (unexpected_fault what.CloseBrace t)) (λ b r. Unit {0}) _ (λ h. tt)
+    (λ _. tt)))
 
 -- branches are read a level deeper
 pub group_deeper : (d : ℕ) (here s : Rest) → (d ≡ 0 → ⊥) → pipes.pipe_group d here s ≡ pipes.branches_with

@@ -11,7 +11,7 @@ use Rattle.mql_ast.specs.Rests.{Rest, head, behind, skip}
 use Rattle.mql_parse.specs.declared.faults.ParseKind.TheVariants.{TooDeep}
 use Rattle.mql_parse.specs.declared.faults.What.{What}
 use Rattle.mql_parse.specs.declared.faults.What.TheVariants as what
-use Rattle.mql_parse.specs.Outcomes.{Outcome, unexpected, exact, sign, apart, map_outcome, up_to}
+use Rattle.mql_parse.specs.Outcomes.{Outcome, unexpected_fault, exact, sign, apart, map_outcome, up_to}
 use Rattle.mql_parse.specs.Repeats.{Done, Again, Stuck, repetition}
 use Rattle.mql_parse.specs.TokenReading as reading
 use Rattle.mql_parse.specs.SumReading as sums
@@ -61,7 +61,7 @@ aligner_steady =
     (aligned_for_steady (codes "delta")))
     (steady_if here here (λ t. head t == 110)
     (λ t. map_outcome (λ z. Align (aligner.NextOlder z)) (pipes.aligned_for (codes "next_older") t))
-    (λ t. Err (unexpected what.Aligner t)) (head_test (λ b. b == 110))
+    (λ t. Err (unexpected_fault what.Aligner t)) (head_test (λ b. b == 110))
     (steady_map here here (λ z. Align (aligner.NextOlder z)) (pipes.aligned_for (codes "next_older"))
     (aligned_for_steady (codes "next_older"))) (steady_unexpected here what.Aligner))
 
@@ -126,7 +126,7 @@ deed_steady d =
     (steady_if here next (λ t. head t == 101) (pipes.duration_deed Every (codes "every")) _ (head_test (λ b. b == 101))
     (steady_to here (pipes.duration_deed Every (codes "every")) (duration_deed_steady Every (codes "every")))
     (steady_if here next (λ t. head t == 119) (pipes.duration_deed Within (codes "within"))
-    (λ t. Err (unexpected what.Operation t)) (head_test (λ b. b == 119))
+    (λ t. Err (unexpected_fault what.Operation t)) (head_test (λ b. b == 119))
     (steady_to here (pipes.duration_deed Within (codes "within")) (duration_deed_steady Within (codes "within")))
     (steady_unexpected next what.Operation))))))
 
@@ -178,7 +178,7 @@ how_word_steady h word = steady_behind_pass here here here (exact what.How word)
 how_steady : Steady here here pipes.how_here
 how_steady =
     steady_if here here (λ t. head t == 106) _ _ (head_test (λ b. b == 106)) (how_word_steady how.Join (codes "join"))
-    (steady_if here here (λ t. head t == 117) _ (λ t. Err (unexpected what.How t)) (head_test (λ b. b == 117))
+    (steady_if here here (λ t. head t == 117) _ (λ t. Err (unexpected_fault what.How t)) (head_test (λ b. b == 117))
     (how_word_steady how.Union (codes "union")) (steady_unexpected here what.How))
 
 pub branches_how_steady : (at : ℕ) (all : List PipeTree) → Steady next here (pipes.branches_how at all)
@@ -225,9 +225,9 @@ branch_behind_steady so_far pipe =
     turn_if next here (λ r. head (skip r) == 59) (λ r. Again all (behind (skip r))) _ (next_test (λ b. b == 59))
     (turn_behind_skip here (λ t. Again all t) (turn_from here (λ t. Again all t) (turn_again here all)))
     (turn_if next here (λ r. head (skip r) == 125) (λ r. Done all (behind (skip r)))
-    (λ r. Stuck (unexpected what.CloseBrace (skip r))) (next_test (λ b. b == 125))
+    (λ r. Stuck (unexpected_fault what.CloseBrace (skip r))) (next_test (λ b. b == 125))
     (turn_behind_skip here (λ t. Done all t) (turn_done here all))
-    (turn_skip here (λ t. Stuck (unexpected what.CloseBrace t)) (turn_stuck here what.CloseBrace)))
+    (turn_skip here (λ t. Stuck (unexpected_fault what.CloseBrace t)) (turn_stuck here what.CloseBrace)))
 
 pub branch_turn_steady : (pipe : Rest → Outcome PipeTree) → Steady next next pipe → (so_far : List PipeTree) →
     SteadyTurn next next (pipes.branch_turn pipe so_far)
@@ -261,9 +261,9 @@ source_steady_with group k =
     steady_if next next (λ s. head (skip s) == 102) (λ s. pipes.fetch (skip s)) _ (next_test (λ b. b == 102))
     (steady_skip next pipes.fetch (steady_to here pipes.fetch fetch_steady))
     (steady_if next next (λ s. head (skip s) == 123) (λ s. group (skip s) (behind (skip s)))
-    (λ s. Err (unexpected what.Fetch (skip s))) (next_test (λ b. b == 123))
+    (λ s. Err (unexpected_fault what.Fetch (skip s))) (next_test (λ b. b == 123))
     (steady_skip next (λ t. group t (behind t)) k)
-    (steady_skip next (λ t. Err (unexpected what.Fetch t)) (steady_unexpected next what.Fetch)))
+    (steady_skip next (λ t. Err (unexpected_fault what.Fetch t)) (steady_unexpected next what.Fetch)))
 
 pipe_steady_with : (group : Rest → Rest → Outcome SourceTree) → Steady here next (λ t. group t (behind t)) → (d : ℕ) →
     Steady next next (pipes.pipe_with group d)

@@ -12,15 +12,16 @@ use Rattle.mql_ast.specs.Trees as tree
 use Rattle.mql_ast.specs.Trees.{PredicateTree}
 use Rattle.mql_ast.specs.Bytes.{is_letter, is_digit}
 use Rattle.mql_ast.specs.Rests.{Rest, head, behind, skip}
-use Rattle.mql_ast.specs.Tokens.{sign_at, word_at, name_at}
+use Rattle.mql_ast.specs.Tokens.{sign_at, keyword_at, name_at}
 use Rattle.mql_ast.specs.Quotes as quotes
 use Rattle.mql_ast.specs.Quotes.{pattern_at, Whole, Plain}
-use Rattle.mql_ast.specs.Grammar.{comparison_at, and_equal, or_equal, value_at, literal, Disjunction, one_conjunction}
+use Rattle.mql_ast.specs.Grammar.{comparison_at, and_equal, or_equal, literal_at, literal, Disjunction}
+use Rattle.mql_ast.specs.Grammar.{one_conjunction}
 use Rattle.mql_ast.specs.Grammar.{or, Conjunction, one_negation, and, Negation, not, in_parentheses, compare, like}
 use Rattle.mql_parse.specs.declared.faults.ParseFault.{ParseFault}
 use Rattle.mql_parse.specs.declared.faults.What.{What}
 use Rattle.mql_parse.specs.declared.faults.What.TheVariants as what
-use Rattle.mql_parse.specs.Outcomes.{Outcome, sign, exact, map_outcome, up_to, unexpected}
+use Rattle.mql_parse.specs.Outcomes.{Outcome, sign, exact, map_outcome, up_to, unexpected_fault}
 use Rattle.mql_parse.specs.Repeats.{Done, Again, goes_on, repetition}
 use Rattle.mql_parse.specs.TokenReading as reading
 use Rattle.mql_parse.specs.PredicateReading as predicates
@@ -83,7 +84,7 @@ comparison_read s r how e =
 abbrev as_pattern : Rest → Outcome Compared
 as_pattern k = Ok (WithPattern, k)
 
-likeness_read : (s r : Rest) → word_at (codes "=~") s ≡ Some r → predicates.comparison_kind s ≡ Ok (WithPattern, r)
+likeness_read : (s r : Rest) → keyword_at (codes "=~") s ≡ Some r → predicates.comparison_kind s ≡ Ok (WithPattern, r)
 unfolding predicates.comparison_kind
 likeness_read s r e =
     let m = behind (skip s) in
@@ -111,21 +112,22 @@ unfolding reading.text
 text_links s h = ap (λ o. option_and_then (λ q. quotes.text_from Whole [] q.at q.bytes) o) (sign_here 34 s h)
     ∙ text_from_links Whole [] (behind (skip s)).at (behind (skip s)).bytes
 
-value_links : (s : Rest) → value_at s ≡ result_ok (predicates.value s)
+value_links : (s : Rest) → literal_at s ≡ result_ok (predicates.value s)
 unfolding predicates.value
 value_links s =
     let b = head (skip s) in
     either_links (b == 34) _ _ _ _ (λ h. changed_links (λ x. (field.Text x.0, x.1)) (quotes.text_at s)
     (reading.text (behind (skip s))) (text_links s h))
-    (λ _. either_links (b == 116) _ _ _ _ (λ _. changed_links (λ r. (field.Bool true, r)) (word_at (codes "true") s)
+    (λ _. either_links (b == 116) _ _ _ _ (λ _. changed_links (λ r. (field.Bool true, r)) (keyword_at (codes "true") s)
     (exact what.Truth (codes "true") (skip s)) (past_links what.Truth (codes "true") (skip s)))
-    (λ _. either_links (b == 102) _ _ _ _ (λ _. changed_links (λ r. (field.Bool false, r)) (word_at (codes "false") s)
+    (λ _. either_links (b == 102) _ _ _ _
+    (λ _. changed_links (λ r. (field.Bool false, r)) (keyword_at (codes "false") s)
     (exact what.Truth (codes "false") (skip s)) (past_links what.Truth (codes "false") (skip s)))
-    (λ _. either_links (b == 45 || is_digit b) _ None _ (Err (unexpected what.Text (skip s)))
-    (λ _. changed_links (λ x. (field.Int x.0, x.1)) _ (reading.signed s) (signed_links s)) (λ _. refl))))
+    (λ _. either_links (b == 45 || is_digit b) _ None _ (Err (unexpected_fault what.Text (skip s)))
+    (λ _. changed_links (λ x. (field.Int x.0, x.1)) _ (reading.signed_reading s) (signed_links s)) (λ _. refl))))
 
-value_read : (s r : Rest) (v : FieldValue) → value_at s ≡ Some (v, r) → predicates.value s ≡ Ok (v, r)
-value_read s r v e = read_of (value_at s) (predicates.value s) (v, r) (value_links s) e
+value_read : (s r : Rest) (v : FieldValue) → literal_at s ≡ Some (v, r) → predicates.value s ≡ Ok (v, r)
+value_read s r v e = read_of (literal_at s) (predicates.value s) (v, r) (value_links s) e
 
 pattern_read : (s r : Rest) (ps : List (List ℕ)) → pattern_at s ≡ Some (ps, r) →
     (q : Rest) × ((sign_at 34 s ≡ Some q) × (reading.pattern q ≡ Ok (ps, r)))
@@ -154,7 +156,7 @@ named_condition opposite group s m n e =
     ∙ ap (λ x. predicates.comparison_kind x.1 >>= predicates.compares_how x.0) t.1
 
 compare_read : (d : ℕ) (s m k r : Rest) (n : Name) (how : Comparison) (v : FieldValue) → name_at s ≡ Some (n, m) →
-    comparison_at m ≡ Some (how, k) → value_at k ≡ Some (v, r) →
+    comparison_at m ≡ Some (how, k) → literal_at k ≡ Some (v, r) →
     predicates.negation d s ≡ Ok (tree.Compare n how (literal k v), r)
 compare_read d s m k r n how v e f g =
     named_condition (predicates.deeper d Opposite) (predicates.deeper d Group) s m n e
@@ -162,7 +164,7 @@ compare_read d s m k r n how v e f g =
     (mapped (λ x. tree.Compare n how (literal k x)) (predicates.value k) v r (value_read k r v g))
 
 like_read : (d : ℕ) (s m k r : Rest) (n : Name) (ps : List (List ℕ)) → name_at s ≡ Some (n, m) →
-    word_at (codes "=~") m ≡ Some k → pattern_at k ≡ Some (ps, r) →
+    keyword_at (codes "=~") m ≡ Some k → pattern_at k ≡ Some (ps, r) →
     predicates.negation d s ≡ Ok (tree.Like n (predicates.pattern_of k ps), r)
 like_read d s m k r n ps e f g =
     let t = pattern_read k r ps g in
@@ -191,7 +193,7 @@ not_read : (d : ℕ) (s m r : Rest) (p : PredicateTree) → sign_at 33 s ≡ Som
 not_read d s m r p e h = opposite_here d s m e ∙ mapped tree.Not (predicates.negation d m) p r h
 
 -- a sign that is written twice
-pub doubled : (b : ℕ) (s r : Rest) → word_at (b ∷ b ∷ []) s ≡ Some r →
+pub doubled : (b : ℕ) (s r : Rest) → keyword_at (b ∷ b ∷ []) s ≡ Some r →
     ((head (skip s) == b) ≡ true) × (((head (behind (skip s)) == b) ≡ true) × (behind (behind (skip s)) ≡ r))
 doubled b s r e =
     let c = first_past b (b ∷ []) (skip s) r e in
@@ -203,19 +205,20 @@ doubled b s r e =
 
 double_next : (b : ℕ) (w : What) (join : PredicateTree → PredicateTree → PredicateTree)
     (part : Rest → Outcome PredicateTree) (l p : PredicateTree) (m k r : Rest) →
-    word_at (b ∷ b ∷ []) m ≡ Some k → part k ≡ Ok (p, r) → predicates.double_turn b w join part l m ≡ Again (join l p) r
+    keyword_at (b ∷ b ∷ []) m ≡ Some k → part k ≡ Ok (p, r) → predicates.double_turn b w join part l m
+    ≡ Again (join l p) r
 double_next b w join part l p m k r e h =
     let t = doubled b m k e in
     if_true (head (skip m) == b) _ _ t.0 ∙ if_true (head (behind (skip m)) == b) _ _ t.1.0
     ∙ ap (λ o. goes_on (join l) o) (ap part t.1.1 ∙ h)
 
 and_next : (part : Rest → Outcome PredicateTree) (l p : PredicateTree) (m k r : Rest) →
-    word_at (codes "&&") m ≡ Some k → part k ≡ Ok (p, r) → predicates.and_turn part l m ≡ Again (tree.And l p) r
+    keyword_at (codes "&&") m ≡ Some k → part k ≡ Ok (p, r) → predicates.and_turn part l m ≡ Again (tree.And l p) r
 unfolding predicates.and_turn
 and_next part l p m k r e h = double_next 38 what.And tree.And part l p m k r e h
 
 or_next : (part : Rest → Outcome PredicateTree) (l p : PredicateTree) (m k r : Rest) →
-    word_at (codes "||") m ≡ Some k → part k ≡ Ok (p, r) → predicates.or_turn part l m ≡ Again (tree.Or l p) r
+    keyword_at (codes "||") m ≡ Some k → part k ≡ Ok (p, r) → predicates.or_turn part l m ≡ Again (tree.Or l p) r
 unfolding predicates.or_turn
 or_next part l p m k r e h = double_next 124 what.Or tree.Or part l p m k r e h
 
@@ -245,7 +248,8 @@ first_negation : (d : ℕ) (s r : Rest) (p : PredicateTree) → predicates.negat
 unfolding predicates.conjunction_with
 first_negation d s r p e = bound (predicates.negation d s) _ (p, r) _ e refl
 
-next_negation : (d : ℕ) (s m k r : Rest) (l p : PredicateTree) → AndGoesOn d s m l → word_at (codes "&&") m ≡ Some k →
+next_negation : (d : ℕ) (s m k r : Rest) (l p : PredicateTree) → AndGoesOn d s m l → keyword_at (codes "&&") m
+    ≡ Some k →
     predicates.negation d k ≡ Ok (p, r) → Behind k r → AndGoesOn d s r (tree.And l p)
 next_negation d s m k r l p g e h f =
     g ∙ repeated_again (predicates.and_turn (predicates.negation d)) l (tree.And l p) m r
@@ -256,7 +260,8 @@ unfolding predicates.disjunction_with
 first_conjunction d s r p e = bound (predicates.conjunction d s) _ (p, r) _ e refl
 
 next_conjunction : (d : ℕ) (s m k r : Rest) (l p : PredicateTree) → OrGoesOn d s m l →
-    word_at (codes "||") m ≡ Some k → predicates.conjunction d k ≡ Ok (p, r) → Behind k r → OrGoesOn d s r (tree.Or l p)
+    keyword_at (codes "||") m ≡ Some k → predicates.conjunction d k ≡ Ok (p, r) → Behind k r
+    → OrGoesOn d s r (tree.Or l p)
 next_conjunction d s m k r l p g e h f =
     g ∙ repeated_again (predicates.or_turn (predicates.conjunction d)) l (tree.Or l p) m r
     (or_next (predicates.conjunction d) l p m k r e h)
@@ -271,7 +276,7 @@ group_read d s m k r p e g h =
     (or_last (predicates.conjunction d) p k (other_sign 124 41 refl k r h))) h
 
 -- `||` stands here, and so no `&&`
-no_and : (m k : Rest) → word_at (codes "||") m ≡ Some k → (head (skip m) == 38) ≡ false
+no_and : (m k : Rest) → keyword_at (codes "||") m ≡ Some k → (head (skip m) == 38) ≡ false
 no_and m k e = other_byte 38 124 (head (skip m)) refl (doubled 124 m k e).0
 
 mutual
@@ -311,7 +316,7 @@ unfolding predicates.predicate
 first_asked d s r p e = bound (predicates.conjunction d s) _ (p, r) _ e refl
 
 filter_next : (part : Rest → Outcome PredicateTree) (l p : PredicateTree) (m k r : Rest) →
-    word_at (codes "||") m ≡ Some k → part k ≡ Ok (p, r) → predicates.filter_turn part (l, false) m ≡ Again
+    keyword_at (codes "||") m ≡ Some k → part k ≡ Ok (p, r) → predicates.filter_turn part (l, false) m ≡ Again
     (tree.Or l p, false) r
 unfolding predicates.filter_turn
 filter_next part l p m k r e h =

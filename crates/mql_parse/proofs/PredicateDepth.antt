@@ -5,7 +5,7 @@ use Rattle.mql_ast.specs.Bytes.{is_letter}
 use Rattle.mql_ast.specs.Rests.{Rest, head, behind, skip}
 use Rattle.mql_parse.specs.declared.faults.What.{What}
 use Rattle.mql_parse.specs.declared.faults.What.TheVariants as what
-use Rattle.mql_parse.specs.Outcomes.{Outcome, unexpected}
+use Rattle.mql_parse.specs.Outcomes.{Outcome, unexpected_fault}
 use Rattle.mql_parse.specs.Repeats.{Done, Stuck, repetition}
 use Rattle.mql_parse.specs.PredicateReading as predicates
 use Rattle.mql_parse.specs.PredicateReading.{Deeper, Opposite, Group}
@@ -43,7 +43,7 @@ double_deepens b w join part part' k left s =
     let m = behind (skip s) in
     turn_deepens_if next (head (skip s) == b) _ _ _ _
     (turn_deepens_if next (head m == b) _ _ _ _ (goes_on_deepens next (join left) _ _ (k (behind m)))
-    (turn_deepens_same next (Stuck (unexpected w m)) (stuck_shallow w m)))
+    (turn_deepens_same next (Stuck (unexpected_fault w m)) (stuck_shallow w m)))
     (turn_deepens_same next (Done left s) (done_shallow left s))
 
 and_turn_deepens : (part part' : Rest → Outcome PredicateTree) → ((s : Rest) → Deepens next (part s) (part' s)) →

@@ -14,7 +14,7 @@ use Rattle.mql_ast.specs.Grammar.{not, in_parentheses, compare, like}
 use Rattle.mql_parse.specs.declared.faults.ParseKind.TheVariants.{TooDeep}
 use Rattle.mql_parse.specs.declared.faults.What.{What}
 use Rattle.mql_parse.specs.declared.faults.What.TheVariants as what
-use Rattle.mql_parse.specs.Outcomes.{Outcome, unexpected, sign, map_outcome}
+use Rattle.mql_parse.specs.Outcomes.{Outcome, unexpected_fault, sign, map_outcome}
 use Rattle.mql_parse.specs.Repeats.{Done, Stuck, goes_on}
 use Rattle.mql_parse.specs.TokenReading as reading
 use Rattle.mql_parse.specs.PredicateReading as predicates
@@ -94,7 +94,7 @@ how_ends d n w f (WithPattern, k) v g =
     let t = skip k in
     let m = behind t in
     let liked : (u : List ℕ) → PatternText u → NegationText d (w ++ (v ++ u)) = λ u p. like_text d w v u f g p in
-    if_bind k (head t == 34) m (unexpected what.Text t)
+    if_bind k (head t == 34) m (unexpected_fault what.Text t)
     (λ q. map_outcome (λ ps. tree.Like n (predicates.pattern_of k ps)) (reading.pattern q))
     (λ h. let c = first_is 34 refl k h in
     done_ends k (reading.pattern m) (λ x. (tree.Like n (predicates.pattern_of k x.0), x.1))
@@ -179,7 +179,7 @@ module _ (d : ℕ) (opposite group : Rest → Rest → Outcome PredicateTree)
       let b = head t in
       if_ends s (b == 33) (opposite t (behind t)) _ (opposed s)
       (λ _. if_ends s (b == 40) (group t (behind t)) _ (grouped s)
-      (λ _. if_ends s (is_letter b) (predicates.condition t) (Err (unexpected what.Name t)) (condition_ends d s)
+      (λ _. if_ends s (is_letter b) (predicates.condition t) (Err (unexpected_fault what.Name t)) (condition_ends d s)
       (λ _. record { way = wrong_spaced what.Name s (95 ∷ []) condition_rest refl (condition_after d) })))
 
 -- a further part behind a sign that is written twice
@@ -207,9 +207,9 @@ module _ (b : ℕ) (h : IsSign b) (Part Whole' : List ℕ → Type 0) (part : Re
       let m = behind t in
       let k = behind m in
       let on = goes_on (join l) (part k) in
-      if_turns s (head t == b) (if head m == b then on else Stuck (unexpected w m)) (Done l s)
+      if_turns s (head t == b) (if head m == b then on else Stuck (unexpected_fault w m)) (Done l s)
       (λ e. let c = first_is b h.1.1.1 s e in
-      if_turns s (head m == b) on (Stuck (unexpected w m))
+      if_turns s (head m == b) on (Stuck (unexpected_fault w m))
       (λ g. cut_turns s m on c (λ v d. cut_turns m k on (byte_is b h.1.1.1 m g)
       (λ u i. goes_on_ends k (join l) (part k) (parted k) (λ y p. doubled x v u y f d i p)
       (λ z y p. doubled x v u y f d i p))))

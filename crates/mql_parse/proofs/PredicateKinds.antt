@@ -14,7 +14,7 @@ use Rattle.mql_ast.specs.Quotes.{Whole}
 use Rattle.mql_ast.specs.Grammar.{literal}
 use Rattle.mql_parse.specs.declared.faults.What.{What}
 use Rattle.mql_parse.specs.declared.faults.What.TheVariants as what
-use Rattle.mql_parse.specs.Outcomes.{Outcome, unexpected, exact, sign, map_outcome}
+use Rattle.mql_parse.specs.Outcomes.{Outcome, unexpected_fault, exact, sign, map_outcome}
 use Rattle.mql_parse.specs.Repeats.{Turn, Done, Stuck, goes_on, repetition}
 use Rattle.mql_parse.specs.TokenReading as reading
 use Rattle.mql_parse.specs.PredicateReading as predicates
@@ -32,7 +32,7 @@ behind_equals_fits : (s : Rest) → Fits None s (predicates.behind_equals s)
 behind_equals_fits s =
     if_fits None s (head s == 61) (Ok (WithValue comparison.Equal, behind s)) _
     (λ h. byte_outside (λ b. b == 61) refl refl s h)
-    (λ _. if_fits None s (head s == 126) (Ok (WithPattern, behind s)) (Err (unexpected what.Comparison s))
+    (λ _. if_fits None s (head s == 126) (Ok (WithPattern, behind s)) (Err (unexpected_fault what.Comparison s))
     (λ h. byte_outside (λ b. b == 126) refl refl s h) (λ _. unexpected_fits what.Comparison s))
 
 maybe_equal_fits : (without with : Comparison) (s : Rest) → Fits None s (predicates.maybe_equal without with s)
@@ -56,7 +56,7 @@ comparison_fits s =
     (predicates.maybe_equal comparison.Less comparison.AtMost (behind t))
     (maybe_equal_fits comparison.Less comparison.AtMost (behind t)))
     (λ _. if_fits None s (head t == 62) (predicates.maybe_equal comparison.Greater comparison.AtLeast (behind t))
-    (Err (unexpected what.Comparison t))
+    (Err (unexpected_fault what.Comparison t))
     (λ h. part_fits (λ b. b == 62) refl refl s h
     (predicates.maybe_equal comparison.Greater comparison.AtLeast (behind t))
     (maybe_equal_fits comparison.Greater comparison.AtLeast (behind t))) (λ _. unexpected_next what.Comparison s))))
@@ -75,8 +75,9 @@ value_fits s =
     (λ _. if_fits None s (head t == 102) _ _
     (λ _. skip_fits s _ (pass_then t (exact what.Truth (codes "false") t) (λ r. Ok (field.Bool false, r))
     (exact_fits what.Truth (codes "false") refl t) outside_itself))
-    (λ _. if_fits None s (head t == 45 || is_digit (head t)) (map_outcome (λ z. field.Int z) (reading.signed s))
-    (Err (unexpected what.Text t)) (λ _. map_fits None s (λ z. field.Int z) (reading.signed s) (signed_fits s))
+    (λ _. if_fits None s (head t == 45 || is_digit (head t)) (map_outcome (λ z. field.Int z) (reading.signed_reading s))
+    (Err (unexpected_fault what.Text t))
+    (λ _. map_fits None s (λ z. field.Int z) (reading.signed_reading s) (signed_fits s))
     (λ _. unexpected_next what.Text s))))
 
 -- what stands in quotes behind a quote
@@ -85,7 +86,7 @@ in_quotes : {A : Type 0} (s : Rest) (f : Rest → Outcome A) → ((q : Rest) →
 in_quotes s f k = either (head (skip s) == 34) refl
   where
     either : (t : Bool) → (head (skip s) == 34) ≡ t →
-        Fits None s ((if t then Ok (behind (skip s)) else Err (unexpected what.Text (skip s))) >>= f)
+        Fits None s ((if t then Ok (behind (skip s)) else Err (unexpected_fault what.Text (skip s))) >>= f)
     either true h = skip_fits s (f (behind (skip s)))
         (quote_fits (skip s) (f (behind (skip s))) h (k (behind (skip s))))
     either false h = unexpected_next what.Text s
@@ -116,7 +117,7 @@ negation_fits_with opposite group f g s =
     let t = skip s in
     if_fits None s (head t == 33) (opposite t (behind t)) _ (λ h. skip_fits s (opposite t (behind t)) (f t h))
     (λ _. if_fits None s (head t == 40) (group t (behind t)) _ (λ h. skip_fits s (group t (behind t)) (g t h))
-    (λ _. if_fits None s (is_letter (head t)) (predicates.condition t) (Err (unexpected what.Name t))
+    (λ _. if_fits None s (is_letter (head t)) (predicates.condition t) (Err (unexpected_fault what.Name t))
     (λ _. skip_fits s (predicates.condition t) (condition_fits t)) (λ _. unexpected_next what.Name s)))
 
 double_fits : (b : ℕ) → (0 == b) ≡ false → (34 == b) ≡ false →
@@ -125,10 +126,10 @@ double_fits : (b : ℕ) → (0 == b) ≡ false → (34 == b) ≡ false →
     TurnFits s (predicates.double_turn b w join part left s)
 double_fits b none fails w join part k left s =
     let u = behind (skip s) in
-    let second = if head u == b then goes_on (join left) (part (behind u)) else Stuck (unexpected w u) in
+    let second = if head u == b then goes_on (join left) (part (behind u)) else Stuck (unexpected_fault w u) in
     if_turn s (head (skip s) == b) second (Done left s)
     (λ h. turn_before s u second (part_outside (λ c. c == b) none fails s h)
-    (if_turn u (head u == b) (goes_on (join left) (part (behind u))) (Stuck (unexpected w u))
+    (if_turn u (head u == b) (goes_on (join left) (part (behind u))) (Stuck (unexpected_fault w u))
     (λ g. turn_before u (behind u) (goes_on (join left) (part (behind u))) (byte_outside (λ c. c == b) none fails u g)
     (goes_on_fits (behind u) (join left) (part (behind u)) (k (behind u)))) (λ _. unexpected_fits w u)))
     (λ _. outside_itself s)

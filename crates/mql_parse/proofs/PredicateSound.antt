@@ -11,15 +11,15 @@ use Rattle.mql_ast.specs.Trees as tree
 use Rattle.mql_ast.specs.Trees.{PredicateTree}
 use Rattle.mql_ast.specs.Bytes.{is_letter, is_digit}
 use Rattle.mql_ast.specs.Rests.{Rest, head, behind, skip}
-use Rattle.mql_ast.specs.Tokens.{sign_at, word_at, past, name_at, signed_at, word_here}
+use Rattle.mql_ast.specs.Tokens.{sign_at, keyword_at, past, name_at, signed_at, word_here}
 use Rattle.mql_ast.specs.Quotes as quotes
 use Rattle.mql_ast.specs.Quotes.{text_at, pattern_at, Whole, Plain}
-use Rattle.mql_ast.specs.Grammar.{comparison_at, and_equal, or_equal, value_at, Disjunction, one_conjunction, or}
+use Rattle.mql_ast.specs.Grammar.{comparison_at, and_equal, or_equal, literal_at, Disjunction, one_conjunction, or}
 use Rattle.mql_ast.specs.Grammar.{Conjunction, one_negation, and, Negation, not, in_parentheses, compare, like}
 use Rattle.mql_parse.specs.declared.faults.ParseKind.TheVariants.{TooDeep}
 use Rattle.mql_parse.specs.declared.faults.What.{What}
 use Rattle.mql_parse.specs.declared.faults.What.TheVariants as what
-use Rattle.mql_parse.specs.Outcomes.{Outcome, fault, sign, exact, map_outcome, up_to, unexpected}
+use Rattle.mql_parse.specs.Outcomes.{Outcome, fault, sign, exact, map_outcome, up_to, unexpected_fault}
 use Rattle.mql_parse.specs.Repeats.{Done, Stuck, goes_on}
 use Rattle.mql_parse.specs.TokenReading as reading
 use Rattle.mql_parse.specs.PredicateReading as predicates
@@ -43,7 +43,7 @@ if_false t x y h = ap (λ u. if u then x else y) h
 -- how a condition compares
 abbrev ComparesAt : Rest → Compared × Rest → Type 0
 ComparesAt s (WithValue how, r) = comparison_at s ≡ Some (how, r)
-ComparesAt s (WithPattern, r) = word_at (codes "=~") s ≡ Some r
+ComparesAt s (WithPattern, r) = keyword_at (codes "=~") s ≡ Some r
 
 maybe_sound : (s : Rest) (without with : Comparison) (m : Rest) → comparison_at s ≡ or_equal without with m →
     IfOk (predicates.maybe_equal without with m) (ComparesAt s)
@@ -90,12 +90,12 @@ text_here s h = linked (text_at s) (reading.text_from Whole [] (behind (skip s))
     (ap (λ o. option_and_then (λ q. quotes.text_from Whole [] q.at q.bytes) o) (sign_here 34 s h)
     ∙ text_from_links Whole [] (behind (skip s)).at (behind (skip s)).bytes)
 
-pub value_sound : (s : Rest) → IfOk (predicates.value s) (λ x. value_at s ≡ Some x)
+pub value_sound : (s : Rest) → IfOk (predicates.value s) (λ x. literal_at s ≡ Some x)
 unfolding predicates.value
 value_sound s =
     let t = skip s in
     let b = head t in
-    let P : FieldValue × Rest → Type 0 = λ x. value_at s ≡ Some x in
+    let P : FieldValue × Rest → Type 0 = λ x. literal_at s ≡ Some x in
     if_sound (b == 34) _ _ P
     (λ h. changed_sound (λ x. field.Text x) (reading.text (behind t)) (λ x. text_at s ≡ Some x) P (text_here s h)
     (λ x e. if_true (b == 34) _ _ h ∙ ap (option_and_then (λ y. Some (field.Text y.0, y.1))) e))
@@ -108,7 +108,7 @@ value_sound s =
     (exact_sound what.Truth (codes "false") t) (λ r e. if_false (b == 34) _ _ h ∙ if_false (b == 116) _ _ g
     ∙ if_true (b == 102) _ _ f ∙ ap (option_and_then (λ y. Some (field.Bool false, y))) e))
     (λ f. if_sound (b == 45 || is_digit b) _ _ P
-    (λ d. changed_sound (λ z. field.Int z) (reading.signed s) (λ x. signed_at s ≡ Some x) P (signed_sound s)
+    (λ d. changed_sound (λ z. field.Int z) (reading.signed_reading s) (λ x. signed_at s ≡ Some x) P (signed_sound s)
     (λ x e. if_false (b == 34) _ _ h ∙ if_false (b == 116) _ _ g ∙ if_false (b == 102) _ _ f
     ∙ if_true (b == 45 || is_digit b) _ _ d ∙ ap (option_and_then (λ y. Some (field.Int y.0, y.1))) e))
     (λ d. tt))))
@@ -155,15 +155,15 @@ some_mapped : {A B : Type 0} (f : A → B) (o : Option A) (P : B → Type 0) →
 some_mapped f None P h = tt
 some_mapped f (Some x) P h = h x refl
 
-value_within : (s : Rest) → IfSome (value_at s) (Later s)
+value_within : (s : Rest) → IfSome (literal_at s) (Later s)
 value_within s =
     let b = head (skip s) in
     some_either (b == 34) _ _ (Later s) (λ _. some_mapped (λ (x : List ℕ × Rest). (field.Text x.0, x.1)) (text_at s)
     (Later s) (λ x e. some_given (text_at s) (Later s) x (text_within s) e))
     (λ _. some_either (b == 116) _ _ (Later s) (λ _. some_mapped (λ (r : Rest). (field.Bool true, r))
-    (word_at (codes "true") s) (Later s) (λ r e. word_behind 116 (codes "rue") refl s r e))
+    (keyword_at (codes "true") s) (Later s) (λ r e. word_behind 116 (codes "rue") refl s r e))
     (λ _. some_either (b == 102) _ _ (Later s) (λ _. some_mapped (λ (r : Rest). (field.Bool false, r))
-    (word_at (codes "false") s) (Later s) (λ r e. word_behind 102 (codes "alse") refl s r e))
+    (keyword_at (codes "false") s) (Later s) (λ r e. word_behind 102 (codes "alse") refl s r e))
     (λ _. some_either (b == 45 || is_digit b) _ None (Later s)
     (λ _. some_mapped (λ (x : ℤ × Rest). (field.Int x.0, x.1)) (signed_at s) (Later s)
     (λ x e. some_given (signed_at s) (Later s) x (signed_within s) e)) (λ _. tt))))
@@ -190,7 +190,7 @@ mutual
   negation_behind {s = s} {r = r} (compare {m = m} {k = k} {n = n} {c = c} {v = v} e f g) =
       behind_behind s m r (name_behind s m n e)
       (behind_behind m k r (some_given (comparison_at m) (Later m) (c, k) (comparison_within m) f)
-      (some_given (value_at k) (Later k) (v, r) (value_within k) g))
+      (some_given (literal_at k) (Later k) (v, r) (value_within k) g))
   negation_behind {s = s} {r = r} (like {m = m} {k = k} {n = n} {ps = ps} e f g) =
       behind_behind s m r (name_behind s m n e) (behind_behind m k r (word_behind 61 (codes "~") refl m k f)
       (some_given (pattern_at k) (Later k) (ps, r) (pattern_within k) g))
@@ -221,7 +221,7 @@ condition_sound d s h =
     behind_how : (n : Name) (m : Rest) → name_at s ≡ Some (n, m) → (x : Compared × Rest) → ComparesAt m x →
         IfOk (predicates.compares_how n x) (IsNegation d s)
     behind_how n m e (WithValue how, k) f =
-        changed_sound _ (predicates.value k) (λ x. value_at k ≡ Some x) (IsNegation d s) (value_sound k)
+        changed_sound _ (predicates.value k) (λ x. literal_at k ≡ Some x) (IsNegation d s) (value_sound k)
         (λ x g. compare e f g)
     behind_how n m e (WithPattern, k) f =
         bind_sound (sign 34 what.Text k) _ (λ q. sign_at 34 k ≡ Some q) (IsNegation d s) (sign_sound 34 what.Text k)
@@ -230,18 +230,18 @@ condition_sound d s h =
 
 -- a sign that is written twice
 pub doubled_here : (b : ℕ) (s : Rest) → (head (skip s) == b) ≡ true → (head (behind (skip s)) == b) ≡ true →
-    word_at (b ∷ b ∷ []) s ≡ Some (behind (behind (skip s)))
+    keyword_at (b ∷ b ∷ []) s ≡ Some (behind (behind (skip s)))
 doubled_here b s h g = if_true (head (skip s) == b) _ _ h ∙ if_true (head (behind (skip s)) == b) _ _ g
 
 doubled_sound : (b : ℕ) → (0 == b) ≡ false → (w : What) (join : PredicateTree → PredicateTree → PredicateTree)
     (part : Rest → Outcome PredicateTree) (ends on : PredicateTree → Rest → Type 0) (l : PredicateTree) (m : Rest) →
     ends l m →
-    ((k : Rest) → word_at (b ∷ b ∷ []) m ≡ Some k → OfTurn (goes_on (join l) (part k)) ends on) →
+    ((k : Rest) → keyword_at (b ∷ b ∷ []) m ≡ Some k → OfTurn (goes_on (join l) (part k)) ends on) →
     OfTurn (predicates.double_turn b w join part l m) ends on
 doubled_sound b z w join part ends on l m done go =
     let t = skip m in
     if_turn (head t == b) _ (Done l m) ends on
-    (λ h. if_turn (head (behind t) == b) _ (Stuck (unexpected w (behind t))) ends on
+    (λ h. if_turn (head (behind t) == b) _ (Stuck (unexpected_fault w (behind t))) ends on
     (λ g. go (behind (behind t)) (doubled_here b m h g)) (λ g. tt))
     (λ h. done)
 

@@ -12,7 +12,7 @@ use Rattle.mql_ast.specs.Tokens.{word_here}
 use Rattle.mql_parse.specs.declared.faults.ParseKind.TheVariants.{TooDeep}
 use Rattle.mql_parse.specs.declared.faults.What.{What}
 use Rattle.mql_parse.specs.declared.faults.What.TheVariants as what
-use Rattle.mql_parse.specs.Outcomes.{Outcome, unexpected, exact, sign, map_outcome, up_to}
+use Rattle.mql_parse.specs.Outcomes.{Outcome, unexpected_fault, exact, sign, map_outcome, up_to}
 use Rattle.mql_parse.specs.Repeats.{Turn, Done, Stuck, goes_on, repetition}
 use Rattle.mql_parse.specs.TokenReading as reading
 use Rattle.mql_parse.specs.PredicateReading as predicates
@@ -36,7 +36,7 @@ behind_equals_steady =
     steady_if here here (λ s. head s == 61) (λ s. Ok (WithValue comparison.Equal, behind s)) _
     (head_test (λ b. b == 61)) (byte_steady (WithValue comparison.Equal))
     (steady_if here here (λ s. head s == 126) (λ s. Ok (WithPattern, behind s))
-    (λ s. Err (unexpected what.Comparison s)) (head_test (λ b. b == 126)) (byte_steady WithPattern)
+    (λ s. Err (unexpected_fault what.Comparison s)) (head_test (λ b. b == 126)) (byte_steady WithPattern)
     (steady_unexpected here what.Comparison))
 
 maybe_equal_steady : (without with : Comparison) → Steady here here (predicates.maybe_equal without with)
@@ -64,7 +64,7 @@ comparison_steady =
     (steady_if next here (λ s. head (skip s) == 62) _ _ (next_test (λ b. b == 62))
     (steady_behind_skip here (predicates.maybe_equal comparison.Greater comparison.AtLeast)
     (maybe_equal_steady comparison.Greater comparison.AtLeast))
-    (steady_skip here (λ t. Err (unexpected what.Comparison t)) (steady_unexpected here what.Comparison)))))
+    (steady_skip here (λ t. Err (unexpected_fault what.Comparison t)) (steady_unexpected here what.Comparison)))))
 
 truth_steady : (word : List ℕ) (truth : Bool) →
     Steady here here (λ s. exact what.Truth word s >>= λ r. Ok (field.Bool truth, r))
@@ -85,9 +85,9 @@ value_steady =
     (steady_skip here (λ t. exact what.Truth (codes "false") t >>= λ r. Ok (field.Bool false, r))
     (truth_steady (codes "false") false))
     (steady_if next here (λ s. head (skip s) == 45 || is_digit (head (skip s)))
-    (λ s. map_outcome (λ z. field.Int z) (reading.signed s)) _ (next_test (λ b. b == 45 || is_digit b))
-    (steady_map next here (λ z. field.Int z) reading.signed signed_steady)
-    (steady_skip here (λ t. Err (unexpected what.Text t)) (steady_unexpected here what.Text)))))
+    (λ s. map_outcome (λ z. field.Int z) (reading.signed_reading s)) _ (next_test (λ b. b == 45 || is_digit b))
+    (steady_map next here (λ z. field.Int z) reading.signed_reading signed_steady)
+    (steady_skip here (λ t. Err (unexpected_fault what.Text t)) (steady_unexpected here what.Text)))))
 
 compares_how_steady : (column : Name) (how : Compared) → Steady next here (λ r. predicates.compares_how column (how, r))
 compares_how_steady column (WithValue how) =
@@ -121,18 +121,20 @@ negation_steady_with opposite group f g =
     (steady_skip next (λ t. group t (behind t)) g)
     (steady_if next next (λ s. is_letter (head (skip s))) (λ s. predicates.condition (skip s)) _ (next_test is_letter)
     (steady_skip next predicates.condition (steady_to here predicates.condition condition_steady))
-    (steady_skip next (λ t. Err (unexpected what.Name t)) (steady_unexpected next what.Name))))
+    (steady_skip next (λ t. Err (unexpected_fault what.Name t)) (steady_unexpected next what.Name))))
 
 -- a part behind the second of two signs
 double_steady : (b : ℕ) (w : What) (join : PredicateTree → PredicateTree → PredicateTree)
     (part : Rest → Outcome PredicateTree) → Steady next next part → (left : PredicateTree) →
     SteadyTurn next next (predicates.double_turn b w join part left)
 double_steady b w join part k left =
-    let second = λ (u : Rest). if head u == b then goes_on (join left) (part (behind u)) else Stuck (unexpected w u) in
+    let second = λ (u : Rest). if head u == b then goes_on (join left) (part (behind u))
+    else Stuck (unexpected_fault w u) in
     turn_if next next (λ s. head (skip s) == b) (λ s. second (behind (skip s))) (λ s. Done left s)
     (next_test (λ c. c == b))
     (turn_behind_skip next second
-    (turn_if here next (λ u. head u == b) (λ u. goes_on (join left) (part (behind u))) (λ u. Stuck (unexpected w u))
+    (turn_if here next (λ u. head u == b) (λ u. goes_on (join left) (part (behind u)))
+    (λ u. Stuck (unexpected_fault w u))
     (head_test (λ c. c == b))
     (turn_goes_on here next (join left) (λ u. part (behind u)) (steady_behind next part (steady_from next part k)))
     (turn_stuck next w)))

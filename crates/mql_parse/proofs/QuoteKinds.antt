@@ -7,7 +7,8 @@ use Rattle.std.proofs.lemmas.Str.{IsUtf8-nil}
 use Rattle.mon_value.specs.Texts.{text_in}
 use Rattle.mql_ast.specs.Rests.{Rest}
 use Rattle.mql_ast.specs.Quotes.{Open, Whole, Escape, More, begins_character, begins_long_character, further, TextStep}
-use Rattle.mql_ast.specs.Quotes.{TextEnd, TextPass, TextKeep, TextBad, kept, text_step, Sign, Plain, Dot, Backslash}
+use Rattle.mql_ast.specs.Quotes.{TextEnd, TextPass, TextKeep, TextBad, kept_open, text_step, Sign, Plain, Dot}
+use Rattle.mql_ast.specs.Quotes.{Backslash}
 use Rattle.mql_ast.specs.Quotes.{is_mark, PatternStep, PatternEnd, PatternCut, PatternPass, PatternKeep, PatternUnfit}
 use Rattle.mql_ast.specs.Quotes.{PatternBad, kept_sign, unfit, pattern_step}
 use Rattle.mql_parse.specs.declared.faults.ParseKind.TheVariants.{BadToken, BadPattern}
@@ -114,13 +115,14 @@ at_byte : (n b : ℕ) (p : PatternStep) (u : Open) → SameStep p (text_step u n
 at_byte n b p u f h = subst (λ c. SameStep p (text_step u c)) (sym (eqb-true b n h)) f
 
 whole_step : (b : ℕ) (P : TextStep → Type 0) → ((b == 34) ≡ true → P TextEnd) →
-    ((b == 92) ≡ true → P (TextPass Escape)) → ((b == 34) ≡ false → (b == 92) ≡ false → P (kept (begins_character b))) →
+    ((b == 92) ≡ true → P (TextPass Escape))
+    → ((b == 34) ≡ false → (b == 92) ≡ false → P (kept_open (begins_character b))) →
     P (text_step Whole b)
 whole_step b P f g h = either (b == 34) (b == 92) f g h
   where
     either : (t v : Bool) → (t ≡ true → P TextEnd) → (v ≡ true → P (TextPass Escape)) →
-        (t ≡ false → v ≡ false → P (kept (begins_character b))) →
-        P (if t then TextEnd else (if v then TextPass Escape else kept (begins_character b)))
+        (t ≡ false → v ≡ false → P (kept_open (begins_character b))) →
+        P (if t then TextEnd else (if v then TextPass Escape else kept_open (begins_character b)))
     either true v f g h = f refl
     either false true f g h = g refl
     either false false f g h = h refl refl
@@ -145,16 +147,16 @@ mark_no_backslash b h = grind (arith, nat_tests)
 
 mark_step : (b : ℕ) → is_mark b ≡ true → text_step Whole b ≡ TextKeep Whole
 mark_step b h =
-    ap (λ t. if t then TextEnd else (if b == 92 then TextPass Escape else kept (begins_character b)))
+    ap (λ t. if t then TextEnd else (if b == 92 then TextPass Escape else kept_open (begins_character b)))
     (mark_no_quote b h)
-    ∙ ap (λ t. if t then TextPass Escape else kept (begins_character b)) (mark_no_backslash b h) ∙
-    ap kept (ascii_begins b (mark_is_character b h))
+    ∙ ap (λ t. if t then TextPass Escape else kept_open (begins_character b)) (mark_no_backslash b h) ∙
+    ap kept_open (ascii_begins b (mark_is_character b h))
 
-kept_same : (o : Option Open) → SameStep (kept_sign o) (kept o)
+kept_same : (o : Option Open) → SameStep (kept_sign o) (kept_open o)
 kept_same None = refl
 kept_same (Some u) = refl
 
-unfit_same : (o : Option Open) → SameStep (unfit o) (kept o)
+unfit_same : (o : Option Open) → SameStep (unfit o) (kept_open o)
 unfit_same None = refl
 unfit_same (Some u) = refl
 
@@ -168,8 +170,8 @@ unfit_step b = whole_step b (SameStep (unfit (begins_character b)))
 plain_step : (b : ℕ) → (b == 34) ≡ false → (b == 92) ≡ false → SameStep (kept_sign (begins_character b))
     (text_step Whole b)
 plain_step b h g = subst (SameStep (kept_sign (begins_character b)))
-    (sym (ap (λ t. if t then TextEnd else (if b == 92 then TextPass Escape else kept (begins_character b))) h ∙
-    ap (λ t. if t then TextPass Escape else kept (begins_character b)) g))
+    (sym (ap (λ t. if t then TextEnd else (if b == 92 then TextPass Escape else kept_open (begins_character b))) h ∙
+    ap (λ t. if t then TextPass Escape else kept_open (begins_character b)) g))
     (kept_same (begins_character b))
 
 no_escape : (b : ℕ) → (b == 34) ≡ false → (b == 92) ≡ false → could_stand (text_step Escape b) ≡ false

@@ -15,7 +15,7 @@ use Rattle.mql_parse.specs.declared.faults.ParseKind.TheVariants.{BadToken, BadP
 use Rattle.mql_parse.specs.declared.faults.ParseKind.TheVariants.{TooDeep}
 use Rattle.mql_parse.specs.declared.faults.What.{What}
 use Rattle.mql_parse.specs.declared.faults.What.TheVariants as what
-use Rattle.mql_parse.specs.Outcomes.{Outcome, kind_of, fault, unexpected, exact, sign, apart, map_outcome, up_to}
+use Rattle.mql_parse.specs.Outcomes.{Outcome, kind_of, fault, unexpected_fault, exact, sign, apart, map_outcome, up_to}
 use Rattle.mql_parse.specs.Repeats.{Turn, Done, Again, Stuck, turn_outcome, turns, repetition, on_read, list_or_end}
 use Rattle.mql_parse.specs.Repeats.{list_turn}
 use Rattle.mql_parse.specs.TokenReading as reading
@@ -43,7 +43,7 @@ unexpected_kind w (b ∷ bs) h = either (is_alphabet b) h
     either true h = cc
     either false h = cc
 
-pub unexpected_shallow : {X : Type 0} (w : What) (s : Rest) → Shallow {X = X} (Err (unexpected w s))
+pub unexpected_shallow : {X : Type 0} (w : What) (s : Rest) → Shallow {X = X} (Err (unexpected_fault w s))
 unexpected_shallow w s = record { other = unexpected_kind w s.bytes }
 
 pub if_shallow : {X : Type 0} (t : Bool) (o p : Result X ParseFault) → Shallow o → Shallow p →
@@ -63,15 +63,15 @@ map_shallow f (Err e) h = record { other = h.other }
 pub exact_shallow : (w : What) (cs : List ℕ) (s : Rest) → Shallow (exact w cs s)
 exact_shallow w [] s = ok_shallow s
 exact_shallow w (c ∷ cs) s =
-    if_shallow (head s == c) (exact w cs (behind s)) (Err (unexpected w s)) (exact_shallow w cs (behind s))
+    if_shallow (head s == c) (exact w cs (behind s)) (Err (unexpected_fault w s)) (exact_shallow w cs (behind s))
     (unexpected_shallow w s)
 
 pub sign_shallow : (b : ℕ) (w : What) (s : Rest) → Shallow (sign b w s)
-sign_shallow b w s = if_shallow (head (skip s) == b) (Ok (behind (skip s))) (Err (unexpected w (skip s)))
+sign_shallow b w s = if_shallow (head (skip s) == b) (Ok (behind (skip s))) (Err (unexpected_fault w (skip s)))
     (ok_shallow (behind (skip s))) (unexpected_shallow w (skip s))
 
 pub apart_shallow : (w : What) (s : Rest) → Shallow (apart w s)
-apart_shallow w s = if_shallow (is_word_byte (head s)) (Err (unexpected w s)) (Ok s) (unexpected_shallow w s)
+apart_shallow w s = if_shallow (is_word_byte (head s)) (Err (unexpected_fault w s)) (Ok s) (unexpected_shallow w s)
     (ok_shallow s)
 
 pub up_to_shallow : {A : Type 0} (b : ℕ) (w : What) (o : Outcome A) → Shallow o → Shallow (up_to b w o)
@@ -86,14 +86,14 @@ name_shallow s = if_shallow (is_letter (head (skip s))) _ _ (ok_shallow _) (unex
 metric_from_shallow : (after : Bool) (at : ℕ) (bs : List ℕ) → Shallow (reading.metric_from after at bs)
 metric_from_shallow after at [] =
     let s : Rest = record { at = at; bytes = [] } in
-    if_shallow after (Err (unexpected what.Metric s)) (Ok ([], s)) (unexpected_shallow what.Metric s)
+    if_shallow after (Err (unexpected_fault what.Metric s)) (Ok ([], s)) (unexpected_shallow what.Metric s)
     (ok_shallow ([], s))
 metric_from_shallow after at (b ∷ bs) =
     let s : Rest = record { at = at; bytes = b ∷ bs } in
     if_shallow (is_metric_byte b) _ _ (map_shallow (λ more. b ∷ more) _ (metric_from_shallow false (at + 1) bs))
     (if_shallow (b == 47 && not after) _ _
     (map_shallow (λ more. b ∷ more) _ (metric_from_shallow true (at + 1) bs))
-    (if_shallow after (Err (unexpected what.Metric s)) (Ok ([], s)) (unexpected_shallow what.Metric s)
+    (if_shallow after (Err (unexpected_fault what.Metric s)) (Ok ([], s)) (unexpected_shallow what.Metric s)
     (ok_shallow ([], s))))
 
 pub metric_shallow : (s : Rest) → Shallow (reading.metric s)
@@ -126,8 +126,8 @@ number_shallow : (most : ℕ) (s : Rest) → Shallow (reading.number most s)
 unfolding reading.number
 number_shallow most s = if_shallow (head (skip s) == 48) _ _ (ok_shallow _) (positive_shallow most s)
 
-pub signed_shallow : (s : Rest) → Shallow (reading.signed s)
-unfolding reading.signed
+pub signed_shallow : (s : Rest) → Shallow (reading.signed_reading s)
+unfolding reading.signed_reading
 signed_shallow s =
     if_shallow (head (skip s) == 45) _ _ (map_shallow _ _ (number_shallow (2 ^ 63) (behind (skip s))))
     (map_shallow _ _ (number_shallow (2 ^ 63 - 1) s))
@@ -249,7 +249,7 @@ done_shallow a r = record { other = tt }
 pub again_shallow : {A : Type 0} (a : A) (r : Rest) → ShallowTurn (Again a r)
 again_shallow a r = record { other = tt }
 
-pub stuck_shallow : {A : Type 0} (w : What) (s : Rest) → ShallowTurn {A = A} (Stuck (unexpected w s))
+pub stuck_shallow : {A : Type 0} (w : What) (s : Rest) → ShallowTurn {A = A} (Stuck (unexpected_fault w s))
 stuck_shallow w s = record { other = unexpected_kind w s.bytes }
 
 pub list_or_end_shallow : {A : Type 0} (close : ℕ) (w : What) (so_far : List A) (x : A × Rest) →
@@ -257,7 +257,7 @@ pub list_or_end_shallow : {A : Type 0} (close : ℕ) (w : What) (so_far : List A
 list_or_end_shallow close w so_far x =
     let t = skip x.1 in
     if_turn_shallow (head t == 44) (Again (so_far ++ x.0 ∷ []) (behind t)) _ (again_shallow _ _)
-    (if_turn_shallow (head t == close) (Done (so_far ++ x.0 ∷ []) (behind t)) (Stuck (unexpected w t))
+    (if_turn_shallow (head t == close) (Done (so_far ++ x.0 ∷ []) (behind t)) (Stuck (unexpected_fault w t))
     (done_shallow _ _) (stuck_shallow w t))
 
 pub list_turn_shallow : {A : Type 0} (close : ℕ) (w : What) (part : Rest → Outcome A) →

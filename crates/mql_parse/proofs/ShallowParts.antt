@@ -43,7 +43,7 @@ word_read_shallow word =
     (ok_shallow _)
 
 pub number_term_shallow : (s : Rest) → Shallow (sums.number_term s)
-number_term_shallow s = map_shallow _ (reading.signed s) (signed_shallow s)
+number_term_shallow s = map_shallow _ (reading.signed_reading s) (signed_shallow s)
 
 -- predicates
 maybe_equal_shallow : (without with : Comparison) (s : Rest) → Shallow (predicates.maybe_equal without with s)
@@ -75,7 +75,7 @@ value_shallow s =
     (if_shallow (head t == 102) _ _
     (bind_shallow (exact what.Truth (codes "false") t) _ (exact_shallow what.Truth (codes "false") t)
     (λ r. ok_shallow _))
-    (if_shallow (head t == 45 || is_digit (head t)) _ _ (map_shallow _ (reading.signed s) (signed_shallow s))
+    (if_shallow (head t == 45 || is_digit (head t)) _ _ (map_shallow _ (reading.signed_reading s) (signed_shallow s))
     (unexpected_shallow what.Text t))))
 
 how_shallow : (column : Name) (x : Compared × Rest) → Shallow (predicates.compares_how column x)

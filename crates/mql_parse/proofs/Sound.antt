@@ -44,8 +44,8 @@ metric_sound s = linked (metric_at s) (reading.metric s) (metric_links s)
 pub positive_sound : (most : ℕ) (s : Rest) → IfOk (reading.positive most s) (λ x. positive_at most s ≡ Some x)
 positive_sound most s = linked (positive_at most s) (reading.positive most s) (positive_links most s)
 
-pub signed_sound : (s : Rest) → IfOk (reading.signed s) (λ x. signed_at s ≡ Some x)
-signed_sound s = linked (signed_at s) (reading.signed s) (signed_links s)
+pub signed_sound : (s : Rest) → IfOk (reading.signed_reading s) (λ x. signed_at s ≡ Some x)
+signed_sound s = linked (signed_at s) (reading.signed_reading s) (signed_links s)
 
 pub duration_sound : (s : Rest) → IfOk (reading.duration s) (λ x. duration_at s ≡ Some x)
 duration_sound s = linked (duration_at s) (reading.duration s) (duration_links s)

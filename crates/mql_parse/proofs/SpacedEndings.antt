@@ -7,7 +7,7 @@ use Rattle.mql_ast.specs.Bytes.{is_blank, is_digit, is_word_byte}
 use Rattle.mql_ast.specs.Rests.{Rest, first_of, head, skip}
 use Rattle.mql_parse.specs.declared.faults.ParseFault.{ParseFault}
 use Rattle.mql_parse.specs.declared.faults.What.{What}
-use Rattle.mql_parse.specs.Outcomes.{unexpected, exact, apart}
+use Rattle.mql_parse.specs.Outcomes.{unexpected_fault, exact, apart}
 use Rattle.mql_parse.specs.FaultNumbers.{IsNumber}
 use Rattle.mql_parse.specs.FaultTokens.{IsBare}
 use Rattle.mql_parse.proofs.TokenFronts.{WordOf}
@@ -146,7 +146,7 @@ pub apart_ends : {B : Type 0} {left : B → Rest} {k : B → Bool} {R : B → Li
 apart_ends {left = left} {k = k} {R = R} {c = c} {S = S} w m f d o g = either (is_word_byte (head m)) refl
   where
     either : (t : Bool) → is_word_byte (head m) ≡ t → Ends left (λ y. Text Parted (k y) (R y)) (Text Parted c S) m
-        ((if t then Err (unexpected w m) else Ok m) >>= f)
+        ((if t then Err (unexpected_fault w m) else Ok m) >>= f)
     either true h = record {
       way = begun_here {L = Text Parted c S} w m m [] [] [] 10 o.token o.more refl (omega arith) refl (refl, o.bare) tt
           (subst (Text Parted c S) o.is d.is);

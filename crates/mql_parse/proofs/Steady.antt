@@ -7,8 +7,9 @@ use Rattle.mql_ast.specs.Rests.{Rest, first_of, behind_first, behind_blanks, hea
 use Rattle.mql_parse.specs.declared.faults.ParseFault.{ParseFault}
 use Rattle.mql_parse.specs.declared.faults.ParseKind.{ParseKind}
 use Rattle.mql_parse.specs.declared.faults.What.{What}
-use Rattle.mql_parse.specs.Outcomes.{Outcome, unexpected, fault, sign, map_outcome, up_to}
-use Rattle.mql_parse.specs.Steadiness.{Shares, here, next, ReadAlike, Agrees, Reaches, Steady, unit_read, SteadyPass}
+use Rattle.mql_parse.specs.Outcomes.{Outcome, unexpected_fault, fault, sign, map_outcome, up_to}
+use Rattle.mql_parse.specs.Steadiness.{Shares, here, next, ReadAlike, AgreesBefore, Reaches, Steady, unit_read}
+use Rattle.mql_parse.specs.Steadiness.{SteadyPass}
 use Rattle.mql_parse.specs.Steadiness.{SteadyTest}
 
 -- what holds of any two rests that begin with the same bytes
@@ -92,7 +93,7 @@ reaches_before to n m (Err f) h k = omega (arith, h, k)
 
 -- what is looked at may be taken to stand before the end of what is the same
 pub agrees_within : {A : Type 0} (to : Rest → ℕ) (e n : ℕ) (o p : Outcome A) → Reaches to n o →
-    (n < e → Agrees to e o p) → Agrees to e o p
+    (n < e → AgreesBefore to e o p) → AgreesBefore to e o p
 agrees_within to e n (Ok x) p h f = λ l. f (omega (arith, h, l)) l
 agrees_within to e n (Err x) p h f = λ l. f (omega (arith, h, l)) l
 
@@ -101,8 +102,8 @@ pub steady_by : {A : Type 0} (from to : Rest → ℕ) (read as_read : Rest → O
     ((s : Rest) → read s ≡ as_read s) → Steady from to as_read → Steady from to read
 steady_by from to read as_read h k = record {
   reaches = λ s. subst (λ o. Reaches to (from s) o) (sym (h s)) (k.reaches s);
-  agrees = λ e s t c. subst (λ o. Agrees to e o (read t)) (sym (h s))
-      (subst (λ o. Agrees to e (as_read s) o) (sym (h t)) (k.agrees e s t c));
+  agrees = λ e s t c. subst (λ o. AgreesBefore to e o (read t)) (sym (h s))
+      (subst (λ o. AgreesBefore to e (as_read s) o) (sym (h t)) (k.agrees e s t c));
 }
 
 -- a reader that looks farther at once
@@ -116,7 +117,7 @@ wider_reaches : {A : Type 0} (n : ℕ) (o : Outcome A) → Reaches here n o → 
 wider_reaches n (Ok x) h = omega (arith, h, skip_on x.1)
 wider_reaches n (Err f) h = h
 
-wider_agrees : {A : Type 0} (e : ℕ) (o p : Outcome A) → Agrees here e o p → Agrees next e o p
+wider_agrees : {A : Type 0} (e : ℕ) (o p : Outcome A) → AgreesBefore here e o p → AgreesBefore next e o p
 wider_agrees e (Ok x) p h = λ l. h (omega (arith, l, skip_on x.1))
 wider_agrees e (Err f) p h = h
 
@@ -139,15 +140,18 @@ steady_fault to kind = record {
 }
 
 unexpected_shared : (w : What) (e : ℕ) (common after other : List ℕ) (at : ℕ) → at + length common ≡ e → at < e →
-    unexpected w (record { at = at; bytes = common ++ other }) ≡ unexpected w
+    unexpected_fault w (record { at = at; bytes = common ++ other }) ≡ unexpected_fault w
     (record { at = at; bytes = common ++ after })
 unexpected_shared w e [] after other at h l = absurd (omega (arith, h, l))
 unexpected_shared w e (c ∷ common) after other at h l = refl
 
-pub shares_unexpected : (w : What) (e : ℕ) (s t : Rest) → Shares e s t → s.at < e → unexpected w t ≡ unexpected w s
-shares_unexpected w e = over_common e (λ s t. s.at < e → unexpected w t ≡ unexpected w s) (unexpected_shared w e)
+pub shares_unexpected : (w : What) (e : ℕ) (s t : Rest) → Shares e s t → s.at < e → unexpected_fault w t
+    ≡ unexpected_fault w s
+shares_unexpected w e =
+    over_common e (λ s t. s.at < e → unexpected_fault w t ≡ unexpected_fault w s) (unexpected_shared w e)
 
-pub steady_unexpected : {A : Type 0} (to : Rest → ℕ) (w : What) → Steady {A = A} here to (λ s. Err (unexpected w s))
+pub steady_unexpected : {A : Type 0} (to : Rest → ℕ) (w : What)
+    → Steady {A = A} here to (λ s. Err (unexpected_fault w s))
 steady_unexpected to w = record {
   reaches = λ s. omega arith;
   agrees = λ e s t c l. ap (λ f. Err f) (shares_unexpected w e s t c l);
@@ -160,10 +164,10 @@ module _ {A B : Type 0} (mid to : Rest → ℕ) (on : A × Rest → Outcome B) (
     bind_reaches n (Ok (a, r)) h = reaches_before to n (mid r) (on (a, r)) h ((g a).reaches r)
     bind_reaches n (Err f) h = h
 
-    bind_agrees : (e : ℕ) (o p : Outcome A) → Agrees mid e o p → Agrees to e (o >>= on) (p >>= on)
+    bind_agrees : (e : ℕ) (o p : Outcome A) → AgreesBefore mid e o p → AgreesBefore to e (o >>= on) (p >>= on)
     bind_agrees e (Ok (a, r)) p h = agrees_within to e (mid r) (on (a, r)) (p >>= on) ((g a).reaches r)
         (λ l. let alike : ReadAlike e a r p = h l in
-        subst (λ z. Agrees to e (on (a, r)) (z >>= on)) (sym alike.1.0) ((g a).agrees e r alike.0 alike.1.1))
+        subst (λ z. AgreesBefore to e (on (a, r)) (z >>= on)) (sym alike.1.0) ((g a).agrees e r alike.0 alike.1.1))
     bind_agrees e (Err f) p h = λ l. ap (λ z. z >>= on) (h l)
 
 pub steady_bind : {A B : Type 0} (from mid to : Rest → ℕ) (read : Rest → Outcome A) (on : A × Rest → Outcome B) →
@@ -213,10 +217,11 @@ pub if_reaches : {A : Type 0} (to : Rest → ℕ) (n : ℕ) (t : Bool) (o p : Ou
 if_reaches to n true o p h k = h
 if_reaches to n false o p h k = k
 
-pub if_agrees : {A : Type 0} (to : Rest → ℕ) (e : ℕ) (t u : Bool) (o o' p p' : Outcome A) → u ≡ t → Agrees to e o o' →
-    Agrees to e p p' → Agrees to e (if t then o else p) (if u then o' else p')
-if_agrees to e true u o o' p p' h f g = subst (λ b. Agrees to e o (if b then o' else p')) (sym h) f
-if_agrees to e false u o o' p p' h f g = subst (λ b. Agrees to e p (if b then o' else p')) (sym h) g
+pub if_agrees : {A : Type 0} (to : Rest → ℕ) (e : ℕ) (t u : Bool) (o o' p p' : Outcome A) → u ≡ t
+    → AgreesBefore to e o o' →
+    AgreesBefore to e p p' → AgreesBefore to e (if t then o else p) (if u then o' else p')
+if_agrees to e true u o o' p p' h f g = subst (λ b. AgreesBefore to e o (if b then o' else p')) (sym h) f
+if_agrees to e false u o o' p p' h f g = subst (λ b. AgreesBefore to e p (if b then o' else p')) (sym h) g
 
 pub steady_if : {A : Type 0} (from to : Rest → ℕ) (test : Rest → Bool) (read other : Rest → Outcome A) →
     SteadyTest from test → Steady from to read → Steady from to other →
@@ -266,7 +271,7 @@ pub steady_here : {A : Type 0} (to : Rest → ℕ) (read : ℕ → Rest → Outc
     Steady here to (λ s. read s.at s)
 steady_here to read k = record {
   reaches = λ s. (k s.at).reaches s;
-  agrees = λ e s t c. subst (λ n. Agrees to e (read s.at s) (read n t)) (sym c.place) ((k s.at).agrees e s t c);
+  agrees = λ e s t c. subst (λ n. AgreesBefore to e (read s.at s) (read n t)) (sym c.place) ((k s.at).agrees e s t c);
 }
 
 pub steady_next : {A : Type 0} (to : Rest → ℕ) (read : ℕ → Rest → Outcome A) → ((n : ℕ) → Steady next to (read n)) →
@@ -275,7 +280,7 @@ steady_next to read k = record {
   reaches = λ s. (k (skip s).at).reaches s;
   agrees = λ e s t c. agrees_within to e (skip s).at (read (skip s).at s) (read (skip t).at t)
       ((k (skip s).at).reaches s)
-      (λ l. subst (λ n. Agrees to e (read (skip s).at s) (read n t)) (sym (shares_skip e s t c l).place)
+      (λ l. subst (λ n. AgreesBefore to e (read (skip s).at s) (read n t)) (sym (shares_skip e s t c l).place)
       ((k (skip s).at).agrees e s t c));
 }
 
@@ -288,12 +293,13 @@ unit_if false o p = refl
 pub steady_sign : (b : ℕ) (w : What) → SteadyPass next here (sign b w)
 steady_sign b w =
     steady_by next here (λ s. unit_read (sign b w s))
-    (λ s. if head (skip s) == b then Ok (tt, behind (skip s)) else Err (unexpected w (skip s)))
-    (λ s. unit_if (head (skip s) == b) (Ok (behind (skip s))) (Err (unexpected w (skip s))))
-    (steady_if next here (λ s. head (skip s) == b) (λ s. Ok (tt, behind (skip s))) (λ s. Err (unexpected w (skip s)))
+    (λ s. if head (skip s) == b then Ok (tt, behind (skip s)) else Err (unexpected_fault w (skip s)))
+    (λ s. unit_if (head (skip s) == b) (Ok (behind (skip s))) (Err (unexpected_fault w (skip s))))
+    (steady_if next here (λ s. head (skip s) == b) (λ s. Ok (tt, behind (skip s)))
+    (λ s. Err (unexpected_fault w (skip s)))
     (next_test (λ c. c == b))
     (steady_skip here (λ s. Ok (tt, behind s)) (steady_behind here (λ s. Ok (tt, s)) (steady_ok here tt)))
-    (steady_skip here (λ s. Err (unexpected w s)) (steady_unexpected here w)))
+    (steady_skip here (λ s. Err (unexpected_fault w s)) (steady_unexpected here w)))
 
 pub sign_next : (b : ℕ) (w : What) → SteadyPass next next (sign b w)
 sign_next b w = steady_to next (λ s. unit_read (sign b w s)) (steady_sign b w)

@@ -98,7 +98,7 @@ number_read d s r z e =
     let h = signed_begins s (z, r) e in
     if_false (b == 40) _ _ (not_that_byte (λ x. x == 45 || is_digit x) 40 refl b h)
     ∙ if_true (b == 45 || is_digit b) _ _ h
-    ∙ mapped (λ z. seen_sum (Number (skip s).at z) false) (reading.signed s) z r (signed_read s r z e)
+    ∙ mapped (λ z. seen_sum (Number (skip s).at z) false) (reading.signed_reading s) z r (signed_read s r z e)
 
 -- a sum ends where no further sign stands
 turn_ends : (term : Rest → Outcome SumSeen) (a : SumSeen) (s : Rest) → (head (skip s) == 43) ≡ false →

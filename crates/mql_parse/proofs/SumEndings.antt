@@ -13,7 +13,7 @@ use Rattle.mql_ast.specs.Grammar.{Sum, one_term, plus, minus, Term, column, numb
 use Rattle.mql_parse.specs.declared.faults.ParseFault.{ParseFault}
 use Rattle.mql_parse.specs.declared.faults.ParseKind.TheVariants.{TooDeep}
 use Rattle.mql_parse.specs.declared.faults.What.TheVariants as what
-use Rattle.mql_parse.specs.Outcomes.{Outcome, unexpected, sign}
+use Rattle.mql_parse.specs.Outcomes.{Outcome, unexpected_fault, sign}
 use Rattle.mql_parse.specs.Repeats.{Done, goes_on}
 use Rattle.mql_parse.specs.TokenReading as reading
 use Rattle.mql_parse.specs.SumReading as sums
@@ -188,10 +188,10 @@ module _ (d : ℕ) (group : Rest → Rest → Outcome SumSeen) (grouped : (s : R
       let b = head t in
       if_ends s (b == 40) (group t (behind t)) _ (grouped s)
       (λ _. if_ends s (b == 45 || is_digit b) (sums.number_term s) _
-      (λ _. done_ends s (reading.signed s) (λ x. (seen_sum (tree.Number (skip s).at x.0) false, x.1))
-      (ends_as s (reading.signed s) (signed_ends s) (λ x w f. number_text d w f) (λ w f. number_text d w f))
+      (λ _. done_ends s (reading.signed_reading s) (λ x. (seen_sum (tree.Number (skip s).at x.0) false, x.1))
+      (ends_as s (reading.signed_reading s) (signed_ends s) (λ x w f. number_text d w f) (λ w f. number_text d w f))
       (λ x. refl) (λ x w f. (f, not_bare (TermText d) false w refl)))
-      (λ _. if_ends s (is_letter b) (sums.word_read (word_here t)) (Err (unexpected what.Name t)) (word_ends d s)
+      (λ _. if_ends s (is_letter b) (sums.word_read (word_here t)) (Err (unexpected_fault what.Name t)) (word_ends d s)
       (λ _. record { way = wrong_spaced what.Name s (95 ∷ []) [] refl (column_after d) })))
 
 -- a further term, and what may come behind it
@@ -239,7 +239,7 @@ sum_end_ends : (d : ℕ) (w v : List ℕ) → Text Parted true (SignSpan 40) w �
     (λ u. TermText (suc d) (w ++ (v ++ u))) x.1 (sums.sum_end x)
 sum_end_ends d w v f x g =
     let r = x.1 in
-    if_bind r (head (skip r) == 41) (behind (skip r)) (unexpected (sums.behind_sum x.0.bare) (skip r))
+    if_bind r (head (skip r) == 41) (behind (skip r)) (unexpected_fault (sums.behind_sum x.0.bare) (skip r))
     (λ q. Ok (seen_sum x.0.sum false, q))
     (λ h. record {
       way = cut_as r (behind (skip r)) (sign_cut 41 close_parenthesis r h) (λ u k. group_text d w v u f g.0 k);
@@ -247,7 +247,7 @@ sum_end_ends d w v f x g =
     (λ _. closing x.0.bare refl)
   where
     closing : (bare : Bool) → x.0.bare ≡ bare → Finish (λ u. TermText (suc d) (w ++ (v ++ u))) x.1
-        (unexpected (sums.behind_sum bare) (skip x.1))
+        (unexpected_fault (sums.behind_sum bare) (skip x.1))
     closing false h =
         wrong what.CloseParenthesis x.1 41 [] []
         refl

@@ -7,7 +7,7 @@ use Rattle.mql_ast.specs.Bytes.{is_letter, is_digit}
 use Rattle.mql_ast.specs.Rests.{Rest, head, behind, skip}
 use Rattle.mql_ast.specs.Tokens.{word_here}
 use Rattle.mql_parse.specs.declared.faults.What.TheVariants as what
-use Rattle.mql_parse.specs.Outcomes.{Outcome, unexpected, sign, map_outcome}
+use Rattle.mql_parse.specs.Outcomes.{Outcome, unexpected_fault, sign, map_outcome}
 use Rattle.mql_parse.specs.Repeats.{Done, goes_on, repetition, list_turn}
 use Rattle.mql_parse.specs.TokenReading as reading
 use Rattle.mql_parse.specs.SumReading as sums
@@ -47,8 +47,8 @@ term_fits_with group k s =
     let word = word_here t in
     if_fits None s (head t == 40) (group t (behind t)) _ (λ h. skip_fits s (group t (behind t)) (k t h))
     (λ _. if_fits None s (head t == 45 || is_digit (head t)) (sums.number_term s) _
-    (λ _. map_fits None s (λ z. seen_sum (Number t.at z) false) (reading.signed s) (signed_fits s))
-    (λ _. if_fits None s (is_letter (head t)) (sums.word_read word) (Err (unexpected what.Name t))
+    (λ _. map_fits None s (λ z. seen_sum (Number t.at z) false) (reading.signed_reading s) (signed_fits s))
+    (λ _. if_fits None s (is_letter (head t)) (sums.word_read word) (Err (unexpected_fault what.Name t))
     (λ _. fits_before None s word.1 (sums.word_read word)
     (outside_before None s t word.1 (skip_outside s) (word_outside t)) (word_read_fits word.0 word.1))
     (λ _. unexpected_next what.Name s)))

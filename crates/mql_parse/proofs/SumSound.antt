@@ -17,7 +17,7 @@ use Rattle.mql_parse.specs.Outcomes.{Outcome, fault, sign}
 use Rattle.mql_parse.specs.Repeats.{Done, goes_on}
 use Rattle.mql_parse.specs.TokenReading as reading
 use Rattle.mql_parse.specs.SumReading as sums
-use Rattle.mql_parse.specs.SumReading.{SumSeen, seen_sum, is_percentile}
+use Rattle.mql_parse.specs.SumReading.{SumSeen, is_percentile}
 use Rattle.mql_parse.specs.Behind.{Behind}
 use Rattle.mql_parse.specs.Soundness.{OfTurn}
 use Rattle.mql_parse.proofs.BehindLemmas.{behind_behind, sign_behind, name_behind}
@@ -101,7 +101,7 @@ module _ (d : ℕ) (group : Rest → Rest → Outcome SumSeen) (grouped : (s m :
       let b = head (skip s) in
       if_sound (b == 40) _ _ (IsTerm d s) (λ h. grouped s (behind (skip s)) (sign_here 40 s h))
       (λ h. if_sound (b == 45 || is_digit b) _ _ (IsTerm d s)
-      (λ g. changed_sound _ (reading.signed s) (λ x. signed_at s ≡ Some x) (IsTerm d s) (signed_sound s)
+      (λ g. changed_sound _ (reading.signed_reading s) (λ x. signed_at s ≡ Some x) (IsTerm d s) (signed_sound s)
       (λ x e. number e))
       (λ g. if_sound (is_letter b) _ _ (IsTerm d s) (λ l. word_sound d s (name_here s l)) (λ l. tt)))
 

@@ -8,7 +8,7 @@ use Rattle.mql_ast.specs.Rests.{Rest, head, behind, skip}
 use Rattle.mql_ast.specs.Tokens.{word_here}
 use Rattle.mql_parse.specs.declared.faults.ParseKind.TheVariants.{TooDeep}
 use Rattle.mql_parse.specs.declared.faults.What.TheVariants as what
-use Rattle.mql_parse.specs.Outcomes.{Outcome, unexpected, sign, map_outcome}
+use Rattle.mql_parse.specs.Outcomes.{Outcome, unexpected_fault, sign, map_outcome}
 use Rattle.mql_parse.specs.Repeats.{Done, goes_on, repetition, list_turn}
 use Rattle.mql_parse.specs.TokenReading as reading
 use Rattle.mql_parse.specs.SumReading as sums
@@ -50,9 +50,9 @@ word_term_steady = steady_bind here next next (λ t. Ok (word_here t)) sums.word
 
 number_term_steady : Steady next next sums.number_term
 number_term_steady =
-    steady_next next (λ n s. map_outcome (λ z. seen_sum (Number n z) false) (reading.signed s))
-    (λ n. steady_map next next (λ z. seen_sum (Number n z) false) reading.signed
-    (steady_to next reading.signed signed_steady))
+    steady_next next (λ n s. map_outcome (λ z. seen_sum (Number n z) false) (reading.signed_reading s))
+    (λ n. steady_map next next (λ z. seen_sum (Number n z) false) reading.signed_reading
+    (steady_to next reading.signed_reading signed_steady))
 
 pub term_steady_with : (group : Rest → Rest → Outcome SumSeen) → Steady here next (λ t. group t (behind t)) →
     Steady next next (sums.term_with group)
@@ -63,9 +63,9 @@ term_steady_with group k =
     (steady_if next next (λ s. head (skip s) == 45 || is_digit (head (skip s))) sums.number_term _
     (next_test (λ b. b == 45 || is_digit b)) number_term_steady
     (steady_if next next (λ s. is_letter (head (skip s))) (λ s. sums.word_read (word_here (skip s)))
-    (λ s. Err (unexpected what.Name (skip s))) (next_test is_letter)
+    (λ s. Err (unexpected_fault what.Name (skip s))) (next_test is_letter)
     (steady_skip next (λ t. sums.word_read (word_here t)) word_term_steady)
-    (steady_skip next (λ t. Err (unexpected what.Name t)) (steady_unexpected next what.Name))))
+    (steady_skip next (λ t. Err (unexpected_fault what.Name t)) (steady_unexpected next what.Name))))
 
 pub term_turn_steady : (term : Rest → Outcome SumSeen) → Steady next next term → (left : SumSeen) →
     SteadyTurn next next (sums.term_turn term left)

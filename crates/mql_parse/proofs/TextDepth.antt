@@ -13,7 +13,7 @@ use Rattle.mql_ast.specs.Grammar.{start, levels, longest_text}
 use Rattle.mql_parse.specs.declared.faults.ParseFault.{ParseFault}
 use Rattle.mql_parse.specs.declared.faults.ParseKind.TheVariants.{Expected}
 use Rattle.mql_parse.specs.declared.faults.What.TheVariants as what
-use Rattle.mql_parse.specs.Outcomes.{Outcome, fault, unexpected}
+use Rattle.mql_parse.specs.Outcomes.{Outcome, fault, unexpected_fault}
 use Rattle.mql_parse.specs.PipeReading.{pipe, behind_query, query_end_in, query_end, query_within, query, text_outcome}
 use Rattle.mql_parse.specs.FaultPlaces.{FaultOf}
 use Rattle.mql_parse.specs.FaultDepths.{SpellsWithin, BeginsWithin, DepthKind}
@@ -42,7 +42,7 @@ end_deepens : (tree : PipeTree) (r : Rest) (bs : List ℕ) →
     TreeDeepens (query_end_in tree r bs) (query_end_in tree r bs)
 end_deepens tree r [] = record { way = refl }
 end_deepens tree r (b ∷ bs) =
-    let f = unexpected (behind_query tree) (skip r) in
+    let f = unexpected_fault (behind_query tree) (skip r) in
     record {
       way = by_other (GoesTo (f.at + 1) (Err f)) f.kind (unexpected_kind (behind_query tree) (skip r).bytes) refl;
     }

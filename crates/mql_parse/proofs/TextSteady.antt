@@ -17,11 +17,11 @@ use Rattle.mql_ast.specs.Grammar.{start, levels, longest_text, Begins}
 use Rattle.mql_parse.specs.declared.faults.ParseFault.{ParseFault}
 use Rattle.mql_parse.specs.declared.faults.ParseKind.TheVariants.{Expected}
 use Rattle.mql_parse.specs.declared.faults.What.TheVariants as what
-use Rattle.mql_parse.specs.Outcomes.{Outcome, fault, unexpected}
+use Rattle.mql_parse.specs.Outcomes.{Outcome, fault, unexpected_fault}
 use Rattle.mql_parse.specs.PipeReading.{pipe, behind_query, query_end_in, query_end, query_within, query, text_outcome}
 use Rattle.mql_parse.specs.FaultDepths.{BeginsWithin}
 use Rattle.mql_parse.specs.FaultPlaces.{IsLongestFront, FaultOf, IsAtLongestFront, too_long}
-use Rattle.mql_parse.specs.Steadiness.{Shares, next, ReadAlike, Agrees}
+use Rattle.mql_parse.specs.Steadiness.{Shares, next, ReadAlike, AgreesBefore}
 use Rattle.mql_parse.proofs.RestLemmas as rests
 use Rattle.mql_parse.proofs.Steady.{over_common, skip_on, shares_head, shares_skip, shares_unexpected}
 use Rattle.mql_parse.proofs.PipeSteady.{pipe_steady}
@@ -49,12 +49,12 @@ begins_alike e s t c l = begins_here t (is_blank (head s)) (ap is_blank (shares_
 
 -- the end of a query
 pub more_left : (tree : PipeTree) (r : Rest) (bs : List ℕ) → (bs ≡ [] → ⊥) → query_end_in tree r bs ≡ Err
-    (unexpected (behind_query tree) (skip r))
+    (unexpected_fault (behind_query tree) (skip r))
 more_left tree r [] h = absurd (h refl)
 more_left tree r (b ∷ bs) h = refl
 
 end_fault : (tree : PipeTree) (r : Rest) (bs : List ℕ) (f : ParseFault) → query_end_in tree r bs ≡ Err f →
-    unexpected (behind_query tree) (skip r) ≡ f
+    unexpected_fault (behind_query tree) (skip r) ≡ f
 end_fault tree r [] f h = absurd (cc)
 end_fault tree r (b ∷ bs) f h = cc
 
@@ -70,12 +70,13 @@ end_alike : (e : ℕ) (tree : PipeTree) (r q : Rest) (f : ParseFault) → Shares
     (skip r).at < e → query_end (tree, q) ≡ Err f
 end_alike e tree r q f c h l =
     let w = behind_query tree in
-    let alike : unexpected w (skip q) ≡ unexpected w (skip r) = shares_unexpected w e (skip r) (skip q)
+    let alike : unexpected_fault w (skip q) ≡ unexpected_fault w (skip r) = shares_unexpected w e (skip r) (skip q)
     (shares_skip e r q c l) l in
     more_left tree q q.bytes (some_left e r q c (omega (arith, skip_on r, l))) ∙
     ap (λ g. Err g) (alike ∙ end_fault tree r r.bytes f h)
 
-pipe_end_alike : (e : ℕ) (o p : Outcome PipeTree) (f : ParseFault) → Agrees next e o p → (o >>= query_end) ≡ Err f →
+pipe_end_alike : (e : ℕ) (o p : Outcome PipeTree) (f : ParseFault) → AgreesBefore next e o p → (o >>= query_end)
+    ≡ Err f →
     f.at < e → (p >>= query_end) ≡ Err f
 pipe_end_alike e (Ok (tree, r)) p f k h l =
     let stands : (skip r).at ≡ f.at = ap (λ g. g.at) (end_fault tree r r.bytes f h) in
@@ -87,7 +88,7 @@ pipe_end_alike e (Err g) p f k h l =
     ap (λ z. z >>= query_end) (k (subst (λ x. x.at < e) (sym same) l)) ∙ h
 
 -- a text that is the same up to the fault has that fault
-query_if : (e : ℕ) (t u : Bool) (o p : Outcome PipeTree) (f g : ParseFault) → u ≡ t → Agrees next e o p →
+query_if : (e : ℕ) (t u : Bool) (o p : Outcome PipeTree) (f g : ParseFault) → u ≡ t → AgreesBefore next e o p →
     (if t then (o >>= query_end) else Err g) ≡ Err f → f.at < e → (if u then (p >>= query_end) else Err g) ≡ Err f
 query_if e true u o p f g same k h l = subst (λ b. (if b then (p >>= query_end) else Err g) ≡ Err f) (sym same)
     (pipe_end_alike e o p f k h l)

@@ -7,12 +7,12 @@ use Rattle.std.proofs.lemmas.List.{append-nil}
 use Rattle.std.proofs.lemmas.Bool.Decides.{nat_tests}
 use Rattle.mql_ast.specs.Bytes.{is_alphabet, is_blank, is_letter, is_digit, is_word_byte, is_metric_byte}
 use Rattle.mql_ast.specs.Rests.{Rest, first_of, behind_first, behind_blanks, head, behind, skip}
-use Rattle.mql_ast.specs.Tokens.{sign_at, past, word_at, word_bytes, behind_word, word_here, name_at}
+use Rattle.mql_ast.specs.Tokens.{sign_at, past, keyword_at, word_bytes, behind_word, word_here, name_at}
 use Rattle.mql_parse.specs.declared.faults.ParseKind.{ParseKind}
 use Rattle.mql_parse.specs.declared.faults.ParseKind.TheVariants.{BadToken, Expected}
 use Rattle.mql_parse.specs.declared.faults.What.{What}
 use Rattle.mql_parse.specs.declared.faults.What.TheVariants as what
-use Rattle.mql_parse.specs.Outcomes.{kind_of, fault, unexpected, exact, sign}
+use Rattle.mql_parse.specs.Outcomes.{kind_of, fault, unexpected_fault, exact, sign}
 use Rattle.mql_parse.specs.FaultTokens.{IsBare}
 use Rattle.mql_parse.specs.TokenReading as reading
 use Rattle.mql_parse.proofs.RestLemmas.{skip_off}
@@ -158,7 +158,7 @@ refused s tail kind k c h = let blanks = skip_cut s in
 pub begun_here : {L : List ℕ → Type 0} (w : What) (s m : Rest) (v before begun : List ℕ) (byte : ℕ)
     (rest more : List ℕ) → s.bytes ≡ v ++ m.bytes → m.at ≡ s.at + length v → v ≡ before ++ begun →
     ComesBy w begun byte rest → Closes w begun (byte ∷ (rest ++ more)) → L (v ++ byte ∷ (rest ++ more)) →
-    Finish L s (unexpected w m)
+    Finish L s (unexpected_fault w m)
 begun_here {L = L} w s m v before begun byte rest more e p q k c h = record {
   front = v;
   left = m.bytes;
@@ -182,13 +182,13 @@ begun_here {L = L} w s m v before begun byte rest more e p q k c h = record {
 
 -- where it is expected behind blanks: in a text that has one more blank there, and in any
 pub wrong_spaced : {L : List ℕ → Type 0} (w : What) (s : Rest) (token more : List ℕ) → IsBare w token →
-    ((bs : List ℕ) → AreBlanks bs → L (bs ++ 10 ∷ (token ++ more))) → Finish L s (unexpected w (skip s))
+    ((bs : List ℕ) → AreBlanks bs → L (bs ++ 10 ∷ (token ++ more))) → Finish L s (unexpected_fault w (skip s))
 wrong_spaced {L = L} w s token more k h = let blanks = skip_cut s in
     begun_here {L = L} w s (skip s) blanks.front blanks.front [] 10 token more blanks.bytes blanks.place
     (sym (append-nil blanks.front)) (refl, k) tt (h blanks.front blanks.is)
 
 pub wrong : {L : List ℕ → Type 0} (w : What) (s : Rest) (byte : ℕ) (rest more : List ℕ) → IsBare w (byte ∷ rest) →
-    ((bs : List ℕ) → AreBlanks bs → L (bs ++ byte ∷ (rest ++ more))) → Finish L s (unexpected w (skip s))
+    ((bs : List ℕ) → AreBlanks bs → L (bs ++ byte ∷ (rest ++ more))) → Finish L s (unexpected_fault w (skip s))
 wrong {L = L} w s byte rest more k h = wrong_spaced {L = L} w s (byte ∷ rest) more k
     (λ bs e. subst L (append_assoc bs (10 ∷ []) (byte ∷ (rest ++ more))) (h (bs ++ 10 ∷ []) (blank_last bs e)))
 
@@ -197,7 +197,7 @@ abbrev pub SignSpan : ℕ → List ℕ → List ℕ → Type 0
 SignSpan b x z = (at : ℕ) → (n : ℕ) × (sign_at b (at_place at x) ≡ Some (at_place n z))
 
 abbrev pub WordSpan : List ℕ → List ℕ → List ℕ → Type 0
-WordSpan cs x z = (at : ℕ) → (n : ℕ) × (word_at cs (at_place at x) ≡ Some (at_place n z))
+WordSpan cs x z = (at : ℕ) → (n : ℕ) × (keyword_at cs (at_place at x) ≡ Some (at_place n z))
 
 -- a keyword that no word byte goes on
 abbrev pub SpacedSpan : List ℕ → List ℕ → List ℕ → Type 0
@@ -252,7 +252,7 @@ sign_cut b h s e =
 pub sign_ends : (b : ℕ) (w : What) → IsSign b → IsBare w (b ∷ []) → (s : Rest) →
     Leaves (Text Parted true (SignSpan b)) s (sign b w s)
 sign_ends b w h k s =
-    if_ends s (head (skip s) == b) (Ok (behind (skip s))) (Err (unexpected w (skip s)))
+    if_ends s (head (skip s) == b) (Ok (behind (skip s))) (Err (unexpected_fault w (skip s)))
     (λ e. record { way = sign_cut b h s e }) (λ e. record { way = wrong w s b [] [] k (sign_text b h) })
 
 -- the first byte of a token, behind blanks
@@ -279,7 +279,7 @@ word_from w [] o h s m v before b begun e p q u k =
     record { way = record { front = v; bytes = e; place = p; is = sym (append-nil v) } }
 word_from w (c ∷ cs) o h s m v before b begun e p q u k =
     let nonzero = both_hold (0 == c) (all_nonzero cs) h in
-    if_ends s (head m == c) (exact w cs (behind m)) (Err (unexpected w m))
+    if_ends s (head m == c) (exact w cs (behind m)) (Err (unexpected_fault w m))
     (λ g. let next = byte_cut (λ x. x == c) nonzero.0 m g in
     let first : next.front ≡ c ∷ [] = next.is ∙ ap (λ x. x ∷ []) (equal_byte (head m) c g) in
     ends_as s (exact w cs (behind m))
@@ -301,7 +301,7 @@ pub exact_ends : {L : List ℕ → Type 0} (w : What) (c : ℕ) (cs : List ℕ) 
     Leaves L s (exact w (c ∷ cs) (skip s))
 exact_ends {L = L} w c cs h k f s =
     let nonzero = both_hold (0 == c) (all_nonzero cs) h in
-    if_ends s (head (skip s) == c) (exact w cs (behind (skip s))) (Err (unexpected w (skip s)))
+    if_ends s (head (skip s) == c) (exact w cs (behind (skip s))) (Err (unexpected_fault w (skip s)))
     (λ g. let next = first_cut (λ x. x == c) nonzero.0 s g in
     let front : next.front ≡ next.is.0 ++ c ∷ [] =
     next.is.1.1 ∙ ap (λ x. next.is.0 ++ x ∷ []) (equal_byte (head (skip s)) c g) in
@@ -448,7 +448,7 @@ pub named_ends : (s : Rest) → Ends behind_read (λ x. Text Worded false (Named
     (Text Worded false NameSpan) s (reading.name s)
 unfolding reading.name
 named_ends s =
-    if_ends s (is_letter (head (skip s))) (Ok (word_here (skip s))) (Err (unexpected what.Name (skip s)))
+    if_ends s (is_letter (head (skip s))) (Ok (word_here (skip s))) (Err (unexpected_fault what.Name (skip s)))
     (λ h. record { way = name_cut s h })
     (λ h. record { way = wrong_spaced what.Name s (95 ∷ []) [] refl name_after })
 

@@ -9,7 +9,7 @@ use Rattle.mql_ast.specs.Tokens.{behind_word, word_here, metric_name, minus, uni
 use Rattle.mql_parse.specs.declared.faults.ParseKind.TheVariants.{NumberTooLarge}
 use Rattle.mql_parse.specs.declared.faults.What.{What}
 use Rattle.mql_parse.specs.declared.faults.What.TheVariants as what
-use Rattle.mql_parse.specs.Outcomes.{fault, unexpected, exact, apart, map_outcome}
+use Rattle.mql_parse.specs.Outcomes.{fault, unexpected_fault, exact, apart, map_outcome}
 use Rattle.mql_parse.specs.TokenReading as reading
 use Rattle.mql_parse.specs.FaultKinds.{OutsideKind}
 use Rattle.mql_parse.proofs.KindFits.{Outside, Fits, PassFits, outside_itself, outside_before, pass_before, bind_fits}
@@ -30,13 +30,13 @@ exact_fits w [] h s = outside_itself s
 exact_fits w (c ∷ cs) h s =
     let both = and_parts (not (0 == c) && not (34 == c)) (plain_bytes cs) h in
     let first = and_parts (not (0 == c)) (not (34 == c)) both.0 in
-    if_pass s (head s == c) (exact w cs (behind s)) (Err (unexpected w s))
+    if_pass s (head s == c) (exact w cs (behind s)) (Err (unexpected_fault w s))
     (λ t. pass_before s (behind s) (exact w cs (behind s))
     (byte_outside (λ b. b == c) (not_true (0 == c) first.0) (not_true (34 == c) first.1) s t)
     (exact_fits w cs both.1 (behind s))) (λ t. unexpected_fits w s)
 
 pub apart_fits : (w : What) (s : Rest) → PassFits s (apart w s)
-apart_fits w s = if_pass s (is_word_byte (head s)) (Err (unexpected w s)) (Ok s) (λ h. unexpected_fits w s)
+apart_fits w s = if_pass s (is_word_byte (head s)) (Err (unexpected_fault w s)) (Ok s) (λ h. unexpected_fits w s)
     (λ h. outside_itself s)
 
 word_outside_at : (at : ℕ) (bs : List ℕ) → Outside None (record { at = at; bytes = bs }) (behind_word at bs)
@@ -55,7 +55,8 @@ word_outside s = word_outside_at s.at s.bytes
 
 pub name_fits : (s : Rest) → Fits None s (reading.name s)
 unfolding reading.name
-name_fits s = if_fits None s (is_letter (head (skip s))) (Ok (word_here (skip s))) (Err (unexpected what.Name (skip s)))
+name_fits s =
+    if_fits None s (is_letter (head (skip s))) (Ok (word_here (skip s))) (Err (unexpected_fault what.Name (skip s)))
     (λ h. outside_before None s (skip s) (word_here (skip s)).1 (skip_outside s) (word_outside (skip s)))
     (λ h. unexpected_next what.Name s)
 
@@ -63,7 +64,7 @@ metric_from_fits : (after : Bool) (at : ℕ) (bs : List ℕ) → Fits None (reco
     (reading.metric_from after at bs)
 metric_from_fits after at [] =
     let s : Rest = record { at = at; bytes = [] } in
-    if_fits None s after (Err (unexpected what.Metric s)) (Ok ([], s)) (λ h. unexpected_fits what.Metric s)
+    if_fits None s after (Err (unexpected_fault what.Metric s)) (Ok ([], s)) (λ h. unexpected_fits what.Metric s)
     (λ h. outside_itself s)
 metric_from_fits after at (b ∷ bs) =
     let s : Rest = record { at = at; bytes = b ∷ bs } in
@@ -77,7 +78,7 @@ metric_from_fits after at (b ∷ bs) =
     (reading.with_byte b (reading.metric_from true (at + 1) bs))
     (map_fits None rest (λ more. b ∷ more) (reading.metric_from true (at + 1) bs)
     (metric_from_fits true (at + 1) bs)))
-    (λ _. if_fits None s after (Err (unexpected what.Metric s)) (Ok ([], s)) (λ h. unexpected_fits what.Metric s)
+    (λ _. if_fits None s after (Err (unexpected_fault what.Metric s)) (Ok ([], s)) (λ h. unexpected_fits what.Metric s)
     (λ h. outside_itself s)))
 
 pub metric_fits : (s : Rest) → Fits None s (reading.metric s)
@@ -144,7 +145,7 @@ unfolding reading.positive
 positive_fits most s =
     let t = skip s in
     let more = reading.digits most (head t - 48) (behind t).at (behind t).bytes in
-    if_fits None s (is_digit (head t) && not (head t == 48)) more (Err (unexpected what.Number t))
+    if_fits None s (is_digit (head t) && not (head t == 48)) more (Err (unexpected_fault what.Number t))
     (λ h. part_fits (λ b. is_digit b && not (b == 48)) refl refl s h more
     (digits_fits most (head t - 48) (behind t).at (behind t).bytes)) (λ _. unexpected_next what.Number s)
 
@@ -153,8 +154,8 @@ unfolding reading.number
 number_fits most s = if_fits None s (head (skip s) == 48) (Ok (0, behind (skip s))) (reading.positive most s)
     (λ h. part_outside (λ b. b == 48) refl refl s h) (λ _. positive_fits most s)
 
-pub signed_fits : (s : Rest) → Fits None s (reading.signed s)
-unfolding reading.signed
+pub signed_fits : (s : Rest) → Fits None s (reading.signed_reading s)
+unfolding reading.signed_reading
 signed_fits s =
     let negative = map_outcome minus (reading.number (2 ^ 63) (behind (skip s))) in
     if_fits None s (head (skip s) == 45) negative (map_outcome pos (reading.number (2 ^ 63 - 1) s))
@@ -166,7 +167,7 @@ signed_fits s =
 units_fits : (n : ℕ) (r : Rest) → Fits None r (reading.units (n, r))
 units_fits n r =
     let seconds = n * unit_seconds (head r) in
-    if_fits None r (unit_seconds (head r) == 0) (Err (unexpected what.Unit r))
+    if_fits None r (unit_seconds (head r) == 0) (Err (unexpected_fault what.Unit r))
     (if nat_le seconds longest then Ok (pos seconds, behind r) else Err (fault NumberTooLarge r))
     (λ _. unexpected_fits what.Unit r)
     (λ h. if_fits None r (nat_le seconds longest) (Ok (pos seconds, behind r)) (Err (fault NumberTooLarge r))

@@ -14,9 +14,10 @@ use Rattle.mql_parse.specs.declared.faults.ParseFault.{ParseFault}
 use Rattle.mql_parse.specs.declared.faults.ParseKind.TheVariants.{BadToken, NumberTooLarge, BadPattern}
 use Rattle.mql_parse.specs.declared.faults.What.{What}
 use Rattle.mql_parse.specs.declared.faults.What.TheVariants as what
-use Rattle.mql_parse.specs.Outcomes.{Outcome, fault, unexpected, exact, apart, map_outcome}
+use Rattle.mql_parse.specs.Outcomes.{Outcome, fault, unexpected_fault, exact, apart, map_outcome}
 use Rattle.mql_parse.specs.TokenReading as reading
-use Rattle.mql_parse.specs.Steadiness.{Shares, here, next, ReadAlike, Agrees, Reaches, Steady, unit_read, SteadyPass}
+use Rattle.mql_parse.specs.Steadiness.{Shares, here, next, ReadAlike, AgreesBefore, Reaches, Steady, unit_read}
+use Rattle.mql_parse.specs.Steadiness.{SteadyPass}
 use Rattle.mql_parse.proofs.Steady.{over_common, shares, passed_on, passed_shared, shares_head, reaches_before}
 use Rattle.mql_parse.proofs.Steady.{agrees_within, steady_by, steady_from, steady_ok, steady_fault, steady_unexpected}
 use Rattle.mql_parse.proofs.Steady.{steady_bind, steady_map, steady_behind_pass, unit_if, head_test, next_test}
@@ -27,18 +28,18 @@ pub exact_steady : (w : What) (cs : List ℕ) → SteadyPass here here (exact w 
 exact_steady w [] = steady_ok here tt
 exact_steady w (c ∷ cs) =
     steady_by here here (λ s. unit_read (exact w (c ∷ cs) s))
-    (λ s. if head s == c then unit_read (exact w cs (behind s)) else Err (unexpected w s))
-    (λ s. unit_if (head s == c) (exact w cs (behind s)) (Err (unexpected w s)))
-    (steady_if here here (λ s. head s == c) (λ s. unit_read (exact w cs (behind s))) (λ s. Err (unexpected w s))
+    (λ s. if head s == c then unit_read (exact w cs (behind s)) else Err (unexpected_fault w s))
+    (λ s. unit_if (head s == c) (exact w cs (behind s)) (Err (unexpected_fault w s)))
+    (steady_if here here (λ s. head s == c) (λ s. unit_read (exact w cs (behind s))) (λ s. Err (unexpected_fault w s))
     (head_test (λ b. b == c))
     (steady_behind here (λ s. unit_read (exact w cs s)) (exact_steady w cs)) (steady_unexpected here w))
 
 pub apart_steady : (w : What) → SteadyPass here here (apart w)
 apart_steady w =
     steady_by here here (λ s. unit_read (apart w s))
-    (λ s. if is_word_byte (head s) then Err (unexpected w s) else Ok (tt, s))
-    (λ s. unit_if (is_word_byte (head s)) (Err (unexpected w s)) (Ok s))
-    (steady_if here here (λ s. is_word_byte (head s)) (λ s. Err (unexpected w s)) (λ s. Ok (tt, s))
+    (λ s. if is_word_byte (head s) then Err (unexpected_fault w s) else Ok (tt, s))
+    (λ s. unit_if (is_word_byte (head s)) (Err (unexpected_fault w s)) (Ok s))
+    (steady_if here here (λ s. is_word_byte (head s)) (λ s. Err (unexpected_fault w s)) (λ s. Ok (tt, s))
     (head_test is_word_byte) (steady_unexpected here w) (steady_ok here tt))
 
 -- words
@@ -71,7 +72,7 @@ word_bytes_shared e (c ∷ common) after other at h l =
     (word_bytes_shared e common after other (at + 1) (omega (arith, h))) l
 
 word_alike : (e : ℕ) (common after other : List ℕ) (at : ℕ) → at + length common ≡ e →
-    Agrees here e (Ok (word_here (record { at = at; bytes = common ++ after })))
+    AgreesBefore here e (Ok (word_here (record { at = at; bytes = common ++ after })))
     (Ok (word_here (record { at = at; bytes = common ++ other })))
 word_alike e common after other at h l = (
   behind_word at (common ++ other),
@@ -85,13 +86,14 @@ word_alike e common after other at h l = (
 pub word_steady : Steady here here (λ s. Ok (word_here s))
 word_steady = record {
   reaches = λ s. word_on s.at s.at s.bytes (omega arith);
-  agrees = λ e. over_common e (λ s t. Agrees here e (Ok (word_here s)) (Ok (word_here t))) (word_alike e);
+  agrees = λ e. over_common e (λ s t. AgreesBefore here e (Ok (word_here s)) (Ok (word_here t))) (word_alike e);
 }
 
 pub name_steady : Steady next here reading.name
 unfolding reading.name
-name_steady = steady_skip here (λ t. if is_letter (head t) then Ok (word_here t) else Err (unexpected what.Name t))
-    (steady_if here here (λ t. is_letter (head t)) (λ t. Ok (word_here t)) (λ t. Err (unexpected what.Name t))
+name_steady =
+    steady_skip here (λ t. if is_letter (head t) then Ok (word_here t) else Err (unexpected_fault what.Name t))
+    (steady_if here here (λ t. is_letter (head t)) (λ t. Ok (word_here t)) (λ t. Err (unexpected_fault what.Name t))
     (head_test is_letter) word_steady (steady_unexpected here what.Name))
 
 pub name_next : Steady next next reading.name
@@ -105,14 +107,14 @@ module _ {K A : Type 0} (to : Rest → ℕ) (read : K → ℕ → List ℕ → O
     (step_agrees : (e : ℕ) (k : K) (at b : ℕ) (bs cs : List ℕ) → Shares e (record { at = at; bytes = b ∷ bs })
     (record { at = at; bytes = b ∷ cs }) → Shares e (record { at = at + 1; bytes = bs })
     (record { at = at + 1; bytes = cs }) →
-    ((k : K) → Agrees to e (read k (at + 1) bs) (read k (at + 1) cs)) → Agrees to e (read k at (b ∷ bs))
+    ((k : K) → AgreesBefore to e (read k (at + 1) bs) (read k (at + 1) cs)) → AgreesBefore to e (read k at (b ∷ bs))
     (read k at (b ∷ cs))) where
   bytes_reach : (k : K) (at : ℕ) (bs : List ℕ) → Reaches to at (read k at bs)
   bytes_reach k at [] = end_reaches k at
   bytes_reach k at (b ∷ bs) = step_reaches k at b bs (λ l. bytes_reach l (at + 1) bs)
 
   bytes_agree : (e : ℕ) (k : K) (common after other : List ℕ) (at : ℕ) → at + length common ≡ e →
-      Agrees to e (read k at (common ++ after)) (read k at (common ++ other))
+      AgreesBefore to e (read k at (common ++ after)) (read k at (common ++ other))
   bytes_agree e k [] after other at h = agrees_within to e at (read k at after) (read k at other)
       (bytes_reach k at after) (λ l. absurd (omega (arith, h, l)))
   bytes_agree e k (c ∷ common) after other at h =
@@ -123,7 +125,8 @@ module _ {K A : Type 0} (to : Rest → ℕ) (read : K → ℕ → List ℕ → O
   pub steady_bytes : (k : K) → Steady here to (λ s. read k s.at s.bytes)
   steady_bytes k = record {
     reaches = λ s. bytes_reach k s.at s.bytes;
-    agrees = λ e. over_common e (λ s t. Agrees to e (read k s.at s.bytes) (read k t.at t.bytes)) (bytes_agree e k);
+    agrees = λ e. over_common e (λ s t. AgreesBefore to e (read k s.at s.bytes) (read k t.at t.bytes))
+        (bytes_agree e k);
   }
 
 -- metrics
@@ -132,8 +135,8 @@ map_reaches : {A B : Type 0} (to : Rest → ℕ) (f : A → B) (n : ℕ) (o : Ou
 map_reaches to f n (Ok x) h = h
 map_reaches to f n (Err x) h = h
 
-map_agrees : {A B : Type 0} (to : Rest → ℕ) (f : A → B) (e : ℕ) (o p : Outcome A) → Agrees to e o p →
-    Agrees to e (map_outcome f o) (map_outcome f p)
+map_agrees : {A B : Type 0} (to : Rest → ℕ) (f : A → B) (e : ℕ) (o p : Outcome A) → AgreesBefore to e o p →
+    AgreesBefore to e (map_outcome f o) (map_outcome f p)
 map_agrees to f e (Ok x) p h = λ l. let alike : ReadAlike e x.0 x.1 p = h l in
     (alike.0, (ap (map_outcome f) alike.1.0, alike.1.1))
 map_agrees to f e (Err x) p h = λ l. ap (map_outcome f) (h l)
@@ -143,16 +146,17 @@ metric_end true at = omega arith
 metric_end false at = omega arith
 
 slash_reaches : (after : Bool) (at : ℕ) (bs : List ℕ) → Reaches {A = List ℕ} here at
-    (if after then Err (unexpected what.Metric (record { at = at; bytes = bs })) else Ok
+    (if after then Err (unexpected_fault what.Metric (record { at = at; bytes = bs })) else Ok
     ([], record { at = at; bytes = bs }))
 slash_reaches true at bs = omega arith
 slash_reaches false at bs = omega arith
 
 slash_agrees : (e : ℕ) (after : Bool) (at b : ℕ) (bs cs : List ℕ) → Shares e (record { at = at; bytes = b ∷ bs })
     (record { at = at; bytes = b ∷ cs }) →
-    Agrees {A = List ℕ} here e (if after then Err (unexpected what.Metric (record { at = at; bytes = b ∷ bs })) else Ok
+    AgreesBefore {A = List ℕ} here e
+    (if after then Err (unexpected_fault what.Metric (record { at = at; bytes = b ∷ bs })) else Ok
     ([], record { at = at; bytes = b ∷ bs }))
-    (if after then Err (unexpected what.Metric (record { at = at; bytes = b ∷ cs })) else Ok
+    (if after then Err (unexpected_fault what.Metric (record { at = at; bytes = b ∷ cs })) else Ok
     ([], record { at = at; bytes = b ∷ cs }))
 slash_agrees e true at b bs cs h = λ l. refl
 slash_agrees e false at b bs cs h = λ l. (record { at = at; bytes = b ∷ cs }, (refl, h))
@@ -207,7 +211,7 @@ pub steady_head : {A : Type 0} (to : Rest → ℕ) (read : ℕ → Rest → Outc
 steady_head to read k = record {
   reaches = λ s. (k (head s)).reaches s;
   agrees = λ e s t c. agrees_within to e s.at (read (head s) s) (read (head t) t) ((k (head s)).reaches s)
-      (λ l. subst (λ b. Agrees to e (read (head s) s) (read b t)) (sym (shares_head e s t c l))
+      (λ l. subst (λ b. AgreesBefore to e (read (head s) s) (read b t)) (sym (shares_head e s t c l))
       ((k (head s)).agrees e s t c));
 }
 
@@ -216,9 +220,9 @@ unfolding reading.positive
 positive_steady most =
     let digits_behind = λ (b : ℕ) (t : Rest). reading.digits most (b - 48) (behind t).at (behind t).bytes in
     steady_skip here (λ t. if is_digit (head t) && not (head t == 48) then digits_behind (head t) t else Err
-    (unexpected what.Number t))
+    (unexpected_fault what.Number t))
     (steady_if here here (λ t. is_digit (head t) && not (head t == 48)) (λ t. digits_behind (head t) t)
-    (λ t. Err (unexpected what.Number t)) (head_test (λ b. is_digit b && not (b == 48)))
+    (λ t. Err (unexpected_fault what.Number t)) (head_test (λ b. is_digit b && not (b == 48)))
     (steady_head here digits_behind
     (λ b. steady_behind here (λ t. reading.digits most (b - 48) t.at t.bytes) (digits_steady most (b - 48))))
     (steady_unexpected here what.Number))
@@ -230,8 +234,8 @@ number_steady most = steady_if next here (λ s. head (skip s) == 48) (λ s. Ok (
     (steady_skip here (λ t. Ok (0, behind t)) (steady_behind here (λ t. Ok (0, t)) (steady_ok here 0)))
     (positive_steady most)
 
-pub signed_steady : Steady next here reading.signed
-unfolding reading.signed
+pub signed_steady : Steady next here reading.signed_reading
+unfolding reading.signed_reading
 signed_steady = steady_if next here (λ s. head (skip s) == 45)
     (λ s. map_outcome minus (reading.number (2 ^ 63) (behind (skip s))))
     (λ s. map_outcome pos (reading.number (2 ^ 63 - 1) s)) (next_test (λ b. b == 45))
@@ -245,9 +249,9 @@ pub units_steady : (n : ℕ) → Steady here here (λ r. reading.units (n, r))
 units_steady n =
     let counted = λ (b : ℕ) (r : Rest). if nat_le (n * unit_seconds b) longest then Ok
     (pos (n * unit_seconds b), behind r) else Err (fault NumberTooLarge r) in
-    let read = λ (b : ℕ) (r : Rest). if unit_seconds b == 0 then Err (unexpected what.Unit r) else counted b r in
+    let read = λ (b : ℕ) (r : Rest). if unit_seconds b == 0 then Err (unexpected_fault what.Unit r) else counted b r in
     steady_head here read
-    (λ b. steady_if here here (λ r. unit_seconds b == 0) (λ r. Err (unexpected what.Unit r)) (counted b)
+    (λ b. steady_if here here (λ r. unit_seconds b == 0) (λ r. Err (unexpected_fault what.Unit r)) (counted b)
     (constant_test here (unit_seconds b == 0)) (steady_unexpected here what.Unit)
     (steady_if here here (λ r. nat_le (n * unit_seconds b) longest) (λ r. Ok (pos (n * unit_seconds b), behind r))
     (λ r. Err (fault NumberTooLarge r)) (constant_test here (nat_le (n * unit_seconds b) longest))
@@ -269,7 +273,7 @@ text_end_reaches None at s rest h k = h
 text_end_reaches (Some text) at s rest h k = k
 
 text_end_agrees : (e : ℕ) (o : Option (List ℕ)) (s s' rest rest' : Rest) → Shares e s s' → Shares e rest rest' →
-    Agrees here e (reading.text_end o s rest) (reading.text_end o s' rest')
+    AgreesBefore here e (reading.text_end o s rest) (reading.text_end o s' rest')
 text_end_agrees e None s s' rest rest' c d = λ l. ap (λ n. Err (record { at = n; kind = BadToken })) c.place
 text_end_agrees e (Some text) s s' rest rest' c d = λ l. (rest', (refl, d))
 
@@ -284,8 +288,8 @@ text_step_reaches TextBad at b s rest content go h k ih = h
 
 text_step_agrees : (e : ℕ) (step : TextStep) (b : ℕ) (s s' rest rest' : Rest) (content : List ℕ)
     (go go' : Open → List ℕ → Outcome (List ℕ)) → Shares e s s' → Shares e rest rest' →
-    ((next : Open) (more : List ℕ) → Agrees here e (go next more) (go' next more)) →
-    Agrees here e (reading.after_text_step step b s rest content go)
+    ((next : Open) (more : List ℕ) → AgreesBefore here e (go next more) (go' next more)) →
+    AgreesBefore here e (reading.after_text_step step b s rest content go)
     (reading.after_text_step step b s' rest' content go')
 text_step_agrees e TextEnd b s s' rest rest' content go go' c d ih = text_end_agrees e (text_in content) s s' rest rest'
     c d
@@ -315,7 +319,8 @@ piece_reaches (Some piece) at s pieces go h ih = ih (pieces ++ piece ∷ [])
 
 piece_agrees : (e : ℕ) (o : Option (List ℕ)) (s s' : Rest) (pieces : List (List ℕ))
     (go go' : List (List ℕ) → Outcome (List (List ℕ))) → Shares e s s' →
-    ((all : List (List ℕ)) → Agrees here e (go all) (go' all)) → Agrees here e (reading.piece_end o s pieces go)
+    ((all : List (List ℕ)) → AgreesBefore here e (go all) (go' all))
+    → AgreesBefore here e (reading.piece_end o s pieces go)
     (reading.piece_end o s' pieces go')
 piece_agrees e None s s' pieces go go' c ih = λ l. ap (λ n. Err (record { at = n; kind = BadToken })) c.place
 piece_agrees e (Some piece) s s' pieces go go' c ih = ih (pieces ++ piece ∷ [])
@@ -337,9 +342,9 @@ pattern_step_reaches PatternBad at b s rest pieces content go h k ih = h
 pattern_step_agrees : (e : ℕ) (step : PatternStep) (b : ℕ) (s s' rest rest' : Rest) (pieces : List (List ℕ))
     (content : List ℕ) (go go' : Open → Sign → List (List ℕ) → List ℕ → Outcome (List (List ℕ))) → Shares e s s' →
     Shares e rest rest' →
-    ((next : Open) (mark : Sign) (all : List (List ℕ)) (more : List ℕ) → Agrees here e (go next mark all more)
+    ((next : Open) (mark : Sign) (all : List (List ℕ)) (more : List ℕ) → AgreesBefore here e (go next mark all more)
     (go' next mark all more)) →
-    Agrees here e (reading.after_pattern_step step b s rest pieces content go)
+    AgreesBefore here e (reading.after_pattern_step step b s rest pieces content go)
     (reading.after_pattern_step step b s' rest' pieces content go')
 pattern_step_agrees e PatternEnd b s s' rest rest' pieces content go go' c d ih = piece_agrees e (text_in content) s s'
     pieces (λ all. Ok (all, rest)) (λ all. Ok (all, rest')) c (λ all l. (rest', (refl, d)))

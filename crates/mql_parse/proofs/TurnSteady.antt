@@ -3,12 +3,13 @@ use Rattle.std.proofs.Common.{◌≡◌, ℕ, zero, suc, ◌<◌, ◌≤◌, Boo
 use Rattle.std.proofs.Common.{sym, ap, subst, arith, if◌then◌else◌, Ok, Err}
 use Rattle.mql_ast.specs.Rests.{Rest, head, behind, skip}
 use Rattle.mql_parse.specs.declared.faults.What.{What}
-use Rattle.mql_parse.specs.Outcomes.{Outcome, unexpected}
+use Rattle.mql_parse.specs.Outcomes.{Outcome, unexpected_fault}
 use Rattle.mql_parse.specs.Repeats.{Turn, Done, Again, Stuck, turn_outcome, goes_on, repetition, list_or_end, on_read}
 use Rattle.mql_parse.specs.Repeats.{list_turn}
 use Rattle.mql_parse.specs.Behind.{Behind}
 use Rattle.mql_parse.specs.Soundness.{OfTurn}
-use Rattle.mql_parse.specs.Steadiness.{Shares, here, next, ReadAlike, Agrees, Reaches, Steady, TurnAgrees, TurnReaches}
+use Rattle.mql_parse.specs.Steadiness.{Shares, here, next, ReadAlike, AgreesBefore, Reaches, Steady, TurnAgrees}
+use Rattle.mql_parse.specs.Steadiness.{TurnReaches}
 use Rattle.mql_parse.specs.Steadiness.{SteadyTurn, SteadyTest}
 use Rattle.mql_parse.proofs.BehindLemmas.{behind_is_shorter}
 use Rattle.mql_parse.proofs.Loops.{GoesBehind}
@@ -34,7 +35,8 @@ turn_done place a = record { reaches = λ s. omega arith; agrees = λ e s t c l.
 pub turn_again : {A : Type 0} (to : Rest → ℕ) (a : A) → SteadyTurn next to (λ s. Again a s)
 turn_again to a = record { reaches = λ s. omega arith; agrees = λ e s t c l. (t, (refl, c)) }
 
-pub turn_stuck : {A : Type 0} (to : Rest → ℕ) (w : What) → SteadyTurn {A = A} here to (λ s. Stuck (unexpected w s))
+pub turn_stuck : {A : Type 0} (to : Rest → ℕ) (w : What)
+    → SteadyTurn {A = A} here to (λ s. Stuck (unexpected_fault w s))
 turn_stuck to w = record {
   reaches = λ s. omega arith;
   agrees = λ e s t c l. ap (λ f. Stuck f) (shares_unexpected w e s t c l);
@@ -114,7 +116,7 @@ goes_on_reaches : {A B : Type 0} (to : Rest → ℕ) (f : A → B) (n : ℕ) (o 
 goes_on_reaches to f n (Ok x) h = h
 goes_on_reaches to f n (Err x) h = h
 
-goes_on_agrees : {A B : Type 0} (to : Rest → ℕ) (f : A → B) (e : ℕ) (o p : Outcome A) → Agrees next e o p →
+goes_on_agrees : {A B : Type 0} (to : Rest → ℕ) (f : A → B) (e : ℕ) (o p : Outcome A) → AgreesBefore next e o p →
     TurnAgrees to e (goes_on f o) (goes_on f p)
 goes_on_agrees to f e (Ok x) p h = λ l. let alike : ReadAlike e x.0 x.1 p = h l in
     (alike.0, (ap (goes_on f) alike.1.0, alike.1.1))
@@ -139,7 +141,7 @@ module _ {A B : Type 0} (mid to : Rest → ℕ) (f : A × Rest → Turn B) (g : 
     on_read_reaches n (Ok (a, r)) h = turn_reaches_before to n (mid r) (f (a, r)) h ((g a).reaches r)
     on_read_reaches n (Err x) h = h
 
-    on_read_agrees : (e : ℕ) (o p : Outcome A) → Agrees mid e o p → TurnAgrees to e (on_read f o) (on_read f p)
+    on_read_agrees : (e : ℕ) (o p : Outcome A) → AgreesBefore mid e o p → TurnAgrees to e (on_read f o) (on_read f p)
     on_read_agrees e (Ok (a, r)) p h = turn_agrees_within to e (mid r) (f (a, r)) (on_read f p) ((g a).reaches r)
         (λ l. let alike : ReadAlike e a r p = h l in
         subst (λ z. TurnAgrees to e (f (a, r)) (on_read f z)) (sym alike.1.0) ((g a).agrees e r alike.0 alike.1.1))
@@ -158,13 +160,13 @@ pub list_or_end_steady : {A : Type 0} (close : ℕ) (w : What) (so_far : List A)
 list_or_end_steady close w so_far a =
     let all = so_far ++ a ∷ [] in
     turn_if next here (λ r. head (skip r) == 44) (λ r. Again all (behind (skip r)))
-    (λ r. if head (skip r) == close then Done all (behind (skip r)) else Stuck (unexpected w (skip r)))
+    (λ r. if head (skip r) == close then Done all (behind (skip r)) else Stuck (unexpected_fault w (skip r)))
     (next_test (λ b. b == 44))
     (turn_behind_skip here (λ t. Again all t) (turn_from here (λ t. Again all t) (turn_again here all)))
     (turn_if next here (λ r. head (skip r) == close) (λ r. Done all (behind (skip r)))
-    (λ r. Stuck (unexpected w (skip r))) (next_test (λ b. b == close))
+    (λ r. Stuck (unexpected_fault w (skip r))) (next_test (λ b. b == close))
     (turn_behind_skip here (λ t. Done all t) (turn_done here all))
-    (turn_skip here (λ t. Stuck (unexpected w t)) (turn_stuck here w)))
+    (turn_skip here (λ t. Stuck (unexpected_fault w t)) (turn_stuck here w)))
 
 pub list_turn_steady : {A : Type 0} (close : ℕ) (w : What) (part : Rest → Outcome A) (so_far : List A) →
     Steady next next part → SteadyTurn next here (list_turn close w part so_far)
@@ -200,24 +202,24 @@ module _ {A : Type 0} (to : Rest → ℕ) (turn : A → Rest → Turn A) (behind
 
   turn_outcome_agrees : (s : Rest) (e : ℕ) (u v : Turn A) → OfTurn u (λ b r. Unit {0}) (λ b r. Behind s r) →
       TurnAgrees to e u v →
-      ((b : A) (r q : Rest) → length r.bytes < length s.bytes → Shares e r q → Agrees to e (repetition turn b r)
-      (repetition turn b q)) → Agrees to e (turn_outcome u rest_of_turns) (turn_outcome v rest_of_turns)
+      ((b : A) (r q : Rest) → length r.bytes < length s.bytes → Shares e r q → AgreesBefore to e (repetition turn b r)
+      (repetition turn b q)) → AgreesBefore to e (turn_outcome u rest_of_turns) (turn_outcome v rest_of_turns)
   turn_outcome_agrees s e (Done b r) v h k ih = λ l.
       ((k l).0, (ap (λ z. turn_outcome z rest_of_turns) (k l).1.0, (k l).1.1))
   turn_outcome_agrees s e (Again b r) v h k ih = agrees_within to e (next r) (repetition turn b r)
       (turn_outcome v rest_of_turns) (repetition_reaches b r)
-      (λ l. subst (λ z. Agrees to e (repetition turn b r) (turn_outcome z rest_of_turns)) (sym (k l).1.0)
+      (λ l. subst (λ z. AgreesBefore to e (repetition turn b r) (turn_outcome z rest_of_turns)) (sym (k l).1.0)
       (ih b r (k l).0 (behind_is_shorter s r h) (k l).1.1))
   turn_outcome_agrees s e (Stuck f) v h k ih = λ l. ap (λ z. turn_outcome z rest_of_turns) (k l)
 
-  repetition_agrees_by : (a : A) (s t : Rest) (e : ℕ) → Agrees to e (turn_outcome (turn a s) rest_of_turns)
-      (turn_outcome (turn a t) rest_of_turns) → Agrees to e (repetition turn a s) (repetition turn a t)
-  repetition_agrees_by a s t e h = subst (λ o. Agrees to e o (repetition turn a t))
+  repetition_agrees_by : (a : A) (s t : Rest) (e : ℕ) → AgreesBefore to e (turn_outcome (turn a s) rest_of_turns)
+      (turn_outcome (turn a t) rest_of_turns) → AgreesBefore to e (repetition turn a s) (repetition turn a t)
+  repetition_agrees_by a s t e h = subst (λ o. AgreesBefore to e o (repetition turn a t))
       (sym (repeated_turn turn behind a s))
-      (subst (λ o. Agrees to e (turn_outcome (turn a s) rest_of_turns) o) (sym (repeated_turn turn behind a t)) h)
+      (subst (λ o. AgreesBefore to e (turn_outcome (turn a s) rest_of_turns) o) (sym (repeated_turn turn behind a t)) h)
 
   repetition_agrees_within : (most : ℕ) (a : A) (s t : Rest) (e : ℕ) → length s.bytes ≤ most → Shares e s t →
-      Agrees to e (repetition turn a s) (repetition turn a t)
+      AgreesBefore to e (repetition turn a s) (repetition turn a t)
   repetition_agrees_within zero a s t e l c = repetition_agrees_by a s t e
       (turn_outcome_agrees s e (turn a s) (turn a t) (behind a s) ((steady a).agrees e s t c)
       (λ b r q h g. absurd (omega (arith, h, l))))

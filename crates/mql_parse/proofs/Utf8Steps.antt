@@ -10,7 +10,8 @@ use Rattle.std.proofs.lemmas.Str.{IsUtf8-append, IsUtf8-encode}
 use Rattle.mon_value.specs.Texts.{text_in}
 use Rattle.mon_value.proofs.TextLemmas.{text_in-IsUtf8}
 use Rattle.mql_ast.specs.Quotes.{Open, Whole, Escape, More, begins_long_character, begins_character, further, TextStep}
-use Rattle.mql_ast.specs.Quotes.{TextEnd, TextPass, TextKeep, TextBad, kept, text_step, Sign, Plain, Dot, Backslash}
+use Rattle.mql_ast.specs.Quotes.{TextEnd, TextPass, TextKeep, TextBad, kept_open, text_step, Sign, Plain, Dot}
+use Rattle.mql_ast.specs.Quotes.{Backslash}
 use Rattle.mql_ast.specs.Quotes.{is_mark, PatternStep, PatternEnd, PatternCut, PatternPass, PatternKeep, PatternUnfit}
 use Rattle.mql_ast.specs.Quotes.{PatternBad, kept_sign, unfit, pattern_step}
 
@@ -190,7 +191,7 @@ step_test true s r b c f g = f refl
 step_test false s r b c f g = g refl
 
 kept_opens : (o : Option Open) (b : ℕ) (t : List ℕ) → IfSome o (λ u. LeavesOpen u (t ++ b ∷ [])) →
-    StepOpens (kept o) b t
+    StepOpens (kept_open o) b t
 kept_opens None b t h = tt
 kept_opens (Some u) b t h = h
 

@@ -11,13 +11,13 @@ use Rattle.mql_ast.specs.declared.predicates.Comparison.{Comparison}
 use Rattle.mql_ast.specs.declared.predicates.Comparison.TheVariants as comparison
 use Rattle.mql_ast.specs.Bytes.{is_blank, is_digit}
 use Rattle.mql_ast.specs.Rests.{Rest, first_of, head, behind, skip}
-use Rattle.mql_ast.specs.Tokens.{word_at, number_at, signed_at, minus}
+use Rattle.mql_ast.specs.Tokens.{keyword_at, number_at, signed_at, minus}
 use Rattle.mql_ast.specs.Quotes as quotes
 use Rattle.mql_ast.specs.Quotes.{text_at, pattern_at, Whole, Plain}
-use Rattle.mql_ast.specs.Grammar.{comparison_at, and_equal, or_equal, value_at}
+use Rattle.mql_ast.specs.Grammar.{comparison_at, and_equal, or_equal, literal_at}
 use Rattle.mql_parse.specs.declared.faults.What.TheVariants as what
-use Rattle.mql_parse.specs.Outcomes.{unexpected, exact, sign, map_outcome}
-use Rattle.mql_parse.specs.FaultTokens.{IsWhole, IsBare}
+use Rattle.mql_parse.specs.Outcomes.{unexpected_fault, exact, sign, map_outcome}
+use Rattle.mql_parse.specs.FaultTokens.{IsReadWhole, IsBare}
 use Rattle.mql_parse.specs.TokenReading as reading
 use Rattle.mql_parse.specs.PredicateReading as predicates
 use Rattle.mql_parse.specs.PredicateReading.{Compared, WithValue, WithPattern}
@@ -162,7 +162,7 @@ token_of how c cs h f =
 -- a byte that was read, and the second of two that a comparison goes on with
 second_missing : (how : Comparison) (b : ℕ) (s m : Rest) → IsSign b → Compares how (b ∷ 61 ∷ []) →
     (IsBare what.Comparison (b ∷ []) → ⊥) → Cut (FirstByte b) s m →
-    Finish AnyCompared s (unexpected what.Comparison m)
+    Finish AnyCompared s (unexpected_fault what.Comparison m)
 second_missing how b s m sign f u c =
     begun_here {L = AnyCompared} what.Comparison s m c.front c.is.0 (b ∷ []) 61 [] [] c.bytes c.place c.is.1.1
     (u, token_of how b (61 ∷ []) sign f) (λ e. absurd (cc))
@@ -183,7 +183,7 @@ compared_ends s =
           (λ u e. first_joined (ComparedText (WithValue comparison.Equal)) 61 v u (61 ∷ []) k e
           (compared_text comparison.Equal 61 (61 ∷ []) equals two_equals k.0 k.1.0));
     }))
-    (λ _. if_ends s (head m == 126) (Ok (WithPattern, behind m)) (Err (unexpected what.Comparison m))
+    (λ _. if_ends s (head m == 126) (Ok (WithPattern, behind m)) (Err (unexpected_fault what.Comparison m))
     (λ g. cut_then s m (Ok (WithPattern, behind m)) c (λ v k. record {
       way = cut_as m (behind m) (byte_is 126 refl m g)
           (λ u e. first_joined (ComparedText WithPattern) 61 v u (126 ∷ []) k e
@@ -192,7 +192,8 @@ compared_ends s =
     (λ _. record { way = second_missing comparison.Equal 61 s m equals two_equals one_equals c })))
     (λ _. if_ends s (b == 33) (exact what.Comparison (codes "=") m >>= λ r. Ok (WithValue comparison.NotEqual, r)) _
     (λ h. let c = first_is 33 refl s h in
-    if_bind s (head m == 61) (behind m) (unexpected what.Comparison m) (λ r. Ok (WithValue comparison.NotEqual, r))
+    if_bind s (head m == 61) (behind m) (unexpected_fault what.Comparison m)
+    (λ r. Ok (WithValue comparison.NotEqual, r))
     (λ g. cut_then s m (Ok (WithValue comparison.NotEqual, behind m)) c (λ v k. record {
       way = cut_as m (behind m) (byte_is 61 refl m g)
           (λ u e. first_joined (ComparedText (WithValue comparison.NotEqual)) 33 v u (61 ∷ []) k e
@@ -203,7 +204,7 @@ compared_ends s =
     (λ h. cut_then s m (predicates.maybe_equal comparison.Less comparison.AtMost m) (first_is 60 refl s h)
     (λ v c. maybe_ends 60 v c comparison.Less comparison.AtMost m less only_less at_most))
     (λ _. if_ends s (b == 62) (predicates.maybe_equal comparison.Greater comparison.AtLeast m)
-    (Err (unexpected what.Comparison t))
+    (Err (unexpected_fault what.Comparison t))
     (λ h. cut_then s m (predicates.maybe_equal comparison.Greater comparison.AtLeast m) (first_is 62 refl s h)
     (λ v c. maybe_ends 62 v c comparison.Greater comparison.AtLeast m greater only_greater at_least))
     (λ _. record {
@@ -213,14 +214,14 @@ compared_ends s =
 
 -- values
 abbrev pub ValueText : List ℕ → Type 0
-ValueText = Text Anyhow false (Token value_at)
+ValueText = Text Anyhow false (Token literal_at)
 
 -- a value whose first byte is this one
 abbrev value_by : Rest → ℕ → Option (FieldValue × Rest)
 value_by s b =
     if b == 34 then option_and_then (λ x. Some (field.Text x.0, x.1)) (text_at s) else
-    (if b == 116 then option_and_then (λ r. Some (field.Bool true, r)) (word_at (codes "true") s) else
-    (if b == 102 then option_and_then (λ r. Some (field.Bool false, r)) (word_at (codes "false") s) else
+    (if b == 116 then option_and_then (λ r. Some (field.Bool true, r)) (keyword_at (codes "true") s) else
+    (if b == 102 then option_and_then (λ r. Some (field.Bool false, r)) (keyword_at (codes "false") s) else
     (if b == 45 || is_digit b then option_and_then (λ x. Some (field.Int x.0, x.1)) (signed_at s) else None)))
 
 quoted_text : (v u : List ℕ) → FirstByte 34 v → TextRest u → ValueText (v ++ u)
@@ -230,7 +231,7 @@ quoted_text v u c f = record {
       (subst (Text Parted true (SignSpan 34)) (sym c.1.1) (sign_text 34 quote c.0 c.1.0)).fills (u ++ z) tt at in
       let n = f z a.0 in (
         (n.0.0, field.Text n.0.1),
-        ap (λ t. value_at (at_place at t)) (append_assoc v u z)
+        ap (λ t. literal_at (at_place at t)) (append_assoc v u z)
             ∙ ap (λ t. value_by (at_place at (v ++ (u ++ z))) (head t)) (here z at)
             ∙ ap (λ o. option_and_then (λ x. Some (field.Text x.0, x.1))
             (option_and_then (λ q. quotes.text_from Whole [] q.at q.bytes) o)) a.1
@@ -245,7 +246,8 @@ quoted_text v u c f = record {
 
 -- a keyword whose first byte tells that the value is this one
 truth_text : (b : Bool) (c : ℕ) (cs : List ℕ) → is_blank c ≡ false →
-    ((s : Rest) → value_by s c ≡ option_and_then (λ r. Some (field.Bool b, r)) (word_at (c ∷ cs) s)) → (bs : List ℕ) →
+    ((s : Rest) → value_by s c ≡ option_and_then (λ r. Some (field.Bool b, r)) (keyword_at (c ∷ cs) s))
+    → (bs : List ℕ) →
     AreBlanks bs → Text Anyhow true (WordSpan (c ∷ cs)) (bs ++ c ∷ cs) → ValueText (bs ++ c ∷ cs)
 truth_text b c cs blank here bs e f = record {
   opens = tt;
@@ -312,7 +314,7 @@ no_true b h = grind (arith, nat_tests)
 no_false : (b : ℕ) → (b == 45 || is_digit b) ≡ true → (b == 102) ≡ false
 no_false b h = grind (arith, nat_tests)
 
-value_signed : (s : Rest) (x : ℤ × Rest) → signed_at s ≡ Some x → value_at s ≡ Some (field.Int x.0, x.1)
+value_signed : (s : Rest) (x : ℤ × Rest) → signed_at s ≡ Some x → literal_at s ≡ Some (field.Int x.0, x.1)
 value_signed s x f =
     let b = head (skip s) in
     let h = signed_begins s x f in
@@ -333,7 +335,7 @@ text_token : (u : List ℕ) → TextRest u → IsBare what.Text (34 ∷ u)
 text_token u f =
     let a = (sign_text 34 quote [] tt).fills u tt 0 in
     let n = f [] a.0 in
-    let whole : IsWhole text_at (34 ∷ u) = (
+    let whole : IsReadWhole text_at (34 ∷ u) = (
       refl,
       (
         n.0,
@@ -361,10 +363,11 @@ value_ends s =
     (λ _. if_ends s (b == 102) (no >>= λ r. Ok (field.Bool false, r)) _
     (λ _. done_ends s no (λ r. (field.Bool false, r))
     (exact_ends {L = ValueText} what.Truth 102 (codes "alse") refl false_word false_text s) (λ r. refl) (λ r u f. f))
-    (λ _. if_ends s (b == 45 || is_digit b) (map_outcome (λ z. field.Int z) (reading.signed s))
-    (Err (unexpected what.Text t))
-    (λ _. done_ends s (reading.signed s) (λ x. (field.Int x.0, x.1))
-    (ends_as s (reading.signed s) (signed_ends s) (λ x w f. signed_text w f) (λ w f. signed_text w f)) (λ x. refl)
+    (λ _. if_ends s (b == 45 || is_digit b) (map_outcome (λ z. field.Int z) (reading.signed_reading s))
+    (Err (unexpected_fault what.Text t))
+    (λ _. done_ends s (reading.signed_reading s) (λ x. (field.Int x.0, x.1))
+    (ends_as s (reading.signed_reading s) (signed_ends s) (λ x w f. signed_text w f) (λ w f. signed_text w f))
+    (λ x. refl)
     (λ x w f. f))
     (λ _. record {
       way = wrong what.Text s 34 (34 ∷ []) [] (text_token (34 ∷ []) no_text)
@@ -373,7 +376,7 @@ value_ends s =
     }))))
 
 -- no `=` begins a value
-pub no_equals : (x z : List ℕ) → Token value_at x z → (first_of x == 61) ≡ false
+pub no_equals : (x z : List ℕ) → Token literal_at x z → (first_of x == 61) ≡ false
 no_equals x z k = either (first_of x == 61) refl
   where
     either : (t : Bool) → (first_of x == 61) ≡ t → t ≡ false
@@ -381,7 +384,7 @@ no_equals x z k = either (first_of x == 61) refl
     either true e =
         let same : first_of x ≡ 61 = same_bytes (first_of x) 61 e in
         let here : head (skip (at_place 0 x)) ≡ 61 = ap head (skip_off (at_place 0 x) (ap is_blank same)) ∙ same in
-        let none : value_at (at_place 0 x) ≡ None = ap (value_by (at_place 0 x)) here in
+        let none : literal_at (at_place 0 x) ≡ None = ap (value_by (at_place 0 x)) here in
         let some = (k 0).1 in absurd (cc)
 
 -- ` 0`
@@ -401,7 +404,7 @@ pub pattern_token : (u : List ℕ) → PatternRest u → IsBare what.Text (34 �
 pattern_token u f =
     let a = (sign_text 34 quote [] tt).fills u tt 0 in
     let n = f [] a.0 in
-    let whole : IsWhole pattern_at (34 ∷ u) = (
+    let whole : IsReadWhole pattern_at (34 ∷ u) = (
       refl,
       (
         n.0,

@@ -5,7 +5,7 @@ use Rattle.std.proofs.Common.{pos}
 use Rattle.mon_value.specs.Texts.{text_in}
 use Rattle.mql_ast.specs.Bytes.{is_digit, is_metric_byte}
 use Rattle.mql_ast.specs.Rests.{Rest, head, behind, skip}
-use Rattle.mql_ast.specs.Tokens.{sign_at, word_at, with_byte, metric_from, metric_behind, metric_at, digits_from}
+use Rattle.mql_ast.specs.Tokens.{sign_at, keyword_at, with_byte, metric_from, metric_behind, metric_at, digits_from}
 use Rattle.mql_ast.specs.Tokens.{positive_at, number_at, signed_at, minus, unit_seconds, longest, with_unit}
 use Rattle.mql_ast.specs.Tokens.{duration_at}
 use Rattle.mql_ast.specs.Quotes.{Open, Whole, TextStep, TextEnd, TextPass, TextKeep, TextBad, text_step}
@@ -74,7 +74,7 @@ metric_from_within after at (b ∷ bs) =
 
 pub metric_within : (s : Rest) → IfSome (metric_at s) (λ x. Behind s x.1)
 metric_within s =
-    some_bind (word_at (codes "/") s) (metric_behind (skip s).at) (λ m. Behind s m) _
+    some_bind (keyword_at (codes "/") s) (metric_behind (skip s).at) (λ m. Behind s m) _
     (some_is _ _ (λ m e. word_behind 47 [] refl s m e))
     (λ m f. some_bind (metric_from true m.at m.bytes) _ (λ x. From m x.1) _ (metric_from_within true m.at m.bytes)
     (λ x g. behind_from s m x.1 f g))

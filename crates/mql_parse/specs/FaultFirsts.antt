@@ -4,11 +4,11 @@ use Rattle.mql_parse.specs.declared.faults.ParseFault.{ParseFault}
 use Rattle.mql_parse.specs.declared.faults.ParseKind.TheVariants.{Expected}
 use Rattle.mql_parse.specs.declared.faults.What.{What}
 use Rattle.mql_parse.specs.WordOrder.{allows}
-use Rattle.mql_parse.specs.FaultTokens.{MayFollow}
+use Rattle.mql_parse.specs.FaultTokens.{MayStandBehind}
 
 -- no word may come that is earlier than the one that is expected
 abbrev pub IsFirst : List ℕ → What → Type 0
-IsFirst front w = (v : What) → MayFollow front v → allows w v ≡ true
+IsFirst front w = (v : What) → MayStandBehind front v → allows w v ≡ true
 
 -- what is expected is the first that may come at the place of the fault
 abbrev pub FirstKind : List ℕ → ParseFault → Type 0

@@ -15,8 +15,8 @@ use Rattle.mql_parse.specs.WordOrder.{is_keyword}
 use Rattle.mql_parse.specs.FaultKinds.{open_quotes}
 
 -- what is read so, with no blank in front, and nothing else
-abbrev pub IsWhole : {A : Type 0} → (Rest → Option (A × Rest)) → List ℕ → Type 0
-IsWhole {A = A} read t =
+abbrev pub IsReadWhole : {A : Type 0} → (Rest → Option (A × Rest)) → List ℕ → Type 0
+IsReadWhole {A = A} read t =
     (is_blank (first_of t) ≡ false) × ((n : ℕ × A) × (read (start t) ≡ Some (n.1, record { at = n.0; bytes = [] })))
 
 abbrev pub IsOneOf : List (List ℕ) → List ℕ → Type 0
@@ -41,12 +41,12 @@ operation_words =
 abbrev pub IsBare : What → List ℕ → Type 0
 IsBare what.Fetch t = t ≡ codes "fetch"
 IsBare what.Name t = t ≡ codes "_"
-IsBare what.Metric t = IsWhole metric_at t
-IsBare what.Text t = IsWhole text_at t ⊎ IsWhole pattern_at t
-IsBare what.Number t = (most : ℕ) × IsWhole (number_at most) t
-IsBare what.Unit t = IsWhole duration_at t
+IsBare what.Metric t = IsReadWhole metric_at t
+IsBare what.Text t = IsReadWhole text_at t ⊎ IsReadWhole pattern_at t
+IsBare what.Number t = (most : ℕ) × IsReadWhole (number_at most) t
+IsBare what.Unit t = IsReadWhole duration_at t
 IsBare what.Truth t = IsOneOf (codes "true" ∷ codes "false" ∷ []) t
-IsBare what.Comparison t = IsWhole comparison_at t ⊎ (t ≡ codes "=~")
+IsBare what.Comparison t = IsReadWhole comparison_at t ⊎ (t ≡ codes "=~")
 IsBare what.Aligner t = IsOneOf aligner_words t
 IsBare what.Aggregate t = IsOneOf fold_words t
 IsBare what.Operation t = IsOneOf operation_words t
@@ -70,7 +70,7 @@ IsBare what.Minus t = t ≡ codes "-"
 
 -- a token that the front ends within: what was read of it is no whole token, and the rest of it may come. A text does
 -- where its quotes are open
-pub record GoesOn (front : List ℕ) (w : What) : Type 0 where
+pub record IsGoneOn (front : List ℕ) (w : What) : Type 0 where
   pub before : List ℕ
   pub first : ℕ
   pub begun : List ℕ
@@ -83,20 +83,20 @@ pub record GoesOn (front : List ℕ) (w : What) : Type 0 where
   pub quotes : w ≡ what.Text → open_quotes None front ≡ None → ⊥
 
 -- this token on a new line behind the front, which no text in quotes goes on to, or in front of all else
-abbrev pub followed : List ℕ → List ℕ → List ℕ
-followed [] token = token
-followed (b ∷ front) token = b ∷ (front ++ 10 ∷ token)
+abbrev pub with_token_behind : List ℕ → List ℕ → List ℕ
+with_token_behind [] token = token
+with_token_behind (b ∷ front) token = b ∷ (front ++ 10 ∷ token)
 
 -- a token of this word may come behind the front. Where a name may, a keyword is no more than a name
-pub record MayFollow (front : List ℕ) (w : What) : Type 0 where
+pub record MayStandBehind (front : List ℕ) (w : What) : Type 0 where
   pub token : List ℕ
   pub is_token : IsBare w token
-  pub begins : Begins (followed front token)
-  pub no_name : is_keyword w ≡ true → Begins (followed front (codes "_")) → ⊥
+  pub begins : Begins (with_token_behind front token)
+  pub no_name : is_keyword w ≡ true → Begins (with_token_behind front (codes "_")) → ⊥
 
 -- what is expected is the token that the front ends within, or one that may come behind it
 abbrev pub MayCome : List ℕ → What → Type 0
-MayCome front w = GoesOn front w ⊎ MayFollow front w
+MayCome front w = IsGoneOn front w ⊎ MayStandBehind front w
 
 abbrev pub ExpectedKind : List ℕ → ParseFault → Type 0
 ExpectedKind text f = (w : What) → f.kind ≡ Expected w → MayCome (take f.at text) w

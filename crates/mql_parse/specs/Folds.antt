@@ -8,7 +8,7 @@ use Rattle.mql_ast.specs.declared.operations.FoldWord.{FoldWord}
 use Rattle.mql_ast.specs.declared.operations.FoldWord.TheVariants as fold
 use Rattle.mql_ast.specs.Rests.{Rest, head, behind, skip}
 use Rattle.mql_parse.specs.declared.faults.What.TheVariants as what
-use Rattle.mql_parse.specs.Outcomes.{Outcome, unexpected, exact, sign, map_outcome, up_to}
+use Rattle.mql_parse.specs.Outcomes.{Outcome, unexpected_fault, exact, sign, map_outcome, up_to}
 use Rattle.mql_parse.specs.Repeats.{Turn, Done, Again, on_read, repetition, list_turn}
 use Rattle.mql_parse.specs.TokenReading.{name}
 
@@ -36,20 +36,20 @@ read_as word rest s = exact what.Aggregate rest s >>= λ r. Ok (word, r)
 abbrev pub fold_behind_me : Rest → Outcome FoldWord
 fold_behind_me s =
     if head s == 97 then read_as fold.Mean (codes "n") (behind s) else
-    (if head s == 114 then read_as fold.Merge (codes "ge") (behind s) else Err (unexpected what.Aggregate s))
+    (if head s == 114 then read_as fold.Merge (codes "ge") (behind s) else Err (unexpected_fault what.Aggregate s))
 
 unfoldable pub fold_behind_m : Rest → Outcome FoldWord
 fold_behind_m s =
     if head s == 105 then read_as fold.Min (codes "n") (behind s) else
     (if head s == 97 then read_as fold.Max (codes "x") (behind s) else
-    (if head s == 101 then fold_behind_me (behind s) else Err (unexpected what.Aggregate s)))
+    (if head s == 101 then fold_behind_me (behind s) else Err (unexpected_fault what.Aggregate s)))
 
 unfoldable pub fold_here : Rest → Outcome FoldWord
 fold_here s =
     if head s == 99 then read_as fold.Count (codes "count") s else
     (if head s == 115 then read_as fold.Sum (codes "sum") s else
     (if head s == 97 then read_as fold.Aggregate (codes "aggregate") s else
-    (if head s == 109 then fold_behind_m (behind s) else Err (unexpected what.Aggregate s))))
+    (if head s == 109 then fold_behind_m (behind s) else Err (unexpected_fault what.Aggregate s))))
 
 abbrev pub some_column : Rest → Outcome (Option Name)
 some_column s = map_outcome Some (name s)
@@ -81,9 +81,9 @@ labelled_fold label s = do
 
 -- a fold without a name, behind its word
 abbrev pub bare_fold : ℕ → Option FoldWord → Rest → Outcome Aggregate
-bare_fold at None t = Err (unexpected what.Colon t)
+bare_fold at None t = Err (unexpected_fault what.Colon t)
 bare_fold at (Some word) t =
-    if head t == 40 then fold_call at None word (behind t) else Err (unexpected what.OpenParenthesis t)
+    if head t == 40 then fold_call at None word (behind t) else Err (unexpected_fault what.OpenParenthesis t)
 
 unfoldable pub aggregate : Rest → Outcome Aggregate
 aggregate s = name s >>= λ first.

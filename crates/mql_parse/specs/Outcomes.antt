@@ -40,21 +40,21 @@ kind_of what [] = Expected what
 kind_of what (b ∷ bs) = if is_alphabet b then Expected what else BadToken
 
 -- the fault of what stands here in place of what might have come
-abbrev pub unexpected : What → Rest → ParseFault
-unexpected what s = fault (kind_of what s.bytes) s
+abbrev pub unexpected_fault : What → Rest → ParseFault
+unexpected_fault what s = fault (kind_of what s.bytes) s
 
 -- what is left behind these bytes, which stand here
 abbrev pub exact : What → List ℕ → Rest → Result Rest ParseFault
 exact what [] s = Ok s
-exact what (c ∷ cs) s = if head s == c then exact what cs (behind s) else Err (unexpected what s)
+exact what (c ∷ cs) s = if head s == c then exact what cs (behind s) else Err (unexpected_fault what s)
 
 -- what is left behind a sign, which stands here or behind blanks
 abbrev pub sign : ℕ → What → Rest → Result Rest ParseFault
-sign b what s = if head (skip s) == b then Ok (behind (skip s)) else Err (unexpected what (skip s))
+sign b what s = if head (skip s) == b then Ok (behind (skip s)) else Err (unexpected_fault what (skip s))
 
 -- no letter, digit or `_` stands here
 abbrev pub apart : What → Rest → Result Rest ParseFault
-apart what s = if is_word_byte (head s) then Err (unexpected what s) else Ok s
+apart what s = if is_word_byte (head s) then Err (unexpected_fault what s) else Ok s
 
 -- the value of a part that was read, changed
 abbrev pub map_outcome : {A B : Type 0} → (A → B) → Outcome A → Outcome B

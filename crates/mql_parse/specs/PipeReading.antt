@@ -13,7 +13,7 @@ use Rattle.mql_parse.specs.declared.faults.ParseFault.{ParseFault}
 use Rattle.mql_parse.specs.declared.faults.ParseKind.TheVariants.{Expected, TooDeep, TooLong}
 use Rattle.mql_parse.specs.declared.faults.What.{What}
 use Rattle.mql_parse.specs.declared.faults.What.TheVariants as what
-use Rattle.mql_parse.specs.Outcomes.{Outcome, fault, unexpected, exact, sign, apart, map_outcome, up_to}
+use Rattle.mql_parse.specs.Outcomes.{Outcome, fault, unexpected_fault, exact, sign, apart, map_outcome, up_to}
 use Rattle.mql_parse.specs.Repeats.{Turn, Done, Again, Stuck, on_read, repetition}
 use Rattle.mql_parse.specs.TokenReading.{name, metric, positive, duration}
 use Rattle.mql_parse.specs.SumReading.{items}
@@ -36,7 +36,7 @@ abbrev pub aligner_here : Rest → Outcome DeedTree
 aligner_here t =
     if head t == 100 then map_outcome (λ z. Align (aligner.Delta z)) (aligned_for (codes "delta") t) else
     (if head t == 110 then map_outcome (λ z. Align (aligner.NextOlder z)) (aligned_for (codes "next_older") t) else
-    Err (unexpected what.Aligner t))
+    Err (unexpected_fault what.Aligner t))
 
 unfoldable pub align : Rest → Outcome DeedTree
 align t = word_apart (codes "align") what.Aligner t >>= λ m. aligner_here (skip m)
@@ -74,7 +74,7 @@ deed_here d t =
     (if b == 118 then value d t else
     (if b == 116 then top t else
     (if b == 101 then duration_deed Every (codes "every") t else
-    (if b == 119 then duration_deed Within (codes "within") t else Err (unexpected what.Operation t))))))
+    (if b == 119 then duration_deed Within (codes "within") t else Err (unexpected_fault what.Operation t))))))
 
 abbrev pub op_at : ℕ → DeedTree → OpTree
 op_at at deed = record { at = at; what = deed }
@@ -111,7 +111,7 @@ abbrev pub how_here : Rest → Outcome How
 how_here t =
     if head t == 106 then (exact what.How (codes "join") t >>= λ r. Ok (how.Join, r)) else
     (if head t == 117 then (exact what.How (codes "union") t >>= λ r. Ok (how.Union, r)) else
-    Err (unexpected what.How t))
+    Err (unexpected_fault what.How t))
 
 -- what becomes of branches that were read, behind their last brace
 unfoldable pub branches_how : ℕ → List PipeTree → Rest → Outcome SourceTree
@@ -160,7 +160,7 @@ abbrev pub branch_behind : List PipeTree → PipeTree × Rest → Turn (List Pip
 branch_behind so_far read =
     let t = skip read.1 in
     if head t == 59 then Again (so_far ++ read.0 ∷ []) (behind t) else
-    (if head t == 125 then Done (so_far ++ read.0 ∷ []) (behind t) else Stuck (unexpected what.CloseBrace t))
+    (if head t == 125 then Done (so_far ++ read.0 ∷ []) (behind t) else Stuck (unexpected_fault what.CloseBrace t))
 
 unfoldable pub branch_turn : (Rest → Outcome PipeTree) → List PipeTree → Rest → Turn (List PipeTree)
 branch_turn pipe so_far s = on_read (branch_behind so_far) (pipe s)
@@ -177,7 +177,7 @@ unfoldable pub source_with : (Rest → Rest → Outcome SourceTree) → Rest →
 source_with group s =
     let t = skip s in
     if head t == 102 then fetch t else
-    (if head t == 123 then group t (behind t) else Err (unexpected what.Fetch t))
+    (if head t == 123 then group t (behind t) else Err (unexpected_fault what.Fetch t))
 
 unfoldable pub pipe_with : (Rest → Rest → Outcome SourceTree) → ℕ → Rest → Outcome PipeTree
 pipe_with group d s = source_with group s >>= λ source. map_outcome (λ ops. Flow source.0 ops) (operations d source.1)
@@ -196,7 +196,7 @@ pipe d = pipe_with (pipe_group d) d
 -- a pipe up to the end of the text
 abbrev pub query_end_in : PipeTree → Rest → List ℕ → Result PipeTree ParseFault
 query_end_in tree r [] = Ok tree
-query_end_in tree r (b ∷ bs) = Err (unexpected (behind_query tree) (skip r))
+query_end_in tree r (b ∷ bs) = Err (unexpected_fault (behind_query tree) (skip r))
 
 abbrev pub query_end : PipeTree × Rest → Result PipeTree ParseFault
 query_end read = query_end_in read.0 read.1 read.1.bytes

@@ -15,9 +15,9 @@ use Rattle.mql_ast.specs.Grammar.{literal}
 use Rattle.mql_parse.specs.declared.faults.ParseKind.TheVariants.{TooDeep}
 use Rattle.mql_parse.specs.declared.faults.What.{What}
 use Rattle.mql_parse.specs.declared.faults.What.TheVariants as what
-use Rattle.mql_parse.specs.Outcomes.{Outcome, fault, unexpected, exact, sign, map_outcome, up_to}
+use Rattle.mql_parse.specs.Outcomes.{Outcome, fault, unexpected_fault, exact, sign, map_outcome, up_to}
 use Rattle.mql_parse.specs.Repeats.{Turn, Done, Stuck, goes_on, repetition}
-use Rattle.mql_parse.specs.TokenReading.{signed, text, pattern}
+use Rattle.mql_parse.specs.TokenReading.{signed_reading, text, pattern}
 
 -- how a condition compares: with a value, or with a pattern
 pub data Compared : Type 0 where
@@ -31,7 +31,7 @@ with_value read = Ok (WithValue read.0, read.1)
 abbrev pub behind_equals : Rest → Outcome Compared
 behind_equals s =
     if head s == 61 then Ok (WithValue comparison.Equal, behind s) else
-    (if head s == 126 then Ok (WithPattern, behind s) else Err (unexpected what.Comparison s))
+    (if head s == 126 then Ok (WithPattern, behind s) else Err (unexpected_fault what.Comparison s))
 
 abbrev pub maybe_equal : Comparison → Comparison → Rest → Outcome Compared
 maybe_equal without with s = if head s == 61 then Ok (WithValue with, behind s) else Ok (WithValue without, s)
@@ -44,7 +44,7 @@ comparison_kind s =
     (if b == 33 then (exact what.Comparison (codes "=") (behind t) >>= λ r. Ok (WithValue comparison.NotEqual, r)) else
     (if b == 60 then maybe_equal comparison.Less comparison.AtMost (behind t) else
     (if b == 62 then maybe_equal comparison.Greater comparison.AtLeast (behind t) else
-    Err (unexpected what.Comparison t))))
+    Err (unexpected_fault what.Comparison t))))
 
 -- a literal's value
 unfoldable pub value : Rest → Outcome FieldValue
@@ -54,7 +54,8 @@ value s =
     if b == 34 then map_outcome (λ x. field.Text x) (text (behind t)) else
     (if b == 116 then (exact what.Truth (codes "true") t >>= λ r. Ok (field.Bool true, r)) else
     (if b == 102 then (exact what.Truth (codes "false") t >>= λ r. Ok (field.Bool false, r)) else
-    (if b == 45 || is_digit b then map_outcome (λ z. field.Int z) (signed s) else Err (unexpected what.Text t))))
+    (if b == 45 || is_digit b then map_outcome (λ z. field.Int z) (signed_reading s)
+    else Err (unexpected_fault what.Text t))))
 
 abbrev pub compares : Name → Comparison → Rest → Outcome PredicateTree
 compares column how s = map_outcome (λ v. Compare column how (literal s v)) (value s)
@@ -81,7 +82,7 @@ negation_with opposite group s =
     let b = head t in
     if b == 33 then opposite t (behind t) else
     (if b == 40 then group t (behind t) else
-    (if is_letter b then condition t else Err (unexpected what.Name t)))
+    (if is_letter b then condition t else Err (unexpected_fault what.Name t)))
 
 -- a further part behind a sign that is written twice
 abbrev pub double_turn : ℕ → What → (PredicateTree → PredicateTree → PredicateTree) → (Rest → Outcome PredicateTree) →
@@ -89,7 +90,7 @@ abbrev pub double_turn : ℕ → What → (PredicateTree → PredicateTree → P
 double_turn b what join part left s =
     let t = skip s in
     if head t == b then (if head (behind t) == b then goes_on (join left) (part (behind (behind t)))
-    else Stuck (unexpected what (behind t))) else Done left s
+    else Stuck (unexpected_fault what (behind t))) else Done left s
 
 unfoldable pub and_turn : (Rest → Outcome PredicateTree) → PredicateTree → Rest → Turn PredicateTree
 and_turn part left s = double_turn 38 what.And And part left s

@@ -3,7 +3,7 @@ use Rattle.std.specs.Prelude.{ℕ, zero, suc, ◌+◌, ◌-◌, ◌==◌, List, 
 use Rattle.mql_ast.specs.Rests.{Rest, head, behind, skip}
 use Rattle.mql_parse.specs.declared.faults.ParseFault.{ParseFault}
 use Rattle.mql_parse.specs.declared.faults.What.{What}
-use Rattle.mql_parse.specs.Outcomes.{Outcome, unexpected}
+use Rattle.mql_parse.specs.Outcomes.{Outcome, unexpected_fault}
 
 -- what one turn comes to: it ends with what is left, goes on from there, or is at fault
 pub data Turn (A : Type 0) : Type 0 where
@@ -37,7 +37,7 @@ abbrev pub list_or_end : {A : Type 0} → ℕ → What → List A → A × Rest 
 list_or_end close what so_far read =
     let t = skip read.1 in
     if head t == 44 then Again (so_far ++ read.0 ∷ []) (behind t) else
-    (if head t == close then Done (so_far ++ read.0 ∷ []) (behind t) else Stuck (unexpected what t))
+    (if head t == close then Done (so_far ++ read.0 ∷ []) (behind t) else Stuck (unexpected_fault what t))
 
 abbrev pub on_read : {A B : Type 0} → (A × Rest → Turn B) → Outcome A → Turn B
 on_read f (Ok x) = f x

@@ -28,9 +28,9 @@ abbrev pub ReadAlike : {A : Type 0} → ℕ → A → Rest → Outcome A → Typ
 ReadAlike e a r other = (q : Rest) × ((other ≡ Ok (a, q)) × Shares e r q)
 
 -- the other outcome is the same, where this one looks at nothing from the place `e` on
-abbrev pub Agrees : {A : Type 0} → (Rest → ℕ) → ℕ → Outcome A → Outcome A → Type 0
-Agrees to e (Ok x) other = to x.1 < e → ReadAlike e x.0 x.1 other
-Agrees to e (Err f) other = f.at < e → other ≡ Err f
+abbrev pub AgreesBefore : {A : Type 0} → (Rest → ℕ) → ℕ → Outcome A → Outcome A → Type 0
+AgreesBefore to e (Ok x) other = to x.1 < e → ReadAlike e x.0 x.1 other
+AgreesBefore to e (Err f) other = f.at < e → other ≡ Err f
 
 -- an outcome looks at the place `n` or farther
 abbrev pub Reaches : {A : Type 0} → (Rest → ℕ) → ℕ → Outcome A → Type 0
@@ -41,7 +41,7 @@ Reaches to n (Err f) = n ≤ f.at
 -- at none behind a place in what it leaves
 pub record Steady {A : Type 0} (from to : Rest → ℕ) (read : Rest → Outcome A) : Type 0 where
   pub reaches : (s : Rest) → Reaches to (from s) (read s)
-  pub agrees : (e : ℕ) (s t : Rest) → Shares e s t → Agrees to e (read s) (read t)
+  pub agrees : (e : ℕ) (s t : Rest) → Shares e s t → AgreesBefore to e (read s) (read t)
 
 -- the same of a turn, which may go on with what is left behind blanks
 abbrev pub TurnAgrees : {A : Type 0} → (Rest → ℕ) → ℕ → Turn A → Turn A → Type 0

@@ -12,9 +12,9 @@ use Rattle.mql_ast.specs.Tokens.{word_here}
 use Rattle.mql_parse.specs.declared.faults.ParseKind.TheVariants.{TooDeep}
 use Rattle.mql_parse.specs.declared.faults.What.{What}
 use Rattle.mql_parse.specs.declared.faults.What.TheVariants as what
-use Rattle.mql_parse.specs.Outcomes.{Outcome, fault, unexpected, sign, map_outcome}
+use Rattle.mql_parse.specs.Outcomes.{Outcome, fault, unexpected_fault, sign, map_outcome}
 use Rattle.mql_parse.specs.Repeats.{Turn, Done, goes_on, repetition, list_turn}
-use Rattle.mql_parse.specs.TokenReading.{name, positive, signed}
+use Rattle.mql_parse.specs.TokenReading.{name, positive, signed_reading}
 
 -- a sum, and whether it ends in the bare word `percentile`, behind which a parenthesis may come
 pub record SumSeen : Type 0 where
@@ -44,7 +44,7 @@ word_read word =
     else Ok (seen_sum (Column word.0) false, word.1)
 
 abbrev pub number_term : Rest → Outcome SumSeen
-number_term s = map_outcome (λ z. seen_sum (Number (skip s).at z) false) (signed s)
+number_term s = map_outcome (λ z. seen_sum (Number (skip s).at z) false) (signed_reading s)
 
 -- a term, where a parenthesis at its front is read so
 unfoldable pub term_with : (Rest → Rest → Outcome SumSeen) → Rest → Outcome SumSeen
@@ -53,7 +53,7 @@ term_with group s =
     let b = head t in
     if b == 40 then group t (behind t) else
     (if b == 45 || is_digit b then number_term s else
-    (if is_letter b then word_read (word_here t) else Err (unexpected what.Name t)))
+    (if is_letter b then word_read (word_here t) else Err (unexpected_fault what.Name t)))
 
 abbrev pub sum_plus : SumSeen → SumSeen → SumSeen
 sum_plus left right = seen_sum (Plus left.sum right.sum) right.bare

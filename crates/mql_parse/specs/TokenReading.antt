@@ -12,10 +12,10 @@ use Rattle.mql_ast.specs.Quotes.{PatternStep, PatternEnd, PatternCut, PatternPas
 use Rattle.mql_ast.specs.Quotes.{PatternBad, pattern_step}
 use Rattle.mql_parse.specs.declared.faults.ParseKind.TheVariants.{BadToken, Expected, NumberTooLarge, BadPattern}
 use Rattle.mql_parse.specs.declared.faults.What.TheVariants as what
-use Rattle.mql_parse.specs.Outcomes.{Outcome, fault, unexpected, exact, map_outcome}
+use Rattle.mql_parse.specs.Outcomes.{Outcome, fault, unexpected_fault, exact, map_outcome}
 
 unfoldable pub name : Rest → Outcome Name
-name s = if is_letter (head (skip s)) then Ok (word_here (skip s)) else Err (unexpected what.Name (skip s))
+name s = if is_letter (head (skip s)) then Ok (word_here (skip s)) else Err (unexpected_fault what.Name (skip s))
 
 abbrev pub with_byte : ℕ → Outcome (List ℕ) → Outcome (List ℕ)
 with_byte b read = map_outcome (λ more. b ∷ more) read
@@ -23,12 +23,12 @@ with_byte b read = map_outcome (λ more. b ∷ more) read
 -- a metric's bytes, from behind a slash or from behind another of its bytes
 abbrev pub metric_from : Bool → ℕ → List ℕ → Outcome (List ℕ)
 metric_from after_slash at [] =
-    if after_slash then Err (unexpected what.Metric (record { at = at; bytes = [] }))
+    if after_slash then Err (unexpected_fault what.Metric (record { at = at; bytes = [] }))
     else Ok ([], record { at = at; bytes = [] })
 metric_from after_slash at (b ∷ bs) =
     if is_metric_byte b then with_byte b (metric_from false (at + 1) bs) else
     (if b == 47 && not after_slash then with_byte b (metric_from true (at + 1) bs) else
-    (if after_slash then Err (unexpected what.Metric (record { at = at; bytes = b ∷ bs }))
+    (if after_slash then Err (unexpected_fault what.Metric (record { at = at; bytes = b ∷ bs }))
     else Ok ([], record { at = at; bytes = b ∷ bs })))
 
 unfoldable pub metric : Rest → Outcome Name
@@ -49,13 +49,13 @@ unfoldable pub positive : ℕ → Rest → Outcome ℕ
 positive most s =
     let t = skip s in
     if is_digit (head t) && not (head t == 48) then digits most (head t - 48) (behind t).at (behind t).bytes
-    else Err (unexpected what.Number t)
+    else Err (unexpected_fault what.Number t)
 
 unfoldable pub number : ℕ → Rest → Outcome ℕ
 number most s = if head (skip s) == 48 then Ok (0, behind (skip s)) else positive most s
 
-unfoldable pub signed : Rest → Outcome ℤ
-signed s =
+unfoldable pub signed_reading : Rest → Outcome ℤ
+signed_reading s =
     if head (skip s) == 45 then map_outcome minus (number (2 ^ 63) (behind (skip s)))
     else map_outcome pos (number (2 ^ 63 - 1) s)
 
@@ -63,7 +63,7 @@ signed s =
 abbrev pub units : ℕ × Rest → Outcome ℤ
 units n =
     let seconds = n.0 * unit_seconds (head n.1) in
-    if unit_seconds (head n.1) == 0 then Err (unexpected what.Unit n.1) else
+    if unit_seconds (head n.1) == 0 then Err (unexpected_fault what.Unit n.1) else
     (if nat_le seconds longest then Ok (pos seconds, behind n.1) else Err (fault NumberTooLarge n.1))
 
 unfoldable pub duration : Rest → Outcome ℤ

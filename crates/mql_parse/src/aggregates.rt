@@ -1,5 +1,5 @@
 // The names and aggregates of `group_by`.
-ghost use Rattle.std.specs.Prelude.{◌≡◌, []};
+ghost use Rattle.std.specs.Prelude.{[]};
 ghost use Rattle.mql_parse.specs.Outcomes.{rest_of, Reads, itself};
 ghost use Rattle.mql_parse.specs.Repeats.{list_turn, repetition};
 ghost use Rattle.mql_parse.specs.TokenReading as reading;

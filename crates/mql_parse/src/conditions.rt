@@ -1,5 +1,4 @@
 // The conditions of which predicates are made.
-ghost use Rattle.mql_ast.specs.Tokens.{word_here};
 ghost use Rattle.mql_parse.specs.Outcomes.{rest_of, Reads, itself};
 ghost use Rattle.mql_parse.specs.PredicateReading as predicates;
 ghost use Rattle.mql_parse.specs.PredicateViews.{compared_seen};

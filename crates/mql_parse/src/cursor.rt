@@ -76,7 +76,7 @@ impl<'a> Cursor<'a> {
 
     /// The fault of what stands here in place of what might have come.
     pub fn unexpected(self, what: What) -> Refusal<ParseFault>
-        ensures fault { result ≡ Refusal.Fault (outcomes.unexpected what (rest_of self.entry)) }
+        ensures fault { result ≡ Refusal.Fault (outcomes.unexpected_fault what (rest_of self.entry)) }
     {
         match self.bytes.first() {
             Some(byte) => {

@@ -68,9 +68,9 @@ fn digits<'a>(first: u64, from: Cursor<'a>, most: u64) -> Read<'a, u64>
 }
 
 /// A whole number, with a sign or without.
-#[tactic(auto, unfolding(crate::specs::TokenReading::signed))]
+#[tactic(auto, unfolding(crate::specs::TokenReading::signed_reading))]
 pub fn signed<'a>(from: Cursor<'a>) -> Read<'a, i64>
-    ensures read { Reads itself result (reading.signed (rest_of from.entry)) }
+    ensures read { Reads itself result (reading.signed_reading (rest_of from.entry)) }
 {
     let start = from.skip();
     if start.head() == b'-' {

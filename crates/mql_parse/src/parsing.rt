@@ -21,7 +21,7 @@ use mql_ast::{Pipe, Query};
 use std::alloc::Global;
 
 /// The longest text, in bytes.
-const LONGEST_TEXT: usize = 65_536;
+const LONGEST_QUERY: usize = 65_536;
 
 /// How many levels of braces, parentheses and `!` a text may have.
 const LEVELS: u32 = 64;
@@ -49,9 +49,9 @@ pub fn parse(alloc: Global, text: &[u8]) -> Result<Query, Refusal<ParseFault>>
 fn read(alloc: Global, text: &[u8]) -> Result<Query, Refusal<ParseFault>>
     ensures exact { GivesView query_tree result (pipes.text_outcome text.now) }
 {
-    if text.len() > LONGEST_TEXT {
+    if text.len() > LONGEST_QUERY {
         return Err(Refusal::Fault(ParseFault {
-            at: LONGEST_TEXT as u32,
+            at: LONGEST_QUERY as u32,
             kind: ParseKind::TooLong,
         }));
     }

@@ -1,5 +1,5 @@
 // Names and metrics.
-ghost use Rattle.std.specs.Prelude.{◌≡◌, true, string_bytes};
+ghost use Rattle.std.specs.Prelude.{true, string_bytes};
 ghost use Rattle.mql_ast.specs.Tokens.{word_here};
 ghost use Rattle.mql_parse.specs.Outcomes as outcomes;
 ghost use Rattle.mql_parse.specs.Outcomes.{rest_of, Reads, itself, Adds};

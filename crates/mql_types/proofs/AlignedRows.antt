@@ -8,9 +8,9 @@ use Rattle.std.specs.Ordering.{int_eq}
 use Rattle.std.proofs.Math.Nat.{mul-le-mul_right, pow-le-pow_right, suc-mul}
 use Rattle.std.proofs.lemmas.List.{append_assoc, map-append}
 use Rattle.std.proofs.lemmas.List.Sums.{sum_by-cons}
-use Rattle.mon_value.specs.Alignments.{AreAlike, CanAlign, SumFits, aligned_values, seconds_of, values_of}
+use Rattle.mon_value.specs.Alignments.{CanAddUnder, CanAlign, SumFits, aligned_values, seconds_of, values_of}
 use Rattle.mon_value.specs.Columns.{FitColumns, HasType}
-use Rattle.mon_value.specs.Grids.{IsDuration, IsLawful, grid_times}
+use Rattle.mon_value.specs.Grids.{IsDuration, IsLawfulGrid, grid_times}
 use Rattle.mon_value.specs.Same.{same_series}
 use Rattle.mon_value.specs.SeriesRows.{cells_of, row_of}
 use Rattle.mon_value.specs.Sources.{key_of_row, points_by_series, points_of, rows_of, series_of}
@@ -233,7 +233,7 @@ record Fetched (target : TargetSchema) (metric : MetricSchema) (by : Aligner) (g
     0 where
   fit : AllByRecursion (IsRowOf target metric) rows
   few : IsFew grid by rows
-  lawful : IsLawful grid
+  lawful : IsLawfulGrid grid
   takes : Takes by metric.value
 
 -- the weight of each series is within that of all
@@ -408,7 +408,7 @@ aligned_fits target metric by grid rows own few =
     }
 
 pub FitTable-align : (target : TargetSchema) (metric : MetricSchema) (by : Aligner) (grid : Grid) (rows : List Row)
-    → AllByRecursion (IsRowOf target metric) rows → IsFew grid by rows → IsLawful grid → Takes by metric.value
+    → AllByRecursion (IsRowOf target metric) rows → IsFew grid by rows → IsLawfulGrid grid → Takes by metric.value
     → length (aligned_rows by grid rows) ≤ 2 ^ 24
     → FitTable (map (aligned_column by) (columns_fetched target metric)) (aligned_rows by grid rows)
 FitTable-align target metric by grid rows fit reach lawful takes few =
@@ -420,7 +420,7 @@ FitTable-align target metric by grid rows fit reach lawful takes few =
 -- ---- what alignment asks
 
 alike : (by : Aligner) (of : ValueType) → Takes by of → (points : List Point) → AllByRecursion (PointFits of) points
-    → AreAlike by points
+    → CanAddUnder by points
 alike (aligner.NextOlder seconds) of takes points all = tt
 alike (aligner.Delta seconds) of takes points all =
     can_add_all of takes (values_of points)
@@ -432,7 +432,7 @@ sum_fits grid (aligner.NextOlder seconds) points h time less = tt
 sum_fits grid (aligner.Delta seconds) points h time less =
     omega (arith, sum_of_values (window_of time seconds points), h, less)
 
-series_can : (grid : Grid) → IsLawful grid → (by : Aligner) → IsDuration (seconds_of by) → (of : ValueType)
+series_can : (grid : Grid) → IsLawfulGrid grid → (by : Aligner) → IsDuration (seconds_of by) → (of : ValueType)
     → Takes by of → (points : List Point)
     → AllByRecursion (PointFits of) points → sum_by (reached grid by) points ≤ 2 ^ 87 → CanAlign by grid points
 series_can grid lawful by duration of takes points all h = record {
@@ -446,7 +446,7 @@ series_can grid lawful by duration of takes points all h = record {
 
 -- each series can be aligned
 pub can_align : (target : TargetSchema) (metric : MetricSchema) (by : Aligner) (grid : Grid) (rows : List Row)
-    → AllByRecursion (IsRowOf target metric) rows → IsFew grid by rows → IsLawful grid → IsDuration (seconds_of by)
+    → AllByRecursion (IsRowOf target metric) rows → IsFew grid by rows → IsLawfulGrid grid → IsDuration (seconds_of by)
     → Takes by metric.value
     → AllByRecursion (λ (series : SeriesKey × List Point). CanAlign by grid series.1) (points_by_series rows)
 can_align target metric by grid rows fit few lawful duration takes =

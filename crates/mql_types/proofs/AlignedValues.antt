@@ -14,7 +14,7 @@ use Rattle.mon_value.specs.Aggregates.{sum_of, where_any}
 use Rattle.mon_value.specs.Alignments.{CanAdd, CanAddAll, aligned_values, newest_point, seconds_of, timed_values}
 use Rattle.mon_value.specs.Alignments.{value_at, value_made, values_of}
 use Rattle.mon_value.specs.Columns.{HasType}
-use Rattle.mon_value.specs.Grids.{IsLawful, grid_times, least_time, time_count, times_back}
+use Rattle.mon_value.specs.Grids.{IsLawfulGrid, grid_times, least_time, time_count, times_back}
 use Rattle.mon_value.specs.Groups.{merge_in, numbers_in, sum_in, total_of}
 use Rattle.mon_value.specs.Values.{magnitude}
 use Rattle.mon_value.specs.Windows.{ends_within, window_of}
@@ -161,7 +161,7 @@ times_between low high e p step (suc (suc n)) t from to =
 abbrev pub IsBetween : Grid → ℤ → Type 0
 IsBetween grid time = (least_time grid ≤ℤ time) × (time ≤ℤ grid.moment)
 
-pub grid_reach : (grid : Grid) → IsLawful grid → AllByRecursion (IsBetween grid) (grid_times grid)
+pub grid_reach : (grid : Grid) → IsLawfulGrid grid → AllByRecursion (IsBetween grid) (grid_times grid)
 grid_reach grid lawful =
     let every = lawful.every in
     times_between (least_time grid) grid.moment grid.every (unsigned_abs grid.every) (omega (arith, ints, every.0))
@@ -202,7 +202,7 @@ window_weight grid by time between (point ∷ points) =
     )
 
 -- what a series has at each time of a grid
-pub value_within : (grid : Grid) → IsLawful grid → (by : Aligner) (of : ValueType) → Takes by of
+pub value_within : (grid : Grid) → IsLawfulGrid grid → (by : Aligner) (of : ValueType) → Takes by of
     → (points : List Point)
     → AllByRecursion (PointFits of) points
     → AllByRecursion (λ time. ValueWithin of (sum_by (reached grid by) points) (value_at by points time))
@@ -304,7 +304,7 @@ within_amount of whole None fit = omega arith
 within_amount of whole (Some v) fit = fit.1
 
 -- what a series counts at a time is no more than its points in reach
-pub series_within : (grid : Grid) → IsLawful grid → (by : Aligner) (of : ValueType) → Takes by of
+pub series_within : (grid : Grid) → IsLawfulGrid grid → (by : Aligner) (of : ValueType) → Takes by of
     → (points : List Point)
     → AllByRecursion (PointFits of) points → (time : ℤ)
     → sum_by (valued time) (aligned_values by grid points) ≤ sum_by (reached grid by) points
@@ -353,7 +353,7 @@ some_within of whole (Some x) fit v e =
     subst P (same_item x v e) fit
 
 -- the values of an aligned series
-pub aligned_fit : (grid : Grid) → IsLawful grid → (by : Aligner) (of : ValueType) → Takes by of
+pub aligned_fit : (grid : Grid) → IsLawfulGrid grid → (by : Aligner) (of : ValueType) → Takes by of
     → (points : List Point)
     → AllByRecursion (PointFits of) points
     → AllByRecursion (λ (timed : TimedValue). HasType of timed.value

@@ -345,11 +345,11 @@ place_is columns name c e =
 
 pub over_is : (columns : List Column) (how : FoldWord) (name : List ℕ) (c : Column) → column_named name columns ≡ Some c
     → option_and_then (aggregate_at columns how) (place_found name columns)
-    ≡ Some (grouping.aggregate_made how c.of (place_of name columns))
+    ≡ Some (grouping.typed_aggregate how c.of (place_of name columns))
 over_is columns how name c e =
     ap (λ (o : Option ℕ). option_and_then (aggregate_at columns how) o) (place_is columns name c e)
     ∙ ap (λ (o : Option Column). option_map
-    (λ (column : Column). grouping.aggregate_made how column.of (place_of name columns)) o) e
+    (λ (column : Column). grouping.typed_aggregate how column.of (place_of name columns)) o) e
 
 type_takes : (what : AggregateKind) (c : Column) (o : Option Column) → o ≡ Some c → TakesType what c.of
     → TakesColumn what o
@@ -382,7 +382,7 @@ named_made columns lawful n how name c e takes other =
     let width = width_lawful how c sound.width other in
     record {
       column = folded_column n how c;
-      made = grouping.aggregate_made how c.of place;
+      made = grouping.typed_aggregate how c.of place;
       is = ap (λ (o : Option Column). option_map (folded_column n how) o) e;
       is_made = over_is columns how name c e;
       measure = λ time. counted time place;

@@ -1,7 +1,7 @@
 -- The rows of `group_by`: types, and widths.
 use Rattle.std.proofs.Common.{◌≡◌, ◌∙◌, ◌≤◌, ◌<◌, ℕ, ℤ, ◌+◌, ◌^◌, Bool, true, false, not, cond, nat_lt, zero, suc}
 use Rattle.std.proofs.Common.{Option, Some, None, List, [], ◌∷◌, ◌++◌, map, length, subst, refl, ap, sym, arith}
-use Rattle.std.specs.Prelude.{option_and_then, option_map, slice_get}
+use Rattle.std.specs.Prelude.{option_and_then, option_map, option_to_list, slice_get}
 use Rattle.std.specs.List.{AllByRecursion, cons_option, filter_map, flat_map, sum_by}
 use Rattle.std.specs.Ordering.{int_eq}
 use Rattle.std.proofs.Math.Nat.{pow-le-pow_right}
@@ -24,7 +24,7 @@ use Rattle.mql_ast.specs.declared.names.Name.{Name}
 use Rattle.mql_ast.specs.declared.operations.Aggregate.{Aggregate}
 use Rattle.mql_types.specs.Groupings.{aggregate_columns, aggregate_faults, aggregate_name, aggregate_of}
 use Rattle.mql_types.specs.Groupings.{aggregates_over, as_key, column_made, group_columns, key_at, key_columns_at}
-use Rattle.mql_types.specs.Groupings.{listed, listed_places, new_place, place_found}
+use Rattle.mql_types.specs.Groupings.{listed_places, new_place, place_found}
 use Rattle.mql_types.specs.Items.{is_taken, reserved_names, with_name}
 use Rattle.mql_types.specs.Soundness.{CountsRows, FitTable, TotalsFit}
 use Rattle.mql_types.proofs.FoldedColumns.{FoldMade, IsGroup, fold_made, value_fits}
@@ -71,7 +71,8 @@ place_within columns n l place e =
     let P : ℕ → Type 0 = λ m. m < l in
     subst P parts.1 (ltb-true n l parts.0)
 
-all_listed : {A : Type 0} (P : A → Type 0) (o : Option A) → ((x : A) → o ≡ Some x → P x) → AllByRecursion P (listed o)
+all_listed : {A : Type 0} (P : A → Type 0) (o : Option A) → ((x : A) → o ≡ Some x → P x)
+    → AllByRecursion P (option_to_list o)
 all_listed P None step = tt
 all_listed P (Some x) step = (step x refl, tt)
 
@@ -83,7 +84,7 @@ pub listed_within : (columns : List Column) (taken : List (List ℕ)) (names : L
     → AllByRecursion (λ place. place < length columns) (listed_places columns taken names)
 listed_within columns taken [] = tt
 listed_within columns taken (name ∷ names) =
-    all-append (λ place. place < length columns) (listed (new_place columns taken name.text))
+    all-append (λ place. place < length columns) (option_to_list (new_place columns taken name.text))
     (listed_places columns (with_name taken name.text) names)
     (all_listed (λ place. place < length columns) (new_place columns taken name.text)
     (λ place e. place_within columns _ (length columns) place

@@ -19,9 +19,9 @@ use Rattle.mql_ast.specs.Trees.{SumTree}
 use Rattle.mql_types.specs.declared.faults.TypeWord.TheVariants as word
 use Rattle.mql_types.specs.declared.widths.Width.{Width}
 use Rattle.mql_types.specs.Filters.{column_faults}
-use Rattle.mql_types.specs.Items.{is_number, operand_faults, percentile_faults, percentile_faults_of, sum_width}
+use Rattle.mql_types.specs.Items.{is_number_type, operand_faults, percentile_faults, percentile_faults_of, sum_width}
 use Rattle.mql_types.specs.Items.{width_of_type, width_together}
-use Rattle.mql_types.specs.Widths.{added_width, number_width, width_of}
+use Rattle.mql_types.specs.Widths.{added_width, point_width, width_of}
 use Rattle.mql_types.proofs.SumBounds.{bounds_in, no_faults, none_where}
 
 -- ---- columns and their cells
@@ -47,13 +47,13 @@ record NumberColumn (o : Option Column) : Type 0 where
   is : o ≡ Some column
   of : column.of ≡ type.Int
 
-number_type : (of : ValueType) → not (is_number of) ≡ false → of ≡ type.Int
+number_type : (of : ValueType) → not (is_number_type of) ≡ false → of ≡ type.Int
 number_type type.Int e = refl
 number_type type.Bool e = absurd cc
 number_type type.Text e = absurd cc
 number_type (type.Dist bounds) e = absurd cc
 
-number_column : (o : Option Column) (at : ℕ) → column_faults o at is_number word.Int ≡ [] → NumberColumn o
+number_column : (o : Option Column) (at : ℕ) → column_faults o at is_number_type word.Int ≡ [] → NumberColumn o
 number_column None at e = absurd cc
 number_column (Some c) at e = record { column = c; is = refl; of = number_type c.of (none_where _ _ _ e) }
 
@@ -85,7 +85,7 @@ pub width_known : (columns : List Column) (e : SumTree) → operand_faults colum
     → KnownWidth (sum_width columns e)
 width_known columns (tree.Column name) none =
     int_width (column_named name.text columns) (number_column (column_named name.text columns) name.at none)
-width_known columns (tree.Number at z) none = record { width = number_width; is = refl }
+width_known columns (tree.Number at z) none = record { width = point_width; is = refl }
 width_known columns (tree.Plus left right) none =
     let first = no_faults (operand_faults columns left) _ none in
     let second = no_faults (operand_faults columns right) _ first.1 in
@@ -96,7 +96,7 @@ width_known columns (tree.Minus left right) none =
     let second = no_faults (operand_faults columns right) _ first.1 in
     width_of_both (sum_width columns left) (sum_width columns right) (width_known columns left first.0)
     (width_known columns right second.0)
-width_known columns (tree.Percentile at name p) none = record { width = number_width; is = refl }
+width_known columns (tree.Percentile at name p) none = record { width = point_width; is = refl }
 
 -- ---- values
 

@@ -1,24 +1,24 @@
 -- Items that are added where there is one.
 use Rattle.std.proofs.Common.{◌≡◌, ◌∙◌, Bool, true, false, not, List, [], ◌∷◌, ◌++◌, map, Option, Some, None, refl, ap}
 use Rattle.std.proofs.Common.{append_assoc, if◌then◌else◌}
+use Rattle.std.specs.Prelude.{option_to_list}
 use Rattle.std.specs.List.{filter_map}
 use Rattle.mon_value.specs.Joins.{has_name, right_columns}
 use Rattle.mon_value.specs.declared.columns.Column.{Column}
 use Rattle.mql_types.specs.Branches.{as_joined}
-use Rattle.mql_types.specs.Groupings.{listed}
 
 first_given : {A B : Type 0} (f : A → Option B) (x : A) (xs : List A) (o : Option B)
-    → f x ≡ o → listed o ++ filter_map f xs ≡ filter_map f (x ∷ xs)
+    → f x ≡ o → option_to_list o ++ filter_map f xs ≡ filter_map f (x ∷ xs)
 first_given f x xs None e = rw e refl
 first_given f x xs (Some y) e = rw e refl
 
 -- what was made, with what is made of an item and of those behind it
-pub listed-filter_map : {A B : Type 0} (f : A → Option B) (x : A) (xs : List A) (made : List B)
-    → (made ++ listed (f x)) ++ filter_map f xs ≡ made ++ filter_map f (x ∷ xs)
-listed-filter_map f x xs made =
-    append_assoc made (listed (f x)) (filter_map f xs) ∙ ap (λ t. made ++ t) (first_given f x xs (f x) refl)
+pub option_to_list-filter_map : {A B : Type 0} (f : A → Option B) (x : A) (xs : List A) (made : List B)
+    → (made ++ option_to_list (f x)) ++ filter_map f xs ≡ made ++ filter_map f (x ∷ xs)
+option_to_list-filter_map f x xs made =
+    append_assoc made (option_to_list (f x)) (filter_map f xs) ∙ ap (λ t. made ++ t) (first_given f x xs (f x) refl)
 
-pub ruleset listed_items = (listed-filter_map)
+pub ruleset listed_items = (option_to_list-filter_map)
 
 by_own : (own : Bool) (x : Column) (xs : List Column)
     → map as_joined (if own then x ∷ [] else []) ++ map as_joined xs ≡ map as_joined (if own then x ∷ xs else xs)

@@ -6,10 +6,10 @@ use Rattle.mql_ast.specs.Trees.{sum_tree}
 use Rattle.mql_ast.specs.declared.expressions.Expr.{Expr}
 use denote.Ref.{Bor}
 use Rattle.mql_types.proofs.FaultLemmas.{first_with-append}
-use Rattle.mql_types.specs.OperandLinks.{Seen, link, linked, linked_nodes}
+use Rattle.mql_types.specs.OperandLinks.{Seen, link, operand_links, linked_nodes}
 
 pub linked_push : (columns : List Column) (xs : List (Bor Expr)) (x : Bor Expr) (left : Seen)
-    → linked columns (xs ++ x ∷ []) left ≡ linked columns xs (link columns (sum_tree x.now) left)
+    → operand_links columns (xs ++ x ∷ []) left ≡ operand_links columns xs (link columns (sum_tree x.now) left)
 linked_push columns [] x left = refl
 linked_push columns (y ∷ ys) x left = ap (link columns (sum_tree y.now)) (linked_push columns ys x left)
 

@@ -1,5 +1,5 @@
 -- A part that is put at the end comes first.
-use Rattle.std.proofs.Common.{◌≡◌, ◌∙◌, ℕ, ◌+◌, List, [], ◌∷◌, ◌++◌, refl, ap, sym, append_assoc, append-nil, arith}
+use Rattle.std.proofs.Common.{◌≡◌, ◌∙◌, ◌+◌, List, [], ◌∷◌, ◌++◌, ap, sym, append_assoc, append-nil, arith}
 use Rattle.mon_value.specs.declared.columns.Column.{Column}
 use Rattle.mql_ast.specs.PredicateParts.{nodes}
 use Rattle.mql_ast.specs.Trees.{predicate_tree}

@@ -5,7 +5,7 @@ use Rattle.std.proofs.lemmas.Int.{ints}
 use Rattle.mon_value.specs.declared.columns.Column.{Column}
 use Rattle.mon_value.specs.declared.rows.Row.{Row}
 use Rattle.mon_schema.specs.Fits.{fits}
-use Rattle.mon_schema.specs.HeldMetrics.{AreHeld}
+use Rattle.mon_schema.specs.HeldMetrics.{AreMetricsHeld}
 use Rattle.mon_schema.specs.SchemaLists.{SchemaLists}
 use Rattle.mql_ast.specs.Grammar.{Spells}
 use Rattle.mql_ast.specs.Trees.{PipeTree}
@@ -50,7 +50,7 @@ typed_evaluable typed rows moment of from =
 
 -- a text's query that has a type over schemas that the rows fit is typed
 pub spelled_typed : (held : SchemaLists) (query : PipeTree) (text : List ℕ) (typed : TypedTree) (rows : List Row)
-    → AreHeld held.metrics → Spells query text → typing held query ≡ Ok typed
+    → AreMetricsHeld held.metrics → Spells query text → typing held query ≡ Ok typed
     → AllByRecursion (λ row. fits held row ≡ true) rows → IsTyped typed rows
 spelled_typed held query text typed rows metrics spelled is fit = record {
   held = held;

@@ -7,7 +7,8 @@ use Rattle.mql_ast.specs.declared.operations.Op.{Op}
 use Rattle.mql_ast.specs.Trees.{OpTree, op_tree}
 use Rattle.mql_types.specs.declared.faults.TypeFault.{TypeFault}
 use Rattle.mql_types.specs.Faults.{first_with}
-use Rattle.mql_types.specs.Times.{have_steps, is_every, is_step, is_within, order_fault, order_faults, steps_length}
+use Rattle.mql_types.specs.Times.{have_steps, is_every, is_step, is_within_deed, order_fault, order_faults}
+use Rattle.mql_types.specs.Times.{steps_length}
 
 -- the length up to the last step, where the operations from a place on are still to be looked at
 abbrev pub length_behind : ℕ → ℕ → List OpTree → ℕ
@@ -67,7 +68,7 @@ have_steps-drop (suc k) (op ∷ ops) =
 -- an operation is told where it is misplaced, and then those behind it
 pub order_step : (branch every within misplaced every' within' : Bool) (op : OpTree) (rest : List OpTree)
     (found found' : Option TypeFault) → misplaced ≡ (branch || have_steps rest) → every' ≡ (every || is_every op.what)
-    → within' ≡ (within || is_within op.what)
+    → within' ≡ (within || is_within_deed op.what)
     → found' ≡ first_with found (order_fault op.what misplaced every within op.at)
     → first_with found' (order_faults branch every' within' rest)
     ≡ first_with found (order_faults branch every within (op ∷ rest))

@@ -25,7 +25,7 @@ use Rattle.mql_types.specs.declared.widths.Width.{Width}
 use Rattle.mql_types.specs.Items.{operand_faults, optional_width_faults, sum_width, width_of_type, width_together}
 use Rattle.mon_schema.specs.HeldMetrics.{HasNumbers}
 use Rattle.mql_types.specs.Soundness.{HasLiterals}
-use Rattle.mql_types.specs.Widths.{added_width, number_width, width_faults, width_of}
+use Rattle.mql_types.specs.Widths.{added_width, point_width, width_faults, width_of}
 use Rattle.mql_types.proofs.Totals.{cell_within}
 use Rattle.mql_types.proofs.JoinedRows.{column_of_all}
 use Rattle.mql_types.proofs.UnitedRows.{both_sums}
@@ -205,7 +205,7 @@ pub numbers_at : (columns : List Column) → AreLawful columns → (place : ℕ)
     → slice_get columns place ≡ Some c → HasNumbers c.of
 numbers_at columns lawful place c e = (column_of_all IsSound columns place c lawful e).numbers
 
-of_number : (n : ℕ) (w : Width) → number_width ≡ w → n ≤ 2 ^ 63 → IsWithin n w
+of_number : (n : ℕ) (w : Width) → point_width ≡ w → n ≤ 2 ^ 63 → IsWithin n w
 of_number n w e h =
     let P : Width → Type 0 = λ v. IsWithin n v in
     subst P e (h, record { ordered = omega arith; narrow = omega arith })
@@ -218,7 +218,7 @@ pub sum_within : (columns : List Column) (cells : List Value) → FitWidths colu
 sum_within columns cells fit lawful (tree.Column name) literal none w h =
     by_column columns cells fit lawful (place_of name.text columns) (column_named name.text columns) refl w h
 sum_within columns cells fit lawful (tree.Number at z) literal none w h =
-    of_number (unsigned_abs z) w (same_item number_width w h) (number_within z literal)
+    of_number (unsigned_abs z) w (same_item point_width w h) (number_within z literal)
 sum_within columns cells fit lawful (tree.Plus left right) literal none w h =
     let first = no_faults (operand_faults columns left) _ none in
     let second = no_faults (operand_faults columns right) _ first.1 in
@@ -236,6 +236,6 @@ sum_within columns cells fit lawful (tree.Minus left right) literal none w h =
     (λ v e. sum_within columns cells fit lawful left literal.0 first.0 v e)
     (λ v e. sum_within columns cells fit lawful right literal.1 second.0 v e)
 sum_within columns cells fit lawful (tree.Percentile at name p) literal none w h =
-    of_number (amount (sum_value (tree.Percentile at name p) columns cells)) w (same_item number_width w h)
+    of_number (amount (sum_value (tree.Percentile at name p) columns cells)) w (same_item point_width w h)
     (percentile_column (column_named name.text columns) (cell_named name.text columns cells) p
     (λ c e. numbers_at columns lawful (place_of name.text columns) c e))

@@ -16,7 +16,7 @@ use Rattle.mql_ast.specs.Trees.{SumTree}
 use Rattle.mql_types.specs.declared.widths.Width.{Width}
 use Rattle.mql_types.specs.Items.{operand_faults, optional_width_faults, sum_width, width_of_type, width_together}
 use Rattle.mql_types.specs.Soundness.{HasLiterals, TotalsFit}
-use Rattle.mql_types.specs.Widths.{added_width, number_width, width_of}
+use Rattle.mql_types.specs.Widths.{added_width, point_width, width_of}
 use Rattle.mql_types.proofs.JoinedRows.{column_of_all, row_wide}
 use Rattle.mql_types.proofs.SumBounds.{AreLawful, IsLawful, IsSound, added_by, amount, both_by, column_by, lawful_sum}
 use Rattle.mql_types.proofs.SumBounds.{no_faults, not_wide, number_within, numbers_at, percentile_column, taken_by}
@@ -111,7 +111,7 @@ column_total columns rows time fit lawful place (Some c) e w h =
       (column_of_all IsSound columns place c lawful e).width,
     )
 
-number_total : (n rows : ℕ) (w : Width) → number_width ≡ w → n ≤ rows * 2 ^ 63 → rows ≤ 2 ^ 24 → IsTotalWithin n w
+number_total : (n rows : ℕ) (w : Width) → point_width ≡ w → n ≤ rows * 2 ^ 63 → rows ≤ 2 ^ 24 → IsTotalWithin n w
 number_total n rows w e h few =
     let P : Width → Type 0 = λ v. IsTotalWithin n v in
     subst P e (row_wide n rows 63 87 h few (omega arith), record { ordered = omega arith; narrow = omega arith })
@@ -125,7 +125,7 @@ pub total_within : (columns : List Column) (rows : List TimedRow) (time : ℤ)
 total_within columns rows time fit few lawful (tree.Column name) literal none w h =
     column_total columns rows time fit lawful (place_of name.text columns) (column_named name.text columns) refl w h
 total_within columns rows time fit few lawful (tree.Number at z) literal none w h =
-    number_total (sum_by (summed time columns (tree.Number at z)) rows) (length rows) w (same_item number_width w h)
+    number_total (sum_by (summed time columns (tree.Number at z)) rows) (length rows) w (same_item point_width w h)
     (each_within time (2 ^ 63) (λ row. unsigned_abs z) (λ row. number_within z literal) rows) few
 total_within columns rows time fit few lawful (tree.Plus left right) literal none w h =
     let first = no_faults (operand_faults columns left) _ none in
@@ -155,7 +155,7 @@ total_within columns rows time fit few lawful (tree.Minus left right) literal no
     (λ v e. total_within columns rows time fit few lawful right literal.1 second.0 v e)
 total_within columns rows time fit few lawful (tree.Percentile at name p) literal none w h =
     number_total (sum_by (summed time columns (tree.Percentile at name p)) rows) (length rows) w
-    (same_item number_width w h)
+    (same_item point_width w h)
     (each_within time (2 ^ 63) (λ row. amount (sum_value (tree.Percentile at name p) columns row.cells))
     (λ row. percentile_column (column_named name.text columns) (cell_named name.text columns row.cells) p
     (λ c e. numbers_at columns lawful (place_of name.text columns) c e)) rows) few

@@ -7,16 +7,16 @@ use Rattle.std.proofs.lemmas.Int.{ints}
 use Rattle.std.specs.Option.{IfSome, option_or}
 use Rattle.mon_schema.specs.SchemaLists.{SchemaLists}
 use Rattle.mon_value.specs.Alignments.{seconds_of}
-use Rattle.mon_value.specs.Grids.{IsDuration, IsLawful, most_times}
+use Rattle.mon_value.specs.Grids.{IsDuration, IsLawfulGrid, most_times}
 use Rattle.mql_ast.specs.Trees as tree
 use Rattle.mql_ast.specs.Trees.{DeedTree, OpTree, PipeTree}
 use Rattle.mql_types.specs.Durations.{HasDuration, HasDurations}
-use Rattle.mql_types.specs.Faults.{earlier_fault, fault_where, first_fault, first_with}
+use Rattle.mql_types.specs.Faults.{fault_where}
 use Rattle.mql_types.specs.Meaning.{grid_of}
 use Rattle.mql_types.specs.Nodes.{TypedTree}
-use Rattle.mql_types.specs.Times.{are_too_many, every_said, longer, nothing_said, pipe_ops, pipe_order_faults}
+use Rattle.mql_types.specs.Times.{are_too_many, every_said, longer_duration, nothing_said, pipe_ops, pipe_order_faults}
 use Rattle.mql_types.specs.Times.{query_times, said_by, said_of, times_faults, within_said}
-use Rattle.mql_types.specs.Typing.{pipe_faults, query_faults, typed_query, typing, unless}
+use Rattle.mql_types.specs.Typing.{pipe_faults, query_faults, typing}
 use Rattle.mql_types.specs.declared.faults.TypeFault.{TypeFault}
 use Rattle.mql_types.specs.declared.faults.TypeKind.{TypeKind}
 use Rattle.mql_types.specs.declared.times.Times.{Times}
@@ -39,7 +39,8 @@ by_order : (b : Bool) (x y : ℤ) → IsDuration x → IsDuration y → IsDurati
 by_order true x y f g = f
 by_order false x y f g = g
 
-longer_said : (most : Option ℤ) (z : ℤ) → IfSome most IsDuration → IsDuration z → IfSome (longer most z) IsDuration
+longer_said : (most : Option ℤ) (z : ℤ) → IfSome most IsDuration → IsDuration z
+    → IfSome (longer_duration most z) IsDuration
 longer_said None z h d = d
 longer_said (Some most) z h d = by_order (int_lt z most) most z h d
 
@@ -112,14 +113,14 @@ few_said held query h =
 
 -- at whatever moment it is asked
 pub typed_grid : (held : SchemaLists) (query : PipeTree) (typed : TypedTree) (moment : ℤ) → HasDurations query
-    → typing held query ≡ Ok typed → pos 0 ≤ℤ moment → IsLawful (grid_of typed moment)
+    → typing held query ≡ Ok typed → pos 0 ≤ℤ moment → IsLawfulGrid (grid_of typed moment)
 typed_grid held query typed moment durations h from =
     let x = typed_without_faults held query typed h in
     let said = query_times query in
     let are = times_said query durations in
     let every = every_duration said are in
     let within = within_duration said are in
-    subst (λ t. IsLawful (grid_of t moment)) x.1 (record {
+    subst (λ t. IsLawfulGrid (grid_of t moment)) x.1 (record {
       moment = from;
       every = every;
       within = within;

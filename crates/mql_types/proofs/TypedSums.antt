@@ -19,25 +19,25 @@ use Rattle.mql_types.specs.Faults.{fault_where}
 use Rattle.mql_types.specs.Items.{item_sum_faults, operand_faults, optional_width_faults, percentile_faults}
 use Rattle.mql_types.specs.Items.{percentile_faults_of, sum_width, width_of_type, width_together}
 use Rattle.mql_types.specs.Soundness.{HasLiterals}
-use Rattle.mql_types.specs.Widths.{added_width, number_width, width_of}
+use Rattle.mql_types.specs.Widths.{added_width, point_width, width_of}
 use Rattle.mql_types.proofs.FoldedColumns.{not_false}
 use Rattle.mql_types.proofs.KnownSums.{width_known}
 use Rattle.mql_types.proofs.SumBounds.{AreLawful, IsLawful, both_by, no_faults, none_where, not_wide, sum_within}
 use Rattle.mql_types.proofs.ValueRows.{no_cells}
 use Rattle.mql_types.proofs.MadeCells.{same_item}
 
-number_of : (of : ValueType) (own w : Width) → width_of_type of own ≡ Some w
-    → asked.number_width of own.cell ≡ Some w.cell
-number_of type.Int own w e = ap (λ (v : Width). Some v.cell) (same_item own w e)
-number_of type.Bool own w e = absurd cc
-number_of type.Text own w e = absurd cc
-number_of (type.Dist bounds) own w e = absurd cc
+number_cell : (of : ValueType) (own w : Width) → width_of_type of own ≡ Some w
+    → asked.column_bits of own.cell ≡ Some w.cell
+number_cell type.Int own w e = ap (λ (v : Width). Some v.cell) (same_item own w e)
+number_cell type.Bool own w e = absurd cc
+number_cell type.Text own w e = absurd cc
+number_cell (type.Dist bounds) own w e = absurd cc
 
 column_width : (o : Option Column) (w : Width)
     → option_and_then (λ (c : Column). width_of_type c.of (width_of c)) o ≡ Some w
-    → option_and_then (λ (c : Column). asked.number_width c.of c.cell_bits) o ≡ Some w.cell
+    → option_and_then (λ (c : Column). asked.column_bits c.of c.cell_bits) o ≡ Some w.cell
 column_width None w e = absurd cc
-column_width (Some c) w e = number_of c.of (width_of c) w e
+column_width (Some c) w e = number_cell c.of (width_of c) w e
 
 -- a percentile without a fault is of distributions that are narrow enough
 percentile_of_type : (of : ValueType) (bits at : ℕ) → percentile_faults_of of bits at ≡ []
@@ -53,16 +53,16 @@ percentile_column : (o : Option Column) (at : ℕ) → percentile_faults o at �
 percentile_column None at e = absurd cc
 percentile_column (Some c) at e = percentile_of_type c.of c.cell_bits at e
 
-both_widths : (a b : Option ℕ) (x y : ℕ) → a ≡ Some x → b ≡ Some y → asked.width_together a b ≡ Some (max x y + 1)
+both_widths : (a b : Option ℕ) (x y : ℕ) → a ≡ Some x → b ≡ Some y → asked.bits_together a b ≡ Some (max x y + 1)
 both_widths a b x y e f =
-    ap (λ o. asked.width_together o b) e ∙ ap (λ o. asked.width_together (Some x) o) f
+    ap (λ o. asked.bits_together o b) e ∙ ap (λ o. asked.bits_together (Some x) o) f
 
 -- two operands together, without a fault
 together : (a b : Option Width) (c d : Option ℕ) (w : Width) (at : ℕ) → width_together a b ≡ Some w
     → optional_width_faults at (width_together a b) ≡ []
     → ((v : Width) → a ≡ Some v → (c ≡ Some v.cell) × IsLawful v)
     → ((v : Width) → b ≡ Some v → (d ≡ Some v.cell) × IsLawful v)
-    → asked.width_together c d ≡ Some w.cell
+    → asked.bits_together c d ≡ Some w.cell
 together a b c d w at e none left right =
     let two = both_by a b w e in
     let P : Option Width → Type 0 = λ o. optional_width_faults at o ≡ [] in
@@ -84,15 +84,15 @@ lawful_width columns lawful e literal none w is =
 -- the width that computing asks for is that of typing
 width_same : (columns : List Column) → AreLawful columns → (e : SumTree) → HasLiterals e
     → operand_faults columns e ≡ [] → (w : Width)
-    → sum_width columns e ≡ Some w → asked.sum_width e columns ≡ Some w.cell
+    → sum_width columns e ≡ Some w → asked.sum_bits e columns ≡ Some w.cell
 width_same columns lawful (tree.Column name) literal none w is = column_width (column_named name.text columns) w is
 width_same columns lawful (tree.Number at z) literal none w is =
-    ap (λ (v : Width). Some v.cell) (same_item number_width w is)
+    ap (λ (v : Width). Some v.cell) (same_item point_width w is)
 width_same columns lawful (tree.Plus left right) literal none w is =
     let first = no_faults (operand_faults columns left) _ none in
     let second = no_faults (operand_faults columns right) _ first.1 in
-    together (sum_width columns left) (sum_width columns right) (asked.sum_width left columns)
-    (asked.sum_width right columns) w _ is second.1
+    together (sum_width columns left) (sum_width columns right) (asked.sum_bits left columns)
+    (asked.sum_bits right columns) w _ is second.1
     (λ v e. (
       width_same columns lawful left literal.0 first.0 v e,
       lawful_width columns lawful left literal.0
@@ -106,8 +106,8 @@ width_same columns lawful (tree.Plus left right) literal none w is =
 width_same columns lawful (tree.Minus left right) literal none w is =
     let first = no_faults (operand_faults columns left) _ none in
     let second = no_faults (operand_faults columns right) _ first.1 in
-    together (sum_width columns left) (sum_width columns right) (asked.sum_width left columns)
-    (asked.sum_width right columns) w _ is second.1
+    together (sum_width columns left) (sum_width columns right) (asked.sum_bits left columns)
+    (asked.sum_bits right columns) w _ is second.1
     (λ v e. (
       width_same columns lawful left literal.0 first.0 v e,
       lawful_width columns lawful left literal.0
@@ -120,7 +120,7 @@ width_same columns lawful (tree.Minus left right) literal none w is =
     ))
 width_same columns lawful (tree.Percentile at name p) literal none w is =
     percentile_column (column_named name.text columns) name.at none
-    ∙ ap (λ (v : Width). Some v.cell) (same_item number_width w is)
+    ∙ ap (λ (v : Width). Some v.cell) (same_item point_width w is)
 
 narrow_width : (o : Option ℕ) (bits : ℕ) → o ≡ Some bits → bits ≤ 126 → IsSomeAnd o (λ n. n ≤ 126)
 narrow_width o bits e h =
@@ -129,11 +129,11 @@ narrow_width o bits e h =
 
 number_typed : (columns : List Column) → AreLawful columns → (e : SumTree) → HasLiterals e
     → operand_faults columns e ≡ []
-    → IsSomeAnd (asked.sum_width e columns) (λ n. n ≤ 126)
+    → IsSomeAnd (asked.sum_bits e columns) (λ n. n ≤ 126)
 number_typed columns lawful e literal none =
     let known = width_known columns e none in
     let width = lawful_width columns lawful e literal none known.width known.is in
-    narrow_width (asked.sum_width e columns) known.width.cell
+    narrow_width (asked.sum_bits e columns) known.width.cell
     (width_same columns lawful e literal none known.width known.is)
     (omega (arith, width.ordered, width.narrow))
 

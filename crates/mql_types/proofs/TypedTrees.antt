@@ -7,7 +7,7 @@ use Rattle.std.proofs.lemmas.Bool.{leb-true}
 use Rattle.mon_value.specs.Alignments.{seconds_of}
 use Rattle.mon_value.specs.Columns.{FitColumns, IsWhole}
 use Rattle.mon_value.specs.GroupConditions.{CanGroup, rows_at}
-use Rattle.mon_value.specs.Grids.{IsDuration, IsLawful}
+use Rattle.mon_value.specs.Grids.{IsDuration, IsLawfulGrid}
 use Rattle.mon_value.specs.Groups.{group_rows}
 use Rattle.mon_value.specs.Joins.{right_columns}
 use Rattle.mon_value.specs.declared.aggregates.Aggregate as folds
@@ -218,7 +218,7 @@ grouped held info by with columns own lawful rows fit few =
     (subst R own.is (FitTable-group_by columns own.names own.aggregates rows fit lawful own.counts own.none
     few)))
 
-aligned : (held : SchemaLists) (grid : Grid) → IsLawful grid → (rows : List Row) → AllFit held rows
+aligned : (held : SchemaLists) (grid : Grid) → IsLawfulGrid grid → (rows : List Row) → AllFit held rows
     → (info : NodeInfo) (by : Aligner) (input : NodeTree)
     → AlignOf held info by input → length (points_reached grid by input rows) ≤ 2 ^ 24
     → length (aligned_rows by grid (points_meant input rows)) ≤ 2 ^ 24
@@ -235,7 +235,7 @@ aligned held grid lawful rows fit info by input own reach few =
     own.takes few)
 
 -- the rows of a tree of tables fit its columns
-pub tree_fits : (held : SchemaLists) (grid : Grid) → IsLawful grid → (rows : List Row) → AllFit held rows
+pub tree_fits : (held : SchemaLists) (grid : Grid) → IsLawfulGrid grid → (rows : List Row) → AllFit held rows
     → (tree : NodeTree) → AreRows held tree
     → load_of grid tree rows ≤ 2 ^ 24 → FitTable (columns_of tree) (rows_meant grid tree rows)
 tree_fits held grid lawful rows fit (node.Fetch info schema metric) own few = no_rows info.columns
@@ -309,7 +309,7 @@ groupable info by with columns own lawful rows fit =
     (can_group columns own.names own.aggregates rows fit lawful own.counts own.none))
 
 -- each operation's input meets what it asks
-pub tree_evaluable : (held : SchemaLists) (grid : Grid) → IsLawful grid → (rows : List Row) → AllFit held rows
+pub tree_evaluable : (held : SchemaLists) (grid : Grid) → IsLawfulGrid grid → (rows : List Row) → AllFit held rows
     → (tree : NodeTree) → AreRows held tree
     → IsEvaluable grid tree rows
 tree_evaluable held grid lawful rows fit (node.Fetch info schema metric) own = tt

@@ -19,6 +19,7 @@ use Rattle.mql_ast.specs.declared.names.Name.{Name}
 use Rattle.mql_types.specs.declared.faults.TypeFault.{TypeFault}
 use Rattle.mql_types.specs.declared.faults.TypeKind.TheVariants.{DuplicateColumn, UnknownMetric, UnknownSchema}
 use Rattle.mql_types.specs.Faults.{fault_where}
+use Rattle.mon_value.specs.Columns.{column_names}
 
 abbrev pub field_value_type : FieldType → ValueType
 field_value_type field_type.Int = type.Int
@@ -67,9 +68,6 @@ fetch_columns None metric = []
 abbrev pub kind_of : Option MetricSchema → Kind
 kind_of (Some metric) = metric.kind
 kind_of None = kind.Gauge
-
-abbrev pub column_names : List Column → List (List ℕ)
-column_names columns = map (λ column. column.name) columns
 
 -- a fetch is refused for a name that is unknown, or where two columns have one name
 abbrev pub fetch_faults : SchemaLists → ℕ → Name → Name → List TypeFault

@@ -41,11 +41,11 @@ can_compare type.Bool how (field.Bool b) = is_equality how
 can_compare type.Bool how literal = false
 can_compare (type.Dist bounds) how literal = false
 
-abbrev pub is_text : ValueType → Bool
-is_text type.Text = true
-is_text type.Int = false
-is_text type.Bool = false
-is_text (type.Dist bounds) = false
+abbrev pub is_text_type : ValueType → Bool
+is_text_type type.Text = true
+is_text_type type.Int = false
+is_text_type type.Bool = false
+is_text_type (type.Dist bounds) = false
 
 -- a name of no column, or a column that doesn't pass a test on its type, beside what it stands or was wanted
 abbrev pub column_faults : Option Column → ℕ → (ValueType → Bool) → TypeWord → List TypeFault
@@ -65,7 +65,7 @@ unknown_faults columns name = fault_where (is_none (column_named name.text colum
 abbrev pub predicate_faults : List Column → PredicateTree → List TypeFault
 predicate_faults columns (Compare name how literal) =
     condition_faults columns name (λ of. can_compare of how literal.value) (literal_word literal.value)
-predicate_faults columns (Like name pattern) = condition_faults columns name is_text word.Text
+predicate_faults columns (Like name pattern) = condition_faults columns name is_text_type word.Text
 predicate_faults columns (Not p) = predicate_faults columns p
 predicate_faults columns (And p q) = predicate_faults columns p ++ predicate_faults columns q
 predicate_faults columns (Or p q) = predicate_faults columns p ++ predicate_faults columns q

@@ -1,6 +1,6 @@
 -- What `group_by` gives: the columns that it lists, as keys, and its aggregates.
 use Rattle.std.specs.Prelude.{ℕ, ◌||◌, Bool, true, false, List, [], ◌∷◌, ◌++◌, codes, map, position, slice_get, Option}
-use Rattle.std.specs.Prelude.{Some, None, option_map, option_and_then, unwrap_or, if◌then◌else◌}
+use Rattle.std.specs.Prelude.{Some, None, option_map, option_to_list, option_and_then, unwrap_or, if◌then◌else◌}
 use Rattle.std.specs.List.{filter_map, flat_map}
 use Rattle.mon_value.specs.Same.{same_text}
 use Rattle.mon_value.specs.declared.aggregates.Aggregate as made
@@ -18,18 +18,13 @@ use Rattle.mql_types.specs.declared.faults.TypeFault.{TypeFault}
 use Rattle.mql_types.specs.declared.faults.TypeWord.{TypeWord}
 use Rattle.mql_types.specs.declared.faults.TypeWord.TheVariants as word
 use Rattle.mql_types.specs.Filters.{condition_faults, unknown_faults}
-use Rattle.mql_types.specs.Items.{is_number, is_taken, plain_column, reserved_names, taken_faults, with_name}
+use Rattle.mql_types.specs.Items.{is_number_type, is_taken, plain_column, reserved_names, taken_faults, with_name}
 use Rattle.mql_types.specs.declared.widths.Width.{Width}
 use Rattle.mql_types.specs.Widths.{count_width, summed_width, width_of}
 
 -- where the column of a name stands
 abbrev pub place_found : List ℕ → List Column → Option ℕ
 place_found name columns = position (λ column. same_text name column.name) columns
-
--- what there is, as a list
-abbrev pub listed : {A : Type 0} → Option A → List A
-listed None = []
-listed (Some x) = x ∷ []
 
 -- ---- the columns that are listed
 
@@ -41,7 +36,7 @@ new_place columns taken name = if is_taken name taken then None else place_found
 abbrev pub listed_places : List Column → List (List ℕ) → List Name → List ℕ
 listed_places columns taken [] = []
 listed_places columns taken (name ∷ names) =
-    listed (new_place columns taken name.text) ++ listed_places columns (with_name taken name.text) names
+    option_to_list (new_place columns taken name.text) ++ listed_places columns (with_name taken name.text) names
 
 abbrev pub as_key : Column → Column
 as_key column = record column { key = true }
@@ -69,12 +64,12 @@ is_distribution type.Text = false
 -- `aggregate`, which takes both
 abbrev pub fold_takes : FoldWord → ValueType → Bool
 fold_takes fold.Count of = true
-fold_takes fold.Sum of = is_number of
-fold_takes fold.Min of = is_number of
-fold_takes fold.Max of = is_number of
-fold_takes fold.Mean of = is_number of
+fold_takes fold.Sum of = is_number_type of
+fold_takes fold.Min of = is_number_type of
+fold_takes fold.Max of = is_number_type of
+fold_takes fold.Mean of = is_number_type of
 fold_takes fold.Merge of = is_distribution of
-fold_takes fold.Aggregate of = is_number of || is_distribution of
+fold_takes fold.Aggregate of = is_number_type of || is_distribution of
 
 -- the type that is told as wanted
 abbrev pub wanted_word : FoldWord → TypeWord
@@ -136,12 +131,12 @@ abbrev pub aggregate_columns : List Column → List Aggregate → List Column
 aggregate_columns columns aggregates = filter_map (column_made columns) aggregates
 
 -- what an aggregate makes of the column at a place
-abbrev pub aggregate_made : FoldWord → ValueType → ℕ → made.Aggregate
-aggregate_made how of place = record { what = fold_kind how of; column = place }
+abbrev pub typed_aggregate : FoldWord → ValueType → ℕ → made.Aggregate
+typed_aggregate how of place = record { what = fold_kind how of; column = place }
 
 abbrev pub aggregate_at : List Column → FoldWord → ℕ → Option made.Aggregate
 aggregate_at columns how place =
-    option_map (λ (column : Column). aggregate_made how column.of place) (slice_get columns place)
+    option_map (λ (column : Column). typed_aggregate how column.of place) (slice_get columns place)
 
 abbrev pub aggregate_over : List Column → FoldWord → Option Name → Option made.Aggregate
 aggregate_over columns how None = Some (record { what = kind.Count; column = 0 })

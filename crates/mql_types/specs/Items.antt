@@ -15,17 +15,17 @@ use Rattle.mql_types.specs.declared.faults.TypeFault.{TypeFault}
 use Rattle.mql_types.specs.declared.faults.TypeKind.TheVariants.{DuplicateColumn, Mismatch, TooWide, UnknownColumn}
 use Rattle.mql_types.specs.declared.faults.TypeWord.TheVariants as word
 use Rattle.mql_types.specs.Faults.{fault_at, fault_where}
-use Rattle.mql_types.specs.Fetches.{column_names}
+use Rattle.mon_value.specs.Columns.{column_names}
 use Rattle.mql_types.specs.Filters.{condition_faults, unknown_faults}
 use Rattle.mql_types.specs.declared.sums.Operand.{Operand}
 use Rattle.mql_types.specs.declared.widths.Width.{Width}
-use Rattle.mql_types.specs.Widths.{added_width, more_bits, number_width, width_faults, width_of}
+use Rattle.mql_types.specs.Widths.{added_width, more_bits, point_width, width_faults, width_of}
 
-abbrev pub is_number : ValueType → Bool
-is_number type.Int = true
-is_number type.Bool = false
-is_number type.Text = false
-is_number (type.Dist bounds) = false
+abbrev pub is_number_type : ValueType → Bool
+is_number_type type.Int = true
+is_number_type type.Bool = false
+is_number_type type.Text = false
+is_number_type (type.Dist bounds) = false
 
 -- the width of a column of numbers
 abbrev pub width_of_type : ValueType → Width → Option Width
@@ -42,10 +42,10 @@ width_together left right = option_map (λ both. added_width both.0 both.1) (opt
 abbrev pub sum_width : List Column → SumTree → Option Width
 sum_width columns (tree.Column name) =
     option_and_then (λ column. width_of_type column.of (width_of column)) (column_named name.text columns)
-sum_width columns (tree.Number at z) = Some number_width
+sum_width columns (tree.Number at z) = Some point_width
 sum_width columns (tree.Plus left right) = width_together (sum_width columns left) (sum_width columns right)
 sum_width columns (tree.Minus left right) = width_together (sum_width columns left) (sum_width columns right)
-sum_width columns (tree.Percentile at name p) = Some number_width
+sum_width columns (tree.Percentile at name p) = Some point_width
 
 -- where a sum begins
 abbrev pub left_end : SumTree → ℕ
@@ -77,7 +77,7 @@ percentile_faults (Some column) at = percentile_faults_of column.of column.cell_
 
 -- `+` and `-` want numbers, and one that is too wide is told where it begins
 abbrev pub operand_faults : List Column → SumTree → List TypeFault
-operand_faults columns (tree.Column name) = condition_faults columns name is_number word.Int
+operand_faults columns (tree.Column name) = condition_faults columns name is_number_type word.Int
 operand_faults columns (tree.Number at z) = []
 operand_faults columns (tree.Plus left right) =
     operand_faults columns left ++ (operand_faults columns right
@@ -92,8 +92,8 @@ abbrev pub operand_of : List Column → SumTree → Operand
 operand_of columns sum = record { at = left_end sum; width = sum_width columns sum }
 
 -- a number of a query, or a percentile, at a place
-abbrev pub number_at : ℕ → Operand
-number_at at = record { at = at; width = Some number_width }
+abbrev pub number_operand : ℕ → Operand
+number_operand at = record { at = at; width = Some point_width }
 
 abbrev pub operands_together : Operand → Operand → Operand
 operands_together left right = record { at = left.at; width = width_together left.width right.width }
@@ -135,13 +135,13 @@ plain_column name of width = record {
 abbrev pub renamed_column : List ℕ → Column → Column
 renamed_column name column = plain_column name column.of (width_of column)
 
-abbrev pub renamed : List ℕ → List ℕ → List Column → Option Column
-renamed name source columns = option_map (renamed_column name) (column_named source columns)
+abbrev pub renamed_source : List ℕ → List ℕ → List Column → Option Column
+renamed_source name source columns = option_map (renamed_column name) (column_named source columns)
 
 -- the column that a sum gives: a column as it is, or numbers
 abbrev pub sum_column : List Column → List ℕ → SumTree → Option Name → Option Column
 sum_column columns name sum None = option_map (plain_column name type.Int) (sum_width columns sum)
-sum_column columns name sum (Some source) = renamed name source.text columns
+sum_column columns name sum (Some source) = renamed_source name source.text columns
 
 abbrev pub item_sum_faults : List Column → ItemTree → List TypeFault
 item_sum_faults columns item = sum_faults columns item.sum (column_alone item.sum)

@@ -88,5 +88,5 @@ abbrev pub pieces_sent : List PieceMeant → ℕ
 pieces_sent pieces = sum_by (λ piece. sent_of piece.0 piece.1) pieces
 
 -- how many rows and groups a leaf sends
-abbrev pub sent : TypedTree → List Row → ℤ → ℕ
-sent typed rows moment = pieces_sent (leaf_part typed rows moment)
+abbrev pub sent_amount : TypedTree → List Row → ℤ → ℕ
+sent_amount typed rows moment = pieces_sent (leaf_part typed rows moment)

@@ -19,7 +19,7 @@ use Rattle.mon_value.specs.declared.rows.SeriesKey.{SeriesKey}
 use Rattle.mon_value.specs.declared.tables.Table.{Table}
 use Rattle.mon_value.specs.declared.tables.TimedRow.{TimedRow}
 use Rattle.mon_schema.specs.Fits.{fits, is_number}
-use Rattle.mon_schema.specs.HeldMetrics.{AreHeld}
+use Rattle.mon_schema.specs.HeldMetrics.{AreMetricsHeld}
 use Rattle.mon_schema.specs.HeldTargets.{AllTellLocations}
 use Rattle.mon_schema.specs.SchemaLists.{SchemaLists}
 use Rattle.mql_ast.specs.SumWidths.{CanCompute, FitWidths, HasShares, IsTypedSum}
@@ -96,7 +96,7 @@ abbrev mutual
 -- the type of some query over lawful schemas
 pub record IsQueryType (held : SchemaLists) (typed : TypedTree) : Type 0 where
   pub query : PipeTree
-  pub metrics : AreHeld held.metrics
+  pub metrics : AreMetricsHeld held.metrics
   pub targets : AllTellLocations held.targets
   pub spelled : IsPipeSpelled query
   pub durations : HasDurations query
@@ -106,7 +106,7 @@ pub record IsQueryType (held : SchemaLists) (typed : TypedTree) : Type 0 where
 pub record IsTyped (typed : TypedTree) (rows : List Row) : Type 0 where
   pub held : SchemaLists
   pub query : PipeTree
-  pub metrics : AreHeld held.metrics
+  pub metrics : AreMetricsHeld held.metrics
   pub spelled : IsPipeSpelled query
   pub durations : HasDurations query
   pub is : typing held query ≡ Ok typed

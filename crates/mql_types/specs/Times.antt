@@ -30,9 +30,9 @@ abbrev mutual
 abbrev pub nothing_said : Times
 nothing_said = record { every = None; within = None; longest = None; at = None }
 
-abbrev pub longer : Option ℤ → ℤ → Option ℤ
-longer None seconds = Some seconds
-longer (Some most) seconds = Some (int_max most seconds)
+abbrev pub longer_duration : Option ℤ → ℤ → Option ℤ
+longer_duration None seconds = Some seconds
+longer_duration (Some most) seconds = Some (int_max most seconds)
 
 -- what an operation adds to that
 abbrev pub said_by : Times → ℕ → DeedTree → Times
@@ -40,7 +40,7 @@ said_by said at (tree.Every seconds) =
     record said { every = option_or said.every (Some seconds); at = option_or said.at (Some at) }
 said_by said at (tree.Within seconds) =
     record said { within = option_or said.within (Some seconds); at = option_or said.at (Some at) }
-said_by said at (tree.Align by) = record said { longest = longer said.longest (seconds_of by) }
+said_by said at (tree.Align by) = record said { longest = longer_duration said.longest (seconds_of by) }
 said_by said at (tree.Filter predicate) = said
 said_by said at (tree.GroupBy names aggregates) = said
 said_by said at (tree.Value items) = said
@@ -100,14 +100,14 @@ is_every (tree.GroupBy names aggregates) = false
 is_every (tree.Value items) = false
 is_every (tree.Top most column) = false
 
-abbrev pub is_within : DeedTree → Bool
-is_within (tree.Every seconds) = false
-is_within (tree.Within seconds) = true
-is_within (tree.Filter predicate) = false
-is_within (tree.Align by) = false
-is_within (tree.GroupBy names aggregates) = false
-is_within (tree.Value items) = false
-is_within (tree.Top most column) = false
+abbrev pub is_within_deed : DeedTree → Bool
+is_within_deed (tree.Every seconds) = false
+is_within_deed (tree.Within seconds) = true
+is_within_deed (tree.Filter predicate) = false
+is_within_deed (tree.Align by) = false
+is_within_deed (tree.GroupBy names aggregates) = false
+is_within_deed (tree.Value items) = false
+is_within_deed (tree.Top most column) = false
 
 abbrev pub order_fault : DeedTree → Bool → Bool → Bool → ℕ → List TypeFault
 order_fault (tree.Every seconds) misplaced every within at = fault_where (misplaced || every) at BadOrder
@@ -124,7 +124,7 @@ abbrev pub order_faults : Bool → Bool → Bool → List OpTree → List TypeFa
 order_faults branch every within [] = []
 order_faults branch every within (op ∷ ops) =
     order_fault op.what (branch || have_steps ops) every within op.at
-    ++ order_faults branch (every || is_every op.what) (within || is_within op.what) ops
+    ++ order_faults branch (every || is_every op.what) (within || is_within_deed op.what) ops
 
 -- the same of all pipes of a query
 abbrev mutual

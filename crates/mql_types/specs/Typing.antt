@@ -26,13 +26,13 @@ use Rattle.mql_types.specs.Fetches.{fetch_columns, fetch_faults, kind_of}
 use Rattle.mql_types.specs.Filters.{condition_faults, predicate_faults}
 use Rattle.mql_types.specs.Groupings.{aggregates_over, group_columns, group_faults, listed_columns, listed_places}
 use Rattle.mql_types.specs.Groupings.{place_found}
-use Rattle.mql_types.specs.Items.{is_number, reserved_names, value_columns, value_faults}
+use Rattle.mql_types.specs.Items.{is_number_type, reserved_names, value_columns, value_faults}
 use Rattle.mql_types.specs.Levels.{higher_level, meeting_level}
 use Rattle.mql_types.specs.Nodes.{NodeTree, TypedTree, columns_of, level_of}
 use Rattle.mql_types.specs.Nodes as node
 use Rattle.mql_types.specs.Times.{every_said, pipe_order_faults, query_times, times_faults, within_said}
 use Rattle.mql_types.specs.declared.widths.Width.{Width}
-use Rattle.mql_types.specs.Widths.{delta_width, number_width, with_width}
+use Rattle.mql_types.specs.Widths.{delta_width, point_width, with_width}
 
 -- a part of a query: its tree, and the kind of its metric while its points aren't aligned
 pub record Part : Type 0 where
@@ -60,7 +60,7 @@ fetch_part held at schema metric =
 -- how wide values are once they are aligned
 abbrev pub aligned_width : Aligner → Width
 aligned_width (aligner.Delta seconds) = delta_width
-aligned_width (aligner.NextOlder seconds) = number_width
+aligned_width (aligner.NextOlder seconds) = point_width
 
 -- alignment leaves the keys, and widens the value
 abbrev pub aligned_column : Aligner → Column → Column
@@ -137,7 +137,7 @@ deed_faults every part at (tree.GroupBy names aggregates) =
     group_faults (columns_of (aligned_tree every part)) names aggregates
 deed_faults every part at (tree.Value items) = value_faults (columns_of (aligned_tree every part)) items
 deed_faults every part at (tree.Top most column) =
-    condition_faults (columns_of (aligned_tree every part)) column is_number word.Int
+    condition_faults (columns_of (aligned_tree every part)) column is_number_type word.Int
 deed_faults every part at (tree.Every seconds) = []
 deed_faults every part at (tree.Within seconds) = []
 
@@ -240,10 +240,10 @@ query_faults held query =
     pipe_order_faults false query
     ++ (times_faults (query_times query) ++ pipe_faults held (every_said (query_times query)) query)
 
-abbrev pub unless : Option TypeFault → TypedTree → Result TypedTree TypeFault
-unless None typed = Ok typed
-unless (Some fault) typed = Err fault
+abbrev pub typed_unless : Option TypeFault → TypedTree → Result TypedTree TypeFault
+typed_unless None typed = Ok typed
+typed_unless (Some fault) typed = Err fault
 
 -- the typed tree of a query, or its first fault
 unfoldable pub typing : SchemaLists → PipeTree → Result TypedTree TypeFault
-typing held query = unless (first_fault (query_faults held query)) (typed_query held query)
+typing held query = typed_unless (first_fault (query_faults held query)) (typed_query held query)

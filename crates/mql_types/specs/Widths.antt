@@ -9,8 +9,8 @@ use Rattle.mql_types.specs.declared.widths.Width.{Width}
 use Rattle.mql_types.specs.Faults.{fault_where}
 
 -- what a point or a query has
-abbrev pub number_width : Width
-number_width = record { cell = NUMBER_BITS; total = SUM_BITS }
+abbrev pub point_width : Width
+point_width = record { cell = NUMBER_BITS; total = SUM_BITS }
 
 -- a delta's sum over a window, which has as many rows as a table
 abbrev pub delta_width : Width

@@ -1,11 +1,10 @@
 // What a join and a union of two tables give.
-ghost use Rattle.std.specs.Prelude.{◌≡◌, ◌++◌, ◌∷◌, [], IfOk, OnOk, map};
+ghost use Rattle.std.specs.Prelude.{◌≡◌, ◌++◌, ◌∷◌, [], IfOk, OnOk, map, option_to_list};
 ghost use Rattle.std.specs.List.{flat_map, list_any};
 ghost use Rattle.mon_value.specs.Joins as join;
 ghost use Rattle.mql_ast.specs.NamedCells as named;
 ghost use Rattle.mql_types.specs.Branches as spec;
 ghost use Rattle.mql_types.specs.Faults.{first_with};
-ghost use Rattle.mql_types.specs.Groupings.{listed};
 ghost use Rattle.mql_types.specs.Widths as widths;
 
 use crate::faults::{Faults, TypeKind, type_word};
@@ -92,7 +91,7 @@ impl Joined {
         ensures columns { OnOk result (self.new.columns
             ≡ self.old.columns ++ spec.left_column setting.entry.schemas.now rights.now left.now ∷ []) }
         ensures common { OnOk result (self.new.common
-            ≡ self.old.common ++ listed (spec.common_column setting.entry.schemas.now rights.now left.now)) }
+            ≡ self.old.common ++ option_to_list (spec.common_column setting.entry.schemas.now rights.now left.now)) }
         ensures faults { OnOk result (found.new.first ≡ first_with found.old.first
             (spec.mismatch_faults at left.now (named.column_named left.now.name rights.now))) }
     {

@@ -2,6 +2,7 @@
 ghost use Rattle.std.specs.Prelude.{◌≡◌, ◌++◌, IfOk, OnOk, map};
 ghost use Rattle.std.specs.Option.{option_copied};
 ghost use Rattle.mon_schema.specs.Faults.{texts_repeat};
+ghost use Rattle.mon_value.specs.Columns.{column_names};
 ghost use Rattle.mql_types.specs.Fetches as spec;
 
 use crate::items::plain_column;
@@ -44,7 +45,7 @@ fn target_columns(alloc: Global, schema: &Text, fields: &[Field]) -> Result<Colu
     for (place, field) in fields.iter().enumerate() {
         let anchor = Anchor::Field {
             schema: schema.copy(alloc)?,
-            field: number_of(place)?,
+            field: column_number(place)?,
         };
         columns.push(key_column(alloc, Some(anchor), field)?)?;
     }
@@ -52,7 +53,7 @@ fn target_columns(alloc: Global, schema: &Text, fields: &[Field]) -> Result<Colu
 }
 
 /// A place as a number of 32 bits; memory for more columns than that isn't found.
-pub(crate) fn number_of(place: usize) -> Result<u32, AllocError>
+pub(crate) fn column_number(place: usize) -> Result<u32, AllocError>
     ensures number { IfOk result (λ number. number ≡ place) }
 {
     match u32::try_from(place) {
@@ -107,7 +108,7 @@ pub(crate) fn kind_of(metric: Option<&MetricSchema>) -> Kind
 /// Whether two columns have one name.
 #[tactic(auto, using(crate::proofs::ColumnNameLemmas::named_columns))]
 pub(crate) fn names_repeat(alloc: Global, columns: &[Column]) -> Result<bool, AllocError>
-    ensures repeated { IfOk result (λ repeated. repeated ≡ texts_repeat (spec.column_names columns.now)) }
+    ensures repeated { IfOk result (λ repeated. repeated ≡ texts_repeat (column_names columns.now)) }
 {
     let mut names = Taken::none(alloc);
     for column in columns {

@@ -104,7 +104,7 @@ fn tell_comparison(
 // Tells a pattern that isn't asked of a text.
 fn tell_likeness(columns: &NamedColumns<'_>, name: &Name, found: &mut Faults)
     ensures faults { found.new.first ≡ first_with found.old.first
-        (spec.condition_faults columns.now name.now spec.is_text TypeWord.Text) }
+        (spec.condition_faults columns.now name.now spec.is_text_type TypeWord.Text) }
 {
     if let Some(column) = columns.known(name, found) {
         let fits = matches!(column.of, ValueType::Text);

@@ -1,7 +1,7 @@
 // The times of a query that has a type.
 ghost use Rattle.std.specs.Prelude.{◌≡◌, ℕ, ℤ, pos, ◌≤ℤ◌, List, Ok};
 ghost use Rattle.mon_schema.specs.SchemaLists.{SchemaLists};
-ghost use Rattle.mon_value.specs.Grids.{IsLawful};
+ghost use Rattle.mon_value.specs.Grids.{IsLawfulGrid};
 ghost use Rattle.mql_ast.specs.Grammar.{Spells};
 ghost use Rattle.mql_ast.specs.Trees.{PipeTree};
 ghost use Rattle.mql_types.specs.Durations.{HasDurations};
@@ -14,5 +14,5 @@ ghost use Rattle.mql_types.specs.Typing.{typing};
 pub fn typed_grids_are_lawful()
     ensures durations { (query : PipeTree) (text : List ℕ) → Spells query text → HasDurations query }
     ensures grid { (held : SchemaLists) (query : PipeTree) (typed : TypedTree) (moment : ℤ) → HasDurations query
-        → typing held query ≡ Ok typed → pos 0 ≤ℤ moment → IsLawful (grid_of typed moment) }
+        → typing held query ≡ Ok typed → pos 0 ≤ℤ moment → IsLawfulGrid (grid_of typed moment) }
 {}

@@ -1,5 +1,5 @@
 // What `group_by` gives: the columns that it lists, as keys, and its aggregates.
-ghost use Rattle.std.specs.Prelude.{◌≡◌, ◌++◌, IfOk, OnOk, map};
+ghost use Rattle.std.specs.Prelude.{◌≡◌, ◌++◌, IfOk, OnOk, map, option_to_list};
 ghost use Rattle.mql_types.specs.Faults.{first_with};
 ghost use Rattle.mql_types.specs.Groupings as spec;
 ghost use Rattle.mql_types.specs.Items.{is_taken, name_texts, reserved_names, taken_faults, with_name, with_names};
@@ -11,7 +11,7 @@ ghost use Rattle.mql_types.specs.Nodes.{columns_of, level_of, node_tree};
 ghost use Rattle.std.specs.List.{flat_map};
 
 use crate::faults::{Faults, TypeWord};
-use crate::fetches::number_of;
+use crate::fetches::column_number;
 use crate::items::plain_column;
 use crate::levels::{Level, meeting_level};
 use crate::nodes::Node;
@@ -111,7 +111,7 @@ fn new_place<'a>(
         return Ok(None);
     }
     match columns.place(&name.text) {
-        Some(place) => Ok(Some(number_of(place)?)),
+        Some(place) => Ok(Some(column_number(place)?)),
         None => Ok(None),
     }
 }
@@ -201,8 +201,8 @@ fn push_fold(
     given: &mut Columns,
     found: &mut Faults,
 ) -> Result<(), AllocError>
-    ensures made { OnOk result (made.new ≡ made.old ++ spec.listed (spec.aggregate_of columns.now aggregate.now)) }
-    ensures given { OnOk result (given.new ≡ given.old ++ spec.listed (spec.column_made columns.now aggregate.now)) }
+    ensures made { OnOk result (made.new ≡ made.old ++ option_to_list (spec.aggregate_of columns.now aggregate.now)) }
+    ensures given { OnOk result (given.new ≡ given.old ++ option_to_list (spec.column_made columns.now aggregate.now)) }
     ensures faults { OnOk result (found.new.first
         ≡ first_with found.old.first (spec.aggregate_faults columns.now aggregate.now)) }
 {
@@ -225,7 +225,7 @@ fn push_fold(
     found.tell_unlike(takes, source.at, &column.of, wanted_word(fold));
     made.push(Aggregate {
         what: fold_kind(fold, &column.of),
-        column: number_of(place)?,
+        column: column_number(place)?,
     })?;
     let width = fold_width(fold, Width::of(column));
     given.push(plain_column(alloc, name, column.of.copy(alloc)?, width)?)

@@ -4,7 +4,7 @@ ghost use Rattle.std.specs.List.{AllByRecursion};
 ghost use Rattle.mon_value.specs.declared.grids.Grid.{Grid};
 ghost use Rattle.mon_value.specs.declared.rows.Row.{Row};
 ghost use Rattle.mon_schema.specs.Fits.{fits};
-ghost use Rattle.mon_schema.specs.HeldMetrics.{AreHeld};
+ghost use Rattle.mon_schema.specs.HeldMetrics.{AreMetricsHeld};
 ghost use Rattle.mon_schema.specs.SchemaLists.{SchemaLists};
 ghost use Rattle.mql_ast.specs.Grammar.{Spells};
 ghost use Rattle.mql_ast.specs.Trees.{PipeTree};
@@ -23,7 +23,7 @@ pub fn tables_are_within_loads()
 /// A text's query that has a type over schemas that rows fit is one of which the laws below speak.
 pub fn spelled_queries_are_typed()
     ensures typed { (held : SchemaLists) (query : PipeTree) (text : List ℕ) (typed : TypedTree) (rows : List Row)
-        → AreHeld held.metrics → Spells query text → typing held query ≡ Ok typed
+        → AreMetricsHeld held.metrics → Spells query text → typing held query ≡ Ok typed
         → AllByRecursion (λ row. fits held row ≡ true) rows → IsTyped typed rows }
 {}
 

@@ -4,7 +4,7 @@ ghost use Rattle.mql_ast.specs.Trees.{deed_tree, item_tree, op_tree, predicate_t
 ghost use Rattle.mql_types.specs.Faults.{first_with};
 ghost use Rattle.mql_types.specs.Filters.{condition_faults, predicate_faults};
 ghost use Rattle.mql_types.specs.Groupings.{place_found};
-ghost use Rattle.mql_types.specs.Items.{is_number, value_faults};
+ghost use Rattle.mql_types.specs.Items.{is_number_type, value_faults};
 ghost use Rattle.mql_types.specs.declared.faults.TypeWord.TheVariants as word;
 ghost use Rattle.mql_types.specs.Nodes as node;
 ghost use Rattle.mql_types.specs.Nodes.{columns_of, node_tree};
@@ -13,7 +13,7 @@ ghost use Rattle.mql_types.specs.Typing as spec;
 
 use crate::aligning::{align_node, aligned_tree, tell_align};
 use crate::faults::Faults;
-use crate::fetches::number_of;
+use crate::fetches::column_number;
 use crate::filters::tell_predicate;
 use crate::groupings::Grouping;
 use crate::items::value_columns;
@@ -164,7 +164,7 @@ fn top_node(
 ) -> Result<Node, AllocError>
     ensures node { IfOk result (λ made. node_tree made ≡ spec.top_node at most column.now (node_tree input)) }
     ensures faults { OnOk result (found.new.first ≡ first_with found.old.first
-        (condition_faults (columns_of (node_tree input)) column.now is_number word.Int)) }
+        (condition_faults (columns_of (node_tree input)) column.now is_number_type word.Int)) }
 {
     let place = ranked_place(alloc, input.columns(), column, found)?;
     let info = NodeInfo {
@@ -175,7 +175,7 @@ fn top_node(
     Ok(Node::Top {
         info,
         most,
-        column: number_of(place)?,
+        column: column_number(place)?,
         input: Box::new(alloc, input)?,
     })
 }
@@ -189,7 +189,7 @@ fn ranked_place(
 ) -> Result<usize, AllocError>
     ensures place { IfOk result (λ place. place ≡ unwrap_or (place_found name.now.text columns.now) 0) }
     ensures faults { OnOk result (found.new.first ≡ first_with found.old.first
-        (condition_faults columns.now name.now is_number word.Int)) }
+        (condition_faults columns.now name.now is_number_type word.Int)) }
 {
     let columns = NamedColumns::new(alloc, columns)?;
     columns.number(name, found);

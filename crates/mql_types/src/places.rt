@@ -1,13 +1,13 @@
 // Columns by their names.
-ghost use Rattle.std.specs.Prelude.{◌≡◌, ◌++◌, IfOk, OnOk};
+ghost use Rattle.std.specs.Prelude.{◌≡◌, ◌++◌, IfOk, OnOk, option_to_list};
 ghost use Rattle.std.specs.Option.{option_copied};
 ghost use Rattle.mon_value.specs.Joins as join;
 ghost use Rattle.mql_ast.specs.NamedCells as named;
 ghost use Rattle.mql_ast.specs.Trees as tree;
 ghost use Rattle.mql_types.specs.Faults.{first_with};
 ghost use Rattle.mql_types.specs.Filters.{condition_faults, unknown_faults};
-ghost use Rattle.mql_types.specs.Groupings.{listed, place_found};
-ghost use Rattle.mql_types.specs.Items.{is_number, sum_width};
+ghost use Rattle.mql_types.specs.Groupings.{place_found};
+ghost use Rattle.mql_types.specs.Items.{is_number_type, sum_width};
 ghost use Rattle.mql_types.specs.NamedPlaces.{AddsPlace};
 
 use crate::faults::{Faults, TypeKind, TypeWord};
@@ -90,7 +90,7 @@ impl<'a> NamedColumns<'a> {
     pub(crate) fn number(&self, name: &Name, found: &mut Faults) -> Option<Width>
         ensures width { result ≡ sum_width self.now (tree.Column name.now) }
         ensures faults { found.new.first
-            ≡ first_with found.old.first (condition_faults self.now name.now is_number TypeWord.Int) }
+            ≡ first_with found.old.first (condition_faults self.now name.now is_number_type TypeWord.Int) }
     {
         let Some(column) = self.known(name, found) else {
             return None;
@@ -121,7 +121,7 @@ fn add_place<'a>(
 
 /// Adds an item, where there is one.
 pub(crate) fn push_some<T: Drop>(items: &mut ListOf<T>, item: Option<T>) -> Result<(), AllocError>
-    ensures added { OnOk result (items.new ≡ items.old ++ listed item) }
+    ensures added { OnOk result (items.new ≡ items.old ++ option_to_list item) }
 {
     match item {
         Some(item) => items.push(item),

@@ -4,7 +4,7 @@ ghost use Rattle.mql_ast.specs.NamedCells.{column_named};
 ghost use Rattle.mql_ast.specs.Trees.{sum_tree};
 ghost use Rattle.mql_types.specs.Faults.{first_with};
 ghost use Rattle.mql_types.specs.Items as spec;
-ghost use Rattle.mql_types.specs.OperandLinks.{link, linked, linked_nodes, seen, seen_sum};
+ghost use Rattle.mql_types.specs.OperandLinks.{link, operand_links, linked_nodes, seen_operand, seen_sum};
 ghost use Rattle.mql_ast.specs.SumParts.{nodes};
 
 use crate::faults::{Faults, TypeKind, TypeWord, type_word};
@@ -56,8 +56,9 @@ fn first_term<'a>(
     sum: &'a Expr,
     found: &mut Faults,
 ) -> Result<Operand, AllocError>
-    ensures operand { IfOk result (λ first. linked columns.now links.new.items (seen first found.new.first)
-        ≡ linked columns.now links.old.items (seen_sum columns.now (sum_tree sum.now) found.old.first)) }
+    ensures operand { IfOk result
+        (λ first. operand_links columns.now links.new.items (seen_operand first found.new.first)
+        ≡ operand_links columns.now links.old.items (seen_sum columns.now (sum_tree sum.now) found.old.first)) }
     ensures nodes { OnOk result (linked_nodes links.new.items < linked_nodes links.old.items + nodes sum.now) }
 {
     let mut first = sum;
@@ -93,8 +94,8 @@ fn gone_on(
     right: &Expr,
     found: &mut Faults,
 ) -> Result<Operand, AllocError>
-    ensures operand { IfOk result (λ made. seen made found.new.first
-        ≡ link columns.now (sum_tree right.now) (seen left found.old.first)) }
+    ensures operand { IfOk result (λ made. seen_operand made found.new.first
+        ≡ link columns.now (sum_tree right.now) (seen_operand left found.old.first)) }
 {
     let right = sum_operand(alloc, columns, right, found)?;
     Ok(together(left, right, found))
@@ -121,7 +122,7 @@ fn together(left: Operand, right: Operand, found: &mut Faults) -> Operand
 
 // A number of a query, or a percentile.
 fn a_number(at: u32) -> Operand
-    ensures operand { result ≡ spec.number_at at }
+    ensures operand { result ≡ spec.number_operand at }
 {
     Operand {
         at,

@@ -85,7 +85,7 @@ impl Times {
                 self.at = self.at.or(Some(op.at));
             }
             OpKind::Align(by) => {
-                self.longest = Some(longer(self.longest, seconds_of(*by)));
+                self.longest = Some(longer_duration(self.longest, seconds_of(*by)));
             }
             OpKind::Filter(_) | OpKind::GroupBy(..) | OpKind::Value(_) | OpKind::Top(..) => {}
         }
@@ -95,8 +95,8 @@ impl Times {
 // The most times that a table has.
 const MOST_TIMES: i128 = 10_000;
 
-fn longer(most: Option<i64>, seconds: i64) -> i64
-    ensures longer { Some result ≡ spec.longer most seconds }
+fn longer_duration(most: Option<i64>, seconds: i64) -> i64
+    ensures longer { Some result ≡ spec.longer_duration most seconds }
 {
     match most {
         Some(most) => max(most, seconds),
@@ -191,7 +191,7 @@ impl Stood {
     // Tells an `every` or `within` that is misplaced or stood before.
     fn tell_op(&mut self, misplaced: bool, op: &Op, found: &mut Faults)
         ensures every { self.new.every ≡ (self.old.every || spec.is_every (deed_tree op.now.what)) }
-        ensures within { self.new.within ≡ (self.old.within || spec.is_within (deed_tree op.now.what)) }
+        ensures within { self.new.within ≡ (self.old.within || spec.is_within_deed (deed_tree op.now.what)) }
         ensures faults { found.new.first ≡ first_with found.old.first
             (spec.order_fault (deed_tree op.now.what) misplaced self.old.every self.old.within op.now.at) }
     {

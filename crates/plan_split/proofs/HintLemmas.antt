@@ -22,7 +22,8 @@ use Rattle.mon_hints.specs.Fingerprints.{bucket_of}
 use Rattle.mon_hints.specs.Hints.{field_buckets, metric_bucket, series_buckets, value_buckets}
 use Rattle.mon_hints.specs.Listings.{AreAmong, is_among}
 use Rattle.mql_ast.specs.NamedCells.{cell_named, place_of}
-use Rattle.mql_types.specs.Fetches.{column_names, columns_fetched, key_column, target_columns, value_column}
+use Rattle.mon_value.specs.Columns.{column_names}
+use Rattle.mql_types.specs.Fetches.{columns_fetched, key_column, target_columns, value_column}
 use Rattle.mql_types.specs.Loads.{series_cells}
 use Rattle.plan_split.specs.Promises.{HasFields}
 

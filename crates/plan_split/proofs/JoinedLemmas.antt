@@ -10,11 +10,11 @@ use Rattle.mon_hints.specs.Formulas.{FormulaTree, All, Bucket, And, Or, FormulaT
 use Rattle.mon_hints.specs.Formulas.{any_holds, formulas, formula_tree, holds}
 use Rattle.mon_hints.specs.declared.formulas.Formula.{Formula}
 use Rattle.mon_hints.specs.declared.formulas.Formula.TheVariants as formula
-use Rattle.plan_split.specs.JoinedFormulas.{all_of, both, choices, is_all, listed, one_of, wanted}
+use Rattle.plan_split.specs.JoinedFormulas.{all_of, both, choices, is_all, formula_list, one_of, wanted_formulas}
 
-pub listed-formulas : (trees : List FormulaTree) → listed (formulas trees) ≡ trees
-listed-formulas [] = refl
-listed-formulas (tree ∷ trees) = ap (λ rest. tree ∷ rest) (listed-formulas trees)
+pub formula_list-formulas : (trees : List FormulaTree) → formula_list (formulas trees) ≡ trees
+formula_list-formulas [] = refl
+formula_list-formulas (tree ∷ trees) = ap (λ rest. tree ∷ rest) (formula_list-formulas trees)
 
 -- ---- what holds
 
@@ -36,11 +36,13 @@ or_true : (b : Bool) → (b || true) ≡ true
 or_true true = refl
 or_true false = refl
 
-each_listed : (buckets : List ℕ) (trees : FormulaTrees) → each_holds buckets (listed trees) ≡ all_hold trees buckets
+each_listed : (buckets : List ℕ) (trees : FormulaTrees) → each_holds buckets (formula_list trees)
+    ≡ all_hold trees buckets
 each_listed buckets NoFormula = refl
 each_listed buckets (Then tree trees) = ap (λ b. holds tree buckets && b) (each_listed buckets trees)
 
-some_listed : (buckets : List ℕ) (trees : FormulaTrees) → some_holds buckets (listed trees) ≡ any_holds trees buckets
+some_listed : (buckets : List ℕ) (trees : FormulaTrees) → some_holds buckets (formula_list trees)
+    ≡ any_holds trees buckets
 some_listed buckets NoFormula = refl
 some_listed buckets (Then tree trees) = ap (λ b. holds tree buckets || b) (some_listed buckets trees)
 
@@ -59,7 +61,7 @@ pub holds-all_of : (buckets : List ℕ) (trees : List FormulaTree)
 holds-all_of buckets [] = refl
 holds-all_of buckets (tree ∷ trees) = all_hold-formulas buckets (tree ∷ trees)
 
-holds-wanted : (buckets : List ℕ) (tree : FormulaTree) → each_holds buckets (wanted tree) ≡ holds tree buckets
+holds-wanted : (buckets : List ℕ) (tree : FormulaTree) → each_holds buckets (wanted_formulas tree) ≡ holds tree buckets
 holds-wanted buckets All = refl
 holds-wanted buckets (Bucket bucket) = and_true (holds (Bucket bucket) buckets)
 holds-wanted buckets (And all) = each_listed buckets all
@@ -74,9 +76,9 @@ holds-choices buckets (Or any) = some_listed buckets any
 pub holds-both : (buckets : List ℕ) (left right : FormulaTree)
     → holds (both left right) buckets ≡ (holds left buckets && holds right buckets)
 holds-both buckets left right =
-    holds-all_of buckets (wanted left ++ wanted right)
-    ∙ list_all-append (λ tree. holds tree buckets) (wanted left) (wanted right)
-    ∙ ap (λ b. b && each_holds buckets (wanted right)) (holds-wanted buckets left)
+    holds-all_of buckets (wanted_formulas left ++ wanted_formulas right)
+    ∙ list_all-append (λ tree. holds tree buckets) (wanted_formulas left) (wanted_formulas right)
+    ∙ ap (λ b. b && each_holds buckets (wanted_formulas right)) (holds-wanted buckets left)
     ∙ ap (λ b. holds left buckets && b) (holds-wanted buckets right)
 
 chosen : (buckets : List ℕ) (left right : FormulaTree)
@@ -105,11 +107,12 @@ holds-one_of buckets (Or any) (Or others) = chosen buckets (Or any) (Or others)
 
 -- ---- in memory
 
-pub wanted-And : (all : Vec Formula Global) → map formula_tree all.items ≡ wanted (formula_tree (formula.And all))
-wanted-And all = sym (ap wanted (and_tree all) ∙ listed-formulas (map formula_tree all.items))
+pub wanted_formulas-And : (all : Vec Formula Global) → map formula_tree all.items
+    ≡ wanted_formulas (formula_tree (formula.And all))
+wanted_formulas-And all = sym (ap wanted_formulas (and_tree all) ∙ formula_list-formulas (map formula_tree all.items))
 
 pub choices-Or : (any : Vec Formula Global) → map formula_tree any.items ≡ choices (formula_tree (formula.Or any))
-choices-Or any = sym (ap choices (or_tree any) ∙ listed-formulas (map formula_tree any.items))
+choices-Or any = sym (ap choices (or_tree any) ∙ formula_list-formulas (map formula_tree any.items))
 
 pub and-all_of : (all : List Formula) → (all ≡ [] → ⊥)
     → And (formulas (map formula_tree all)) ≡ all_of (map formula_tree all)

@@ -2,9 +2,9 @@
 use Rattle.std.specs.Prelude.{Bool, true, false, ◌||◌, List, [], ◌∷◌, ◌++◌, if◌then◌else◌}
 use Rattle.mon_hints.specs.Formulas.{FormulaTree, All, Bucket, And, Or, FormulaTrees, NoFormula, Then, formulas}
 
-abbrev pub listed : FormulaTrees → List FormulaTree
-listed NoFormula = []
-listed (Then tree trees) = tree ∷ listed trees
+abbrev pub formula_list : FormulaTrees → List FormulaTree
+formula_list NoFormula = []
+formula_list (Then tree trees) = tree ∷ formula_list trees
 
 -- all of some formulas; of none it is `All`
 abbrev pub all_of : List FormulaTree → FormulaTree
@@ -12,18 +12,18 @@ all_of [] = All
 all_of (tree ∷ trees) = And (formulas (tree ∷ trees))
 
 -- the formulas of which a formula wants all
-abbrev pub wanted : FormulaTree → List FormulaTree
-wanted All = []
-wanted (Bucket bucket) = Bucket bucket ∷ []
-wanted (And all) = listed all
-wanted (Or any) = Or any ∷ []
+abbrev pub wanted_formulas : FormulaTree → List FormulaTree
+wanted_formulas All = []
+wanted_formulas (Bucket bucket) = Bucket bucket ∷ []
+wanted_formulas (And all) = formula_list all
+wanted_formulas (Or any) = Or any ∷ []
 
 -- the formulas of which a formula wants one
 abbrev pub choices : FormulaTree → List FormulaTree
 choices All = All ∷ []
 choices (Bucket bucket) = Bucket bucket ∷ []
 choices (And all) = And all ∷ []
-choices (Or any) = listed any
+choices (Or any) = formula_list any
 
 abbrev pub is_all : FormulaTree → Bool
 is_all All = true
@@ -33,7 +33,7 @@ is_all (Or any) = false
 
 -- both of two formulas
 abbrev pub both : FormulaTree → FormulaTree → FormulaTree
-both left right = all_of (wanted left ++ wanted right)
+both left right = all_of (wanted_formulas left ++ wanted_formulas right)
 
 -- one of two formulas at least; `All` where one of them is
 abbrev pub one_of : FormulaTree → FormulaTree → FormulaTree

@@ -39,7 +39,7 @@ pub(crate) fn one_of(alloc: Global, left: Formula, right: Formula) -> Result<For
 
 // The formulas of which a formula wants all.
 fn wanted(alloc: Global, formula: Formula) -> Result<Vec<Formula>, OutOfMemory>
-    ensures trees { IfOk result (λ wanted. map formula_tree wanted.items ≡ spec.wanted (formula_tree formula)) }
+    ensures trees { IfOk result (λ wanted. map formula_tree wanted.items ≡ spec.wanted_formulas (formula_tree formula)) }
 {
     match formula {
         Formula::All => Ok(Vec::new(alloc)),

@@ -24,9 +24,13 @@ use Rattle.mon_value.specs.declared.positions.SlotLeaf.{SlotLeaf}
 use Rattle.mon_value.specs.declared.rows.Row.{Row}
 use Rattle.mon_schema.specs.SchemaLists.{SchemaLists}
 use Rattle.mon_topo.proofs.RangeHistoryLemmas.{AreNumbered, IsLegal-push, all_append, all_on, get_there, numbered}
-use Rattle.mon_topo.specs.HeldHistories.{Histories, IsBorneOut, leaf_history}
+use Rattle.mon_value.specs.Histories.{leaf_history}
+use Rattle.mon_value.specs.declared.histories.Histories.{Histories}
+use Rattle.mon_topo.specs.HeldHistories.{IsBorneOut}
 use Rattle.mon_topo.specs.RangeHistories as spec
-use Rattle.mon_topo.specs.RangeHistories.{acked, acked_row, is_missed, opened, same_slot, serving, serving_after, times}
+use Rattle.mon_value.specs.Positions.{same_slot}
+use Rattle.mon_topo.specs.RangeHistories.{acknowledged_rows, acked_row, is_missed, opened_slots, serving}
+use Rattle.mon_topo.specs.RangeHistories.{serving_after, times}
 use Rattle.mon_topo.specs.Replicas.{HasReplicas}
 use Rattle.mon_topo.specs.Zones.{first_replicas}
 use Rattle.mon_topo.specs.declared.zones.ZoneSpec.{ZoneSpec}
@@ -194,23 +198,25 @@ module _ (zones : List ZoneSpec) (seen : Histories) (r : Range) where
   pub record HasRows (history : List RangeEntry) (replica : SlotLeaf) : Type 0 where
     pub zoned : spec.IsInZoneOf zones r replica.leaf
     pub opened : is_opened r replica.slot (leaf_history seen replica.leaf) ≡ true
-    pub rows : All (Contains (replica_rows r replica.slot (leaf_history seen replica.leaf))) (acked history)
+    pub rows : All (Contains (replica_rows r replica.slot (leaf_history seen replica.leaf))) (acknowledged_rows history)
 
   abbrev ServeAll : List RangeEntry → Type 0
   ServeAll history = All (HasRows history) (serving history)
 
-  acked_more : (history : List RangeEntry) (e : RangeEntry) → acked (history ++ e ∷ []) ≡ acked history
+  acked_more : (history : List RangeEntry) (e : RangeEntry) → acknowledged_rows (history ++ e ∷ [])
+      ≡ acknowledged_rows history
       ++ (acked_row e ++ [])
   acked_more history e = flat_map-append acked_row history (e ∷ [])
 
   opened_step : (history : List RangeEntry) (pass : ℕ) (slot : Slot) (leaf : Leaf) → ServeAll history
-      → Contains (leaf_history seen leaf) (entry.Opened pass r slot (acked history))
+      → Contains (leaf_history seen leaf) (entry.Opened pass r slot (acknowledged_rows history))
       → (whose : ℕ) → spec.IsInZoneOf zones r leaf → ServeAll (history ++ range_entry.Opened whose slot leaf ∷ [])
   opened_step history pass slot leaf all there whose zoned =
       let replica : SlotLeaf = record { slot = slot; leaf = leaf } in
       let more = history ++ range_entry.Opened whose slot leaf ∷ [] in
-      let same : acked more ≡ acked history = acked_more history (range_entry.Opened whose slot leaf)
-      ∙ append-nil (acked history) in
+      let same : acknowledged_rows more
+      ≡ acknowledged_rows history = acked_more history (range_entry.Opened whose slot leaf)
+      ∙ append-nil (acknowledged_rows history) in
       let to : (one : SlotLeaf) → HasRows history one → HasRows more one = λ one has. record {
         zoned = has.zoned;
         opened = has.opened;
@@ -218,18 +224,18 @@ module _ (zones : List ZoneSpec) (seen : Histories) (r : Range) where
       } in
       let new : HasRows history replica = record {
         zoned = zoned;
-        opened = opened_there r slot pass (acked history) (leaf_history seen leaf) there;
-        rows = rows_opened r slot pass (acked history) (leaf_history seen leaf) there;
+        opened = opened_there r slot pass (acknowledged_rows history) (leaf_history seen leaf) there;
+        rows = rows_opened r slot pass (acknowledged_rows history) (leaf_history seen leaf) there;
       } in
       subst (All (HasRows more)) (sym (serving_more [] history (range_entry.Opened whose slot leaf ∷ [])))
       (all_on (HasRows history) (HasRows more) to (serving history ++ replica ∷ [])
       (all_append (HasRows history) (serving history) (replica ∷ []) all (new, record {})))
 
   module _ (history : List RangeEntry) (pass : ℕ) (row : Row) (ack : Ack) (is : spec.IsAckOf r (serving history) ack)
-      (put : (replica : SlotLeaf) → Contains (opened history) replica → Contains ack.took replica.slot
+      (put : (replica : SlotLeaf) → Contains (opened_slots history) replica → Contains ack.took replica.slot
       → Contains (leaf_history seen replica.leaf) (entry.Put pass ack.range replica.slot row)) where
     taken_by : (replica : SlotLeaf) (replicas : List SlotLeaf) (b : Bool) → is_missed ack.missed replica ≡ b
-        → HasRows history replica → Contains (opened history) replica → Contains (serving history) replica
+        → HasRows history replica → Contains (opened_slots history) replica → Contains (serving history) replica
         → All (HasRows (history ++ range_entry.Acked pass row ack ∷ [])) replicas
         → All (HasRows (history ++ range_entry.Acked pass row ack ∷ [])) (cond (not b) (replica ∷ replicas) replicas)
     taken_by replica replicas true e has known serves rest = rest
@@ -243,12 +249,13 @@ module _ (zones : List ZoneSpec) (seen : Histories) (r : Range) where
             zoned = has.zoned;
             opened = has.opened;
             rows = subst (All (Contains own)) (sym (acked_more history (range_entry.Acked pass row ack)))
-                (all_append (Contains own) (acked history) (row ∷ []) has.rows (here, record {}));
+                (all_append (Contains own) (acknowledged_rows history) (row ∷ []) has.rows (here, record {}));
           },
           rest,
         )
 
-    taken_all : (replicas : List SlotLeaf) → All (HasRows history) replicas → All (Contains (opened history)) replicas
+    taken_all : (replicas : List SlotLeaf) → All (HasRows history) replicas
+        → All (Contains (opened_slots history)) replicas
         → All (Contains (serving history)) replicas
         → All (HasRows (history ++ range_entry.Acked pass row ack ∷ []))
         (filter (λ replica. not (is_missed ack.missed replica)) replicas)
@@ -278,14 +285,14 @@ module _ (zones : List ZoneSpec) (seen : Histories) (r : Range) where
     one_step history (range_entry.Opened pass slot leaf) more legal may all out =
         opened_step history out.pass slot leaf all
         (subst (λ (front : List RangeEntry). Contains (leaf_history seen leaf)
-        (entry.Opened out.pass r slot (acked front)))
+        (entry.Opened out.pass r slot (acknowledged_rows front)))
         (take_at history (range_entry.Opened pass slot leaf ∷ more) (length history) refl) out.entered) pass
         (placed_by slot.0 leaf (cases_lt slot.0 (length (first_replicas zones r.0))) (serving history) may.2)
     one_step history (range_entry.Acked pass row ack) more legal may all out =
         let front = take_at history (range_entry.Acked pass row ack ∷ more) (length history) refl in
         acked_step history pass row ack may.0
         (λ replica known took. (out.0 replica
-        (subst (λ (fore : List RangeEntry). Contains (opened fore) replica) (sym front) known) took).put)
+        (subst (λ (fore : List RangeEntry). Contains (opened_slots fore) replica) (sym front) known) took).put)
         all (numbered held zones points r history legal)
 
     abbrev BornOut : List RangeEntry → Type 0

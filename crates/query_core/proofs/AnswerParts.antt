@@ -3,7 +3,8 @@ use Rattle.std.proofs.Common.{◌≡◌, ◌∙◌, ◌<◌, ◌+◌, inl, ℕ, 
 use Rattle.std.proofs.Common.{get_or, refl, ap, subst, arith}
 use Rattle.std.proofs.lemmas.List.{length-set}
 use Rattle.mon_meaning.specs.LeafAnswers.{IsOverLeaf}
-use Rattle.mon_topo.specs.HeldHistories.{Histories, leaf_history}
+use Rattle.mon_value.specs.Histories.{leaf_history}
+use Rattle.mon_value.specs.declared.histories.Histories.{Histories}
 use Rattle.mon_topo.specs.SeenHistories.{AreWithin}
 use Rattle.mon_topo.specs.Settings.{Setting as Store}
 use Rattle.mon_value.specs.declared.positions.Leaf.{Leaf}
@@ -21,7 +22,7 @@ use Rattle.query_core.specs.declared.stages.Stage.TheVariants as at
 use Rattle.query_core.specs.Areas.{areas_of, has_leaf, leaf_at}
 use Rattle.query_core.specs.Courses.{trace_of, with_found}
 use Rattle.query_core.specs.Loadings.{is_whole, with_word}
-use Rattle.query_core.specs.Looks.{read_at, unread}
+use Rattle.query_core.specs.Looks.{read_at, unread_look}
 use Rattle.query_core.specs.Machine.{slots_in, slots_visited}
 use Rattle.query_core.specs.Mixtures.{typed_of}
 use Rattle.query_core.specs.Program as spec
@@ -32,7 +33,7 @@ use Rattle.query_core.specs.Sessions.{View}
 use Rattle.query_core.specs.Settings.{Setting}
 use Rattle.query_core.specs.Traces.{slot_rows}
 use Rattle.query_core.specs.Visits as visit
-use Rattle.query_core.specs.Visits.{Visits, looked}
+use Rattle.query_core.specs.Visits.{Visits, with_look}
 use Rattle.query_core.proofs.RoundLemmas.{has_at}
 use Rattle.query_core.proofs.SegmentFacts.{SeenSo, seen_so}
 use Rattle.query_core.proofs.StageLemmas.{slots_here}
@@ -53,12 +54,12 @@ module _ (store : Store) (setting : Setting) (moment : ℤ) where
       → VisitSo store setting moment now round visits leaf
       → IsOverLeaf (typed_of setting) (slot_rows (take cut (leaf_history now leaf)) (slots_in round leaf)) moment
       setting.limit (record { load = over })
-      → LeafOver store setting moment now (trace_of (with_zone course round (looked visits leaf (unread cut))))
+      → LeafOver store setting moment now (trace_of (with_zone course round (with_look visits leaf (unread_look cut))))
   over_so now course round visits leaf over cut inside whole so is =
       let all = so.visits_so in
-      let looks = (looked visits leaf (unread cut)).looks in
-      let same : looks ≡ set visits.looks so.place (unread cut) =
-      looks_at store setting moment round visits leaf so.place (unread cut) all.first so.is in
+      let looks = (with_look visits leaf (unread_look cut)).looks in
+      let same : looks ≡ set visits.looks so.place (unread_look cut) =
+      looks_at store setting moment round visits leaf so.place (unread_look cut) all.first so.is in
       let here : has_leaf round.area leaf ≡ true =
       has_at round.area leaf so.place so.there (ap (λ (leaf : Leaf). leaf.0) so.is) in
       let rows : slot_rows (take cut (leaf_history now leaf)) (slots_in round leaf)
@@ -75,7 +76,7 @@ module _ (store : Store) (setting : Setting) (moment : ℤ) where
         whole = record {
           ranges = whole.ranges;
           all_ranges = whole.all;
-          all_leaves = ap length same ∙ length-set visits.looks so.place (unread cut) ∙ all.count;
+          all_leaves = ap length same ∙ length-set visits.looks so.place (unread_look cut) ∙ all.count;
         };
         parts = visits.answers;
         parts_so = (unread_so store setting moment now round visits leaf cut so).parts;
@@ -84,7 +85,7 @@ module _ (store : Store) (setting : Setting) (moment : ℤ) where
         there = so.there;
         cut = cut;
         told = ap (λ (some : List Look). get_or (map (λ (look : Look). look.cut) some) so.place 0) same
-            ∙ get_set visits.looks so.place (unread cut) (omega (arith, so.there, all.count));
+            ∙ get_set visits.looks so.place (unread_look cut) (omega (arith, so.there, all.count));
         over = record { load = over };
         is = subst (λ (some : List Row). IsOverLeaf (typed_of setting) some moment setting.limit
             (record { load = over }))
@@ -162,14 +163,15 @@ module _ (store : Store) (setting : Setting) (moment : ℤ) (Tells : Histories �
       (nothing_resolved store setting moment (round_of round.area) refl)
   answer_parts (at.Visiting course round visits leaf) (told.Unread cut) so is =
       let visit_now = visit_then round visits leaf so.2 in
-      visiting_so store setting moment Tells after.seen course round (looked visits leaf (unread cut)) (visit_now.place
+      visiting_so store setting moment Tells after.seen course round (with_look visits leaf (unread_look cut))
+      (visit_now.place
       + 1)
       (unread_so store setting moment after.seen round visits leaf cut visit_now)
       (inside_then course round.area so.0) so.1
   answer_parts (at.Visiting course round visits leaf) (told.Read cut answer) so is =
       let visit_now = visit_then round visits leaf so.2 in
       visiting_so store setting moment Tells after.seen course round
-      (visit.kept (looked visits leaf (read_at cut answer.sent)) answer) (visit_now.place + 1)
+      (visit.with_leaf_answer (with_look visits leaf (read_at cut answer.sent)) answer) (visit_now.place + 1)
       (read_so store setting moment after.seen round visits leaf cut answer visit_now is.0.between.to is.2)
       (inside_then course round.area so.0) so.1
   answer_parts (at.Visiting course round visits leaf) (told.Over load cut) so is = (

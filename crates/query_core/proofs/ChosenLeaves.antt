@@ -8,8 +8,8 @@ use Rattle.std.proofs.lemmas.List.{length-append}
 use Rattle.std.proofs.lemmas.List.Folds.{list_any-append}
 use Rattle.mon_topo.proofs.PartLemmas.{IsPart, length-zones_of, part_at, zone_of_part}
 use Rattle.mon_topo.specs.RangeHistories.{IsInZoneOf}
-use Rattle.mon_topo.specs.Replicas.{same_leaf}
-use Rattle.mon_topo.specs.Zones.{first_leaf, first_range, leaf_zones, no_zone, range_zones, zone_at, zone_numbered}
+use Rattle.mon_value.specs.Positions.{same_leaf, zone_numbered}
+use Rattle.mon_topo.specs.Zones.{first_leaf, first_range, leaf_zones, no_zone, range_zones, zone_at}
 use Rattle.mon_topo.specs.declared.zones.ZoneSpec.{ZoneSpec}
 use Rattle.mon_value.specs.declared.positions.Leaf.{Leaf}
 use Rattle.mon_value.specs.declared.positions.Range.{Range}

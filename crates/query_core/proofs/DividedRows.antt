@@ -23,8 +23,8 @@ use Rattle.mon_schema.specs.SchemaLists.{SchemaLists}
 use Rattle.mon_topo.specs.HeldHistories.{IsAtHome}
 use Rattle.mon_topo.specs.Locations.{location_of, range_for}
 use Rattle.mon_topo.specs.RangeHistories.{IsInZoneOf}
-use Rattle.mon_topo.specs.Replicas.{same_leaf}
-use Rattle.mon_topo.specs.Zones.{leaf_zones, zone_numbered, zone_of}
+use Rattle.mon_value.specs.Positions.{same_leaf, zone_numbered}
+use Rattle.mon_topo.specs.Zones.{leaf_zones, zone_of}
 use Rattle.mon_topo.specs.declared.zones.ZoneSpec.{ZoneSpec}
 use Rattle.mixer.specs.Divisions.{AreApart, ShareNoLocation, ShareNoTarget, all_rows, has_location, has_target}
 use Rattle.mixer.specs.Divisions.{together}

@@ -8,11 +8,12 @@ use Rattle.std.proofs.lemmas.List.{map-append}
 use Rattle.mon_topo.proofs.FrontLemmas.{begins_length, take_on}
 use Rattle.mon_topo.proofs.HeldLemmas.{down_on, leaf_same}
 use Rattle.mon_topo.proofs.RangeHistoryLemmas.{all_append}
-use Rattle.mon_topo.specs.HeldHistories.{Histories, leaf_history, range_history}
+use Rattle.mon_value.specs.Histories.{leaf_history, range_history}
+use Rattle.mon_value.specs.declared.histories.Histories.{Histories}
 use Rattle.mon_topo.specs.RangeHistories.{serving}
-use Rattle.mon_topo.specs.Replicas.{same_leaf}
 use Rattle.mon_topo.specs.SeenHistories.{AreWithin}
-use Rattle.mon_topo.specs.Zones.{range_zones, zone_numbered}
+use Rattle.mon_value.specs.Positions.{same_leaf, zone_numbered}
+use Rattle.mon_topo.specs.Zones.{range_zones}
 use Rattle.mon_topo.specs.declared.zones.ZoneSpec.{ZoneSpec}
 use Rattle.mon_value.specs.declared.histories.RangeEntry.{RangeEntry}
 use Rattle.mon_value.specs.declared.positions.FoundDown.{FoundDown}

@@ -26,10 +26,10 @@ use Rattle.query_core.specs.declared.stages.Stage.{Stage}
 use Rattle.query_core.specs.declared.stages.Stage.TheVariants as at
 use Rattle.query_core.specs.declared.stages.Turn.{Turn}
 use Rattle.query_core.specs.declared.stages.Turn.TheVariants as turn
-use Rattle.query_core.specs.Courses.{begun, is_entered, kept, left, trace_of}
+use Rattle.query_core.specs.Courses.{with_next_zone, is_entered, with_zone_answer, left, trace_of}
 use Rattle.query_core.specs.Loadings.{no_word}
 use Rattle.query_core.specs.Mixtures.{HasParts, IsRootMixed, IsZoneMixed, MayMixRoot, TurnSettles, root_stage, typed_of}
-use Rattle.query_core.specs.Program.{next_zone, stopped}
+use Rattle.query_core.specs.Program.{next_zone, stopped_stage}
 use Rattle.query_core.specs.Rounds.{round_of}
 use Rattle.query_core.specs.Settings.{Setting}
 
@@ -117,9 +117,9 @@ module _ (setting : Setting) where
   -- ---- the way to the next zone leaves the answers as they are
 
   enters : (course : Course) (area : Area) (areas : List Area) (enter : Bool)
-      → MayMixRoot setting (next_zone areas (left (begun course) area course.seen))
-      → MayMixRoot setting (cond enter (turn.Goes (at.Entering (begun course) (round_of area) no_word))
-      (next_zone areas (left (begun course) area course.seen)))
+      → MayMixRoot setting (next_zone areas (left (with_next_zone course) area course.seen))
+      → MayMixRoot setting (cond enter (turn.Goes (at.Entering (with_next_zone course) (round_of area) no_word))
+      (next_zone areas (left (with_next_zone course) area course.seen)))
   enters course area areas true later = record {}
   enters course area areas false later = later
 
@@ -127,16 +127,17 @@ module _ (setting : Setting) where
       → HasZoneParts (typed_of setting) setting.limit course.answers → MayMixRoot setting (next_zone areas course)
   next_mixes [] course has = has
   next_mixes (area ∷ areas) course has =
-      enters course area areas (is_entered course) (next_mixes areas (left (begun course) area course.seen) has)
+      enters course area areas (is_entered course)
+      (next_mixes areas (left (with_next_zone course) area course.seen) has)
 
   -- once a zone's answers are mixed, those of all zones can be
   pub mixes_on : (course : Course) (parts : List LeafAnswer) (answer : ZoneAnswer)
       (result : Result ZoneAnswer (Refusal OverLimit)) (has : HasParts setting course.answers parts)
       → result ≡ Ok answer
       → IsZoneAnswer (typed_of setting) has.leaves has.moment setting.limit result
-      → MayMixRoot setting (next_zone (drop course.begun setting.areas) (kept course answer))
+      → MayMixRoot setting (next_zone (drop course.begun setting.areas) (with_zone_answer course answer))
   mixes_on course parts answer result has is given =
-      next_mixes (drop course.begun setting.areas) (kept course answer)
+      next_mixes (drop course.begun setting.areas) (with_zone_answer course answer)
       (zone_more course.answers parts answer has (zone_part has.leaves has.moment result answer is given))
 
 -- ---- what a plan and a limit are handed to, where they are those of the setting
@@ -185,7 +186,7 @@ module _ (setting : Setting) (plan : Plan) (limit : ℕ) (same_plan : plan ≡ s
   pub goes_on : (course : Course) (parts : List LeafAnswer) (result : Result ZoneAnswer (Refusal OverLimit))
       (answer : ZoneAnswer) → result ≡ Ok answer → HasParts setting course.answers parts
       → MixesLeaves (typed_tree plan.typed) limit parts result
-      → MayMixRoot setting (next_zone (drop course.begun setting.areas) (kept course answer))
+      → MayMixRoot setting (next_zone (drop course.begun setting.areas) (with_zone_answer course answer))
   goes_on course parts result answer is has mixes =
       mixes_on setting course parts answer result has is
       (leaves_mixed parts result mixes has.leaves has.moment (leaf_parts setting course.answers parts has))
@@ -193,7 +194,7 @@ module _ (setting : Setting) (plan : Plan) (limit : ℕ) (same_plan : plan ≡ s
   pub zone_is_mixed : (course : Course) (parts : List LeafAnswer) (result : Result ZoneAnswer (Refusal OverLimit))
       (answer : ZoneAnswer) (stage : Stage) → result ≡ Ok answer
       → MixesLeaves (typed_tree plan.typed) limit parts result
-      → TurnSettles setting (next_zone (drop course.begun setting.areas) (kept course answer)) stage
+      → TurnSettles setting (next_zone (drop course.begun setting.areas) (with_zone_answer course answer)) stage
       → IsZoneMixed setting course parts stage
   zone_is_mixed course parts result answer stage is mixes settles = record {
     mixed = Ok answer;
@@ -208,7 +209,7 @@ module _ (setting : Setting) (plan : Plan) (limit : ℕ) (same_plan : plan ≡ s
   pub zone_is_over : (course : Course) (parts : List LeafAnswer) (result : Result ZoneAnswer (Refusal OverLimit))
       (over : OverLimit) (stage : Stage) → result ≡ Err (refusal.Fault over)
       → MixesLeaves (typed_tree plan.typed) limit parts result
-      → stage ≡ stopped setting course → IsZoneMixed setting course parts stage
+      → stage ≡ stopped_stage setting course → IsZoneMixed setting course parts stage
   zone_is_over course parts result over stage is mixes ended = record {
     mixed = Err over;
     mixes = λ leaves moment are.
@@ -238,7 +239,7 @@ module _ (setting : Setting) (plan : Plan) (limit : ℕ) (same_plan : plan ≡ s
   pub root_is_over : (course : Course) (answers : List ZoneAnswer) (result : Result Table (Refusal OverLimit))
       (over : OverLimit) (stage : Stage) → answers ≡ course.answers → result ≡ Err (refusal.Fault over)
       → MixesZones (typed_tree plan.typed) limit answers result
-      → stage ≡ stopped setting course → IsRootMixed setting course stage
+      → stage ≡ stopped_stage setting course → IsRootMixed setting course stage
   root_is_over course answers result over stage same is mixes ended = record {
     mixed = Err over;
     mixes = λ zones moment are.
@@ -264,7 +265,7 @@ module _ (setting : Setting) (plan : Plan) (limit : ℕ) (same_plan : plan ≡ s
       (result : Result Table (Refusal OverLimit))
       (over : OverLimit) (ended : Result Stage E) → answers ≡ course.answers → result ≡ Err (refusal.Fault over)
       → MixesZones (typed_tree plan.typed) limit answers result
-      → IfOk ended (λ stage. stage ≡ stopped setting course) → IfOk ended (IsRootMixed setting course)
+      → IfOk ended (λ stage. stage ≡ stopped_stage setting course) → IfOk ended (IsRootMixed setting course)
   root_stops course answers result over (Ok stage) same is mixes ends =
       root_is_over course answers result over stage same is mixes ends
   root_stops course answers result over (Err why) same is mixes ends = record {}
@@ -273,7 +274,7 @@ module _ (setting : Setting) (plan : Plan) (limit : ℕ) (same_plan : plan ≡ s
       (result : Result ZoneAnswer (Refusal OverLimit))
       (over : OverLimit) (ended : Result Stage E) → result ≡ Err (refusal.Fault over)
       → MixesLeaves (typed_tree plan.typed) limit parts result
-      → IfOk ended (λ stage. stage ≡ stopped setting course) → IfOk ended (IsZoneMixed setting course parts)
+      → IfOk ended (λ stage. stage ≡ stopped_stage setting course) → IfOk ended (IsZoneMixed setting course parts)
   zone_stops course parts result over (Ok stage) is mixes ends = zone_is_over course parts result over stage is mixes
       ends
   zone_stops course parts result over (Err why) is mixes ends = record {}
@@ -281,7 +282,7 @@ module _ (setting : Setting) (plan : Plan) (limit : ℕ) (same_plan : plan ≡ s
   pub zone_goes_on : {E : Type 0} (course : Course) (parts : List LeafAnswer)
       (result : Result ZoneAnswer (Refusal OverLimit)) (answer : ZoneAnswer) (turn : Turn) (ended : Result Stage E)
       → result ≡ Ok answer → MixesLeaves (typed_tree plan.typed) limit parts result
-      → turn ≡ next_zone (drop course.begun setting.areas) (kept course answer)
+      → turn ≡ next_zone (drop course.begun setting.areas) (with_zone_answer course answer)
       → IfOk ended (TurnSettles setting turn) → IfOk ended (IsZoneMixed setting course parts)
   zone_goes_on course parts result answer turn (Ok stage) is mixes same settles =
       zone_is_mixed course parts result answer stage is mixes
@@ -291,7 +292,7 @@ module _ (setting : Setting) (plan : Plan) (limit : ℕ) (same_plan : plan ≡ s
   pub may_go_on : (course : Course) (parts : List LeafAnswer) (result : Result ZoneAnswer (Refusal OverLimit))
       (answer : ZoneAnswer) (turn : Turn) → result ≡ Ok answer → HasParts setting course.answers parts
       → MixesLeaves (typed_tree plan.typed) limit parts result
-      → turn ≡ next_zone (drop course.begun setting.areas) (kept course answer) → MayMixRoot setting turn
+      → turn ≡ next_zone (drop course.begun setting.areas) (with_zone_answer course answer) → MayMixRoot setting turn
   may_go_on course parts result answer turn is has mixes same =
       subst (λ (t : Turn). MayMixRoot setting t) (sym same) (goes_on course parts result answer is has mixes)
 

@@ -7,7 +7,8 @@ use Rattle.mixer.specs.Divisions.{IsDivided}
 use Rattle.mixer.specs.ZoneAnswers.{AllLeafParts, AllZoneParts}
 use Rattle.mixer.specs.declared.zone_answers.ZoneAnswer.{ZoneAnswer}
 use Rattle.mon_fold.specs.declared.answers.LeafAnswer.{LeafAnswer}
-use Rattle.mon_topo.specs.HeldHistories.{AreHeld, Histories}
+use Rattle.mon_value.specs.declared.histories.Histories.{Histories}
+use Rattle.mon_topo.specs.HeldHistories.{AreHeld}
 use Rattle.mon_topo.specs.Settings.{Setting as Store}
 use Rattle.mon_topo.specs.Zones.{first_leaf}
 use Rattle.mon_value.specs.declared.positions.Leaf.{Leaf}
@@ -18,8 +19,8 @@ use Rattle.query_core.specs.declared.answers.Trace.{Trace}
 use Rattle.query_core.specs.declared.areas.Area.{Area}
 use Rattle.query_core.specs.declared.courses.Course.{Course}
 use Rattle.query_core.specs.declared.looks.Look.{Look}
-use Rattle.query_core.specs.Courses.{closed, trace_of}
-use Rattle.query_core.specs.Looks.{unread}
+use Rattle.query_core.specs.Courses.{with_zone_behind, trace_of}
+use Rattle.query_core.specs.Looks.{unread_look}
 use Rattle.query_core.specs.Mixtures.{HasParts, typed_of}
 use Rattle.query_core.specs.Settings.{Setting}
 use Rattle.query_core.proofs.ChosenLeaves.{ChosenAscend, chosen_append, chosen_leaves}
@@ -37,15 +38,15 @@ module _ (store : Store) (setting : Setting) (asked : IsAskedOf store setting) (
     (exit : Histories) (held : AreHeld store.held store.zones store.points exit) (before : Course) (area : Area)
     (resolved : List Resolved) (looks : List Look) (inside : CourseIn store setting moment exit before area)
     (whole : IsWhole area resolved looks)
-    (zoned : AllZoned store.zones (trace_of (closed before resolved looks)).resolved) where
+    (zoned : AllZoned store.zones (trace_of (with_zone_behind before resolved looks)).resolved) where
   abbrev k : ℕ
   k = length inside.segments
 
   abbrev course : Course
-  course = closed before resolved looks
+  course = with_zone_behind before resolved looks
 
   abbrev of : Trace
-  of = trace_of (closed before resolved looks)
+  of = trace_of (with_zone_behind before resolved looks)
 
   abbrev ranges : RangesFrom 0 of.resolved
   ranges = ranges_of store setting asked moment from exit held before area resolved looks inside whole zoned
@@ -56,7 +57,7 @@ module _ (store : Store) (setting : Setting) (asked : IsAskedOf store setting) (
   stand_before =
       let none = none_first setting moment store.zones exit in
       let firsts = drop (length course.resolved) course.seen.firsts in
-      let cuts : List Look = map unread (drop (length course.looks) course.seen.cuts) in
+      let cuts : List Look = map unread_look (drop (length course.looks) course.seen.cuts) in
       record {
         front = [];
         back = resolved ++ firsts;

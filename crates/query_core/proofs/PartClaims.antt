@@ -8,7 +8,8 @@ use Rattle.mon_fold.specs.declared.answers.LeafAnswer.{LeafAnswer}
 use Rattle.mon_meaning.specs.Central.{IsMeant, IsOver}
 use Rattle.mon_meaning.specs.LeafAnswers.{IsOverLeaf}
 use Rattle.mon_meaning.specs.declared.meter.OverLimit.{OverLimit}
-use Rattle.mon_topo.specs.HeldHistories.{Histories, leaf_history}
+use Rattle.mon_value.specs.Histories.{leaf_history}
+use Rattle.mon_value.specs.declared.histories.Histories.{Histories}
 use Rattle.mon_topo.specs.Settings.{Setting as Store}
 use Rattle.mon_value.specs.declared.positions.Leaf.{Leaf}
 use Rattle.mon_value.specs.declared.rows.Row.{Row}
@@ -29,7 +30,7 @@ use Rattle.query_core.specs.declared.stages.Step.TheVariants as step
 use Rattle.query_core.specs.declared.stages.Turn.{Turn}
 use Rattle.query_core.specs.declared.stages.Turn.TheVariants as turn
 use Rattle.query_core.specs.Areas.{area_of, leaf_at, range_at}
-use Rattle.query_core.specs.Courses.{closed, trace_of}
+use Rattle.query_core.specs.Courses.{with_zone_behind, trace_of}
 use Rattle.query_core.specs.Mixtures.{typed_of}
 use Rattle.query_core.specs.Rounds.{Round, slots_on}
 use Rattle.query_core.specs.Settings.{Setting}
@@ -103,7 +104,7 @@ module _ (store : Store) (setting : Setting) (moment : ℤ) where
     pub whole : IsWhole area resolved looks
     pub parts : List LeafAnswer
     pub parts_so : PartsSo setting moment now resolved area.first_leaf.0 looks parts
-    pub trace_is : trace ≡ trace_of (closed before resolved looks)
+    pub trace_is : trace ≡ trace_of (with_zone_behind before resolved looks)
     pub place : ℕ
     pub there : place < area.leaves
     pub cut : ℕ
@@ -122,7 +123,7 @@ module _ (store : Store) (setting : Setting) (moment : ℤ) where
     pub in_zone : CourseIn now before area
     pub whole : IsWhole area resolved looks
     pub parts_so : PartsSo setting moment now resolved area.first_leaf.0 looks parts
-    pub is : course ≡ closed before resolved looks
+    pub is : course ≡ with_zone_behind before resolved looks
 
 module _ (store : Store) (setting : Setting) (moment : ℤ) (Tells : Histories → Course → Type 0) where
   -- a zone's load is above the limit

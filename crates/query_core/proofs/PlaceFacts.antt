@@ -1,6 +1,6 @@
 -- What a query asks of at each of its stages is there in the store.
 use Rattle.std.proofs.Common.{◌<◌, ℕ, List, length, sym, ap, subst, arith}
-use Rattle.mon_topo.specs.HeldHistories.{Histories}
+use Rattle.mon_value.specs.declared.histories.Histories.{Histories}
 use Rattle.mon_topo.specs.Settings.{Setting as Store}
 use Rattle.mon_topo.specs.Zones.{no_zone}
 use Rattle.mon_topo.specs.declared.zones.ZoneSpec.{ZoneSpec}

@@ -5,10 +5,9 @@ use Rattle.std.specs.List.{AllByRecursion, list_any}
 use Rattle.std.proofs.lemmas.Bool.{false≢true, or_from, or_left, or_right}
 use Rattle.std.proofs.lemmas.Bool.Decides.{nat_tests}
 use Rattle.mon_value.specs.declared.positions.Leaf.{Leaf}
-use Rattle.mon_topo.specs.Replicas.{same_leaf}
-use Rattle.mon_topo.specs.Zones.{leaf_numbered}
+use Rattle.mon_value.specs.Positions.{leaf_numbered, same_leaf}
 use Rattle.query_core.specs.declared.looks.Look.{Look}
-use Rattle.query_core.specs.Looks.{read_at, unread}
+use Rattle.query_core.specs.Looks.{read_at, unread_look}
 use Rattle.query_core.proofs.DividedRows.{AreOtherLeaves}
 
 -- ---- leaves that were read
@@ -78,7 +77,7 @@ set_read n (look ∷ looks) (suc place) cut sent there all =
     ∷ [])
 
 pub set_unread : (n : ℕ) (looks : List Look) (place cut : ℕ) → place < length looks
-    → AllByRecursion IsUnread (drop place looks) → reads_from n (set looks place (unread cut)) ≡ reads_from n looks
+    → AllByRecursion IsUnread (drop place looks) → reads_from n (set looks place (unread_look cut)) ≡ reads_from n looks
 set_unread n [] place cut there all = absurd (omega (arith, there))
 set_unread n (look ∷ looks) zero cut there all =
     sym (ap (λ b. cond b (leaf_read n look ∷ reads_from (suc n) looks) (reads_from (suc n) looks)) all.0)

@@ -5,7 +5,9 @@ use Rattle.std.specs.List.{AllByRecursion}
 use Rattle.mon_hints.specs.Formulas.{all_named, formula_tree, formulas}
 use Rattle.mon_hints.specs.Listings.{AreAmong}
 use Rattle.mon_topo.proofs.HeldLemmas.{seen_within_itself, seen_within_through}
-use Rattle.mon_topo.specs.HeldHistories.{AreHeld, Histories, leaf_history}
+use Rattle.mon_value.specs.Histories.{leaf_history}
+use Rattle.mon_value.specs.declared.histories.Histories.{Histories}
+use Rattle.mon_topo.specs.HeldHistories.{AreHeld}
 use Rattle.mon_topo.specs.SeenHistories.{AreWithin}
 use Rattle.mon_topo.specs.Settings.{Setting as Store}
 use Rattle.mon_topo.specs.Zones.{first_leaf}
@@ -28,7 +30,7 @@ use Rattle.query_core.specs.declared.stages.Step.TheVariants as step
 use Rattle.query_core.specs.declared.stages.Turn.{Turn}
 use Rattle.query_core.specs.declared.stages.Turn.TheVariants as turn
 use Rattle.query_core.specs.Findings.{HasNoReplica}
-use Rattle.query_core.specs.Looks.{unread}
+use Rattle.query_core.specs.Looks.{unread_look}
 use Rattle.query_core.specs.Machine.{Query, avoided_after, new_query, slots_at}
 use Rattle.query_core.specs.Mixtures.{typed_of, zone_turn}
 use Rattle.query_core.specs.Program as spec
@@ -53,13 +55,13 @@ use Rattle.query_core.proofs.ZoneRows.{AllZoned}
 
 -- ---- what is told of leaves, by their looks
 
-flag_of : (looks : List Look) (i : ℕ) → get_or (flags_of looks) i false ≡ (get_or looks i (unread 0)).read
+flag_of : (looks : List Look) (i : ℕ) → get_or (flags_of looks) i false ≡ (get_or looks i (unread_look 0)).read
 flag_of [] zero = refl
 flag_of [] (suc i) = refl
 flag_of (look ∷ looks) zero = refl
 flag_of (look ∷ looks) (suc i) = flag_of looks i
 
-cut_at : (looks : List Look) (i : ℕ) → get_or (cuts_of looks) i 0 ≡ (get_or looks i (unread 0)).cut
+cut_at : (looks : List Look) (i : ℕ) → get_or (cuts_of looks) i 0 ≡ (get_or looks i (unread_look 0)).cut
 cut_at [] zero = refl
 cut_at [] (suc i) = refl
 cut_at (look ∷ looks) zero = refl
@@ -88,9 +90,9 @@ module _ (store : Store) (setting : Setting) (moment : ℤ) (asked : IsAskedOf s
     course_tells below k course so leaf there flag =
         let place : leaf.0 - 0 ≡ leaf.0 = omega arith in
         let read : (look_at 0 course.looks leaf).read ≡ false =
-        ap (λ n. (get_or course.looks n (unread 0)).read) place ∙ sym (flag_of course.looks leaf.0) ∙ flag in
+        ap (λ n. (get_or course.looks n (unread_look 0)).read) place ∙ sym (flag_of course.looks leaf.0) ∙ flag in
         let cut : (look_at 0 course.looks leaf).cut ≡ get_or (cuts_of course.looks) leaf.0 0 =
-        ap (λ n. (get_or course.looks n (unread 0)).cut) place ∙ sym (cut_at course.looks leaf.0) in
+        ap (λ n. (get_or course.looks n (unread_look 0)).cut) place ∙ sym (cut_at course.looks leaf.0) in
         subst (λ (n : ℕ). AllByRecursion (λ row. is_wanted (typed_of setting) row ≡ false)
         (slot_rows (take n (leaf_history now.seen leaf)) (slots_on leaf course.resolved))) cut
         (told_by leaf course (so.span.tells leaf (omega arith) (omega (arith, there, so.span.long))) read)

@@ -13,10 +13,9 @@ use Rattle.mon_value.specs.declared.positions.Range.{Range}
 use Rattle.mon_value.specs.declared.positions.RangeSlot.{RangeSlot}
 use Rattle.mon_value.specs.declared.positions.Slot.{Slot}
 use Rattle.std.proofs.lemmas.List.FromFn.{length-map-range_with_len}
-use Rattle.mon_topo.specs.Replicas.{same_leaf}
 use Rattle.query_core.specs.declared.answers.Resolved.{Resolved}
 use Rattle.query_core.specs.declared.areas.Area.{Area}
-use Rattle.mon_topo.specs.Zones.{leaf_numbered}
+use Rattle.mon_value.specs.Positions.{leaf_numbered, same_leaf}
 use Rattle.query_core.specs.Areas.{has_leaf, leaf_at}
 use Rattle.query_core.specs.Rounds.{Round, is_to_visit, resolution, slot_added_at, slot_of, slots_by_leaf, slots_on}
 

@@ -13,10 +13,13 @@ use Rattle.mon_schema.specs.SchemaLists.{SchemaLists}
 use Rattle.mon_topo.proofs.FrontLemmas.{begins-flat_map, begins_length, begins_to}
 use Rattle.mon_topo.proofs.RangeHistoryLemmas.{all_at, all_back, all_from, all_front, all_on}
 use Rattle.mon_topo.specs.Replicas.{HasReplicas}
-use Rattle.mon_topo.specs.HeldHistories.{AreAtHome, AreHeld, BeginsWith, Histories, leaf_history, range_history}
-use Rattle.mon_topo.specs.RangeHistories.{acked, acked_row, serving}
+use Rattle.mon_value.specs.Histories.{leaf_history, range_history}
+use Rattle.mon_value.specs.declared.histories.Histories.{Histories}
+use Rattle.mon_topo.specs.HeldHistories.{AreAtHome, AreHeld, BeginsWith}
+use Rattle.mon_topo.specs.RangeHistories.{acknowledged_rows, acked_row, serving}
 use Rattle.mon_topo.specs.SeenHistories.{AreWithin}
-use Rattle.mon_topo.specs.Zones.{first_leaf, first_range, no_zone, range_numbered, ranges_in}
+use Rattle.mon_value.specs.Positions.{range_numbered}
+use Rattle.mon_topo.specs.Zones.{first_leaf, first_range, no_zone, ranges_in}
 use Rattle.mon_topo.specs.declared.zones.ZoneSpec.{ZoneSpec}
 use Rattle.mon_value.specs.LeafHistories.{brought_rows, entry_rows, leaf_rows, replica_rows, same_replica}
 use Rattle.mon_value.specs.declared.histories.Entry.{Entry}
@@ -35,7 +38,7 @@ use Rattle.query_core.proofs.Spans.{outside, range_of, resolved_on, up_to}
 use Rattle.mon_topo.proofs.SizeLemmas.{parts_so_far}
 use Rattle.query_core.proofs.ZoneFacts.{leaf_zoned, leaves_next, ranges_next}
 use Rattle.query_core.specs.Areas.{area_of}
-use Rattle.query_core.specs.Looks.{unread}
+use Rattle.query_core.specs.Looks.{unread_look}
 use Rattle.query_core.specs.Rounds.{slots_on}
 use Rattle.query_core.specs.Traces.{IsFirst, first_serving, is_avoided, replica_of, slot_rows}
 use Rattle.query_core.specs.declared.answers.Resolved.{Resolved}
@@ -189,7 +192,7 @@ module _ (held : SchemaLists) (zones : List ZoneSpec) (points : ℕ)
   -- a range of a zone that resolves does so to a leaf of the zone, which has the rows that were acknowledged
   pub record ResolvesSo (avoided : List Leaf) (one : Resolved) : Type 0 where
     pub resolved : ResolvedSo at_entry seen avoided (first_leaf zones k) (first_leaf zones (k + 1)) one
-    pub stands : StandsIn (acked (range_history at_entry one.range)) (leaf_history seen one.leaf) one
+    pub stands : StandsIn (acknowledged_rows (range_history at_entry one.range)) (leaf_history seen one.leaf) one
 
   pub resolves_so : (avoided : List Leaf) (one : Resolved) → IsOfZone one.range → IsFirst at_entry seen avoided one
       → ResolvesSo avoided one
@@ -209,10 +212,12 @@ module _ (held : SchemaLists) (zones : List ZoneSpec) (points : ℕ)
         resolved = record { first = is; near = near_at one.range in_zone is.found; from = near.0; to = near.1 };
         stands = record {
           opened = has.opened;
-          rows = all_front (Contains (replica_rows one.range one.slot (leaf_history seen one.leaf))) (acked was)
-              (drop (length (acked was)) (acked front))
+          rows = all_front (Contains (replica_rows one.range one.slot (leaf_history seen one.leaf)))
+              (acknowledged_rows was)
+              (drop (length (acknowledged_rows was)) (acknowledged_rows front))
               (subst (All (Contains (replica_rows one.range one.slot (leaf_history seen one.leaf))))
-              (begins_to (acked front) (acked was) (begins-flat_map acked_row front was begins)) has.rows);
+              (begins_to (acknowledged_rows front) (acknowledged_rows was)
+              (begins-flat_map acked_row front was begins)) has.rows);
         };
       }
 
@@ -296,13 +301,14 @@ module _ (held : SchemaLists) (zones : List ZoneSpec) (points : ℕ)
         ∙ ap (λ n. map range_numbered (range_with_len n count)) start
 
     pub seen_cut : (leaf : Leaf) → low ≤ leaf.0 → leaf.0 < low + leaves
-        → look_at low (map unread own_cuts) leaf ≡ unread (length (leaf_history seen leaf))
+        → look_at low (map unread_look own_cuts) leaf ≡ unread_look (length (leaf_history seen leaf))
     seen_cut leaf from to =
         let i = leaf.0 - low in
         let place : low + i ≡ leaf.0 = omega (arith, from) in
         let here : i < leaves = omega (arith, from, to) in
-        get_or-map unread own_cuts i 0 (unread 0) (omega (arith, here, own_cuts_long))
-        ∙ ap unread (get_or-take leaves (drop low cuts) i 0 here ∙ get_or-drop low cuts i 0 ∙ ap (λ n. get_or cuts n 0)
+        get_or-map unread_look own_cuts i 0 (unread_look 0) (omega (arith, here, own_cuts_long))
+        ∙ ap unread_look
+        (get_or-take leaves (drop low cuts) i 0 here ∙ get_or-drop low cuts i 0 ∙ ap (λ n. get_or cuts n 0)
         place
         ∙ ap (λ all. get_or all leaf.0 0) cuts_are
         ∙ get_or-map (λ (history : List Entry). length history) seen.leaves leaf.0 [] 0
@@ -316,7 +322,7 @@ module _ (held : SchemaLists) (zones : List ZoneSpec) (points : ℕ)
               length history),
         )))
 
-    whole : (leaf : Leaf) → up_to now leaf (unread (length (leaf_history seen leaf))) ≡ leaf_history seen leaf
+    whole : (leaf : Leaf) → up_to now leaf (unread_look (length (leaf_history seen leaf))) ≡ leaf_history seen leaf
     whole leaf = until.leaves leaf
 
     -- each of the zone's ranges
@@ -361,20 +367,20 @@ module _ (held : SchemaLists) (zones : List ZoneSpec) (points : ℕ)
     each_stands : (some : List Resolved)
         → All (λ (one : Resolved). (first ≤ one.range.0) × (one.range.0 < first + count)) some
         → All (λ (one : Resolved). first_serving [] (range_history seen one.range) ≡ Some (replica_of one)) some
-        → All (StandsAt at_entry now low (map unread own_cuts)) some
+        → All (StandsAt at_entry now low (map unread_look own_cuts)) some
     each_stands [] within serve = record {}
     each_stands (one ∷ some) within serve =
         let is = resolves_so held zones points replicated at_entry seen holds since k there avoided one within.0
         (first_is one within.0 serve.0) in
         let look = seen_cut one.leaf is.resolved.from (omega (arith, is.resolved.to, leaves_next zones k there)) in
-        let rows = acked (range_history at_entry one.range) in (
+        let rows = acknowledged_rows (range_history at_entry one.range) in (
           subst (λ (look : Look). StandsIn rows (up_to now one.leaf look) one) (sym look)
               (subst (λ (history : List Entry). StandsIn rows history one) (sym (whole one.leaf)) is.stands),
           each_stands some within.1 serve.1,
         )
 
     looked_there : (leaf : Leaf) → low ≤ leaf.0 → leaf.0 < low + leaves
-        → IsLookedAt at_entry now leaf (look_at low (map unread own_cuts) leaf)
+        → IsLookedAt at_entry now leaf (look_at low (map unread_look own_cuts) leaf)
     looked_there leaf from to =
         subst (IsLookedAt at_entry now leaf) (sym (seen_cut leaf from to)) (record {
           from = begins_length (leaf_history seen leaf) (leaf_history at_entry leaf) (since.leaves leaf);
@@ -385,20 +391,21 @@ module _ (held : SchemaLists) (zones : List ZoneSpec) (points : ℕ)
         → Skip leaf ⊎ (met (history_buckets buckets_of (leaf_history seen leaf)) ≡ false)) where
       told_there : (leaf : Leaf) → low ≤ leaf.0 → leaf.0 < low + leaves
           → Skip leaf ⊎ Tells wanted met buckets_of
-          (up_to now leaf (look_at low (map unread own_cuts) leaf))
-          (slots_on leaf own_firsts) (look_at low (map unread own_cuts) leaf)
+          (up_to now leaf (look_at low (map unread_look own_cuts) leaf))
+          (slots_on leaf own_firsts) (look_at low (map unread_look own_cuts) leaf)
       told_there leaf from to = elim (shut leaf from to) [
         | inl skip ↦ inl skip
         | inr out ↦ inr (subst (λ (look : Look). Tells wanted met buckets_of
             (up_to now leaf look) (slots_on leaf own_firsts) look) (sym (seen_cut leaf from to))
             (subst (λ (history : List Entry). Tells wanted met buckets_of history (slots_on leaf own_firsts)
-            (unread (length (leaf_history seen leaf)))) (sym (whole leaf))
-            (tells_unmet (leaf_history seen leaf) (slots_on leaf own_firsts) (unread (length (leaf_history seen leaf)))
+            (unread_look (length (leaf_history seen leaf)))) (sym (whole leaf))
+            (tells_unmet (leaf_history seen leaf) (slots_on leaf own_firsts)
+            (unread_look (length (leaf_history seen leaf)))
             (λ e there. holds.at_home leaf e there) refl out)))
       ]
 
       pub seen_span : SpanSo at_entry wanted met buckets_of now avoided Skip low (first_leaf zones (k + 1)) first
-          (first_range zones (k + 1)) own_firsts (map unread own_cuts)
+          (first_range zones (k + 1)) own_firsts (map unread_look own_cuts)
       seen_span =
           let within = numbers_of own_firsts first count own_ranges in
           let serve = all_taken (λ (one : Resolved). first_serving [] (range_history seen one.range)
@@ -409,7 +416,7 @@ module _ (held : SchemaLists) (zones : List ZoneSpec) (points : ℕ)
           firsts_are) in
           let next = leaves_next zones k there in
           record {
-            long = omega (arith, next, own_cuts_long, length-map own_cuts unread);
+            long = omega (arith, next, own_cuts_long, length-map own_cuts unread_look);
             count = omega (arith, ranges_next zones k there, own_firsts_long);
             ranges = own_ranges ∙ ap (λ n. map range_numbered (range_with_len first n)) (sym own_firsts_long);
             each = each_range own_firsts within serve;

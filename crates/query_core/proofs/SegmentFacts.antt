@@ -9,17 +9,20 @@ use Rattle.mixer.specs.ZoneAnswers.{AllLeafParts, AreLeafParts, IsZonePart}
 use Rattle.mixer.specs.declared.zone_answers.ZoneAnswer.{ZoneAnswer}
 use Rattle.mon_fold.specs.declared.answers.LeafAnswer.{LeafAnswer}
 use Rattle.mon_topo.proofs.FrontLemmas.{begins_length, take_on}
-use Rattle.mon_topo.specs.HeldHistories.{AreHeld, Histories, leaf_history}
+use Rattle.mon_value.specs.Histories.{leaf_history}
+use Rattle.mon_value.specs.declared.histories.Histories.{Histories}
+use Rattle.mon_topo.specs.HeldHistories.{AreHeld}
 use Rattle.mon_topo.specs.SeenHistories.{AreWithin}
 use Rattle.mon_topo.specs.Settings.{Setting as Store}
-use Rattle.mon_topo.specs.Zones.{leaves_in, no_zone, range_numbered, ranges_in}
+use Rattle.mon_value.specs.Positions.{range_numbered}
+use Rattle.mon_topo.specs.Zones.{leaves_in, no_zone, ranges_in}
 use Rattle.mon_topo.specs.declared.zones.ZoneSpec.{ZoneSpec}
 use Rattle.mon_value.specs.declared.histories.Entry.{Entry}
 use Rattle.mon_value.specs.declared.positions.Range.{Range}
 use Rattle.mon_value.specs.declared.rows.Row.{Row}
 use Rattle.mql_types.proofs.JoinedRows.{all-map}
 use Rattle.mql_types.proofs.KeptRows.{all-append}
-use Rattle.mql_types.specs.Pieces.{sent}
+use Rattle.mql_types.specs.Pieces.{sent_amount}
 use Rattle.query_core.specs.declared.answers.Resolved.{Resolved}
 use Rattle.query_core.specs.declared.areas.Area.{Area}
 use Rattle.query_core.specs.declared.asks.Seen.{Seen}
@@ -27,7 +30,7 @@ use Rattle.query_core.specs.declared.courses.Course.{Course}
 use Rattle.query_core.specs.declared.looks.Look.{Look}
 use Rattle.query_core.specs.Areas.{area_of}
 use Rattle.query_core.specs.Courses.{cuts_seen, firsts_seen}
-use Rattle.query_core.specs.Looks.{unread}
+use Rattle.query_core.specs.Looks.{unread_look}
 use Rattle.query_core.specs.Mixtures.{typed_of}
 use Rattle.query_core.specs.Rounds.{slots_on}
 use Rattle.query_core.specs.Sessions.{IsSeenSo}
@@ -145,19 +148,19 @@ part_long : {X : Type 0} (xs : List X) (first count : ℕ) → first + count ≤
 part_long xs first count within =
     length-take-le count (drop first xs) (omega (arith, within, length-drop first xs))
 
-all_unread : (cuts : List ℕ) → AllByRecursion IsUnread (map unread cuts)
+all_unread : (cuts : List ℕ) → AllByRecursion IsUnread (map unread_look cuts)
 all_unread [] = tt
 all_unread (cut ∷ cuts) = (refl, all_unread cuts)
 
-all_silent : (cuts : List ℕ) → AllByRecursion SendsNothing (map unread cuts)
+all_silent : (cuts : List ℕ) → AllByRecursion SendsNothing (map unread_look cuts)
 all_silent [] = tt
 all_silent (cut ∷ cuts) = ((λ e. refl), all_silent cuts)
 
 -- a zone that stands as it had been seen
 pub seen_whole : (zones : List ZoneSpec) (k : ℕ) (area : Area) (seen : Seen) → k < length zones → area ≡ area_of zones k
-    → SeenSo zones seen → IsWhole area (firsts_seen seen area) (map unread (cuts_seen seen area))
+    → SeenSo zones seen → IsWhole area (firsts_seen seen area) (map unread_look (cuts_seen seen area))
 seen_whole zones k area seen there is so =
-    subst (λ (one : Area). IsWhole one (firsts_seen seen one) (map unread (cuts_seen seen one))) (sym is)
+    subst (λ (one : Area). IsWhole one (firsts_seen seen one) (map unread_look (cuts_seen seen one))) (sym is)
     (let here = area_of zones k in
     let leaves = parts_so_far (λ (zone : ZoneSpec). zone.leaves) zones k no_zone there in
     let ranges = parts_so_far (λ (zone : ZoneSpec). zone.ranges) zones k no_zone there in
@@ -167,7 +170,7 @@ seen_whole zones k area seen there is so =
           (subst (λ (n : ℕ). RangesFrom n (drop here.first_range.0 seen.firsts)) number
           (ranges_behind 0 here.first_range.0 seen.firsts so.from));
       all_ranges = part_long seen.firsts here.first_range.0 here.ranges (omega (arith, ranges, so.ranges));
-      all_leaves = length-map (cuts_seen seen here) unread
+      all_leaves = length-map (cuts_seen seen here) unread_look
           ∙ part_long seen.cuts here.first_leaf.0 here.leaves (omega (arith, leaves, so.leaves));
     })
 
@@ -182,7 +185,7 @@ module _ (setting : Setting) (moment : ℤ) where
   IsWithin now one = one.cut ≤ length (leaf_history now one.leaf)
 
   abbrev pub IsSent : Histories → List Resolved → LeafRead → Type 0
-  IsSent now resolved one = one.sent ≡ sent (typed_of setting) (read_rows now resolved one) moment
+  IsSent now resolved one = one.sent ≡ sent_amount (typed_of setting) (read_rows now resolved one) moment
 
   -- each leaf that was read has its answer
   pub record PartsSo (now : Histories) (resolved : List Resolved) (first : ℕ) (looks : List Look)
@@ -232,7 +235,7 @@ module _ (setting : Setting) (moment : ℤ) where
           each = subst (λ (rows : List (List Row)). AllLeafParts (typed_of setting) rows moment setting.limit parts)
               (all_rows_same reads so.within) so.each;
           sends = all_both (IsWithin before) (IsSent before resolved) (IsSent after resolved) reads
-              (λ one within told. told ∙ ap (λ (rows : List Row). sent (typed_of setting) rows moment)
+              (λ one within told. told ∙ ap (λ (rows : List Row). sent_amount (typed_of setting) rows moment)
               (rows_same one within))
               so.within so.sends;
           silent = so.silent;
@@ -303,6 +306,6 @@ module _ (setting : Setting) (moment : ℤ) where
   -- a zone that stands as it had been seen
   pub passed_so : (zones : List ZoneSpec) (now : Histories) (k : ℕ) (area : Area) (seen : Seen) → k < length zones
       → area ≡ area_of zones k → SeenSo zones seen
-      → SegmentSo now (Passed area (firsts_seen seen area) (map unread (cuts_seen seen area)))
+      → SegmentSo now (Passed area (firsts_seen seen area) (map unread_look (cuts_seen seen area)))
   passed_so zones now k area seen there is so =
       (seen_whole zones k area seen there is so, all_unread (cuts_seen seen area), all_silent (cuts_seen seen area))

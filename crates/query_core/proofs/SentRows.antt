@@ -4,14 +4,16 @@ use Rattle.std.proofs.Common.{false, cond, List, [], ◌∷◌, ◌++◌, length
 use Rattle.std.specs.List.{AllByRecursion, flat_map}
 use Rattle.std.proofs.lemmas.Bool.{cases_lt}
 use Rattle.std.proofs.lemmas.List.{map-append}
-use Rattle.mon_topo.specs.HeldHistories.{AreHeld, Histories}
+use Rattle.mon_value.specs.declared.histories.Histories.{Histories}
+use Rattle.mon_topo.specs.HeldHistories.{AreHeld}
 use Rattle.mon_topo.specs.Settings.{Setting as Store}
-use Rattle.mon_topo.specs.Zones.{first_leaf, leaf_numbered}
+use Rattle.mon_value.specs.Positions.{leaf_numbered}
+use Rattle.mon_topo.specs.Zones.{first_leaf}
 use Rattle.mon_value.specs.declared.positions.Leaf.{Leaf}
 use Rattle.mon_value.specs.declared.rows.Row.{Row}
 use Rattle.mon_fold.specs.declared.answers.LeafAnswer.{LeafAnswer}
 use Rattle.mql_types.proofs.KeptRows.{all-append}
-use Rattle.mql_types.specs.Pieces.{sent}
+use Rattle.mql_types.specs.Pieces.{sent_amount}
 use Rattle.query_core.specs.Askings.{IsAskedOf}
 use Rattle.query_core.specs.declared.answers.Resolved.{Resolved}
 use Rattle.query_core.specs.declared.answers.Trace.{Trace}
@@ -19,8 +21,8 @@ use Rattle.query_core.specs.declared.areas.Area.{Area}
 use Rattle.query_core.specs.declared.courses.Course.{Course}
 use Rattle.query_core.specs.declared.looks.Look.{Look}
 use Rattle.query_core.specs.Areas.{area_of}
-use Rattle.query_core.specs.Courses.{closed, trace_of}
-use Rattle.query_core.specs.Looks.{unread}
+use Rattle.query_core.specs.Courses.{with_zone_behind, trace_of}
+use Rattle.query_core.specs.Looks.{unread_look}
 use Rattle.query_core.specs.Mixtures.{typed_of}
 use Rattle.query_core.specs.Settings.{Setting}
 use Rattle.query_core.specs.Traces.{rows_on, sent_by, sent_if, was_read}
@@ -71,13 +73,13 @@ module _ (most : Leaf → ℕ) where
       sent_at (suc n) looks (rest_by n look (reads_from (suc n) looks) look.read all) silent.1 i (omega (arith, there))
       ∙ ap (λ k. sent_if (get_or (flags_of looks) i false) (most (leaf_numbered k))) same
 
-  nothing_sent : (cuts : List ℕ) (i : ℕ) → get_or (sents_of (map unread cuts)) i 0 ≡ 0
+  nothing_sent : (cuts : List ℕ) (i : ℕ) → get_or (sents_of (map unread_look cuts)) i 0 ≡ 0
   nothing_sent [] zero = refl
   nothing_sent [] (suc i) = refl
   nothing_sent (cut ∷ cuts) zero = refl
   nothing_sent (cut ∷ cuts) (suc i) = nothing_sent cuts i
 
-  none_read : (cuts : List ℕ) (i : ℕ) → get_or (flags_of (map unread cuts)) i false ≡ false
+  none_read : (cuts : List ℕ) (i : ℕ) → get_or (flags_of (map unread_look cuts)) i false ≡ false
   none_read [] zero = refl
   none_read [] (suc i) = refl
   none_read (cut ∷ cuts) zero = refl
@@ -99,31 +101,31 @@ module _ (most : Leaf → ℕ) where
     abbrev IsSentBy : Type 0
     IsSentBy = sent_by (trace_of course) leaf ≡ sent_if (was_read (trace_of course) leaf) (most leaf)
 
-    sents_are : (trace_of course).sent ≡ sents_of course.looks ++ sents_of (map unread rest)
-    sents_are = map-append (λ (look : Look). look.sent) course.looks (map unread rest)
+    sents_are : (trace_of course).sent ≡ sents_of course.looks ++ sents_of (map unread_look rest)
+    sents_are = map-append (λ (look : Look). look.sent) course.looks (map unread_look rest)
 
-    flags_are : (trace_of course).read ≡ flags_of course.looks ++ flags_of (map unread rest)
-    flags_are = map-append (λ (look : Look). look.read) course.looks (map unread rest)
+    flags_are : (trace_of course).read ≡ flags_of course.looks ++ flags_of (map unread_look rest)
+    flags_are = map-append (λ (look : Look). look.read) course.looks (map unread_look rest)
 
     by_place : (leaf.0 < length course.looks) ⊎ (length course.looks ≤ leaf.0) → IsSentBy
     by_place (inl there) =
         let number : 0 + leaf.0 ≡ leaf.0 = omega arith in
         ap (λ sents. get_or sents leaf.0 0) sents_are
-        ∙ get_front (sents_of course.looks) (sents_of (map unread rest)) leaf.0 0
+        ∙ get_front (sents_of course.looks) (sents_of (map unread_look rest)) leaf.0 0
         (omega (arith, there, sents_long course.looks))
         ∙ sent_at 0 course.looks all silent leaf.0 there
         ∙ ap (λ n. sent_if (get_or (flags_of course.looks) leaf.0 false) (most (leaf_numbered n))) number
         ∙ sym (ap (λ b. sent_if b (most leaf)) (ap (λ flags. get_or flags leaf.0 false) flags_are
-        ∙ get_front (flags_of course.looks) (flags_of (map unread rest)) leaf.0 false
+        ∙ get_front (flags_of course.looks) (flags_of (map unread_look rest)) leaf.0 false
         (omega (arith, there, flags_long course.looks))))
     by_place (inr past) =
         let i : ℕ = leaf.0 - length course.looks in
         ap (λ sents. get_or sents leaf.0 0) sents_are
-        ∙ get_back (sents_of course.looks) (sents_of (map unread rest)) leaf.0 i 0
+        ∙ get_back (sents_of course.looks) (sents_of (map unread_look rest)) leaf.0 i 0
         (omega (arith, past, sents_long course.looks))
         ∙ nothing_sent rest i
         ∙ sym (ap (λ b. sent_if b (most leaf)) (ap (λ flags. get_or flags leaf.0 false) flags_are
-        ∙ get_back (flags_of course.looks) (flags_of (map unread rest)) leaf.0 i false
+        ∙ get_back (flags_of course.looks) (flags_of (map unread_look rest)) leaf.0 i false
         (omega (arith, past, flags_long course.looks))
         ∙ none_read rest i))
 
@@ -135,7 +137,7 @@ module _ (most : Leaf → ℕ) where
 module _ (store : Store) (setting : Setting) (asked : IsAskedOf store setting) (moment : ℤ) (from : pos 0 ≤ℤ moment)
     (exit : Histories) (held : AreHeld store.held store.zones store.points exit) where
   abbrev pub most_of : Trace → Leaf → ℕ
-  most_of of leaf = sent (typed_of setting) (rows_on exit of leaf) moment
+  most_of of leaf = sent_amount (typed_of setting) (rows_on exit of leaf) moment
 
   module _ (of : Trace) (ranges : RangesFrom 0 of.resolved) (zoned : AllZoned store.zones of.resolved) where
     reads_sent : (k : ℕ) (resolved : List Resolved) (looks : List Look) (parts : List LeafAnswer)
@@ -145,7 +147,7 @@ module _ (store : Store) (setting : Setting) (asked : IsAskedOf store setting) (
     reads_sent k resolved looks parts stands so =
         all_both (λ (one : LeafRead). read_rows setting moment exit resolved one ≡ rows_on exit of one.leaf)
         (IsSent setting moment exit resolved) (SendsSo (most_of of)) (reads_from (first_leaf store.zones k) looks)
-        (λ one rows told. told ∙ ap (λ (some : List Row). sent (typed_of setting) some moment) rows)
+        (λ one rows told. told ∙ ap (λ (some : List Row). sent_amount (typed_of setting) some moment) rows)
         (rows_on_each store.zones k resolved looks of ranges zoned stands setting moment exit) so.sends
 
     segment_sent : (k : ℕ) (one : Segment) → area_in one ≡ area_of store.zones k → SegmentSo setting moment exit one
@@ -194,7 +196,7 @@ module _ (store : Store) (setting : Setting) (asked : IsAskedOf store setting) (
   -- each leaf sent as much as it was to send
   abbrev pub AllSent : Trace → Type 0
   AllSent of = (leaf : Leaf)
-      → sent_by of leaf ≡ sent_if (was_read of leaf) (sent (typed_of setting) (rows_on exit of leaf) moment)
+      → sent_by of leaf ≡ sent_if (was_read of leaf) (sent_amount (typed_of setting) (rows_on exit of leaf) moment)
 
   pub whole_sends : (course : Course) (through : CourseThrough store setting moment exit course)
       → AllZoned store.zones (trace_of course).resolved → AllSent (trace_of course)
@@ -214,12 +216,12 @@ module _ (store : Store) (setting : Setting) (asked : IsAskedOf store setting) (
 
   module _ (before : Course) (area : Area) (resolved : List Resolved) (looks : List Look)
       (inside : CourseIn store setting moment exit before area) (whole : IsWhole area resolved looks)
-      (zoned : AllZoned store.zones (trace_of (closed before resolved looks)).resolved) where
+      (zoned : AllZoned store.zones (trace_of (with_zone_behind before resolved looks)).resolved) where
     abbrev course : Course
-    course = closed before resolved looks
+    course = with_zone_behind before resolved looks
 
     abbrev of_course : Trace
-    of_course = trace_of (closed before resolved looks)
+    of_course = trace_of (with_zone_behind before resolved looks)
 
     abbrev ranges_so : RangesFrom 0 of_course.resolved
     ranges_so = ranges_of store setting asked moment from exit held before area resolved looks inside whole zoned

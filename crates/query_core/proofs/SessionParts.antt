@@ -6,7 +6,7 @@ use Rattle.mixer.specs.ZoneAnswers.{AreLeafParts, AreZoneParts, IsZonePart}
 use Rattle.mixer.specs.declared.zone_answers.ZoneAnswer.{ZoneAnswer}
 use Rattle.mon_fold.specs.declared.answers.LeafAnswer.{LeafAnswer}
 use Rattle.mon_meaning.specs.declared.meter.OverLimit.{OverLimit}
-use Rattle.mon_topo.specs.HeldHistories.{Histories}
+use Rattle.mon_value.specs.declared.histories.Histories.{Histories}
 use Rattle.mon_topo.specs.Settings.{Setting as Store}
 use Rattle.mon_value.specs.declared.tables.Table.{Table}
 use Rattle.query_core.specs.declared.courses.Course.{Course}
@@ -16,7 +16,7 @@ use Rattle.query_core.specs.declared.stages.Step.TheVariants as step
 use Rattle.query_core.specs.declared.stages.Turn.{Turn}
 use Rattle.query_core.specs.declared.stages.Turn.TheVariants as turn
 use Rattle.query_core.specs.Areas.{areas_of}
-use Rattle.query_core.specs.Courses.{kept}
+use Rattle.query_core.specs.Courses.{with_zone_answer}
 use Rattle.query_core.specs.Machine.{Query}
 use Rattle.mon_value.specs.declared.rows.Row.{Row}
 use Rattle.query_core.specs.Mixtures.{RootMixes, Settles, TurnSettles, ZoneMixes, root_stage, typed_of, zone_turn}
@@ -81,13 +81,14 @@ module _ (store : Store) (setting : Setting) (moment : ℤ) (Tells : Histories �
       → GatheredSo store setting moment now course parts
       → ((leaves : List (List Row)) → AreLeafParts (typed_of setting) leaves moment setting.limit parts
       → IsZonePart (typed_of setting) leaves moment setting.limit answer)
-      → CourseAt store setting moment now (kept course answer)
+      → CourseAt store setting moment now (with_zone_answer course answer)
   zone_kept now course parts answer so mixes =
       let inside = so.in_zone in
       let one : Segment = Mixed so.area so.resolved so.looks parts answer in
       record {
         segments = inside.segments ++ one ∷ [];
-        behind = behind_push setting moment store.zones now inside.segments so.before (kept course answer) one
+        behind = behind_push setting moment store.zones now inside.segments so.before (with_zone_answer course answer)
+            one
             inside.behind
             (record {
               more_resolved = ap (λ (course : Course). course.resolved) so.is;
@@ -109,7 +110,7 @@ module _ (store : Store) (setting : Setting) (moment : ℤ) (Tells : Histories �
       → ZoneMixes setting leaves at_moment mixed)
       → TurnParts store setting moment Tells now (zone_turn setting course mixed)
   zone_parts now course parts so tells (Ok answer) mixes =
-      next_so store setting moment Tells now (drop course.begun setting.areas) (kept course answer)
+      next_so store setting moment Tells now (drop course.begun setting.areas) (with_zone_answer course answer)
       (ap (drop course.begun) areas)
       (zone_kept now course parts answer so (λ leaves are. mixes leaves moment are))
   zone_parts now course parts so tells (Err over) mixes = (

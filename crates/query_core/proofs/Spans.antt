@@ -11,11 +11,12 @@ use Rattle.std.proofs.lemmas.List.Folds.{list_any-append}
 use Rattle.mon_hints.specs.HistoryBuckets.{history_buckets}
 use Rattle.mon_topo.proofs.FrontLemmas.{begins-flat_map, begins_length, begins_to, contains_on, take_on}
 use Rattle.mon_topo.proofs.RangeHistoryLemmas.{all_append, all_on}
-use Rattle.mon_topo.specs.HeldHistories.{BeginsWith, Histories, leaf_history, range_history}
-use Rattle.mon_topo.specs.RangeHistories.{acked, serving}
-use Rattle.mon_topo.specs.Replicas.{same_leaf}
+use Rattle.mon_value.specs.Histories.{leaf_history, range_history}
+use Rattle.mon_value.specs.declared.histories.Histories.{Histories}
+use Rattle.mon_topo.specs.HeldHistories.{BeginsWith}
+use Rattle.mon_topo.specs.RangeHistories.{acknowledged_rows, serving}
 use Rattle.mon_topo.specs.SeenHistories.{AreWithin}
-use Rattle.mon_topo.specs.Zones.{range_numbered}
+use Rattle.mon_value.specs.Positions.{range_numbered, same_leaf}
 use Rattle.mon_value.proofs.LeafHistoryLemmas.{is_opened-append}
 use Rattle.mon_value.specs.LeafHistories.{entry_rows, is_opened, replica_rows}
 use Rattle.mon_value.specs.declared.histories.Entry.{Entry}
@@ -26,7 +27,7 @@ use Rattle.mon_value.specs.declared.positions.RangeSlot.{RangeSlot}
 use Rattle.mon_value.specs.declared.positions.SlotLeaf.{SlotLeaf}
 use Rattle.mon_value.specs.declared.rows.Row.{Row}
 use Rattle.mon_value.specs.declared.rows.SeriesKey.{SeriesKey}
-use Rattle.query_core.specs.Looks.{unread}
+use Rattle.query_core.specs.Looks.{unread_look}
 use Rattle.query_core.specs.Rounds.{slot_of, slots_on}
 use Rattle.query_core.specs.Traces.{IsBetween, IsFirst, first_serving, is_avoided, slot_rows}
 use Rattle.query_core.specs.declared.answers.Resolved.{Resolved}
@@ -41,7 +42,7 @@ abbrev pub range_of : Resolved → Range
 range_of one = one.range
 
 abbrev pub look_at : ℕ → List Look → Leaf → Look
-look_at low looks leaf = get_or looks (leaf.0 - low) (unread 0)
+look_at low looks leaf = get_or looks (leaf.0 - low) (unread_look 0)
 
 -- a replica was opened in its leaf's history, which has rows that were acknowledged
 pub record StandsIn (acknowledged : List Row) (history : List Entry) (one : Resolved) : Type 0 where
@@ -168,7 +169,8 @@ IsLookedAt at_entry now leaf look =
 
 abbrev pub StandsAt : Histories → Histories → ℕ → List Look → Resolved → Type 0
 StandsAt at_entry now low looks one =
-    StandsIn (acked (range_history at_entry one.range)) (up_to now one.leaf (look_at low looks one.leaf)) one
+    StandsIn (acknowledged_rows (range_history at_entry one.range)) (up_to now one.leaf (look_at low looks one.leaf))
+    one
 
 module _ (at_entry : Histories) (wanted : Row → Bool) (met : List ℕ → Bool) (buckets_of : SeriesKey → List ℕ) where
   -- the leaves from one number on and below another, and the ranges; of some leaves nothing is told yet
@@ -206,7 +208,7 @@ module _ (at_entry : Histories) (wanted : Row → Bool) (met : List ℕ → Bool
       → All (StandsAt at_entry before low looks) resolved → All (StandsAt at_entry after low looks) resolved
   stand_all_on before after grown avoided low high looks cuts [] each stand = record {}
   stand_all_on before after grown avoided low high looks cuts (one ∷ resolved) each stand = (
-    subst (λ (history : List Entry). StandsIn (acked (range_history at_entry one.range)) history one)
+    subst (λ (history : List Entry). StandsIn (acknowledged_rows (range_history at_entry one.range)) history one)
         (sym (same_up_to before after grown one.leaf (look_at low looks one.leaf)
         (cuts one.leaf each.0.from each.0.to)))
         stand.0,
@@ -257,13 +259,13 @@ module _ (at_entry : Histories) (wanted : Row → Bool) (met : List ℕ → Bool
   front_look : (low : ℕ) (looks more : List Look) (leaf : Leaf) → low ≤ leaf.0 → leaf.0 < low + length looks
       → look_at low (looks ++ more) leaf ≡ look_at low looks leaf
   front_look low looks more leaf from to =
-      get_or_append_left looks more (unread 0) (leaf.0 - low) (omega (arith, from, to))
+      get_or_append_left looks more (unread_look 0) (leaf.0 - low) (omega (arith, from, to))
 
   back_look : (low middle : ℕ) (looks more : List Look) (leaf : Leaf) → low + length looks ≡ middle → middle ≤ leaf.0
       → leaf.0 < middle + length more → look_at low (looks ++ more) leaf ≡ look_at middle more leaf
   back_look low middle looks more leaf long from to =
-      get_or-append_right looks more (length looks) (leaf.0 - low) (unread 0) refl (omega (arith, long, from))
-      ∙ ap (λ n. get_or more n (unread 0)) (omega (arith, long, from))
+      get_or-append_right looks more (length looks) (leaf.0 - low) (unread_look 0) refl (omega (arith, long, from))
+      ∙ ap (λ n. get_or more n (unread_look 0)) (omega (arith, long, from))
 
   none_on : (leaf : Leaf) (low high : ℕ) (now : Histories) (avoided : List Leaf) → (leaf.0 < low) ⊎ (high ≤ leaf.0)
       → (resolved : List Resolved) → All (ResolvedSo at_entry now avoided low high) resolved → slots_on leaf resolved
@@ -297,7 +299,8 @@ module _ (at_entry : Histories) (wanted : Row → Bool) (met : List ℕ → Bool
             → All (StandsAt at_entry now low (looks ++ others)) some
         by [] each stand = record {}
         by (x ∷ some) each stand = (
-          subst (λ (look : Look). StandsIn (acked (range_history at_entry x.range)) (up_to now x.leaf look) x)
+          subst (λ (look : Look). StandsIn (acknowledged_rows (range_history at_entry x.range)) (up_to now x.leaf look)
+              x)
               (sym (front_look low looks others x.leaf each.0.from (omega (arith, one.long, each.0.to)))) stand.0,
           by some each.1 stand.1,
         )
@@ -309,7 +312,8 @@ module _ (at_entry : Histories) (wanted : Row → Bool) (met : List ℕ → Bool
             → All (StandsAt at_entry now middle others) some → All (StandsAt at_entry now low (looks ++ others)) some
         by [] each stand = record {}
         by (x ∷ some) each stand = (
-          subst (λ (look : Look). StandsIn (acked (range_history at_entry x.range)) (up_to now x.leaf look) x)
+          subst (λ (look : Look). StandsIn (acknowledged_rows (range_history at_entry x.range)) (up_to now x.leaf look)
+              x)
               (sym (back_look low middle looks others x.leaf one.long each.0.from
               (omega (arith, two.long, each.0.to)))) stand.0,
           by some each.1 stand.1,

@@ -11,7 +11,7 @@ use Rattle.query_core.specs.declared.stages.Stage.{Stage}
 use Rattle.query_core.specs.declared.stages.Step.{Step}
 use Rattle.query_core.specs.declared.stages.Stage.TheVariants as at
 use Rattle.query_core.specs.declared.stages.Turn.TheVariants as turn
-use Rattle.query_core.specs.Courses.{begun, is_entered, left}
+use Rattle.query_core.specs.Courses.{with_next_zone, is_entered, left}
 use Rattle.query_core.specs.Loadings.{no_word, with_word}
 use Rattle.query_core.specs.Mixtures.{LeadsTo, MayBeTold, MayMix, Settles}
 use Rattle.query_core.specs.declared.asks.Told.{Told}
@@ -24,11 +24,11 @@ use Rattle.query_core.specs.Visits.{but_first, first_left}
 
 next_by : (course : Course) (area : Area) (areas : List Area) (enter : Bool) → is_entered course ≡ enter
     → next_zone (area ∷ areas) course
-    ≡ cond enter (turn.Goes (at.Entering (begun course) (round_of area) no_word))
-    (next_zone areas (left (begun course) area course.seen))
+    ≡ cond enter (turn.Goes (at.Entering (with_next_zone course) (round_of area) no_word))
+    (next_zone areas (left (with_next_zone course) area course.seen))
 next_by course area areas enter e =
-    ap (λ b. cond b (turn.Goes (at.Entering (begun course) (round_of area) no_word))
-    (next_zone areas (left (begun course) area course.seen))) e
+    ap (λ b. cond b (turn.Goes (at.Entering (with_next_zone course) (round_of area) no_word))
+    (next_zone areas (left (with_next_zone course) area course.seen))) e
 
 -- ---- the next leaf of several
 

@@ -12,9 +12,11 @@ use Rattle.mon_fold.specs.declared.answers.LeafAnswer.{LeafAnswer}
 use Rattle.mon_meaning.specs.Central.{IsOver}
 use Rattle.mon_meaning.specs.LeafAnswers.{IsOverLeaf}
 use Rattle.mon_meaning.specs.declared.meter.OverLimit.{OverLimit}
-use Rattle.mon_topo.specs.HeldHistories.{AreHeld, Histories, leaf_history}
-use Rattle.mon_topo.specs.Replicas.{same_leaf}
-use Rattle.mon_topo.specs.Zones.{first_leaf, leaf_numbered, leaf_zones}
+use Rattle.mon_value.specs.Histories.{leaf_history}
+use Rattle.mon_value.specs.declared.histories.Histories.{Histories}
+use Rattle.mon_topo.specs.HeldHistories.{AreHeld}
+use Rattle.mon_value.specs.Positions.{leaf_numbered, same_leaf}
+use Rattle.mon_topo.specs.Zones.{first_leaf, leaf_zones}
 use Rattle.mon_value.specs.declared.positions.Leaf.{Leaf}
 use Rattle.mon_value.specs.declared.refusals.Refusal.TheVariants as refusal
 use Rattle.mon_value.specs.declared.rows.Row.{Row}
@@ -28,8 +30,8 @@ use Rattle.query_core.specs.declared.areas.Area.{Area}
 use Rattle.query_core.specs.declared.courses.Course.{Course}
 use Rattle.query_core.specs.declared.looks.Look.{Look}
 use Rattle.query_core.specs.Areas.{area_of, leaf_at}
-use Rattle.query_core.specs.Courses.{closed, trace_of}
-use Rattle.query_core.specs.Looks.{unread}
+use Rattle.query_core.specs.Courses.{with_zone_behind, trace_of}
+use Rattle.query_core.specs.Looks.{unread_look}
 use Rattle.query_core.specs.Mixtures.{typed_of}
 use Rattle.query_core.specs.Rounds.{slots_on}
 use Rattle.query_core.specs.Settings.{Setting}
@@ -53,15 +55,15 @@ module _ (store : Store) (setting : Setting) (asked : IsAskedOf store setting) (
     (exit : Histories) (held : AreHeld store.held store.zones store.points exit) where
   module _ (before : Course) (area : Area) (resolved : List Resolved) (looks : List Look)
       (inside : CourseIn store setting moment exit before area) (whole : IsWhole area resolved looks)
-      (zoned : AllZoned store.zones (trace_of (closed before resolved looks)).resolved) where
+      (zoned : AllZoned store.zones (trace_of (with_zone_behind before resolved looks)).resolved) where
     abbrev k : ℕ
     k = length inside.segments
 
     abbrev course : Course
-    course = closed before resolved looks
+    course = with_zone_behind before resolved looks
 
     abbrev whole_trace : Trace
-    whole_trace = trace_of (closed before resolved looks)
+    whole_trace = trace_of (with_zone_behind before resolved looks)
 
     abbrev after : ℕ
     after = length store.zones - (k + 1)
@@ -86,9 +88,9 @@ module _ (store : Store) (setting : Setting) (asked : IsAskedOf store setting) (
       front_count = before_so.ranges_count;
       count = whole.all_ranges ∙ ap (λ (area : Area). area.ranges) inside.here;
       looks_front = before.looks;
-      looks_back = map unread (drop (length course.looks) course.seen.cuts);
+      looks_back = map unread_look (drop (length course.looks) course.seen.cuts);
       cuts_are = ap cuts_of (append_assoc before.looks looks
-          (map unread (drop (length course.looks) course.seen.cuts)));
+          (map unread_look (drop (length course.looks) course.seen.cuts)));
       looks_front_count = before_so.leaves_count;
       looks_count = whole.all_leaves ∙ ap (λ (area : Area). area.leaves) inside.here;
     }

@@ -3,7 +3,7 @@ use Rattle.std.proofs.Common.{◌≡◌, ◌∙◌, ◌<◌, ◌≤◌, ◌+◌,
 use Rattle.std.proofs.Common.{arith}
 use Rattle.std.specs.List.{AllByRecursion, flat_map}
 use Rattle.std.proofs.lemmas.List.{length-append}
-use Rattle.mon_topo.specs.HeldHistories.{Histories}
+use Rattle.mon_value.specs.declared.histories.Histories.{Histories}
 use Rattle.mon_topo.specs.Zones.{first_leaf, first_range}
 use Rattle.mon_topo.specs.declared.zones.ZoneSpec.{ZoneSpec}
 use Rattle.query_core.specs.declared.answers.Resolved.{Resolved}
@@ -11,7 +11,7 @@ use Rattle.query_core.specs.declared.areas.Area.{Area}
 use Rattle.query_core.specs.declared.courses.Course.{Course}
 use Rattle.query_core.specs.declared.looks.Look.{Look}
 use Rattle.query_core.specs.Areas.{area_of}
-use Rattle.query_core.specs.Courses.{closed, trace_of}
+use Rattle.query_core.specs.Courses.{with_zone_behind, trace_of}
 use Rattle.query_core.specs.Settings.{Setting}
 use Rattle.query_core.proofs.SegmentFacts.{AreFrom, Behind, IsWhole, Mixed, Passed, RangesFrom, Segment, SegmentSo}
 use Rattle.query_core.proofs.SegmentFacts.{SeenSo, area_in, looks_in, ranges_append, ranges_behind, resolved_in}
@@ -108,7 +108,7 @@ module _ (setting : Setting) (moment : ℤ) (zones : List ZoneSpec) (now : Histo
   pub closed_so : (k : ℕ) (before : Course) (area : Area) (resolved : List Resolved) (looks : List Look)
       → k < length zones
       → area ≡ area_of zones k → IsThrough k before → IsWhole area resolved looks
-      → IsThrough (k + 1) (closed before resolved looks)
+      → IsThrough (k + 1) (with_zone_behind before resolved looks)
   closed_so k before area resolved looks there is so whole =
       let count : length resolved ≡ (area_of zones k).ranges = whole.all_ranges ∙ ap (λ (area : Area). area.ranges)
       is in

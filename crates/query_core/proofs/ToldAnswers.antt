@@ -1,6 +1,6 @@
 -- What a licensed session asks of is there, and may be told truly; and the slots of a leaf that it visits can be read.
 use Rattle.std.proofs.Common.{◌≡◌, ◌≤ℤ◌, ℕ, ℤ, pos, true, List, length, take, sym, ap, subst}
-use Rattle.mon_topo.specs.HeldHistories.{leaf_history}
+use Rattle.mon_value.specs.Histories.{leaf_history}
 use Rattle.mon_topo.specs.SeenHistories.{AreWithin}
 use Rattle.mon_topo.specs.Settings.{Setting as Store}
 use Rattle.mon_topo.specs.Zones.{first_leaf}

@@ -11,10 +11,13 @@ use Rattle.mon_hints.specs.HistoryBuckets.{history_buckets}
 use Rattle.mon_schema.specs.Fits.{fits, fits_both, row_fits}
 use Rattle.mon_schema.specs.SchemaLists.{SchemaLists, metric_named, target_named}
 use Rattle.mon_topo.proofs.RangeHistoryLemmas.{all_at, all_on}
-use Rattle.mon_topo.specs.HeldHistories.{AreHeld, Histories, leaf_history, range_history}
-use Rattle.mon_topo.specs.RangeHistories.{acked}
+use Rattle.mon_value.specs.Histories.{leaf_history, range_history}
+use Rattle.mon_value.specs.declared.histories.Histories.{Histories}
+use Rattle.mon_topo.specs.HeldHistories.{AreHeld}
+use Rattle.mon_topo.specs.RangeHistories.{acknowledged_rows}
 use Rattle.mon_topo.specs.Settings.{Setting as Store}
-use Rattle.mon_topo.specs.Zones.{first_leaf, range_numbered}
+use Rattle.mon_value.specs.Positions.{range_numbered}
+use Rattle.mon_topo.specs.Zones.{first_leaf}
 use Rattle.mon_value.specs.LeafHistories.{IsDownAt, is_opened, leaf_rows, replica_rows}
 use Rattle.mon_value.specs.declared.histories.Entry.{Entry}
 use Rattle.mon_value.specs.declared.positions.FoundDown.{FoundDown}
@@ -25,7 +28,7 @@ use Rattle.mon_value.specs.declared.schemas.MetricSchema.{MetricSchema}
 use Rattle.mon_value.specs.declared.schemas.TargetSchema.{TargetSchema}
 use Rattle.mql_types.specs.Loads.{meets}
 use Rattle.mql_types.specs.Nodes.{NodeTree}
-use Rattle.mql_types.specs.Pieces.{sent}
+use Rattle.mql_types.specs.Pieces.{sent_amount}
 use Rattle.mql_types.specs.Plans.{fetches}
 use Rattle.plan_split.proofs.FitLemmas.{fields_of_fitting}
 use Rattle.plan_split.specs.Promises.{AllHoldWhereMet}
@@ -33,17 +36,17 @@ use Rattle.query_core.proofs.AckedRows.{in_flat_map}
 use Rattle.query_core.proofs.HintFacts.{none_wanted}
 use Rattle.query_core.proofs.Spans.{ResolvedSo, StandsAt, look_at, range_of, up_to}
 use Rattle.query_core.proofs.TraceClaims as claim
-use Rattle.query_core.proofs.TraceClaims.{Nobody}
 use Rattle.query_core.proofs.ZoneFacts.{all_leaves, all_ranges}
 use Rattle.query_core.specs.Askings.{IsAskedOf}
 use Rattle.query_core.specs.Findings.{IsFoundThen}
-use Rattle.query_core.specs.Looks.{unread}
+use Rattle.query_core.specs.Looks.{unread_look}
 use Rattle.query_core.specs.Mixtures.{typed_of}
-use Rattle.query_core.specs.Openings.{is_met}
+use Rattle.query_core.specs.Openings.{is_plan_met}
 use Rattle.query_core.specs.Rounds.{slots_on}
 use Rattle.query_core.specs.Sessions.{View}
 use Rattle.query_core.specs.Settings.{Setting}
-use Rattle.query_core.specs.Traces.{IsFirst, IsFresh, IsReadRightly, IsTraceOf, cut_of, is_wanted, looked_at, rows_of}
+use Rattle.query_core.specs.Traces.{IsFirst, IsFresh, IsReadRightly, IsTraceOf, cut_of, is_wanted, looked_at}
+use Rattle.query_core.specs.Traces.{resolved_rows}
 use Rattle.query_core.specs.Traces.{rows_on, sent_by, sent_if, slot_rows, source_of, was_read}
 use Rattle.query_core.specs.declared.answers.Resolved.{Resolved}
 use Rattle.query_core.specs.declared.answers.Trace.{Trace}
@@ -154,16 +157,16 @@ module _ (store : Store) (setting : Setting) (moment : ℤ) (at_entry : Historie
   cut_is : (leaf : Leaf) → leaf.0 < all → cut_of trace leaf ≡ (look_at 0 is.looks leaf).cut
   cut_is leaf within =
       ap (λ cuts. get_or cuts leaf.0 0) is.cuts
-      ∙ get_or-map (λ (look : Look). look.cut) is.looks leaf.0 (unread 0) 0
+      ∙ get_or-map (λ (look : Look). look.cut) is.looks leaf.0 (unread_look 0) 0
       (omega (arith, within, leaves_are, looks_long))
-      ∙ ap (λ n. (get_or is.looks n (unread 0)).cut) (omega arith)
+      ∙ ap (λ n. (get_or is.looks n (unread_look 0)).cut) (omega arith)
 
   read_is : (leaf : Leaf) → leaf.0 < all → was_read trace leaf ≡ (look_at 0 is.looks leaf).read
   read_is leaf within =
       ap (λ flags. get_or flags leaf.0 false) is.read
-      ∙ get_or-map (λ (look : Look). look.read) is.looks leaf.0 (unread 0) false
+      ∙ get_or-map (λ (look : Look). look.read) is.looks leaf.0 (unread_look 0) false
       (omega (arith, within, leaves_are, looks_long))
-      ∙ ap (λ n. (get_or is.looks n (unread 0)).read) (omega arith)
+      ∙ ap (λ n. (get_or is.looks n (unread_look 0)).read) (omega arith)
 
   looked_is : (leaf : Leaf) → leaf.0 < all → looked_at now.seen trace leaf ≡ up_to now.seen leaf
       (look_at 0 is.looks leaf)
@@ -172,8 +175,8 @@ module _ (store : Store) (setting : Setting) (moment : ℤ) (at_entry : Historie
   stand_by : (some : List Resolved) → All (ResolvedSo at_entry now.seen is.avoided 0 all) some
       → All (StandsAt at_entry now.seen 0 is.looks) some
       → All (λ (one : Resolved). is_opened one.range one.slot (looked_at now.seen trace one.leaf) ≡ true) some
-      × All (λ (one : Resolved). All (Contains (rows_of now.seen trace one))
-      (acked (range_history at_entry one.range))) some
+      × All (λ (one : Resolved). All (Contains (resolved_rows now.seen trace one))
+      (acknowledged_rows (range_history at_entry one.range))) some
   stand_by [] each stand = (record {}, record {})
   stand_by (one ∷ some) each stand =
       let rest = stand_by some each.1 stand.1 in
@@ -181,7 +184,8 @@ module _ (store : Store) (setting : Setting) (moment : ℤ) (at_entry : Historie
         (subst (λ (history : List Entry). is_opened one.range one.slot history ≡ true) same stand.0.opened, rest.0),
         (
           subst (λ (history : List Entry).
-              All (Contains (replica_rows one.range one.slot history)) (acked (range_history at_entry one.range)))
+              All (Contains (replica_rows one.range one.slot history))
+              (acknowledged_rows (range_history at_entry one.range)))
               same stand.0.rows,
           rest.1,
         ),
@@ -189,7 +193,7 @@ module _ (store : Store) (setting : Setting) (moment : ℤ) (at_entry : Historie
 
   -- it is of the histories that were seen, but for how much was sent
   pub trace_of_histories : ((leaf : Leaf) → leaf.0 < length now.seen.leaves
-      → sent_by trace leaf ≡ sent_if (was_read trace leaf) (sent (typed_of setting) (rows_on now.seen trace leaf)
+      → sent_by trace leaf ≡ sent_if (was_read trace leaf) (sent_amount (typed_of setting) (rows_on now.seen trace leaf)
       moment))
       → IsTraceOf (typed_of setting) moment at_entry now.seen trace
   trace_of_histories sends = record {
@@ -222,13 +226,14 @@ module _ (store : Store) (setting : Setting) (moment : ℤ) (at_entry : Historie
         (let one = of_range trace.resolved 0 (length trace.resolved) range.0 is.span.ranges
         (omega (arith, within, resolved_long)) in
         let same : one.one.range ≡ range = one.is ∙ ap range_numbered (omega arith) in
-        let rows = all_at (λ (one : Resolved). All (Contains (rows_of now.seen trace one))
-        (acked (range_history at_entry one.range)))
+        let rows = all_at (λ (one : Resolved). All (Contains (resolved_rows now.seen trace one))
+        (acknowledged_rows (range_history at_entry one.range)))
         trace.resolved one.one (stand_by trace.resolved is.span.each is.span.stand).1 one.there in
-        subst (λ (r : Range). All (Contains (source_of now.seen trace)) (acked (range_history at_entry r))) same
-        (all_on (Contains (rows_of now.seen trace one.one)) (Contains (source_of now.seen trace))
-        (λ row here. in_flat_map (rows_of now.seen trace) trace.resolved one.one row one.there here)
-        (acked (range_history at_entry one.one.range)) rows));
+        subst (λ (r : Range). All (Contains (source_of now.seen trace)) (acknowledged_rows (range_history at_entry r)))
+        same
+        (all_on (Contains (resolved_rows now.seen trace one.one)) (Contains (source_of now.seen trace))
+        (λ row here. in_flat_map (resolved_rows now.seen trace) trace.resolved one.one row one.there here)
+        (acknowledged_rows (range_history at_entry one.one.range)) rows));
   }
 
   -- a leaf of which something is told was read, or not, rightly
@@ -242,7 +247,8 @@ module _ (store : Store) (setting : Setting) (moment : ℤ) (at_entry : Historie
         | inr tells ↦ record {
           unread = λ e. subst (λ (history : List Entry). All (λ row. is_wanted (typed_of setting) row ≡ false)
               (slot_rows history (slots_on leaf trace.resolved))) same (tells.unread (sym (read_is leaf low) ∙ e));
-          read = λ e. subst (λ (history : List Entry). is_met setting.plan (history_buckets store.buckets_of history)
+          read = λ e. subst (λ (history : List Entry). is_plan_met setting.plan
+              (history_buckets store.buckets_of history)
               ≡ true) same
               (tells.read (sym (read_is leaf low) ∙ e));
         }

@@ -1,15 +1,17 @@
 -- What is known of a query's looks at each of its stages, and that it stays so as more is seen.
 use Rattle.std.proofs.Common.{◌≡◌, ℕ, ◌+◌, ◌<◌, ◌≤◌, Bool, false, List, [], ◌∷◌, length, map, Contains, Ok, Err, Result}
 use Rattle.std.specs.List.{AllByRecursion as All, range_with_len}
-use Rattle.mon_hints.specs.Covers.{AreBitsWithin, AreKept, Bits}
+use Rattle.mon_hints.specs.Covers.{AreBitsWithin, StaysSet, Bits}
 use Rattle.mon_hints.specs.HistoryBuckets.{history_buckets}
 use Rattle.mon_topo.proofs.HeldLemmas.{seen_within_through}
 use Rattle.mon_topo.proofs.RangeHistoryLemmas.{all_on}
-use Rattle.mon_topo.specs.HeldHistories.{Histories, leaf_history, range_history}
-use Rattle.mon_topo.specs.RangeHistories.{acked}
+use Rattle.mon_value.specs.Histories.{leaf_history, range_history}
+use Rattle.mon_value.specs.declared.histories.Histories.{Histories}
+use Rattle.mon_topo.specs.RangeHistories.{acknowledged_rows}
 use Rattle.mon_topo.specs.SeenHistories.{AreWithin}
 use Rattle.mon_topo.specs.Settings.{Setting as Store}
-use Rattle.mon_topo.specs.Zones.{first_leaf, first_range, range_numbered}
+use Rattle.mon_value.specs.Positions.{range_numbered}
+use Rattle.mon_topo.specs.Zones.{first_leaf, first_range}
 use Rattle.mon_topo.specs.declared.zones.ZoneSpec.{ZoneSpec}
 use Rattle.mon_value.specs.declared.positions.FoundDown.{FoundDown}
 use Rattle.mon_value.specs.declared.positions.Leaf.{Leaf}
@@ -21,7 +23,7 @@ use Rattle.query_core.proofs.Spans.{ResolvedSo, SpanSo, StandsIn, range_of, reso
 use Rattle.query_core.specs.Areas.{area_of, range_at}
 use Rattle.query_core.specs.Findings.{HasNoReplica}
 use Rattle.query_core.specs.Mixtures.{typed_of}
-use Rattle.query_core.specs.Openings.{flag_at, is_met}
+use Rattle.query_core.specs.Openings.{flag_at, is_plan_met}
 use Rattle.query_core.specs.Rounds.{Round}
 use Rattle.query_core.specs.Sessions.{IsGrown, IsSeenSo, IsSound, View}
 use Rattle.query_core.specs.Settings.{Setting}
@@ -70,7 +72,7 @@ module _ (store : Store) (setting : Setting) where
   wanted = is_wanted (typed_of setting)
 
   abbrev pub met : List ℕ → Bool
-  met = is_met setting.plan
+  met = is_plan_met setting.plan
 
 module _ (store : Store) (setting : Setting) (at_entry : Histories) where
   abbrev pub zones : List ZoneSpec
@@ -131,7 +133,8 @@ module _ (store : Store) (setting : Setting) (at_entry : Histories) where
 
   abbrev pub Opened : List Resolved → Histories → Type 0
   Opened resolved seen =
-      All (λ (one : Resolved). StandsIn (acked (range_history at_entry one.range)) (leaf_history seen one.leaf) one)
+      All (λ (one : Resolved). StandsIn (acknowledged_rows (range_history at_entry one.range))
+      (leaf_history seen one.leaf) one)
       resolved
 
   abbrev pub Resolves : View → List Leaf → ℕ → List Resolved → Type 0
@@ -228,7 +231,7 @@ module _ (store : Store) (setting : Setting) (at_entry : Histories) where
   -- ---- as more is seen and known
 
   module _ (before after : View) (grown : IsGrown before after) where
-    kept_through : (a b c : ℕ → ℕ → Bool) → AreKept a b → AreKept b c → AreKept a c
+    kept_through : (a b c : ℕ → ℕ → Bool) → StaysSet a b → StaysSet b c → StaysSet a c
     kept_through a b c h k place bucket set = k place bucket (h place bucket set)
 
     pub then_on : (seen : Seen) (then : View) → SeenThen before seen then → SeenThen after seen then
@@ -302,11 +305,13 @@ module _ (store : Store) (setting : Setting) (at_entry : Histories) where
           (first_leaf zones (k + 1)) one)
           resolved is.each;
       opened = all_on
-          (λ (one : Resolved). StandsIn (acked (range_history at_entry one.range)) (leaf_history before.seen one.leaf)
+          (λ (one : Resolved). StandsIn (acknowledged_rows (range_history at_entry one.range))
+          (leaf_history before.seen one.leaf)
           one)
-          (λ (one : Resolved). StandsIn (acked (range_history at_entry one.range)) (leaf_history after.seen one.leaf)
+          (λ (one : Resolved). StandsIn (acknowledged_rows (range_history at_entry one.range))
+          (leaf_history after.seen one.leaf)
           one)
-          (λ one. stands_on (acked (range_history at_entry one.range)) (leaf_history after.seen one.leaf)
+          (λ one. stands_on (acknowledged_rows (range_history at_entry one.range)) (leaf_history after.seen one.leaf)
           (leaf_history before.seen one.leaf) one (grown.seen.leaves one.leaf))
           resolved is.opened;
     }

@@ -2,14 +2,15 @@
 -- limit is that over them.
 use Rattle.std.proofs.Common.{◌≡◌, ◌∙◌, ◌<◌, ◌≤ℤ◌, inl, inr, ℤ, pos, sym, ap, subst}
 use Rattle.mon_meaning.specs.Central.{IsMeant}
-use Rattle.mon_topo.specs.HeldHistories.{AreHeld, Histories}
+use Rattle.mon_value.specs.declared.histories.Histories.{Histories}
+use Rattle.mon_topo.specs.HeldHistories.{AreHeld}
 use Rattle.mql_types.specs.Loads.{load}
 use Rattle.mon_topo.specs.Settings.{Setting as Store}
 use Rattle.query_core.specs.Askings.{IsAskedOf}
 use Rattle.query_core.specs.declared.answers.Answer.{Answer}
 use Rattle.query_core.specs.declared.answers.Trace.{Trace}
 use Rattle.query_core.specs.declared.courses.Course.{Course}
-use Rattle.query_core.specs.Courses.{closed, trace_of}
+use Rattle.query_core.specs.Courses.{with_zone_behind, trace_of}
 use Rattle.query_core.specs.Mixtures.{typed_of}
 use Rattle.query_core.specs.Settings.{Setting}
 use Rattle.query_core.specs.Traces.{source_of}
@@ -45,7 +46,8 @@ module _ (store : Store) (setting : Setting) (asked : IsAskedOf store setting) (
       of.resolved → IsAbove of
   zone_above of so zoned =
       let own = so.gathered in
-      let trace_is : of ≡ trace_of (closed own.before own.resolved own.looks) = so.trace_is ∙ ap trace_of own.is in
+      let trace_is : of ≡ trace_of (with_zone_behind own.before own.resolved own.looks) = so.trace_is
+      ∙ ap trace_of own.is in
       subst IsAbove (sym trace_is)
       (zone_over store setting asked moment from exit held own.before own.area own.resolved own.looks own.in_zone
       own.whole
@@ -88,7 +90,8 @@ module _ (store : Store) (setting : Setting) (asked : IsAskedOf store setting) (
       → IsSent of
   zone_sends of so zoned =
       let own = so.gathered in
-      let trace_is : of ≡ trace_of (closed own.before own.resolved own.looks) = so.trace_is ∙ ap trace_of own.is in
+      let trace_is : of ≡ trace_of (with_zone_behind own.before own.resolved own.looks) = so.trace_is
+      ∙ ap trace_of own.is in
       subst IsSent (sym trace_is)
       (stopped_sends store setting asked moment from exit held own.before own.area own.resolved own.looks own.in_zone
       own.whole

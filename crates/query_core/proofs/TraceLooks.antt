@@ -10,12 +10,14 @@ use Rattle.mon_hints.specs.HistoryBuckets.{history_buckets}
 use Rattle.mon_schema.specs.Fits.{fits}
 use Rattle.mon_topo.proofs.FrontLemmas.{begins_length}
 use Rattle.mon_topo.proofs.HeldLemmas.{leaf_same}
-use Rattle.mon_topo.specs.HeldHistories.{Histories, leaf_history, range_history}
-use Rattle.mon_topo.specs.RangeHistories.{acked}
+use Rattle.mon_value.specs.Histories.{leaf_history, range_history}
+use Rattle.mon_value.specs.declared.histories.Histories.{Histories}
+use Rattle.mon_topo.specs.RangeHistories.{acknowledged_rows}
 use Rattle.mon_topo.specs.Replicas.{HasReplicas}
 use Rattle.mon_topo.specs.SeenHistories.{AreWithin}
 use Rattle.mon_topo.specs.Settings.{Setting as Store}
-use Rattle.mon_topo.specs.Zones.{first_leaf, first_range, range_numbered, ranges_in}
+use Rattle.mon_value.specs.Positions.{range_numbered}
+use Rattle.mon_topo.specs.Zones.{first_leaf, first_range, ranges_in}
 use Rattle.mon_value.specs.LeafHistories.{leaf_rows}
 use Rattle.mon_value.specs.declared.histories.Entry.{Entry}
 use Rattle.mon_value.specs.declared.positions.Leaf.{Leaf}
@@ -26,12 +28,12 @@ use Rattle.query_core.proofs.TraceClaims as claim
 use Rattle.query_core.proofs.TraceVisits.{fronts_begin}
 use Rattle.query_core.proofs.TraceWords.{rest_seen}
 use Rattle.query_core.specs.Courses.{all_looks, trace_of}
-use Rattle.query_core.specs.Looks.{unread}
+use Rattle.query_core.specs.Looks.{unread_look}
 use Rattle.query_core.specs.Rounds.{slots_on}
 use Rattle.query_core.specs.Sessions.{IsGrown, View}
 use Rattle.query_core.specs.Settings.{Setting}
 use Rattle.query_core.specs.Traces.{IsBetween}
-use Rattle.query_core.specs.Visits.{Visits, looked}
+use Rattle.query_core.specs.Visits.{Visits, with_look}
 use Rattle.query_core.specs.declared.answers.Resolved.{Resolved}
 use Rattle.query_core.specs.declared.courses.Course.{Course}
 use Rattle.query_core.specs.declared.looks.Look.{Look}
@@ -62,13 +64,13 @@ module _ (store : Store) (setting : Setting) (at_entry : Histories) (before afte
 
   look_here : (other : Leaf) → other.0 ≡ leaf.0 → look_at low now_looks other ≡ look
   look_here other e =
-      ap (λ n. get_or now_looks (n - low) (unread 0)) e
-      ∙ get_or-set_same looks (leaf.0 - low) look (unread 0) (omega (arith, from, to, was.long))
+      ap (λ n. get_or now_looks (n - low) (unread_look 0)) e
+      ∙ get_or-set_same looks (leaf.0 - low) look (unread_look 0) (omega (arith, from, to, was.long))
 
   look_there : (other : Leaf) → low ≤ other.0 → (other.0 ≡ leaf.0 → ⊥) → look_at low now_looks other ≡ look_at low
       looks other
   look_there other above differ =
-      get_or-set_other looks (leaf.0 - low) (other.0 - low) look (unread 0)
+      get_or-set_other looks (leaf.0 - low) (other.0 - low) look (unread_look 0)
       (λ e. differ (omega (arith, e, from, above)))
 
   looked_here : IsLookedAt at_entry after.seen leaf look
@@ -95,7 +97,7 @@ module _ (store : Store) (setting : Setting) (at_entry : Histories) (before afte
   stand_here : (one : Resolved) → low ≤ one.leaf.0 → one.leaf.0 < high → one.leaf.0 ≡ leaf.0
       → StandsAt at_entry before.seen low looks one → StandsAt at_entry after.seen low now_looks one
   stand_here one above below e stands =
-      let rows = acked (range_history at_entry one.range) in
+      let rows = acknowledged_rows (range_history at_entry one.range) in
       let same : one.leaf ≡ leaf = leaf_same one.leaf leaf e in
       let old = look_at low looks one.leaf in
       let is_old = was.cuts one.leaf above below in
@@ -114,7 +116,8 @@ module _ (store : Store) (setting : Setting) (at_entry : Histories) (before afte
     elim (cases_eq one.leaf.0 leaf.0) [
       | inl e ↦ stand_here one each.0.from each.0.to e old.0
       | inr differ ↦ subst
-          (λ (it : Look). StandsIn (acked (range_history at_entry one.range)) (up_to after.seen one.leaf it) one)
+          (λ (it : Look). StandsIn (acknowledged_rows (range_history at_entry one.range))
+          (up_to after.seen one.leaf it) one)
           (sym (look_there one.leaf each.0.from differ)) new.0
     ],
     stand_by some each.1 old.1 new.1,
@@ -147,7 +150,7 @@ module _ (store : Store) (setting : Setting) (at_entry : Histories) (before afte
 
 -- the looks of visits that looked at a leaf of theirs
 pub looked_is : (visits : Visits) (leaf : Leaf) (look : Look) (low : ℕ) → visits.first.0 ≡ low → low ≤ leaf.0
-    → (looked visits leaf look).looks ≡ set visits.looks (leaf.0 - low) look
+    → (with_look visits leaf look).looks ≡ set visits.looks (leaf.0 - low) look
 looked_is visits leaf look low e from =
     let above : nat_le visits.first.0 leaf.0 ≡ true = grind (arith, nat_tests) in
     ap (λ b. cond b (set visits.looks (leaf.0 - visits.first.0) look) visits.looks) above
@@ -186,7 +189,7 @@ module _ (store : Store) (setting : Setting) (at_entry : Histories)
             (first_leaf store.zones (length store.zones)) 0
             (first_range store.zones (length store.zones)) (course.resolved ++ drop (first_range store.zones k)
             course.seen.firsts)
-            (course.looks ++ map unread (drop b course.seen.cuts))) leaves all);
+            (course.looks ++ map unread_look (drop b course.seen.cuts))) leaves all);
         cuts = refl;
         read = refl;
         counts = length-map (all_looks course) (λ (look : Look). look.sent);

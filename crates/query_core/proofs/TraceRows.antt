@@ -21,11 +21,12 @@ use Rattle.mon_value.specs.declared.tables.Table.{Table}
 use Rattle.mon_schema.specs.Fits.{fits}
 use Rattle.mon_schema.specs.SchemaLists.{SchemaLists}
 use Rattle.mon_topo.proofs.RangeHistoryLemmas.{all_from}
-use Rattle.mon_topo.specs.HeldHistories.{AreAtHome, AreHeld, Histories, IsAtHome, leaf_history}
+use Rattle.mon_value.specs.Histories.{leaf_history}
+use Rattle.mon_value.specs.declared.histories.Histories.{Histories}
+use Rattle.mon_topo.specs.HeldHistories.{AreAtHome, AreHeld, IsAtHome}
 use Rattle.mon_topo.specs.RangeHistories.{IsInZoneOf}
-use Rattle.mon_topo.specs.Replicas.{same_leaf}
 use Rattle.mon_topo.specs.Settings.{Setting as Store}
-use Rattle.mon_topo.specs.Zones.{leaf_numbered}
+use Rattle.mon_value.specs.Positions.{leaf_numbered, same_leaf}
 use Rattle.mon_topo.specs.declared.zones.ZoneSpec.{ZoneSpec}
 use Rattle.mon_meaning.proofs.FilterLemmas.{filter_twice}
 use Rattle.mon_meaning.specs.Central.{IsMeant, IsOver}
@@ -115,7 +116,7 @@ module _ (held : SchemaLists) (zones : List ZoneSpec) (range : Range) (slot : Sl
 
 module _ (exit : Histories) (of : Trace) where
   abbrev pub own_rows : Resolved → List Row
-  own_rows one = trace.rows_of exit of one
+  own_rows one = trace.resolved_rows exit of one
 
   same_leaves : (a b : Leaf) → same_leaf a b ≡ true → a ≡ b
   same_leaves a b same =

@@ -18,11 +18,14 @@ use Rattle.mon_meaning.specs.declared.meter.OverLimit.{OverLimit}
 use Rattle.mon_schema.specs.Fits.{fits}
 use Rattle.mon_topo.proofs.FrontLemmas.{begins_from, contains_on}
 use Rattle.mon_topo.proofs.HeldLemmas.{seen_within_itself, seen_within_through}
-use Rattle.mon_topo.specs.HeldHistories.{AreAtHome, Histories, leaf_history}
+use Rattle.mon_value.specs.Histories.{leaf_history}
+use Rattle.mon_value.specs.declared.histories.Histories.{Histories}
+use Rattle.mon_topo.specs.HeldHistories.{AreAtHome}
 use Rattle.mon_topo.specs.Replicas.{HasReplicas}
 use Rattle.mon_topo.specs.SeenHistories.{AreWithin}
 use Rattle.mon_topo.specs.Settings.{Setting as Store}
-use Rattle.mon_topo.specs.Zones.{first_leaf, first_range, leaf_numbered, range_numbered, ranges_in, zone_numbered}
+use Rattle.mon_value.specs.Positions.{leaf_numbered, range_numbered, zone_numbered}
+use Rattle.mon_topo.specs.Zones.{first_leaf, first_range, ranges_in}
 use Rattle.mon_topo.specs.declared.zones.ZoneSpec.{ZoneSpec}
 use Rattle.mon_value.specs.LeafHistories.{leaf_rows}
 use Rattle.mon_value.specs.declared.histories.Entry.{Entry}
@@ -40,9 +43,9 @@ use Rattle.query_core.proofs.TraceVisits.{down_so, none_so, slot_so, visits_begu
 use Rattle.query_core.proofs.TraceWords.{loading_from, root_shut, word_loaded, zone_shut}
 use Rattle.query_core.proofs.ZoneFacts.{leaves_next, zone_of_leaf_at}
 use Rattle.query_core.specs.Areas.{area_of, areas_of}
-use Rattle.query_core.specs.Courses.{course_of, kept, left, trace_of}
+use Rattle.query_core.specs.Courses.{course_of, with_zone_answer, left, trace_of}
 use Rattle.query_core.specs.Loadings.{is_whole, with_word}
-use Rattle.query_core.specs.Looks.{read_at, unread}
+use Rattle.query_core.specs.Looks.{read_at, unread_look}
 use Rattle.query_core.specs.Machine.{Query, avoided_after, new_query, slots_at}
 use Rattle.query_core.specs.Mixtures.{Settles, TurnSettles, root_stage, zone_turn}
 use Rattle.query_core.specs.Openings.{flag_at, let_in}
@@ -50,11 +53,11 @@ use Rattle.query_core.specs.Program as spec
 use Rattle.query_core.specs.Program.{ask_of, begin_visits, let_some_in, next_zone, resolving, visiting, with_zone}
 use Rattle.query_core.specs.Rounds.{Round, slots_on}
 use Rattle.query_core.specs.Sessions as session
-use Rattle.query_core.specs.Sessions.{IsFoundSo, IsGrown, IsRootWord, IsSeenSo, IsSound, IsZoneWord, View, rows_at}
+use Rattle.query_core.specs.Sessions.{IsFoundSo, IsGrown, IsSound, IsZoneWord, View}
 use Rattle.query_core.specs.Settings.{Setting}
 use Rattle.query_core.specs.Traces.{IsBetween}
 use Rattle.query_core.specs.Visits as visit
-use Rattle.query_core.specs.Visits.{Visits, looked}
+use Rattle.query_core.specs.Visits.{Visits, with_look}
 use Rattle.query_core.specs.declared.answers.RoundFault.TheVariants as fault
 use Rattle.query_core.specs.declared.areas.Area.{Area}
 use Rattle.query_core.specs.declared.asks.Seen.{Seen}
@@ -104,7 +107,7 @@ module _ (store : Store) (setting : Setting) (moment : ℤ) (at_entry : Historie
         (ap (λ n. drop n setting.areas) is.begun ∙ ap (drop is.k) areas) is.within is.begun is.course_is
 
     kept_so : (course : Course) (answer : ZoneAnswer) → claim.BehindSo store setting at_entry now avoided course
-        → claim.BehindSo store setting at_entry now avoided (kept course answer)
+        → claim.BehindSo store setting at_entry now avoided (with_zone_answer course answer)
     kept_so course answer is = record {
       k = is.k;
       begun = is.begun;
@@ -156,7 +159,7 @@ module _ (store : Store) (setting : Setting) (moment : ℤ) (at_entry : Historie
     pub zone_so : (course : Course) (mixed : Result ZoneAnswer OverLimit) → claim.BehindSo store setting at_entry now
         avoided course
         → claim.TurnSo store setting at_entry now avoided (zone_turn setting course mixed)
-    zone_so course (Ok answer) is = behind_next (kept course answer) (kept_so course answer is)
+    zone_so course (Ok answer) is = behind_next (with_zone_answer course answer) (kept_so course answer is)
     zone_so course (Err over) is = stops_so course is
 
     pub settles_so : (some : Step) (new : Stage) → StepSo now avoided some → Settles setting some new
@@ -387,7 +390,7 @@ module _ (store : Store) (setting : Setting) (moment : ℤ) (at_entry : Historie
           (up_to after.seen leaf look) (slots_on leaf round.resolved) look)
           → claim.Span store setting at_entry after.seen avoided Skip (first_leaf zs k) (first_leaf zs (k + 1))
           (first_range zs k)
-          (first_range zs (k + 1)) round.resolved (looked visits leaf look).looks
+          (first_range zs (k + 1)) round.resolved (with_look visits leaf look).looks
       looked_span Skip look between others own =
           subst (claim.Span store setting at_entry after.seen avoided Skip (first_leaf zs k) (first_leaf zs (k + 1))
           (first_range zs k)
@@ -402,7 +405,7 @@ module _ (store : Store) (setting : Setting) (moment : ℤ) (at_entry : Historie
           (length (leaf_history after.seen leaf)) look.cut
           → Tells (claim.wanted store setting) (claim.met store setting) store.buckets_of (up_to after.seen leaf look)
           (slots_on leaf round.resolved) look
-          → claim.VisitsSo store setting at_entry after avoided k round (looked visits leaf look) visits.left
+          → claim.VisitsSo store setting at_entry after avoided k round (with_look visits leaf look) visits.left
       looked_so look between own = record {
         first = is.visits_are.first;
         span = looked_span (Contains visits.left) look between (λ other there. there) (inr own);
@@ -419,44 +422,46 @@ module _ (store : Store) (setting : Setting) (moment : ℤ) (at_entry : Historie
 
       unread_so : (cut : ℕ) → IsFoundSo before after leaf cut false
           → session.is_met_at store setting moment after leaf cut ≡ false
-          → StepSo after avoided (visiting course round (looked visits leaf (unread cut)))
+          → StepSo after avoided (visiting course round (with_look visits leaf (unread_look cut)))
       unread_so cut found out =
           visiting_so store setting at_entry replicated unmet after avoided course round
-          (looked visits leaf (unread cut)) k zone
-          (looked_so (unread cut) found.between
+          (with_look visits leaf (unread_look cut)) k zone
+          (looked_so (unread_look cut) found.between
           (tells_unmet store.held zs store.points replicated (claim.wanted store setting) (claim.met store setting)
           store.buckets_of unmet
-          (take cut (leaf_history after.seen leaf)) (slots_on leaf round.resolved) (unread cut) (home cut) refl out))
+          (take cut (leaf_history after.seen leaf)) (slots_on leaf round.resolved) (unread_look cut) (home cut) refl
+          out))
 
       read_so : (cut : ℕ) (answer : LeafAnswer) → IsFoundSo before after leaf cut false
           → session.is_met_at store setting moment after leaf cut ≡ true
-          → StepSo after avoided (visiting course round (visit.kept (looked visits leaf (read_at cut answer.sent))
+          → StepSo after avoided
+          (visiting course round (visit.with_leaf_answer (with_look visits leaf (read_at cut answer.sent))
           answer))
       read_so cut answer found holds =
           let looks = looked_so (read_at cut answer.sent) found.between
           (record { unread = λ e. absurd (cc); read = λ e. holds }) in
           visiting_so store setting at_entry replicated unmet after avoided course round
-          (visit.kept (looked visits leaf (read_at cut answer.sent)) answer) k zone
+          (visit.with_leaf_answer (with_look visits leaf (read_at cut answer.sent)) answer) k zone
           (record { first = looks.first; span = looks.span; ours = looks.ours })
 
       over_so : (cut : ℕ) → IsFoundSo before after leaf cut false
           → claim.TraceSo store setting at_entry after Anybody
-          (trace_of (with_zone course round (looked visits leaf (unread cut))))
+          (trace_of (with_zone course round (with_look visits leaf (unread_look cut))))
       over_so cut found =
           let so = zone.course_is in
           trace_so store setting at_entry replicated unmet after avoided Anybody
-          (with_zone course round (looked visits leaf (unread cut))) (k + 1) (length zs - (k + 1))
+          (with_zone course round (with_look visits leaf (unread_look cut))) (k + 1) (length zs - (k + 1))
           (omega (arith, is.zone.there))
           (λ some one. record {})
           (span_append at_entry (claim.wanted store setting) (claim.met store setting) store.buckets_of after.seen
           avoided Anybody 0
           (first_leaf zs k) (first_leaf zs (k + 1)) 0 (first_range zs k) (first_range zs (k + 1)) course.resolved
           round.resolved
-          course.looks (looked visits leaf (unread cut)).looks
+          course.looks (with_look visits leaf (unread_look cut)).looks
           (span_skips at_entry (claim.wanted store setting) (claim.met store setting) store.buckets_of after.seen
           avoided Nobody Anybody
           (λ one none. record {}) 0 (first_leaf zs k) 0 (first_range zs k) course.resolved course.looks so.span)
-          (looked_span Anybody (unread cut) found.between (λ other there. record {}) (inl (record {}))))
+          (looked_span Anybody (unread_look cut) found.between (λ other there. record {}) (inl (record {}))))
           so.founds so.below_is so.then so.is
 
     -- ---- each answer

@@ -8,21 +8,23 @@ use Rattle.std.proofs.lemmas.List.FromFn.{length-map-range_with_len}
 use Rattle.mon_hints.specs.HistoryBuckets.{history_buckets}
 use Rattle.mon_schema.specs.Fits.{fits}
 use Rattle.mon_topo.proofs.RangeHistoryLemmas.{all_on}
-use Rattle.mon_topo.specs.HeldHistories.{Histories, leaf_history}
+use Rattle.mon_value.specs.Histories.{leaf_history}
+use Rattle.mon_value.specs.declared.histories.Histories.{Histories}
 use Rattle.mon_topo.specs.Replicas.{HasReplicas}
 use Rattle.mon_topo.specs.Settings.{Setting as Store}
-use Rattle.mon_topo.specs.Zones.{first_leaf, first_range, range_numbered, ranges_in}
+use Rattle.mon_value.specs.Positions.{range_numbered}
+use Rattle.mon_topo.specs.Zones.{first_leaf, first_range, ranges_in}
 use Rattle.mon_topo.specs.declared.zones.ZoneSpec.{ZoneSpec}
 use Rattle.mon_value.specs.LeafHistories.{leaf_rows}
 use Rattle.mon_value.specs.declared.histories.Entry.{Entry}
 use Rattle.mon_value.specs.declared.positions.Leaf.{Leaf}
 use Rattle.query_core.proofs.Spans.{span_append, span_skips}
 use Rattle.query_core.proofs.TraceClaims as claim
-use Rattle.query_core.proofs.TraceClaims.{Anybody, Anyhow, Below, Nobody}
+use Rattle.query_core.proofs.TraceClaims.{Below, Nobody}
 use Rattle.query_core.proofs.TraceWords.{zone_seen}
 use Rattle.query_core.proofs.ZoneFacts.{areas_from, leaves_next}
 use Rattle.query_core.specs.Areas.{area_of, areas_of, range_at}
-use Rattle.query_core.specs.Courses.{begun, is_entered, left}
+use Rattle.query_core.specs.Courses.{with_next_zone, is_entered, left}
 use Rattle.query_core.specs.Loadings.{no_word}
 use Rattle.query_core.specs.Openings.{flag_at}
 use Rattle.query_core.specs.Program.{next_zone, resolving, resolving_at, visiting, visiting_at, with_zone}
@@ -55,7 +57,7 @@ module _ (store : Store) (setting : Setting) (at_entry : Histories)
 
     -- ---- zones that are left out
 
-    begun_so : (below k : ℕ) (course : Course) → CourseSo below k course → CourseSo below k (begun course)
+    begun_so : (below k : ℕ) (course : Course) → CourseSo below k course → CourseSo below k (with_next_zone course)
     begun_so below k course is = record {
       span = is.span;
       founds = is.founds;
@@ -90,10 +92,11 @@ module _ (store : Store) (setting : Setting) (at_entry : Histories)
     enters : (course : Course) (area : Area) (areas : List Area) (k : ℕ) → k < length zs → area ≡ area_of zs k
         → course.begun ≡ k → CourseSo (first_leaf zs k) k course → (enter : Bool) → flag_at course.entered k ≡ enter
         → (flag_at course.entered k ≡ false
-        → claim.TurnSo store setting at_entry now avoided (next_zone areas (left (begun course) area course.seen)))
+        → claim.TurnSo store setting at_entry now avoided
+        (next_zone areas (left (with_next_zone course) area course.seen)))
         → claim.TurnSo store setting at_entry now avoided (cond enter
-        (turn.Goes (at.Entering (begun course) (round_of area) no_word))
-        (next_zone areas (left (begun course) area course.seen)))
+        (turn.Goes (at.Entering (with_next_zone course) (round_of area) no_word))
+        (next_zone areas (left (with_next_zone course) area course.seen)))
     enters course area areas k there is_area at_k is true e later = record {
       k = k;
       zone = record {
@@ -127,11 +130,11 @@ module _ (store : Store) (setting : Setting) (at_entry : Histories)
         let head : area ≡ area_of zs k = cc in
         let rest : areas ≡ drop (k + 1) (areas_of zs) = cc in
         enters course area areas k there head at_k is (is_entered course) (ap (flag_at course.entered) (sym at_k))
-        (λ shut. next_so areas (left (begun course) area course.seen) (k + 1) rest (omega (arith, there))
+        (λ shut. next_so areas (left (with_next_zone course) area course.seen) (k + 1) rest (omega (arith, there))
         (ap (λ n. n + 1) at_k)
-        (subst (λ (one : Area). CourseSo (first_leaf zs (k + 1)) (k + 1) (left (begun course) one course.seen))
+        (subst (λ (one : Area). CourseSo (first_leaf zs (k + 1)) (k + 1) (left (with_next_zone course) one course.seen))
         (sym head)
-        (left_so (begun course) k there (begun_so (first_leaf zs k) k course is) course.seen is.then is.is
+        (left_so (with_next_zone course) k there (begun_so (first_leaf zs k) k course is) course.seen is.then is.is
         (λ leaf from to. is.shut k there shut leaf from to))))
 
     -- ---- ranges

@@ -14,12 +14,15 @@ use Rattle.mon_schema.specs.Fits.{fits}
 use Rattle.mon_topo.proofs.FrontLemmas.{begins_from, begins_length, take_on}
 use Rattle.mon_topo.proofs.HeldLemmas.{leaf_same, seen_within_through}
 use Rattle.mon_topo.proofs.RangeHistoryLemmas.{all_append, all_filter, all_on}
-use Rattle.mon_topo.specs.HeldHistories.{BeginsWith, Histories, leaf_history, range_history}
-use Rattle.mon_topo.specs.RangeHistories.{acked, serving}
+use Rattle.mon_value.specs.Histories.{leaf_history, range_history}
+use Rattle.mon_value.specs.declared.histories.Histories.{Histories}
+use Rattle.mon_topo.specs.HeldHistories.{BeginsWith}
+use Rattle.mon_topo.specs.RangeHistories.{acknowledged_rows, serving}
 use Rattle.mon_topo.specs.Replicas.{HasReplicas}
 use Rattle.mon_topo.specs.SeenHistories.{AreWithin}
 use Rattle.mon_topo.specs.Settings.{Setting as Store}
-use Rattle.mon_topo.specs.Zones.{first_leaf, first_range, range_numbered, range_zones, ranges_in}
+use Rattle.mon_value.specs.Positions.{range_numbered}
+use Rattle.mon_topo.specs.Zones.{first_leaf, first_range, range_zones, ranges_in}
 use Rattle.mon_topo.specs.declared.zones.ZoneSpec.{ZoneSpec}
 use Rattle.mon_value.specs.LeafHistories.{leaf_rows}
 use Rattle.mon_value.specs.declared.histories.Entry.{Entry}
@@ -34,14 +37,14 @@ use Rattle.query_core.proofs.SeenSpans.{near_at, resolves_so, seen_cut, tells_un
 use Rattle.query_core.proofs.Spans.{ResolvedSo, StandsAt, StandsIn, Tells, look_at, more_avoided, outside, range_of}
 use Rattle.query_core.proofs.Spans.{up_to}
 use Rattle.query_core.proofs.TraceClaims as claim
-use Rattle.query_core.proofs.TraceClaims.{Anybody, Below}
+use Rattle.query_core.proofs.TraceClaims.{Anybody}
 use Rattle.query_core.proofs.TraceSteps.{resolving_so}
 use Rattle.query_core.proofs.TraceWords.{zone_seen, zone_shut}
 use Rattle.query_core.proofs.ZoneFacts.{leaves_next, ranges_next, zone_of_range_at}
 use Rattle.query_core.specs.Areas.{area_of, has_leaf, leaf_at}
 use Rattle.query_core.specs.Courses.{cuts_seen, firsts_seen, founds_in, with_found}
 use Rattle.query_core.specs.Findings.{HasNoReplica}
-use Rattle.query_core.specs.Looks.{unread}
+use Rattle.query_core.specs.Looks.{unread_look}
 use Rattle.query_core.specs.Openings.{flag_at, let_in}
 use Rattle.query_core.specs.Program.{resolving}
 use Rattle.query_core.specs.Rounds.{Round, is_none, is_to_visit, leaves_to_visit, resolution, round_of, slots_by_leaf}
@@ -190,7 +193,7 @@ module _ (store : Store) (setting : Setting) (at_entry : Histories)
               round.resolved
               (one ∷ []) is.round_is.each (so.resolved, record {});
           opened = all_append
-              (λ (one : Resolved). StandsIn (acked (range_history at_entry one.range))
+              (λ (one : Resolved). StandsIn (acknowledged_rows (range_history at_entry one.range))
               (leaf_history after.seen one.leaf) one)
               round.resolved (one ∷ []) is.round_is.opened (so.stands, record {});
         })
@@ -281,13 +284,14 @@ module _ (store : Store) (setting : Setting) (at_entry : Histories)
     cuts = cuts_seen loading.seen area
 
     base_span : claim.Span store setting at_entry now.seen [] Anybody (first_leaf zs k) (first_leaf zs (k + 1))
-        (first_range zs k) (first_range zs (k + 1)) (firsts_seen loading.seen area) (map unread cuts)
+        (first_range zs k) (first_range zs (k + 1)) (firsts_seen loading.seen area) (map unread_look cuts)
     base_span = zone_seen store setting at_entry replicated unmet now [] Anybody loading.seen loaded.then loaded.is k
         there
         (record {}) (λ leaf from to. inl (record {}))
 
     cut_is : (leaf : Leaf) → first_leaf zs k ≤ leaf.0 → leaf.0 < first_leaf zs (k + 1)
-        → look_at (first_leaf zs k) (map unread cuts) leaf ≡ unread (length (leaf_history loaded.then.seen leaf))
+        → look_at (first_leaf zs k) (map unread_look cuts) leaf
+        ≡ unread_look (length (leaf_history loaded.then.seen leaf))
     cut_is leaf from to =
         seen_cut store.held zs store.points replicated (claim.wanted store setting) (claim.met store setting)
         store.buckets_of unmet
@@ -297,10 +301,10 @@ module _ (store : Store) (setting : Setting) (at_entry : Histories)
 
     stand_by : (some : List Resolved) → claim.Resolves store setting at_entry now avoided k some
         → claim.Opened store setting at_entry some loaded.then.seen
-        → All (StandsAt at_entry now.seen (first_leaf zs k) (map unread cuts)) some
+        → All (StandsAt at_entry now.seen (first_leaf zs k) (map unread_look cuts)) some
     stand_by [] each opened = record {}
     stand_by (one ∷ some) each opened =
-        let rows = acked (range_history at_entry one.range) in (
+        let rows = acknowledged_rows (range_history at_entry one.range) in (
           subst (λ (look : Look). StandsIn rows (up_to now.seen one.leaf look) one)
               (sym (cut_is one.leaf each.0.from each.0.to))
               (subst (λ (history : List Entry). StandsIn rows history one) (sym (loaded.is.until.leaves one.leaf))
@@ -322,30 +326,31 @@ module _ (store : Store) (setting : Setting) (at_entry : Histories)
       Told slots look = Tells (claim.wanted store setting) (claim.met store setting) store.buckets_of
           (up_to now.seen leaf look) slots look
 
-      then_told : Told (slots_on leaf resolved) (unread (length (leaf_history loaded.then.seen leaf)))
-          → Told (slots_on leaf resolved) (look_at (first_leaf zs k) (map unread cuts) leaf)
+      then_told : Told (slots_on leaf resolved) (unread_look (length (leaf_history loaded.then.seen leaf)))
+          → Told (slots_on leaf resolved) (look_at (first_leaf zs k) (map unread_look cuts) leaf)
       then_told told = subst (Told (slots_on leaf resolved)) (sym (cut_is leaf from to)) told
 
       bare_told : slots_on leaf resolved ≡ [] → Told (slots_on leaf resolved)
-          (unread (length (leaf_history loaded.then.seen leaf)))
+          (unread_look (length (leaf_history loaded.then.seen leaf)))
       bare_told none = record {
         unread = λ e. subst (λ (slots : List RangeSlot). All (λ row. claim.wanted store setting row ≡ false)
-            (slot_rows (up_to now.seen leaf (unread (length (leaf_history loaded.then.seen leaf)))) slots)) (sym none)
+            (slot_rows (up_to now.seen leaf (unread_look (length (leaf_history loaded.then.seen leaf)))) slots))
+            (sym none)
             (record {});
         read = λ e. absurd (cc);
       }
 
       shut_told : flag_at flags j ≡ false → Told (slots_on leaf resolved)
-          (unread (length (leaf_history loaded.then.seen leaf)))
+          (unread_look (length (leaf_history loaded.then.seen leaf)))
       shut_told out =
           subst (λ (history : List Entry). Tells (claim.wanted store setting) (claim.met store setting)
           store.buckets_of history
-          (slots_on leaf resolved) (unread (length (leaf_history loaded.then.seen leaf))))
+          (slots_on leaf resolved) (unread_look (length (leaf_history loaded.then.seen leaf))))
           (sym (loaded.is.until.leaves leaf))
           (tells_unmet store.held zs store.points replicated (claim.wanted store setting) (claim.met store setting)
           store.buckets_of unmet
           (leaf_history loaded.then.seen leaf) (slots_on leaf resolved)
-          (unread (length (leaf_history loaded.then.seen leaf)))
+          (unread_look (length (leaf_history loaded.then.seen leaf)))
           (λ e here. loaded.is.sound.held.at_home leaf e here) refl
           (zone_shut store setting listed loaded.then loaded.is.sound k there leaf from to loading.words loaded.known
           all_words out))
@@ -357,7 +362,8 @@ module _ (store : Store) (setting : Setting) (at_entry : Histories)
           ∙ ap (λ (one : Leaf). slots_on one resolved) leaf_is
 
       told_by : (b : Bool) → is_to_visit own flags j ≡ b
-          → Contains pending leaf ⊎ Told (slots_on leaf resolved) (look_at (first_leaf zs k) (map unread cuts) leaf)
+          → Contains pending leaf
+          ⊎ Told (slots_on leaf resolved) (look_at (first_leaf zs k) (map unread_look cuts) leaf)
       told_by true e =
           let number : Contains (range_with_len 0 area.leaves) j =
           subst (Contains (range_with_len 0 area.leaves)) (let same : 0 + j ≡ j = omega arith in same)

@@ -14,12 +14,14 @@ use Rattle.mon_hints.specs.Listings.{AreAmong, is_among}
 use Rattle.mon_hints.specs.Words.{has_bit}
 use Rattle.mon_schema.specs.Fits.{fits}
 use Rattle.mon_topo.proofs.RangeHistoryLemmas.{all_on}
-use Rattle.mon_topo.specs.HeldHistories.{Histories, leaf_history}
+use Rattle.mon_value.specs.Histories.{leaf_history}
+use Rattle.mon_value.specs.declared.histories.Histories.{Histories}
 use Rattle.mon_topo.specs.Replicas.{HasReplicas}
 use Rattle.mon_topo.specs.SeenHistories.{AreWithin}
 use Rattle.mon_topo.specs.Settings.{Setting as Store}
 use Rattle.mon_topo.specs.Settings.{zone_of_leaf}
-use Rattle.mon_topo.specs.Zones.{first_leaf, first_range, leaf_zones, no_zone, range_numbered, ranges_in, zone_numbered}
+use Rattle.mon_value.specs.Positions.{range_numbered, zone_numbered}
+use Rattle.mon_topo.specs.Zones.{first_leaf, first_range, leaf_zones, no_zone, ranges_in}
 use Rattle.mon_topo.specs.declared.zones.ZoneSpec.{ZoneSpec}
 use Rattle.mon_value.specs.LeafHistories.{leaf_rows}
 use Rattle.mon_value.specs.declared.histories.Entry.{Entry}
@@ -35,8 +37,8 @@ use Rattle.query_core.proofs.ZoneFacts.{all_leaves, all_ranges, leaves_next, ran
 use Rattle.query_core.specs.Areas.{area_of}
 use Rattle.query_core.specs.Courses.{cuts_seen, firsts_seen}
 use Rattle.query_core.specs.Loadings.{seen_first}
-use Rattle.query_core.specs.Looks.{unread}
-use Rattle.query_core.specs.Openings.{flag_at, let_in, lets_in}
+use Rattle.query_core.specs.Looks.{unread_look}
+use Rattle.query_core.specs.Openings.{flag_at, let_in, lets_child_in}
 use Rattle.query_core.specs.Sessions.{IsGrown, IsSeenSo, IsSound, View}
 use Rattle.query_core.specs.Settings.{Setting}
 use Rattle.query_core.specs.declared.answers.Resolved.{Resolved}
@@ -146,7 +148,7 @@ module _ (store : Store) (setting : Setting)
         setting.plan.buckets words (history_buckets store.buckets_of (leaf_history then.seen leaf)) z listed known
         there long
         (λ bucket here. (covered bucket here).0)
-        (sym (get_or-map-range_with_len (lets_in setting.plan words) 0 (length store.zones) z z false there
+        (sym (get_or-map-range_with_len (lets_child_in setting.plan words) 0 (length store.zones) z z false there
         (omega arith)) ∙ out)
 
     pub zone_shut : (words : List ℕ)
@@ -160,7 +162,8 @@ module _ (store : Store) (setting : Setting)
         (area_of store.zones z).leaves setting.plan.buckets words
         (history_buckets store.buckets_of (leaf_history then.seen leaf)) place listed known in_zone long
         (λ bucket here. subst (λ (n : ℕ). then.bits.zone n bucket ≡ true) same (covered bucket here).1)
-        (sym (get_or-map-range_with_len (lets_in setting.plan words) 0 (area_of store.zones z).leaves place place false
+        (sym (get_or-map-range_with_len (lets_child_in setting.plan words) 0
+        (area_of store.zones z).leaves place place false
         in_zone
         (omega arith)) ∙ out)
 
@@ -178,7 +181,7 @@ module _ (store : Store) (setting : Setting) (at_entry : Histories)
       → Skip leaf ⊎ (met store setting (history_buckets store.buckets_of (leaf_history then.seen leaf)) ≡ false))
       → Span store setting at_entry now.seen avoided Skip (first_leaf store.zones k) (first_leaf store.zones (k + 1))
       (first_range store.zones k) (first_range store.zones (k + 1)) (firsts_seen seen (area_of store.zones k))
-      (map unread (cuts_seen seen (area_of store.zones k)))
+      (map unread_look (cuts_seen seen (area_of store.zones k)))
   zone_seen k there below shut =
       seen_span store.held store.zones store.points replicated (wanted store setting) (met store setting)
       store.buckets_of
@@ -196,7 +199,7 @@ module _ (store : Store) (setting : Setting) (at_entry : Histories)
   rest_resolved k = drop (first_range store.zones k) seen.firsts
 
   abbrev rest_looks : ℕ → List Look
-  rest_looks k = map unread (drop (first_leaf store.zones k) seen.cuts)
+  rest_looks k = map unread_look (drop (first_leaf store.zones k) seen.cuts)
 
   -- all zones that the query did not come to
   pub rest_seen : (n k : ℕ) (resolved : List Resolved) (looks : List Look) → k + n ≡ length store.zones
@@ -219,7 +222,7 @@ module _ (store : Store) (setting : Setting) (at_entry : Histories)
         length-map-range_with_len range_numbered 0 (length then.seen.ranges),
       )) in
       let no_cuts : rest_looks k ≡ [] =
-      ap (map unread) (drop_all (first_leaf store.zones k) seen.cuts
+      ap (map unread_look) (drop_all (first_leaf store.zones k) seen.cuts
       (omega (
         arith,
         all_leaves store.zones k (omega (arith, e)),
@@ -239,7 +242,7 @@ module _ (store : Store) (setting : Setting) (at_entry : Histories)
       let there : k < length store.zones = omega (arith, e) in
       let area = area_of store.zones k in
       let own = firsts_seen seen area in
-      let own_looks = map unread (cuts_seen seen area) in
+      let own_looks = map unread_look (cuts_seen seen area) in
       let own_span = zone_seen k there below (λ leaf from to. inl (skips (omega arith) leaf)) in
       let both = span_append at_entry (wanted store setting) (met store setting) store.buckets_of now.seen avoided Skip
       0
@@ -257,8 +260,8 @@ module _ (store : Store) (setting : Setting) (at_entry : Histories)
       let looks_same : (looks ++ own_looks) ++ rest_looks (k + 1) ≡ looks ++ rest_looks k =
       append_assoc looks own_looks (rest_looks (k + 1))
       ∙ ap (λ more. looks ++ more)
-      (sym (map-append unread (cuts_seen seen area) (drop (first_leaf store.zones (k + 1)) seen.cuts)))
-      ∙ ap (λ more. looks ++ map unread more)
+      (sym (map-append unread_look (cuts_seen seen area) (drop (first_leaf store.zones (k + 1)) seen.cuts)))
+      ∙ ap (λ more. looks ++ map unread_look more)
       (sym (split (first_leaf store.zones k) area.leaves (first_leaf store.zones (k + 1)) seen.cuts next_leaf)) in
       subst (λ (more : List Resolved). Span store setting at_entry now.seen avoided Skip 0
       (first_leaf store.zones (length store.zones)) 0 (first_range store.zones (length store.zones)) more

@@ -5,8 +5,9 @@ use Rattle.std.specs.List.{AllByRecursion, filter, flat_map, list_any}
 use Rattle.std.proofs.lemmas.Bool.{false≢true}
 use Rattle.std.proofs.lemmas.Bool.Decides.{nat_tests}
 use Rattle.std.proofs.lemmas.List.{map-append}
-use Rattle.mon_topo.specs.HeldHistories.{Histories, leaf_history}
-use Rattle.mon_topo.specs.Replicas.{same_leaf}
+use Rattle.mon_value.specs.Histories.{leaf_history}
+use Rattle.mon_value.specs.declared.histories.Histories.{Histories}
+use Rattle.mon_value.specs.Positions.{same_leaf}
 use Rattle.mon_topo.specs.Zones.{first_leaf, first_range, leaf_zones}
 use Rattle.mon_value.specs.declared.positions.Leaf.{Leaf}
 use Rattle.mon_value.specs.declared.rows.Row.{Row}
@@ -17,7 +18,7 @@ use Rattle.query_core.specs.declared.answers.Trace.{Trace}
 use Rattle.query_core.specs.declared.courses.Course.{Course}
 use Rattle.query_core.specs.declared.looks.Look.{Look}
 use Rattle.query_core.specs.Courses.{trace_of}
-use Rattle.query_core.specs.Looks.{unread}
+use Rattle.query_core.specs.Looks.{unread_look}
 use Rattle.query_core.specs.Mixtures.{typed_of}
 use Rattle.query_core.specs.Rounds.{slots_on}
 use Rattle.query_core.specs.Settings.{Setting}
@@ -95,7 +96,7 @@ module _ (store : Store) (setting : Setting) (moment : ℤ) (exit : Histories) w
       ∙ append-nil (slots_on leaf course.resolved)) in
       let within : leaf.0 < length (cuts_of course.looks) =
       omega (arith, below, so.leaves_count, looks_long course.looks) in
-      let rest = map unread (drop (length course.looks) course.seen.cuts) in
+      let rest = map unread_look (drop (length course.looks) course.seen.cuts) in
       let cut : get_or (cuts_of course.looks) leaf.0 0 ≡ cut_of of leaf =
       sym (ap (λ cuts. get_or cuts leaf.0 0) (map-append (λ (look : Look). look.cut) course.looks rest)
       ∙ get_front (cuts_of course.looks) (cuts_of rest) leaf.0 0 within) in

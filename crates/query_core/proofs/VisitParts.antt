@@ -7,7 +7,8 @@ use Rattle.std.proofs.lemmas.List.{length-set, map-append}
 use Rattle.mixer.specs.ZoneAnswers.{AllLeafParts}
 use Rattle.mon_fold.specs.declared.answers.LeafAnswer.{LeafAnswer}
 use Rattle.mon_meaning.specs.LeafAnswers.{IsLeafPart}
-use Rattle.mon_topo.specs.HeldHistories.{Histories, leaf_history}
+use Rattle.mon_value.specs.Histories.{leaf_history}
+use Rattle.mon_value.specs.declared.histories.Histories.{Histories}
 use Rattle.mon_topo.specs.SeenHistories.{AreWithin}
 use Rattle.mon_topo.specs.Settings.{Setting as Store}
 use Rattle.mon_value.specs.declared.positions.Leaf.{Leaf}
@@ -21,7 +22,7 @@ use Rattle.query_core.specs.declared.looks.Look.{Look}
 use Rattle.query_core.specs.declared.stages.Stage.TheVariants as at
 use Rattle.query_core.specs.Areas.{has_leaf, leaf_at}
 use Rattle.query_core.specs.Courses.{cuts_seen}
-use Rattle.query_core.specs.Looks.{read_at, unread}
+use Rattle.query_core.specs.Looks.{read_at, unread_look}
 use Rattle.query_core.specs.Machine.{slots_in}
 use Rattle.query_core.specs.Mixtures.{typed_of}
 use Rattle.query_core.specs.Openings.{let_in}
@@ -31,7 +32,7 @@ use Rattle.query_core.specs.Rounds.{Round, is_to_visit, slots_on}
 use Rattle.query_core.specs.Settings.{Setting}
 use Rattle.query_core.specs.Traces.{slot_rows}
 use Rattle.query_core.specs.Visits as visit
-use Rattle.query_core.specs.Visits.{Visits, looked}
+use Rattle.query_core.specs.Visits.{Visits, with_look}
 use Rattle.query_core.proofs.ReadLeaves.{IsUnread, LeafRead, SendsNothing, all_set, behind_set, fewer_unread}
 use Rattle.query_core.proofs.ReadLeaves.{leaf_read, no_reads, reads_from, set_read, set_unread}
 use Rattle.query_core.proofs.RoundLemmas.{has_at}
@@ -46,7 +47,7 @@ module _ (store : Store) (setting : Setting) (moment : ℤ) where
   -- what is known of the leaves is set at the leaf's place
   pub looks_at : (round : Round) (visits : Visits) (leaf : Leaf) (place : ℕ) (look : Look) → visits.first
       ≡ round.area.first_leaf
-      → leaf ≡ leaf_at round.area place → (looked visits leaf look).looks ≡ set visits.looks place look
+      → leaf ≡ leaf_at round.area place → (with_look visits leaf look).looks ≡ set visits.looks place look
   looks_at round visits leaf place look first is =
       let from : visits.first.0 ≡ round.area.first_leaf.0 = ap (λ (leaf : Leaf). leaf.0) first in
       let number : leaf.0 ≡ round.area.first_leaf.0 + place = ap (λ (leaf : Leaf). leaf.0) is in
@@ -58,12 +59,12 @@ module _ (store : Store) (setting : Setting) (moment : ℤ) where
 
   pub unread_so : (now : Histories) (round : Round) (visits : Visits) (leaf : Leaf) (cut : ℕ)
       (so : VisitSo store setting moment now round visits leaf)
-      → VisitsSo store setting moment now round (looked visits leaf (unread cut)) (so.place + 1) (so.place + 1)
+      → VisitsSo store setting moment now round (with_look visits leaf (unread_look cut)) (so.place + 1) (so.place + 1)
   unread_so now round visits leaf cut so =
       let all = so.visits_so in
-      let looks : List Look = set visits.looks so.place (unread cut) in
-      let is : looks ≡ (looked visits leaf (unread cut)).looks =
-      sym (looks_at round visits leaf so.place (unread cut) all.first so.is) in
+      let looks : List Look = set visits.looks so.place (unread_look cut) in
+      let is : looks ≡ (with_look visits leaf (unread_look cut)).looks =
+      sym (looks_at round visits leaf so.place (unread_look cut) all.first so.is) in
       let same : reads_from round.area.first_leaf.0 visits.looks ≡ reads_from round.area.first_leaf.0 looks =
       sym (set_unread round.area.first_leaf.0 visits.looks so.place cut (omega (arith, so.there, all.count))
       all.not_yet) in
@@ -75,13 +76,13 @@ module _ (store : Store) (setting : Setting) (moment : ℤ) where
             all.parts.each;
         sends = subst (λ (reads : List LeafRead). AllByRecursion (IsSent setting moment now round.resolved) reads) same
             all.parts.sends;
-        silent = all_set SendsNothing visits.looks so.place (unread cut) all.parts.silent (λ e. refl);
+        silent = all_set SendsNothing visits.looks so.place (unread_look cut) all.parts.silent (λ e. refl);
       } in
       record {
         first = all.first;
-        count = ap length (sym is) ∙ length-set visits.looks so.place (unread cut) ∙ all.count;
+        count = ap length (sym is) ∙ length-set visits.looks so.place (unread_look cut) ∙ all.count;
         not_yet = subst (λ (some : List Look). AllByRecursion IsUnread (drop (so.place + 1) some)) is
-            (behind_set visits.looks so.place (so.place + 1) (unread cut) (omega arith) all.not_yet);
+            (behind_set visits.looks so.place (so.place + 1) (unread_look cut) (omega arith) all.not_yet);
         parts = subst (λ (some : List Look).
             PartsSo setting moment now round.resolved round.area.first_leaf.0 some visits.answers) is parts;
         test = all.test;
@@ -156,12 +157,13 @@ module _ (store : Store) (setting : Setting) (moment : ℤ) where
           silent = all_set SendsNothing visits.looks so.place (read_at cut answer.sent) before.silent (λ e. absurd cc);
         }
 
-    pub read_so : VisitsSo store setting moment now round (visit.kept (looked visits leaf (read_at cut answer.sent))
+    pub read_so : VisitsSo store setting moment now round
+        (visit.with_leaf_answer (with_look visits leaf (read_at cut answer.sent))
         answer)
         (so.place + 1) (so.place + 1)
     read_so =
         let all = so.visits_so in
-        let same : looks_now ≡ (looked visits leaf (read_at cut answer.sent)).looks =
+        let same : looks_now ≡ (with_look visits leaf (read_at cut answer.sent)).looks =
         sym (looks_at round visits leaf so.place (read_at cut answer.sent) all.first so.is) in
         record {
           first = all.first;
@@ -277,7 +279,7 @@ module _ (store : Store) (setting : Setting) (moment : ℤ) (Tells : Histories �
       let passed = passed_so setting moment store.zones now (length inside.segments) round.area loading.seen
       inside.there
       inside.here so in
-      let looks : List Look = map unread (cuts_seen loading.seen round.area) in
+      let looks : List Look = map unread_look (cuts_seen loading.seen round.area) in
       let none : [] ≡ reads_from round.area.first_leaf.0 looks =
       sym (no_reads round.area.first_leaf.0 looks passed.1) in
       record {

@@ -5,10 +5,12 @@ use Rattle.std.specs.List.{AllByRecursion}
 use Rattle.mixer.specs.Divisions.{AreApart, ShareNoTarget, has_target}
 use Rattle.mon_schema.specs.Fits.{fits}
 use Rattle.mon_topo.proofs.RangeHistoryLemmas.{all_from}
-use Rattle.mon_topo.specs.HeldHistories.{AreAtHome, AreHeld, Histories, IsAtHome, leaf_history, range_history}
+use Rattle.mon_value.specs.Histories.{leaf_history, range_history}
+use Rattle.mon_value.specs.declared.histories.Histories.{Histories}
+use Rattle.mon_topo.specs.HeldHistories.{AreAtHome, AreHeld, IsAtHome}
 use Rattle.mon_topo.specs.Locations.{range_for}
-use Rattle.mon_topo.specs.RangeHistories.{acked}
-use Rattle.mon_topo.specs.Replicas.{same_leaf}
+use Rattle.mon_topo.specs.RangeHistories.{acknowledged_rows}
+use Rattle.mon_value.specs.Positions.{same_leaf}
 use Rattle.mon_topo.specs.SeenHistories.{AreWithin}
 use Rattle.mon_topo.specs.Settings.{Setting as Store}
 use Rattle.mon_value.specs.LeafHistories.{is_opened, replica_rows}
@@ -130,7 +132,7 @@ module _ (at_entry before after : Histories) (grown : AreWithin before after) (l
 
   opened_here : (one : Resolved) → one.leaf ≡ leaf → StandsAt at_entry before low looks one → IsOpened (slot_of one)
   opened_here one same stands =
-      let rows = acked (range_history at_entry one.range) in
+      let rows = acknowledged_rows (range_history at_entry one.range) in
       let look = look_at low looks leaf in
       let was : StandsIn rows (up_to before leaf look) one =
       subst (λ (l : Leaf). StandsIn rows (up_to before l (look_at low looks l)) one) same stands in

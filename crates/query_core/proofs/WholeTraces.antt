@@ -11,9 +11,10 @@ use Rattle.mixer.specs.declared.zone_answers.ZoneAnswer.{ZoneAnswer}
 use Rattle.mon_fold.specs.declared.answers.LeafAnswer.{LeafAnswer}
 use Rattle.mon_meaning.specs.Central.{IsMeant, IsOver}
 use Rattle.mon_meaning.specs.declared.meter.OverLimit.{OverLimit}
-use Rattle.mon_topo.specs.HeldHistories.{AreHeld, Histories}
-use Rattle.mon_topo.specs.Replicas.{same_leaf}
-use Rattle.mon_topo.specs.Zones.{first_leaf, first_range, leaf_numbered}
+use Rattle.mon_value.specs.declared.histories.Histories.{Histories}
+use Rattle.mon_topo.specs.HeldHistories.{AreHeld}
+use Rattle.mon_value.specs.Positions.{leaf_numbered, same_leaf}
+use Rattle.mon_topo.specs.Zones.{first_leaf, first_range}
 use Rattle.mon_value.specs.declared.positions.Leaf.{Leaf}
 use Rattle.mon_value.specs.declared.rows.Row.{Row}
 use Rattle.mon_value.specs.declared.tables.Table.{Table}
@@ -27,7 +28,7 @@ use Rattle.query_core.specs.declared.courses.Course.{Course}
 use Rattle.query_core.specs.declared.looks.Look.{Look}
 use Rattle.query_core.specs.Areas.{area_of}
 use Rattle.query_core.specs.Courses.{trace_of}
-use Rattle.query_core.specs.Looks.{unread}
+use Rattle.query_core.specs.Looks.{unread_look}
 use Rattle.query_core.specs.Mixtures.{typed_of}
 use Rattle.query_core.specs.Settings.{Setting}
 use Rattle.query_core.specs.Traces.{source_of}
@@ -263,8 +264,8 @@ module _ (store : Store) (setting : Setting) (asked : IsAskedOf store setting) (
           resolved_is = ap (λ front. front ++ drop (length course.resolved) course.seen.firsts) through.behind.resolved;
           front_count = sym none.0;
           looks_front = [];
-          looks_back = map unread (drop (length course.looks) course.seen.cuts);
-          cuts_are = ap (λ looks. cuts_of (looks ++ map unread (drop (length course.looks) course.seen.cuts)))
+          looks_back = map unread_look (drop (length course.looks) course.seen.cuts);
+          cuts_are = ap (λ looks. cuts_of (looks ++ map unread_look (drop (length course.looks) course.seen.cuts)))
               through.behind.looks;
           looks_front_count = sym none.1;
         }

@@ -7,7 +7,8 @@ use Rattle.std.proofs.lemmas.List.FromFn.{get_or-map-range_with_len, length-map-
 use Rattle.mon_topo.proofs.PartLemmas.{IsPart, length-zones_of, part_at, zone_of_part}
 use Rattle.mon_topo.specs.RangeHistories.{IsInZoneOf}
 use Rattle.mon_topo.specs.Zones.{first_leaf, first_range, leaf_zones, leaves_in, no_zone, range_zones, ranges_in}
-use Rattle.mon_topo.specs.Zones.{zone_at, zone_numbered}
+use Rattle.mon_value.specs.Positions.{zone_numbered}
+use Rattle.mon_topo.specs.Zones.{zone_at}
 use Rattle.mon_topo.specs.declared.zones.ZoneSpec.{ZoneSpec}
 use Rattle.mon_value.specs.declared.positions.Leaf.{Leaf}
 use Rattle.mon_value.specs.declared.positions.Range.{Range}

@@ -4,7 +4,7 @@ use Rattle.std.proofs.Common.{◌++◌, length, map, drop, nat_lt, refl, sym, ap
 use Rattle.std.proofs.lemmas.Bool.Decides.{nat_tests}
 use Rattle.std.proofs.lemmas.List.{length-append, length-drop}
 use Rattle.std.proofs.lemmas.List.FromFn.{length-map-range_with_len}
-use Rattle.mon_topo.specs.HeldHistories.{Histories}
+use Rattle.mon_value.specs.declared.histories.Histories.{Histories}
 use Rattle.mon_topo.specs.Settings.{Setting as Store}
 use Rattle.mon_value.specs.declared.positions.Leaf.{Leaf}
 use Rattle.mon_value.specs.declared.positions.Range.{Range}
@@ -17,9 +17,9 @@ use Rattle.query_core.specs.declared.loadings.Loading.{Loading}
 use Rattle.query_core.specs.declared.stages.Stage.TheVariants as at
 use Rattle.query_core.specs.declared.stages.Turn.TheVariants as turn
 use Rattle.query_core.specs.Areas.{area_of, areas_of, range_at}
-use Rattle.query_core.specs.Courses.{begun, course_of, cuts_seen, firsts_seen, is_entered, left}
+use Rattle.query_core.specs.Courses.{with_next_zone, course_of, cuts_seen, firsts_seen, is_entered, left}
 use Rattle.query_core.specs.Loadings.{no_word, seen_first}
-use Rattle.query_core.specs.Looks.{unread}
+use Rattle.query_core.specs.Looks.{unread_look}
 use Rattle.query_core.specs.Program as spec
 use Rattle.query_core.specs.Program.{next_zone, resolving}
 use Rattle.query_core.specs.Rounds.{Round, resolution, round_of, with_slot}
@@ -39,7 +39,7 @@ module _ (store : Store) (setting : Setting) (moment : ℤ) where
       area
       → SeenSo store.zones seen → CourseAt store setting moment now (left course area seen)
   left_so now course area seen inside so =
-      let one : Segment = Passed area (firsts_seen seen area) (map unread (cuts_seen seen area)) in
+      let one : Segment = Passed area (firsts_seen seen area) (map unread_look (cuts_seen seen area)) in
       record {
         segments = inside.segments ++ one ∷ [];
         behind = behind_push setting moment store.zones now inside.segments course (left course area seen) one
@@ -58,7 +58,7 @@ module _ (store : Store) (setting : Setting) (moment : ℤ) where
 
   begun_so : (now : Histories) (course : Course) (area : Area) (before : CourseAt store setting moment now course)
       → length before.segments < length store.zones → area ≡ area_of store.zones (length before.segments)
-      → CourseIn store setting moment now (begun course) area
+      → CourseIn store setting moment now (with_next_zone course) area
   begun_so now course area before there here = record {
     segments = before.segments;
     behind = record {
@@ -102,11 +102,11 @@ module _ (store : Store) (setting : Setting) (moment : ℤ) where
 
 module _ (store : Store) (setting : Setting) (moment : ℤ) (Tells : Histories → Course → Type 0) where
   enters_by : (now : Histories) (course : Course) (area : Area) (areas : List Area) (enter : Bool)
-      → CourseIn store setting moment now (begun course) area
-      → TurnParts store setting moment Tells now (next_zone areas (left (begun course) area course.seen))
+      → CourseIn store setting moment now (with_next_zone course) area
+      → TurnParts store setting moment Tells now (next_zone areas (left (with_next_zone course) area course.seen))
       → TurnParts store setting moment Tells now
-      (cond enter (turn.Goes (at.Entering (begun course) (round_of area) no_word))
-      (next_zone areas (left (begun course) area course.seen)))
+      (cond enter (turn.Goes (at.Entering (with_next_zone course) (round_of area) no_word))
+      (next_zone areas (left (with_next_zone course) area course.seen)))
   enters_by now course area areas true here later = (here, refl, tt)
   enters_by now course area areas false here later = later
 
@@ -128,9 +128,9 @@ module _ (store : Store) (setting : Setting) (moment : ℤ) (Tells : Histories �
       let next : k + 1 ≡ course.begun + 1 = omega (arith, before.begun) in
       let inside = begun_so store setting moment now course area before there parts.0 in
       enters_by now course area areas (is_entered course) inside
-      (next_so now areas (left (begun course) area course.seen)
+      (next_so now areas (left (with_next_zone course) area course.seen)
       (parts.1 ∙ ap (λ n. drop n (areas_of store.zones)) next)
-      (left_so store setting moment now (begun course) area course.seen inside before.behind.seen))
+      (left_so store setting moment now (with_next_zone course) area course.seen inside before.behind.seen))
 
   resolving_by : (now : Histories) (course : Course) (round : Round) (b : Bool)
       → nat_lt (length round.resolved) round.area.ranges ≡ b → CourseIn store setting moment now course round.area

@@ -1,7 +1,7 @@
 -- What a query's end says, against the histories that its caller had seen when it began and had seen when it ended.
 use Rattle.std.specs.Prelude.{◌≡◌, ◌<◌, ℕ, ℤ, length}
 use Rattle.mon_meaning.specs.Central.{IsMeant}
-use Rattle.mon_topo.specs.HeldHistories.{Histories}
+use Rattle.mon_value.specs.declared.histories.Histories.{Histories}
 use Rattle.mon_topo.specs.Settings.{Setting as Store}
 use Rattle.mon_value.specs.declared.positions.Leaf.{Leaf}
 use Rattle.mql_types.specs.Explanations.{op_levels}

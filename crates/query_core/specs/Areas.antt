@@ -4,7 +4,8 @@ use Rattle.std.specs.List.{range_with_len}
 use Rattle.mon_value.specs.declared.positions.Leaf.{Leaf}
 use Rattle.mon_value.specs.declared.positions.Range.{Range}
 use Rattle.mon_topo.specs.declared.zones.ZoneSpec.{ZoneSpec}
-use Rattle.mon_topo.specs.Zones.{first_leaf, first_range, leaf_numbered, range_numbered, zone_at, zone_numbered}
+use Rattle.mon_value.specs.Positions.{leaf_numbered, range_numbered, zone_numbered}
+use Rattle.mon_topo.specs.Zones.{first_leaf, first_range, zone_at}
 use Rattle.query_core.specs.declared.areas.Area.{Area}
 
 -- the zone of a number

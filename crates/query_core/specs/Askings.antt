@@ -3,13 +3,14 @@ use Rattle.std.specs.Prelude.{◌≡◌, ◌<◌, ℕ, length, map, Some, Ok}
 use Rattle.mon_hints.specs.Formulas.{all_named, formula_tree, formulas}
 use Rattle.mon_hints.specs.Hints.{series_buckets}
 use Rattle.mon_hints.specs.Listings.{IsListing}
-use Rattle.mon_schema.specs.HeldMetrics.{AreHeld}
+use Rattle.mon_schema.specs.HeldMetrics.{AreMetricsHeld}
 use Rattle.mon_schema.specs.HeldTargets.{AllTellLocations}
 use Rattle.mon_schema.specs.SchemaLists.{metric_named, target_named}
-use Rattle.mon_topo.specs.Faults.{IsLawful}
+use Rattle.mon_topo.specs.Faults.{AreLawfulZones}
 use Rattle.mon_topo.specs.Replicas.{HasReplicas}
 use Rattle.mon_topo.specs.Settings.{Setting as Store}
-use Rattle.mon_topo.specs.Zones.{range_numbered, ranges_in}
+use Rattle.mon_value.specs.Positions.{range_numbered}
+use Rattle.mon_topo.specs.Zones.{ranges_in}
 use Rattle.mon_value.specs.declared.rows.SeriesKey.{SeriesKey}
 use Rattle.mon_value.specs.declared.schemas.MetricSchema.{MetricSchema}
 use Rattle.mon_value.specs.declared.schemas.TargetSchema.{TargetSchema}
@@ -26,10 +27,10 @@ use Rattle.query_core.specs.Settings.{Setting}
 -- the zones of the store, and the plan of a query that has a type over its schemas: a formula for each fetch, which
 -- holds of the buckets of every series that meets it
 pub record IsAskedOf (store : Store) (setting : Setting) : Type 0 where
-  pub lawful : IsLawful store.zones
+  pub lawful : AreLawfulZones store.zones
   pub replicas : (range : ℕ) → range < length (ranges_in store.zones) → HasReplicas store.zones (range_numbered range)
   pub areas : setting.areas ≡ areas_of store.zones
-  pub metrics : AreHeld store.held.metrics
+  pub metrics : AreMetricsHeld store.held.metrics
   pub targets : AllTellLocations store.held.targets
   pub query : PipeTree
   pub spelled : IsPipeSpelled query

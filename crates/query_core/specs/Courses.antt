@@ -11,7 +11,7 @@ use Rattle.query_core.specs.declared.courses.Course.{Course}
 use Rattle.query_core.specs.declared.loadings.Loading.{Loading}
 use Rattle.query_core.specs.declared.looks.Look.{Look}
 use Rattle.query_core.specs.Areas.{has_leaf}
-use Rattle.query_core.specs.Looks.{unread}
+use Rattle.query_core.specs.Looks.{unread_look}
 use Rattle.query_core.specs.Openings.{flag_at, let_in}
 use Rattle.query_core.specs.Settings.{Setting}
 
@@ -32,8 +32,8 @@ abbrev pub is_entered : Course → Bool
 is_entered course = flag_at course.entered course.begun
 
 -- the next zone is begun
-abbrev pub begun : Course → Course
-begun course = record {
+abbrev pub with_next_zone : Course → Course
+with_next_zone course = record {
   seen = course.seen;
   entered = course.entered;
   begun = course.begun + 1;
@@ -44,8 +44,8 @@ begun course = record {
 }
 
 -- a zone is behind, whose ranges resolved so, and of whose leaves so much is known
-abbrev pub closed : Course → List Resolved → List Look → Course
-closed course resolved looks = record {
+abbrev pub with_zone_behind : Course → List Resolved → List Look → Course
+with_zone_behind course resolved looks = record {
   seen = course.seen;
   entered = course.entered;
   begun = course.begun;
@@ -64,10 +64,10 @@ firsts_seen seen area = take area.ranges (drop area.first_range.0 seen.firsts)
 
 -- a zone is left out: it stands as it had been seen
 abbrev pub left : Course → Area → Seen → Course
-left course area seen = closed course (firsts_seen seen area) (map unread (cuts_seen seen area))
+left course area seen = with_zone_behind course (firsts_seen seen area) (map unread_look (cuts_seen seen area))
 
-abbrev pub kept : Course → ZoneAnswer → Course
-kept course answer = record {
+abbrev pub with_zone_answer : Course → ZoneAnswer → Course
+with_zone_answer course answer = record {
   seen = course.seen;
   entered = course.entered;
   begun = course.begun;
@@ -104,7 +104,7 @@ all_resolved course = course.resolved ++ drop (length course.resolved) course.se
 
 -- what is known of each leaf; the same holds of those that the query did not come to
 abbrev pub all_looks : Course → List Look
-all_looks course = course.looks ++ map unread (drop (length course.looks) course.seen.cuts)
+all_looks course = course.looks ++ map unread_look (drop (length course.looks) course.seen.cuts)
 
 abbrev pub trace_of : Course → Trace
 trace_of course = record {

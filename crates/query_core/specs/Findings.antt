@@ -1,9 +1,11 @@
 -- Leaves that a query found down, and ranges of which it found no replica.
 use Rattle.std.specs.Prelude.{◌≡◌, ℕ, true, List, length, slice_get, take, Some}
 use Rattle.std.specs.List.{AllByRecursion}
-use Rattle.mon_topo.specs.HeldHistories.{Histories, leaf_history, range_history}
+use Rattle.mon_value.specs.Histories.{leaf_history, range_history}
+use Rattle.mon_value.specs.declared.histories.Histories.{Histories}
 use Rattle.mon_topo.specs.RangeHistories.{serving}
-use Rattle.mon_topo.specs.Zones.{range_zones, zone_numbered}
+use Rattle.mon_value.specs.Positions.{zone_numbered}
+use Rattle.mon_topo.specs.Zones.{range_zones}
 use Rattle.mon_topo.specs.declared.zones.ZoneSpec.{ZoneSpec}
 use Rattle.mon_value.specs.LeafHistories.{IsDownAt}
 use Rattle.mon_value.specs.declared.positions.FoundDown.{FoundDown}

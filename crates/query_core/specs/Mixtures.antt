@@ -20,8 +20,8 @@ use Rattle.query_core.specs.declared.stages.Step.{Step}
 use Rattle.query_core.specs.declared.stages.Step.TheVariants as step
 use Rattle.query_core.specs.declared.stages.Turn.{Turn}
 use Rattle.query_core.specs.declared.stages.Turn.TheVariants as turn
-use Rattle.query_core.specs.Courses.{kept, trace_of}
-use Rattle.query_core.specs.Program.{after, next_zone, stopped}
+use Rattle.query_core.specs.Courses.{with_zone_answer, trace_of}
+use Rattle.query_core.specs.Program.{after, next_zone, stopped_stage}
 use Rattle.query_core.specs.Settings.{Setting}
 
 abbrev pub typed_of : Setting → TypedTree
@@ -71,7 +71,7 @@ answer_of setting course table = record {
 -- it ends with its table, and else for its load
 abbrev pub root_stage : Setting → Course → Result Table OverLimit → Stage
 root_stage setting course (Ok table) = at.Ended (Ok (answer_of setting course table))
-root_stage setting course (Err over) = stopped setting course
+root_stage setting course (Err over) = stopped_stage setting course
 
 pub record IsRootMixed (setting : Setting) (course : Course) (stage : Stage) : Type 0 where
   pub mixed : Result Table OverLimit
@@ -86,8 +86,8 @@ TurnSettles setting (turn.Through course) new = IsRootMixed setting course new
 
 -- it keeps the zone's answer and goes on to the next zone, and else it ends for its load
 abbrev pub zone_turn : Setting → Course → Result ZoneAnswer OverLimit → Turn
-zone_turn setting course (Ok answer) = next_zone (drop course.begun setting.areas) (kept course answer)
-zone_turn setting course (Err over) = turn.Goes (stopped setting course)
+zone_turn setting course (Ok answer) = next_zone (drop course.begun setting.areas) (with_zone_answer course answer)
+zone_turn setting course (Err over) = turn.Goes (stopped_stage setting course)
 
 pub record IsZoneMixed (setting : Setting) (course : Course) (parts : List LeafAnswer) (stage : Stage) : Type 0 where
   pub mixed : Result ZoneAnswer OverLimit

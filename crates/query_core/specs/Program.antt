@@ -21,14 +21,15 @@ use Rattle.query_core.specs.declared.stages.Step.{Step}
 use Rattle.query_core.specs.declared.stages.Step.TheVariants as step
 use Rattle.query_core.specs.declared.stages.Turn.{Turn}
 use Rattle.query_core.specs.declared.stages.Turn.TheVariants as turn
-use Rattle.query_core.specs.Courses.{begun, closed, course_of, cuts_seen, founds_in, is_entered, left, trace_of}
+use Rattle.query_core.specs.Courses.{with_next_zone, with_zone_behind, course_of, cuts_seen, founds_in, is_entered}
+use Rattle.query_core.specs.Courses.{left, trace_of}
 use Rattle.query_core.specs.Courses.{with_found}
 use Rattle.query_core.specs.Loadings.{is_whole, next_bucket, no_word, with_word}
-use Rattle.query_core.specs.Looks.{read_at, unread}
+use Rattle.query_core.specs.Looks.{read_at, unread_look}
 use Rattle.query_core.specs.Openings.{let_in}
 use Rattle.query_core.specs.Rounds.{Round, leaves_to_visit, next_range, round_of, with_slot}
 use Rattle.query_core.specs.Settings.{Setting}
-use Rattle.query_core.specs.Visits.{Visits, gone_on, kept, looked, next_leaf, visits_of}
+use Rattle.query_core.specs.Visits.{Visits, gone_on, with_leaf_answer, with_look, next_leaf, visits_of}
 
 -- ---- the next event
 
@@ -54,19 +55,19 @@ round_in stage = None
 abbrev pub going : Stage → Step
 going stage = step.Takes (turn.Goes stage)
 
-abbrev pub refused : RoundFault → Stage
-refused why = at.Ended (Err why)
+abbrev pub refused_stage : RoundFault → Stage
+refused_stage why = at.Ended (Err why)
 
 -- the load is above the limit
-abbrev pub stopped : Setting → Course → Stage
-stopped setting course = refused (fault.StepLimit setting.limit (trace_of course))
+abbrev pub stopped_stage : Setting → Course → Stage
+stopped_stage setting course = refused_stage (fault.StepLimit setting.limit (trace_of course))
 
 -- at the words of the next zone that the root words let in; those before it are left out
 abbrev pub next_zone : List Area → Course → Turn
 next_zone [] course = turn.Through course
 next_zone (area ∷ areas) course =
-    if is_entered course then turn.Goes (at.Entering (begun course) (round_of area) no_word)
-    else next_zone areas (left (begun course) area course.seen)
+    if is_entered course then turn.Goes (at.Entering (with_next_zone course) (round_of area) no_word)
+    else next_zone areas (left (with_next_zone course) area course.seen)
 
 abbrev pub on_from : Setting → Course → Step
 on_from setting course = step.Takes (next_zone (drop course.begun setting.areas) course)
@@ -81,7 +82,7 @@ resolving course round = resolving_at course round (next_range round)
 
 -- the course of a query that is through with a zone
 abbrev pub with_zone : Course → Round → Visits → Course
-with_zone course round visits = closed course round.resolved visits.looks
+with_zone course round visits = with_zone_behind course round.resolved visits.looks
 
 -- at the next leaf that is to be visited; once all were, the zone's answers are gathered
 abbrev pub visiting_at : Course → Round → Visits → Option Leaf → Step
@@ -138,7 +139,8 @@ told_slot stage slot leaf = going stage
 
 -- no slot is left: the leaves of the zone that were found down are named
 abbrev pub told_no_slot : Stage → Step
-told_no_slot (at.Resolving course round range) = going (refused (fault.NoReplica range (founds_in course round.area)))
+told_no_slot (at.Resolving course round range) =
+    going (refused_stage (fault.NoReplica range (founds_in course round.area)))
 told_no_slot stage = going stage
 
 -- the zone begins again at its first range
@@ -148,17 +150,17 @@ told_down (at.Visiting course round visits leaf) cut =
 told_down stage cut = going stage
 
 abbrev pub told_unread : Stage → ℕ → Step
-told_unread (at.Visiting course round visits leaf) cut = visiting course round (looked visits leaf (unread cut))
+told_unread (at.Visiting course round visits leaf) cut = visiting course round (with_look visits leaf (unread_look cut))
 told_unread stage cut = going stage
 
 abbrev pub told_read : Stage → ℕ → LeafAnswer → Step
 told_read (at.Visiting course round visits leaf) cut answer =
-    visiting course round (kept (looked visits leaf (read_at cut answer.sent)) answer)
+    visiting course round (with_leaf_answer (with_look visits leaf (read_at cut answer.sent)) answer)
 told_read stage cut answer = going stage
 
 abbrev pub told_over : Setting → Stage → ℕ → Step
 told_over setting (at.Visiting course round visits leaf) cut =
-    going (stopped setting (with_zone course round (looked visits leaf (unread cut))))
+    going (stopped_stage setting (with_zone course round (with_look visits leaf (unread_look cut))))
 told_over setting stage cut = going stage
 
 abbrev pub after : Setting → Stage → Told → Step

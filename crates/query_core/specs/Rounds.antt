@@ -7,7 +7,7 @@ use Rattle.mon_value.specs.declared.positions.Leaf.{Leaf}
 use Rattle.mon_value.specs.declared.positions.Range.{Range}
 use Rattle.mon_value.specs.declared.positions.RangeSlot.{RangeSlot}
 use Rattle.mon_value.specs.declared.positions.Slot.{Slot}
-use Rattle.mon_topo.specs.Replicas.{same_leaf}
+use Rattle.mon_value.specs.Positions.{same_leaf}
 use Rattle.query_core.specs.declared.answers.Resolved.{Resolved}
 use Rattle.query_core.specs.declared.areas.Area.{Area}
 use Rattle.query_core.specs.Areas.{has_leaf, leaf_at, range_at}

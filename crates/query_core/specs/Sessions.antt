@@ -6,11 +6,14 @@ use Rattle.mon_hints.specs.Covers.{AreBitsWithin, Bits, Covers}
 use Rattle.mon_hints.specs.HistoryBuckets.{history_buckets}
 use Rattle.mon_hints.specs.Words.{has_bit}
 use Rattle.mon_meaning.specs.LeafAnswers.{IsLeafPart, IsOverLeaf}
-use Rattle.mon_topo.specs.HeldHistories.{AreHeld, Histories, leaf_history, range_history}
+use Rattle.mon_value.specs.Histories.{leaf_history, range_history}
+use Rattle.mon_value.specs.declared.histories.Histories.{Histories}
+use Rattle.mon_topo.specs.HeldHistories.{AreHeld}
 use Rattle.mon_topo.specs.SeenHistories.{AreWithin}
 use Rattle.mon_topo.specs.Settings.{zone_of_leaf}
 use Rattle.mon_topo.specs.Settings.{Setting as Store}
-use Rattle.mon_topo.specs.Zones.{first_leaf, leaf_zones, range_numbered}
+use Rattle.mon_value.specs.Positions.{range_numbered}
+use Rattle.mon_topo.specs.Zones.{first_leaf, leaf_zones}
 use Rattle.mon_topo.specs.declared.zones.ZoneSpec.{ZoneSpec}
 use Rattle.mon_value.specs.LeafHistories.{is_down}
 use Rattle.mon_value.specs.declared.positions.Leaf.{Leaf}
@@ -28,7 +31,7 @@ use Rattle.query_core.specs.declared.asks.Told.TheVariants as told
 use Rattle.query_core.specs.declared.stages.Stage.{Stage}
 use Rattle.query_core.specs.Machine.{Query, avoided_after, slots_at}
 use Rattle.query_core.specs.Mixtures.{Settles, typed_of}
-use Rattle.query_core.specs.Openings.{is_met}
+use Rattle.query_core.specs.Openings.{is_plan_met}
 use Rattle.query_core.specs.Program.{after, ask_of}
 use Rattle.query_core.specs.Settings.{Setting}
 use Rattle.query_core.specs.Traces.{IsBetween, first_serving, replica_of, slot_rows}
@@ -87,7 +90,7 @@ module _ (store : Store) (setting : Setting) (moment : ℤ) where
   -- whether a formula holds of a leaf's buckets at a cut
   abbrev pub is_met_at : View → Leaf → ℕ → Bool
   is_met_at after leaf cut =
-      is_met setting.plan (history_buckets store.buckets_of (take cut (leaf_history after.seen leaf)))
+      is_plan_met setting.plan (history_buckets store.buckets_of (take cut (leaf_history after.seen leaf)))
 
   -- the rows of the slots that resolved to the leaf, at a cut
   abbrev pub rows_at : View → Leaf → ℕ → List RangeSlot → List Row

@@ -3,10 +3,10 @@ use Rattle.std.specs.Prelude.{◌≡◌, ◌≤◌, ◌<◌, ℕ, ℤ, Bool, tru
 use Rattle.std.specs.Prelude.{slice_get, Option, Some, Contains, if◌then◌else◌}
 use Rattle.std.specs.List.{AllByRecursion, flat_map, list_any, range_with_len}
 use Rattle.mon_hints.specs.HistoryBuckets.{history_buckets}
-use Rattle.mon_topo.specs.HeldHistories.{Histories, leaf_history, range_history}
-use Rattle.mon_topo.specs.RangeHistories.{acked, serving}
-use Rattle.mon_topo.specs.Replicas.{same_leaf}
-use Rattle.mon_topo.specs.Zones.{range_numbered}
+use Rattle.mon_value.specs.Histories.{leaf_history, range_history}
+use Rattle.mon_value.specs.declared.histories.Histories.{Histories}
+use Rattle.mon_topo.specs.RangeHistories.{acknowledged_rows, serving}
+use Rattle.mon_value.specs.Positions.{range_numbered, same_leaf}
 use Rattle.mon_value.specs.LeafHistories.{IsDownAt, is_opened, replica_rows}
 use Rattle.mon_value.specs.declared.histories.Entry.{Entry}
 use Rattle.mon_value.specs.declared.histories.RangeEntry.{RangeEntry}
@@ -19,12 +19,12 @@ use Rattle.mon_value.specs.declared.rows.Row.{Row}
 use Rattle.mon_value.specs.declared.rows.SeriesKey.{SeriesKey}
 use Rattle.mql_types.specs.Loads.{meets}
 use Rattle.mql_types.specs.Nodes.{TypedTree}
-use Rattle.mql_types.specs.Pieces.{sent}
+use Rattle.mql_types.specs.Pieces.{sent_amount}
 use Rattle.mql_types.specs.Plans.{fetches}
 use Rattle.mql_types.specs.declared.plans.Plan.{Plan}
 use Rattle.query_core.specs.declared.answers.Resolved.{Resolved}
 use Rattle.query_core.specs.declared.answers.Trace.{Trace}
-use Rattle.query_core.specs.Openings.{is_met}
+use Rattle.query_core.specs.Openings.{is_plan_met}
 use Rattle.query_core.specs.Rounds.{slots_on}
 
 -- ---- slots
@@ -67,12 +67,12 @@ abbrev pub looked_at : Histories → Trace → Leaf → List Entry
 looked_at seen trace leaf = take (cut_of trace leaf) (leaf_history seen leaf)
 
 -- the rows of a range: those of the slot that it resolved to, in its leaf's history at the leaf's cut
-abbrev pub rows_of : Histories → Trace → Resolved → List Row
-rows_of seen trace one = replica_rows one.range one.slot (looked_at seen trace one.leaf)
+abbrev pub resolved_rows : Histories → Trace → Resolved → List Row
+resolved_rows seen trace one = replica_rows one.range one.slot (looked_at seen trace one.leaf)
 
 -- all rows that the query stands on
 abbrev pub source_of : Histories → Trace → List Row
-source_of seen trace = flat_map (rows_of seen trace) trace.resolved
+source_of seen trace = flat_map (resolved_rows seen trace) trace.resolved
 
 -- the rows of some slots of a leaf
 abbrev pub slot_rows : List Entry → List RangeSlot → List Row
@@ -104,7 +104,7 @@ pub record IsTraceOf (typed : TypedTree) (moment : ℤ) (at_entry at_exit : Hist
       (λ (one : Resolved). is_opened one.range one.slot (looked_at at_exit trace one.leaf) ≡ true) trace.resolved
   pub down : AllByRecursion (λ (found : FoundDown). IsDownAt (leaf_history at_exit found.leaf) found.cut) trace.down
   pub sends : (leaf : Leaf) → leaf.0 < length at_exit.leaves
-      → sent_by trace leaf ≡ sent_if (was_read trace leaf) (sent typed (rows_on at_exit trace leaf) moment)
+      → sent_by trace leaf ≡ sent_if (was_read trace leaf) (sent_amount typed (rows_on at_exit trace leaf) moment)
 
 -- no leaf is looked at before what was seen of it at entry, and each row that had been acknowledged by then is among
 -- those that the query stands on
@@ -112,7 +112,7 @@ pub record IsFresh (at_entry at_exit : Histories) (trace : Trace) : Type 0 where
   pub cuts : (leaf : Leaf) → leaf.0 < length at_exit.leaves
       → length (leaf_history at_entry leaf) ≤ cut_of trace leaf
   pub rows : (range : Range) → range.0 < length at_exit.ranges
-      → AllByRecursion (Contains (source_of at_exit trace)) (acked (range_history at_entry range))
+      → AllByRecursion (Contains (source_of at_exit trace)) (acknowledged_rows (range_history at_entry range))
 
 -- whether a row's series meets a fetch of a query
 abbrev pub is_wanted : TypedTree → Row → Bool
@@ -124,4 +124,4 @@ pub record IsReadRightly (typed : TypedTree) (plan : Plan) (buckets_of : SeriesK
   pub unread : was_read trace leaf ≡ false
       → AllByRecursion (λ row. is_wanted typed row ≡ false) (rows_on at_exit trace leaf)
   pub read : was_read trace leaf ≡ true
-      → is_met plan (history_buckets buckets_of (looked_at at_exit trace leaf)) ≡ true
+      → is_plan_met plan (history_buckets buckets_of (looked_at at_exit trace leaf)) ≡ true

@@ -3,7 +3,7 @@ use Rattle.std.specs.Prelude.{ℕ, ◌-◌, nat_le, List, [], ◌∷◌, ◌++�
 use Rattle.mon_fold.specs.declared.answers.LeafAnswer.{LeafAnswer}
 use Rattle.mon_value.specs.declared.positions.Leaf.{Leaf}
 use Rattle.query_core.specs.declared.looks.Look.{Look}
-use Rattle.query_core.specs.Looks.{unread}
+use Rattle.query_core.specs.Looks.{unread_look}
 
 -- the leaves that are still to be visited, what is known of each leaf of the zone from its first one on, and the
 -- answers of those that were read
@@ -15,7 +15,7 @@ pub record Visits : Type 0 where
 
 -- none is read yet: each stands as it had been seen
 abbrev pub visits_of : List Leaf → Leaf → List ℕ → Visits
-visits_of leaves first cuts = record { left = leaves; first = first; looks = map unread cuts; answers = [] }
+visits_of leaves first cuts = record { left = leaves; first = first; looks = map unread_look cuts; answers = [] }
 
 abbrev pub first_left : List Leaf → Option Leaf
 first_left [] = None
@@ -37,16 +37,16 @@ gone_on visits = record {
 }
 
 -- what became of a leaf
-abbrev pub looked : Visits → Leaf → Look → Visits
-looked visits leaf look = record {
+abbrev pub with_look : Visits → Leaf → Look → Visits
+with_look visits leaf look = record {
   left = visits.left;
   first = visits.first;
   looks = if nat_le visits.first.0 leaf.0 then set visits.looks (leaf.0 - visits.first.0) look else visits.looks;
   answers = visits.answers;
 }
 
-abbrev pub kept : Visits → LeafAnswer → Visits
-kept visits answer = record {
+abbrev pub with_leaf_answer : Visits → LeafAnswer → Visits
+with_leaf_answer visits answer = record {
   left = visits.left;
   first = visits.first;
   looks = visits.looks;

@@ -1,4 +1,6 @@
 // How a query ends.
+ghost use Rattle.std.specs.Prelude.{◌≡◌, IfOk};
+
 use mon_value::{Founds, Leaf, ListOf, OutOfMemory, Range, Slot, Table, TryCopy};
 use mql_types::OpLevels;
 use std::alloc::Global;
@@ -52,5 +54,47 @@ pub enum RoundFault {
 impl TryCopy for Resolved {
     fn copy(&self, _alloc: Global) -> Result<Resolved, OutOfMemory> {
         Ok(*self)
+    }
+}
+
+/// Copies of lengths or numbers.
+pub(crate) fn copied_cuts(alloc: Global, cuts: &Cuts) -> Result<Cuts, OutOfMemory>
+    ensures equal { IfOk result (λ copied. copied ≡ cuts.now) }
+{
+    Ok(Cuts::from_vec(Vec::from_slice(alloc, cuts.as_slice())?))
+}
+
+impl TryCopy for Trace {
+    fn copy(&self, alloc: Global) -> Result<Trace, OutOfMemory> {
+        Ok(Trace {
+            resolved: self.resolved.copy(alloc)?,
+            cuts: copied_cuts(alloc, &self.cuts)?,
+            read: self.read.copy(alloc)?,
+            down: self.down.copy(alloc)?,
+            sent: copied_cuts(alloc, &self.sent)?,
+        })
+    }
+}
+
+impl TryCopy for Answer {
+    fn copy(&self, alloc: Global) -> Result<Answer, OutOfMemory> {
+        Ok(Answer {
+            table: self.table.copy(alloc)?,
+            trace: self.trace.copy(alloc)?,
+            levels: OpLevels::from_vec(Vec::from_slice(alloc, self.levels.as_slice())?),
+        })
+    }
+}
+
+impl TryCopy for RoundFault {
+    fn copy(&self, alloc: Global) -> Result<RoundFault, OutOfMemory> {
+        match self {
+            RoundFault::NoReplica(range, founds) => {
+                Ok(RoundFault::NoReplica(*range, founds.copy(alloc)?))
+            }
+            RoundFault::StepLimit(load, trace) => {
+                Ok(RoundFault::StepLimit(*load, trace.copy(alloc)?))
+            }
+        }
     }
 }

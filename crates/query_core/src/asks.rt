@@ -1,7 +1,8 @@
 // What a query does next, what it is told of that, and what its caller has seen.
-use crate::answers::{Cuts, Resolveds};
+use crate::answers::{Cuts, Resolveds, copied_cuts};
 use mon_fold::LeafAnswer;
-use mon_value::{Leaf, Range, Slot, Zone};
+use mon_value::{Leaf, Range, Slot, TryCopy, Zone};
+use std::alloc::{AllocError, Global};
 
 /// The next event of a query.
 #[derive(Debug, PartialEq, Eq, Drop)]
@@ -43,4 +44,39 @@ pub enum Told {
 pub struct Seen {
     pub cuts: Cuts,
     pub firsts: Resolveds,
+}
+
+impl TryCopy for Ask {
+    fn copy(&self, _alloc: Global) -> Result<Ask, AllocError> {
+        match self {
+            Ask::LoadRoot(bucket) => Ok(Ask::LoadRoot(*bucket)),
+            Ask::LoadZone(zone, bucket) => Ok(Ask::LoadZone(*zone, *bucket)),
+            Ask::Resolve(range) => Ok(Ask::Resolve(*range)),
+            Ask::Visit(leaf) => Ok(Ask::Visit(*leaf)),
+            Ask::Finished => Ok(Ask::Finished),
+        }
+    }
+}
+
+impl TryCopy for Told {
+    fn copy(&self, alloc: Global) -> Result<Told, AllocError> {
+        match self {
+            Told::Word(word, seen) => Ok(Told::Word(*word, seen.copy(alloc)?)),
+            Told::Slot(slot, leaf) => Ok(Told::Slot(*slot, *leaf)),
+            Told::NoSlot => Ok(Told::NoSlot),
+            Told::Down(cut) => Ok(Told::Down(*cut)),
+            Told::Unread(cut) => Ok(Told::Unread(*cut)),
+            Told::Read(cut, answer) => Ok(Told::Read(*cut, answer.copy(alloc)?)),
+            Told::Over(load, cut) => Ok(Told::Over(*load, *cut)),
+        }
+    }
+}
+
+impl TryCopy for Seen {
+    fn copy(&self, alloc: Global) -> Result<Seen, AllocError> {
+        Ok(Seen {
+            cuts: copied_cuts(alloc, &self.cuts)?,
+            firsts: self.firsts.copy(alloc)?,
+        })
+    }
 }

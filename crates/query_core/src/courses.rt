@@ -52,7 +52,7 @@ impl Course {
     pub(crate) fn begin(&mut self) -> bool
         requires { self.old.begun + 1 < 2 ^ 64 }
         ensures entered { result ≡ spec.is_entered self.old }
-        ensures begun { self.new ≡ spec.begun self.old }
+        ensures begun { self.new ≡ spec.with_next_zone self.old }
     {
         let entered = flag_at(self.entered.as_slice(), self.begun);
         self.begun += 1;
@@ -77,7 +77,7 @@ impl Course {
 
     /// Is through with a zone that was looked at.
     pub(crate) fn close(&mut self, resolved: &[Resolved], looks: &[Look]) -> Result<(), OutOfMemory>
-        ensures closed { OnOk result (self.new ≡ spec.closed self.old resolved.now looks.now) }
+        ensures closed { OnOk result (self.new ≡ spec.with_zone_behind self.old resolved.now looks.now) }
     {
         add_resolved(&mut self.resolved, resolved)?;
         add_looks(&mut self.looks, looks)
@@ -85,7 +85,7 @@ impl Course {
 
     /// Keeps the answer of a zone.
     pub(crate) fn keep(&mut self, answer: ZoneAnswer) -> Result<(), OutOfMemory>
-        ensures kept { OnOk result (self.new ≡ spec.kept self.old answer) }
+        ensures kept { OnOk result (self.new ≡ spec.with_zone_answer self.old answer) }
     {
         self.answers.push(answer)?;
         Ok(())

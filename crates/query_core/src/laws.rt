@@ -1,6 +1,6 @@
 // What holds of every query's session.
 ghost use Rattle.std.specs.Prelude.{◌≡◌, ◌≤ℤ◌, ℕ, ℤ, pos, List, length, take, Ok, Err};
-ghost use Rattle.mon_topo.specs.HeldHistories.{leaf_history};
+ghost use Rattle.mon_value.specs.Histories.{leaf_history};
 ghost use Rattle.mon_topo.specs.Settings.{Setting as Store};
 ghost use Rattle.mon_value.specs.declared.positions.FoundDown.{FoundDown as Found};
 ghost use Rattle.mon_value.specs.declared.positions.Leaf.{Leaf as LeafOf};

@@ -20,7 +20,7 @@ pub(crate) type Looks = ListOf<Look>;
 impl Look {
     /// A leaf that is not read.
     pub(crate) fn unread(cut: u64) -> Look
-        ensures look { result ≡ spec.unread cut }
+        ensures look { result ≡ spec.unread_look cut }
     {
         Look {
             cut,
@@ -43,7 +43,7 @@ impl Look {
 
 /// Leaves that are not read, at these lengths of their histories.
 pub(crate) fn unread_looks(alloc: Global, cuts: &[u64]) -> Result<Vec<Look>, OutOfMemory>
-    ensures looks { IfOk result (λ looks. looks.items ≡ map spec.unread cuts.now) }
+    ensures looks { IfOk result (λ looks. looks.items ≡ map spec.unread_look cuts.now) }
 {
     let mut looks = Vec::with_capacity(alloc, cuts.len())?;
     for cut in cuts {
@@ -54,7 +54,7 @@ pub(crate) fn unread_looks(alloc: Global, cuts: &[u64]) -> Result<Vec<Look>, Out
 
 /// Adds such leaves.
 pub(crate) fn add_unread(looks: &mut Looks, cuts: &[u64]) -> Result<(), OutOfMemory>
-    ensures added { OnOk result (looks.new ≡ looks.old ++ map spec.unread cuts.now) }
+    ensures added { OnOk result (looks.new ≡ looks.old ++ map spec.unread_look cuts.now) }
 {
     for cut in cuts {
         looks.push(Look::unread(*cut))?;

@@ -1,5 +1,5 @@
 // Answers that are mixed: those of a zone's leaves, and those of all zones.
-ghost use Rattle.std.specs.Prelude.{◌≡◌, IfOk};
+ghost use Rattle.std.specs.Prelude.{IfOk};
 ghost use Rattle.mixer.specs.ZoneAnswers.{HasZoneParts};
 ghost use Rattle.mql_types.specs.Nodes.{typed_tree};
 ghost use Rattle.query_core.specs.Mixtures as spec;

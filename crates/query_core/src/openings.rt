@@ -44,7 +44,7 @@ fn any_child(several: &[Formula], named: &Buckets, words: &Words) -> u64
 
 // The children of which some formula of the plan holds, a bit for each.
 fn children_let_in(plan: &Plan, words: &Words) -> u64
-    ensures bits { IsMask result (spec.lets_in plan.now words.now) }
+    ensures bits { IsMask result (spec.lets_child_in plan.now words.now) }
 {
     any_child(plan.formulas.as_slice(), &plan.buckets, words)
 }
@@ -53,7 +53,7 @@ fn children_let_in(plan: &Plan, words: &Words) -> u64
 /// its bit.
 pub fn is_let_in(plan: &Plan, words: &Words, child: u32) -> bool
     requires { child < 64 }
-    ensures let_in { result ≡ spec.lets_in plan.now words.now child }
+    ensures let_in { result ≡ spec.lets_child_in plan.now words.now child }
 {
     has_child(children_let_in(plan, words), child)
 }

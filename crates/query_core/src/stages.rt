@@ -188,14 +188,14 @@ fn going(stage: Stage) -> Step
 }
 
 fn refused(fault: RoundFault) -> Step
-    ensures step { result ≡ spec.going (spec.refused fault) }
+    ensures step { result ≡ spec.going (spec.refused_stage fault) }
 {
     going(Stage::Ended(Err(fault)))
 }
 
 /// The end of a query whose load is above the limit.
 pub(crate) fn stopped(setting: &Setting, course: Course) -> Result<Stage, OutOfMemory>
-    ensures stage { IfOk result (λ stage. stage ≡ spec.stopped setting.now course) }
+    ensures stage { IfOk result (λ stage. stage ≡ spec.stopped_stage setting.now course) }
 {
     let trace = course.into_trace(setting.alloc())?;
     Ok(Stage::Ended(Err(RoundFault::StepLimit(setting.limit(), trace))))

@@ -1,5 +1,5 @@
 // The visits of a round.
-ghost use Rattle.std.specs.Prelude.{◌≡◌, ◌++◌, ◌∷◌, [], IfOk, OnOk};
+ghost use Rattle.std.specs.Prelude.{◌≡◌, IfOk, OnOk};
 ghost use Rattle.query_core.specs.Visits as spec;
 
 use crate::looks::{Look, unread_looks};
@@ -69,7 +69,7 @@ impl Visits {
 
     /// Says what became of a leaf.
     pub(crate) fn look(&mut self, leaf: Leaf, look: Look)
-        ensures looked { self.new ≡ spec.looked self.old leaf look }
+        ensures looked { self.new ≡ spec.with_look self.old leaf look }
     {
         if leaf.0 >= self.first.0 {
             let place = (leaf.0 - self.first.0) as usize;
@@ -81,7 +81,7 @@ impl Visits {
 
     /// Keeps the answer of a leaf that was read.
     pub(crate) fn keep(&mut self, answer: LeafAnswer) -> Result<(), OutOfMemory>
-        ensures kept { OnOk result (self.new ≡ spec.kept self.old answer) }
+        ensures kept { OnOk result (self.new ≡ spec.with_leaf_answer self.old answer) }
     {
         self.answers.push(answer)?;
         Ok(())

@@ -7,13 +7,13 @@ use mathlib.Core.Logic.{dite}
 use native.Mathlib.Decide.{ℕ_discrete}
 use Rattle.raise_table.specs.declared.places.ZoneLeaf.{ZoneLeaf}
 use Rattle.raise_table.specs.Places.{leaves_from, leaves_in, leaves_of_zone, zone_leaf}
-use Rattle.raise_table.specs.RaiseRule.{same_leaf, times}
+use Rattle.raise_table.specs.RaiseRule.{same_zone_leaf, times}
 
 abbrev one_if : Bool → ℕ
 one_if b = cond b 1 0
 
 abbrev one_if_same : ZoneLeaf → ZoneLeaf → ℕ
-one_if_same leaf other = one_if (same_leaf leaf other)
+one_if_same leaf other = one_if (same_zone_leaf leaf other)
 
 at_most_one : (b : Bool) → one_if b ≤ 1
 at_most_one false = omega arith
@@ -56,7 +56,7 @@ once_in_zone zone (suc count) leaf =
     dite (ℕ_discrete leaf.child count)
     (λ e.
     let before : times leaf (leaves_of_zone zone count) ≡ 0 = none_past zone count leaf (omega arith) in
-    let last : one_if_same leaf (zone_leaf zone count) ≤ 1 = at_most_one (same_leaf leaf (zone_leaf zone count)) in
+    let last : one_if_same leaf (zone_leaf zone count) ≤ 1 = at_most_one (same_zone_leaf leaf (zone_leaf zone count)) in
     omega arith)
     (λ apart.
     let before : times leaf (leaves_of_zone zone count) ≤ 1 = once_in_zone zone count leaf in

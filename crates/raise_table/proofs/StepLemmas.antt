@@ -16,8 +16,9 @@ use Rattle.raise_table.specs.declared.views.SeatView.{SeatView}
 use Rattle.raise_table.specs.Places.{bit_of, bucket_of, place_of, word_at, word_count, word_number}
 use Rattle.raise_table.specs.Seats.{HasKnown, MayRaise, Owner, after_load, after_raise, met, no_hints, note}
 use Rattle.raise_table.specs.Seats.{without_notes}
-use Rattle.raise_table.specs.RaiseRule.{KeepsRaiseRule, KnowsTrueBits, same_leaf, times}
-use Rattle.raise_table.specs.Steps.{Loads, Raises, Seated, after_deal, dealt, loaded, meeting, raising, spent}
+use Rattle.raise_table.specs.RaiseRule.{KeepsRaiseRule, KnowsTrueBits, same_zone_leaf, times}
+use Rattle.raise_table.specs.Steps.{Loads, Raises, Seated, after_deal, dealt, view_after_load, meeting, raising}
+use Rattle.raise_table.specs.Steps.{spent_view}
 use Rattle.raise_table.specs.Steps.{split_off}
 use Rattle.raise_table.proofs.WordLemmas.{bucket_found, place_found, word_numbered}
 use Rattle.raise_table.proofs.SeatLemmas.{owners_came, owners_changed, seat_before, seat_came_cases, seat_cases}
@@ -41,7 +42,7 @@ keeps_load zones slots id me word s rule _ is _ =
     let here : word_at s.words place bucket ≡ found = ap (λ i. get_or s.words i 0) (word_numbered word) in
     let known : HasKnown me.0.hints place bucket found = λ bit knows. subst (λ n. bit_at n bit ≡ 1) here
     (rule.known me.0 (id, is) place bucket bit knows) in
-    let w = loaded place bucket found me.0 in
+    let w = view_after_load place bucket found me.0 in
     let true : KnowsTrueBits s.words w = true_with s.words me.0 (note place bucket found) w.hints.notes me.0.raised
     (rule.known me.0 (id, is)) (λ bit has. subst (λ n. bit_at n bit ≡ 1) (sym here) has) in (
       w,
@@ -55,7 +56,8 @@ keeps_load zones slots id me word s rule _ is _ =
 -- what a load tells, at the place and the bucket of its word
 pub loaded_view : (me me' : Seated) (place : Place) (bucket word found : ℕ) → bucket < 4096 → word ≡ word_number place
     bucket
-    → me' ≡ (loaded (place_of word) (bucket_of word) found me.0, me.1) → me'.0.hints ≡ after_load place bucket found
+    → me' ≡ (view_after_load (place_of word) (bucket_of word) found me.0, me.1) → me'.0.hints
+    ≡ after_load place bucket found
     me.0.hints
 loaded_view me me' place bucket word found low number is = ap (λ (m : Seated). m.0.hints) is
     ∙ (λ i. after_load ((ap place_of number ∙ place_found place bucket low) i)
@@ -151,13 +153,13 @@ keeps_deal zones id v idle calm s rule is = let left = after_deal v in let right
           let c = owners_changed leaf s.views id v left is in
           let o = rule.owned leaf in
           let t : times leaf (take 1 v.leaves) + times leaf (drop 1 v.leaves) ≡ times leaf v.leaves = sum_by-take-drop
-          (λ other. cond (same_leaf leaf other) 1 0) v.leaves 1 in
+          (λ other. cond (same_zone_leaf leaf other) 1 0) v.leaves 1 in
           omega arith
           );
     }
 
 pub keeps_meet : (zones : List ℕ) (id other : ℕ) (v u : SeatView) → u.leaves ≡ [] → u.raised ≡ []
-    → Joins {S = Unit {0}} (holds zones) id v other u (meeting v u) spent
+    → Joins {S = Unit {0}} (holds zones) id v other u (meeting v u) spent_view
 keeps_meet zones id other v u landless idle s rule is apart is' =
     let theirs : KnowsTrueBits s.words u =
     rule.known u (other, sym (set_else s.views id other (meeting v u) apart) ∙ is') in
@@ -167,7 +169,8 @@ keeps_meet zones id other v u landless idle s rule is apart is' =
       | inr known ↦ theirs place bucket bit (knows.0, known, knows.2, knows.3, knows.4)
     ] in
     let first = keeps_hints zones s.words s.views id v (met v.hints u.hints) rule is both in
-    let gone : with_hints no_hints u ≡ spent = λ i. record { hints = no_hints; leaves = landless i; raised = idle i } in
+    let gone : with_hints no_hints u
+    ≡ spent_view = λ i. record { hints = no_hints; leaves = landless i; raised = idle i } in
     subst (λ (w : SeatView). KeepsRaiseRule zones s.words (set (set s.views id (meeting v u)) other w)) gone
     (keeps_hints zones s.words (set s.views id (meeting v u)) other u no_hints first is'
     (no_hints_are_true s.words (with_hints no_hints u) refl))

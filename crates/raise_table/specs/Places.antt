@@ -4,9 +4,8 @@ use Rattle.mon_value.specs.declared.positions.Zone.{Zone}
 use Rattle.raise_table.specs.declared.places.Place.{Place}
 use Rattle.raise_table.specs.declared.places.Place.TheVariants as at
 use Rattle.raise_table.specs.declared.places.ZoneLeaf.{ZoneLeaf}
-
-abbrev pub zone_numbered : ℕ → Zone
-zone_numbered n = record { 0 = n }
+use Rattle.mon_value.specs.Positions.{zone_numbered}
+use Rattle.mon_value.specs.declared.limits.TheConstants.{MOST_BUCKETS}
 
 abbrev pub zone_leaf : ℕ → ℕ → ZoneLeaf
 zone_leaf zone child = record { zone = zone_numbered zone; child = child }
@@ -40,17 +39,17 @@ place_numbered (suc n) = at.Zone (zone_numbered n)
 
 -- each place has 4,096 words, one for each bucket
 abbrev pub word_number : Place → ℕ → ℕ
-word_number place bucket = place_number place * 4096 + bucket
+word_number place bucket = place_number place * MOST_BUCKETS + bucket
 
 abbrev pub place_of : ℕ → Place
-place_of word = place_numbered (word / 4096)
+place_of word = place_numbered (word / MOST_BUCKETS)
 
 abbrev pub bucket_of : ℕ → ℕ
-bucket_of word = word % 4096
+bucket_of word = word % MOST_BUCKETS
 
 -- how many words a table has
 abbrev pub word_count : List ℕ → ℕ
-word_count zones = (length zones + 1) * 4096
+word_count zones = (length zones + 1) * MOST_BUCKETS
 
 -- the word of a place and a bucket
 abbrev pub word_at : List ℕ → Place → ℕ → ℕ

@@ -11,6 +11,7 @@ use Rattle.raise_table.specs.declared.views.Raised.{Raised}
 use Rattle.raise_table.specs.declared.views.SeatView.{SeatView}
 use Rattle.raise_table.specs.Places.{bit_of, leaves_in, word_at, word_count}
 use Rattle.raise_table.specs.Seats.{Knows, MayRaise}
+use Rattle.mon_value.specs.declared.limits.TheConstants.{MOST_BUCKETS}
 
 abbrev pub HasSeat : List SeatView → SeatView → Type 0
 HasSeat seats seat = (number : ℕ) × (get_elem? seats number ≡ some seat)
@@ -31,12 +32,12 @@ abbrev pub RaisedInOrder : SeatView → Type 0
 RaisedInOrder seat = (leaf : ZoneLeaf) (raised : Raised) → Contains seat.leaves leaf → Contains seat.raised raised
     → MayRaise leaf seat.raised raised.place raised.bucket
 
-abbrev pub same_leaf : ZoneLeaf → ZoneLeaf → Bool
-same_leaf leaf other = (leaf.zone.0 == other.zone.0) && (leaf.child == other.child)
+abbrev pub same_zone_leaf : ZoneLeaf → ZoneLeaf → Bool
+same_zone_leaf leaf other = (leaf.zone.0 == other.zone.0) && (leaf.child == other.child)
 
 -- how often a list of leaves has a leaf
 abbrev pub times : ZoneLeaf → List ZoneLeaf → ℕ
-times leaf leaves = count_by (same_leaf leaf) leaves
+times leaf leaves = count_by (same_zone_leaf leaf) leaves
 
 -- how many seats own a leaf
 abbrev pub owners : ZoneLeaf → List SeatView → ℕ
@@ -51,7 +52,7 @@ pub record KeepsRaiseRule (zones words : List ℕ) (seats : List SeatView) : Typ
   pub set : (seat : SeatView) (place : Place) (bucket bit : ℕ) → HasSeat seats seat → RaisedBit seat place bucket bit
       → bit_at (word_at words place bucket) bit ≡ 1
   -- a bit in a word was raised by a seat
-  pub raised : (place : Place) (bucket bit : ℕ) → bucket < 4096 → bit_at (word_at words place bucket) bit ≡ 1
+  pub raised : (place : Place) (bucket bit : ℕ) → bucket < MOST_BUCKETS → bit_at (word_at words place bucket) bit ≡ 1
       → (seat : SeatView) × HasSeat seats seat × RaisedBit seat place bucket bit
   -- in its zone an owner raised only what it had raised at the root
   pub ordered : (seat : SeatView) → HasSeat seats seat → RaisedInOrder seat

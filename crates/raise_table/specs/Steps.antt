@@ -15,8 +15,8 @@ Seated = Me (Unit {0}) SeatView
 abbrev pub first_seat : List ℕ → SeatView
 first_seat zones = record { hints = no_hints; leaves = leaves_in zones; raised = [] }
 
-abbrev pub loaded : Place → ℕ → ℕ → SeatView → SeatView
-loaded place bucket found seat =
+abbrev pub view_after_load : Place → ℕ → ℕ → SeatView → SeatView
+view_after_load place bucket found seat =
     record { hints = after_load place bucket found seat.hints; leaves = seat.leaves; raised = seat.raised }
 
 abbrev pub raising : Place → ℕ → ℕ → SeatView → SeatView
@@ -41,8 +41,8 @@ abbrev pub meeting : SeatView → SeatView → SeatView
 meeting seat other = record { hints = met seat.hints other.hints; leaves = seat.leaves; raised = seat.raised }
 
 -- a seat that met another's is spent
-abbrev pub spent : SeatView
-spent = record { hints = no_hints; leaves = []; raised = [] }
+abbrev pub spent_view : SeatView
+spent_view = record { hints = no_hints; leaves = []; raised = [] }
 
 -- ---- what a step tells
 
@@ -50,7 +50,7 @@ spent = record { hints = no_hints; leaves = []; raised = [] }
 abbrev pub Loads : Step (Unit {0}) → Seated → ℕ → Seated → Type 0
 Loads step before found after =
     HasKnown before.0.hints (place_of step.word) (bucket_of step.word) found
-    × (after ≡ (loaded (place_of step.word) (bucket_of step.word) found before.0, before.1))
+    × (after ≡ (view_after_load (place_of step.word) (bucket_of step.word) found before.0, before.1))
 
 -- the seat raised the bucket at the place of the word
 abbrev pub Raises : Step (Unit {0}) → Seated → ℕ → Seated → Type 0

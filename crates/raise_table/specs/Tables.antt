@@ -4,6 +4,7 @@ use Rattle.std.specs.List.{All}
 use Rattle.atomic_table.specs.Seated.{TableId}
 use Rattle.raise_table.specs.declared.places.Place.{Place}
 use Rattle.raise_table.specs.Places.{IsPlace, word_count}
+use Rattle.mon_value.specs.declared.limits.TheConstants.{MOST_BUCKETS}
 
 -- the table itself, how many leaves each zone has, and the number of buckets
 pub record RaiseIdentity : Type 0 where
@@ -19,7 +20,7 @@ AreFew zones = (length zones ≤ 32) × All (λ leaves. leaves ≤ 32) zones
 pub record IsShaped (raise : RaiseIdentity) : Type 0 where
   pub words : raise.id.words ≡ word_count raise.zones
   pub few : AreFew raise.zones
-  pub buckets : raise.buckets ≤ 4096
+  pub buckets : raise.buckets ≤ MOST_BUCKETS
 
 -- the table has a word for the place and the bucket
 abbrev pub HasWord : RaiseIdentity → Place → ℕ → Type 0

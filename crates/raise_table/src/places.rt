@@ -4,11 +4,8 @@ ghost use Rattle.raise_table.specs.declared.places.ZoneLeaf as the;
 ghost use Rattle.raise_table.specs.Places.{bit_of, leaves_in, leaves_of_zone, word_number};
 ghost use Rattle.raise_table.specs.RaiseRule.{times};
 
-use mon_value::{LeafCounts, ListOf, OutOfMemory, Zone};
+use mon_value::{LeafCounts, ListOf, MOST_BUCKETS, OutOfMemory, Zone};
 use std::alloc::Global;
-
-/// The most buckets that a table has at each place.
-pub const MOST_BUCKETS: u32 = 4_096;
 
 /// Where a word stands: at the root, or at a zone.
 #[derive(Clone, Copy, Debug, PartialEq, Eq)]

@@ -59,9 +59,9 @@ impl Split<SeatView> for Deal {
 pub(crate) struct Meet;
 
 impl Join<SeatView> for Meet {
-    ghost use Rattle.raise_table.specs.Steps.{meeting, spent};
+    ghost use Rattle.raise_table.specs.Steps.{meeting, spent_view};
 
     ghost both = { meeting };
 
-    ghost spent = { spent };
+    ghost spent = { spent_view };
 }

@@ -1,5 +1,5 @@
 // The table of the words.
-ghost use Rattle.std.specs.Prelude.{◌≡◌, ◌≤◌, ◌<◌, [], ◌∷◌, length, drop, map, IfOk};
+ghost use Rattle.std.specs.Prelude.{◌≡◌, ◌≤◌, ◌<◌, [], ◌∷◌, drop, map, IfOk};
 ghost use Rattle.std.specs.List.{Contains};
 ghost use Rattle.raise_table.specs.Places.{bit_of, leaves_in};
 ghost use Rattle.raise_table.specs.Seats.{HasKnown, Knows, KnowsAll, KnowsAsMuch, MayRaise, after_load, after_meet};
@@ -7,12 +7,12 @@ ghost use Rattle.raise_table.specs.Seats.{after_raise, met, new_owner, no_hints,
 ghost use Rattle.raise_table.specs.Tables.{AreFew, HasWord, IsShaped};
 
 use crate::names::RaiseName;
-use crate::places::{MOST_BUCKETS, Place, ZoneLeaf, leaves_of_all, word_number};
+use crate::places::{Place, ZoneLeaf, leaves_of_all, word_number};
 use crate::seats::{HintSeat, OwnerSeat, OwnerSeats};
 use crate::steps::{Deal, Load, Meet, Raise, RaiseRule, SplitOff};
 use crate::views::SeatView;
 use atomic_table::{Seat, Table};
-use mon_value::{LeafCounts, ListOf, OutOfMemory};
+use mon_value::{LeafCounts, ListOf, MOST_BUCKETS, OutOfMemory};
 use std::alloc::Global;
 use std::marker::{Model, PhantomData};
 

@@ -1,10 +1,9 @@
-ghost use Rattle.std.specs.Prelude.{◌≡◌, ◌<◌, ◌≤◌, length};
+ghost use Rattle.std.specs.Prelude.{◌≡◌, ◌<◌, length};
 ghost use Rattle.raise_table.specs.Seats.{Knows};
 ghost use Rattle.raise_table.specs.declared.places.Place.TheVariants.{Root};
 
 use super::*;
-use crate::places::MOST_BUCKETS;
-use mon_value::{LeafCounts, Zone};
+use mon_value::{LeafCounts, MOST_BUCKETS, Zone};
 use std::alloc::Global;
 use std::marker::Brand;
 use std::process::Abort;

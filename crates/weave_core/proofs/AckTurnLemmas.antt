@@ -6,9 +6,9 @@ use Rattle.std.specs.List.{flat_map}
 use Rattle.mon_config.specs.declared.config.Config.{Config}
 use Rattle.mon_series.proofs.SourceEnds.{source_later}
 use Rattle.mon_topo.proofs.HeldLemmas.{range_entry_other, range_entry_same}
-use Rattle.mon_topo.specs.RangeHistories.{acked}
+use Rattle.mon_topo.specs.RangeHistories.{acknowledged_rows}
 use Rattle.mon_topo.specs.Settings.{Setting}
-use Rattle.mon_topo.specs.Zones.{range_numbered}
+use Rattle.mon_value.specs.Positions.{range_numbered}
 use Rattle.mon_value.specs.Sources.{last_end, points_of}
 use Rattle.mon_value.specs.declared.histories.Ack.{Ack}
 use Rattle.mon_value.specs.declared.histories.RangeEntry.{RangeEntry}
@@ -38,8 +38,8 @@ use Rattle.write_core.proofs.ViewLemmas.{joined_whole_range}
 use Rattle.write_core.specs.Invariant.{IsAcking, IsAt}
 use Rattle.write_core.specs.Marks.{ack_of, found_down, some_took}
 use Rattle.write_core.specs.Program.{Acking, Ended, Marked, Not, Stage, Verdict, end_of_verdict}
-use Rattle.write_core.specs.Steps.{acknowledged, step}
-use Rattle.write_core.specs.Views.{View, joined, of_leaf, of_range, with_range_entry}
+use Rattle.write_core.specs.Steps.{with_acknowledgement, step}
+use Rattle.write_core.specs.Views.{View, joined_view, of_leaf, of_range, with_range_entry}
 use Rattle.write_core.specs.World.{World, Writer, Writes, at_range, view_of, writes_on}
 use Rattle.write_core.specs.declared.asks.WriteEnd.{WriteEnd}
 use Rattle.write_core.specs.declared.asks.WriteEnd.TheVariants as end
@@ -68,7 +68,7 @@ module _ (config : Config) (world : World) (i : ℕ) (store : Store) (writing : 
   range = writing.range
 
   abbrev met : View
-  met = joined view (world.ranges range.0)
+  met = joined_view view (world.ranges range.0)
 
   acking : IsAcking world i setting writer verdict
   acking =
@@ -80,7 +80,7 @@ module _ (config : Config) (world : World) (i : ℕ) (store : Store) (writing : 
 
   abbrev pub IsLater : List RangeEntry → Type 0
   IsLater history =
-      IfSome (last_end (points_of writing.row.key (acked history))) (λ last. last <ℤ writing.row.point.end)
+      IfSome (last_end (points_of writing.row.key (acknowledged_rows history))) (λ last. last <ℤ writing.row.point.end)
 
   later_by : (one : Verdict) → IsAcking world i setting writer one
       → IfWritten (end_of_verdict range one) (IsLater (of_range world.truth range))
@@ -89,7 +89,7 @@ module _ (config : Config) (world : World) (i : ℕ) (store : Store) (writing : 
   later_by (Marked marks) h =
       if_written (some_took marks) (ack_of range marks) (flat_map found_down marks)
       (IsLater (of_range world.truth range))
-      (source_later (acked (of_range world.truth range)) writing.row h.going.source)
+      (source_later (acknowledged_rows (of_range world.truth range)) writing.row h.going.source)
 
   pub later : (last : WriteEnd) → last ≡ end_of_verdict range verdict → IfWritten last (IsLater seat.state)
   later last is =
@@ -106,15 +106,15 @@ module _ (config : Config) (world : World) (i : ℕ) (store : Store) (writing : 
     leaves_same : (leaf : Leaf) → of_leaf (change world.truth) leaf ≡ of_leaf world.truth leaf
     ranges_same : (n : ℕ) → n ≢ range.0
         → of_range (change world.truth) (range_numbered n) ≡ of_range world.truth (range_numbered n)
-    history : events.acknowledged seat.state writing.number writing.row last ≡ of_range (change world.truth) range
-    seen : met_at_range range (events.acknowledged seat.state writing.number writing.row last) sight seat.sight
+    history : events.with_end_entry seat.state writing.number writing.row last ≡ of_range (change world.truth) range
+    seen : met_at_range range (events.with_end_entry seat.state writing.number writing.row last) sight seat.sight
         ≡ sight_of (change met).seen
 
   met_is : met_at_range range (of_range world.truth range) (sight_of view.seen) (sight_of (world.ranges range.0).seen)
       ≡ sight_of met.seen
   met_is = range_met setting world view range work.kept (own config world i store writing sight work).part
 
-  quiet : (last : WriteEnd) → events.acknowledged seat.state writing.number writing.row last ≡ seat.state
+  quiet : (last : WriteEnd) → events.with_end_entry seat.state writing.number writing.row last ≡ seat.state
       → IsChangeSo (λ seen. seen) last
   quiet last same = record {
     bits = refl;
@@ -157,7 +157,7 @@ module _ (config : Config) (world : World) (i : ℕ) (store : Store) (writing : 
   change_by true ack founds = appends ack
   change_by false ack founds = quiet (end.Unavailable founds) refl
 
-  change_is : (one : Verdict) → IsChangeSo (acknowledged writer one) (end_of_verdict range one)
+  change_is : (one : Verdict) → IsChangeSo (with_acknowledgement writer one) (end_of_verdict range one)
   change_is (Not (refused.Old last)) = quiet (end.Old last) refl
   change_is (Not (refused.Full count)) = quiet (end.Full count) refl
   change_is (Marked marks) = change_by (some_took marks) (ack_of range marks) (flat_map found_down marks)
@@ -169,7 +169,7 @@ module _ (config : Config) (world : World) (i : ℕ) (store : Store) (writing : 
       (changes : ChangesRange range other store new)
       (goes : LetsGo last writing.number writing.row range seat other sight now) where
     abbrev change : View → View
-    change = acknowledged writer verdict
+    change = with_acknowledgement writer verdict
 
     is_change : IsChangeSo change last
     is_change = subst (λ (e : WriteEnd). IsChangeSo change e) (sym last_is) (change_is verdict)

@@ -25,7 +25,7 @@ use Rattle.write_core.specs.Invariant.{IsGoing, IsMark, IsWriter}
 use Rattle.write_core.specs.Marks.{waiting}
 use Rattle.write_core.specs.Program.{Acking, Ended, Entering, Inside, Locking, Marked, Not, Reserving, Stage, Verdict}
 use Rattle.write_core.specs.Program.{after, ask_of, done_inside, enter, entering, inside, reserve, reserving}
-use Rattle.write_core.specs.Rounds.{Round, again, is_none_left, is_through, looked, marks_of, round_of, skipped}
+use Rattle.write_core.specs.Rounds.{Round, again, is_none_left, is_through, after_look, marks_of, round_of, after_skip}
 use Rattle.write_core.specs.Views.{View}
 use Rattle.write_core.specs.World.{World, Writer, view_of}
 use Rattle.write_core.specs.declared.asks.WriteAsk.{WriteAsk}
@@ -113,7 +113,7 @@ entering_looks true round e = tt
 entering_looks false round e = e
 
 pub looks_entering : (round : Round) → LooksAtOne (entering round)
-looks_entering round = entering_looks (is_through (skipped round)) (skipped round) refl
+looks_entering round = entering_looks (is_through (after_skip round)) (after_skip round) refl
 
 pub looks_reserving : (round : Round) → LooksAtOne (reserving round)
 looks_reserving round = reserving_looks (is_through round) round (looks_entering (again round)) refl
@@ -122,7 +122,7 @@ looks_done : (round : Round) (at_root in_zone : List ℕ) → is_through round �
     → LooksAtOne (done_inside round at_root in_zone)
 looks_done round (bucket ∷ at_root) in_zone looks = looks
 looks_done round [] (bucket ∷ in_zone) looks = looks
-looks_done round [] [] looks = looks_entering (looked round fate.Took)
+looks_done round [] [] looks = looks_entering (after_look round fate.Took)
 
 -- whatever it is told, it looks at a replica where it goes from one to the next
 pub looks_after : (stage : Stage) (answer : WriteTold) → LooksAtOne stage → LooksAtOne (after stage answer)
@@ -135,14 +135,14 @@ looks_after Locking told.Done looks = looks
 looks_after (Reserving round) (told.Slots replicas) looks = looks
 looks_after (Reserving round) (told.Old last) looks = looks
 looks_after (Reserving round) (told.Full count) looks = looks
-looks_after (Reserving round) (told.Up buckets) looks = looks_reserving (looked round fate.Ready)
-looks_after (Reserving round) (told.Down cut) looks = looks_reserving (looked round (fate.Missed cut))
+looks_after (Reserving round) (told.Up buckets) looks = looks_reserving (after_look round fate.Ready)
+looks_after (Reserving round) (told.Down cut) looks = looks_reserving (after_look round (fate.Missed cut))
 looks_after (Reserving round) told.Done looks = looks
 looks_after (Entering round) (told.Slots replicas) looks = looks
 looks_after (Entering round) (told.Old last) looks = looks
 looks_after (Entering round) (told.Full count) looks = looks
 looks_after (Entering round) (told.Up buckets) looks = looks
-looks_after (Entering round) (told.Down cut) looks = looks_entering (looked round (fate.Missed cut))
+looks_after (Entering round) (told.Down cut) looks = looks_entering (after_look round (fate.Missed cut))
 looks_after (Entering round) told.Done looks = looks
 looks_after (Inside round at_root in_zone) (told.Slots replicas) looks = looks
 looks_after (Inside round at_root in_zone) (told.Old last) looks = looks
@@ -190,7 +190,7 @@ going_entering_by true round = going_acking (Marked (marks_of round))
 going_entering_by false round = going_enter round.done round.left
 
 pub going_entering : (round : Round) → IsGoingOn (entering round)
-going_entering round = going_entering_by (is_through (skipped round)) (skipped round)
+going_entering round = going_entering_by (is_through (after_skip round)) (after_skip round)
 
 going_reserving_by : (b : Bool) (round : Round) → IsGoingOn (cond b (entering (again round)) (Reserving round))
 going_reserving_by true round = going_entering (again round)
@@ -216,7 +216,7 @@ none_entering_by true round = refl
 none_entering_by false round = refl
 
 pub none_entering : (round : Round) → leaf_inside (entering round) ≡ None
-none_entering round = none_entering_by (is_through (skipped round)) (skipped round)
+none_entering round = none_entering_by (is_through (after_skip round)) (after_skip round)
 
 none_reserving_by : (b : Bool) (round : Round) → leaf_inside (cond b (entering (again round)) (Reserving round)) ≡ None
 none_reserving_by true round = none_entering (again round)
@@ -242,7 +242,7 @@ module _ (count : ℕ) where
   below_entering_by false round = tt
 
   pub below_entering : (round : Round) → RaisesBelow count (entering round)
-  below_entering round = below_entering_by (is_through (skipped round)) (skipped round)
+  below_entering round = below_entering_by (is_through (after_skip round)) (after_skip round)
 
   below_reserving_by : (b : Bool) (round : Round) → RaisesBelow count (cond b (entering (again round))
       (Reserving round))

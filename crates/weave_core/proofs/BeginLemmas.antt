@@ -10,10 +10,10 @@ use Rattle.mon_config.specs.declared.config.Config.{Config}
 use Rattle.mon_hints.specs.Listings.{is_among}
 use Rattle.mon_hints.specs.HistoryBuckets.{rows_buckets}
 use Rattle.mon_topo.proofs.RangeHistoryLemmas.{all_at}
-use Rattle.mon_topo.specs.HeldHistories.{leaf_history, range_history}
-use Rattle.mon_topo.specs.RangeHistories.{acked, opened, serving, serving_after}
-use Rattle.mon_topo.specs.Replicas.{same_leaf}
-use Rattle.mon_topo.specs.Zones.{first_replicas, leaf_numbered, leaves_in, leaves_named, no_range, range_numbered}
+use Rattle.mon_value.specs.Histories.{leaf_history, range_history}
+use Rattle.mon_topo.specs.RangeHistories.{acknowledged_rows, opened_slots, serving, serving_after}
+use Rattle.mon_value.specs.Positions.{leaf_numbered, range_numbered, same_leaf}
+use Rattle.mon_topo.specs.Zones.{first_replicas, leaves_in, leaves_named, no_range}
 use Rattle.mon_topo.specs.Zones.{ranges_in}
 use Rattle.mon_topo.specs.declared.zones.RangeSpec.{RangeSpec}
 use Rattle.mon_topo.specs.declared.zones.ZoneSpec.{ZoneSpec}
@@ -148,7 +148,7 @@ module _ (range : Range) (slot : Slot) where
 
 -- ---- what a range has
 
-opened_count : (slot : ℕ) (leaves : List Leaf) → length (opened (openings_from slot leaves)) ≡ length leaves
+opened_count : (slot : ℕ) (leaves : List Leaf) → length (opened_slots (openings_from slot leaves)) ≡ length leaves
 opened_count slot [] = refl
 opened_count slot (leaf ∷ leaves) = ap suc (opened_count (slot + 1) leaves)
 
@@ -206,11 +206,12 @@ module _ (config : Config) (served : IsServed config) where
       let many = begun.leaf_count config.topology in
       get_or_past (first_histories config.topology).leaves leaf.0 [] (omega (arith, past, many))
 
-  no_acked : (range : Range) → acked (seen_range range) ≡ []
+  no_acked : (range : Range) → acknowledged_rows (seen_range range) ≡ []
   no_acked range = elim (cases_lt range.0 (length (ranges_in config.topology))) [
-    | inl h ↦ ap (λ (l : List RangeEntry). acked l) (begun.range_is config.topology range h) ∙ begun.no_acks 0
+    | inl h ↦ ap (λ (l : List RangeEntry). acknowledged_rows l) (begun.range_is config.topology range h)
+        ∙ begun.no_acks 0
         (firsts_of range)
-    | inr past ↦ ap (λ (l : List RangeEntry). acked l) (is_past range (omega (arith, past)))
+    | inr past ↦ ap (λ (l : List RangeEntry). acknowledged_rows l) (is_past range (omega (arith, past)))
   ]
 
   no_acks_of : (pass : ℕ) (range : Range) → acks_by pass (seen_range range) ≡ []
@@ -256,12 +257,12 @@ module _ (config : Config) (served : IsServed config) where
   never_opened range slot leaf past = leaf_apart range slot leaf
       (let none = first_none config.topology range.0 past in omega (arith, none))
 
-  fresh_from : (range : Range) (slot : Slot) (leaf : Leaf) → length (opened (seen_range range)) ≤ slot.0
+  fresh_from : (range : Range) (slot : Slot) (leaf : Leaf) → length (opened_slots (seen_range range)) ≤ slot.0
       → is_opened range slot (seen_leaf leaf) ≡ false
   fresh_from range slot leaf above = elim (cases_lt range.0 (length (ranges_in config.topology))) [
     | inl h ↦ leaf_apart range slot leaf
-        (let many : length (opened (seen_range range)) ≡ length (firsts_of range)
-        = ap (λ (l : List RangeEntry). length (opened l)) (begun.range_is config.topology range h)
+        (let many : length (opened_slots (seen_range range)) ≡ length (firsts_of range)
+        = ap (λ (l : List RangeEntry). length (opened_slots l)) (begun.range_is config.topology range h)
         ∙ opened_count 0 (firsts_of range) in omega (arith, above, many))
     | inr past ↦ never_opened range slot leaf (omega (arith, past))
   ]

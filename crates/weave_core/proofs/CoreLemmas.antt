@@ -9,7 +9,7 @@ use Rattle.mon_meaning.specs.LeafAnswers.{IsLeafPart, IsOverLeaf}
 use Rattle.mon_topo.proofs.FrontLemmas.{begins_length}
 use Rattle.mon_topo.specs.Settings.{zone_of_leaf}
 use Rattle.mon_topo.specs.Settings.{Setting as Store}
-use Rattle.mon_topo.specs.Zones.{leaf_numbered}
+use Rattle.mon_value.specs.Positions.{leaf_numbered}
 use Rattle.mon_value.specs.LeafHistories.{is_down}
 use Rattle.mon_value.specs.declared.histories.Entry.{Entry}
 use Rattle.mon_value.specs.declared.positions.Leaf.{Leaf}
@@ -18,7 +18,7 @@ use Rattle.mon_value.specs.declared.positions.RangeSlot.{RangeSlot}
 use Rattle.mon_value.specs.declared.positions.SlotLeaf.{SlotLeaf}
 use Rattle.query_core.specs.Machine.{Query, slots_at}
 use Rattle.query_core.specs.Mixtures.{typed_of}
-use Rattle.query_core.specs.Openings.{is_met}
+use Rattle.query_core.specs.Openings.{is_plan_met}
 use Rattle.query_core.specs.Sessions as session
 use Rattle.query_core.specs.Sessions.{IsFoundSo, IsLicensed, IsLicensedEvent, IsTrueAnswer, query_after, view_after}
 use Rattle.query_core.specs.Settings.{Setting}
@@ -31,9 +31,9 @@ use Rattle.query_core.specs.declared.stages.Stage.{Stage}
 use Rattle.write_core.proofs.KeepsLemmas.{changed_by}
 use Rattle.write_core.proofs.KeptLemmas.{new_kept, part_stays, parts_join, run_kept}
 use Rattle.write_core.proofs.ViewLemmas.{joined_first, joined_whole_leaf, joined_whole_range, within_itself}
-use Rattle.write_core.specs.Events.{Resolves, Visits, happened}
+use Rattle.write_core.specs.Events.{Resolves, Visits, after_event}
 use Rattle.write_core.specs.Invariant.{IsKept}
-use Rattle.write_core.specs.Views.{IsWithin, View, joined, of_leaf, of_range}
+use Rattle.write_core.specs.Views.{IsViewWithin, View, joined_view, of_leaf, of_range}
 use Rattle.write_core.specs.World.{IsPart, World}
 use Rattle.weave_core.specs.Core.{CanCome, CanGoOn, Core, CoreEvent, Happens, Hears, IsLookedAt, IsTold, MayTell}
 use Rattle.weave_core.specs.Core.{Reader, Tells, asked_now, begun_with, came, gone_on, query_now, root_word_bits}
@@ -100,7 +100,7 @@ module _ (store : Store) (setting : Setting) (moment : ℤ) (world : World) (vie
     pub kept_then : IsKept store after
     pub stays : (other : View) → IsPart store world other → IsPart store after other
     pub part_then : IsPart store after now
-    pub grown : IsWithin view now
+    pub grown : IsViewWithin view now
 
   more_known : (bits : Bits) → AreBitsWithin bits world.truth.bits
       → Goes world (with_bits store setting moment world view bits)
@@ -123,25 +123,26 @@ module _ (store : Store) (setting : Setting) (moment : ℤ) (world : World) (vie
   }
 
   at_range : (range : Range) → world.range_holder range.0 ≡ None
-      → Goes (world_then store setting moment world view (ask.Resolve range)) (joined view (world.ranges range.0))
+      → Goes (world_then store setting moment world view (ask.Resolve range)) (joined_view view (world.ranges range.0))
   at_range range free =
       let event = Resolves range view in
       record {
         kept_then = run_kept store world (event ∷ []) ((free, part), tt) kept;
         stays = λ other h. part_stays store world (event ∷ []) other ((free, part), tt) kept h;
-        part_then = part_stays store world (event ∷ []) (joined view (world.ranges range.0)) ((free, part), tt) kept
+        part_then =
+            part_stays store world (event ∷ []) (joined_view view (world.ranges range.0)) ((free, part), tt) kept
             (parts_join store world view (world.ranges range.0) part (kept.ranges range));
         grown = joined_first view (world.ranges range.0) world.truth part.within (kept.ranges range).within;
       }
 
   pub at_leaf : (leaf : Leaf) → world.leaf_holder leaf.0 ≡ None
-      → Goes (world_then store setting moment world view (ask.Visit leaf)) (joined view (world.leaves leaf.0))
+      → Goes (world_then store setting moment world view (ask.Visit leaf)) (joined_view view (world.leaves leaf.0))
   at_leaf leaf free =
       let event = Visits leaf view in
       record {
         kept_then = run_kept store world (event ∷ []) ((free, part), tt) kept;
         stays = λ other h. part_stays store world (event ∷ []) other ((free, part), tt) kept h;
-        part_then = part_stays store world (event ∷ []) (joined view (world.leaves leaf.0)) ((free, part), tt) kept
+        part_then = part_stays store world (event ∷ []) (joined_view view (world.leaves leaf.0)) ((free, part), tt) kept
             (parts_join store world view (world.leaves leaf.0) part (kept.leaves leaf));
         grown = joined_first view (world.leaves leaf.0) world.truth part.within (kept.leaves leaf).within;
       }
@@ -173,7 +174,7 @@ module _ (store : Store) (setting : Setting) (moment : ℤ) (world : World) (vie
 
   module _ (range : Range) where
     abbrev after_range : View
-    after_range = joined view (world.ranges range.0)
+    after_range = joined_view view (world.ranges range.0)
 
     whole_range : of_range after_range range ≡ of_range world.truth range
     whole_range = joined_whole_range view (world.ranges range.0) world.truth part.within (kept.ranges range).within
@@ -198,7 +199,7 @@ module _ (store : Store) (setting : Setting) (moment : ℤ) (world : World) (vie
 
   module _ (leaf : Leaf) (cut : ℕ) (down : Bool) (looked : IsLookedAt world leaf cut down) where
     abbrev after_leaf : View
-    after_leaf = joined view (world.leaves leaf.0)
+    after_leaf = joined_view view (world.leaves leaf.0)
 
     whole_leaf : of_leaf after_leaf leaf ≡ of_leaf world.truth leaf
     whole_leaf = joined_whole_leaf view (world.leaves leaf.0) world.truth part.within (kept.leaves leaf).within leaf
@@ -221,9 +222,9 @@ module _ (store : Store) (setting : Setting) (moment : ℤ) (world : World) (vie
           is = ap is_down all_looked ∙ looked.is;
         }
 
-    met_so : (b : Bool) → is_met setting.plan (history_buckets store.buckets_of (of_leaf world.truth leaf)) ≡ b
+    met_so : (b : Bool) → is_plan_met setting.plan (history_buckets store.buckets_of (of_leaf world.truth leaf)) ≡ b
         → session.is_met_at store setting moment (seen_by after_leaf) leaf cut ≡ b
-    met_so b e = ap (λ history. is_met setting.plan (history_buckets store.buckets_of history)) all_looked ∙ e
+    met_so b e = ap (λ history. is_plan_met setting.plan (history_buckets store.buckets_of history)) all_looked ∙ e
 
     on_rows : (P : List Entry → Type 0) → P (of_leaf world.truth leaf) → P (take cut (of_leaf after_leaf leaf))
     on_rows P h = subst P (sym all_looked) h
@@ -352,7 +353,7 @@ came_woven : (store : Store) (core : Core store) (event : CoreEvent store) → C
     → IsWoven store (came store core event)
 came_woven store core (Happens event) can woven = record {
   world = run_kept store core.world (event ∷ []) (can, tt) woven.world;
-  readers = λ i. reader_stays store core.world (happened store core.world event) (core.readers i)
+  readers = λ i. reader_stays store core.world (after_event store core.world event) (core.readers i)
       (λ other h. part_stays store core.world (event ∷ []) other (can, tt) woven.world h) (woven.readers i);
 }
 came_woven store core (Tells i answer stage) can woven =
@@ -370,11 +371,11 @@ came_woven store core (Hears i view) can woven =
     let reader = core.readers i in
     record {
       world = woven.world;
-      readers = changed_by core.readers i (begun_with store reader (joined reader.view view))
+      readers = changed_by core.readers i (begun_with store reader (joined_view reader.view view))
           (λ j one. IsReader store core.world one)
           (record {
             part = parts_join store core.world reader.view view (woven.readers i).part can.1;
-            sound = sound_so store core.world (joined reader.view view)
+            sound = sound_so store core.world (joined_view reader.view view)
                 (parts_join store core.world reader.view view (woven.readers i).part can.1);
             licensed = tt;
             now = refl;

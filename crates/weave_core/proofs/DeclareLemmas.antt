@@ -31,13 +31,13 @@ use Rattle.weave_core.specs.FirstHistories.{first_histories}
 use Rattle.weave_core.specs.Holders.{AreHolders, HoldsLeaf, HoldsRange}
 use Rattle.weave_core.specs.LawfulLines.{IsLawfulCall}
 use Rattle.weave_core.specs.Licensed.{IsReader}
-use Rattle.weave_core.specs.NewActors.{BeginsToWrite, IsCourseOf, IsNewActor}
+use Rattle.weave_core.specs.NewActors.{BeginsToWrite, IsCourseOf, IsDeclaredActor}
 use Rattle.weave_core.specs.QueryPlans.{BeginsToAsk}
 use Rattle.mon_topo.specs.Sights.{sight_of}
 use Rattle.weave_core.specs.States.{Asking, Dismissed, Eventless, Role, State, Undeclared, Writing, declared_in}
 use Rattle.weave_core.specs.States.{store_of, writes_begun}
 use Rattle.weave_core.specs.Steps.{with_event, with_role}
-use Rattle.weave_core.specs.WeaveCalls.{DeclaresSo, IsKept, MayDeclare}
+use Rattle.weave_core.specs.WeaveCalls.{DeclaresSo, IsWeaveKept, MayDeclare}
 use Rattle.weave_core.specs.declared.actors.Actor.{Actor}
 use Rattle.weave_core.specs.declared.actors.Course.{Course}
 use Rattle.weave_core.specs.declared.actors.Course.TheVariants as course
@@ -54,7 +54,7 @@ use Rattle.write_core.proofs.KeepsLemmas.{changed_by, changed_other, changed_sam
 use Rattle.write_core.specs.Events.{Begins, CanBegin, new_writer}
 use Rattle.write_core.specs.Program.{Locking, new_write}
 use Rattle.write_core.specs.Views.{View}
-use Rattle.write_core.specs.World.{Actor as Doer, Stands, Writes, changed, view_of}
+use Rattle.write_core.specs.World.{Actor as Doer, Stands, Writes, with_value_at, view_of}
 use Rattle.write_core.specs.declared.asks.WriteAsk.TheVariants as write_ask
 
 -- ---- who stands by
@@ -247,7 +247,7 @@ module _ (config : Config) (state : State (store_of config)) (i : ℕ) where
         declares = subst (λ (found : Option Range). WriteBegins config state i row found Written) (sym home)
             (begins, refl);
         leaves = write_left;
-        shared = shared_beside config state.core.world (changed state.core.world.actors i
+        shared = shared_beside config state.core.world (with_value_at state.core.world.actors i
             (Writes (new_writer row range Doer')))
             weave.store agrees.shared;
         actor = as_new (course.Writes (writing_of i row range)) begun sight new seen Written write_so;
@@ -350,7 +350,7 @@ module _ (config : Config) (state : State (store_of config)) (i : ℕ) where
 
 module _ (old : Weave) (i : ℕ) (what : Call) (new : Weave) (own : Actor) (last : i ≤ LAST_ACTOR)
     (store : new.store ≡ old.store) (items : new.actors.items ≡ set old.actors.items i (Some own))
-    (fresh : IsNewActor old.store.config i what old.store.first_sight own) where
+    (fresh : IsDeclaredActor old.store.config i what old.store.first_sight own) where
   here : (config : Config) (state : State (store_of config)) → Agrees config old state
       → actor_numbered new.actors.items i ≡ Some own
   here config state agrees = ap (λ (all : List (Option Actor)). flat (slice_get all i)) items
@@ -376,16 +376,16 @@ module _ (old : Weave) (i : ℕ) (what : Call) (new : Weave) (own : Actor) (last
             (ap length items ∙ length-set old.actors.items i (Some own)) (here config state agrees) elsewhere so.actor;
       }
 
-  pub declared_kept : IsKept old
+  pub declared_kept : IsWeaveKept old
       → ((config : Config) (state : State (store_of config)) → Agrees config old state → MayDeclare config state i what)
-      → IsKept new
+      → IsWeaveKept new
   declared_kept kept may =
       let so = declared kept.config kept.state kept.agrees (may kept.config kept.state kept.agrees) in
       record { config = kept.config; state = so.after; agrees = so.agrees }
 
-pub served : (old : Weave) → IsKept old → IsServed old.store.config
+pub served : (old : Weave) → IsWeaveKept old → IsServed old.store.config
 served old kept = subst (λ (config : Config). IsServed config) (sym kept.agrees.shared.config_is)
     kept.agrees.shared.served
 
-pub actor_there : (old : Weave) (i : ℕ) → i ≤ LAST_ACTOR → IsKept old → i < length old.actors.items
+pub actor_there : (old : Weave) (i : ℕ) → i ≤ LAST_ACTOR → IsWeaveKept old → i < length old.actors.items
 actor_there old i last kept = let count = kept.agrees.actors.count in omega (arith, count, last)

@@ -21,12 +21,14 @@ use Rattle.mon_value.proofs.LeafHistoryLemmas.{IsWellFormed-push, down_push, ope
 use Rattle.mon_schema.specs.SchemaLists.{SchemaLists}
 use Rattle.mon_topo.proofs.PartLemmas.{length-zones_of}
 use Rattle.mon_topo.proofs.RangeHistoryLemmas.{all_at}
-use Rattle.mon_topo.specs.HeldHistories.{AreAtHome, AreHeld, BeginsWith, Histories, IsBorneOut, IsHeldBy, leaf_history}
-use Rattle.mon_topo.specs.HeldHistories.{range_history}
+use Rattle.mon_value.specs.Histories.{leaf_history, range_history}
+use Rattle.mon_value.specs.declared.histories.Histories.{Histories}
+use Rattle.mon_topo.specs.HeldHistories.{AreAtHome, AreHeld, BeginsWith, IsBorneOut, IsHeldBy}
 use Rattle.mon_topo.specs.RangeHistories as spec
-use Rattle.mon_topo.specs.RangeHistories.{acked, opened}
-use Rattle.mon_topo.specs.Replicas.{HasReplicas, same_leaf}
-use Rattle.mon_topo.specs.Zones.{first_replicas, leaf_numbered, leaves_in, range_numbered, ranges_in}
+use Rattle.mon_topo.specs.RangeHistories.{acknowledged_rows, opened_slots}
+use Rattle.mon_topo.specs.Replicas.{HasReplicas}
+use Rattle.mon_value.specs.Positions.{leaf_numbered, range_numbered, same_leaf}
+use Rattle.mon_topo.specs.Zones.{first_replicas, leaves_in, ranges_in}
 use Rattle.mon_topo.specs.declared.zones.ZoneSpec.{ZoneSpec}
 use Rattle.weave_core.specs.FirstHistories.{first_histories, first_leaf_history, first_range_history, opened_here}
 use Rattle.weave_core.specs.FirstHistories.{opened_of, opening, openings_from, slot_numbered}
@@ -169,17 +171,18 @@ bare_rows (e ∷ history) h = ap (λ (x : Entry). leaf_rows (x ∷ history)) h.0
 
 -- ---- a range's history
 
-pub no_acks : (slot : ℕ) (leaves : List Leaf) → acked (openings_from slot leaves) ≡ []
+pub no_acks : (slot : ℕ) (leaves : List Leaf) → acknowledged_rows (openings_from slot leaves) ≡ []
 no_acks slot [] = refl
 no_acks slot (leaf ∷ leaves) = no_acks (slot + 1) leaves
 
-no_acks_yet : (k slot : ℕ) (leaves : List Leaf) → acked (take k (openings_from slot leaves)) ≡ []
+no_acks_yet : (k slot : ℕ) (leaves : List Leaf) → acknowledged_rows (take k (openings_from slot leaves)) ≡ []
 no_acks_yet zero slot leaves = refl
 no_acks_yet (suc k) slot [] = refl
 no_acks_yet (suc k) slot (leaf ∷ leaves) = no_acks_yet k (slot + 1) leaves
 
 opened_one : (history : List RangeEntry) (slot : ℕ) (leaf : Leaf)
-    → length (opened (history ++ range_entry.Opened 0 (slot_numbered slot) leaf ∷ [])) ≡ length (opened history) + 1
+    → length (opened_slots (history ++ range_entry.Opened 0 (slot_numbered slot) leaf ∷ []))
+    ≡ length (opened_slots history) + 1
 opened_one [] slot leaf = refl
 opened_one (range_entry.Opened pass other there ∷ history) slot leaf =
     let more = opened_one history slot leaf in omega (arith, more)
@@ -201,7 +204,7 @@ module _ (held : SchemaLists) (zones : List ZoneSpec) (points : ℕ) (range : Ra
   abbrev firsts : List Leaf
   firsts = first_replicas zones range.0
 
-  goes_on : (history : List RangeEntry) (slot : ℕ) (leaves : List Leaf) → length (opened history) ≡ slot
+  goes_on : (history : List RangeEntry) (slot : ℕ) (leaves : List Leaf) → length (opened_slots history) ≡ slot
       → drop slot firsts ≡ leaves → slot + length leaves ≡ length firsts
       → spec.GoesOn held zones points range history (openings_from slot leaves)
   goes_on history slot [] count left whole = tt

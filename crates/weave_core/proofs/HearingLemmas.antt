@@ -7,8 +7,8 @@ use Rattle.std.proofs.lemmas.List.{length-set}
 use Rattle.std.proofs.lemmas.Option.{slice_get_read}
 use Rattle.mon_config.specs.declared.config.Config.{Config}
 use Rattle.mon_topo.proofs.HeldLemmas.{seen_within_through}
-use Rattle.mon_topo.specs.HeldHistories.{Histories}
-use Rattle.mon_topo.specs.SeenHistories.{joined_histories}
+use Rattle.mon_value.specs.declared.histories.Histories.{Histories}
+use Rattle.mon_value.specs.Histories.{joined_histories}
 use Rattle.query_core.specs.Sessions as session
 use Rattle.query_core.specs.Sessions.{query_after}
 use Rattle.weave_core.proofs.CoreLemmas.{stays_woven}
@@ -35,9 +35,10 @@ use Rattle.weave_core.specs.Schedules.{meet_fault}
 use Rattle.mon_topo.specs.Sights.{AreAlike, joined_sight, sight_of}
 use Rattle.weave_core.specs.States as spec
 use Rattle.weave_core.specs.States.{Asking, Dismissed, Eventless, Role, State, Undeclared, Writing, begun_in}
-use Rattle.weave_core.specs.States.{declared_in, is_any, is_past_lock, store_of, view_at, view_in, writes_begun}
+use Rattle.mon_value.specs.Parts.{is_any}
+use Rattle.weave_core.specs.States.{declared_in, is_past_lock, store_of, view_at, view_in, writes_begun}
 use Rattle.weave_core.specs.Steps.{with_event}
-use Rattle.weave_core.specs.WeaveCalls.{IsKept, MeetsSo}
+use Rattle.weave_core.specs.WeaveCalls.{IsWeaveKept, MeetsSo}
 use Rattle.weave_core.specs.Writers.{writer_of}
 use Rattle.weave_core.specs.declared.actors.Actor.{Actor}
 use Rattle.weave_core.specs.declared.actors.Course.{Course}
@@ -52,8 +53,8 @@ use Rattle.write_core.proofs.KeepsLemmas.{changed_other, changed_same}
 use Rattle.write_core.proofs.ViewLemmas.{joined_first}
 use Rattle.write_core.specs.Events.{HasNotBegun, Learns}
 use Rattle.write_core.specs.Program.{Acking, Ended, Entering, Inside, Locking, Reserving, Stage}
-use Rattle.write_core.specs.Views.{View, joined}
-use Rattle.write_core.specs.World.{Actor as Doer, IsPart, Recovers, Stands, Writes, changed, view_of, wiser}
+use Rattle.write_core.specs.Views.{View, joined_view}
+use Rattle.write_core.specs.World.{Actor as Doer, IsPart, Recovers, Stands, Writes, with_value_at, view_of, wiser}
 
 -- ---- who is wiser
 
@@ -172,7 +173,7 @@ module _ (config : Config) (state : State (store_of config)) (i : ℕ) where
     }
 
     learned_shared : AreShared config Learned.core.world weave.store
-    learned_shared = shared_beside config state.core.world (changed state.core.world.actors i (wiser Doer' view))
+    learned_shared = shared_beside config state.core.world (with_value_at state.core.world.actors i (wiser Doer' view))
         weave.store
         agrees.shared
 
@@ -183,7 +184,7 @@ module _ (config : Config) (state : State (store_of config)) (i : ℕ) where
         → IsWithoutEvent config i Doer' Reader' text own begun sight
         → HearsSo (Eventless text) (course.Refused own) begun sight
     eventless_hears text own begun sight h =
-        let now : Learned.core.world.actors i ≡ stander i (joined (view_of Doer') view)
+        let now : Learned.core.world.actors i ≡ stander i (joined_view (view_of Doer') view)
         = wiser_now (stander i (view_of Doer')) h.stands in
         let new : HasNotBegun Doer' = subst (λ (doer : Doer). HasNotBegun doer) (sym h.stands) tt in
         record {
@@ -192,7 +193,7 @@ module _ (config : Config) (state : State (store_of config)) (i : ℕ) where
           shared = learned_shared;
           actor = record {
             text_is = h.text_is;
-            stands = stands_so i (joined (view_of Doer') view) (Learned.core.world.actors i) now;
+            stands = stands_so i (joined_view (view_of Doer') view) (Learned.core.world.actors i) now;
             begun_is = h.begun_is;
             seen = joined_of sight (view_of Doer').seen view.seen h.seen
                 ∙ ap (λ (d : Doer). sight_of (view_of d).seen) (sym now);
@@ -202,7 +203,7 @@ module _ (config : Config) (state : State (store_of config)) (i : ℕ) where
     write_hears : (writing : Write) (begun : Bool) (sight : Sight) → writes_begun Doer' ≡ false
         → IsWriting config i Doer' Reader' writing begun sight → HearsSo Writing (course.Writes writing) begun sight
     write_hears writing begun sight free h =
-        let now : Learned.core.world.actors i ≡ Writes (writer_of i writing (joined (view_of Doer') view))
+        let now : Learned.core.world.actors i ≡ Writes (writer_of i writing (joined_view (view_of Doer') view))
         = wiser_now (Writes (writer_of i writing (view_of Doer'))) h.writer.writer in
         let first : writing.machine.stage ≡ Locking
         = locking writing.machine.stage (sym (ap (λ (d : Doer). writes_begun d) h.writer.writer) ∙ free) in
@@ -231,7 +232,7 @@ module _ (config : Config) (state : State (store_of config)) (i : ℕ) where
     -- who queries
 
     abbrev Told : Reader (store_of config)
-    Told = begun_with (store_of config) Reader' (joined Reader'.view view)
+    Told = begun_with (store_of config) Reader' (joined_view Reader'.view view)
 
     query_hears : (querying : Querying) (begun : Bool) (sight : Sight) → is_any Reader'.session ≡ false
         → IsQuerying config i Doer' Reader' querying begun sight → HearsSo Asking (course.Queries querying) begun sight
@@ -248,7 +249,7 @@ module _ (config : Config) (state : State (store_of config)) (i : ℕ) where
                 query_after (store_of config) Reader'.setting Reader'.moment Reader'.first events) (sym none)
                 ∙ h.reader_so.now;
             since = seen_within_through (first_histories config.topology) Reader'.view.seen
-                (joined Reader'.view view).seen
+                (joined_view Reader'.view view).seen
                 h.reader_so.since
                 (joined_first Reader'.view view state.core.world.truth (agrees.woven.readers i).part.within
                 part.within).seen;
@@ -444,7 +445,7 @@ module _ (old : Weave) (k j : ℕ) (ended : Actor) (taken : Some ended ≡ actor
 
   -- whichever state it agrees with
 
-  module _ (kept : IsKept old) (may : (config : Config) (state : State (store_of config)) → Agrees config old state
+  module _ (kept : IsWeaveKept old) (may : (config : Config) (state : State (store_of config)) → Agrees config old state
       → meet_fault (store_of config) state k j ≡ None) where
     pub place_there : k < length old.actors.items
     place_there = own_there kept.config kept.state kept.agrees (may kept.config kept.state kept.agrees)
@@ -468,7 +469,7 @@ module _ (old : Weave) (k j : ℕ) (ended : Actor) (taken : Some ended ≡ actor
         met config state agrees =
             met_so config state agrees (may config state agrees) place got heard heard_is new store items
 
-        pub met_kept : IsKept new
+        pub met_kept : IsWeaveKept new
         met_kept =
             let so = met kept.config kept.state kept.agrees in
             record { config = kept.config; state = so.after; agrees = so.agrees }

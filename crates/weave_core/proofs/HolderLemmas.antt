@@ -9,11 +9,12 @@ use Rattle.weave_core.specs.Holders.{AreHolders, HoldsLeaf, HoldsRange, IsHoldin
 use Rattle.write_core.proofs.KeepsLemmas.{changed_by, changed_same}
 use Rattle.write_core.specs.Program.{Acking, Ended, Entering, Inside, Locking, Marked, Reserving, Stage, Verdict}
 use Rattle.write_core.specs.Program.{after, entering, reserving}
-use Rattle.write_core.specs.Rounds.{Round, again, is_through, looked, marks_of, round_of, skipped}
+use Rattle.write_core.specs.Rounds.{Round, again, is_through, after_look, marks_of, round_of, after_skip}
 use Rattle.write_core.specs.Marks.{waiting}
-use Rattle.write_core.specs.Steps.{CanCome, CanComeAt, CanGo, acknowledged, entrant, step, step_at, stepped, unchanged}
-use Rattle.write_core.specs.Views.{View, joined, with_entry, with_root_bit, with_zone_bit}
-use Rattle.write_core.specs.World.{Actor, World, Writer, Writes, at_leaf, at_range, changed, put_of, writes_on}
+use Rattle.write_core.specs.Steps.{CanCome, CanComeAt, CanGo, with_acknowledgement, entrant, step, step_at}
+use Rattle.write_core.specs.Steps.{after_answer, same_view}
+use Rattle.write_core.specs.Views.{View, joined_view, with_entry, with_root_bit, with_zone_bit}
+use Rattle.write_core.specs.World.{Actor, World, Writer, Writes, at_leaf, at_range, with_value_at, put_of, writes_on}
 use Rattle.write_core.specs.declared.asks.WriteTold.{WriteTold}
 use Rattle.write_core.specs.declared.asks.WriteTold.TheVariants as told
 use Rattle.write_core.specs.declared.marks.Fate.TheVariants as fate
@@ -27,7 +28,7 @@ holding_entering_by true round = tt
 holding_entering_by false round = tt
 
 holding_entering : (round : Round) → IsHolding (entering round)
-holding_entering round = holding_entering_by (is_through (skipped round)) (skipped round)
+holding_entering round = holding_entering_by (is_through (after_skip round)) (after_skip round)
 
 holding_reserving_by : (b : Bool) (round : Round) → IsHolding (cond b (entering (again round)) (Reserving round))
 holding_reserving_by true round = holding_entering (again round)
@@ -41,13 +42,13 @@ holding_reserving round = holding_reserving_by (is_through round) round
 -- what holds of holders where one actor and one holder are changed
 module _ (world : World) (i : ℕ) (h : AreHolders world) (new : Actor) where
   range_kept : ((r : ℕ) → HoldsRange r (world.actors i) → HoldsRange r new) → (r j : ℕ) → world.range_holder r ≡ Some j
-      → HoldsRange r (changed world.actors i new j)
+      → HoldsRange r (with_value_at world.actors i new j)
   range_kept keeps r j e =
       changed_by world.actors i new (λ k actor. world.range_holder r ≡ Some k → HoldsRange r actor)
       (λ own. keeps r (h.range r i own)) (λ k apart held. h.range r k held) j e
 
   leaf_kept : ((l : ℕ) → HoldsLeaf l (world.actors i) → HoldsLeaf l new) → (l j : ℕ) → world.leaf_holder l ≡ Some j
-      → HoldsLeaf l (changed world.actors i new j)
+      → HoldsLeaf l (with_value_at world.actors i new j)
   leaf_kept keeps l j e =
       changed_by world.actors i new (λ k actor. world.leaf_holder l ≡ Some k → HoldsLeaf l actor)
       (λ own. keeps l (h.leaf l i own)) (λ k apart held. h.leaf l k held) j e
@@ -55,20 +56,22 @@ module _ (world : World) (i : ℕ) (h : AreHolders world) (new : Actor) where
   range_changed : (range : ℕ) (holder : Option ℕ) → ((r : ℕ) → r ≢ range → HoldsRange r (world.actors i)
       → HoldsRange r new)
       → ((j : ℕ) → holder ≡ Some j → (j ≡ i) × HoldsRange range new) → (r j : ℕ)
-      → changed world.range_holder range holder r ≡ Some j → HoldsRange r (changed world.actors i new j)
+      → with_value_at world.range_holder range holder r ≡ Some j → HoldsRange r (with_value_at world.actors i new j)
   range_changed range holder elsewhere here r j =
-      changed_by world.range_holder range holder (λ n who. who ≡ Some j → HoldsRange n (changed world.actors i new j))
-      (λ e. subst (λ (k : ℕ). HoldsRange range (changed world.actors i new k)) (sym (here j e).0)
+      changed_by world.range_holder range holder
+      (λ n who. who ≡ Some j → HoldsRange n (with_value_at world.actors i new j))
+      (λ e. subst (λ (k : ℕ). HoldsRange range (with_value_at world.actors i new k)) (sym (here j e).0)
       (subst (λ (actor : Actor). HoldsRange range actor) (sym (changed_same world.actors i new)) (here j e).1))
       (λ n apart e. changed_by world.actors i new (λ k actor. world.range_holder n ≡ Some k → HoldsRange n actor)
       (λ own. elsewhere n apart (h.range n i own)) (λ k other held. h.range n k held) j e) r
 
   leaf_changed : (leaf : ℕ) (holder : Option ℕ) → ((l : ℕ) → l ≢ leaf → HoldsLeaf l (world.actors i) → HoldsLeaf l new)
       → ((j : ℕ) → holder ≡ Some j → (j ≡ i) × HoldsLeaf leaf new) → (l j : ℕ)
-      → changed world.leaf_holder leaf holder l ≡ Some j → HoldsLeaf l (changed world.actors i new j)
+      → with_value_at world.leaf_holder leaf holder l ≡ Some j → HoldsLeaf l (with_value_at world.actors i new j)
   leaf_changed leaf holder elsewhere here l j =
-      changed_by world.leaf_holder leaf holder (λ n who. who ≡ Some j → HoldsLeaf n (changed world.actors i new j))
-      (λ e. subst (λ (k : ℕ). HoldsLeaf leaf (changed world.actors i new k)) (sym (here j e).0)
+      changed_by world.leaf_holder leaf holder
+      (λ n who. who ≡ Some j → HoldsLeaf n (with_value_at world.actors i new j))
+      (λ e. subst (λ (k : ℕ). HoldsLeaf leaf (with_value_at world.actors i new k)) (sym (here j e).0)
       (subst (λ (actor : Actor). HoldsLeaf leaf actor) (sym (changed_same world.actors i new)) (here j e).1))
       (λ n apart e. changed_by world.actors i new (λ k actor. world.leaf_holder n ≡ Some k → HoldsLeaf n actor)
       (λ own. elsewhere n apart (h.leaf n i own)) (λ k other held. h.leaf n k held) j e) l
@@ -83,7 +86,7 @@ pub holders_changed : (world : World) (i : ℕ) (new : Actor) → AreHolders wor
       ranges = world.ranges;
       leaf_holder = world.leaf_holder;
       range_holder = world.range_holder;
-      actors = changed world.actors i new;
+      actors = with_value_at world.actors i new;
     })
 holders_changed world i new h ranges leaves =
     record { range = range_kept world i h new ranges; leaf = leaf_kept world i h new leaves }
@@ -109,7 +112,7 @@ module _ (setting : Setting) (world : World) (i : ℕ) (who : Writer) (is : worl
       where
         at_leaf_held : AreHolders (at_leaf world i who.view leaf change holder (writes_on who next))
         at_leaf_held =
-            let new : Actor = writes_on who next (change (joined who.view (world.leaves leaf.0))) in
+            let new : Actor = writes_on who next (change (joined_view who.view (world.leaves leaf.0))) in
             record {
               range = range_kept world i h new
                   (mine_range (λ r. HoldsRange r new) (λ r held. (held.0, holding)));
@@ -125,7 +128,7 @@ module _ (setting : Setting) (world : World) (i : ℕ) (who : Writer) (is : worl
         (here : (j : ℕ) → holder ≡ Some j → (j ≡ i) × IsHolding next) where
       at_range_held : AreHolders (at_range world i who.view who.range change holder (writes_on who next))
       at_range_held =
-          let new : Actor = writes_on who next (change (joined who.view (world.ranges who.range.0))) in
+          let new : Actor = writes_on who next (change (joined_view who.view (world.ranges who.range.0))) in
           record {
             range = range_changed world i h new who.range.0 holder
                 (λ r apart held. absurd (mine_range (λ n. n ≢ who.range.0 → ⊥) (λ n own apart'. apart' (sym own.0)) r
@@ -146,7 +149,7 @@ module _ (setting : Setting) (world : World) (i : ℕ) (who : Writer) (is : worl
     locked_held : (answer : WriteTold) → who.stage ≡ Locking → CanComeAt setting world who Locking answer
         → AreHolders (step_at setting world i who Locking answer)
     locked_held answer at can =
-        at_range_held unchanged (Some i) (after Locking answer) (outside_at Locking at refl)
+        at_range_held same_view (Some i) (after Locking answer) (outside_at Locking at refl)
         (λ j e. (sym (same_Some i j e), holding_locked answer can))
       where
         holding_locked : (answer : WriteTold) → CanComeAt setting world who Locking answer
@@ -162,8 +165,8 @@ module _ (setting : Setting) (world : World) (i : ℕ) (who : Writer) (is : worl
     holding_reserved round (told.Slots replicas) = tt
     holding_reserved round (told.Old last) = tt
     holding_reserved round (told.Full count) = tt
-    holding_reserved round (told.Up buckets) = holding_reserving (looked round fate.Ready)
-    holding_reserved round (told.Down cut) = holding_reserving (looked round (fate.Missed cut))
+    holding_reserved round (told.Up buckets) = holding_reserving (after_look round fate.Ready)
+    holding_reserved round (told.Down cut) = holding_reserving (after_look round (fate.Missed cut))
     holding_reserved round told.Done = tt
 
     reserved_held : (done left : List Mark) (answer : WriteTold) → who.stage
@@ -172,7 +175,7 @@ module _ (setting : Setting) (world : World) (i : ℕ) (who : Writer) (is : worl
         → AreHolders (step_at setting world i who (Reserving (record { done = done; left = left })) answer)
     reserved_held done [] answer at can = absurd can
     reserved_held done (mark ∷ left) answer at can =
-        at_leaf_held mark.leaf unchanged None (after (Reserving (record { done = done; left = mark ∷ left })) answer)
+        at_leaf_held mark.leaf same_view None (after (Reserving (record { done = done; left = mark ∷ left })) answer)
         (holding_reserved (record { done = done; left = mark ∷ left }) answer)
         (λ l apart inside. outside_at (Reserving (record { done = done; left = mark ∷ left })) at refl l inside)
         (λ j e. absurd (not_some j e))
@@ -182,7 +185,7 @@ module _ (setting : Setting) (world : World) (i : ℕ) (who : Writer) (is : worl
     holding_entered round (told.Old last) = tt
     holding_entered round (told.Full count) = tt
     holding_entered round (told.Up buckets) = tt
-    holding_entered round (told.Down cut) = holding_entering (looked round (fate.Missed cut))
+    holding_entered round (told.Down cut) = holding_entering (after_look round (fate.Missed cut))
     holding_entered round told.Done = tt
 
     inside_entered : (done left : List Mark) (mark : Mark) (answer : WriteTold) (j : ℕ) → entrant i answer ≡ Some j
@@ -201,7 +204,7 @@ module _ (setting : Setting) (world : World) (i : ℕ) (who : Writer) (is : worl
         → AreHolders (step_at setting world i who (Entering (record { done = done; left = left })) answer)
     entered_held done [] answer at can = absurd can
     entered_held done (mark ∷ left) answer at can =
-        at_leaf_held mark.leaf unchanged (entrant i answer)
+        at_leaf_held mark.leaf same_view (entrant i answer)
         (after (Entering (record { done = done; left = mark ∷ left })) answer)
         (holding_entered (record { done = done; left = mark ∷ left }) answer)
         (λ l apart inside. outside_at (Entering (record { done = done; left = mark ∷ left })) at refl l inside)
@@ -230,8 +233,8 @@ module _ (setting : Setting) (world : World) (i : ℕ) (who : Writer) (is : worl
         (inside_elsewhere done left mark [] (bucket ∷ in_zone) at) (λ j e. (sym (same_Some i j e), refl))
     raised_held done (mark ∷ left) [] [] at =
         at_leaf_held mark.leaf (with_entry mark.leaf (put_of who mark)) None
-        (entering (looked (record { done = done; left = mark ∷ left }) fate.Took))
-        (holding_entering (looked (record { done = done; left = mark ∷ left }) fate.Took))
+        (entering (after_look (record { done = done; left = mark ∷ left }) fate.Took))
+        (holding_entering (after_look (record { done = done; left = mark ∷ left }) fate.Took))
         (inside_elsewhere done left mark [] [] at) (λ j e. absurd (not_some j e))
 
     inside_held : (round : Round) (at_root in_zone : List ℕ) (answer : WriteTold) → who.stage ≡ Inside round at_root
@@ -244,7 +247,8 @@ module _ (setting : Setting) (world : World) (i : ℕ) (who : Writer) (is : worl
     acked_held : (verdict : Verdict) (answer : WriteTold) → who.stage ≡ Acking verdict
         → AreHolders (step_at setting world i who (Acking verdict) answer)
     acked_held verdict answer at =
-        at_range_held (acknowledged who verdict) None (after (Acking verdict) answer) (outside_at (Acking verdict) at
+        at_range_held (with_acknowledgement who verdict) None (after (Acking verdict) answer)
+        (outside_at (Acking verdict) at
         refl)
         (λ j e. absurd (not_some j e))
 
@@ -262,6 +266,6 @@ pub step_held : (setting : Setting) (world : World) (i : ℕ) (who : Writer) (an
     ≡ Writes who
     → AreHolders world → CanCome setting world i answer → AreHolders (step setting world i answer)
 step_held setting world i who answer is h can =
-    subst (λ (w : World). AreHolders w) (sym (ap (λ (actor : Actor). stepped setting world i actor answer) is))
+    subst (λ (w : World). AreHolders w) (sym (ap (λ (actor : Actor). after_answer setting world i actor answer) is))
     (held_at setting world i who is h who.stage answer refl
     (subst (λ (actor : Actor). CanGo setting world actor answer) is can))

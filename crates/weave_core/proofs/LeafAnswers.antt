@@ -17,7 +17,7 @@ use Rattle.mql_types.specs.Nodes.{typed_tree}
 use Rattle.mql_types.specs.declared.plans.Plan.{Plan}
 use Rattle.query_core.specs.Machine.{Query, slots_at, slots_of, slots_visited}
 use Rattle.query_core.specs.Mixtures.{typed_of}
-use Rattle.query_core.specs.Openings.{is_met}
+use Rattle.query_core.specs.Openings.{is_plan_met}
 use Rattle.query_core.specs.Program.{ask_of}
 use Rattle.query_core.specs.ReadableSlots.{CanBeRead}
 use Rattle.query_core.specs.Settings.{Setting as Asked}
@@ -46,7 +46,7 @@ use Rattle.weave_core.specs.declared.queries.Querying.{Querying}
 use Rattle.mon_topo.specs.declared.sights.Sight.{Sight}
 use Rattle.weave_core.specs.declared.store.Store.{Store}
 use Rattle.write_core.proofs.KeepsLemmas.{changed_same}
-use Rattle.write_core.specs.Views.{View, joined, of_leaf}
+use Rattle.write_core.specs.Views.{View, joined_view, of_leaf}
 use Rattle.write_core.specs.World.{World}
 use Rattle.weave_core.proofs.AskingLemmas.{answered, asked_of, asks_then, from, not_mine, some_holder, there_at, waits}
 
@@ -66,12 +66,15 @@ abbrev TellsOf : Plan → ℤ → ℕ → List Entry → (SeriesKey → List ℕ
 TellsOf plan moment limit history buckets_of slots (told.Down cut) =
     (cut ≡ length history) × (is_down history ≡ true)
 TellsOf plan moment limit history buckets_of slots (told.Unread cut) =
-    ((cut ≡ length history) × (is_down history ≡ false)) × (is_met plan (history_buckets buckets_of history) ≡ false)
+    ((cut ≡ length history) × (is_down history ≡ false))
+    × (is_plan_met plan (history_buckets buckets_of history) ≡ false)
 TellsOf plan moment limit history buckets_of slots (told.Read cut answer) =
-    ((cut ≡ length history) × (is_down history ≡ false)) × (is_met plan (history_buckets buckets_of history) ≡ true)
+    ((cut ≡ length history) × (is_down history ≡ false))
+    × (is_plan_met plan (history_buckets buckets_of history) ≡ true)
     × IsLeafPart (typed_tree plan.typed) (slot_rows history slots) moment limit answer
 TellsOf plan moment limit history buckets_of slots (told.Over load cut) =
-    ((cut ≡ length history) × (is_down history ≡ false)) × (is_met plan (history_buckets buckets_of history) ≡ true)
+    ((cut ≡ length history) × (is_down history ≡ false))
+    × (is_plan_met plan (history_buckets buckets_of history) ≡ true)
     × IsOverLeaf (typed_tree plan.typed) (slot_rows history slots) moment limit (record { load = load })
 TellsOf plan moment limit history buckets_of slots answer = ⊥
 
@@ -205,7 +208,7 @@ module _ (config : Config) (core : Core (store_of config)) (k : ℕ) (store : St
           (slots_of querying.machine.stage leaf) leaf seat left sight now answer → IsAnswered config core k new now
           answer
       leaf_looked answer looks =
-          let seen_then : now ≡ sight_of (joined reader.view (world.leaves leaf.0)).seen =
+          let seen_then : now ≡ sight_of (joined_view reader.view (world.leaves leaf.0)).seen =
           looks.seen
           ∙ (λ i. met_at_leaf leaf (so.history i) (asking.reader.seen i) (so.sight i))
           ∙ leaf_met (store_of config) world reader.view leaf asking.woven.world (asking.woven.readers k).part in
@@ -221,7 +224,7 @@ module _ (config : Config) (core : Core (store_of config)) (k : ℕ) (store : St
                   holder = looks.holder ∙ so.holder;
                   sight = looks.stays.sight_there ∙ seen_then
                       ∙ ap (λ (view : View). sight_of view.seen)
-                      (sym (changed_same world.leaves leaf.0 (joined reader.view (world.leaves leaf.0))));
+                      (sym (changed_same world.leaves leaf.0 (joined_view reader.view (world.leaves leaf.0))));
                   zone = looks.stays.zone ∙ so.zone;
                   place = looks.stays.place ∙ so.place;
                 });

@@ -31,9 +31,9 @@ use Rattle.weave_core.specs.declared.store.Store.{Store}
 use Rattle.weave_core.specs.declared.writes.Writing.{Writing}
 use Rattle.write_core.proofs.KeepsLemmas.{changed_same}
 use Rattle.write_core.specs.Program.{Entering, Reserving, Stage, after, ask_of}
-use Rattle.write_core.specs.Rounds.{Round, looked}
-use Rattle.write_core.specs.Steps.{AreUnraised, IsToldAtEntry, IsToldByLeaf, entrant, unchanged}
-use Rattle.write_core.specs.Views.{View, joined, of_leaf}
+use Rattle.write_core.specs.Rounds.{Round, after_look}
+use Rattle.write_core.specs.Steps.{AreUnraised, IsToldAtEntry, IsToldByLeaf, entrant, same_view}
+use Rattle.write_core.specs.Views.{View, joined_view, of_leaf}
 use Rattle.write_core.specs.World.{Actor, World, Writer, at_leaf, view_of, writes_on}
 use Rattle.write_core.specs.declared.asks.WriteTold.{WriteTold}
 use Rattle.write_core.specs.declared.asks.WriteTold.TheVariants as told
@@ -52,7 +52,8 @@ module _ (config : Config) (world : World) (i : ℕ) (store : Store) (writing : 
   abbrev writer : Writer
   writer = writer_of i writing view
 
-  pub met_is : met_at_leaf leaf seat.state.history sight seat.sight ≡ sight_of (joined view (world.leaves leaf.0)).seen
+  pub met_is : met_at_leaf leaf seat.state.history sight seat.sight
+      ≡ sight_of (joined_view view (world.leaves leaf.0)).seen
   met_is =
       (λ k. met_at_leaf leaf (so.history k) (work.writer.seen k) (so.sight k))
       ∙ leaf_met setting world view leaf work.kept (own config world i store writing sight work).part
@@ -90,18 +91,18 @@ told_by_leaf false history buckets up = up
 
 going_reserved : (b : Bool) (round : Round) (n : ℕ) (buckets : List ℕ)
     → IsGoingOn (after (Reserving round) (cond b (told.Down n) (told.Up buckets)))
-going_reserved true round n buckets = going_reserving (looked round (fate.Missed n))
-going_reserved false round n buckets = going_reserving (looked round fate.Ready)
+going_reserved true round n buckets = going_reserving (after_look round (fate.Missed n))
+going_reserved false round n buckets = going_reserving (after_look round fate.Ready)
 
 none_reserved : (b : Bool) (round : Round) (n : ℕ) (buckets : List ℕ)
     → leaf_inside (after (Reserving round) (cond b (told.Down n) (told.Up buckets))) ≡ None
-none_reserved true round n buckets = none_reserving (looked round (fate.Missed n))
-none_reserved false round n buckets = none_reserving (looked round fate.Ready)
+none_reserved true round n buckets = none_reserving (after_look round (fate.Missed n))
+none_reserved false round n buckets = none_reserving (after_look round fate.Ready)
 
 below_reserved : (count : ℕ) (b : Bool) (round : Round) (n : ℕ) (buckets : List ℕ)
     → RaisesBelow count (after (Reserving round) (cond b (told.Down n) (told.Up buckets)))
-below_reserved count true round n buckets = below_reserving count (looked round (fate.Missed n))
-below_reserved count false round n buckets = below_reserving count (looked round fate.Ready)
+below_reserved count true round n buckets = below_reserving count (after_look round (fate.Missed n))
+below_reserved count false round n buckets = below_reserving count (after_look round fate.Ready)
 
 module _ (config : Config) (world : World) (i : ℕ) (store : Store) (writing : Writing) (sight : Sight)
     (work : IsAtWork config world i store writing sight) (done left : List Mark) (mark : Mark)
@@ -126,9 +127,9 @@ module _ (config : Config) (world : World) (i : ℕ) (store : Store) (writing : 
     stage = after (Reserving round) answer
 
     abbrev then' : World
-    then' = at_leaf world i own_view mark.leaf unchanged None (writes_on who stage)
+    then' = at_leaf world i own_view mark.leaf same_view None (writes_on who stage)
 
-    seen_is : now ≡ sight_of (joined own_view (world.leaves mark.leaf.0)).seen
+    seen_is : now ≡ sight_of (joined_view own_view (world.leaves mark.leaf.0)).seen
     seen_is = reserves.seen ∙ met_is config world i store writing sight work mark.leaf seat so
 
     told_truly : IsToldByLeaf (of_leaf world.truth mark.leaf) answer
@@ -141,14 +142,14 @@ module _ (config : Config) (world : World) (i : ℕ) (store : Store) (writing : 
         (step_is config world i store writing sight work (Reserving round) answer at)
         (can_come config world i store writing sight work (Reserving round) answer at
         (sym so.holder ∙ reserves.free, told_truly))
-        (shared_at_leaf config world i own_view mark.leaf unchanged (λ n apart. refl) (λ range. refl) refl None
+        (shared_at_leaf config world i own_view mark.leaf same_view (λ n apart. refl) (λ range. refl) refl None
         (writes_on who stage) store new other work.shared changes
-        (leaf_so_then config world i own_view mark.leaf unchanged None (writes_on who stage) seat other now so
+        (leaf_so_then config world i own_view mark.leaf same_view None (writes_on who stage) seat other now so
         reserves.stays
         (reserves.history ∙ so.history) reserves.holder seen_is))
         (writer_then config world i store writing sight work (then'.actors i) stage
-        (joined own_view (world.leaves mark.leaf.0)) answer writing.inside next now
-        (changed_same world.actors i (writes_on who stage (joined own_view (world.leaves mark.leaf.0))))
+        (joined_view own_view (world.leaves mark.leaf.0)) answer writing.inside next now
+        (changed_same world.actors i (writes_on who stage (joined_view own_view (world.leaves mark.leaf.0))))
         (ap (λ (s : Stage). after s answer) at) reserves.told_so
         (work.writer.inside ∙ ap leaf_inside at
         ∙ sym (none_reserved (is_down seat.state.history) round (length seat.state.history) []))
@@ -189,7 +190,8 @@ told_at_entry store false history writing buckets up unraised = (up, unraised up
 
 going_entered : (b : Bool) (done left : List Mark) (n : ℕ) (buckets : List ℕ)
     → IsGoingOn (after (Entering (record { done = done; left = left })) (cond b (told.Down n) (told.Up buckets)))
-going_entered true done left n buckets = going_entering (looked (record { done = done; left = left }) (fate.Missed n))
+going_entered true done left n buckets =
+    going_entering (after_look (record { done = done; left = left }) (fate.Missed n))
 going_entered false done left n buckets = going_inside done left buckets buckets
 
 inside_entered : (b : Bool) (done left : List Mark) (mark : Mark) (n : ℕ) (buckets : List ℕ) (inside : Option Leaf)
@@ -197,13 +199,13 @@ inside_entered : (b : Bool) (done left : List Mark) (mark : Mark) (n : ℕ) (buc
     ≡ leaf_inside (after (Entering (record { done = done; left = mark ∷ left }))
     (cond b (told.Down n) (told.Up buckets)))
 inside_entered true done left mark n buckets inside none =
-    none ∙ sym (none_entering (looked (record { done = done; left = mark ∷ left }) (fate.Missed n)))
+    none ∙ sym (none_entering (after_look (record { done = done; left = mark ∷ left }) (fate.Missed n)))
 inside_entered false done left mark n buckets inside none = refl
 
 below_entered : (count : ℕ) (b : Bool) (at : Round) (n : ℕ) (buckets : List ℕ)
     → (b ≡ false → AllBelow count buckets)
     → RaisesBelow count (after (Entering at) (cond b (told.Down n) (told.Up buckets)))
-below_entered count true at n buckets all = below_entering count (looked at (fate.Missed n))
+below_entered count true at n buckets all = below_entering count (after_look at (fate.Missed n))
 below_entered count false at n buckets all = (all refl, all refl)
 
 holder_entered : (b : Bool) (i number n : ℕ) (buckets : List ℕ) → number ≡ i
@@ -234,10 +236,10 @@ module _ (config : Config) (world : World) (i : ℕ) (store : Store) (writing : 
     entry_stage = after (Entering entered_round) entry_answer
 
     abbrev entered_world : World
-    entered_world = at_leaf world i entrant_view mark.leaf unchanged (entrant i entry_answer)
+    entered_world = at_leaf world i entrant_view mark.leaf same_view (entrant i entry_answer)
         (writes_on entrant_writer entry_stage)
 
-    entry_seen : now ≡ sight_of (joined entrant_view (world.leaves mark.leaf.0)).seen
+    entry_seen : now ≡ sight_of (joined_view entrant_view (world.leaves mark.leaf.0)).seen
     entry_seen = enters.seen ∙ met_is config world i store writing sight work mark.leaf seat so
 
     unraised_there : is_down seat.state.history ≡ false
@@ -262,17 +264,17 @@ module _ (config : Config) (world : World) (i : ℕ) (store : Store) (writing : 
         (step_is config world i store writing sight work (Entering entered_round) entry_answer at)
         (can_come config world i store writing sight work (Entering entered_round) entry_answer at
         (sym so.holder ∙ enters.free, entry_told))
-        (shared_at_leaf config world i entrant_view mark.leaf unchanged (λ n apart. refl) (λ range. refl) refl
+        (shared_at_leaf config world i entrant_view mark.leaf same_view (λ n apart. refl) (λ range. refl) refl
         (entrant i entry_answer) (writes_on entrant_writer entry_stage) store new other work.shared changes
-        (leaf_so_then config world i entrant_view mark.leaf unchanged (entrant i entry_answer)
+        (leaf_so_then config world i entrant_view mark.leaf same_view (entrant i entry_answer)
         (writes_on entrant_writer entry_stage) seat other now so enters.stays (enters.history ∙ so.history)
         (enters.holder ∙ holder_entered (is_down seat.state.history) i writing.number (length seat.state.history)
         enters.buckets work.writer.number) entry_seen))
         (writer_then config world i store writing sight work (entered_world.actors i) entry_stage
-        (joined entrant_view (world.leaves mark.leaf.0)) entry_answer
+        (joined_view entrant_view (world.leaves mark.leaf.0)) entry_answer
         (cond (is_down seat.state.history) writing.inside (Some mark.leaf)) next now
         (changed_same world.actors i (writes_on entrant_writer entry_stage
-        (joined entrant_view (world.leaves mark.leaf.0))))
+        (joined_view entrant_view (world.leaves mark.leaf.0))))
         (ap (λ (s : Stage). after s entry_answer) at) enters.told_so
         (inside_entered (is_down seat.state.history) done left mark (length seat.state.history) enters.buckets
         writing.inside

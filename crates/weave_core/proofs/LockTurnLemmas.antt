@@ -25,8 +25,8 @@ use Rattle.weave_core.specs.declared.store.Store.{Store}
 use Rattle.weave_core.specs.declared.writes.Writing.{Writing}
 use Rattle.write_core.proofs.KeepsLemmas.{changed_same}
 use Rattle.write_core.specs.Program.{Locking, Stage, after, ask_of}
-use Rattle.write_core.specs.Steps.{IsToldByRange, unchanged}
-use Rattle.write_core.specs.Views.{View, joined, of_range}
+use Rattle.write_core.specs.Steps.{IsToldByRange, same_view}
+use Rattle.write_core.specs.Views.{View, joined_view, of_range}
 use Rattle.write_core.specs.World.{Actor, World, Writer, Writes, at_range, view_of, writes_on}
 use Rattle.write_core.specs.declared.asks.WriteAsk.TheVariants as ask
 use Rattle.write_core.specs.declared.asks.WriteTold.{WriteTold}
@@ -55,7 +55,7 @@ module _ (config : Config) (world : World) (i : ℕ) (store : Store) (writing : 
     answer = lock_answer config.range_points seat.state writing.row
 
     abbrev then' : World
-    then' = at_range world i view range unchanged (Some i) (writes_on writer (after Locking answer))
+    then' = at_range world i view range same_view (Some i) (writes_on writer (after Locking answer))
 
     told_truly : IsToldByRange setting (of_range world.truth range) writing.row answer
     told_truly =
@@ -64,7 +64,7 @@ module _ (config : Config) (world : World) (i : ℕ) (store : Store) (writing : 
         (lock_true setting range (of_range world.truth range) writing.row
         (work.kept.truth.held.legal range (range_in_truth config world i store writing sight work)))
 
-    seen_is : now ≡ sight_of (joined view (world.ranges range.0)).seen
+    seen_is : now ≡ sight_of (joined_view view (world.ranges range.0)).seen
     seen_is =
         locks.seen
         ∙ (λ k. met_at_range range (so.history k) (work.writer.seen k) (so.sight k))
@@ -78,13 +78,14 @@ module _ (config : Config) (world : World) (i : ℕ) (store : Store) (writing : 
         went_so config world i store writing sight work answer then' new next now
         (step_is config world i store writing sight work Locking answer at)
         (can_come config world i store writing sight work Locking answer at (sym so.holder ∙ locks.free, told_truly))
-        (shared_at_range config world i view range unchanged refl (λ leaf. refl) (λ n apart. refl) (Some i)
+        (shared_at_range config world i view range same_view refl (λ leaf. refl) (λ n apart. refl) (Some i)
         (writes_on writer (after Locking answer)) store new taken work.shared changes (locks.state ∙ so.history)
         holder_is
         (locks.sight_there ∙ seen_is))
         (writer_then config world i store writing sight work (then'.actors i) (after Locking answer)
-        (joined view (world.ranges range.0)) answer writing.inside next now
-        (changed_same world.actors i (writes_on writer (after Locking answer) (joined view (world.ranges range.0))))
+        (joined_view view (world.ranges range.0)) answer writing.inside next now
+        (changed_same world.actors i (writes_on writer (after Locking answer)
+        (joined_view view (world.ranges range.0))))
         (ap (λ (stage : Stage). after stage answer) at) locks.told_so
         (work.writer.inside ∙ ap leaf_inside at ∙ sym (none_locked answer)) (below_locked config.buckets answer)
         seen_is)

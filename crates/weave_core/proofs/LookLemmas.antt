@@ -19,7 +19,7 @@ use Rattle.mon_value.specs.declared.rows.SeriesKey.{SeriesKey}
 use Rattle.mon_value.specs.declared.rows.Target.{Target}
 use Rattle.mql_types.specs.declared.plans.Plan.{Plan}
 use Rattle.query_core.proofs.HintFacts.{any_on}
-use Rattle.query_core.specs.Openings.{is_met, lets_in}
+use Rattle.query_core.specs.Openings.{is_plan_met, lets_child_in}
 
 -- ---- a leaf's own words
 
@@ -105,9 +105,9 @@ module _ (own : List ℕ) where
   -- a plan lets the leaf in by its own words where a formula holds of its buckets
   pub met_by_words : (plan : Plan) (words : List ℕ)
       → AreAmong (all_named (formulas (map formula_tree plan.formulas))) plan.buckets
-      → words ≡ map (own_word own) plan.buckets → lets_in plan words 0 ≡ is_met plan own
+      → words ≡ map (own_word own) plan.buckets → lets_child_in plan words 0 ≡ is_plan_met plan own
   met_by_words plan words listed is =
-      ap (λ (words : List ℕ). lets_in plan words 0) is
+      ap (λ (words : List ℕ). lets_child_in plan words 0) is
       ∙ holds_alike (formulas (map formula_tree plan.formulas)) plan.buckets listed
 
 -- ---- slots that share no target share no series

@@ -5,8 +5,8 @@ use Rattle.std.proofs.lemmas.List.{set-get_or}
 use Rattle.mon_topo.proofs.SightLemmas.{joined_seen}
 use Rattle.weave_core.specs.Meetings.{met_at_leaf, met_at_range}
 use Rattle.mon_topo.specs.Sights.{range_sight, sight_of, with_leaf_sight, with_range_sight}
-use Rattle.mon_topo.specs.HeldHistories.{Histories, leaf_history, range_history}
-use Rattle.mon_topo.specs.SeenHistories.{joined_histories}
+use Rattle.mon_value.specs.Histories.{joined_histories, leaf_history, range_history}
+use Rattle.mon_value.specs.declared.histories.Histories.{Histories}
 use Rattle.mon_topo.specs.Settings.{Setting as Store}
 use Rattle.mon_value.specs.declared.histories.Entry.{Entry}
 use Rattle.mon_value.specs.declared.histories.RangeEntry.{RangeEntry}
@@ -14,7 +14,7 @@ use Rattle.mon_value.specs.declared.positions.Leaf.{Leaf}
 use Rattle.mon_value.specs.declared.positions.Range.{Range}
 use Rattle.write_core.proofs.ViewLemmas.{joined_whole_leaf, joined_whole_range}
 use Rattle.write_core.specs.Invariant.{IsKept}
-use Rattle.write_core.specs.Views.{View, joined, of_leaf, of_range}
+use Rattle.write_core.specs.Views.{View, joined_view, of_leaf, of_range}
 use Rattle.write_core.specs.World.{IsPart, World}
 
 -- a history that was seen whole is seen so far
@@ -39,7 +39,7 @@ range_noted seen range history is = λ i. record {
 module _ (store : Store) (world : World) (view : View) where
   pub leaf_met : (leaf : Leaf) → IsKept store world → IsPart store world view
       → met_at_leaf leaf (of_leaf world.truth leaf) (sight_of view.seen) (sight_of (world.leaves leaf.0).seen)
-      ≡ sight_of (joined view (world.leaves leaf.0)).seen
+      ≡ sight_of (joined_view view (world.leaves leaf.0)).seen
   leaf_met leaf kept part =
       ap (with_leaf_sight leaf (length (of_leaf world.truth leaf))) (joined_seen view.seen (world.leaves leaf.0).seen)
       ∙ leaf_noted (joined_histories view.seen (world.leaves leaf.0).seen) leaf (of_leaf world.truth leaf)
@@ -48,7 +48,7 @@ module _ (store : Store) (world : World) (view : View) where
 
   pub range_met : (range : Range) → IsKept store world → IsPart store world view
       → met_at_range range (of_range world.truth range) (sight_of view.seen) (sight_of (world.ranges range.0).seen)
-      ≡ sight_of (joined view (world.ranges range.0)).seen
+      ≡ sight_of (joined_view view (world.ranges range.0)).seen
   range_met range kept part =
       ap (with_range_sight range (range_sight (of_range world.truth range)))
       (joined_seen view.seen (world.ranges range.0).seen)

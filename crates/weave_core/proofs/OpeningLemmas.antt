@@ -12,8 +12,9 @@ use Rattle.mon_config.specs.declared.config.Config.{Config}
 use Rattle.mon_topo.proofs.PartLemmas.{length-zones_of}
 use Rattle.mon_topo.proofs.RangeHistoryLemmas.{all_at}
 use Rattle.mon_topo.specs.RangeHistories.{IsInZoneOf}
-use Rattle.mon_topo.specs.Replicas.{HasReplicas, same_leaf}
-use Rattle.mon_topo.specs.Zones.{first_replicas, leaf_numbered, leaves_in, range_numbered, ranges_in}
+use Rattle.mon_topo.specs.Replicas.{HasReplicas}
+use Rattle.mon_value.specs.Positions.{leaf_numbered, range_numbered, same_leaf}
+use Rattle.mon_topo.specs.Zones.{first_replicas, leaves_in, ranges_in}
 use Rattle.mon_topo.specs.declared.zones.ZoneSpec.{ZoneSpec}
 use Rattle.mon_value.proofs.LeafHistoryLemmas.{IsWellFormed-push}
 use Rattle.mon_value.specs.LeafHistories.{IsWellFormed}

@@ -20,7 +20,7 @@ use Rattle.mql_types.specs.Nodes as node
 use Rattle.mql_types.specs.Nodes.{NodeTree}
 use Rattle.mql_types.specs.Plans.{fetches}
 use Rattle.plan_split.specs.FetchFormulas.{fetch_formula, plan_formulas, schema_fetched}
-use Rattle.plan_split.specs.JoinedFormulas.{all_of, both, choices, is_all, listed, wanted}
+use Rattle.plan_split.specs.JoinedFormulas.{all_of, both, choices, is_all, formula_list, wanted_formulas}
 use Rattle.plan_split.specs.PredicateFormulas.{bucket_formula, comparison_formula, predicate_formula}
 
 module _ (count : ℕ) (some : 0 < count) where
@@ -51,7 +51,7 @@ module _ (count : ℕ) (some : 0 < count) where
   back_below [] more all = all
   back_below (bucket ∷ some) more all = back_below some more all.1
 
-  listed_below : (trees : FormulaTrees) → AreBelow (all_named trees) → AllBelow (listed trees)
+  listed_below : (trees : FormulaTrees) → AreBelow (all_named trees) → AllBelow (formula_list trees)
   listed_below NoFormula all = tt
   listed_below (Then tree trees) all = (
     front_below (named_buckets tree) (all_named trees) all,
@@ -62,7 +62,7 @@ module _ (count : ℕ) (some : 0 < count) where
   all_of_below [] all = tt
   all_of_below (tree ∷ trees) all = named_below (tree ∷ trees) all
 
-  wanted_below : (tree : FormulaTree) → IsBelow tree → AllBelow (wanted tree)
+  wanted_below : (tree : FormulaTree) → IsBelow tree → AllBelow (wanted_formulas tree)
   wanted_below Always all = tt
   wanted_below (Bucket bucket) all = (all, tt)
   wanted_below (And trees) all = listed_below trees all
@@ -76,8 +76,9 @@ module _ (count : ℕ) (some : 0 < count) where
 
   both_below : (left right : FormulaTree) → IsBelow left → IsBelow right → IsBelow (both left right)
   both_below left right first second =
-      all_of_below (wanted left ++ wanted right)
-      (all_append IsBelow (wanted left) (wanted right) (wanted_below left first) (wanted_below right second))
+      all_of_below (wanted_formulas left ++ wanted_formulas right)
+      (all_append IsBelow (wanted_formulas left) (wanted_formulas right) (wanted_below left first)
+      (wanted_below right second))
 
   one_by : (left right : FormulaTree) (b : Bool) → IsBelow left → IsBelow right
       → IsBelow (cond b Always (Or (formulas (choices left ++ choices right))))

@@ -3,9 +3,9 @@ use Rattle.std.proofs.Common.{◌≡◌, ℕ, ◌+◌, ◌<◌, None, List, [], 
 use Rattle.std.proofs.Common.{length-append}
 use Rattle.mon_config.specs.declared.config.Config.{Config}
 use Rattle.mon_topo.proofs.HeldLemmas.{leaf_entry_other, leaf_entry_same}
-use Rattle.mon_topo.specs.HeldHistories.{leaf_history}
+use Rattle.mon_value.specs.Histories.{leaf_history}
 use Rattle.mon_topo.specs.Settings.{Setting}
-use Rattle.mon_topo.specs.Zones.{leaf_numbered}
+use Rattle.mon_value.specs.Positions.{leaf_numbered}
 use Rattle.mon_value.specs.LeafHistories.{IsWellFormed}
 use Rattle.mon_value.specs.declared.histories.Entry.{Entry}
 use Rattle.mon_value.specs.declared.histories.Entry.TheVariants as entry
@@ -34,9 +34,9 @@ use Rattle.write_core.proofs.ViewLemmas.{joined_whole_leaf}
 use Rattle.write_core.specs.Events.{Goes}
 use Rattle.write_core.specs.Invariant.{IsAt, IsEntering, IsKept}
 use Rattle.write_core.specs.Program.{Inside, Stage, after, entering}
-use Rattle.write_core.specs.Rounds.{Round, looked}
+use Rattle.write_core.specs.Rounds.{Round, after_look}
 use Rattle.write_core.specs.Steps.{step}
-use Rattle.write_core.specs.Views.{View, joined, of_leaf, with_entry}
+use Rattle.write_core.specs.Views.{View, joined_view, of_leaf, with_entry}
 use Rattle.write_core.specs.World.{World, Writer, at_leaf, put_of, view_of, writes_on}
 use Rattle.write_core.specs.declared.asks.WriteTold.TheVariants as told
 use Rattle.write_core.specs.declared.marks.Fate.TheVariants as fate
@@ -58,7 +58,7 @@ module _ (config : Config) (world : World) (i : ℕ) (store : Store) (writing : 
   round = record { done = done; left = mark ∷ left }
 
   abbrev stage : Stage
-  stage = entering (looked round fate.Took)
+  stage = entering (after_look round fate.Took)
 
   -- the entry that the core's write puts, and the one that is put
   abbrev last : Entry
@@ -113,7 +113,7 @@ module _ (config : Config) (world : World) (i : ℕ) (store : Store) (writing : 
         store new)
         (puts : Puts mark.slot mark.leaf seat other writing next sight now) where
       abbrev met : View
-      met = joined view (world.leaves mark.leaf.0)
+      met = joined_view view (world.leaves mark.leaf.0)
 
       other_history : other.state.history ≡ of_leaf world.truth mark.leaf ++ last ∷ []
       other_history = puts.history ∙ (λ k. so.history k ++ last_is k ∷ [])
@@ -153,10 +153,10 @@ module _ (config : Config) (world : World) (i : ℕ) (store : Store) (writing : 
           told.Done
           None next now
           (changed_same world.actors i (writes_on writer stage (with_entry mark.leaf last met)))
-          (ap (λ (s : Stage). after s told.Done) at) puts.told_so (sym (none_entering (looked round fate.Took)))
-          (below_entering config.buckets (looked round fate.Took)) seen_is)
+          (ap (λ (s : Stage). after s told.Done) at) puts.told_so (sym (none_entering (after_look round fate.Took)))
+          (below_entering config.buckets (after_look round fate.Took)) seen_is)
           (subst IsGoingOn (sym (puts.told_so.stage ∙ ap (λ (s : Stage). after s told.Done) at))
-          (going_entering (looked round fate.Took))) puts.told_so.stage
+          (going_entering (after_look round fate.Took))) puts.told_so.stage
 
 -- what is asked of a put, by the slot and the leaf that the write asks for
 module _ (config : Config) (world : World) (i : ℕ) (store : Store) (writing : Writing) (sight : Sight)

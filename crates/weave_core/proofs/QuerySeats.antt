@@ -3,7 +3,7 @@ use Rattle.std.proofs.Common.{◌≡◌, ◌∙◌, ℕ, length, refl, sym, ap, 
 use Rattle.std.specs.Prelude.{◌≢◌, slice_get}
 use Rattle.std.proofs.lemmas.List.{length-set}
 use Rattle.mon_config.specs.declared.config.Config.{Config}
-use Rattle.mon_topo.specs.Zones.{leaf_numbered, range_numbered}
+use Rattle.mon_value.specs.Positions.{leaf_numbered, range_numbered}
 use Rattle.mon_value.specs.declared.positions.Leaf.{Leaf}
 use Rattle.mon_value.specs.declared.positions.Range.{Range}
 use Rattle.weave_core.proofs.SeatLemmas.{set_each, words_stay}
@@ -14,7 +14,7 @@ use Rattle.weave_core.specs.declared.leaves.LeafSeat.{LeafSeat}
 use Rattle.weave_core.specs.declared.ranges.RangeSeat.{RangeSeat}
 use Rattle.weave_core.specs.declared.store.Store.{Store}
 use Rattle.write_core.proofs.KeepsLemmas.{changed_other}
-use Rattle.write_core.specs.Events.{resolved, visited}
+use Rattle.write_core.specs.Events.{after_resolving, after_visit}
 use Rattle.write_core.specs.Views.{View, of_leaf, of_range}
 use Rattle.write_core.specs.World.{World}
 
@@ -39,7 +39,7 @@ same_world world OtherLeaf OtherRange = record {
 }
 
 pub resolved_same : (world : World) (range : Range) (view : View)
-    → IsSameBut world (resolved world range view) Any (λ n. n ≢ range.0)
+    → IsSameBut world (after_resolving world range view) Any (λ n. n ≢ range.0)
 resolved_same world range view = record {
   truth = refl;
   leaf_holder = λ n. refl;
@@ -49,7 +49,7 @@ resolved_same world range view = record {
 }
 
 pub visited_same : (world : World) (leaf : Leaf) (view : View)
-    → IsSameBut world (visited world leaf view) (λ n. n ≢ leaf.0) Any
+    → IsSameBut world (after_visit world leaf view) (λ n. n ≢ leaf.0) Any
 visited_same world leaf view = record {
   truth = refl;
   leaf_holder = λ n. refl;

@@ -20,7 +20,8 @@ use Rattle.weave_core.specs.EndTexts.{query_text}
 use Rattle.weave_core.specs.EventNames.{event_of_query}
 use Rattle.weave_core.specs.QueryTurns.{IsAsking, QueriesSo}
 use Rattle.weave_core.specs.States.{Asking, Dismissed, Eventless, Role, State, Undeclared, Writing, fault_in}
-use Rattle.weave_core.specs.States.{holder_in, is_any, step_fault, store_of}
+use Rattle.mon_value.specs.Parts.{is_any}
+use Rattle.weave_core.specs.States.{holder_in, step_fault, store_of}
 use Rattle.weave_core.specs.Steps.{StepsIn, query_stepped, with_event}
 use Rattle.weave_core.specs.declared.actors.Actor.{Actor}
 use Rattle.weave_core.specs.declared.actors.Course.TheVariants as course

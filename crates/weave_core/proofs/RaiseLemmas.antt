@@ -8,7 +8,7 @@ use Rattle.mon_schema.specs.SchemaLists.{SchemaLists}
 use Rattle.leaf_store.specs.LeafBuckets.{buckets_by, is_unraised, key_buckets}
 use Rattle.leaf_store.specs.LeafStates.{LeafView}
 use Rattle.mon_hints.specs.BucketSets.{IsNext}
-use Rattle.mon_hints.specs.declared.fingerprints.TheConstants.{MOST_BUCKETS}
+use Rattle.mon_value.specs.declared.limits.TheConstants.{MOST_BUCKETS}
 use Rattle.mon_config.specs.declared.config.Config.{Config}
 use Rattle.mon_hints.specs.Listings.{is_among}
 use Rattle.mon_schema.specs.SchemaLists.{metric_named, target_named}

@@ -6,9 +6,10 @@ use Rattle.std.proofs.lemmas.Bool.{cases_eq, eq-eqb, ne_eqb}
 use Rattle.mon_config.specs.declared.config.Config.{Config}
 use Rattle.mon_hints.specs.Covers.{with_bit}
 use Rattle.mon_hints.specs.Words.{has_bit}
-use Rattle.mon_topo.specs.HeldHistories.{leaf_history}
+use Rattle.mon_value.specs.Histories.{leaf_history}
 use Rattle.mon_topo.specs.Settings.{Setting, zone_of_leaf}
-use Rattle.mon_topo.specs.Zones.{leaf_numbered, leaves_in}
+use Rattle.mon_value.specs.Positions.{leaf_numbered}
+use Rattle.mon_topo.specs.Zones.{leaves_in}
 use Rattle.mon_value.specs.declared.positions.Leaf.{Leaf}
 use Rattle.mon_value.specs.declared.positions.Zone.{Zone}
 use Rattle.weave_core.proofs.AtWorkLemmas.{IsGoingOn, StandsInside, going_inside, leaf_in_truth, own}
@@ -18,7 +19,7 @@ use Rattle.weave_core.proofs.SeatLemmas.{leaf_so_then, leaves_at_leaf, ranges_at
 use Rattle.weave_core.proofs.WriteTurnLemmas.{can_come, step_is, went_so, writer_then}
 use Rattle.weave_core.proofs.WordLemmas.{one_raised}
 use Rattle.weave_core.specs.Agreements.{AreWords, IsLeafSo, place_of_leaf}
-use Rattle.weave_core.specs.HintWords.{HasWord, HintTable, RaisesOne, raised, same_place, word_at}
+use Rattle.weave_core.specs.HintWords.{HasWord, HintTable, RaisesOne, with_child_bit, same_word_place, hint_word_at}
 use Rattle.weave_core.specs.Holders.{leaf_inside}
 use Rattle.weave_core.specs.Meetings.{met_at_leaf}
 use Rattle.mon_topo.specs.Sights.{sight_of}
@@ -37,7 +38,7 @@ use Rattle.write_core.proofs.KeepsLemmas.{changed_same}
 use Rattle.write_core.specs.Invariant.{IsAt, IsInside}
 use Rattle.write_core.specs.Program.{Inside, Stage, after}
 use Rattle.write_core.specs.Rounds.{Round}
-use Rattle.write_core.specs.Views.{View, joined, with_root_bit, with_zone_bit}
+use Rattle.write_core.specs.Views.{View, joined_view, with_root_bit, with_zone_bit}
 use Rattle.write_core.specs.World.{World, Writer, at_leaf, view_of, writes_on}
 use Rattle.write_core.specs.declared.asks.WriteTold.TheVariants as told
 use Rattle.write_core.specs.declared.marks.Mark.{Mark}
@@ -84,14 +85,14 @@ module _ (config : Config) (world next : World) (words : HintTable) (are : AreWo
     one : RaisesOne words place child bucket
     one = one_raised words place child bucket small there
 
-    count_raised : length (raised words place child bucket).words ≡ length words.words
+    count_raised : length (with_child_bit words place child bucket).words ≡ length words.words
     count_raised = length-set words.words _ _
 
   -- the zone's bit at the root
   root_words : (zone : ℕ) → zone < 64
       → ((z b : ℕ) → next.truth.bits.root z b ≡ with_bit world.truth.bits.root zone bucket z b)
       → ((leaf b : ℕ) → next.truth.bits.zone leaf b ≡ world.truth.bits.zone leaf b)
-      → AreWords config next (raised words word.Root zone bucket)
+      → AreWords config next (with_child_bit words word.Root zone bucket)
   root_words zone small roots zones =
       let raises = one word.Root zone small (root_there config world words are bucket below) in
       record {
@@ -99,15 +100,15 @@ module _ (config : Config) (world next : World) (words : HintTable) (are : AreWo
         count = count_raised word.Root zone small (root_there config world words are bucket below) ∙ are.count;
         root = λ z b h.
             raises word.Root b z (in_words b h)
-            ∙ (λ k. turned (same_place word.Root word.Root) (nat_eq b bucket) (nat_eq z zone) (eq-eqb 0 0 refl) k
+            ∙ (λ k. turned (same_word_place word.Root word.Root) (nat_eq b bucket) (nat_eq z zone) (eq-eqb 0 0 refl) k
             || are.root z b h k)
             ∙ sym (roots z b);
         zone = λ leaf b here h.
             raises (word.Zone (zone_of_leaf (store_of config) leaf)) b (place_of_leaf (store_of config) leaf)
             (in_words b h)
-            ∙ elsewhere (same_place (word.Zone (zone_of_leaf (store_of config) leaf)) word.Root) (nat_eq b bucket)
+            ∙ elsewhere (same_word_place (word.Zone (zone_of_leaf (store_of config) leaf)) word.Root) (nat_eq b bucket)
             (nat_eq (place_of_leaf (store_of config) leaf) zone)
-            (has_bit (word_at words (word.Zone (zone_of_leaf (store_of config) leaf)) b)
+            (has_bit (hint_word_at words (word.Zone (zone_of_leaf (store_of config) leaf)) b)
             (place_of_leaf (store_of config) leaf))
             (ne_eqb ((zone_of_leaf (store_of config) leaf).0 + 1) 0 (λ e. omega (arith, e)))
             ∙ are.zone leaf b here h ∙ sym (zones leaf.0 b);
@@ -118,7 +119,8 @@ module _ (config : Config) (world next : World) (words : HintTable) (are : AreWo
       → ((z b : ℕ) → next.truth.bits.root z b ≡ world.truth.bits.root z b)
       → ((n b : ℕ) → next.truth.bits.zone n b ≡ with_bit world.truth.bits.zone leaf.0 bucket n b)
       → AreWords config next
-      (raised words (word.Zone (zone_of_leaf (store_of config) leaf)) (place_of_leaf (store_of config) leaf) bucket)
+      (with_child_bit words (word.Zone (zone_of_leaf (store_of config) leaf)) (place_of_leaf (store_of config) leaf)
+      bucket)
   zone_words leaf there small roots zones =
       let own_zone = zone_of_leaf (store_of config) leaf in
       let own_place = place_of_leaf (store_of config) leaf in
@@ -129,8 +131,8 @@ module _ (config : Config) (world next : World) (words : HintTable) (are : AreWo
         count = count_raised (word.Zone own_zone) own_place small has ∙ are.count;
         root = λ z b h.
             raises word.Root b z (in_words b h)
-            ∙ elsewhere (same_place word.Root (word.Zone own_zone)) (nat_eq b bucket) (nat_eq z own_place)
-            (has_bit (word_at words word.Root b) z) (ne_eqb 0 (own_zone.0 + 1) (λ e. omega (arith, e)))
+            ∙ elsewhere (same_word_place word.Root (word.Zone own_zone)) (nat_eq b bucket) (nat_eq z own_place)
+            (has_bit (hint_word_at words word.Root b) z) (ne_eqb 0 (own_zone.0 + 1) (λ e. omega (arith, e)))
             ∙ are.root z b h ∙ sym (roots z b);
         zone = λ other b here h.
             let zone' = zone_of_leaf (store_of config) other in
@@ -187,7 +189,7 @@ module _ (config : Config) (world : World) (i : ℕ) (store : Store) (writing : 
   round = record { done = done; left = mark ∷ left }
 
   abbrev met : View
-  met = joined view (world.leaves mark.leaf.0)
+  met = joined_view view (world.leaves mark.leaf.0)
 
   here : IsAt setting world i writer (Inside round at_root in_zone)
   here =
@@ -292,7 +294,7 @@ module _ (config : Config) (world : World) (i : ℕ) (store : Store) (writing : 
       at.is in
       let words : AreWords config root_world new.words
       = subst (λ (w : HintTable). AreWords config root_world w)
-      (sym (changes.words ∙ ap (λ (z : Zone). raised store.words word.Root z.0 bucket) so.zone))
+      (sym (changes.words ∙ ap (λ (z : Zone). with_child_bit store.words word.Root z.0 bucket) so.zone))
       (root_words config world root_world store.words work.shared.words bucket below.0.0
       (zone_of_leaf (store_of config) at.mark.leaf).0 small (λ z b. refl) (λ n b. refl)) in
       went_so config world i store writing sight work told.Done root_world new next now
@@ -358,7 +360,7 @@ module _ (config : Config) (world : World) (i : ℕ) (store : Store) (writing : 
       at.is in
       let words : AreWords config zone_world new.words
       = subst (λ (w : HintTable). AreWords config zone_world w)
-      (sym (changes.words ∙ (λ k. raised store.words (word.Zone (so.zone k)) (so.place k) bucket)))
+      (sym (changes.words ∙ (λ k. with_child_bit store.words (word.Zone (so.zone k)) (so.place k) bucket)))
       (zone_words config world zone_world store.words work.shared.words bucket below.1.0 at.mark.leaf listed small
       (λ z b. refl) (λ n b. refl)) in
       went_so config world i store writing sight work told.Done zone_world new next now

@@ -18,7 +18,7 @@ use Rattle.weave_core.specs.Agreements.{IsRangeSo}
 use Rattle.weave_core.specs.Core.{Core, IsTold, Reader, query_now}
 use Rattle.weave_core.specs.Holders.{HoldsRange}
 use Rattle.weave_core.specs.Meetings.{met_at_range}
-use Rattle.weave_core.specs.QueryLooks.{Finds, FindsAt, IsHeldFrom, IsSeatedForRange, slot_told}
+use Rattle.weave_core.specs.QueryLooks.{FindsReplica, FindsAt, IsHeldFrom, IsSeatedForRange, slot_told}
 use Rattle.weave_core.specs.QueryTurns.{AnswersSo, IsAnswered, IsAsking, QueryWaits}
 use Rattle.mon_topo.specs.Sights.{AreAlike, range_sight, sight_of}
 use Rattle.weave_core.specs.States.{store_of}
@@ -28,7 +28,7 @@ use Rattle.weave_core.specs.declared.ranges.RangeSeat.{RangeSeat}
 use Rattle.mon_topo.specs.declared.sights.Sight.{Sight}
 use Rattle.weave_core.specs.declared.store.Store.{Store}
 use Rattle.write_core.proofs.KeepsLemmas.{changed_same}
-use Rattle.write_core.specs.Views.{View, joined, of_range}
+use Rattle.write_core.specs.Views.{View, joined_view, of_range}
 use Rattle.write_core.specs.World.{World}
 use Rattle.weave_core.proofs.AskingLemmas.{answered, not_mine, some_holder, there_at, waits}
 
@@ -83,11 +83,11 @@ module _ (config : Config) (core : Core (store_of config)) (k : ℕ) (store : St
     module _ (new : Store) (now : Sight) (seat left : RangeSeat) (was : slice_get store.ranges.items range.0
         ≡ Some seat)
         (changes : ChangesRange range left store new) where
-      pub range_found : (answer : Told) → Finds range querying.machine.avoided seat left sight now answer
+      pub range_found : (answer : Told) → FindsReplica range querying.machine.avoided seat left sight now answer
           → IsAnswered config core k new now answer
       range_found answer finds =
           let so = range_so seat was in
-          let seen_then : now ≡ sight_of (joined reader.view (world.ranges range.0)).seen =
+          let seen_then : now ≡ sight_of (joined_view reader.view (world.ranges range.0)).seen =
           finds.seen
           ∙ (λ i. met_at_range range (so.history i) (asking.reader.seen i) (so.sight i))
           ∙ range_met (store_of config) world reader.view range asking.woven.world (asking.woven.readers k).part in
@@ -107,7 +107,7 @@ module _ (config : Config) (core : Core (store_of config)) (k : ℕ) (store : St
                   holder = finds.holder ∙ so.holder;
                   sight = finds.sight_there ∙ seen_then
                       ∙ ap (λ (view : View). sight_of view.seen)
-                      (sym (changed_same world.ranges range.0 (joined reader.view (world.ranges range.0))));
+                      (sym (changed_same world.ranges range.0 (joined_view reader.view (world.ranges range.0))));
                 });
             sight_is = seen_then;
           })

@@ -3,8 +3,8 @@ use Rattle.std.proofs.Common.{◌≡◌, ℕ, List, [], ◌∷◌, ◌++◌, ref
 use Rattle.std.specs.Prelude.{filter, not}
 use Rattle.std.proofs.lemmas.Grind.{flat_map-append}
 use Rattle.std.proofs.lemmas.List.{append-nil}
-use Rattle.mon_topo.proofs.RangeHistoryLemmas.{acked-push, serving-push}
-use Rattle.mon_topo.specs.RangeHistories.{acked, acked_row, is_missed, serving, serving_after}
+use Rattle.mon_topo.proofs.RangeHistoryLemmas.{acknowledged_rows-push, serving-push}
+use Rattle.mon_topo.specs.RangeHistories.{acknowledged_rows, acked_row, is_missed, serving, serving_after}
 use Rattle.mon_value.specs.declared.histories.RangeEntry.{RangeEntry}
 use Rattle.mon_value.specs.declared.histories.RangeEntry.TheVariants as entry
 use Rattle.mon_value.specs.declared.positions.Leaf.{Leaf}
@@ -26,8 +26,8 @@ pub serving-opened : (history : List RangeEntry) (pass : ℕ) (slot : Slot) (lea
 serving-opened = serving_after-opened []
 
 pub acked-opened : (history : List RangeEntry) (pass : ℕ) (slot : Slot) (leaf : Leaf)
-    → acked (history ++ entry.Opened pass slot leaf ∷ []) ≡ acked history
+    → acknowledged_rows (history ++ entry.Opened pass slot leaf ∷ []) ≡ acknowledged_rows history
 acked-opened history pass slot leaf =
-    flat_map-append acked_row history (entry.Opened pass slot leaf ∷ []) ∙ append-nil (acked history)
+    flat_map-append acked_row history (entry.Opened pass slot leaf ∷ []) ∙ append-nil (acknowledged_rows history)
 
-pub ruleset ranges = (serving-opened, serving-push, acked-opened, acked-push)
+pub ruleset ranges = (serving-opened, serving-push, acked-opened, acknowledged_rows-push)

@@ -32,7 +32,7 @@ use Rattle.weave_core.specs.declared.lines.LineForm.TheVariants as form
 use Rattle.write_core.proofs.KeepsLemmas.{changed_by}
 use Rattle.write_core.specs.Events.{Begins, Goes}
 use Rattle.write_core.specs.Invariant.{IsActor}
-use Rattle.write_core.specs.Views.{View, joined}
+use Rattle.write_core.specs.Views.{View, joined_view}
 use Rattle.write_core.specs.World.{Actor, IsPart, Recovers, Stands, World, Writes, view_of}
 
 -- what an actor has seen and knows is a part of the truth
@@ -84,7 +84,7 @@ module _ (config : Config) where
       (λ k apart. all k)
   asked_then state (Hears i view) all =
       changed_by state.core.readers i
-      (begun_with Store' (state.core.readers i) (joined (state.core.readers i).view view))
+      (begun_with Store' (state.core.readers i) (joined_view (state.core.readers i).view view))
       (λ (k : ℕ) (reader : Reader Store'). state.roles k ≡ Asking → IsAsked reader)
       (λ is. let h = all i is in record { first = h.first; asked = h.asked; moment = h.moment })
       (λ k apart. all k)

@@ -1,7 +1,7 @@
 -- What a query of the core is told may be told to its machine, and at a visit its slots can be read.
 use Rattle.std.proofs.Common.{◌≡◌, ◌∙◌, ◌≤ℤ◌, ℕ, Bool, pos, List, length, take, refl, sym, ap, subst}
 use Rattle.std.specs.Prelude.{None}
-use Rattle.mon_topo.specs.HeldHistories.{leaf_history}
+use Rattle.mon_value.specs.Histories.{leaf_history}
 use Rattle.mon_topo.specs.Settings.{Setting as Store}
 use Rattle.mon_value.specs.LeafHistories.{is_down}
 use Rattle.mon_value.specs.declared.histories.Entry.{Entry}
@@ -23,7 +23,7 @@ use Rattle.weave_core.proofs.ReaderLemmas.{as_new}
 use Rattle.weave_core.specs.Core.{IsLookedAt, IsTold, Reader, asked_now, query_now, seen_by, view_told, world_told}
 use Rattle.weave_core.specs.Licensed.{IsReader}
 use Rattle.write_core.specs.Invariant.{IsKept}
-use Rattle.write_core.specs.Views.{View, joined, of_leaf}
+use Rattle.write_core.specs.Views.{View, joined_view, of_leaf}
 use Rattle.write_core.specs.World.{World}
 
 module _ (store : Store) (world : World) (reader : Reader store) (kept : IsKept store world)
@@ -99,7 +99,7 @@ module _ (store : Store) (world : World) (reader : Reader store) (kept : IsKept 
     looked = record { free = free; whole = refl; is = refl }
 
     abbrev after : View
-    after = joined reader.view (world.leaves leaf.0)
+    after = joined_view reader.view (world.leaves leaf.0)
 
     read_then : CanBeRead (typed_of reader.setting) (take cut (of_leaf after leaf)) (slots_at from_new)
     read_then =

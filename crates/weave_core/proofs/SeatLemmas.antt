@@ -7,11 +7,11 @@ use Rattle.std.proofs.lemmas.List.{length-set, length-map}
 use Rattle.std.proofs.lemmas.Option.{none-some, same_Some}
 use Rattle.mon_config.specs.declared.config.Config.{Config}
 use Rattle.mon_topo.specs.Settings.{Setting}
-use Rattle.mon_topo.specs.Zones.{leaf_numbered, range_numbered}
+use Rattle.mon_value.specs.Positions.{leaf_numbered, range_numbered}
 use Rattle.mon_value.specs.declared.positions.Leaf.{Leaf}
 use Rattle.mon_value.specs.declared.positions.Range.{Range}
 use Rattle.weave_core.specs.Agreements.{AreLeaves, AreRanges, AreShared, AreWords, IsLeafSo, IsRangeSo}
-use Rattle.weave_core.specs.HintWords.{HintTable, word_at}
+use Rattle.weave_core.specs.HintWords.{HintTable, hint_word_at}
 use Rattle.mon_topo.specs.Sights.{AreAlike, range_sight, sight_of}
 use Rattle.weave_core.specs.States.{store_of}
 use Rattle.weave_core.specs.WriteEvents.{ChangesLeaf, ChangesRange, StaysThere}
@@ -60,10 +60,10 @@ module _ (config : Config) (world next : World) where
   words_stay old new h same bits = record {
     buckets = ap (λ w. w.buckets) same ∙ h.buckets;
     count = ap (λ w. length w.words) same ∙ h.count;
-    root = λ zone bucket below. ap (λ w. has_bit (word_at w at.Root bucket) zone) same ∙ h.root zone bucket below
+    root = λ zone bucket below. ap (λ w. has_bit (hint_word_at w at.Root bucket) zone) same ∙ h.root zone bucket below
         ∙ ap (λ (bits : Bits). bits.root zone bucket) (sym bits);
     zone = λ leaf bucket there below.
-        ap (λ w. has_bit (word_at w (at.Zone (zone_of_leaf (store_of config) leaf)) bucket)
+        ap (λ w. has_bit (hint_word_at w (at.Zone (zone_of_leaf (store_of config) leaf)) bucket)
         (place_of_leaf (store_of config) leaf)) same
         ∙ h.zone leaf bucket there below ∙ ap (λ (bits : Bits). bits.zone leaf.0 bucket) (sym bits);
   }

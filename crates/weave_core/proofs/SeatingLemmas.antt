@@ -11,7 +11,8 @@ use Rattle.mon_config.specs.declared.config.Config.{Config}
 use Rattle.mon_hints.specs.Words.{has_bit}
 use Rattle.mon_topo.proofs.PartLemmas.{zone_of_part}
 use Rattle.mon_topo.specs.Settings.{zone_of_leaf}
-use Rattle.mon_topo.specs.Zones.{first_leaf, leaf_zones, zone_at, zone_numbered, no_zone, leaf_numbered, leaves_in}
+use Rattle.mon_value.specs.Positions.{leaf_numbered, zone_numbered}
+use Rattle.mon_topo.specs.Zones.{first_leaf, leaf_zones, zone_at, no_zone, leaves_in}
 use Rattle.mon_topo.specs.Zones.{ranges_in}
 use Rattle.mon_topo.specs.declared.zones.ZoneSpec.{ZoneSpec}
 use Rattle.mon_value.specs.declared.histories.Entry.{Entry}
@@ -20,7 +21,7 @@ use Rattle.weave_core.proofs.FirstLemmas.{leaf_is}
 use Rattle.weave_core.specs.Agreements.{AreLeaves, AreRanges, AreShared, AreWords, IsLeafSo, IsRangeSo, IsServed}
 use Rattle.weave_core.specs.Agreements.{first_view, place_of_leaf}
 use Rattle.weave_core.specs.FirstHistories.{first_histories, first_leaf_history, first_range_history}
-use Rattle.weave_core.specs.HintWords.{HintTable, index_of, no_words, word_at}
+use Rattle.weave_core.specs.HintWords.{HintTable, index_of, no_words, hint_word_at}
 use Rattle.weave_core.specs.Openings.{AreOpenedSo, IsOpenedSo, first_range_histories, first_world, leaf_seat}
 use Rattle.weave_core.specs.Openings.{leaf_seats, range_seat, sight_of_states}
 use Rattle.mon_topo.specs.Sights.{range_sight, sight_of}
@@ -70,7 +71,7 @@ bare_at zero (suc i) word = refl
 bare_at (suc count) zero word = refl
 bare_at (suc count) (suc i) word = bare_at count i word
 
-unset : (zones buckets : ℕ) (place : Place) (bucket child : ℕ) → has_bit (word_at (no_words zones buckets) place
+unset : (zones buckets : ℕ) (place : Place) (bucket child : ℕ) → has_bit (hint_word_at (no_words zones buckets) place
     bucket) child ≡ false
 unset zones buckets place bucket child =
     ap (λ (word : ℕ). has_bit word child) (bare_at ((zones + 1) * buckets) (index_of (no_words zones buckets) place

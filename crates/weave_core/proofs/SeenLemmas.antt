@@ -5,11 +5,14 @@ use Rattle.std.specs.Prelude.{Option, Some, None, filter, slice_get}
 use Rattle.std.specs.List.{AllByRecursion as All, range_with_len}
 use Rattle.std.proofs.lemmas.List.FromFn.{get_or-map-range_with_len}
 use Rattle.mon_schema.specs.SchemaLists.{SchemaLists}
-use Rattle.mon_topo.specs.HeldHistories.{AreHeld, BeginsWith, Histories, range_history}
+use Rattle.mon_value.specs.Histories.{range_history}
+use Rattle.mon_value.specs.declared.histories.Histories.{Histories}
+use Rattle.mon_topo.specs.HeldHistories.{AreHeld, BeginsWith}
 use Rattle.mon_topo.specs.RangeHistories.{serving}
 use Rattle.mon_topo.specs.Replicas.{HasReplicas}
 use Rattle.mon_topo.specs.SeenHistories.{AreWithin}
-use Rattle.mon_topo.specs.Zones.{first_replicas, range_numbered, ranges_in}
+use Rattle.mon_value.specs.Positions.{range_numbered}
+use Rattle.mon_topo.specs.Zones.{first_replicas, ranges_in}
 use Rattle.mon_topo.specs.declared.zones.ZoneSpec.{ZoneSpec}
 use Rattle.mon_value.specs.declared.histories.RangeEntry.{RangeEntry}
 use Rattle.mon_value.specs.declared.positions.Leaf.{Leaf}
@@ -20,7 +23,7 @@ use Rattle.query_core.specs.Traces.{first_serving, is_avoided, replica_of}
 use Rattle.query_core.specs.declared.answers.Resolved.{Resolved}
 use Rattle.weave_core.proofs.ServingLemmas.{HasFirst, first_serves}
 use Rattle.weave_core.specs.FirstHistories.{first_histories, first_range_history, openings_from, slot_numbered}
-use Rattle.weave_core.specs.QueryLooks.{first_of, firsts_from, seen_of}
+use Rattle.weave_core.specs.QueryLooks.{with_first_replica, firsts_from, seen_of}
 use Rattle.mon_topo.specs.Sights.{range_sight, sight_of}
 use Rattle.mon_topo.specs.declared.sights.RangeSight.{RangeSight}
 
@@ -30,16 +33,17 @@ none_avoided (replica ∷ replicas) = ap (λ rest. replica ∷ rest) (none_avoid
 
 -- ---- one range more
 
-first_or : (n : ℕ) (found : Option SlotLeaf) (rest : List Resolved) → first_of n found [] ++ rest ≡ first_of n found
+first_or : (n : ℕ) (found : Option SlotLeaf) (rest : List Resolved) → with_first_replica n found [] ++ rest
+    ≡ with_first_replica n found
     rest
 first_or n None rest = refl
 first_or n (Some replica) rest = refl
 
 pub firsts_more : (made : List Resolved) (n : ℕ) (one : RangeSight) (rest : List RangeSight) (all : List Resolved)
     → made ++ firsts_from n (one ∷ rest) ≡ all
-    → (made ++ first_of n one.first []) ++ firsts_from (n + 1) rest ≡ all
+    → (made ++ with_first_replica n one.first []) ++ firsts_from (n + 1) rest ≡ all
 firsts_more made n one rest all e =
-    append_assoc made (first_of n one.first []) (firsts_from (n + 1) rest)
+    append_assoc made (with_first_replica n one.first []) (firsts_from (n + 1) rest)
     ∙ ap (λ some. made ++ some) (first_or n one.first (firsts_from (n + 1) rest)) ∙ e
 
 -- ---- what is told
@@ -51,7 +55,7 @@ ranges_told : (n : ℕ) (some : List (List RangeEntry)) → All HasFirst some
     → map range_of (firsts_from n (map range_sight some)) ≡ map range_numbered (range_with_len n (length some))
 ranges_told n [] all = refl
 ranges_told n (history ∷ some) all =
-    ap (λ o. map range_of (first_of n o (firsts_from (n + 1) (map range_sight some)))) all.0.is
+    ap (λ o. map range_of (with_first_replica n o (firsts_from (n + 1) (map range_sight some)))) all.0.is
     ∙ ap (λ rest. range_numbered n ∷ rest) (ranges_told (n + 1) some all.1)
 
 abbrev IsTold : Histories → Resolved → Type 0
@@ -72,7 +76,7 @@ firsts_told seen n (history ∷ some) all same =
     let rest = firsts_told seen (n + 1) some all.1
     (λ m within. (let next : n + 1 + m ≡ n + suc m = omega arith in
     ap (λ k. range_history seen (range_numbered k)) next ∙ same (suc m) (omega (arith, within)))) in
-    subst (λ o. All (IsTold seen) (first_of n o (firsts_from (n + 1) (map range_sight some)))) (sym all.0.is)
+    subst (λ o. All (IsTold seen) (with_first_replica n o (firsts_from (n + 1) (map range_sight some)))) (sym all.0.is)
     (told, rest)
 
 all_by_place : (P : List RangeEntry → Type 0) (some : List (List RangeEntry))

@@ -10,7 +10,8 @@ use Rattle.mon_schema.specs.SchemaLists.{SchemaLists}
 use Rattle.mon_topo.proofs.RangeHistoryLemmas.{AreApart, IsFrom, IsLegal-push, not_missed, numbered, serving-push}
 use Rattle.mon_topo.specs.HeldHistories.{BeginsWith}
 use Rattle.mon_topo.specs.RangeHistories as spec
-use Rattle.mon_topo.specs.RangeHistories.{IsAckOf, is_missed, same_slot, serving, serving_after, times}
+use Rattle.mon_value.specs.Positions.{same_slot}
+use Rattle.mon_topo.specs.RangeHistories.{IsAckOf, is_missed, serving, serving_after, times}
 use Rattle.mon_topo.specs.declared.zones.ZoneSpec.{ZoneSpec}
 use Rattle.mon_value.specs.declared.histories.Ack.{Ack}
 use Rattle.mon_value.specs.declared.histories.Miss.{Miss}

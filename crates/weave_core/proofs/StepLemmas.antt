@@ -18,7 +18,7 @@ use Rattle.weave_core.specs.declared.calls.Stepped.{Stepped}
 use Rattle.write_core.proofs.KeepsLemmas.{changed_other}
 use Rattle.write_core.specs.Events.{Goes}
 use Rattle.write_core.specs.Program.{Acking, Ended, Entering, Inside, Locking, Reserving, Stage, after}
-use Rattle.write_core.specs.Steps.{CanGo, entered, gone_on_inside, reserved, step, step_at, stepped}
+use Rattle.write_core.specs.Steps.{CanGo, after_entering, gone_on_inside, after_reserving, step, step_at, after_answer}
 use Rattle.write_core.specs.Views.{View}
 use Rattle.write_core.specs.World.{Actor, Recovers, Stands, World, Writer, Writes}
 use Rattle.write_core.specs.declared.asks.WriteTold.{WriteTold}
@@ -27,13 +27,13 @@ use Rattle.write_core.specs.declared.marks.Mark.{Mark}
 -- ---- other actors of the world
 
 module _ (setting : Store) (world : World) (i j : ℕ) (apart : j ≢ i) where
-  at_reserve : (who : Writer) (left : List Mark) (next : Stage) → (reserved world i who left next).actors j
+  at_reserve : (who : Writer) (left : List Mark) (next : Stage) → (after_reserving world i who left next).actors j
       ≡ world.actors j
   at_reserve who [] next = refl
   at_reserve who (mark ∷ left) next = changed_other world.actors i j _ apart
 
   at_enter : (who : Writer) (left : List Mark) (answer : WriteTold) (next : Stage)
-      → (entered world i who left answer next).actors j ≡ world.actors j
+      → (after_entering world i who left answer next).actors j ≡ world.actors j
   at_enter who [] answer next = refl
   at_enter who (mark ∷ left) answer next = changed_other world.actors i j _ apart
 
@@ -54,7 +54,8 @@ module _ (setting : Store) (world : World) (i j : ℕ) (apart : j ≢ i) where
   at_stage who (Acking verdict) answer = changed_other world.actors i j _ apart
   at_stage who (Ended verdict) answer = refl
 
-  by_actor : (actor : Actor) (answer : WriteTold) → (stepped setting world i actor answer).actors j ≡ world.actors j
+  by_actor : (actor : Actor) (answer : WriteTold) → (after_answer setting world i actor answer).actors j
+      ≡ world.actors j
   by_actor (Writes who) answer = at_stage who who.stage answer
   by_actor (Recovers recovery) answer = refl
   by_actor (Stands stander) answer = refl

@@ -12,7 +12,7 @@ use Rattle.weave_core.specs.ActorAgreements.{Agrees, AreActors, actor_numbered}
 use Rattle.weave_core.specs.ActorSteps.{ActorSteps, HadEnded, HasStepped, IsIn, IsSomewhere}
 use Rattle.weave_core.specs.Agreements.{AreShared}
 use Rattle.weave_core.specs.States.{State, store_of}
-use Rattle.weave_core.specs.WeaveCalls.{IsKept, IsKeptUnless, IsRefusedSo, IsStepped, StepsSo}
+use Rattle.weave_core.specs.WeaveCalls.{IsWeaveKept, IsKeptUnless, IsRefusedSo, IsStepped, StepsSo}
 use Rattle.weave_core.specs.declared.actors.Actor.{Actor}
 use Rattle.weave_core.specs.declared.calls.Stepped.{Stepped}
 use Rattle.weave_core.specs.declared.calls.WeaveFault.{WeaveFault}
@@ -74,7 +74,7 @@ module _ (old : Weave) (i : ℕ) (is : None ≡ actor_numbered old.actors.items 
       (subst (λ (one : Store). AreShared config state.core.world one) (sym store) agrees.shared)
       (items ∙ nobody_out old.actors.items i is)
 
-  pub nobody_kept : IsKept old → IsKept new
+  pub nobody_kept : IsWeaveKept old → IsWeaveKept new
   nobody_kept kept = record {
     config = kept.config;
     state = kept.state;
@@ -94,7 +94,7 @@ module _ (old : Weave) (i : ℕ) (own : Actor) (is : Some own ≡ actor_numbered
   pub in_place : i < length old.actors.items
   in_place = numbered_there old.actors.items i own (sym is)
 
-  pub is_somewhere : IsKept old → IsSomewhere old.store own
+  pub is_somewhere : IsWeaveKept old → IsSomewhere old.store own
   is_somewhere kept = record {
     config = kept.config;
     state = kept.state;
@@ -131,12 +131,12 @@ module _ (old : Weave) (i : ℕ) (own : Actor) (is : Some own ≡ actor_numbered
                 ∙ put_back old.actors.items i own is);
           }
 
-    pub steps_kept : IsKept old → (how : Stepped) → outcome ≡ Some how → IsKept new
+    pub steps_kept : IsWeaveKept old → (how : Stepped) → outcome ≡ Some how → IsWeaveKept new
     steps_kept kept how e =
         let h : StepsSo kept.config kept.state i how new = steps_so kept.config kept.state kept.agrees how e in
         record { config = kept.config; state = h.after; agrees = h.agrees }
 
-    pub ended_kept : IsKept old → outcome ≡ None → IsKept new
+    pub ended_kept : IsWeaveKept old → outcome ≡ None → IsWeaveKept new
     ended_kept kept e =
         let h : IsRefusedSo kept.config kept.state i fault.Finished new = ended_so kept.config kept.state kept.agrees
         e in
@@ -157,11 +157,11 @@ module _ (old : Weave) (i : ℕ) (own : Actor) (is : Some own ≡ actor_numbered
               (sym answered)
               (stepped_by outcome refl)
 
-        kept_by : IsKept old → (what : Option Stepped) → outcome ≡ what
+        kept_by : IsWeaveKept old → (what : Option Stepped) → outcome ≡ what
             → IsKeptUnless (ok_or what (refusal.Fault fault.Finished)) new
         kept_by kept (Some how) e = steps_kept kept how e
         kept_by kept None e = ended_kept kept e
 
-        pub is_kept : IsKept old → IsKeptUnless answer new
+        pub is_kept : IsWeaveKept old → IsKeptUnless answer new
         is_kept kept = subst (λ (a : Result Stepped (Refusal WeaveFault)). IsKeptUnless a new) (sym answered)
             (kept_by kept outcome refl)

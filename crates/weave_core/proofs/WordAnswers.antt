@@ -6,7 +6,8 @@ use Rattle.mon_config.specs.declared.config.Config.{Config}
 use Rattle.mon_hints.specs.Words.{has_bit}
 use Rattle.mon_topo.proofs.PartLemmas.{length-zones_of}
 use Rattle.mon_topo.specs.Settings.{zone_of_leaf}
-use Rattle.mon_topo.specs.Zones.{first_leaf, leaf_zones, zone_numbered}
+use Rattle.mon_value.specs.Positions.{zone_numbered}
+use Rattle.mon_topo.specs.Zones.{first_leaf, leaf_zones}
 use Rattle.mon_topo.specs.declared.zones.ZoneSpec.{ZoneSpec}
 use Rattle.mon_value.specs.declared.positions.Leaf.{Leaf}
 use Rattle.mon_value.specs.declared.positions.Zone.{Zone}
@@ -19,7 +20,7 @@ use Rattle.query_core.specs.declared.stages.Stage.TheVariants as at
 use Rattle.weave_core.proofs.PlaceLemmas.{zone_word_there}
 use Rattle.weave_core.proofs.PlanBuckets.{next_below}
 use Rattle.weave_core.specs.Core.{Core}
-use Rattle.weave_core.specs.HintWords.{HasWord, word_at}
+use Rattle.weave_core.specs.HintWords.{HasWord, hint_word_at}
 use Rattle.weave_core.specs.QueryLooks.{word_told}
 use Rattle.weave_core.specs.QueryTurns.{IsAnswered, IsAsking}
 use Rattle.weave_core.specs.States.{store_of}
@@ -77,9 +78,10 @@ module _ (config : Config) (core : Core (store_of config)) (k : ℕ) (store : St
     root_bucket =
         root_below asked config.buckets asking.shared.served.limited.some next_bucket querying.machine.stage bucket e
 
-    pub root_answered : IsAnswered config core k store sight (word_told (word_at store.words word.Root bucket) sight)
+    pub root_answered : IsAnswered config core k store sight
+        (word_told (hint_word_at store.words word.Root bucket) sight)
     root_answered = answered config core k store querying sight asking (ask.LoadRoot bucket) e store sight
-        (word_told (word_at store.words word.Root bucket) sight) (record {
+        (word_told (hint_word_at store.words word.Root bucket) sight) (record {
           told = (
             record { bits = λ zone. asking.shared.words.root zone bucket root_bucket },
             seen_here config core k store querying sight asking,
@@ -100,12 +102,13 @@ module _ (config : Config) (core : Core (store_of config)) (k : ℕ) (store : St
         (there_at config core k store querying sight asking (ask.LoadZone zone bucket) e)
 
     zone_bits : (leaf : Leaf) → slice_get (leaf_zones config.topology) leaf.0 ≡ Some zone
-        → has_bit (word_at store.words (word.Zone zone) bucket) (leaf.0 - first_leaf config.topology zone.0)
+        → has_bit (hint_word_at store.words (word.Zone zone) bucket) (leaf.0 - first_leaf config.topology zone.0)
         ≡ world.truth.bits.zone leaf.0 bucket
     zone_bits leaf at_zone =
         let same : zone_of_leaf (store_of config) leaf ≡ zone =
         get_or_from_slice_get (leaf_zones config.topology) leaf.0 zone (zone_numbered 0) at_zone in
-        ap (λ (one : Zone). has_bit (word_at store.words (word.Zone one) bucket) (leaf.0 - first_leaf config.topology
+        ap (λ (one : Zone). has_bit (hint_word_at store.words (word.Zone one) bucket)
+        (leaf.0 - first_leaf config.topology
         one.0))
         (sym same)
         ∙ asking.shared.words.zone leaf bucket
@@ -116,11 +119,12 @@ module _ (config : Config) (core : Core (store_of config)) (k : ℕ) (store : St
         ))
         zone_bucket
 
-    pub zone_answered : IsAnswered config core k store sight (word_told (word_at store.words (word.Zone zone) bucket)
+    pub zone_answered : IsAnswered config core k store sight
+        (word_told (hint_word_at store.words (word.Zone zone) bucket)
         sight)
     zone_answered =
         answered config core k store querying sight asking (ask.LoadZone zone bucket) e store sight
-        (word_told (word_at store.words (word.Zone zone) bucket) sight) (record {
+        (word_told (hint_word_at store.words (word.Zone zone) bucket) sight) (record {
           told = (record { bits = zone_bits }, seen_here config core k store querying sight asking);
           shared = asking.shared;
           sight_is = asking.reader.seen;

@@ -8,8 +8,10 @@ use Rattle.std.proofs.lemmas.List.{get_or-set_same, get_or-set_other}
 use Rattle.std.proofs.Math.Nat.{add-mul, mul-le-mul_right}
 use Rattle.std.proofs.lemmas.Nat.Bits.{bit_at_set_same, bit_at_set_other}
 use Rattle.mon_hints.specs.Words.{has_bit}
-use Rattle.weave_core.specs.HintWords.{HasWord, HintTable, RaisesOne, bit_of, index_of, raised, same_place, table_of}
-use Rattle.weave_core.specs.HintWords.{with_raised, word_at}
+use Rattle.weave_core.specs.HintWords.{HasWord, HintTable, RaisesOne, bit_of, index_of, with_child_bit}
+use Rattle.weave_core.specs.HintWords.{same_word_place}
+use Rattle.weave_core.specs.HintWords.{table_number}
+use Rattle.weave_core.specs.HintWords.{with_raised, hint_word_at}
 use Rattle.weave_core.specs.declared.words.Place.{Place}
 
 -- ---- places of words
@@ -40,10 +42,11 @@ module _ (hints : HintTable) (place : Place) (child bucket : ℕ) (small : child
     (there : HasWord hints place bucket)
     (other : Place) (b c : ℕ) (within : b < hints.buckets) where
   abbrev new : ℕ
-  new = bit_or (word_at hints place bucket) (bit_of child)
+  new = bit_or (hint_word_at hints place bucket) (bit_of child)
 
   abbrev Wanted : Type 0
-  Wanted = has_bit (word_at (raised hints place child bucket) other b) c ≡ with_raised hints place child bucket other b
+  Wanted = has_bit (hint_word_at (with_child_bit hints place child bucket) other b) c
+      ≡ with_raised hints place child bucket other b
       c
 
   not_this : (t : Bool) → (t ≡ true → ⊥) → t ≡ false
@@ -61,25 +64,25 @@ module _ (hints : HintTable) (place : Place) (child bucket : ℕ) (small : child
   -- another word
   elsewhere : (index_of hints other b ≡ index_of hints place bucket → ⊥) → Wanted
   elsewhere differ =
-      let apart : (same_place other place && nat_eq b bucket) ≡ false
-      = not_this (same_place other place && nat_eq b bucket) (λ e.
-      let parts = both_true (same_place other place) (nat_eq b bucket) e in
-      differ (ap (λ t. t * hints.buckets + b) (is_same (table_of other) (table_of place) parts.0)
-      ∙ ap (λ x. table_of place * hints.buckets + x) (is_same b bucket parts.1))) in
+      let apart : (same_word_place other place && nat_eq b bucket) ≡ false
+      = not_this (same_word_place other place && nat_eq b bucket) (λ e.
+      let parts = both_true (same_word_place other place) (nat_eq b bucket) e in
+      differ (ap (λ t. t * hints.buckets + b) (is_same (table_number other) (table_number place) parts.0)
+      ∙ ap (λ x. table_number place * hints.buckets + x) (is_same b bucket parts.1))) in
       ap (λ read. has_bit read c)
       (get_or-set_other hints.words (index_of hints place bucket) (index_of hints other b) new 0 differ)
-      ∙ sym (ap (λ found. (found && nat_eq c child) || has_bit (word_at hints other b) c) apart)
+      ∙ sym (ap (λ found. (found && nat_eq c child) || has_bit (hint_word_at hints other b) c) apart)
 
   module _ (same : index_of hints other b ≡ index_of hints place bucket) where
-    tables : table_of other ≡ table_of place
-    tables = same_table (table_of other) (table_of place) hints.buckets b bucket within there.bucket_there same
+    tables : table_number other ≡ table_number place
+    tables = same_table (table_number other) (table_number place) hints.buckets b bucket within there.bucket_there same
 
     buckets : b ≡ bucket
-    buckets = same_bucket (table_of other) (table_of place) hints.buckets b bucket tables same
+    buckets = same_bucket (table_number other) (table_number place) hints.buckets b bucket tables same
 
-    this_word : (same_place other place && nat_eq b bucket) ≡ true
+    this_word : (same_word_place other place && nat_eq b bucket) ≡ true
     this_word =
-        ap (λ found. found && nat_eq b bucket) (eq-eqb (table_of other) (table_of place) tables)
+        ap (λ found. found && nat_eq b bucket) (eq-eqb (table_number other) (table_number place) tables)
         ∙ eq-eqb b bucket buckets
 
     read_back : get_or (set hints.words (index_of hints place bucket) new) (index_of hints other b) 0 ≡ new
@@ -91,19 +94,19 @@ module _ (hints : HintTable) (place : Place) (child bucket : ℕ) (small : child
     beside : (c ≡ child → ⊥) → Wanted
     beside differ =
         ap (λ read. has_bit read c) read_back
-        ∙ ap (λ bit. bit == 1) (bit_at_set_other w64 (word_at hints place bucket) child small c differ)
+        ∙ ap (λ bit. bit == 1) (bit_at_set_other w64 (hint_word_at hints place bucket) child small c differ)
         ∙ ap (λ i. has_bit (get_or hints.words i 0) c) (sym same)
-        ∙ sym (ap (λ found. (found && nat_eq c child) || has_bit (word_at hints other b) c) this_word
-        ∙ ap (λ found. found || has_bit (word_at hints other b) c) (ne_eqb c child differ))
+        ∙ sym (ap (λ found. (found && nat_eq c child) || has_bit (hint_word_at hints other b) c) this_word
+        ∙ ap (λ found. found || has_bit (hint_word_at hints other b) c) (ne_eqb c child differ))
 
     -- the bit
     here : c ≡ child → Wanted
     here e =
         ap (λ read. has_bit read c) read_back
         ∙ ap (λ k. has_bit new k) e
-        ∙ ap (λ bit. bit == 1) (bit_at_set_same w64 (word_at hints place bucket) child small)
-        ∙ sym (ap (λ found. (found && nat_eq c child) || has_bit (word_at hints other b) c) this_word
-        ∙ ap (λ found. found || has_bit (word_at hints other b) c) (eq-eqb c child e))
+        ∙ ap (λ bit. bit == 1) (bit_at_set_same w64 (hint_word_at hints place bucket) child small)
+        ∙ sym (ap (λ found. (found && nat_eq c child) || has_bit (hint_word_at hints other b) c) this_word
+        ∙ ap (λ found. found || has_bit (hint_word_at hints other b) c) (eq-eqb c child e))
 
   raised_so : Wanted
   raised_so = elim (cases_eq (index_of hints other b) (index_of hints place bucket)) [

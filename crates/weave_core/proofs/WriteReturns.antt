@@ -4,9 +4,9 @@ use Rattle.std.proofs.Common.{refl, sym, ap, subst, ◌∙◌}
 use Rattle.std.specs.Prelude.{IfSome, slice_get}
 use Rattle.std.proofs.lemmas.Option.{same_Some, slice_get_read}
 use Rattle.mon_config.specs.declared.config.Config.{Config}
-use Rattle.mon_hints.specs.declared.fingerprints.TheConstants.{MOST_BUCKETS}
+use Rattle.mon_value.specs.declared.limits.TheConstants.{MOST_BUCKETS}
 use Rattle.mon_topo.specs.Settings.{zone_of_leaf}
-use Rattle.mon_topo.specs.RangeHistories.{acked}
+use Rattle.mon_topo.specs.RangeHistories.{acknowledged_rows}
 use Rattle.mon_value.specs.LeafHistories.{IsWellFormed}
 use Rattle.mon_value.specs.Sources.{last_end, points_of}
 use Rattle.mon_value.specs.declared.histories.Entry.TheVariants as entry
@@ -181,7 +181,7 @@ module _ (config : Config) (world : World) (i : ℕ) (store : Store) (writing : 
   pub later_so : ask_of writing.machine.stage ≡ ask.Ack → (range : Range) (stage : Stage) (end : WriteEnd)
       → range ≡ writing.machine.range → stage ≡ after writing.machine.stage told.Done → EndsSo range stage end
       → (seat : RangeSeat) → slice_get store.ranges.items writing.range.0 ≡ Some seat
-      → IfWritten end (IfSome (last_end (points_of writing.row.key (acked seat.state)))
+      → IfWritten end (IfSome (last_end (points_of writing.row.key (acknowledged_rows seat.state)))
       (λ last. last <ℤ writing.row.point.end))
   later_so e range stage end ranges stages ends seat got =
       let at : (verdict : Verdict) × (writing.machine.stage ≡ Acking verdict) = at_ask ask.Ack e in
@@ -372,7 +372,7 @@ module _ (store : Store) (writing : Writing) (sight : Sight) (some : IsInSomeWor
   pub acking_later : ask_of writing.machine.stage ≡ ask.Ack → (range : Range) (stage : Stage) (end : WriteEnd)
       → range ≡ writing.machine.range → stage ≡ after writing.machine.stage told.Done → EndsSo range stage end
       → (seat : RangeSeat) → slice_get store.ranges.items writing.range.0 ≡ Some seat
-      → IfWritten end (IfSome (last_end (points_of writing.row.key (acked seat.state)))
+      → IfWritten end (IfSome (last_end (points_of writing.row.key (acknowledged_rows seat.state)))
       (λ last. last <ℤ writing.row.point.end))
   acking_later = later_so some.config some.world some.i store writing sight some.at_work
 

@@ -9,7 +9,7 @@ use Rattle.mon_value.specs.declared.positions.Range.{Range}
 use Rattle.weave_core.specs.ActorAgreements.{IsActorSo, IsCourseSo, IsWriting}
 use Rattle.weave_core.specs.ActorSteps.{ActorSteps, IsIn, WrittenSo}
 use Rattle.weave_core.specs.Core.{Happens}
-use Rattle.weave_core.specs.EndTexts.{write_text}
+use Rattle.weave_core.specs.EndTexts.{write_end_text}
 use Rattle.weave_core.specs.EventNames.{event_of_write}
 use Rattle.weave_core.specs.States.{Asking, Dismissed, Eventless, Role, State, Undeclared, Writing, fault_in}
 use Rattle.weave_core.specs.States.{holder_in, is_past_lock, step_fault, store_of, write_asks, writes_begun}
@@ -31,7 +31,7 @@ use Rattle.write_core.specs.Program.{Acking, Ended, Entering, Inside, Locking, M
 use Rattle.write_core.specs.Program.{end_of_verdict, entering, reserving}
 use Rattle.write_core.specs.Program as write
 use Rattle.write_core.specs.Marks.{waiting}
-use Rattle.write_core.specs.Rounds.{Round, again, is_through, looked, marks_of, round_of, skipped}
+use Rattle.write_core.specs.Rounds.{Round, again, is_through, after_look, marks_of, round_of, after_skip}
 use Rattle.write_core.specs.Steps.{CanComeAt, CanGo}
 use Rattle.write_core.specs.World.{Actor as Doer, World, Writer, view_of}
 use Rattle.write_core.specs.declared.asks.WriteAsk.{WriteAsk}
@@ -48,7 +48,7 @@ past_entering_by true round = refl
 past_entering_by false round = refl
 
 past_entering : (round : Round) → is_past_lock (entering round) ≡ true
-past_entering round = past_entering_by (is_through (skipped round)) (skipped round)
+past_entering round = past_entering_by (is_through (after_skip round)) (after_skip round)
 
 past_reserving_by : (b : Bool) (round : Round) → is_past_lock (cond b (entering (again round)) (Reserving round)) ≡ true
 past_reserving_by true round = past_entering (again round)
@@ -60,7 +60,7 @@ past_reserving round = past_reserving_by (is_through round) round
 past_done : (round : Round) (at_root in_zone : List ℕ) → is_past_lock (write.done_inside round at_root in_zone) ≡ true
 past_done round (bucket ∷ at_root) in_zone = refl
 past_done round [] (bucket ∷ in_zone) = refl
-past_done round [] [] = past_entering (looked round fate.Took)
+past_done round [] [] = past_entering (after_look round fate.Took)
 
 -- once an event came, it is behind the lock
 past_after : (setting : Setting) (world : World) (who : Writer) (stage : Stage) (answer : WriteTold)
@@ -74,14 +74,14 @@ past_after setting world who Locking told.Done can = absurd can.1
 past_after setting world who (Reserving round) (told.Slots replicas) can = refl
 past_after setting world who (Reserving round) (told.Old last) can = refl
 past_after setting world who (Reserving round) (told.Full count) can = refl
-past_after setting world who (Reserving round) (told.Up buckets) can = past_reserving (looked round fate.Ready)
-past_after setting world who (Reserving round) (told.Down cut) can = past_reserving (looked round (fate.Missed cut))
+past_after setting world who (Reserving round) (told.Up buckets) can = past_reserving (after_look round fate.Ready)
+past_after setting world who (Reserving round) (told.Down cut) can = past_reserving (after_look round (fate.Missed cut))
 past_after setting world who (Reserving round) told.Done can = refl
 past_after setting world who (Entering round) (told.Slots replicas) can = refl
 past_after setting world who (Entering round) (told.Old last) can = refl
 past_after setting world who (Entering round) (told.Full count) can = refl
 past_after setting world who (Entering round) (told.Up buckets) can = refl
-past_after setting world who (Entering round) (told.Down cut) can = past_entering (looked round (fate.Missed cut))
+past_after setting world who (Entering round) (told.Down cut) can = past_entering (after_look round (fate.Missed cut))
 past_after setting world who (Entering round) told.Done can = refl
 past_after setting world who (Inside round at_root in_zone) (told.Slots replicas) can = refl
 past_after setting world who (Inside round at_root in_zone) (told.Old last) can = refl
@@ -227,12 +227,12 @@ module _ (config : Config) (state : State (store_of config)) (i : ℕ) (store : 
         fault = no_fault;
         after = then' ended.answer;
         steps = subst (λ (role : Role). StepsIn (store_of config) role state i
-            (stepped.Ended (write_text zones range last))
+            (stepped.Ended (write_end_text zones range last))
             (then' ended.answer)) (sym role_is)
             (inr (record {
               answer = ended.answer;
               can = ended.came.can;
-              went = (λ k. stepped.Ended (write_text (same k) (ended.range_is k) ((ended.end_is ∙ ap (λ (r : Range).
+              went = (λ k. stepped.Ended (write_end_text (same k) (ended.range_is k) ((ended.end_is ∙ ap (λ (r : Range).
                   end_of_verdict r ended.verdict) ended.range_is) k)))
                   ∙ sym (ap (write_stepped config.topology) ended.writer);
               becomes = refl;

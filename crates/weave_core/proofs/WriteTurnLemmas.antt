@@ -15,7 +15,7 @@ use Rattle.mon_topo.specs.declared.sights.Sight.{Sight}
 use Rattle.weave_core.specs.declared.store.Store.{Store}
 use Rattle.weave_core.specs.declared.writes.Writing.{Writing}
 use Rattle.write_core.specs.Program.{Stage, after, ask_of}
-use Rattle.write_core.specs.Steps.{CanCome, CanComeAt, step, step_at, stepped, CanGo}
+use Rattle.write_core.specs.Steps.{CanCome, CanComeAt, step, step_at, after_answer, CanGo}
 use Rattle.write_core.specs.Views.{View}
 use Rattle.write_core.specs.World.{Actor, World, Writer, Writes, view_of, writes_on}
 use Rattle.write_core.specs.declared.asks.WriteAsk.TheVariants as ask
@@ -36,7 +36,7 @@ module _ (config : Config) (world : World) (i : ℕ) (store : Store) (writing : 
   pub step_is : (stage : Stage) (answer : WriteTold) → writing.machine.stage ≡ stage
       → step (store_of config) world i answer ≡ step_at (store_of config) world i who stage answer
   step_is stage answer e =
-      ap (λ (actor : Actor). stepped (store_of config) world i actor answer) work.writer.writer
+      ap (λ (actor : Actor). after_answer (store_of config) world i actor answer) work.writer.writer
       ∙ ap (λ (s : Stage). step_at (store_of config) world i who s answer) e
 
   pub can_come : (stage : Stage) (answer : WriteTold) → writing.machine.stage ≡ stage

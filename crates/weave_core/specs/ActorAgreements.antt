@@ -15,7 +15,8 @@ use Rattle.weave_core.specs.Holders.{AreHolders}
 use Rattle.weave_core.specs.Licensed.{IsWoven}
 use Rattle.weave_core.specs.PlannedQueries.{IsPlanned}
 use Rattle.mon_topo.specs.Sights.{sight_of}
-use Rattle.weave_core.specs.States.{Asking, Dismissed, Eventless, Role, State, Undeclared, Writing, is_any, store_of}
+use Rattle.mon_value.specs.Parts.{is_any}
+use Rattle.weave_core.specs.States.{Asking, Dismissed, Eventless, Role, State, Undeclared, Writing, store_of}
 use Rattle.weave_core.specs.States.{write_asks, writes_begun}
 use Rattle.weave_core.specs.Writers.{IsWriterSo}
 use Rattle.weave_core.specs.declared.actors.Actor.{Actor}

@@ -4,7 +4,7 @@ use Rattle.mon_config.specs.declared.config.Config.{Config}
 use Rattle.mon_topo.specs.declared.zones.ZoneSpec.{ZoneSpec}
 use Rattle.weave_core.specs.ActorAgreements.{IsActorSo}
 use Rattle.weave_core.specs.Agreements.{AreShared}
-use Rattle.weave_core.specs.EndTexts.{query_text, write_text}
+use Rattle.weave_core.specs.EndTexts.{query_text, write_end_text}
 use Rattle.weave_core.specs.Holders.{AreHolders}
 use Rattle.weave_core.specs.Licensed.{IsWoven}
 use Rattle.weave_core.specs.States.{State, step_fault, store_of}
@@ -30,7 +30,7 @@ WrittenSo zones (write_turn.Waits writing) sight begun own how =
     (own ≡ record { course = course.Writes writing; sight = sight; begun = begun }) × (how ≡ Some stepped.Waits)
 WrittenSo zones (write_turn.Ended range end) sight begun own how =
     (own ≡ record { course = course.Ended; sight = sight; begun = true })
-    × (how ≡ Some (stepped.Ended (write_text zones range end)))
+    × (how ≡ Some (stepped.Ended (write_end_text zones range end)))
 
 abbrev pub QueriedSo : List ZoneSpec → QueryTurn → Sight → Bool → Actor → Option Stepped → Type 0
 QueriedSo zones (query_turn.Went querying) sight begun own how =

@@ -1,19 +1,18 @@
 -- What a store keeps of all that actors share: each leaf, each range and each hint word as the core has it.
-use Rattle.std.specs.Prelude.{ℕ, ◌≡◌, ◌+◌, ◌*◌, ◌-◌, ◌<◌, ◌≤◌, ◌^◌, false, List, length, slice_get, Some}
+use Rattle.std.specs.Prelude.{ℕ, ◌≡◌, ◌+◌, ◌*◌, ◌-◌, ◌<◌, false, List, length, slice_get, Some}
 use Rattle.mon_config.specs.declared.config.Config.{Config}
 use Rattle.mon_hints.specs.Covers.{Bits}
 use Rattle.mon_hints.specs.Words.{has_bit}
-use Rattle.mon_hints.specs.declared.fingerprints.TheConstants.{MOST_BUCKETS}
-use Rattle.mon_schema.specs.HeldMetrics.{AreHeld}
+use Rattle.mon_schema.specs.HeldMetrics.{AreMetricsHeld}
 use Rattle.mon_schema.specs.HeldTargets.{AllTellLocations}
-use Rattle.mon_topo.specs.Faults.{IsLawful}
+use Rattle.mon_topo.specs.Faults.{AreLawfulZones}
 use Rattle.mon_topo.specs.Replicas.{HasReplicas}
 use Rattle.mon_topo.specs.Settings.{Setting, zone_of_leaf}
-use Rattle.mon_topo.specs.Zones.{first_leaf, leaf_numbered, leaves_in, range_numbered, ranges_in}
-use Rattle.mon_value.specs.declared.limits.TheConstants.{ROW_BITS}
+use Rattle.mon_value.specs.Positions.{leaf_numbered, range_numbered}
+use Rattle.mon_topo.specs.Zones.{first_leaf, leaves_in, ranges_in}
 use Rattle.mon_value.specs.declared.positions.Leaf.{Leaf}
 use Rattle.weave_core.specs.FirstHistories.{first_histories}
-use Rattle.weave_core.specs.HintWords.{HintTable, word_at}
+use Rattle.weave_core.specs.HintWords.{HintTable, hint_word_at}
 use Rattle.mon_topo.specs.Sights.{sight_of}
 use Rattle.weave_core.specs.States.{store_of}
 use Rattle.weave_core.specs.declared.leaves.LeafSeat.{LeafSeat}
@@ -22,14 +21,9 @@ use Rattle.weave_core.specs.declared.store.Store.{Store}
 use Rattle.weave_core.specs.declared.words.Place.TheVariants as at
 use Rattle.write_core.specs.Views.{View, of_leaf, of_range}
 use Rattle.write_core.specs.World.{World}
+use Rattle.mon_config.specs.Configs.{IsLimited}
 
 -- ---- what a store is set up with
-
--- the numbers of a configuration are such as a store can have
-pub record IsLimited (config : Config) : Type 0 where
-  pub limit : config.limit ≤ 2 ^ ROW_BITS
-  pub some : 0 < config.buckets
-  pub most : config.buckets ≤ MOST_BUCKETS
 
 -- what everyone has seen and knows at first: the first replicas of each range, and no bit
 abbrev pub no_bits : Bits
@@ -74,9 +68,9 @@ pub record AreWords (config : Config) (world : World) (words : HintTable) : Type
   pub buckets : words.buckets ≡ config.buckets
   pub count : length words.words ≡ (length config.topology + 1) * config.buckets
   pub root : (zone bucket : ℕ) → bucket < config.buckets
-      → has_bit (word_at words at.Root bucket) zone ≡ world.truth.bits.root zone bucket
+      → has_bit (hint_word_at words at.Root bucket) zone ≡ world.truth.bits.root zone bucket
   pub zone : (leaf : Leaf) (bucket : ℕ) → leaf.0 < length (leaves_in config.topology) → bucket < config.buckets
-      → has_bit (word_at words (at.Zone (zone_of_leaf (store_of config) leaf)) bucket)
+      → has_bit (hint_word_at words (at.Zone (zone_of_leaf (store_of config) leaf)) bucket)
       (place_of_leaf (store_of config) leaf)
       ≡ world.truth.bits.zone leaf.0 bucket
 
@@ -85,10 +79,10 @@ pub record AreWords (config : Config) (world : World) (words : HintTable) : Type
 -- what is known of a configuration: its zones are lawful and have their replicas, and its schemas are held
 pub record IsServed (config : Config) : Type 0 where
   pub limited : IsLimited config
-  pub lawful : IsLawful config.topology
+  pub lawful : AreLawfulZones config.topology
   pub replicas : (range : ℕ) → range < length (ranges_in config.topology)
       → HasReplicas config.topology (range_numbered range)
-  pub metrics : AreHeld config.schemas.metrics
+  pub metrics : AreMetricsHeld config.schemas.metrics
   pub targets : AllTellLocations config.schemas.targets
 
 -- a store of a configuration has what actors share in a world

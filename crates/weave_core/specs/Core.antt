@@ -7,7 +7,8 @@ use Rattle.mon_hints.specs.Words.{has_bit}
 use Rattle.mon_meaning.specs.LeafAnswers.{IsLeafPart, IsOverLeaf}
 use Rattle.mon_topo.specs.Settings.{zone_of_leaf}
 use Rattle.mon_topo.specs.Settings.{Setting as Store}
-use Rattle.mon_topo.specs.Zones.{first_leaf, leaf_numbered, leaf_zones}
+use Rattle.mon_value.specs.Positions.{leaf_numbered}
+use Rattle.mon_topo.specs.Zones.{first_leaf, leaf_zones}
 use Rattle.mon_value.specs.LeafHistories.{is_down}
 use Rattle.mon_value.specs.declared.positions.Leaf.{Leaf}
 use Rattle.mon_value.specs.declared.positions.RangeSlot.{RangeSlot}
@@ -15,7 +16,7 @@ use Rattle.mon_value.specs.declared.positions.Zone.{Zone}
 use Rattle.mon_value.specs.declared.rows.Row.{Row}
 use Rattle.query_core.specs.Machine.{Query, slots_at}
 use Rattle.query_core.specs.Mixtures.{Settles, typed_of}
-use Rattle.query_core.specs.Openings.{is_met}
+use Rattle.query_core.specs.Openings.{is_plan_met}
 use Rattle.query_core.specs.Program.{after, ask_of}
 use Rattle.query_core.specs.Sessions as session
 use Rattle.query_core.specs.Sessions.{IsSeenSo, query_after}
@@ -26,9 +27,9 @@ use Rattle.query_core.specs.declared.asks.Ask.TheVariants as ask
 use Rattle.query_core.specs.declared.asks.Told.{Told}
 use Rattle.query_core.specs.declared.asks.Told.TheVariants as told
 use Rattle.query_core.specs.declared.stages.Stage.{Stage}
-use Rattle.write_core.specs.Events.{CanHappen, Event, happened, resolved, visited}
-use Rattle.write_core.specs.Views.{View, joined, of_leaf, of_range}
-use Rattle.write_core.specs.World.{IsPart, World, changed}
+use Rattle.write_core.specs.Events.{CanHappen, Event, after_event, after_resolving, after_visit}
+use Rattle.write_core.specs.Views.{View, joined_view, of_leaf, of_range}
+use Rattle.write_core.specs.World.{IsPart, World, with_value_at}
 
 -- a view, as a query's session speaks of it
 abbrev pub seen_by : View → session.View
@@ -54,7 +55,7 @@ pub record IsLookedAt (world : World) (leaf : Leaf) (cut : ℕ) (down : Bool) : 
 module _ (store : Store) (setting : Setting) (moment : ℤ) (world : World) (view : View) where
   -- whether a formula of the query's plan holds of a leaf's buckets
   abbrev pub is_met_on : Leaf → Bool
-  is_met_on leaf = is_met setting.plan (history_buckets store.buckets_of (of_leaf world.truth leaf))
+  is_met_on leaf = is_plan_met setting.plan (history_buckets store.buckets_of (of_leaf world.truth leaf))
 
   -- the rows of slots of a leaf
   abbrev pub rows_on : Leaf → List RangeSlot → List Row
@@ -107,16 +108,16 @@ module _ (store : Store) (setting : Setting) (moment : ℤ) (world : World) (vie
   abbrev pub view_then : Ask → View
   view_then (ask.LoadRoot bucket) = with_bits (root_word_bits bucket)
   view_then (ask.LoadZone zone bucket) = with_bits (zone_word_bits zone bucket)
-  view_then (ask.Resolve range) = joined view (world.ranges range.0)
-  view_then (ask.Visit leaf) = joined view (world.leaves leaf.0)
+  view_then (ask.Resolve range) = joined_view view (world.ranges range.0)
+  view_then (ask.Visit leaf) = joined_view view (world.leaves leaf.0)
   view_then ask.Finished = view
 
   -- and there as much is seen and known
   abbrev pub world_then : Ask → World
   world_then (ask.LoadRoot bucket) = world
   world_then (ask.LoadZone zone bucket) = world
-  world_then (ask.Resolve range) = resolved world range view
-  world_then (ask.Visit leaf) = visited world leaf view
+  world_then (ask.Resolve range) = after_resolving world range view
+  world_then (ask.Visit leaf) = after_visit world leaf view
   world_then ask.Finished = world
 
 -- ---- queries side by side with writes and recoveries
@@ -192,15 +193,15 @@ module _ (store : Store) where
   world_told world reader = world_then store reader.setting reader.moment world reader.view (asked_now reader)
 
   abbrev pub came : Core → CoreEvent → Core
-  came core (Happens event) = record { world = happened store core.world event; readers = core.readers }
+  came core (Happens event) = record { world = after_event store core.world event; readers = core.readers }
   came core (Tells i answer stage) = record {
     world = world_told core.world (core.readers i);
-    readers = changed core.readers i
+    readers = with_value_at core.readers i
         (told_on (core.readers i) answer (view_told core.world (core.readers i)) stage);
   }
   came core (Hears i view) = record {
     world = core.world;
-    readers = changed core.readers i (begun_with (core.readers i) (joined (core.readers i).view view));
+    readers = with_value_at core.readers i (begun_with (core.readers i) (joined_view (core.readers i).view view));
   }
 
   -- any events in any order

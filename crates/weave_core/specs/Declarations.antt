@@ -25,7 +25,7 @@ use Rattle.weave_core.specs.declared.calls.Call.{Call}
 use Rattle.weave_core.specs.declared.calls.Call.TheVariants as call
 use Rattle.write_core.specs.Events.{Begins, Learns}
 use Rattle.write_core.specs.Views.{View}
-use Rattle.write_core.specs.World.{changed, view_of}
+use Rattle.write_core.specs.World.{with_value_at, view_of}
 
 -- ---- queries
 
@@ -63,8 +63,8 @@ module _ (store : Store) where
 
   abbrev pub with_reader : State store → ℕ → Reader store → State store
   with_reader state k reader = record {
-    core = record { world = state.core.world; readers = changed state.core.readers k reader };
-    roles = changed state.roles k Asking;
+    core = record { world = state.core.world; readers = with_value_at state.core.readers k reader };
+    roles = with_value_at state.roles k Asking;
   }
 
 module _ (config : Config) where

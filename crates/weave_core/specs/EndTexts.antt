@@ -35,13 +35,13 @@ down_text zones range founds = range_text zones range ++ (codes ":" ++ founds_te
 -- ---- ends
 
 -- how many replicas took the row, and how many missed it; or why the row was not written
-abbrev pub write_text : List ZoneSpec → Range → WriteEnd → List ℕ
-write_text zones range (end.Written ack) =
+abbrev pub write_end_text : List ZoneSpec → Range → WriteEnd → List ℕ
+write_end_text zones range (end.Written ack) =
     codes "written: took "
     ++ (decimal (length ack.took) ++ (codes ", missed " ++ (decimal (length ack.missed) ++ newline)))
-write_text zones range (end.Old last) = codes "refused: OldPoint " ++ (signed_decimal last ++ newline)
-write_text zones range (end.Full limit) = codes "refused: RangeFull " ++ (decimal limit ++ newline)
-write_text zones range (end.Unavailable founds) =
+write_end_text zones range (end.Old last) = codes "refused: OldPoint " ++ (signed_decimal last ++ newline)
+write_end_text zones range (end.Full limit) = codes "refused: RangeFull " ++ (decimal limit ++ newline)
+write_end_text zones range (end.Unavailable founds) =
     codes "refused: Unavailable " ++ (down_text zones range founds ++ newline)
 
 -- a write of a row whose location no zone lists

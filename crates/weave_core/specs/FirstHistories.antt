@@ -8,9 +8,9 @@ use Rattle.mon_value.specs.declared.histories.RangeEntry.TheVariants as range_en
 use Rattle.mon_value.specs.declared.positions.Leaf.{Leaf}
 use Rattle.mon_value.specs.declared.positions.Range.{Range}
 use Rattle.mon_value.specs.declared.positions.Slot.{Slot}
-use Rattle.mon_topo.specs.HeldHistories.{Histories}
-use Rattle.mon_topo.specs.Replicas.{same_leaf}
-use Rattle.mon_topo.specs.Zones.{first_replicas, leaf_numbered, leaves_in, range_numbered, ranges_in}
+use Rattle.mon_value.specs.declared.histories.Histories.{Histories}
+use Rattle.mon_value.specs.Positions.{leaf_numbered, range_numbered, same_leaf}
+use Rattle.mon_topo.specs.Zones.{first_replicas, leaves_in, ranges_in}
 use Rattle.mon_topo.specs.declared.zones.ZoneSpec.{ZoneSpec}
 
 abbrev pub slot_numbered : ℕ → Slot

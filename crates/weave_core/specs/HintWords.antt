@@ -10,15 +10,15 @@ pub record HintTable : Type 0 where
   pub words : List ℕ
   pub buckets : ℕ
 
-abbrev pub table_of : Place → ℕ
-table_of at.Root = 0
-table_of (at.Zone zone) = zone.0 + 1
+abbrev pub table_number : Place → ℕ
+table_number at.Root = 0
+table_number (at.Zone zone) = zone.0 + 1
 
 abbrev pub index_of : HintTable → Place → ℕ → ℕ
-index_of hints place bucket = table_of place * hints.buckets + bucket
+index_of hints place bucket = table_number place * hints.buckets + bucket
 
-abbrev pub word_at : HintTable → Place → ℕ → ℕ
-word_at hints place bucket = get_or hints.words (index_of hints place bucket) 0
+abbrev pub hint_word_at : HintTable → Place → ℕ → ℕ
+hint_word_at hints place bucket = get_or hints.words (index_of hints place bucket) 0
 
 -- there is a word of a place and a bucket
 pub record HasWord (hints : HintTable) (place : Place) (bucket : ℕ) : Type 0 where
@@ -34,22 +34,23 @@ abbrev pub bit_of : ℕ → ℕ
 bit_of child = 1 * 2 ^ child % 2 ^ 64
 
 -- a child's bit is set
-abbrev pub raised : HintTable → Place → ℕ → ℕ → HintTable
-raised hints place child bucket = record {
-  words = set hints.words (index_of hints place bucket) (bit_or (word_at hints place bucket) (bit_of child));
+abbrev pub with_child_bit : HintTable → Place → ℕ → ℕ → HintTable
+with_child_bit hints place child bucket = record {
+  words = set hints.words (index_of hints place bucket) (bit_or (hint_word_at hints place bucket) (bit_of child));
   buckets = hints.buckets;
 }
 
-abbrev pub same_place : Place → Place → Bool
-same_place a b = nat_eq (table_of a) (table_of b)
+abbrev pub same_word_place : Place → Place → Bool
+same_word_place a b = nat_eq (table_number a) (table_number b)
 
 -- whether a child has its bit in the word of a place and a bucket, once one bit more was set
 abbrev pub with_raised : HintTable → Place → ℕ → ℕ → Place → ℕ → ℕ → Bool
 with_raised hints place child bucket other b c =
-    ((same_place other place && nat_eq b bucket) && nat_eq c child) || has_bit (word_at hints other b) c
+    ((same_word_place other place && nat_eq b bucket) && nat_eq c child) || has_bit (hint_word_at hints other b) c
 
 -- what setting a bit changes: that bit, and no other
 abbrev pub RaisesOne : HintTable → Place → ℕ → ℕ → Type 0
 RaisesOne hints place child bucket =
     (other : Place) (b c : ℕ) → b < hints.buckets
-    → has_bit (word_at (raised hints place child bucket) other b) c ≡ with_raised hints place child bucket other b c
+    → has_bit (hint_word_at (with_child_bit hints place child bucket) other b) c
+    ≡ with_raised hints place child bucket other b c

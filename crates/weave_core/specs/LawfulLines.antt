@@ -9,7 +9,7 @@ use Rattle.weave_core.specs.declared.lines.LineForm.{LineForm}
 use Rattle.weave_core.specs.declared.lines.LineForm.TheVariants as form
 
 -- actors are numbered from 1 on
-pub record IsActor (k : ℕ) : Type 0 where
+pub record IsActorNumber (k : ℕ) : Type 0 where
   pub from : 1 ≤ k
   pub to : k ≤ LAST_ACTOR
 
@@ -22,8 +22,8 @@ IsLawfulCall held (call.Write row) = fits held row ≡ true
 IsLawfulCall held (call.Query moment text) = IsMoment moment
 
 abbrev pub IsLawfulForm : SchemaLists → LineForm → Type 0
-IsLawfulForm held (form.Declare k what) = IsActor k × IsLawfulCall held what
-IsLawfulForm held (form.Meet k j) = IsActor k × IsActor j
-IsLawfulForm held (form.Step k) = IsActor k
-IsLawfulForm held (form.Until k event) = IsActor k
-IsLawfulForm held (form.Finish k) = IsActor k
+IsLawfulForm held (form.Declare k what) = IsActorNumber k × IsLawfulCall held what
+IsLawfulForm held (form.Meet k j) = IsActorNumber k × IsActorNumber j
+IsLawfulForm held (form.Step k) = IsActorNumber k
+IsLawfulForm held (form.Until k event) = IsActorNumber k
+IsLawfulForm held (form.Finish k) = IsActorNumber k

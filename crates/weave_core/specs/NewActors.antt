@@ -38,7 +38,7 @@ IsCourseOf config i (call.Write row) one = IsWriteCourse config i row one
 IsCourseOf config i (call.Query moment text) one = IsQueryCourse config moment text one
 
 -- an actor is to do what it was called for, and has seen so much
-pub record IsNewActor (config : Config) (i : ℕ) (what : Call) (first : Sight) (own : Actor) : Type 0 where
+pub record IsDeclaredActor (config : Config) (i : ℕ) (what : Call) (first : Sight) (own : Actor) : Type 0 where
   pub course_is : IsCourseOf config i what own.course
   pub seen : own.sight ≡ first
   pub begun_is : own.begun ≡ false

@@ -4,8 +4,9 @@ use Rattle.std.specs.Prelude.{Some, None}
 use Rattle.std.specs.List.{flat_map, range_with_len, slice_index_or}
 use Rattle.leaf_store.specs.LeafStates.{LeafView, with_entry, with_promised}
 use Rattle.mon_config.specs.declared.config.Config.{Config}
-use Rattle.mon_topo.specs.Zones.{first_leaf, first_replicas, leaf_numbered, leaf_zones, leaves_in, range_numbered}
-use Rattle.mon_topo.specs.Zones.{ranges_in, zone_numbered}
+use Rattle.mon_topo.specs.Zones.{first_leaf, first_replicas, leaf_zones, leaves_in}
+use Rattle.mon_value.specs.Positions.{leaf_numbered, range_numbered, zone_numbered}
+use Rattle.mon_topo.specs.Zones.{ranges_in}
 use Rattle.mon_topo.specs.declared.zones.ZoneSpec.{ZoneSpec}
 use Rattle.mon_value.specs.declared.histories.Entry.{Entry}
 use Rattle.mon_value.specs.declared.histories.RangeEntry.{RangeEntry}

@@ -5,7 +5,7 @@ use Rattle.leaf_store.specs.LeafBuckets.{key_buckets}
 use Rattle.leaf_store.specs.LeafStates.{LeafView}
 use Rattle.mon_hints.specs.HistoryBuckets.{history_buckets}
 use Rattle.mon_meaning.specs.LeafAnswers.{IsLeafPart, IsOverLeaf}
-use Rattle.mon_topo.specs.Zones.{range_numbered}
+use Rattle.mon_value.specs.Positions.{range_numbered}
 use Rattle.mon_value.specs.LeafHistories.{is_down}
 use Rattle.mon_value.specs.declared.positions.Leaf.{Leaf}
 use Rattle.mon_value.specs.declared.positions.Range.{Range}
@@ -15,7 +15,7 @@ use Rattle.mon_value.specs.declared.rows.Row.{Row}
 use Rattle.mql_types.specs.Nodes.{TypedTree, typed_tree}
 use Rattle.mql_types.specs.declared.plans.Plan.{Plan}
 use Rattle.query_core.specs.Machine.{slots_of}
-use Rattle.query_core.specs.Openings.{is_met}
+use Rattle.query_core.specs.Openings.{is_plan_met}
 use Rattle.query_core.specs.ReadableSlots.{CanBeRead}
 use Rattle.query_core.specs.Traces.{first_serving, slot_rows}
 use Rattle.query_core.specs.declared.answers.Resolved.{Resolved}
@@ -41,13 +41,14 @@ pub record IsHeldFrom {Seat : Type 0} (holder : Option ℕ) (old new : Seat) (si
 -- ---- words
 
 -- the first replica of a range, where one was seen to serve
-abbrev pub first_of : ℕ → Option SlotLeaf → List Resolved → List Resolved
-first_of n None rest = rest
-first_of n (Some replica) rest = record { range = range_numbered n; slot = replica.slot; leaf = replica.leaf } ∷ rest
+abbrev pub with_first_replica : ℕ → Option SlotLeaf → List Resolved → List Resolved
+with_first_replica n None rest = rest
+with_first_replica n (Some replica)
+    rest = record { range = range_numbered n; slot = replica.slot; leaf = replica.leaf } ∷ rest
 
 abbrev pub firsts_from : ℕ → List RangeSight → List Resolved
 firsts_from n [] = []
-firsts_from n (one ∷ ranges) = first_of n one.first (firsts_from (n + 1) ranges)
+firsts_from n (one ∷ ranges) = with_first_replica n one.first (firsts_from (n + 1) ranges)
 
 -- what a query is told with a word of how far its caller has seen
 abbrev pub seen_of : Sight → Seen
@@ -60,7 +61,8 @@ slot_told None = told.NoSlot
 slot_told (Some replica) = told.Slot replica.slot replica.leaf
 
 -- its first replica that serves on none of these leaves is found
-pub record Finds (range : Range) (avoided : List Leaf) (old new : RangeSeat) (sight sight_after : Sight) (answer : Told)
+pub record FindsReplica (range : Range) (avoided : List Leaf) (old new : RangeSeat) (sight sight_after : Sight)
+    (answer : Told)
     : Type 0 where
   pub free : old.holder ≡ None
   pub told_so : answer ≡ slot_told (first_serving avoided old.state)
@@ -70,7 +72,8 @@ pub record Finds (range : Range) (avoided : List Leaf) (old new : RangeSeat) (si
   pub seen : sight_after ≡ met_at_range range old.state sight old.sight
 
 abbrev pub FindsIf : Range → List Leaf → RangeSeat → RangeSeat → Sight → Sight → Option Told → Type 0
-FindsIf range avoided old new sight sight_after (Some answer) = Finds range avoided old new sight sight_after answer
+FindsIf range avoided old new sight sight_after (Some answer)
+    = FindsReplica range avoided old new sight sight_after answer
 FindsIf range avoided old new sight sight_after None = IsHeldFrom old.holder old new sight sight_after
 
 -- ---- at a leaf
@@ -86,7 +89,7 @@ ReadsSo typed rows moment limit cut answer = ⊥
 
 module _ (plan : Plan) (moment : ℤ) (limit : ℕ) (state : LeafView) (slots : List RangeSlot) where
   abbrev pub is_met_there : Bool
-  is_met_there = is_met plan (history_buckets (key_buckets state.buckets state.schemas) state.history)
+  is_met_there = is_plan_met plan (history_buckets (key_buckets state.buckets state.schemas) state.history)
 
   abbrev pub rows_there : List Row
   rows_there = slot_rows state.history slots

@@ -20,12 +20,12 @@ use Rattle.weave_core.specs.declared.lines.LineForm.TheVariants as form
 -- ---- words
 
 -- actors are numbered from 1
-abbrev pub actor_numbered : ℤ → Option ℕ
-actor_numbered (pos n) = if nat_le 1 n && nat_le n LAST_ACTOR then Some n else None
-actor_numbered (negsuc n) = None
+abbrev pub actor_of_number : ℤ → Option ℕ
+actor_of_number (pos n) = if nat_le 1 n && nat_le n LAST_ACTOR then Some n else None
+actor_of_number (negsuc n) = None
 
 abbrev pub actor_of : List ℕ → Option ℕ
-actor_of word = option_and_then actor_numbered (number_of word)
+actor_of word = option_and_then actor_of_number (number_of word)
 
 -- what the word before the first space spells, and what stands behind this space
 abbrev pub spelled_first : {X : Type 0} → (List ℕ → Option X) → List ℕ → Option (X × List ℕ)
@@ -59,8 +59,8 @@ abbrev pub asked_by : ℕ → ℤ × List ℕ → Option LineForm
 asked_by actor words = if is_utf8 words.1 then Some (form.Declare actor (call.Query words.0 words.1)) else None
 
 -- an actor, a moment and a query's text, which is any text of UTF-8
-abbrev pub query_form : List ℕ → Option LineForm
-query_form rest =
+abbrev pub schedule_query_form : List ℕ → Option LineForm
+schedule_query_form rest =
     option_and_then (λ words. option_and_then (asked_by words.0) (moment_and_rest words.1)) (actor_and_rest rest)
 
 abbrev pub met_by : ℕ → ℕ → Option LineForm
@@ -87,12 +87,12 @@ turn_form word rest =
 -- ---- lines
 
 -- by the first word
-abbrev pub form_by : SchemaLists → List ℕ × List ℕ → Option LineForm
-form_by schemas words =
+abbrev pub schedule_form_by : SchemaLists → List ℕ × List ℕ → Option LineForm
+schedule_form_by schemas words =
     if same_text words.0 (codes "write") then write_form schemas words.1
-    else if same_text words.0 (codes "query") then query_form words.1
+    else if same_text words.0 (codes "query") then schedule_query_form words.1
     else turn_form words.0 words.1
 
 -- what a line says, over these schemas
-abbrev pub form_of : SchemaLists → List ℕ → Option LineForm
-form_of schemas line = option_and_then (form_by schemas) (cut_at space line)
+abbrev pub schedule_form : SchemaLists → List ℕ → Option LineForm
+schedule_form schemas line = option_and_then (schedule_form_by schemas) (cut_at space line)

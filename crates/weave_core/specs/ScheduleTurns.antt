@@ -5,7 +5,7 @@ use Rattle.mon_script.specs.Lines.{lines_of}
 use Rattle.mon_value.specs.declared.refusals.Refusal.{Refusal}
 use Rattle.mon_value.specs.declared.refusals.Refusal.TheVariants as refusal
 use Rattle.weave_core.specs.ActorAgreements.{Agrees}
-use Rattle.weave_core.specs.ScheduleLines.{form_of}
+use Rattle.weave_core.specs.ScheduleLines.{schedule_form}
 use Rattle.weave_core.specs.Schedules.{Does, GoesOn, Printed, RunsFrom, line_fault, said_before}
 use Rattle.weave_core.specs.States.{State, step_fault, store_of}
 use Rattle.weave_core.specs.declared.calls.ScheduleFault.{ScheduleFault}
@@ -61,7 +61,7 @@ module _ (config : Config) (state : State (store_of config)) where
   LineBy (Some what) result new before after = FormSo what result new before after
 
   abbrev pub LineSo : List ℕ → {X : Type 0} → Result X (Refusal WeaveFault) → Weave → List ℕ → List ℕ → Type 0
-  LineSo line result new before after = LineBy (form_of config.schemas line) result new before after
+  LineSo line result new before after = LineBy (schedule_form config.schemas line) result new before after
 
   -- ---- a line of a number
 

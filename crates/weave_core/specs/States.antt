@@ -1,5 +1,5 @@
 -- The core and its actors: what each is to do, and how far it is.
-use Rattle.std.specs.Prelude.{ℕ, Bool, true, false, not, is_some, List, [], ◌∷◌, Option, Some, None, if◌then◌else◌}
+use Rattle.std.specs.Prelude.{ℕ, Bool, true, false, not, is_some, List, Option, Some, None, if◌then◌else◌}
 use Rattle.leaf_store.specs.LeafBuckets.{key_buckets}
 use Rattle.mon_config.specs.declared.config.Config.{Config}
 use Rattle.mon_topo.specs.Settings.{Setting as Store}
@@ -16,6 +16,7 @@ use Rattle.write_core.specs.Views.{View}
 use Rattle.write_core.specs.World.{Actor, Recovers, Stands, World, Writer, Writes, view_of}
 use Rattle.write_core.specs.declared.asks.WriteAsk.{WriteAsk}
 use Rattle.write_core.specs.declared.asks.WriteAsk.TheVariants as write_ask
+use Rattle.mon_value.specs.Parts.{is_any}
 
 -- ---- the store of a configuration
 
@@ -62,10 +63,6 @@ abbrev pub writes_begun : Actor → Bool
 writes_begun (Writes writer) = is_past_lock writer.stage
 writes_begun (Recovers recovery) = false
 writes_begun (Stands stander) = false
-
-abbrev pub is_any : {X : Type 0} → List X → Bool
-is_any [] = false
-is_any (x ∷ xs) = true
 
 -- who holds what an event of a write needs
 abbrev pub holder_for_write : World → Writer → WriteAsk → Option ℕ

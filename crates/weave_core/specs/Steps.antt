@@ -6,14 +6,14 @@ use Rattle.query_core.specs.declared.asks.Told.{Told}
 use Rattle.query_core.specs.declared.stages.Stage.{Stage}
 use Rattle.query_core.specs.declared.stages.Stage.TheVariants as query
 use Rattle.weave_core.specs.Core.{CanCome, CoreEvent, Happens, Tells, came, query_now}
-use Rattle.weave_core.specs.EndTexts.{query_text, write_text}
+use Rattle.weave_core.specs.EndTexts.{query_text, write_end_text}
 use Rattle.weave_core.specs.States.{Asking, Dismissed, Eventless, Role, State, Undeclared, Writing, holder_at}
 use Rattle.weave_core.specs.declared.calls.Stepped.{Stepped}
 use Rattle.weave_core.specs.declared.calls.Stepped.TheVariants as stepped
 use Rattle.write_core.specs.Events.{Goes}
 use Rattle.write_core.specs.Program.{Acking, Ended, Entering, Inside, Locking, Reserving, end_of_verdict}
 use Rattle.write_core.specs.Program as write
-use Rattle.write_core.specs.World.{Actor, Recovers, Stands, Writer, Writes, changed}
+use Rattle.write_core.specs.World.{Actor, Recovers, Stands, Writer, Writes, with_value_at}
 use Rattle.write_core.specs.declared.asks.WriteTold.{WriteTold}
 
 -- ---- how a step went that did an event
@@ -25,7 +25,7 @@ writer_stepped zones writer (Entering round) = stepped.Went
 writer_stepped zones writer (Inside round at_root in_zone) = stepped.Went
 writer_stepped zones writer (Acking verdict) = stepped.Went
 writer_stepped zones writer (Ended verdict) =
-    stepped.Ended (write_text zones writer.range (end_of_verdict writer.range verdict))
+    stepped.Ended (write_end_text zones writer.range (end_of_verdict writer.range verdict))
 
 -- a write has more events, or has ended with a text (who does not write has nothing left to do)
 abbrev pub write_stepped : List ZoneSpec → Actor → Stepped
@@ -46,7 +46,7 @@ query_stepped zones (query.Ended end) = stepped.Ended (query_text zones end)
 
 module _ (store : Store) where
   abbrev pub with_role : State store → ℕ → Role → State store
-  with_role state k role = record { core = state.core; roles = changed state.roles k role }
+  with_role state k role = record { core = state.core; roles = with_value_at state.roles k role }
 
   abbrev pub with_event : State store → CoreEvent store → State store
   with_event state event = record { core = came store state.core event; roles = state.roles }

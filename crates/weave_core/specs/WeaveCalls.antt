@@ -15,14 +15,14 @@ use Rattle.weave_core.specs.declared.calls.WeaveFault.{WeaveFault}
 use Rattle.weave_core.specs.declared.weave.Weave.{Weave}
 
 -- there is such a core: what every call asks for that is not the first, and leaves unless memory ran out
-pub record IsKept (weave : Weave) : Type 0 where
+pub record IsWeaveKept (weave : Weave) : Type 0 where
   pub config : Config
   pub state : State (store_of config)
   pub agrees : Agrees config weave state
 
 abbrev pub IsKeptUnless : {X : Type 0} → Result X (Refusal WeaveFault) → Weave → Type 0
-IsKeptUnless (Ok x) new = IsKept new
-IsKeptUnless (Err (refusal.Fault why)) new = IsKept new
+IsKeptUnless (Ok x) new = IsWeaveKept new
+IsKeptUnless (Err (refusal.Fault why)) new = IsWeaveKept new
 IsKeptUnless (Err refusal.OutOfMemory) new = Unit {0}
 
 -- a new weave is as a core in which nobody is declared

@@ -15,7 +15,7 @@ use Rattle.mon_value.specs.declared.positions.Slot.{Slot}
 use Rattle.mon_value.specs.declared.rows.Row.{Row}
 use Rattle.mon_value.specs.declared.rows.SeriesKey.{SeriesKey}
 use Rattle.leaf_store.specs.LeafStates.{LeafView}
-use Rattle.weave_core.specs.HintWords.{raised}
+use Rattle.weave_core.specs.HintWords.{with_child_bit}
 use Rattle.weave_core.specs.Meetings.{met_at_leaf, met_at_range}
 use Rattle.weave_core.specs.RangeAnswers.{lock_answer}
 use Rattle.weave_core.specs.declared.leaves.LeafSeat.{LeafSeat}
@@ -65,11 +65,11 @@ LocksIf limit old new before after sight sight_after true = Locks limit old new 
 LocksIf limit old new before after sight sight_after false = IsHeldUp old.holder old new before after sight sight_after
 
 -- what an end appends to a range's history
-abbrev pub acknowledged : List RangeEntry → ℕ → Row → WriteEnd → List RangeEntry
-acknowledged history number row (end.Written ack) = history ++ range_entry.Acked number row ack ∷ []
-acknowledged history number row (end.Old last) = history
-acknowledged history number row (end.Full count) = history
-acknowledged history number row (end.Unavailable founds) = history
+abbrev pub with_end_entry : List RangeEntry → ℕ → Row → WriteEnd → List RangeEntry
+with_end_entry history number row (end.Written ack) = history ++ range_entry.Acked number row ack ∷ []
+with_end_entry history number row (end.Old last) = history
+with_end_entry history number row (end.Full count) = history
+with_end_entry history number row (end.Unavailable founds) = history
 
 abbrev pub IfWritten : WriteEnd → Type 0 → Type 0
 IfWritten (end.Written ack) fact = fact
@@ -80,7 +80,7 @@ IfWritten (end.Unavailable founds) fact = Unit {0}
 -- it lets go of the range
 pub record LetsGo (end : WriteEnd) (number : ℕ) (row : Row) (range : Range) (old new : RangeSeat)
     (sight sight_after : Sight) : Type 0 where
-  pub state : new.state ≡ acknowledged old.state number row end
+  pub state : new.state ≡ with_end_entry old.state number row end
   pub holder : new.holder ≡ None
   pub sight_there : new.sight ≡ sight_after
   pub seen : sight_after ≡ met_at_range range new.state sight old.sight
@@ -175,7 +175,7 @@ pub record ChangesLeaf (leaf : Leaf) (seat : LeafSeat) (old new : Store) : Type 
 pub record RaisesWord (place : Place) (child bucket : ℕ) (leaf : Leaf) (seat : LeafSeat) (old new : Store) : Type 0
   where
     pub config : new.config ≡ old.config
-    pub words : new.words ≡ raised old.words place child bucket
+    pub words : new.words ≡ with_child_bit old.words place child bucket
     pub leaves : new.leaves.items ≡ set old.leaves.items leaf.0 seat
     pub ranges : new.ranges.items ≡ old.ranges.items
     pub first : new.first_sight ≡ old.first_sight

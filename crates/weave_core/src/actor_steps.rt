@@ -9,7 +9,7 @@ use crate::actors::{Actor, Course};
 use crate::calls::Stepped;
 use crate::queries::QueryTurn;
 use crate::store::Store;
-use crate::texts::{query_text, write_text};
+use crate::texts::{query_text, write_end_text};
 use crate::writes::WriteTurn;
 use mon_topo::Sight;
 use mon_value::OutOfMemory;
@@ -82,7 +82,7 @@ fn written(
             Some(Stepped::Waits),
         )),
         WriteTurn::Ended(range, end) => {
-            let text = write_text(store.alloc, &store.config.topology, range, &end)?;
+            let text = write_end_text(store.alloc, &store.config.topology, range, &end)?;
             Ok((ended(sight, true), Some(Stepped::Ended(text))))
         }
     }

@@ -2,7 +2,7 @@
 ghost use Rattle.std.specs.Prelude.{◌≡◌, ◌||◌, IfOk};
 ghost use Rattle.weave_core.specs.Agreements.{IsServed};
 ghost use Rattle.weave_core.specs.Courses.{event_of, is_over};
-ghost use Rattle.weave_core.specs.NewActors.{IsCourseOf, IsNewActor, IsWriteCourse};
+ghost use Rattle.weave_core.specs.NewActors.{IsCourseOf, IsDeclaredActor, IsWriteCourse};
 
 use crate::calls::Call;
 use crate::events::{Event, event_of_query, event_of_write};
@@ -40,7 +40,7 @@ impl Actor {
     /// An actor of a number that has not begun.
     pub(crate) fn new(store: &Store, number: u32, call: Call) -> Result<Actor, OutOfMemory>
         requires served { IsServed store.now.config }
-        ensures new { IfOk result (IsNewActor store.now.config number call store.now.first_sight) }
+        ensures new { IfOk result (IsDeclaredActor store.now.config number call store.now.first_sight) }
     {
         let course = course_of(store, number, call)?;
         let sight = store.first_sight.copy(store.alloc)?;

@@ -2,7 +2,8 @@
 ghost use Rattle.std.specs.Prelude.{◌≡◌};
 ghost use Rattle.weave_core.specs.Schedules as spec;
 
-use mon_value::{Row, Text};
+use mon_value::{Row, Text, TryCopy};
+use std::alloc::{AllocError, Global};
 
 /// What an actor is to do.
 #[derive(Debug, Drop)]
@@ -53,4 +54,23 @@ impl WeaveFault {
 pub struct ScheduleFault {
     pub line: u32,
     pub fault: WeaveFault,
+}
+
+impl TryCopy for Call {
+    fn copy(&self, alloc: Global) -> Result<Call, AllocError> {
+        match self {
+            Call::Write(row) => Ok(Call::Write(row.copy(alloc)?)),
+            Call::Query(moment, text) => Ok(Call::Query(*moment, text.copy(alloc)?)),
+        }
+    }
+}
+
+impl TryCopy for Stepped {
+    fn copy(&self, alloc: Global) -> Result<Stepped, AllocError> {
+        match self {
+            Stepped::Went => Ok(Stepped::Went),
+            Stepped::Waits => Ok(Stepped::Waits),
+            Stepped::Ended(text) => Ok(Stepped::Ended(text.copy(alloc)?)),
+        }
+    }
 }

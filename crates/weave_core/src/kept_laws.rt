@@ -1,44 +1,28 @@
 // What is kept of the core tells: of sights, bits and locks, and of what a store begins with.
-ghost use Rattle.std.specs.Prelude.{◌≡◌, ◌<◌, ◌+◌, ◌++◌, ◌∷◌, [], ℕ, List, length};
+ghost use Rattle.std.specs.Prelude.{◌≡◌, ◌<◌, [], ℕ, List, length};
 ghost use Rattle.weave_core.specs.FirstHistories.{first_histories};
 ghost use Rattle.weave_core.specs.HintWords.{HasWord, HintTable, RaisesOne};
 ghost use Rattle.weave_core.specs.declared.words.Place.{Place as WordPlace};
-ghost use Rattle.mon_topo.specs.Sights.{joined_sight, range_sight, sight_of, with_leaf_sight, with_range_sight};
+ghost use Rattle.mon_topo.specs.Sights.{sight_of};
 ghost use Rattle.mon_schema.specs.SchemaLists.{SchemaLists};
-ghost use Rattle.mon_topo.specs.HeldHistories.{AreHeld, Histories, leaf_history, range_history};
+ghost use Rattle.mon_value.specs.Histories.{leaf_history};
+ghost use Rattle.mon_topo.specs.HeldHistories.{AreHeld};
 ghost use Rattle.mon_topo.specs.RangeHistories.{IsLegal};
 ghost use Rattle.mon_topo.specs.Replicas.{HasReplicas};
-ghost use Rattle.mon_topo.specs.SeenHistories.{joined_histories, with_leaf_entry, with_range_entry};
 ghost use Rattle.mon_topo.specs.Settings.{Setting as Store};
 ghost use Rattle.mon_topo.specs.Zones.{ranges_in};
 ghost use Rattle.mon_topo.specs.declared.zones.ZoneSpec.{ZoneSpec};
 ghost use Rattle.mon_value.specs.LeafHistories.{leaf_rows};
-ghost use Rattle.mon_value.specs.declared.histories.Entry.{Entry};
 ghost use Rattle.mon_value.specs.declared.histories.RangeEntry.{RangeEntry};
 ghost use Rattle.mon_value.specs.declared.positions.Leaf.{Leaf as LeafNumber};
 ghost use Rattle.mon_value.specs.declared.positions.Range.{Range as RangeNumber};
 ghost use Rattle.mon_value.specs.declared.rows.Row.{Row as RowOf};
 ghost use Rattle.write_core.specs.Invariant.{IsKept};
 ghost use Rattle.write_core.specs.Steps.{IsToldByRange};
-ghost use Rattle.write_core.specs.Views.{View, joined, of_leaf, of_range};
+ghost use Rattle.write_core.specs.Views.{View, joined_view, of_leaf, of_range};
 ghost use Rattle.write_core.specs.World.{IsPart, World};
 ghost use Rattle.weave_core.specs.Meetings.{met_at_leaf, met_at_range};
 ghost use Rattle.weave_core.specs.RangeAnswers.{lock_answer};
-
-/// Where two see together what either has seen, they see as far as the farther one of them, history by history.
-pub fn sights_join()
-    ensures joined { (a b : Histories) → joined_sight (sight_of a) (sight_of b) ≡ sight_of (joined_histories a b) }
-{}
-
-/// Who sees one entry more of a history sees that history so far, and all others as before.
-pub fn sights_grow()
-    ensures leaf { (leaf : LeafNumber) (entry : Entry) (seen : Histories) →
-        sight_of (with_leaf_entry leaf entry seen)
-        ≡ with_leaf_sight leaf (length (leaf_history seen leaf) + 1) (sight_of seen) }
-    ensures range { (range : RangeNumber) (entry : RangeEntry) (seen : Histories) →
-        sight_of (with_range_entry range entry seen)
-        ≡ with_range_sight range (range_sight (range_history seen range ++ entry ∷ [])) (sight_of seen) }
-{}
 
 /// Setting the bit of a child in a word sets that bit and no other.
 pub fn one_bit_is_raised()
@@ -62,11 +46,11 @@ pub fn meetings_see_as_far_as_views()
     ensures leaf { (store : Store) (world : World) (view : View) (leaf : LeafNumber) → IsKept store world
         → IsPart store world view
         → met_at_leaf leaf (of_leaf world.truth leaf) (sight_of view.seen) (sight_of (world.leaves leaf.0).seen)
-        ≡ sight_of (joined view (world.leaves leaf.0)).seen }
+        ≡ sight_of (joined_view view (world.leaves leaf.0)).seen }
     ensures range { (store : Store) (world : World) (view : View) (range : RangeNumber) → IsKept store world
         → IsPart store world view
         → met_at_range range (of_range world.truth range) (sight_of view.seen) (sight_of (world.ranges range.0).seen)
-        ≡ sight_of (joined view (world.ranges range.0)).seen }
+        ≡ sight_of (joined_view view (world.ranges range.0)).seen }
 {}
 
 /// Of a history that a range can have, what a write is told by the lock is what it may be told: that its row is old,

@@ -16,7 +16,7 @@ use std::alloc::Global;
 /// Whether some formula of a plan, which loads all buckets that its formulas name, holds of the leaf's buckets.
 pub(crate) fn is_met(alloc: Global, plan: &Plan, state: &LeafState) -> Result<bool, OutOfMemory>
     requires listed { AreAmong (all_named (formulas (map formula_tree plan.now.formulas))) plan.now.buckets }
-    ensures met { IfOk result (λ met. met ≡ spec.is_met plan.now
+    ensures met { IfOk result (λ met. met ≡ spec.is_plan_met plan.now
         (history_buckets (key_buckets state.now.buckets state.now.schemas) state.now.history)) }
 {
     let words = own_words(alloc, plan.buckets.as_slice(), state)?;

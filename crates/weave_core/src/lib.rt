@@ -28,8 +28,7 @@ mod writes;
 pub use calls::{Call, ScheduleFault, Stepped, WeaveFault};
 pub use events::Event;
 pub use kept_laws::{
-    locks_tell_the_truth, meetings_see_as_far_as_views, one_bit_is_raised, sights_grow,
-    sights_join, stores_begin_held,
+    locks_tell_the_truth, meetings_see_as_far_as_views, one_bit_is_raised, stores_begin_held,
 };
 pub use laws::{queries_answer_rightly, queries_are_licensed};
 pub use leaves::LeafSeat;

@@ -4,7 +4,7 @@ ghost use Rattle.mon_schema.specs.Fits.{fits};
 ghost use Rattle.mon_schema.specs.SchemaLists.{SchemaLists};
 ghost use Rattle.std.specs.List.{AllByRecursion};
 ghost use Rattle.mon_points.specs.Fitting.{ReadFits};
-ghost use Rattle.weave_core.specs.LawfulLines.{IsActor, IsLawfulForm, IsMoment};
+ghost use Rattle.weave_core.specs.LawfulLines.{IsActorNumber, IsLawfulForm, IsMoment};
 ghost use Rattle.weave_core.specs.ScheduleLines as spec;
 
 use crate::calls::Call;
@@ -37,7 +37,7 @@ pub(crate) fn form_of(
     schemas: &Schemas,
     line: &[u8],
 ) -> Result<Option<LineForm>, OutOfMemory>
-    ensures form { IfOk result (λ form. form ≡ spec.form_of schemas.now line.now) }
+    ensures form { IfOk result (λ form. form ≡ spec.schedule_form schemas.now line.now) }
     ensures lawful { IfOk result (λ form. IfSome form (IsLawfulForm schemas.now)) }
 {
     let Some((word, rest)) = cut_at(line, b' ') else {
@@ -86,7 +86,7 @@ fn only_row(reads: RowReads) -> Option<Row>
 
 // A query at a moment. Its text is any text of UTF-8.
 fn query_form(alloc: Global, rest: &[u8]) -> Result<Option<LineForm>, OutOfMemory>
-    ensures form { IfOk result (λ form. form ≡ spec.query_form rest.now) }
+    ensures form { IfOk result (λ form. form ≡ spec.schedule_query_form rest.now) }
     ensures lawful { (held : SchemaLists) → IfOk result (λ form. IfSome form (IsLawfulForm held)) }
 {
     let Some((actor, rest)) = actor_and_rest(rest) else {
@@ -144,7 +144,7 @@ fn until_form(rest: &[u8]) -> Option<LineForm>
 // The actor that the first word names, and what stands behind the space.
 fn actor_and_rest(text: &[u8]) -> Option<(u32, &[u8])>
     ensures words { option_map (λ words. (words.0, words.1.now)) result ≡ spec.actor_and_rest text.now }
-    ensures actor { IfSome result (λ words. IsActor words.0) }
+    ensures actor { IfSome result (λ words. IsActorNumber words.0) }
 {
     let (word, rest) = cut_at(text, b' ')?;
     Some((actor_of(word)?, rest))
@@ -162,7 +162,7 @@ fn moment_and_rest(text: &[u8]) -> Option<(i64, &[u8])>
 // The actor that a word names.
 fn actor_of(word: &[u8]) -> Option<u32>
     ensures actor { result ≡ spec.actor_of word.now }
-    ensures lawful { IfSome result IsActor }
+    ensures lawful { IfSome result IsActorNumber }
 {
     let number = read_number(word)?;
     if number < 1 || number > i128::from(LAST_ACTOR) {

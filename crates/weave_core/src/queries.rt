@@ -1,5 +1,5 @@
 // The events of a query.
-ghost use Rattle.std.specs.Prelude.{◌≡◌, ◌≢◌, ◌<◌, ◌≤◌, ◌≤ℤ◌, ◌^◌, ℕ, length, map, pos, slice_get, IfOk, IsTrue, None};
+ghost use Rattle.std.specs.Prelude.{◌≡◌, ◌≢◌, ◌<◌, ◌≤◌, ◌≤ℤ◌, ◌^◌, ℕ, length, map, pos, IfOk, IsTrue, None};
 ghost use Rattle.std.specs.Prelude.{Some, false};
 ghost use Rattle.mon_config.specs.declared.config.Config.{Config as ConfigOf};
 ghost use Rattle.mon_hints.specs.Formulas.{all_named, formula_tree, formulas};
@@ -9,7 +9,7 @@ ghost use Rattle.query_core.specs.Mixtures.{MayBeTold};
 ghost use Rattle.query_core.specs.Program.{ask_of};
 ghost use Rattle.query_core.specs.declared.asks.Ask.TheVariants.{Finished};
 ghost use Rattle.weave_core.specs.Core.{Core};
-ghost use Rattle.weave_core.specs.HintWords.{HasWord, word_at};
+ghost use Rattle.weave_core.specs.HintWords.{HasWord, hint_word_at};
 ghost use Rattle.weave_core.specs.QueryLooks.{FindsAt, IsSeatedForLeaf, IsSeatedForRange, LooksAt, word_told};
 ghost use Rattle.weave_core.specs.QueryTurns.{AnswersSo, IsAskedSomewhere, IsAsking, IsTurnOf, QueriesSo, TurnsBy};
 ghost use Rattle.weave_core.specs.States.{store_of};
@@ -78,7 +78,8 @@ impl Store {
     fn load(&self, sight: &Sight, place: Place, bucket: u32) -> Result<Option<Told>, OutOfMemory>
         requires there { HasWord self.now.words place bucket }
         requires few { length sight.now.ranges < 2 ^ 32 }
-        ensures told { IfOk result (λ told. told ≡ Some (word_told (word_at self.now.words place bucket) sight.now)) }
+        ensures told { IfOk result
+            (λ told. told ≡ Some (word_told (hint_word_at self.now.words place bucket) sight.now)) }
     {
         let seen = seen_so(self.alloc, sight)?;
         Ok(Some(Told::Word(self.words.word(place, bucket), seen)))

@@ -8,7 +8,8 @@ ghost use Rattle.query_core.specs.Machine.{slots_of};
 ghost use Rattle.query_core.specs.ReadableSlots.{CanBeRead};
 ghost use Rattle.query_core.specs.Traces.{slot_rows};
 ghost use Rattle.weave_core.specs.QueryLooks as spec;
-ghost use Rattle.weave_core.specs.QueryLooks.{FindsIf, LooksIf, ReadsSo, TellsSo, first_of, firsts_from, seen_of};
+ghost use Rattle.weave_core.specs.QueryLooks.{FindsIf, LooksIf, ReadsSo, TellsSo, with_first_replica, firsts_from};
+ghost use Rattle.weave_core.specs.QueryLooks.{seen_of};
 ghost use Rattle.mon_topo.specs.Sights.{AreAlike};
 
 use crate::leaf_looks::is_met;
@@ -169,7 +170,7 @@ fn push_first(
     range: Range,
     first: Option<SlotLeaf>,
 ) -> Result<(), OutOfMemory>
-    ensures pushed { OnOk result (firsts.new ≡ firsts.old ++ first_of range.0 first []) }
+    ensures pushed { OnOk result (firsts.new ≡ firsts.old ++ with_first_replica range.0 first []) }
 {
     match first {
         Some(replica) => {

@@ -2,8 +2,8 @@
 ghost use Rattle.std.specs.Prelude.{◌≡◌, ◌<◌, ◌<ℤ◌, ◌++◌, ◌∷◌, [], filter, length, not, slice_get, IfOk, IfSome, OnErr};
 ghost use Rattle.std.specs.Prelude.{OnOk};
 ghost use Rattle.std.specs.List.{list_any};
-ghost use Rattle.mon_topo.specs.RangeHistories.{acked, is_missed};
-ghost use Rattle.mon_topo.specs.Replicas.{same_leaf};
+ghost use Rattle.mon_topo.specs.RangeHistories.{acknowledged_rows, is_missed};
+ghost use Rattle.mon_value.specs.Positions.{same_leaf};
 ghost use Rattle.mon_value.specs.Sources.{last_end, points_of};
 ghost use Rattle.query_core.specs.Traces.{first_serving, is_avoided};
 ghost use Rattle.weave_core.specs.Meetings.{met_at_range};
@@ -41,7 +41,7 @@ impl Model for RangeState {
 
     ghost invariant = { λ state. record {
       serve : state.serving.items ≡ histories.serving state.history.items;
-      rows : state.acked ≡ histories.acked state.history.items;
+      rows : state.acked ≡ histories.acknowledged_rows state.history.items;
     } };
 }
 
@@ -100,7 +100,8 @@ impl RangeState {
     /// memory runs out nothing changes.
     #[tactic(auto, using(crate::proofs::RangeLemmas::ranges))]
     pub fn acknowledge(&mut self, pass: u64, row: Row, ack: Ack) -> Result<(), OutOfMemory>
-        requires later { IfSome (last_end (points_of row.key (acked self.old))) (λ last. last <ℤ row.point.end) }
+        requires later { IfSome (last_end (points_of row.key (acknowledged_rows self.old)))
+            (λ last. last <ℤ row.point.end) }
         ensures acknowledged { OnOk result (self.new ≡ self.old ++ RangeEntry.Acked pass row ack ∷ []) }
         ensures kept { OnErr result (self.new ≡ self.old) }
     {

@@ -3,11 +3,11 @@ ghost use Rattle.std.specs.Prelude.{◌≡◌, ◌++◌, ◌≤◌, [], true, fa
 ghost use Rattle.mon_config.specs.Numbers.{AreLawful};
 ghost use Rattle.mon_config.specs.declared.config.Config.{Config as ConfigOf};
 ghost use Rattle.weave_core.specs.ActorAgreements.{Agrees};
-ghost use Rattle.weave_core.specs.LawfulLines.{IsActor, IsLawfulCall, IsLawfulForm};
+ghost use Rattle.weave_core.specs.LawfulLines.{IsActorNumber, IsLawfulCall, IsLawfulForm};
 ghost use Rattle.weave_core.specs.ScheduleTurns.{FormSo, GoesSo, LineSo, LinesSo, NumberedSo};
 ghost use Rattle.weave_core.specs.Schedules as spec;
 ghost use Rattle.weave_core.specs.States.{State, store_of};
-ghost use Rattle.weave_core.specs.WeaveCalls.{IsKept};
+ghost use Rattle.weave_core.specs.WeaveCalls.{IsWeaveKept};
 
 use crate::calls::{Call, ScheduleFault, Stepped, WeaveFault};
 use crate::events::Event;
@@ -41,7 +41,7 @@ fn run_lines(
     text: &[u8],
     out: &mut String,
 ) -> Result<(), Refusal<ScheduleFault>>
-    requires kept { IsKept weave.old }
+    requires kept { IsWeaveKept weave.old }
     ensures ran { (config : ConfigOf) (state : State (store_of config)) → Agrees config weave.old state
         → LinesSo config state text.now result (string_bytes out.old) (string_bytes out.new) }
 {
@@ -63,8 +63,8 @@ fn run_numbered(
     line: &[u8],
     out: &mut String,
 ) -> Result<(), Refusal<ScheduleFault>>
-    requires kept { IsKept weave.old }
-    ensures kept { OnOk result (IsKept weave.new) }
+    requires kept { IsWeaveKept weave.old }
+    ensures kept { OnOk result (IsWeaveKept weave.new) }
     ensures few { OnOk result (number ≤ MOST_LINES) }
     ensures ran { (config : ConfigOf) (state : State (store_of config)) → Agrees config weave.old state
         → NumberedSo config state number line.now result weave.new (string_bytes out.old) (string_bytes out.new) }
@@ -96,8 +96,8 @@ fn run_line(
     line: &[u8],
     out: &mut String,
 ) -> Result<(), Refusal<WeaveFault>>
-    requires kept { IsKept weave.old }
-    ensures kept { OnOk result (IsKept weave.new) }
+    requires kept { IsWeaveKept weave.old }
+    ensures kept { OnOk result (IsWeaveKept weave.new) }
     ensures ran { (config : ConfigOf) (state : State (store_of config)) → Agrees config weave.old state
         → LineSo config state line.now result weave.new (string_bytes out.old) (string_bytes out.new) }
 {
@@ -114,10 +114,10 @@ fn run_form(
     form: LineForm,
     out: &mut String,
 ) -> Result<(), Refusal<WeaveFault>>
-    requires kept { IsKept weave.old }
+    requires kept { IsWeaveKept weave.old }
     requires lawful { (config : ConfigOf) (state : State (store_of config)) → Agrees config weave.old state
         → IsLawfulForm config.schemas form }
-    ensures kept { OnOk result (IsKept weave.new) }
+    ensures kept { OnOk result (IsWeaveKept weave.new) }
     ensures ran { (config : ConfigOf) (state : State (store_of config)) → Agrees config weave.old state
         → FormSo config state form result weave.new (string_bytes out.old) (string_bytes out.new) }
 {
@@ -132,11 +132,11 @@ fn run_form(
 
 // An actor is declared once.
 fn declare(weave: &mut Weave, actor: u32, call: Call) -> Result<(), Refusal<WeaveFault>>
-    requires kept { IsKept weave.old }
-    requires actor { IsActor actor }
+    requires kept { IsWeaveKept weave.old }
+    requires actor { IsActorNumber actor }
     requires lawful { (config : ConfigOf) (state : State (store_of config)) → Agrees config weave.old state
         → IsLawfulCall config.schemas call }
-    ensures kept { OnOk result (IsKept weave.new) }
+    ensures kept { OnOk result (IsWeaveKept weave.new) }
     ensures ran { (config : ConfigOf) (state : State (store_of config)) → Agrees config weave.old state
         → FormSo config state (LineForm.Declare actor call) result weave.new [] [] }
 {
@@ -148,8 +148,8 @@ fn declare(weave: &mut Weave, actor: u32, call: Call) -> Result<(), Refusal<Weav
 
 // An actor that has not begun sees what one that has ended has seen.
 fn meet(weave: &mut Weave, actor: u32, other: u32) -> Result<(), Refusal<WeaveFault>>
-    requires kept { IsKept weave.old }
-    ensures kept { OnOk result (IsKept weave.new) }
+    requires kept { IsWeaveKept weave.old }
+    ensures kept { OnOk result (IsWeaveKept weave.new) }
     ensures ran { (config : ConfigOf) (state : State (store_of config)) → Agrees config weave.old state
         → FormSo config state (LineForm.Meet actor other) result weave.new [] [] }
 {
@@ -183,8 +183,8 @@ fn step(
     actor: u32,
     out: &mut String,
 ) -> Result<(), Refusal<WeaveFault>>
-    requires kept { IsKept weave.old }
-    ensures kept { OnOk result (IsKept weave.new) }
+    requires kept { IsWeaveKept weave.old }
+    ensures kept { OnOk result (IsWeaveKept weave.new) }
     ensures ran { (config : ConfigOf) (state : State (store_of config)) → Agrees config weave.old state
         → FormSo config state (LineForm.Step actor) result weave.new (string_bytes out.old) (string_bytes out.new) }
 {
@@ -200,8 +200,8 @@ fn until(
     event: Event,
     out: &mut String,
 ) -> Result<(), Refusal<WeaveFault>>
-    requires kept { IsKept weave.old }
-    ensures kept { OnOk result (IsKept weave.new) }
+    requires kept { IsWeaveKept weave.old }
+    ensures kept { OnOk result (IsWeaveKept weave.new) }
     ensures ran { (config : ConfigOf) (state : State (store_of config)) → Agrees config weave.old state
         → FormSo config state (LineForm.Until actor event) result weave.new (string_bytes out.old)
         (string_bytes out.new) }
@@ -217,8 +217,8 @@ fn finish(
     actor: u32,
     out: &mut String,
 ) -> Result<(), Refusal<WeaveFault>>
-    requires kept { IsKept weave.old }
-    ensures kept { OnOk result (IsKept weave.new) }
+    requires kept { IsWeaveKept weave.old }
+    ensures kept { OnOk result (IsWeaveKept weave.new) }
     ensures ran { (config : ConfigOf) (state : State (store_of config)) → Agrees config weave.old state
         → FormSo config state (LineForm.Finish actor) result weave.new (string_bytes out.old) (string_bytes out.new) }
 {
@@ -228,8 +228,8 @@ fn finish(
 
 // Steps an actor until its next event is the one given, or it ends or waits.
 fn go_on(weave: &mut Weave, actor: u32, goal: Option<Event>) -> Result<Stepped, Refusal<WeaveFault>>
-    requires kept { IsKept weave.old }
-    ensures kept { OnOk result (IsKept weave.new) }
+    requires kept { IsWeaveKept weave.old }
+    ensures kept { OnOk result (IsWeaveKept weave.new) }
     ensures goes { (config : ConfigOf) (state : State (store_of config)) → Agrees config weave.old state
         → GoesSo config state actor goal result weave.new }
 {

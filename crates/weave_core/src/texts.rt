@@ -13,13 +13,13 @@ use std::alloc::Global;
 use write_core::WriteEnd;
 
 /// The text of a write to a range that ended so.
-pub(crate) fn write_text(
+pub(crate) fn write_end_text(
     alloc: Global,
     topology: &Topology,
     range: Range,
     end: &WriteEnd,
 ) -> Result<Text, OutOfMemory>
-    ensures text { IfOk result (λ text. text ≡ spec.write_text topology.now range end.now) }
+    ensures text { IfOk result (λ text. text ≡ spec.write_end_text topology.now range end.now) }
 {
     Ok(Text::from_string(write_line(alloc, topology, range, end)?))
 }
@@ -31,7 +31,7 @@ fn write_line(
     range: Range,
     end: &WriteEnd,
 ) -> Result<String, OutOfMemory>
-    ensures line { IfOk result (λ line. string_bytes line ≡ spec.write_text topology.now range end.now) }
+    ensures line { IfOk result (λ line. string_bytes line ≡ spec.write_end_text topology.now range end.now) }
 {
     match end {
         WriteEnd::Written(ack) => {

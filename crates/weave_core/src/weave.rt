@@ -4,13 +4,13 @@ ghost use Rattle.std.specs.Prelude.{IfOk, IfSome, OnOk};
 ghost use Rattle.std.specs.Option.{option_copied};
 ghost use Rattle.mon_config.specs.declared.config.Config.{Config as ConfigOf};
 ghost use Rattle.weave_core.specs.ActorAgreements.{Agrees, actor_numbered};
-ghost use Rattle.weave_core.specs.Agreements.{IsLimited};
+ghost use Rattle.mon_config.specs.Configs.{IsLimited};
 ghost use Rattle.weave_core.specs.NewActors.{hearing_of};
 ghost use Rattle.weave_core.specs.Schedules.{meet_fault};
 ghost use Rattle.mon_topo.specs.Sights.{AreAlike};
 ghost use Rattle.weave_core.specs.States as spec;
 ghost use Rattle.weave_core.specs.States.{State, store_of};
-ghost use Rattle.weave_core.specs.WeaveCalls.{BeginsSo, DeclaresSo, IsKept, IsKeptUnless, IsStepped, MayDeclare};
+ghost use Rattle.weave_core.specs.WeaveCalls.{BeginsSo, DeclaresSo, IsWeaveKept, IsKeptUnless, IsStepped, MayDeclare};
 ghost use Rattle.weave_core.specs.WeaveCalls.{MeetsSo};
 
 use crate::actor_steps::step_actor;
@@ -47,12 +47,12 @@ impl Weave {
 
     /// Says what the actor of a number, which is not declared yet, is to do.
     pub fn declare(&mut self, actor: u32, call: Call) -> Result<(), OutOfMemory>
-        requires kept { IsKept self.old }
+        requires kept { IsWeaveKept self.old }
         requires least { 1 ≤ actor }
         requires most { actor ≤ LAST_ACTOR }
         requires may { (config : ConfigOf) (state : State (store_of config)) → Agrees config self.old state
             → MayDeclare config state actor call }
-        ensures kept { OnOk result (IsKept self.new) }
+        ensures kept { OnOk result (IsWeaveKept self.new) }
         ensures declared { (config : ConfigOf) (state : State (store_of config)) → Agrees config self.old state
             → OnOk result (DeclaresSo config state actor call self.new) }
     {
@@ -63,7 +63,7 @@ impl Weave {
 
     /// Does the next event of an actor, and nothing where another one holds what it needs.
     pub fn step(&mut self, actor: u32) -> Result<Stepped, Refusal<WeaveFault>>
-        requires kept { IsKept self.old }
+        requires kept { IsWeaveKept self.old }
         ensures kept { IsKeptUnless result self.new }
         ensures stepped { (config : ConfigOf) (state : State (store_of config)) → Agrees config self.old state
             → IsStepped config state actor self.new result }
@@ -78,10 +78,10 @@ impl Weave {
 
     /// Lets an actor that has not begun see what another one, which has ended, has seen.
     pub fn meet(&mut self, actor: u32, other: u32)
-        requires kept { IsKept self.old }
+        requires kept { IsWeaveKept self.old }
         requires may { (config : ConfigOf) (state : State (store_of config)) → Agrees config self.old state
             → meet_fault (store_of config) state actor other ≡ None }
-        ensures kept { IsKept self.new }
+        ensures kept { IsWeaveKept self.new }
         ensures met { (config : ConfigOf) (state : State (store_of config)) → Agrees config self.old state
             → MeetsSo config state actor other self.new }
     {

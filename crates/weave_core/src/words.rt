@@ -1,7 +1,7 @@
 // The hint words.
 ghost use Rattle.std.specs.Prelude.{◌≡◌, ◌<◌, IfOk};
 ghost use Rattle.weave_core.specs.HintWords as spec;
-ghost use Rattle.weave_core.specs.HintWords.{HasWord, raised, word_at};
+ghost use Rattle.weave_core.specs.HintWords.{HasWord, with_child_bit, hint_word_at};
 
 use mon_value::{OutOfMemory, Zone};
 use std::alloc::Global;
@@ -46,7 +46,7 @@ impl HintWords {
     /// The word of a place and a bucket.
     pub fn word(&self, place: Place, bucket: u32) -> u64
         requires there { HasWord self.now place bucket }
-        ensures word { result ≡ word_at self.now place bucket }
+        ensures word { result ≡ hint_word_at self.now place bucket }
     {
         self.words[self.index(place, bucket)]
     }
@@ -55,7 +55,7 @@ impl HintWords {
     pub fn raise(&mut self, place: Place, child: u32, bucket: u32)
         requires there { HasWord self.old place bucket }
         requires child { child < 64 }
-        ensures raised { self.new ≡ raised self.old place child bucket }
+        ensures raised { self.new ≡ with_child_bit self.old place child bucket }
     {
         let index = self.index(place, bucket);
         self.words[index] |= 1 << child;

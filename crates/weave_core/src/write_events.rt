@@ -1,7 +1,7 @@
 // The events of a write, each at the seat that it needs.
 ghost use Rattle.std.specs.Prelude.{◌≤◌, ◌<◌, ◌<ℤ◌, ◌++◌, ◌∷◌, [], length, IfOk, IfSome, OnOk};
-ghost use Rattle.mon_hints.specs.declared.fingerprints.TheConstants.{MOST_BUCKETS as MOST};
-ghost use Rattle.mon_topo.specs.RangeHistories.{acked};
+ghost use Rattle.mon_value.specs.declared.limits.TheConstants.{MOST_BUCKETS as MOST};
+ghost use Rattle.mon_topo.specs.RangeHistories.{acknowledged_rows};
 ghost use Rattle.mon_value.specs.LeafHistories.{IsWellFormed};
 ghost use Rattle.mon_value.specs.Sources.{last_end, points_of};
 ghost use Rattle.mon_topo.specs.Sights.{AreAlike};
@@ -150,7 +150,7 @@ pub(crate) fn let_go(
     requires alike { AreAlike sight.old seat.old.sight }
     requires there { range.0 < length seat.old.sight.ranges }
     requires later { IfWritten end.now
-        (IfSome (last_end (points_of row.key (acked seat.old.state))) (λ last. last <ℤ row.point.end)) }
+        (IfSome (last_end (points_of row.key (acknowledged_rows seat.old.state))) (λ last. last <ℤ row.point.end)) }
     ensures lets_go { OnOk result (LetsGo end.now number row range seat.old seat.new sight.old sight.new) }
 {
     if let WriteEnd::Written(ack) = end {

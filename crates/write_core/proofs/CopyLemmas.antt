@@ -9,7 +9,7 @@ use Rattle.std.proofs.lemmas.List.{length-set, take_at}
 use Rattle.std.proofs.lemmas.List.Elements.{Contains-push, Contains-push_cases}
 use Rattle.mon_hints.specs.Listings.{is_among}
 use Rattle.mon_value.specs.LeafHistories as leaf_spec
-use Rattle.mon_value.specs.LeafHistories.{entry_rows, is_down, is_opened, replica_rows}
+use Rattle.mon_value.specs.LeafHistories.{entry_rows, is_opened, replica_rows}
 use Rattle.mon_value.specs.Sources.{IsSource}
 use Rattle.mon_value.specs.declared.histories.Entry.{Entry}
 use Rattle.mon_value.specs.declared.histories.RangeEntry.{RangeEntry}
@@ -21,23 +21,25 @@ use Rattle.mon_value.specs.declared.rows.Row.{Row}
 use Rattle.mon_value.proofs.LeafHistoryLemmas.{no_rows, opened_more, replica_rows-push}
 use Rattle.mon_topo.specs.HeldHistories.{BeginsWith, IsBorneOut, IsOpened}
 use Rattle.mon_topo.specs.RangeHistories as range_spec
-use Rattle.mon_topo.specs.RangeHistories.{acked, opened, serving}
+use Rattle.mon_topo.specs.RangeHistories.{acknowledged_rows, opened_slots, serving}
 use Rattle.mon_topo.specs.Settings.{Setting, zone_of_leaf}
 use Rattle.mon_topo.proofs.FrontLemmas.{begins-flat_map, begins_same, begins_through, contains_on}
 use Rattle.mon_topo.proofs.HeldLemmas.{leaf_entry_by, leaf_entry_other, leaf_entry_same, range_entry_other}
 use Rattle.mon_topo.proofs.HeldLemmas.{range_entry_same}
 use Rattle.mon_topo.proofs.RangeHistoryLemmas.{all_at, all_from, numbered, slot_below}
-use Rattle.mon_hints.specs.Covers.{AreKept, Bits, Covers}
+use Rattle.mon_hints.specs.Covers.{StaysSet, Bits, Covers}
 use Rattle.mon_hints.specs.HistoryBuckets.{history_buckets, rows_buckets}
 use Rattle.write_core.specs.CopySteps.{CanAsk, CanCopyAt, IsToldAtTarget, IsToldByTarget, IsToldOfRange, MayOpen}
-use Rattle.write_core.specs.CopySteps.{asked, begun, carried, copied_in, copy_at, copy_of, neared, new_replica}
+use Rattle.write_core.specs.CopySteps.{after_asking, after_sources, after_carrying, copied_in, copy_at, copy_of}
+use Rattle.write_core.specs.CopySteps.{after_nearing, new_replica}
 use Rattle.write_core.specs.CopySteps.{next_slot, opening_of, told_range}
 use Rattle.write_core.specs.Invariant.{HasCopied, HasLocked, HasOpened, HasRows, IsCopyAt, IsCopying, IsFresh}
 use Rattle.write_core.specs.Invariant.{IsInside, IsKept, IsRecovery, IsSettled, IsTelling}
 use Rattle.write_core.specs.Recovering.{Admits, Beginning, Carrying, CopyStage, CopyTold, Copying, Denied, Gives}
 use Rattle.write_core.specs.Recovering.{HasRoom, Nearing, Over, Sources, Telling, WasDone, WasDown, Within, copying}
-use Rattle.write_core.specs.Steps.{unchanged}
-use Rattle.write_core.specs.Views.{IsSound, IsWithin, View, joined, of_leaf, of_range, with_entry, with_range_entry}
+use Rattle.write_core.specs.Steps.{same_view}
+use Rattle.write_core.specs.Views.{IsSound, IsViewWithin, View, joined_view, of_leaf, of_range, with_entry}
+use Rattle.write_core.specs.Views.{with_range_entry}
 use Rattle.write_core.specs.Views.{with_root_bit, with_zone_bit}
 use Rattle.write_core.specs.World.{Recovers, Recovery, World, at_leaf, at_range, copied_on, recovers_on}
 use Rattle.write_core.proofs.ChangeLemmas.{entry_sound, entry_up, entry_within, range_entry_sound, range_entry_up}
@@ -78,7 +80,7 @@ module _ (setting : Setting) (world : World) (i : ℕ) (who : Recovery) (is : wo
 
   -- ---- it goes on, with its range left to it
 
-  module _ (after : World) (grows : IsWithin world.truth after.truth) (its : KeepsRange world after (Some i) r)
+  module _ (after : World) (grows : IsViewWithin world.truth after.truth) (its : KeepsRange world after (Some i) r)
       (stage : CopyStage) (view : View) (whole : of_range view r ≡ of_range after.truth r) where
     locked_moves : HasLocked world i who → HasLocked after i (copied_on who stage view)
     locked_moves h = record {
@@ -97,7 +99,7 @@ module _ (setting : Setting) (world : World) (i : ℕ) (who : Recovery) (is : wo
         → HasCopied setting after i (copied_on who stage view) rows
     copied_moves rows h = record {
       copying = copying_moves h.copying;
-      all = h.all ∙ ap acked (sym its.history);
+      all = h.all ∙ ap acknowledged_rows (sym its.history);
       at_home = h.at_home;
     }
 
@@ -106,8 +108,8 @@ module _ (setting : Setting) (world : World) (i : ℕ) (who : Recovery) (is : wo
   module _ (free : world.range_holder r.0 ≡ None) where
     -- it holds its range then
     begun_locked : (stage : CopyStage)
-        → HasLocked (at_range world i who.view r unchanged (Some i) (recovers_on who stage)) i
-        (copied_on who stage (joined who.view (world.ranges r.0)))
+        → HasLocked (at_range world i who.view r same_view (Some i) (recovers_on who stage)) i
+        (copied_on who stage (joined_view who.view (world.ranges r.0)))
     begun_locked stage = record {
       holder = changed_same world.range_holder r.0 (Some i);
       whole = meet.met_whole setting world i kept who.view own.part r;
@@ -115,11 +117,11 @@ module _ (setting : Setting) (world : World) (i : ℕ) (who : Recovery) (is : wo
     }
 
     begin_at : (stage : CopyStage)
-        → IsCopyAt setting (at_range world i who.view r unchanged (Some i) (recovers_on who stage)) i
-        (copied_on who stage (joined who.view (world.ranges r.0))) stage
-        → IsStep setting world (at_range world i who.view r unchanged (Some i) (recovers_on who stage))
+        → IsCopyAt setting (at_range world i who.view r same_view (Some i) (recovers_on who stage)) i
+        (copied_on who stage (joined_view who.view (world.ranges r.0))) stage
+        → IsStep setting world (at_range world i who.view r same_view (Some i) (recovers_on who stage))
     begin_at stage at =
-        recover_at_range setting world i who is kept r unchanged (Some i) stage
+        recover_at_range setting world i who is kept r same_view (Some i) stage
         (meet.quiet_range setting world i kept who.view own.part r) (inl free)
         (λ e. absurd (some_is_not_none i e)) at
 
@@ -127,17 +129,17 @@ module _ (setting : Setting) (world : World) (i : ℕ) (who : Recovery) (is : wo
     all_themselves xs = all_from (Contains xs) xs (λ x there. there)
 
     begin_sources : (replicas : List SlotLeaf) → replicas ≡ serving g → MayOpen setting g who
-        → IsStep setting world (begun world i who (Sources replicas))
+        → IsStep setting world (after_sources world i who (Sources replicas))
     begin_sources replicas all may =
         let stage = copying replicas in
-        let next = at_range world i who.view r unchanged (Some i) (recovers_on who stage) in
+        let next = at_range world i who.view r same_view (Some i) (recovers_on who stage) in
         begin_at stage
-        (at_copying setting next i (copied_on who stage (joined who.view (world.ranges r.0))) replicas
+        (at_copying setting next i (copied_on who stage (joined_view who.view (world.ranges r.0))) replicas
         (record { locked = begun_locked stage; may = may })
         (subst (λ (xs : List SlotLeaf). All (Contains xs) replicas) all (all_themselves replicas)))
 
     begin_denied : IsStep setting world
-        (at_range world i who.view r unchanged (Some i) (recovers_on who (Telling false)))
+        (at_range world i who.view r same_view (Some i) (recovers_on who (Telling false)))
     begin_denied = begin_at (Telling false) (begun_locked (Telling false))
 
   -- ---- at leaves
@@ -145,39 +147,39 @@ module _ (setting : Setting) (world : World) (i : ℕ) (who : Recovery) (is : wo
   -- an event at a leaf that leaves all histories as they are
   module _ (o : Leaf) (holder : Option ℕ) (stage : CopyStage) (locked : HasLocked world i who) where
     abbrev quietly : World
-    quietly = at_leaf world i who.view o unchanged holder (recovers_on who stage)
+    quietly = at_leaf world i who.view o same_view holder (recovers_on who stage)
 
     abbrev wiser_then : Recovery
-    wiser_then = copied_on who stage (joined who.view (world.leaves o.0))
+    wiser_then = copied_on who stage (joined_view who.view (world.leaves o.0))
 
     quiet_range : KeepsRange world quietly (Some i) r
     quiet_range = record { holder = locked.holder; history = refl; rows = λ s x. refl; opened = λ s x. refl }
 
-    quiet_whole : of_range (joined who.view (world.leaves o.0)) r ≡ g
+    quiet_whole : of_range (joined_view who.view (world.leaves o.0)) r ≡ g
     quiet_whole = base_range setting world i kept who.view own.part o r locked.whole
 
     quiet_locked : HasLocked quietly i wiser_then
     quiet_locked = locked_moves quietly (within_itself world.truth) quiet_range stage
-        (joined who.view (world.leaves o.0)) quiet_whole locked
+        (joined_view who.view (world.leaves o.0)) quiet_whole locked
 
     quiet_copying : IsCopying setting world i who → IsCopying setting quietly i wiser_then
     quiet_copying = copying_moves quietly (within_itself world.truth) quiet_range stage
-        (joined who.view (world.leaves o.0)) quiet_whole
+        (joined_view who.view (world.leaves o.0)) quiet_whole
 
     quiet_copied : (rows : List Row) → HasCopied setting world i who rows → HasCopied setting quietly i wiser_then rows
     quiet_copied = copied_moves quietly (within_itself world.truth) quiet_range stage
-        (joined who.view (world.leaves o.0)) quiet_whole
+        (joined_view who.view (world.leaves o.0)) quiet_whole
 
   quiet_step : (o : Leaf) (holder : Option ℕ) (stage : CopyStage) → world.leaf_holder o.0 ≡ None
-      → IsCopyAt setting (at_leaf world i who.view o unchanged holder (recovers_on who stage)) i
-      (copied_on who stage (joined who.view (world.leaves o.0))) stage
-      → IsStep setting world (at_leaf world i who.view o unchanged holder (recovers_on who stage))
+      → IsCopyAt setting (at_leaf world i who.view o same_view holder (recovers_on who stage)) i
+      (copied_on who stage (joined_view who.view (world.leaves o.0))) stage
+      → IsStep setting world (at_leaf world i who.view o same_view holder (recovers_on who stage))
   quiet_step o holder stage free at =
-      recover_at_leaf setting world i who is kept o unchanged holder stage
+      recover_at_leaf setting world i who is kept o same_view holder stage
       (quiet setting world i kept who.view own.part o) (inl free) at
 
   give_up : (o : Leaf) → world.leaf_holder o.0 ≡ None → HasLocked world i who
-      → IsStep setting world (at_leaf world i who.view o unchanged None (recovers_on who (Telling false)))
+      → IsStep setting world (at_leaf world i who.view o same_view None (recovers_on who (Telling false)))
   give_up o free locked = quiet_step o None (Telling false) free (quiet_locked o None (Telling false) locked)
 
   -- the rows of a replica that serves are the acknowledged ones, and at home
@@ -191,7 +193,7 @@ module _ (setting : Setting) (world : World) (i : ℕ) (who : Recovery) (is : wo
   }
 
   ask_kept : (sources : List SlotLeaf) (told : CopyTold) → IsCopyAt setting world i who (Copying sources)
-      → CanAsk world who sources told → IsStep setting world (asked world i who sources told)
+      → CanAsk world who sources told → IsStep setting world (after_asking world i who sources told)
   ask_kept [] told at can = absurd can
   ask_kept (source ∷ left) (Gives rows) at can =
       quiet_step source.leaf None (Carrying rows) can.0
@@ -209,7 +211,7 @@ module _ (setting : Setting) (world : World) (i : ℕ) (who : Recovery) (is : wo
 
   carry_kept : (rows : List Row) (told : CopyTold) → HasCopied setting world i who rows
       → world.leaf_holder l.0 ≡ None → IsToldByTarget (of_leaf world.truth l) told
-      → IsStep setting world (carried world i who rows told)
+      → IsStep setting world (after_carrying world i who rows told)
   carry_kept rows HasRoom at free can =
       quiet_step l None (Nearing rows) free (quiet_copied l None (Nearing rows) at.copying.locked rows at)
   carry_kept rows WasDown at free can = give_up l free at.copying.locked
@@ -221,7 +223,7 @@ module _ (setting : Setting) (world : World) (i : ℕ) (who : Recovery) (is : wo
 
   near_kept : (rows : List Row) (told : CopyTold) → HasCopied setting world i who rows
       → world.leaf_holder l.0 ≡ None → IsToldAtTarget setting (of_leaf world.truth l) rows told
-      → IsStep setting world (neared world i who rows told)
+      → IsStep setting world (after_nearing world i who rows told)
   near_kept rows (Admits buckets) at free can =
       let stage = Within rows buckets buckets in
       quiet_step l (Some i) stage free (
@@ -254,7 +256,7 @@ module _ (setting : Setting) (world : World) (i : ℕ) (who : Recovery) (is : wo
         (root_bit setting world i kept who.view own.part l zone bucket) (inr inside.holder) (
           copied_moves next (root_bit_up bucket zone world.truth)
               (record { holder = at.copying.locked.holder; history = refl; rows = λ s x. refl; opened = λ s x. refl })
-              stage (with_root_bit zone bucket (joined who.view (world.leaves l.0)))
+              stage (with_root_bit zone bucket (joined_view who.view (world.leaves l.0)))
               (base_range setting world i kept who.view own.part l r at.copying.locked.whole) rows at,
           inside_root setting world i kept who.view own.part l next needed bucket at_root in_zone
               (changed_same world.leaf_holder l.0 (Some i)) refl inside,
@@ -269,7 +271,7 @@ module _ (setting : Setting) (world : World) (i : ℕ) (who : Recovery) (is : wo
         (zone_bit setting world i kept who.view own.part l bucket) (inr inside.holder) (
           copied_moves next (zone_bit_up bucket l world.truth)
               (record { holder = at.copying.locked.holder; history = refl; rows = λ s x. refl; opened = λ s x. refl })
-              stage (with_zone_bit l bucket (joined who.view (world.leaves l.0)))
+              stage (with_zone_bit l bucket (joined_view who.view (world.leaves l.0)))
               (base_range setting world i kept who.view own.part l r at.copying.locked.whole) rows at,
           inside_zone setting world i kept who.view own.part l next needed bucket in_zone
               (changed_same world.leaf_holder l.0 (Some i)) refl inside,
@@ -279,7 +281,7 @@ module _ (setting : Setting) (world : World) (i : ℕ) (who : Recovery) (is : wo
 
     module _ (inside : IsInside setting world i who.view l needed [] []) where
       abbrev met : View
-      met = joined who.view (world.leaves l.0)
+      met = joined_view who.view (world.leaves l.0)
 
       abbrev s : Slot
       s = next_slot g
@@ -290,7 +292,7 @@ module _ (setting : Setting) (world : World) (i : ℕ) (who : Recovery) (is : wo
       abbrev locked : HasLocked world i who
       locked = at.copying.locked
 
-      up : IsWithin who.view met
+      up : IsViewWithin who.view met
       up = base_up setting world i kept who.view own.part l
 
       in_truth : l.0 < length world.truth.seen.leaves
@@ -318,7 +320,7 @@ module _ (setting : Setting) (world : World) (i : ℕ) (who : Recovery) (is : wo
       may_met = subst (λ (history : List Entry). leaf_spec.MayFollow history e)
           (sym (base_whole setting world i kept who.view own.part l)) may_truth
 
-      covers_in : (bits : Bits) → AreKept who.view.bits.root bits.root → AreKept who.view.bits.zone bits.zone
+      covers_in : (bits : Bits) → StaysSet who.view.bits.root bits.root → StaysSet who.view.bits.zone bits.zone
           → Covers bits (zone_of_leaf setting l) l (history_buckets setting.buckets_of (e ∷ []))
       covers_in bits root zone bucket there =
           let its : is_among bucket needed ≡ true = ap (λ xs. is_among bucket (rows_buckets setting.buckets_of xs))
@@ -384,18 +386,19 @@ module _ (setting : Setting) (world : World) (i : ℕ) (who : Recovery) (is : wo
       next = at_leaf world i who.view l (with_entry l e) None (recovers_on who (Telling true))
 
       -- the replicas that serve are as they were
-      still_serve : (replica : SlotLeaf) → Contains (serving g) replica → HasRows next.truth r replica (acked g)
+      still_serve : (replica : SlotLeaf) → Contains (serving g) replica
+          → HasRows next.truth r replica (acknowledged_rows g)
       still_serve replica there =
           let has = locked.settled.rows replica there in
           let known = numbered setting.held setting.zones setting.points r g legal in
-          let below : replica.slot.0 < length (opened g) = slot_below g known replica
-          (all_at (Contains (opened g)) (serving g) replica known.among there) in
+          let below : replica.slot.0 < length (opened_slots g) = slot_below g known replica
+          (all_at (Contains (opened_slots g)) (serving g) replica known.among there) in
           record {
             opened = opened_moves world next changes.grows r replica.slot replica.leaf has.opened;
             all = rows_elsewhere r replica.slot (other_slot replica.slot (λ same. omega arith)) replica.leaf ∙ has.all;
           }
 
-      rows_then : replica_rows r s (of_leaf next.truth l) ≡ acked g
+      rows_then : replica_rows r s (of_leaf next.truth l) ≡ acknowledged_rows g
       rows_then =
           ap (replica_rows r s) (leaf_entry_same world.truth.seen l e in_truth)
           ∙ replica_rows-push r s (of_leaf world.truth l) e
@@ -410,7 +413,7 @@ module _ (setting : Setting) (world : World) (i : ℕ) (who : Recovery) (is : wo
           ∙ ap (λ b. is_opened r s (of_leaf world.truth l) || (b || false)) this_slot
           ∙ or_right (is_opened r s (of_leaf world.truth l)) true refl
 
-      fresh_then : IsFresh next.truth r (suc (length (opened g)))
+      fresh_then : IsFresh next.truth r (suc (length (opened_slots g)))
       fresh_then slot leaf beyond =
           opened_elsewhere r slot (other_slot slot (λ same. omega arith)) leaf
           ∙ locked.settled.fresh slot leaf (omega arith)
@@ -426,7 +429,7 @@ module _ (setting : Setting) (world : World) (i : ℕ) (who : Recovery) (is : wo
             fresh = fresh_then;
             may = at.copying.may;
             has = record { opened = open_then; all = rows_then };
-            seen = begins_same (replica_rows r s (of_leaf (with_entry l e met) l)) (acked g)
+            seen = begins_same (replica_rows r s (of_leaf (with_entry l e met) l)) (acknowledged_rows g)
                 (ap (replica_rows r s) changes.whole ∙ rows_then);
             entered = subst (λ (xs : List Row). Contains (of_leaf (with_entry l e met) l) (copy_of who g xs)) at.all
                 (subst (λ (history : List Entry). Contains history e) (sym (leaf_entry_same met.seen l e in_met))
@@ -442,9 +445,9 @@ module _ (setting : Setting) (world : World) (i : ℕ) (who : Recovery) (is : wo
   -- ---- it tells its range
 
   tell_nothing : HasLocked world i who
-      → IsStep setting world (at_range world i who.view r unchanged None (recovers_on who (Over false)))
+      → IsStep setting world (at_range world i who.view r same_view None (recovers_on who (Over false)))
   tell_nothing h =
-      recover_at_range setting world i who is kept r unchanged None (Over false)
+      recover_at_range setting world i who is kept r same_view None (Over false)
       (meet.quiet_range setting world i kept who.view own.part r) (inr h.holder) (λ x. h.settled) tt
 
   module _ (h : HasOpened setting world i who) where
@@ -457,45 +460,46 @@ module _ (setting : Setting) (world : World) (i : ℕ) (who : Recovery) (is : wo
     serve_then : serving (g ++ last ∷ []) ≡ serving g ++ new ∷ []
     serve_then = serving-opened g who.pass new
 
-    acked_then : acked (g ++ last ∷ []) ≡ acked g
+    acked_then : acknowledged_rows (g ++ last ∷ []) ≡ acknowledged_rows g
     acked_then = acked-opened g who.pass new
 
-    module _ (view : View) (sound : IsSound setting view) (upper : IsWithin who.view view)
+    module _ (view : View) (sound : IsSound setting view) (upper : IsViewWithin who.view view)
         (whole : of_range view r ≡ g) where
       here : r.0 < length view.seen.ranges
       here = subst (λ (n : ℕ). r.0 < n) (sym sound.held.all_ranges) own.aimed.range_there
 
       old_rows : (replica : SlotLeaf) → Contains (serving g) replica
-          → BeginsWith (replica_rows r replica.slot (of_leaf view replica.leaf)) (acked g)
+          → BeginsWith (replica_rows r replica.slot (of_leaf view replica.leaf)) (acknowledged_rows g)
       old_rows = subst (λ (history : List RangeEntry). (replica : SlotLeaf) → Contains (serving history) replica
-          → BeginsWith (replica_rows r replica.slot (of_leaf view replica.leaf)) (acked history)) whole
+          → BeginsWith (replica_rows r replica.slot (of_leaf view replica.leaf)) (acknowledged_rows history)) whole
           (sound.held.borne_out r here).kept
 
-      new_rows : BeginsWith (replica_rows r (next_slot g) (of_leaf view l)) (acked g)
+      new_rows : BeginsWith (replica_rows r (next_slot g) (of_leaf view l)) (acknowledged_rows g)
       new_rows =
-          begins_through (acked g) (replica_rows r (next_slot g) (of_leaf who.view l))
+          begins_through (acknowledged_rows g) (replica_rows r (next_slot g) (of_leaf who.view l))
           (replica_rows r (next_slot g) (of_leaf view l)) h.seen
           (begins-flat_map (entry_rows r (next_slot g)) (of_leaf view l) (of_leaf who.view l) (upper.seen.leaves l))
 
       keeps_rows : (replica : SlotLeaf) → Contains (serving (g ++ last ∷ [])) replica
-          → BeginsWith (replica_rows r replica.slot (of_leaf view replica.leaf)) (acked (g ++ last ∷ []))
+          → BeginsWith (replica_rows r replica.slot (of_leaf view replica.leaf)) (acknowledged_rows (g ++ last ∷ []))
       keeps_rows replica there =
           subst (λ (xs : List Row). BeginsWith (replica_rows r replica.slot (of_leaf view replica.leaf)) xs)
           (sym acked_then)
           (elim (Contains-push_cases (serving g) new replica
           (subst (λ (xs : List SlotLeaf). Contains xs replica) serve_then there)) [
             | inl old ↦ old_rows replica old
-            | inr same ↦ subst (λ (x : SlotLeaf). BeginsWith (replica_rows r x.slot (of_leaf view x.leaf)) (acked g))
+            | inr same ↦ subst
+                (λ (x : SlotLeaf). BeginsWith (replica_rows r x.slot (of_leaf view x.leaf)) (acknowledged_rows g))
                 same new_rows
           ])
 
       borne_out : IsBorneOut view.seen r (g ++ last ∷ []) (length g) last
       borne_out =
-          subst (λ (front : List RangeEntry). IsOpened r new (acked front) (of_leaf view l))
+          subst (λ (front : List RangeEntry). IsOpened r new (acknowledged_rows front) (of_leaf view l))
           (sym (take_at g (last ∷ []) (length g) refl))
           (record {
             pass = who.pass;
-            entered = contains_on (of_leaf view l) (of_leaf who.view l) (copy_of who g (acked g))
+            entered = contains_on (of_leaf view l) (of_leaf who.view l) (copy_of who g (acknowledged_rows g))
                 (upper.seen.leaves l) h.entered;
           })
 
@@ -503,7 +507,7 @@ module _ (setting : Setting) (world : World) (i : ℕ) (who : Recovery) (is : wo
       last_sound =
           range_entry_sound view r last here setting sound
           (subst (λ (x : List RangeEntry). (replica : SlotLeaf) → Contains (serving (x ++ last ∷ [])) replica
-          → BeginsWith (replica_rows r replica.slot (of_leaf view replica.leaf)) (acked (x ++ last ∷ [])))
+          → BeginsWith (replica_rows r replica.slot (of_leaf view replica.leaf)) (acknowledged_rows (x ++ last ∷ [])))
           (sym whole) keeps_rows)
           (subst (λ (x : List RangeEntry). IsBorneOut view.seen r (x ++ last ∷ []) (length x) last) (sym whole)
           borne_out)
@@ -511,7 +515,7 @@ module _ (setting : Setting) (world : World) (i : ℕ) (who : Recovery) (is : wo
           (sym whole) h.may)
 
     abbrev met_range : View
-    met_range = joined who.view (world.ranges r.0)
+    met_range = joined_view who.view (world.ranges r.0)
 
     met_whole : of_range met_range r ≡ g
     met_whole = meet.met_whole setting world i kept who.view own.part r
@@ -550,19 +554,20 @@ module _ (setting : Setting) (world : World) (i : ℕ) (who : Recovery) (is : wo
     settled_then : IsSettled told_truth r
     settled_then = record {
       rows = subst (λ (history : List RangeEntry). (replica : SlotLeaf) → Contains (serving history) replica
-          → HasRows told_truth r replica (acked history)) (sym told_history)
+          → HasRows told_truth r replica (acknowledged_rows history)) (sym told_history)
           (λ replica there. subst (λ (xs : List Row). HasRows told_truth r replica xs) (sym acked_then)
           (elim (Contains-push_cases (serving g) new replica
           (subst (λ (xs : List SlotLeaf). Contains xs replica) serve_then there)) [
             | inl old ↦ record { opened = (h.rows replica old).opened; all = (h.rows replica old).all }
-            | inr same ↦ subst (λ (x : SlotLeaf). HasRows told_truth r x (acked g)) same
+            | inr same ↦ subst (λ (x : SlotLeaf). HasRows told_truth r x (acknowledged_rows g)) same
                 (record { opened = h.has.opened; all = h.has.all })
           ]));
-      fresh = subst (λ (history : List RangeEntry). IsFresh told_truth r (length (opened history))) (sym told_history)
+      fresh = subst (λ (history : List RangeEntry). IsFresh told_truth r (length (opened_slots history)))
+          (sym told_history)
           (λ slot leaf beyond. h.fresh slot leaf
-          (let count : length (opened (g ++ last ∷ [])) ≡ length (opened g) + 1 =
-          ap length (opened-opened g who.pass new) ∙ length-append (opened g) (new ∷ []) in
-          let from : length (opened (g ++ last ∷ [])) ≤ slot.0 = beyond in
+          (let count : length (opened_slots (g ++ last ∷ [])) ≡ length (opened_slots g) + 1 =
+          ap length (opened-opened g who.pass new) ∙ length-append (opened_slots g) (new ∷ []) in
+          let from : length (opened_slots (g ++ last ∷ [])) ≤ slot.0 = beyond in
           omega arith));
     }
 
@@ -584,7 +589,7 @@ module _ (setting : Setting) (world : World) (i : ℕ) (who : Recovery) (is : wo
   tell_kept false h = tell_nothing h
 
   begin_kept : (told : CopyTold) → world.range_holder r.0 ≡ None → IsToldOfRange setting g who told
-      → IsStep setting world (begun world i who told)
+      → IsStep setting world (after_sources world i who told)
   begin_kept (Sources replicas) free can = begin_sources free replicas can.0 can.1
   begin_kept Denied free can = begin_denied free
   begin_kept (Gives rows) free can = absurd can

@@ -18,9 +18,9 @@ use Rattle.mon_topo.proofs.HeldLemmas.{range_entry_other, range_entry_same, rang
 use Rattle.write_core.specs.Deeds.{HasDone, ack_on, acks_at, acks_by, is_ack_by, is_put_by, marks_at, put_on, puts_by}
 use Rattle.write_core.specs.Deeds.{puts_on}
 use Rattle.write_core.specs.Invariant.{AreAll, is_asked}
-use Rattle.write_core.specs.Marks.{ack_of, is_ready, is_taken, marked, some_took, waiting}
+use Rattle.write_core.specs.Marks.{ack_of, is_ready, is_taken, with_fate, some_took, waiting}
 use Rattle.write_core.specs.Program.{Acking, Ended, Entering, Inside, Locking, Marked, Reserving, entering, reserving}
-use Rattle.write_core.specs.Rounds.{Round, again, is_through, looked, marks_of, skip, skipped}
+use Rattle.write_core.specs.Rounds.{Round, again, is_through, after_look, marks_of, skip, after_skip}
 use Rattle.write_core.specs.Views.{View, of_leaf, of_range, with_entry, with_range_entry}
 use Rattle.write_core.specs.World.{Writer, put_of}
 use Rattle.write_core.specs.declared.marks.Fate.{Fate}
@@ -39,7 +39,8 @@ skip_marks done (mark ∷ left) =
 
 marks_entering : (round : Round) → marks_at (entering round) ≡ marks_of round
 marks_entering round =
-    cond_both (is_through (skipped round)) (Acking (Marked (marks_of (skipped round)))) (Entering (skipped round))
+    cond_both (is_through (after_skip round)) (Acking (Marked (marks_of (after_skip round))))
+    (Entering (after_skip round))
     (λ stage. marks_at stage ≡ marks_of round) (λ e. skip_marks round.done round.left)
     (λ e. skip_marks round.done round.left)
 
@@ -50,7 +51,8 @@ marks_reserving round =
 
 acks_entering : (writer : Writer) (r : Range) (round : Round) → acks_at writer r (entering round) ≡ []
 acks_entering writer r round =
-    cond_both (is_through (skipped round)) (Acking (Marked (marks_of (skipped round)))) (Entering (skipped round))
+    cond_both (is_through (after_skip round)) (Acking (Marked (marks_of (after_skip round))))
+    (Entering (after_skip round))
     (λ stage. acks_at writer r stage ≡ []) (λ e. refl) (λ e. refl)
 
 acks_reserving : (writer : Writer) (r : Range) (round : Round) → acks_at writer r (reserving round) ≡ []
@@ -107,26 +109,26 @@ module _ (truth : View) (writer : Writer) where
   module _ (done left : List Mark) (mark : Mark) (f : Fate) (was : is_taken mark.fate ≡ false)
       (is : is_taken f ≡ false) where
     same_puts : (l : Leaf) → puts_on writer l (done ++ mark ∷ left) ≡ puts_on writer l
-        ((done ++ marked mark f ∷ []) ++ left)
+        ((done ++ with_fate mark f ∷ []) ++ left)
     same_puts l =
         puts_around writer l done left mark
         ∙ ap (λ some. puts_on writer l done ++ (some ++ puts_on writer l left))
-        (untaken_nothing writer l mark was ∙ sym (untaken_nothing writer l (marked mark f) is))
-        ∙ sym (puts_marked writer l done left (marked mark f))
+        (untaken_nothing writer l mark was ∙ sym (untaken_nothing writer l (with_fate mark f) is))
+        ∙ sym (puts_marked writer l done left (with_fate mark f))
 
     pub done_reserving : HasDone truth writer (Reserving (record { done = done; left = mark ∷ left }))
-        → HasDone truth writer (reserving (looked (record { done = done; left = mark ∷ left }) f))
+        → HasDone truth writer (reserving (after_look (record { done = done; left = mark ∷ left }) f))
     done_reserving h =
-        let next = looked (record { done = done; left = mark ∷ left }) f in
+        let next = after_look (record { done = done; left = mark ∷ left }) f in
         record {
           puts = λ l. h.puts l ∙ same_puts l ∙ ap (puts_on writer l) (sym (marks_reserving next));
           acks = λ r. h.acks r ∙ sym (acks_reserving writer r next);
         }
 
     pub done_entering : HasDone truth writer (Entering (record { done = done; left = mark ∷ left }))
-        → HasDone truth writer (entering (looked (record { done = done; left = mark ∷ left }) f))
+        → HasDone truth writer (entering (after_look (record { done = done; left = mark ∷ left }) f))
     done_entering h =
-        let next = looked (record { done = done; left = mark ∷ left }) f in
+        let next = after_look (record { done = done; left = mark ∷ left }) f in
         record {
           puts = λ l. h.puts l ∙ same_puts l ∙ ap (puts_on writer l) (sym (marks_entering next));
           acks = λ r. h.acks r ∙ sym (acks_entering writer r next);
@@ -180,7 +182,7 @@ module _ (truth : View) (writer : Writer) (done left : List Mark) (mark : Mark) 
   l = mark.leaf
 
   abbrev new : Mark
-  new = marked mark fate.Took
+  new = with_fate mark fate.Took
 
   abbrev round : Round
   round = record { done = done; left = mark ∷ left }
@@ -193,10 +195,10 @@ module _ (truth : View) (writer : Writer) (done left : List Mark) (mark : Mark) 
       (untaken_nothing writer o mark (untaken_ready mark.fate ready)) (none_asked writer o left asked)
       ∙ append-nil (puts_on writer o done)
 
-  after_put : (o : Leaf) → puts_on writer o (marks_at (entering (looked round fate.Took)))
+  after_put : (o : Leaf) → puts_on writer o (marks_at (entering (after_look round fate.Took)))
       ≡ puts_on writer o done ++ put_on writer o new
   after_put o =
-      ap (puts_on writer o) (marks_entering (looked round fate.Took))
+      ap (puts_on writer o) (marks_entering (after_look round fate.Took))
       ∙ puts_marked writer o done left new
       ∙ ap (λ more. puts_on writer o done ++ (put_on writer o new ++ more)) (none_asked writer o left asked)
       ∙ ap (λ more. puts_on writer o done ++ more) (append-nil (put_on writer o new))
@@ -211,11 +213,11 @@ module _ (truth : View) (writer : Writer) (done left : List Mark) (mark : Mark) 
   new_elsewhere o apart = ap (λ b. cond b (e ∷ []) []) (ne_eqb l.0 o.0 (λ same. apart (sym same)))
 
   pub done_put : (at_root in_zone : List ℕ) → HasDone truth writer (Inside round at_root in_zone)
-      → HasDone (with_entry l e truth) writer (entering (looked round fate.Took))
+      → HasDone (with_entry l e truth) writer (entering (after_look round fate.Took))
   done_put at_root in_zone h = record {
     puts = λ o. elim (cases_eq o.0 l.0) [
       | inl same ↦ subst (λ (x : Leaf). puts_by writer.pass (of_leaf (with_entry l e truth) x)
-          ≡ puts_on writer x (marks_at (entering (looked round fate.Took)))) (sym (leaf_same o l same))
+          ≡ puts_on writer x (marks_at (entering (after_look round fate.Took)))) (sym (leaf_same o l same))
           (ap (puts_by writer.pass) (leaf_entry_same truth.seen l e here)
           ∙ puts_push writer.pass (of_leaf truth l) e
           ∙ ap₂ (λ some more. some ++ more) (h.puts l ∙ before_put l) own_put
@@ -226,7 +228,7 @@ module _ (truth : View) (writer : Writer) (done left : List Mark) (mark : Mark) 
           ∙ ap (λ more. puts_on writer o done ++ more) (sym (new_elsewhere o apart))
           ∙ sym (after_put o)
     ];
-    acks = λ r. h.acks r ∙ sym (acks_entering writer r (looked round fate.Took));
+    acks = λ r. h.acks r ∙ sym (acks_entering writer r (after_look round fate.Took));
   }
 
 -- ---- the acknowledgement

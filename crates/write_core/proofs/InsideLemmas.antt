@@ -16,16 +16,17 @@ use Rattle.mon_value.specs.declared.positions.Leaf.{Leaf}
 use Rattle.mon_value.specs.declared.positions.Range.{Range}
 use Rattle.mon_value.specs.declared.positions.Slot.{Slot}
 use Rattle.mon_value.specs.declared.rows.Row.{Row}
-use Rattle.mon_topo.specs.RangeHistories.{acked}
-use Rattle.mon_hints.specs.Covers.{AreKept, Bits, Covers}
+use Rattle.mon_topo.specs.RangeHistories.{acknowledged_rows}
+use Rattle.mon_hints.specs.Covers.{StaysSet, Bits, Covers}
 use Rattle.mon_hints.specs.HistoryBuckets.{history_buckets}
 use Rattle.write_core.specs.Deeds.{HasDone}
 use Rattle.write_core.specs.Invariant.{IsEntering, IsGoing, IsInside, IsKept, IsMark, IsWriter, rows_after}
-use Rattle.write_core.specs.Marks.{marked, replica_of}
+use Rattle.write_core.specs.Marks.{with_fate, replica_of}
 use Rattle.write_core.specs.Program.{Inside, Stage, entering}
-use Rattle.write_core.specs.Rounds.{Round, looked}
+use Rattle.write_core.specs.Rounds.{Round, after_look}
 use Rattle.mon_topo.specs.Settings.{Setting, zone_of_leaf}
-use Rattle.write_core.specs.Views.{IsWithin, View, joined, of_leaf, of_range, with_entry, with_root_bit, with_zone_bit}
+use Rattle.write_core.specs.Views.{IsViewWithin, View, joined_view, of_leaf, of_range, with_entry, with_root_bit}
+use Rattle.write_core.specs.Views.{with_zone_bit}
 use Rattle.write_core.specs.World.{World, Writer, Writes, at_leaf, gone_on, pass_of, put_of, writes_on}
 use Rattle.write_core.specs.declared.marks.Fate.TheVariants as fate
 use Rattle.write_core.specs.declared.marks.Mark.{Mark}
@@ -46,7 +47,8 @@ use Rattle.write_core.proofs.ViewLemmas.{within_through}
 -- ---- small facts
 
 -- a leaf with an opened replica is there
-pub opened_there : (leaves : List (List Entry)) (n : ℕ) (r : Range) (s : Slot) → is_opened r s (get_or leaves n []) ≡ true
+pub opened_there : (leaves : List (List Entry)) (n : ℕ) (r : Range) (s : Slot) → is_opened r s (get_or leaves n [])
+    ≡ true
     → n < length leaves
 opened_there leaves n r s h =
     elim (cases_lt n (length leaves)) [
@@ -89,9 +91,9 @@ module _ (setting : Setting) (world : World) (i : ℕ) (who : Writer) (is : worl
   l = mark.leaf
 
   abbrev met : View
-  met = joined who.view (world.leaves l.0)
+  met = joined_view who.view (world.leaves l.0)
 
-  up : IsWithin who.view met
+  up : IsViewWithin who.view met
   up = base_up setting world i kept who.view own.part l
 
   -- ---- a bucket is raised
@@ -156,8 +158,8 @@ module _ (setting : Setting) (world : World) (i : ℕ) (who : Writer) (is : worl
     here : IsMark world who mark
     here = mark_here setting world i who done left mark at.going
 
-    rows_now : replica_rows r s (of_leaf world.truth l) ≡ acked (of_range world.truth r)
-    rows_now = here.has.all ∙ ap (λ b. cond b (rows_after world who) (acked (of_range world.truth r)))
+    rows_now : replica_rows r s (of_leaf world.truth l) ≡ acknowledged_rows (of_range world.truth r)
+    rows_now = here.has.all ∙ ap (λ b. cond b (rows_after world who) (acknowledged_rows (of_range world.truth r)))
         (untaken_ready mark.fate at.ready)
 
     in_truth : l.0 < length world.truth.seen.leaves
@@ -180,7 +182,7 @@ module _ (setting : Setting) (world : World) (i : ℕ) (who : Writer) (is : worl
     may_met = subst (λ (history : List Entry). leaf_spec.MayFollow history e)
         (sym (base_whole setting world i kept who.view own.part l)) may_truth
 
-    covers_in : (bits : Bits) → AreKept who.view.bits.root bits.root → AreKept who.view.bits.zone bits.zone
+    covers_in : (bits : Bits) → StaysSet who.view.bits.root bits.root → StaysSet who.view.bits.zone bits.zone
         → Covers bits (zone_of_leaf setting l) l (history_buckets setting.buckets_of (e ∷ []))
     covers_in bits root zone bucket there =
         let its : is_among bucket (setting.buckets_of who.row.key) ≡ true = ap (is_among bucket)
@@ -233,7 +235,7 @@ module _ (setting : Setting) (world : World) (i : ℕ) (who : Writer) (is : worl
     }
 
     abbrev stage : Stage
-    stage = entering (looked round fate.Took)
+    stage = entering (after_look round fate.Took)
 
     abbrev next : World
     next = at_leaf world i who.view l (with_entry l e) None (writes_on who stage)
@@ -242,9 +244,9 @@ module _ (setting : Setting) (world : World) (i : ℕ) (who : Writer) (is : worl
     then' = gone_on who stage (with_entry l e met)
 
     abbrev new : Mark
-    new = marked mark fate.Took
+    new = with_fate mark fate.Took
 
-    up_then : IsWithin who.view (with_entry l e met)
+    up_then : IsViewWithin who.view (with_entry l e met)
     up_then = within_through who.view met (with_entry l e met) up (entry_up met l e in_met)
 
     rows_then : replica_rows r s (of_leaf next.truth l) ≡ rows_after world who
@@ -307,6 +309,6 @@ module _ (setting : Setting) (world : World) (i : ℕ) (who : Writer) (is : worl
     pub put_row : IsStep setting world next
     put_row =
         write_at_leaf setting world i who is kept l (with_entry l e) None stage changes (inr inside.holder)
-        (at_entering setting next i then' (looked round fate.Took) going
+        (at_entering setting next i then' (after_look round fate.Took) going
         (all_append decided done (new ∷ []) at.done (refl, tt)) at.left.1)
         (done_put world.truth who done left mark at.ready at.left.1 in_truth [] [] deeds)

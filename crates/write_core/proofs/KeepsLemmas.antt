@@ -14,7 +14,7 @@ use Rattle.mon_value.specs.declared.positions.Slot.{Slot}
 use Rattle.mon_value.specs.declared.positions.SlotLeaf.{SlotLeaf}
 use Rattle.mon_value.specs.declared.rows.Row.{Row}
 use Rattle.mon_topo.specs.HeldHistories.{BeginsWith}
-use Rattle.mon_topo.specs.RangeHistories.{acked, opened, serving}
+use Rattle.mon_topo.specs.RangeHistories.{acknowledged_rows, opened_slots, serving}
 use Rattle.mon_hints.specs.HistoryBuckets.{rows_buckets}
 use Rattle.write_core.specs.CopySteps.{MayOpen, copy_of, new_replica, next_slot}
 use Rattle.write_core.specs.Recovering.{Beginning, Carrying, CopyStage, Copying, Nearing, Over, Telling, Within}
@@ -27,8 +27,9 @@ use Rattle.write_core.specs.Marks.{is_taken, replica_of}
 use Rattle.write_core.specs.Program.{Acking, Ended, Entering, Inside, Locking, Marked, Not, Reserving, Stage, Verdict}
 use Rattle.write_core.specs.Rounds.{Round, marks_of}
 use Rattle.mon_topo.specs.Settings.{Setting}
-use Rattle.write_core.specs.Views.{IsWithin, View, of_leaf, of_range}
-use Rattle.write_core.specs.World.{Actor, IsPart, Recovers, Recovery, Stands, World, Writer, Writes, changed, gone_on}
+use Rattle.write_core.specs.Views.{IsViewWithin, View, of_leaf, of_range}
+use Rattle.write_core.specs.World.{Actor, IsPart, Recovers, Recovery, Stands, World, Writer, Writes, with_value_at}
+use Rattle.write_core.specs.World.{gone_on}
 use Rattle.write_core.specs.World.{pass_of, put_of}
 use Rattle.write_core.specs.declared.marks.Fate.{Fate}
 use Rattle.write_core.specs.declared.marks.Fate.TheVariants as fate
@@ -41,28 +42,28 @@ use Rattle.write_core.proofs.ViewLemmas.{within_itself, within_through}
 
 -- ---- tables
 
-pub changed_same : {X : Type 0} (table : ℕ → X) (n : ℕ) (value : X) → changed table n value n ≡ value
+pub changed_same : {X : Type 0} (table : ℕ → X) (n : ℕ) (value : X) → with_value_at table n value n ≡ value
 changed_same table n value = cond-true (nat_eq n n) value (table n) (eq-eqb n n refl)
 
-pub changed_other : {X : Type 0} (table : ℕ → X) (n m : ℕ) (value : X) → m ≢ n → changed table n value m ≡ table m
+pub changed_other : {X : Type 0} (table : ℕ → X) (n m : ℕ) (value : X) → m ≢ n → with_value_at table n value m ≡ table m
 changed_other table n m value apart = cond-false (nat_eq m n) value (table m) (ne_eqb m n apart)
 
 -- what holds of the new value and of the others holds of each
 pub changed_by : {X : Type 0} (table : ℕ → X) (n : ℕ) (value : X) (P : ℕ → X → Type 0) → P n value
-    → ((m : ℕ) → m ≢ n → P m (table m)) → (m : ℕ) → P m (changed table n value m)
+    → ((m : ℕ) → m ≢ n → P m (table m)) → (m : ℕ) → P m (with_value_at table n value m)
 changed_by {X} table n value P p q m =
     elim (cases_eq m n) [
-      | inl same ↦ subst (λ (k : ℕ). P k (changed table n value k)) (sym same)
+      | inl same ↦ subst (λ (k : ℕ). P k (with_value_at table n value k)) (sym same)
           (subst (λ (x : X). P n x) (sym (changed_same table n value)) p)
       | inr apart ↦ subst (λ (x : X). P m x) (sym (changed_other table n m value apart)) (q m apart)
     ]
 
 -- actors stay apart, where one goes on with its pass
 module _ (actors : ℕ → Actor) (i : ℕ) (new : Actor) (same : pass_of new ≡ pass_of (actors i)) where
-  same_pass : (j : ℕ) → pass_of (changed actors i new j) ≡ pass_of (actors j)
+  same_pass : (j : ℕ) → pass_of (with_value_at actors i new j) ≡ pass_of (actors j)
   same_pass = changed_by actors i new (λ j actor. pass_of actor ≡ pass_of (actors j)) same (λ j apart. refl)
 
-  pub apart_stay : AreApart actors → AreApart (changed actors i new)
+  pub apart_stay : AreApart actors → AreApart (with_value_at actors i new)
   apart_stay apart j k e = apart j k (sym (same_pass j) ∙ e ∙ same_pass k)
 
 -- ---- entries
@@ -96,19 +97,19 @@ pub record KeepsLeaf (before after : World) (who : Option ℕ) (l : Leaf) : Type
 -- what an actor relies on while others go on: its range, its leaf, and that nobody else puts or acknowledges by its
 -- pass
 pub record Keeps (before after : World) (i pass : ℕ) : Type 0 where
-  pub grows : IsWithin before.truth after.truth
+  pub grows : IsViewWithin before.truth after.truth
   pub count : length after.truth.seen.ranges ≡ length before.truth.seen.ranges
   pub ranges : (r : Range) → before.range_holder r.0 ≡ Some i → KeepsRange before after (Some i) r
   pub leaves : (l : Leaf) → before.leaf_holder l.0 ≡ Some i → KeepsLeaf before after (Some i) l
   pub puts : (l : Leaf) → puts_by pass (of_leaf after.truth l) ≡ puts_by pass (of_leaf before.truth l)
   pub acks : (r : Range) → acks_by pass (of_range after.truth r) ≡ acks_by pass (of_range before.truth r)
 
-pub part_moves : (setting : Setting) (before after : World) (view : View) → IsWithin before.truth after.truth
+pub part_moves : (setting : Setting) (before after : World) (view : View) → IsViewWithin before.truth after.truth
     → IsPart setting before view → IsPart setting after view
 part_moves setting before after view grows h = record
     { sound = h.sound; within = within_through view before.truth after.truth h.within grows }
 
-module _ (before after : World) (grows : IsWithin before.truth after.truth) where
+module _ (before after : World) (grows : IsViewWithin before.truth after.truth) where
   pub opened_moves : (r : Range) (s : Slot) (l : Leaf) → is_opened r s (of_leaf before.truth l) ≡ true
       → is_opened r s (of_leaf after.truth l) ≡ true
   opened_moves r s l h =
@@ -131,20 +132,22 @@ module _ (before after : World) (grows : IsWithin before.truth after.truth) wher
   settled_moves who r keeps h = record {
     rows = λ replica there.
         let old = h.rows replica (subst (λ (g : List RangeEntry). Contains (serving g) replica) keeps.history there) in
-        replica_moves who r keeps replica (acked (of_range before.truth r)) (acked (of_range after.truth r))
-        (ap acked (sym keeps.history)) old;
-    fresh = subst (λ (g : List RangeEntry). IsFresh after.truth r (length (opened g))) (sym keeps.history)
-        (fresh_moves who r keeps (length (opened (of_range before.truth r))) h.fresh);
+        replica_moves who r keeps replica (acknowledged_rows (of_range before.truth r))
+        (acknowledged_rows (of_range after.truth r))
+        (ap acknowledged_rows (sym keeps.history)) old;
+    fresh = subst (λ (g : List RangeEntry). IsFresh after.truth r (length (opened_slots g))) (sym keeps.history)
+        (fresh_moves who r keeps (length (opened_slots (of_range before.truth r))) h.fresh);
   }
 
   -- a write goes on to another stage, and has perhaps seen more
-  module _ (i : ℕ) (setting : Setting) (writer : Writer) (stage : Stage) (view : View) (up : IsWithin writer.view view)
+  module _ (i : ℕ) (setting : Setting) (writer : Writer) (stage : Stage) (view : View)
+      (up : IsViewWithin writer.view view)
       (history : of_range after.truth writer.range ≡ of_range before.truth writer.range) where
     abbrev then' : Writer
     then' = gone_on writer stage view
 
     abbrev rows_at : List RangeEntry → Fate → List Row
-    rows_at g fate = if is_taken fate then acked g ++ writer.row ∷ [] else acked g
+    rows_at g fate = if is_taken fate then acknowledged_rows g ++ writer.row ∷ [] else acknowledged_rows g
 
     missed_moves : (mark : Mark) (cut : ℕ) → HasMissed writer mark cut → HasMissed then' mark cut
     missed_moves mark cut h =
@@ -153,7 +156,7 @@ module _ (before after : World) (grows : IsWithin before.truth after.truth) wher
     taken_moves : (mark : Mark) → HasTaken before writer mark → HasTaken after then' mark
     taken_moves mark h = record {
       rows = subst (λ (g : List RangeEntry). BeginsWith (replica_rows writer.range mark.slot (of_leaf view mark.leaf))
-          (acked g ++ writer.row ∷ [])) (sym history)
+          (acknowledged_rows g ++ writer.row ∷ [])) (sym history)
           (begins_through (rows_after before writer)
           (replica_rows writer.range mark.slot (of_leaf writer.view mark.leaf))
           (replica_rows writer.range mark.slot (of_leaf view mark.leaf))
@@ -184,14 +187,15 @@ module _ (before after : World) (grows : IsWithin before.truth after.truth) wher
     pub going_with : (marks others : List Mark) → after.range_holder writer.range.0 ≡ Some i
         → of_range view writer.range ≡ of_range after.truth writer.range
         → map replica_of others ≡ map replica_of marks → All (IsMark after then') others
-        → IsFresh after.truth writer.range (length (opened (of_range before.truth writer.range)))
+        → IsFresh after.truth writer.range (length (opened_slots (of_range before.truth writer.range)))
         → IsGoing before i setting writer marks → IsGoing after i setting then' others
     going_with marks others holder whole same each fresh h = record {
       holds = record { holder = holder; whole = whole };
-      source = subst (λ (g : List RangeEntry). IsSource (acked g ++ writer.row ∷ [])) (sym history) h.source;
-      room = subst (λ (g : List RangeEntry). length (acked g) < setting.points) (sym history) h.room;
+      source = subst (λ (g : List RangeEntry). IsSource (acknowledged_rows g ++ writer.row ∷ [])) (sym history)
+          h.source;
+      room = subst (λ (g : List RangeEntry). length (acknowledged_rows g) < setting.points) (sym history) h.room;
       serve = same ∙ h.serve ∙ ap serving (sym history);
-      fresh = subst (λ (g : List RangeEntry). IsFresh after.truth writer.range (length (opened g))) (sym history)
+      fresh = subst (λ (g : List RangeEntry). IsFresh after.truth writer.range (length (opened_slots g))) (sym history)
           fresh;
       each = each;
     }
@@ -203,7 +207,7 @@ module _ (before after : World) (grows : IsWithin before.truth after.truth) wher
         going_with marks marks keeps.holder whole refl
         (all_on (IsMark before writer) (IsMark after then')
         (λ mark. mark_moves mark (keeps.rows mark.slot mark.leaf)) marks h.each)
-        (fresh_moves (Some i) writer.range keeps (length (opened (of_range before.truth writer.range))) h.fresh) h
+        (fresh_moves (Some i) writer.range keeps (length (opened_slots (of_range before.truth writer.range))) h.fresh) h
 
 -- ---- the other actors
 
@@ -298,7 +302,7 @@ module _ (setting : Setting) (before after : World) (i : ℕ) (recovery : Recove
   still_copied : (rows : List Row) → HasCopied setting before i recovery rows → HasCopied setting after i recovery rows
   still_copied rows h = record {
     copying = still_copying h.copying;
-    all = h.all ∙ ap acked (sym (keeps.ranges recovery.range h.copying.locked.holder).history);
+    all = h.all ∙ ap acknowledged_rows (sym (keeps.ranges recovery.range h.copying.locked.holder).history);
     at_home = h.at_home;
   }
 
@@ -309,20 +313,22 @@ module _ (setting : Setting) (before after : World) (i : ℕ) (recovery : Recove
         holder = its.holder;
         whole = h.whole ∙ sym its.history;
         rows = with_history (λ history. (replica : SlotLeaf) → Contains (serving history) replica
-            → HasRows after.truth recovery.range replica (acked history)) its
-            (λ replica there. replica_moves before after keeps.grows (Some i) recovery.range its replica (acked g)
-            (acked g) refl (h.rows replica there));
-        fresh = with_history (λ history. IsFresh after.truth recovery.range (suc (length (opened history)))) its
-            (fresh_moves before after keeps.grows (Some i) recovery.range its (suc (length (opened g))) h.fresh);
+            → HasRows after.truth recovery.range replica (acknowledged_rows history)) its
+            (λ replica there. replica_moves before after keeps.grows (Some i) recovery.range its replica
+            (acknowledged_rows g)
+            (acknowledged_rows g) refl (h.rows replica there));
+        fresh = with_history (λ history. IsFresh after.truth recovery.range (suc (length (opened_slots history)))) its
+            (fresh_moves before after keeps.grows (Some i) recovery.range its (suc (length (opened_slots g))) h.fresh);
         may = with_history (λ history. MayOpen setting history recovery) its h.may;
         has = with_history (λ history. HasRows after.truth recovery.range (new_replica recovery history)
-            (acked history))
-            its (replica_moves before after keeps.grows (Some i) recovery.range its (new_replica recovery g) (acked g)
-            (acked g) refl h.has);
+            (acknowledged_rows history))
+            its (replica_moves before after keeps.grows (Some i) recovery.range its (new_replica recovery g)
+            (acknowledged_rows g)
+            (acknowledged_rows g) refl h.has);
         seen = with_history (λ history. BeginsWith (replica_rows recovery.range (next_slot history)
-            (of_leaf recovery.view recovery.leaf)) (acked history)) its h.seen;
+            (of_leaf recovery.view recovery.leaf)) (acknowledged_rows history)) its h.seen;
         entered = with_history (λ history. Contains (of_leaf recovery.view recovery.leaf)
-            (copy_of recovery history (acked history))) its h.entered;
+            (copy_of recovery history (acknowledged_rows history))) its h.entered;
       }
 
   still_copy_at : (stage : CopyStage) → IsCopyAt setting before i recovery stage

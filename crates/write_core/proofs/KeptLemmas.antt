@@ -8,14 +8,15 @@ use Rattle.write_core.specs.Invariant.{IsEntering, IsInFirst, IsKept, IsNew, IsN
 use Rattle.write_core.specs.Marks.{ack_of, some_took}
 use Rattle.write_core.specs.Program.{Acking, Ended, Entering, Inside, Locking, Marked, Not, Reserving, Stage, Verdict}
 use Rattle.write_core.specs.Program.{after}
-use Rattle.write_core.specs.Steps.{CanComeAt, CanEnter, CanGo, CanReserve, IsToldByRange, acknowledged, entered}
-use Rattle.write_core.specs.Steps.{gone_on_inside, reserved, step_at, stepped, unchanged}
-use Rattle.write_core.specs.CopySteps.{CanRecover, recovered}
+use Rattle.write_core.specs.Steps.{CanComeAt, CanEnter, CanGo, CanReserve, IsToldByRange, with_acknowledgement}
+use Rattle.write_core.specs.Steps.{after_entering}
+use Rattle.write_core.specs.Steps.{gone_on_inside, after_reserving, step_at, after_answer, same_view}
+use Rattle.write_core.specs.CopySteps.{CanRecover, after_copy_event}
 use Rattle.write_core.specs.Events.{Begins, CanHappen, CanRun, Copies, Event, Goes, Learns, Resolves, Switches, Visits}
-use Rattle.write_core.specs.Events.{happened, run}
+use Rattle.write_core.specs.Events.{after_event, after_events}
 use Rattle.write_core.specs.Recovering.{CopyStage, CopyTold, Over}
 use Rattle.mon_topo.specs.Settings.{Setting}
-use Rattle.write_core.specs.Views.{View, of_leaf, of_range, joined}
+use Rattle.write_core.specs.Views.{View, of_leaf, of_range, joined_view}
 use Rattle.write_core.specs.World.{Actor, IsPart, Recovers, Recovery, Stands, World, Writer, Writes, at_range}
 use Rattle.write_core.specs.World.{writes_on}
 use Rattle.write_core.specs.declared.asks.WriteTold.{WriteTold}
@@ -37,7 +38,7 @@ module _ (setting : Setting) (world : World) (i : ℕ) (who : Writer) (is : worl
   reserve_kept : (done left : List Mark) (answer : WriteTold)
       → IsReserving world i setting who (record { done = done; left = left })
       → HasDone world.truth who (Reserving (record { done = done; left = left })) → CanReserve world left answer
-      → IsStep setting world (reserved world i who left (after (Reserving (record { done = done; left = left }))
+      → IsStep setting world (after_reserving world i who left (after (Reserving (record { done = done; left = left }))
       answer))
   reserve_kept done [] answer at deeds can = absurd can
   reserve_kept done (mark ∷ left) (told.Up buckets) at deeds can = reserve_up setting world i who is kept done left
@@ -54,7 +55,8 @@ module _ (setting : Setting) (world : World) (i : ℕ) (who : Writer) (is : worl
       → IsEntering world i setting who (record { done = done; left = left })
       → HasDone world.truth who (Entering (record { done = done; left = left })) → CanEnter setting world who left
       answer
-      → IsStep setting world (entered world i who left answer (after (Entering (record { done = done; left = left }))
+      → IsStep setting world
+      (after_entering world i who left answer (after (Entering (record { done = done; left = left }))
       answer))
   enter_kept done [] answer at deeds can = absurd can
   enter_kept done (mark ∷ left) (told.Up buckets) at deeds can = enter_up setting world i who is kept done left mark
@@ -87,7 +89,7 @@ module _ (setting : Setting) (world : World) (i : ℕ) (who : Writer) (is : worl
 
   lock_kept : (answer : WriteTold) → world.range_holder who.range.0 ≡ None
       → IsToldByRange setting (of_range world.truth who.range) who.row answer → HasDone world.truth who Locking
-      → IsStep setting world (at_range world i who.view who.range unchanged (Some i)
+      → IsStep setting world (at_range world i who.view who.range same_view (Some i)
       (writes_on who (after Locking answer)))
   lock_kept (told.Slots replicas) free can deeds = lock_slots setting world i who is kept free deeds replicas can.0
       can.1 can.2
@@ -98,7 +100,7 @@ module _ (setting : Setting) (world : World) (i : ℕ) (who : Writer) (is : worl
   lock_kept told.Done free can deeds = absurd can
 
   ack_kept : (verdict : Verdict) → IsAcking world i setting who verdict → HasDone world.truth who (Acking verdict)
-      → IsStep setting world (at_range world i who.view who.range (acknowledged who verdict) None
+      → IsStep setting world (at_range world i who.view who.range (with_acknowledgement who verdict) None
       (writes_on who (Ended verdict)))
   ack_kept (Not why) at deeds = ack_refused setting world i who is kept why at deeds
   ack_kept (Marked marks) at deeds = ack_marked setting world i who is kept marks at deeds
@@ -121,7 +123,7 @@ module _ (setting : Setting) (world : World) (i : ℕ) (who : Writer) (is : worl
 -- whichever write goes on, and whatever it is told, the invariant stays
 step_kept : (setting : Setting) (world : World) (i : ℕ) (actor : Actor) → world.actors i ≡ actor → IsKept setting world
     → (answer : WriteTold) → CanGo setting world actor answer → IsStep setting world
-    (stepped setting world i actor answer)
+    (after_answer setting world i actor answer)
 step_kept setting world i (Writes who) is kept answer can =
     let own = writer_of setting world i who kept is in
     stage_kept setting world i who is kept who.stage answer own.at own.deeds can
@@ -130,7 +132,8 @@ step_kept setting world i (Stands stander) is kept answer can = absurd can
 
 -- and whichever recovery does
 copy_kept : (setting : Setting) (world : World) (i : ℕ) (actor : Actor) → world.actors i ≡ actor → IsKept setting world
-    → (told : CopyTold) → CanRecover setting world actor told → IsStep setting world (recovered setting world i actor
+    → (told : CopyTold) → CanRecover setting world actor told
+    → IsStep setting world (after_copy_event setting world i actor
     told)
 copy_kept setting world i (Writes who) is kept told can = absurd can
 copy_kept setting world i (Recovers who) is kept told can =
@@ -138,7 +141,7 @@ copy_kept setting world i (Recovers who) is kept told can =
 copy_kept setting world i (Stands stander) is kept told can = absurd can
 
 happened_kept : (setting : Setting) (world : World) (event : Event) → CanHappen setting world event
-    → IsKept setting world → IsStep setting world (happened setting world event)
+    → IsKept setting world → IsStep setting world (after_event setting world event)
 happened_kept setting world (Goes i answer) can kept =
     step_kept setting world i (world.actors i) refl kept answer can
 happened_kept setting world (Copies i told) can kept = copy_kept setting world i (world.actors i) refl kept told can
@@ -150,23 +153,23 @@ happened_kept setting world (Resolves range view) can kept = resolve_kept settin
 
 -- so it does after any events in any order
 pub run_kept : (setting : Setting) (world : World) (events : List Event) → CanRun setting world events
-    → IsKept setting world → IsKept setting (run setting world events)
+    → IsKept setting world → IsKept setting (after_events setting world events)
 run_kept setting world [] can kept = kept
 run_kept setting world (event ∷ events) can kept =
-    run_kept setting (happened setting world event) events can.1 (happened_kept setting world event can.0 kept).kept
+    run_kept setting (after_event setting world event) events can.1 (happened_kept setting world event can.0 kept).kept
 
 -- what someone has seen and knows stays a part of the truth
 pub part_stays : (setting : Setting) (world : World) (events : List Event) (view : View) → CanRun setting world events
-    → IsKept setting world → IsPart setting world view → IsPart setting (run setting world events) view
+    → IsKept setting world → IsPart setting world view → IsPart setting (after_events setting world events) view
 part_stays setting world [] view can kept part = part
 part_stays setting world (event ∷ events) view can kept part =
     let next = happened_kept setting world event can.0 kept in
-    part_stays setting (happened setting world event) events view can.1 next.kept
-    (part_moves setting world (happened setting world event) view next.grows part)
+    part_stays setting (after_event setting world event) events view can.1 next.kept
+    (part_moves setting world (after_event setting world event) view next.grows part)
 
 -- and so is what two have seen and know together
 pub parts_join : (setting : Setting) (world : World) (a b : View) → IsPart setting world a → IsPart setting world b
-    → IsPart setting world (joined a b)
+    → IsPart setting world (joined_view a b)
 parts_join setting world a b h k = record {
   sound = joined_sound a b world.truth h.within k.within setting h.sound k.sound;
   within = joined_within a b world.truth h.within k.within;

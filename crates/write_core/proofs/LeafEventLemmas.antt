@@ -8,12 +8,12 @@ use Rattle.mon_value.specs.declared.positions.Zone.{Zone}
 use Rattle.write_core.specs.Deeds.{HasDone}
 use Rattle.write_core.specs.Invariant.{HasMissed, IsEntering, IsGoing, IsKept, IsReserving, IsWriter, is_asked}
 use Rattle.write_core.specs.Invariant.{is_decided}
-use Rattle.write_core.specs.Marks.{is_taken, marked}
+use Rattle.write_core.specs.Marks.{is_taken, with_fate}
 use Rattle.write_core.specs.Program.{Entering, Inside, Reserving, Stage, entering, reserving}
-use Rattle.write_core.specs.Rounds.{Round, looked}
-use Rattle.write_core.specs.Steps.{AreUnraised, unchanged}
+use Rattle.write_core.specs.Rounds.{Round, after_look}
+use Rattle.write_core.specs.Steps.{AreUnraised, same_view}
 use Rattle.mon_topo.specs.Settings.{Setting}
-use Rattle.write_core.specs.Views.{View, joined, of_leaf, with_root_bit, with_zone_bit}
+use Rattle.write_core.specs.Views.{View, joined_view, of_leaf, with_root_bit, with_zone_bit}
 use Rattle.write_core.specs.World.{World, Writer, Writes, at_leaf, gone_on, writes_on}
 use Rattle.write_core.specs.declared.marks.Fate.TheVariants as fate
 use Rattle.write_core.specs.declared.marks.Mark.{Mark}
@@ -40,14 +40,14 @@ module _ (setting : Setting) (world : World) (i : ℕ) (who : Writer) (is : worl
 
   -- what the write and the leaf know together
   abbrev met : View
-  met = joined who.view (world.leaves l.0)
+  met = joined_view who.view (world.leaves l.0)
 
   -- the write goes on with its replicas as they were
   module _ (holder : Option ℕ) (stage : Stage) (marks : List Mark) (going : IsGoing world i setting who marks) where
-    pub quiet_going : IsGoing (at_leaf world i who.view l unchanged holder (writes_on who stage)) i setting
+    pub quiet_going : IsGoing (at_leaf world i who.view l same_view holder (writes_on who stage)) i setting
         (gone_on who stage met) marks
     quiet_going =
-        going_moves world (at_leaf world i who.view l unchanged holder (writes_on who stage))
+        going_moves world (at_leaf world i who.view l same_view holder (writes_on who stage))
         (within_itself world.truth) i setting who
         stage met (base_up setting world i kept who.view own.part l) refl marks (base_range setting world i kept
         who.view own.part l who.range going.holds.whole)
@@ -97,7 +97,7 @@ module _ (setting : Setting) (world : World) (i : ℕ) (who : Writer) (is : worl
   round = record { done = done; left = mark ∷ left }
 
   abbrev known : View
-  known = joined who.view (world.leaves mark.leaf.0)
+  known = joined_view who.view (world.leaves mark.leaf.0)
 
   mine : IsWriter setting world i who
   mine = writer_of setting world i who kept is
@@ -108,41 +108,41 @@ module _ (setting : Setting) (world : World) (i : ℕ) (who : Writer) (is : worl
     untaken : is_taken mark.fate ≡ false
     untaken = untaken_waiting mark.fate at.left.0
 
-    pub reserve_up : IsStep setting world (at_leaf world i who.view mark.leaf unchanged None
-        (writes_on who (reserving (looked round fate.Ready))))
+    pub reserve_up : IsStep setting world (at_leaf world i who.view mark.leaf same_view None
+        (writes_on who (reserving (after_look round fate.Ready))))
     reserve_up =
-        let stage = reserving (looked round fate.Ready) in
-        let next = at_leaf world i who.view mark.leaf unchanged None (writes_on who stage) in
+        let stage = reserving (after_look round fate.Ready) in
+        let next = at_leaf world i who.view mark.leaf same_view None (writes_on who stage) in
         let then' = gone_on who stage known in
         let going = quiet_going setting world i who is kept mark.leaf None stage (done ++ mark ∷ left) at.going in
-        write_at_leaf setting world i who is kept mark.leaf unchanged None stage
+        write_at_leaf setting world i who is kept mark.leaf same_view None stage
         (quiet setting world i kept who.view mine.part mark.leaf) (inl free)
-        (at_reserving setting next i then' (looked round fate.Ready)
+        (at_reserving setting next i then' (after_look round fate.Ready)
         (going_on setting next i then' done left mark fate.Ready going
         (remark setting next i then' mark fate.Ready (mark_here setting next i then' done left mark going)
         untaken refl tt))
-        (all_append asked done (marked mark fate.Ready ∷ []) at.done (refl, tt))
+        (all_append asked done (with_fate mark fate.Ready ∷ []) at.done (refl, tt))
         at.left.1)
         (done_reserving world.truth who done left mark fate.Ready untaken refl deeds)
 
     pub reserve_down : (cut : ℕ) → is_down (of_leaf world.truth mark.leaf) ≡ true
         → cut ≡ length (of_leaf world.truth mark.leaf)
-        → IsStep setting world (at_leaf world i who.view mark.leaf unchanged None
-        (writes_on who (reserving (looked round (fate.Missed cut)))))
+        → IsStep setting world (at_leaf world i who.view mark.leaf same_view None
+        (writes_on who (reserving (after_look round (fate.Missed cut)))))
     reserve_down cut down whole =
-        let stage = reserving (looked round (fate.Missed cut)) in
-        let next = at_leaf world i who.view mark.leaf unchanged None (writes_on who stage) in
+        let stage = reserving (after_look round (fate.Missed cut)) in
+        let next = at_leaf world i who.view mark.leaf same_view None (writes_on who stage) in
         let then' = gone_on who stage known in
         let going = quiet_going setting world i who is kept mark.leaf None stage (done ++ mark ∷ left) at.going in
-        write_at_leaf setting world i who is kept mark.leaf unchanged None stage
+        write_at_leaf setting world i who is kept mark.leaf same_view None stage
         (quiet setting world i kept who.view mine.part mark.leaf) (inl free)
-        (at_reserving setting next i then' (looked round (fate.Missed cut))
+        (at_reserving setting next i then' (after_look round (fate.Missed cut))
         (going_on setting next i then' done left mark (fate.Missed cut) going
         (remark setting next i then' mark (fate.Missed cut)
         (mark_here setting next i then' done left mark going) untaken refl
-        (has_missed setting world i who is kept mark.leaf stage (marked mark (fate.Missed cut)) cut refl down
+        (has_missed setting world i who is kept mark.leaf stage (with_fate mark (fate.Missed cut)) cut refl down
         whole)))
-        (all_append asked done (marked mark (fate.Missed cut) ∷ []) at.done (refl, tt))
+        (all_append asked done (with_fate mark (fate.Missed cut) ∷ []) at.done (refl, tt))
         at.left.1)
         (done_reserving world.truth who done left mark (fate.Missed cut) untaken refl deeds)
 
@@ -151,32 +151,32 @@ module _ (setting : Setting) (world : World) (i : ℕ) (who : Writer) (is : worl
   module _ (at : IsEntering world i setting who round) (deeds : HasDone world.truth who (Entering round)) where
     pub enter_down : (cut : ℕ) → is_down (of_leaf world.truth mark.leaf) ≡ true
         → cut ≡ length (of_leaf world.truth mark.leaf)
-        → IsStep setting world (at_leaf world i who.view mark.leaf unchanged None
-        (writes_on who (entering (looked round (fate.Missed cut)))))
+        → IsStep setting world (at_leaf world i who.view mark.leaf same_view None
+        (writes_on who (entering (after_look round (fate.Missed cut)))))
     enter_down cut down whole =
-        let stage = entering (looked round (fate.Missed cut)) in
-        let next = at_leaf world i who.view mark.leaf unchanged None (writes_on who stage) in
+        let stage = entering (after_look round (fate.Missed cut)) in
+        let next = at_leaf world i who.view mark.leaf same_view None (writes_on who stage) in
         let then' = gone_on who stage known in
         let going = quiet_going setting world i who is kept mark.leaf None stage (done ++ mark ∷ left) at.going in
-        write_at_leaf setting world i who is kept mark.leaf unchanged None stage
+        write_at_leaf setting world i who is kept mark.leaf same_view None stage
         (quiet setting world i kept who.view mine.part mark.leaf) (inl free)
-        (at_entering setting next i then' (looked round (fate.Missed cut))
+        (at_entering setting next i then' (after_look round (fate.Missed cut))
         (going_on setting next i then' done left mark (fate.Missed cut) going
         (remark setting next i then' mark (fate.Missed cut)
         (mark_here setting next i then' done left mark going) (untaken_ready mark.fate at.ready) refl
-        (has_missed setting world i who is kept mark.leaf stage (marked mark (fate.Missed cut)) cut refl down
+        (has_missed setting world i who is kept mark.leaf stage (with_fate mark (fate.Missed cut)) cut refl down
         whole)))
-        (all_append decided done (marked mark (fate.Missed cut) ∷ []) at.done (refl, tt))
+        (all_append decided done (with_fate mark (fate.Missed cut) ∷ []) at.done (refl, tt))
         at.left.1)
         (done_entering world.truth who done left mark (fate.Missed cut) (untaken_ready mark.fate at.ready) refl deeds)
 
     pub enter_up : (buckets : List ℕ) → is_down (of_leaf world.truth mark.leaf) ≡ false
         → AreUnraised setting (of_leaf world.truth mark.leaf) (setting.buckets_of who.row.key) buckets
-        → IsStep setting world (at_leaf world i who.view mark.leaf unchanged (Some i)
+        → IsStep setting world (at_leaf world i who.view mark.leaf same_view (Some i)
         (writes_on who (Inside round buckets buckets)))
     enter_up buckets up unraised =
         let stage = Inside round buckets buckets in
-        write_at_leaf setting world i who is kept mark.leaf unchanged (Some i) stage
+        write_at_leaf setting world i who is kept mark.leaf same_view (Some i) stage
         (quiet setting world i kept who.view mine.part mark.leaf) (inl free) (
           record {
             going = quiet_going setting world i who is kept mark.leaf (Some i) stage (done ++ mark ∷ left)
@@ -186,7 +186,7 @@ module _ (setting : Setting) (world : World) (i : ℕ) (who : Writer) (is : worl
             ready = at.ready;
           },
           inside_from setting world i kept who.view mine.part mark.leaf
-              (at_leaf world i who.view mark.leaf unchanged (Some i) (writes_on who stage))
+              (at_leaf world i who.view mark.leaf same_view (Some i) (writes_on who stage))
               (setting.buckets_of who.row.key) buckets (changed_same world.leaf_holder mark.leaf.0 (Some i)) refl up
               unraised,
         ) (record { puts = deeds.puts; acks = deeds.acks })

@@ -4,7 +4,7 @@ use Rattle.std.proofs.Common.{inl, inr}
 use Rattle.std.proofs.lemmas.Bool.{and_from, cases_Bool, eq-eqb, not_from_false, or_cases, or_left, or_right}
 use Rattle.std.specs.Prelude.{nat_eq}
 use Rattle.mon_hints.proofs.CoverLemmas.{kept_bit}
-use Rattle.mon_hints.specs.Covers.{AreKept, IsRaised, with_bit}
+use Rattle.mon_hints.specs.Covers.{StaysSet, IsRaised, with_bit}
 use Rattle.mon_hints.specs.HistoryBuckets.{history_buckets}
 use Rattle.mon_hints.specs.Listings.{is_among}
 use Rattle.mon_value.specs.LeafHistories.{is_down}
@@ -15,8 +15,9 @@ use Rattle.mon_topo.proofs.FrontLemmas.{longer_all}
 use Rattle.mon_topo.proofs.HeldLemmas.{joined_seen_range}
 use Rattle.mon_topo.specs.Settings.{Setting, zone_of_leaf}
 use Rattle.write_core.specs.Invariant.{IsInside, IsKept}
-use Rattle.write_core.specs.Steps.{AreUnraised, unchanged}
-use Rattle.write_core.specs.Views.{IsSound, IsWithin, View, joined, of_leaf, of_range, with_root_bit, with_zone_bit}
+use Rattle.write_core.specs.Steps.{AreUnraised, same_view}
+use Rattle.write_core.specs.Views.{IsSound, IsViewWithin, View, joined_view, of_leaf, of_range, with_root_bit}
+use Rattle.write_core.specs.Views.{with_zone_bit}
 use Rattle.write_core.specs.World.{IsPart, World}
 use Rattle.write_core.proofs.ChangeLemmas.{root_bit_sound, root_bit_up, root_bit_within, zone_bit_sound, zone_bit_up}
 use Rattle.write_core.proofs.ChangeLemmas.{zone_bit_within}
@@ -27,7 +28,7 @@ use Rattle.write_core.proofs.ViewLemmas.{joined_within, within_itself}
 -- ---- bits that are raised one after another
 
 -- what was known or to be raised still is, where one bucket was raised
-raised_more : (before after : ℕ → ℕ → Bool) (place bucket n : ℕ) (left : List ℕ) → AreKept before after
+raised_more : (before after : ℕ → ℕ → Bool) (place bucket n : ℕ) (left : List ℕ) → StaysSet before after
     → (before place n || is_among n (bucket ∷ left)) ≡ true
     → (with_bit after place bucket place n || is_among n left) ≡ true
 raised_more before after place bucket n left kept h =
@@ -42,7 +43,7 @@ raised_more before after place bucket n left kept h =
       ]
     ]
 
-raised_still : (before after : ℕ → ℕ → Bool) (place n : ℕ) (left : List ℕ) → AreKept before after
+raised_still : (before after : ℕ → ℕ → Bool) (place n : ℕ) (left : List ℕ) → StaysSet before after
     → (before place n || is_among n left) ≡ true → (after place n || is_among n left) ≡ true
 raised_still before after place n left kept h =
     elim (or_cases (before place n) (is_among n left) h) [
@@ -50,7 +51,7 @@ raised_still before after place n left kept h =
       | inr there ↦ or_right (after place n) (is_among n left) there
     ]
 
-pub raised_all : (before after : ℕ → ℕ → Bool) (place n : ℕ) → AreKept before after
+pub raised_all : (before after : ℕ → ℕ → Bool) (place n : ℕ) → StaysSet before after
     → (before place n || is_among n []) ≡ true → after place n ≡ true
 raised_all before after place n kept h =
     elim (or_cases (before place n) false h) [ inl known ↦ kept place n known | inr there ↦ absurd (nothing there) ]
@@ -64,17 +65,17 @@ module _ (setting : Setting) (world : World) (i : ℕ) (kept : IsKept setting wo
 
   module _ (l : Leaf) where
     abbrev pub base : View
-    base = joined view (world.leaves l.0)
+    base = joined_view view (world.leaves l.0)
 
     pub base_sound : IsSound setting base
     base_sound =
         joined_sound view (world.leaves l.0) world.truth part.within (kept.leaves l).within setting part.sound
         (kept.leaves l).sound
 
-    pub base_within : IsWithin base world.truth
+    pub base_within : IsViewWithin base world.truth
     base_within = joined_within view (world.leaves l.0) world.truth part.within (kept.leaves l).within
 
-    pub base_up : IsWithin view base
+    pub base_up : IsViewWithin view base
     base_up = joined_first view (world.leaves l.0) world.truth part.within (kept.leaves l).within
 
     pub base_whole : of_leaf base l ≡ of_leaf world.truth l
@@ -87,7 +88,7 @@ module _ (setting : Setting) (world : World) (i : ℕ) (kept : IsKept setting wo
         ∙ longer_all (of_range world.truth r) (of_range view r) (of_range (world.leaves l.0) r) e
         ((kept.leaves l).within.seen.ranges r)
 
-    pub quiet : ChangesLeaf setting world i view l unchanged
+    pub quiet : ChangesLeaf setting world i view l same_view
     quiet = record {
       truth = kept.truth;
       met = base_sound;
@@ -136,24 +137,24 @@ module _ (setting : Setting) (world : World) (i : ℕ) (kept : IsKept setting wo
 
   module _ (r : Range) where
     abbrev pub met : View
-    met = joined view (world.ranges r.0)
+    met = joined_view view (world.ranges r.0)
 
     pub met_sound : IsSound setting met
     met_sound =
         joined_sound view (world.ranges r.0) world.truth part.within (kept.ranges r).within setting part.sound
         (kept.ranges r).sound
 
-    pub met_within : IsWithin met world.truth
+    pub met_within : IsViewWithin met world.truth
     met_within = joined_within view (world.ranges r.0) world.truth part.within (kept.ranges r).within
 
-    pub met_up : IsWithin view met
+    pub met_up : IsViewWithin view met
     met_up = joined_first view (world.ranges r.0) world.truth part.within (kept.ranges r).within
 
     pub met_whole : of_range met r ≡ of_range world.truth r
     met_whole = joined_whole_range view (world.ranges r.0) world.truth part.within (kept.ranges r).within r
         (kept.whole_ranges r)
 
-    pub quiet_range : ChangesRange setting world i view r unchanged
+    pub quiet_range : ChangesRange setting world i view r same_view
     quiet_range = record {
       truth = kept.truth;
       met = met_sound;
@@ -171,7 +172,7 @@ module _ (setting : Setting) (world : World) (i : ℕ) (kept : IsKept setting wo
 module _ (setting : Setting) (world : World) (i : ℕ) (kept : IsKept setting world) (view : View)
     (part : IsPart setting world view) (l : Leaf) where
   abbrev known : View
-  known = joined view (world.leaves l.0)
+  known = joined_view view (world.leaves l.0)
 
   -- each bucket that is needed is led to already, or is to be raised
   led_to : (needed buckets : List ℕ) → AreUnraised setting (of_leaf world.truth l) needed buckets → (bucket : ℕ)

@@ -19,32 +19,33 @@ use Rattle.mon_value.proofs.LeafHistoryLemmas.{parts_same}
 use Rattle.mon_schema.specs.SchemaLists.{SchemaLists}
 use Rattle.mon_topo.specs.HeldHistories.{AreAtHome, IsAtHome}
 use Rattle.mon_topo.specs.RangeHistories as spec
-use Rattle.mon_topo.specs.RangeHistories.{acked, opened, serving}
+use Rattle.mon_topo.specs.RangeHistories.{acknowledged_rows, opened_slots, serving}
 use Rattle.mon_topo.specs.declared.zones.ZoneSpec.{ZoneSpec}
-use Rattle.mon_topo.proofs.RangeHistoryLemmas.{acked-push, serving_after-opened}
+use Rattle.mon_topo.proofs.RangeHistoryLemmas.{acknowledged_rows-push, serving_after-opened}
 
 -- ---- one more replica
 
 opened-push : (history : List RangeEntry) (e : RangeEntry)
-    → opened (history ++ e ∷ []) ≡ opened history ++ (spec.opened_slot e ++ [])
+    → opened_slots (history ++ e ∷ []) ≡ opened_slots history ++ (spec.opened_slot e ++ [])
 opened-push history e = flat_map-append spec.opened_slot history (e ∷ [])
 
 -- an acknowledgement opens no replica
 pub opened-acked : (history : List RangeEntry) (pass : ℕ) (row : Row) (ack : Ack)
-    → opened (history ++ range_entry.Acked pass row ack ∷ []) ≡ opened history
-opened-acked history pass row ack = opened-push history (range_entry.Acked pass row ack) ∙ append-nil (opened history)
+    → opened_slots (history ++ range_entry.Acked pass row ack ∷ []) ≡ opened_slots history
+opened-acked history pass row ack = opened-push history (range_entry.Acked pass row ack)
+    ∙ append-nil (opened_slots history)
 
 module _ (history : List RangeEntry) (pass : ℕ) (replica : SlotLeaf) where
   abbrev opening : RangeEntry
   opening = range_entry.Opened pass replica.slot replica.leaf
 
   -- one more replica is the last that was opened
-  pub opened-opened : opened (history ++ opening ∷ []) ≡ opened history ++ replica ∷ []
+  pub opened-opened : opened_slots (history ++ opening ∷ []) ≡ opened_slots history ++ replica ∷ []
   opened-opened = opened-push history opening
 
   -- and acknowledges nothing
-  pub acked-opened : acked (history ++ opening ∷ []) ≡ acked history
-  acked-opened = flat_map-append spec.acked_row history (opening ∷ []) ∙ append-nil (acked history)
+  pub acked-opened : acknowledged_rows (history ++ opening ∷ []) ≡ acknowledged_rows history
+  acked-opened = flat_map-append spec.acked_row history (opening ∷ []) ∙ append-nil (acknowledged_rows history)
 
 -- and serves
 pub serving-opened : (history : List RangeEntry) (pass : ℕ) (replica : SlotLeaf)
@@ -54,20 +55,23 @@ serving-opened history pass replica = serving_after-opened [] history pass repli
 -- ---- the acknowledged rows are a source
 
 module _ (held : SchemaLists) (zones : List ZoneSpec) (points : ℕ) (r : Range) where
-  source_on : (before history : List RangeEntry) → IsSource (acked before)
-      → spec.GoesOn held zones points r before history → IsSource (acked (before ++ history))
-  source_on before [] h goes = subst (λ (xs : List RangeEntry). IsSource (acked xs)) (sym (append-nil before)) h
+  source_on : (before history : List RangeEntry) → IsSource (acknowledged_rows before)
+      → spec.GoesOn held zones points r before history → IsSource (acknowledged_rows (before ++ history))
+  source_on before [] h goes =
+      subst (λ (xs : List RangeEntry). IsSource (acknowledged_rows xs)) (sym (append-nil before)) h
   source_on before (range_entry.Opened pass slot leaf ∷ history) h goes =
       let e = range_entry.Opened pass slot leaf in
-      subst (λ (xs : List RangeEntry). IsSource (acked xs)) (append_assoc before (e ∷ []) history)
+      subst (λ (xs : List RangeEntry). IsSource (acknowledged_rows xs)) (append_assoc before (e ∷ []) history)
       (source_on (before ++ e ∷ []) history
       (subst IsSource (sym (acked-opened before pass (record { slot = slot; leaf = leaf }))) h) goes.1)
   source_on before (range_entry.Acked pass row ack ∷ history) h goes =
       let e = range_entry.Acked pass row ack in
-      subst (λ (xs : List RangeEntry). IsSource (acked xs)) (append_assoc before (e ∷ []) history)
-      (source_on (before ++ e ∷ []) history (subst IsSource (sym (acked-push before pass row ack)) goes.0.2) goes.1)
+      subst (λ (xs : List RangeEntry). IsSource (acknowledged_rows xs)) (append_assoc before (e ∷ []) history)
+      (source_on (before ++ e ∷ []) history (subst IsSource (sym (acknowledged_rows-push before pass row ack))
+      goes.0.2) goes.1)
 
-  pub acked_source : (history : List RangeEntry) → spec.IsLegal held zones points r history → IsSource (acked history)
+  pub acked_source : (history : List RangeEntry) → spec.IsLegal held zones points r history
+      → IsSource (acknowledged_rows history)
   acked_source history legal = source_on [] history tt legal
 
 -- ---- rows at home

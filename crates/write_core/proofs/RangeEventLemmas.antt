@@ -17,16 +17,16 @@ use Rattle.mon_value.specs.declared.positions.SlotLeaf.{SlotLeaf}
 use Rattle.mon_value.specs.declared.rows.Row.{Row}
 use Rattle.mon_topo.specs.HeldHistories.{BeginsWith, IsBorneOut, IsMissed, IsTaken}
 use Rattle.mon_topo.specs.RangeHistories as range_spec
-use Rattle.mon_topo.specs.RangeHistories.{acked, is_missed, opened, serving}
+use Rattle.mon_topo.specs.RangeHistories.{acknowledged_rows, is_missed, opened_slots, serving}
 use Rattle.write_core.specs.Deeds.{HasDone}
 use Rattle.write_core.specs.Invariant.{HasMissed, HasRows, HasSeen, HasTaken, IsDecided, IsFresh, IsKept, IsMark}
 use Rattle.write_core.specs.Invariant.{IsRefused, IsSettled, IsWriter, is_decided, is_waiting, rows_after}
 use Rattle.write_core.specs.Marks.{ack_of, is_taken, replica_of, some_took, waiting}
 use Rattle.write_core.specs.Program.{Acking, Ended, Locking, Marked, Not, Stage, reserving}
 use Rattle.write_core.specs.Rounds.{round_of}
-use Rattle.write_core.specs.Steps.{acknowledged, unchanged}
+use Rattle.write_core.specs.Steps.{with_acknowledgement, same_view}
 use Rattle.mon_topo.specs.Settings.{Setting}
-use Rattle.write_core.specs.Views.{IsSound, IsWithin, View, joined, of_leaf, of_range, with_range_entry}
+use Rattle.write_core.specs.Views.{IsSound, IsViewWithin, View, joined_view, of_leaf, of_range, with_range_entry}
 use Rattle.write_core.specs.World.{World, Writer, Writes, at_range, gone_on, pass_of, writes_on}
 use Rattle.write_core.specs.declared.marks.Fate.{Fate}
 use Rattle.write_core.specs.declared.marks.Fate.TheVariants as fate
@@ -39,7 +39,8 @@ use Rattle.write_core.proofs.DeedLemmas.{acks_stay, anothers_ack, done_acked, do
 use Rattle.write_core.proofs.MeetLemmas as meet
 use Rattle.write_core.proofs.KeepsLemmas.{changed_same, seen_moves}
 use Rattle.mon_topo.proofs.HeldLemmas.{range_entry_other, range_entry_same}
-use Rattle.mon_topo.proofs.RangeHistoryLemmas.{acked-push, all_at, not_missed, numbered, one_replica, serving-push}
+use Rattle.mon_topo.proofs.RangeHistoryLemmas.{acknowledged_rows-push, all_at, not_missed, numbered, one_replica}
+use Rattle.mon_topo.proofs.RangeHistoryLemmas.{serving-push}
 use Rattle.write_core.proofs.OpeningLemmas.{opened-acked}
 use Rattle.write_core.proofs.StageLemmas.{at_reserving}
 use Rattle.write_core.proofs.StepLemmas.{IsStep, ChangesRange, write_at_range, writer_of}
@@ -65,35 +66,35 @@ module _ (setting : Setting) (world : World) (i : ℕ) (who : Writer) (is : worl
 
   -- what the write and its range know together
   abbrev met : View
-  met = joined who.view (world.ranges r.0)
+  met = joined_view who.view (world.ranges r.0)
 
   met_sound : IsSound setting met
   met_sound = meet.met_sound setting world i kept who.view own.part r
 
-  met_within : IsWithin met world.truth
+  met_within : IsViewWithin met world.truth
   met_within = meet.met_within setting world i kept who.view own.part r
 
-  met_up : IsWithin who.view met
+  met_up : IsViewWithin who.view met
   met_up = meet.met_up setting world i kept who.view own.part r
 
   met_whole : of_range met r ≡ g
   met_whole = meet.met_whole setting world i kept who.view own.part r
 
-  quiet_range : ChangesRange setting world i who.view r unchanged
+  quiet_range : ChangesRange setting world i who.view r same_view
   quiet_range = meet.quiet_range setting world i kept who.view own.part r
 
   -- ---- the lock
 
   module _ (free : world.range_holder r.0 ≡ None) (deeds : HasDone world.truth who Locking) where
-    pub lock_slots : (replicas : List SlotLeaf) → replicas ≡ serving g → IsSource (acked g ++ who.row ∷ [])
-        → length (acked g) < setting.points
-        → IsStep setting world (at_range world i who.view r unchanged (Some i)
+    pub lock_slots : (replicas : List SlotLeaf) → replicas ≡ serving g → IsSource (acknowledged_rows g ++ who.row ∷ [])
+        → length (acknowledged_rows g) < setting.points
+        → IsStep setting world (at_range world i who.view r same_view (Some i)
         (writes_on who (reserving (round_of (map waiting replicas)))))
     lock_slots replicas serve source room =
         let stage = reserving (round_of (map waiting replicas)) in
-        let next = at_range world i who.view r unchanged (Some i) (writes_on who stage) in
+        let next = at_range world i who.view r same_view (Some i) (writes_on who stage) in
         let then' = gone_on who stage met in
-        write_at_range setting world i who is kept r unchanged (Some i) stage quiet_range (inl free)
+        write_at_range setting world i who is kept r same_view (Some i) stage quiet_range (inl free)
         (λ e. absurd (some_is_not_none i e))
         (at_reserving setting next i then' (round_of (map waiting replicas))
         (record {
@@ -113,10 +114,10 @@ module _ (setting : Setting) (world : World) (i : ℕ) (who : Writer) (is : worl
         (all_map_from waiting (λ mark. is_waiting mark.fate ≡ true) replicas (λ replica there. refl)))
         (done_locked world.truth who replicas (round_of (map waiting replicas)) refl deeds)
 
-    pub lock_refused : (why : Refused) → IsStep setting world (at_range world i who.view r unchanged (Some i)
+    pub lock_refused : (why : Refused) → IsStep setting world (at_range world i who.view r same_view (Some i)
         (writes_on who (Acking (Not why))))
     lock_refused why =
-        write_at_range setting world i who is kept r unchanged (Some i) (Acking (Not why)) quiet_range (inl free)
+        write_at_range setting world i who is kept r same_view (Some i) (Acking (Not why)) quiet_range (inl free)
         (λ e. absurd (some_is_not_none i e))
         (record {
           holds = record { holder = changed_same world.range_holder r.0 (Some i); whole = met_whole };
@@ -127,9 +128,9 @@ module _ (setting : Setting) (world : World) (i : ℕ) (who : Writer) (is : worl
   -- ---- the acknowledgement
 
   pub ack_refused : (why : Refused) → IsRefused world i who → HasDone world.truth who (Acking (Not why))
-      → IsStep setting world (at_range world i who.view r (acknowledged who (Not why)) None
+      → IsStep setting world (at_range world i who.view r (with_acknowledgement who (Not why)) None
       (writes_on who (Ended (Not why))))
-  ack_refused why h deeds = write_at_range setting world i who is kept r unchanged None (Ended (Not why)) quiet_range
+  ack_refused why h deeds = write_at_range setting world i who is kept r same_view None (Ended (Not why)) quiet_range
       (inr h.holds.holder) (λ e. h.settled) tt (record { puts = deeds.puts; acks = deeds.acks })
 
   module _ (marks : List Mark) (at : IsDecided world i setting who marks)
@@ -158,19 +159,19 @@ module _ (setting : Setting) (world : World) (i : ℕ) (who : Writer) (is : worl
       rows = λ replica there.
           let found = serving_mark replica there in
           let has = (mark_of found.0 found.1).has in
-          subst (λ (x : SlotLeaf). HasRows world.truth r x (acked g)) found.2
+          subst (λ (x : SlotLeaf). HasRows world.truth r x (acknowledged_rows g)) found.2
           (record {
             opened = has.opened;
             all = has.all
-                ∙ ap (λ b. cond b (rows_after world who) (acked g)) (none_took marks found.0 none found.1);
+                ∙ ap (λ b. cond b (rows_after world who) (acknowledged_rows g)) (none_took marks found.0 none found.1);
           });
       fresh = at.going.fresh;
     }
 
-    ack_none : some_took marks ≡ false → IsStep setting world (at_range world i who.view r unchanged None
+    ack_none : some_took marks ≡ false → IsStep setting world (at_range world i who.view r same_view None
         (writes_on who stage))
     ack_none none =
-        write_at_range setting world i who is kept r unchanged None stage quiet_range (inr at.going.holds.holder)
+        write_at_range setting world i who is kept r same_view None stage quiet_range (inr at.going.holds.holder)
         (λ x. settled_none none)
         (λ some. absurd (both_ways (some_took marks) none some))
         (done_none world.truth who marks none deeds)
@@ -212,7 +213,7 @@ module _ (setting : Setting) (world : World) (i : ℕ) (who : Writer) (is : worl
       )
 
       -- a view that has all that the write has seen, and all of the range
-      module _ (view : View) (sound : IsSound setting view) (up : IsWithin who.view view)
+      module _ (view : View) (sound : IsSound setting view) (up : IsViewWithin who.view view)
           (whole : of_range view r ≡ g) where
         abbrev seer : Writer
         seer = gone_on who stage view
@@ -228,22 +229,23 @@ module _ (setting : Setting) (world : World) (i : ℕ) (who : Writer) (is : worl
         missed mark cut there e = subst (λ (f : Fate). HasSeen world seer mark f) e (seen mark there)
 
         keeps_rows : (replica : SlotLeaf) → Contains (serving (g ++ e ∷ [])) replica
-            → BeginsWith (replica_rows r replica.slot (of_leaf view replica.leaf)) (acked (g ++ e ∷ []))
+            → BeginsWith (replica_rows r replica.slot (of_leaf view replica.leaf)) (acknowledged_rows (g ++ e ∷ []))
         keeps_rows replica there =
             let found = still_serving replica there in
-            subst (λ (x : SlotLeaf). BeginsWith (replica_rows r x.slot (of_leaf view x.leaf)) (acked (g ++ e ∷ [])))
+            subst (λ (x : SlotLeaf). BeginsWith (replica_rows r x.slot (of_leaf view x.leaf))
+            (acknowledged_rows (g ++ e ∷ [])))
             found.2
             (subst (λ (rows : List Row). BeginsWith (replica_rows r found.0.slot (of_leaf view found.0.leaf))
-            rows) (sym (acked-push g who.pass who.row ack))
+            rows) (sym (acknowledged_rows-push g who.pass who.row ack))
             (taken found.0 found.1 found.3).rows)
 
         served : range_spec.IsLegal setting.held setting.zones setting.points r g
         served = kept.truth.held.legal r own.lawful.there
 
         -- a mark's replica is one of those that were opened
-        mark_opened : (mark : Mark) → Contains marks mark → Contains (opened g) (replica_of mark)
+        mark_opened : (mark : Mark) → Contains marks mark → Contains (opened_slots g) (replica_of mark)
         mark_opened mark there =
-            all_at (Contains (opened g)) (serving g) (replica_of mark)
+            all_at (Contains (opened_slots g)) (serving g) (replica_of mark)
             (numbered setting.held setting.zones setting.points r g served).among
             (subst (λ (xs : List SlotLeaf). Contains xs (replica_of mark)) at.going.serve
             (contains_mapped mark there))
@@ -259,7 +261,7 @@ module _ (setting : Setting) (world : World) (i : ℕ) (who : Writer) (is : worl
             contains_mapped : (mark : Mark) → Contains marks mark → Contains (map replica_of marks) (replica_of mark)
             contains_mapped mark there = contains_at marks mark there
 
-        borne_taken : (replica : SlotLeaf) → Contains (opened g) replica → Contains ack.took replica.slot
+        borne_taken : (replica : SlotLeaf) → Contains (opened_slots g) replica → Contains ack.took replica.slot
             → IsTaken view.seen who.pass who.row ack replica
         borne_taken replica there took =
             let found = taken_in marks replica.slot took in
@@ -269,18 +271,18 @@ module _ (setting : Setting) (world : World) (i : ℕ) (who : Writer) (is : worl
             subst (λ (x : SlotLeaf). IsTaken view.seen who.pass who.row ack x) same
             (record { put = (taken found.0 found.1 found.2).put })
 
-        borne_missed : (miss : Miss) → Contains ack.missed miss → IsMissed view.seen (opened g) miss
+        borne_missed : (miss : Miss) → Contains ack.missed miss → IsMissed view.seen (opened_slots g) miss
         borne_missed miss there =
             let found = missed_in marks miss there in
-            subst (λ (x : Miss). IsMissed view.seen (opened g) x) found.4
+            subst (λ (x : Miss). IsMissed view.seen (opened_slots g) x) found.4
             (record { placed = mark_opened found.0 found.1; down = missed found.0 found.2 found.1 found.3 })
 
         borne_out : IsBorneOut view.seen r (g ++ e ∷ []) (length g) e
         borne_out =
             subst (λ (front : List RangeEntry).
-            ((replica : SlotLeaf) → Contains (opened front) replica → Contains ack.took replica.slot
+            ((replica : SlotLeaf) → Contains (opened_slots front) replica → Contains ack.took replica.slot
             → IsTaken view.seen who.pass who.row ack replica)
-            × ((miss : Miss) → Contains ack.missed miss → IsMissed view.seen (opened front) miss))
+            × ((miss : Miss) → Contains ack.missed miss → IsMissed view.seen (opened_slots front) miss))
             (sym (take_at g (e ∷ []) (length g) refl))
             (borne_taken, borne_missed)
 
@@ -292,7 +294,7 @@ module _ (setting : Setting) (world : World) (i : ℕ) (who : Writer) (is : worl
         ack_sound =
             range_entry_sound view r e here setting sound
             (subst (λ (h : List RangeEntry). (replica : SlotLeaf) → Contains (serving (h ++ e ∷ [])) replica
-            → BeginsWith (replica_rows r replica.slot (of_leaf view replica.leaf)) (acked (h ++ e ∷ [])))
+            → BeginsWith (replica_rows r replica.slot (of_leaf view replica.leaf)) (acknowledged_rows (h ++ e ∷ [])))
             (sym whole) keeps_rows)
             (subst (λ (h : List RangeEntry). IsBorneOut view.seen r (h ++ e ∷ []) (length h) e) (sym whole)
             borne_out)
@@ -329,16 +331,17 @@ module _ (setting : Setting) (world : World) (i : ℕ) (who : Writer) (is : worl
             (range_entry_same world.truth.seen r e there_truth) there) in
             let has = (mark_of found.0 found.1).has in
             subst (λ (x : SlotLeaf). HasRows (with_range_entry r e world.truth) r x
-            (acked (of_range (with_range_entry r e world.truth) r))) found.2
+            (acknowledged_rows (of_range (with_range_entry r e world.truth) r))) found.2
             (record {
               opened = has.opened;
-              all = has.all ∙ ap (λ f. cond (is_taken f) (rows_after world who) (acked g)) found.3
-                  ∙ sym (acked-push g who.pass who.row ack)
-                  ∙ ap acked (sym (range_entry_same world.truth.seen r e there_truth));
+              all = has.all ∙ ap (λ f. cond (is_taken f) (rows_after world who) (acknowledged_rows g)) found.3
+                  ∙ sym (acknowledged_rows-push g who.pass who.row ack)
+                  ∙ ap acknowledged_rows (sym (range_entry_same world.truth.seen r e there_truth));
             });
         fresh = subst (λ (n : ℕ). IsFresh (with_range_entry r e world.truth) r n)
             (sym (ap length (opened-acked g who.pass who.row ack))
-            ∙ ap (λ h. length (opened h)) (sym (range_entry_same world.truth.seen r e there_truth))) at.going.fresh;
+            ∙ ap (λ h. length (opened_slots h)) (sym (range_entry_same world.truth.seen r e there_truth)))
+            at.going.fresh;
       }
 
       ack_some : IsStep setting world (at_range world i who.view r (with_range_entry r e) None (writes_on who stage))
@@ -350,7 +353,7 @@ module _ (setting : Setting) (world : World) (i : ℕ) (who : Writer) (is : worl
           (sym (range_entry_same met.seen r e there_met)) (Contains-push (of_range met r) e))
           (done_acked world.truth who marks some there_truth deeds)
 
-    pub ack_marked : IsStep setting world (at_range world i who.view r (acknowledged who (Marked marks)) None
+    pub ack_marked : IsStep setting world (at_range world i who.view r (with_acknowledgement who (Marked marks)) None
         (writes_on who stage))
     ack_marked =
         elim (cases_Bool (some_took marks)) [

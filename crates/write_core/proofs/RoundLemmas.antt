@@ -4,7 +4,7 @@ use Rattle.std.proofs.Common.{append_assoc, length, get_or, set, take, drop, ref
 use Rattle.std.proofs.lemmas.List.{drop_more, drop_all, drop-set-lt, take_more, take_more_set, take_all}
 use Rattle.std.specs.Prelude.{nat_le, slice_get}
 use Rattle.std.proofs.lemmas.Bool.Decides.{nat_tests}
-use Rattle.write_core.specs.Marks.{is_ready, marked}
+use Rattle.write_core.specs.Marks.{is_ready, with_fate}
 use Rattle.write_core.specs.Rounds.{first_left, is_none_left, looked_at, marks_of, skip}
 use Rattle.write_core.specs.declared.marks.Fate.{Fate}
 use Rattle.write_core.specs.declared.marks.Mark.{Mark}
@@ -59,19 +59,19 @@ skip_end marks i n h e =
     ∙ ap (λ done. record { done = done; left = [] }) all
     ∙ ap (λ left. record { done = take n marks; left = left }) (sym (drop_all n marks (omega arith)))
 
-pub looked-set : (marks : List Mark) (i : ℕ) (d : Mark) (fate : Fate) → i < length marks
+pub after_look-set : (marks : List Mark) (i : ℕ) (d : Mark) (fate : Fate) → i < length marks
     → record {
-      done = take (i + 1) (set marks i (marked (get_or marks i d) fate));
+      done = take (i + 1) (set marks i (with_fate (get_or marks i d) fate));
       left = drop (i + 1)
-          (set marks i (marked (get_or marks i d) fate));
+          (set marks i (with_fate (get_or marks i d) fate));
     }
     ≡ looked_at (take i marks) (drop i marks) fate
-looked-set marks i d fate h =
+after_look-set marks i d fate h =
     let mark = get_or marks i d in
-    ap (λ done. record { done = done; left = drop (i + 1) (set marks i (marked mark fate)) })
-    (take_more_set marks i (marked mark fate) h)
-    ∙ ap (λ left. record { done = take i marks ++ marked mark fate ∷ []; left = left })
-    (drop-set-lt (i + 1) marks i (marked mark fate) (omega arith))
+    ap (λ done. record { done = done; left = drop (i + 1) (set marks i (with_fate mark fate)) })
+    (take_more_set marks i (with_fate mark fate) h)
+    ∙ ap (λ left. record { done = take i marks ++ with_fate mark fate ∷ []; left = left })
+    (drop-set-lt (i + 1) marks i (with_fate mark fate) (omega arith))
     ∙ sym (ap (λ left. looked_at (take i marks) left fate) (drop_more marks i d h))
 
 pub looked_past : (marks : List Mark) (i : ℕ) (fate : Fate) → length marks ≤ i
@@ -106,6 +106,6 @@ pub ruleset rounds = (
   skip_more,
   skip_stops,
   skip_end,
-  looked-set,
+  after_look-set,
   looked_past,
 )

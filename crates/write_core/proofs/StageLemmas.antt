@@ -3,12 +3,12 @@ use Rattle.std.proofs.Common.{◌≡◌, ℕ, true, false, cond, List, [], ◌�
 use Rattle.std.proofs.Common.{append_assoc}
 use Rattle.std.proofs.lemmas.Bool.{cond_both}
 use Rattle.std.proofs.lemmas.List.{map-append}
-use Rattle.mon_topo.specs.RangeHistories.{acked}
+use Rattle.mon_topo.specs.RangeHistories.{acknowledged_rows}
 use Rattle.write_core.specs.Invariant.{AreAll, HasSeen, IsAt, IsAtReady, IsGoing, IsMark, is_asked, is_decided}
 use Rattle.write_core.specs.Invariant.{is_waiting, rows_after}
-use Rattle.write_core.specs.Marks.{is_ready, is_taken, marked, replica_of}
+use Rattle.write_core.specs.Marks.{is_ready, is_taken, with_fate, replica_of}
 use Rattle.write_core.specs.Program.{Acking, Entering, Marked, Reserving, entering, reserving}
-use Rattle.write_core.specs.Rounds.{Round, again, is_none_left, is_through, marks_of, skip, skipped}
+use Rattle.write_core.specs.Rounds.{Round, again, is_none_left, is_through, marks_of, skip, after_skip}
 use Rattle.mon_topo.specs.Settings.{Setting}
 use Rattle.write_core.specs.Views.{of_range}
 use Rattle.write_core.specs.World.{World, Writer}
@@ -76,7 +76,7 @@ module _ (setting : Setting) (world : World) (i : ℕ) (writer : Writer) where
       → IsAt setting world i writer (entering round)
   at_entering round going done left =
       let rest = skips round.done round.left done left in
-      let next = skipped round in
+      let next = after_skip round in
       let still : IsGoing world i setting writer (marks_of next) = subst
       (λ (marks : List Mark). IsGoing world i setting writer marks) (sym rest.all) going in
       cond_both (is_through next) (Acking (Marked (marks_of next))) (Entering next) (IsAt setting world i writer)
@@ -100,35 +100,36 @@ module _ (setting : Setting) (world : World) (i : ℕ) (writer : Writer) where
 
   -- more is known of a replica that took no row
   pub remark : (mark : Mark) (f : Fate) → IsMark world writer mark → is_taken mark.fate ≡ false → is_taken f ≡ false
-      → HasSeen world writer (marked mark f) f → IsMark world writer (marked mark f)
+      → HasSeen world writer (with_fate mark f) f → IsMark world writer (with_fate mark f)
   remark mark f h was now seen = record {
     has = record {
       opened = h.has.opened;
-      all = h.has.all ∙ ap (λ b. cond b (rows_after world writer) (acked (of_range world.truth writer.range)))
+      all = h.has.all
+          ∙ ap (λ b. cond b (rows_after world writer) (acknowledged_rows (of_range world.truth writer.range)))
           (was ∙ sym now);
     };
     seen = seen;
   }
 
   pub remarked_replicas : (done left : List Mark) (mark : Mark) (f : Fate)
-      → map replica_of ((done ++ marked mark f ∷ []) ++ left) ≡ map replica_of (done ++ mark ∷ left)
+      → map replica_of ((done ++ with_fate mark f ∷ []) ++ left) ≡ map replica_of (done ++ mark ∷ left)
   remarked_replicas done left mark f =
-      ap (map replica_of) (append_assoc done (marked mark f ∷ []) left)
-      ∙ map-append replica_of done (marked mark f ∷ left)
+      ap (map replica_of) (append_assoc done (with_fate mark f ∷ []) left)
+      ∙ map-append replica_of done (with_fate mark f ∷ left)
       ∙ sym (map-append replica_of done (mark ∷ left))
 
   -- a write goes on with more known of one replica
   pub going_on : (done left : List Mark) (mark : Mark) (f : Fate)
-      → IsGoing world i setting writer (done ++ mark ∷ left) → IsMark world writer (marked mark f)
-      → IsGoing world i setting writer ((done ++ marked mark f ∷ []) ++ left)
+      → IsGoing world i setting writer (done ++ mark ∷ left) → IsMark world writer (with_fate mark f)
+      → IsGoing world i setting writer ((done ++ with_fate mark f ∷ []) ++ left)
   going_on done left mark f h new = record {
     holds = h.holds;
     source = h.source;
     room = h.room;
     serve = remarked_replicas done left mark f ∙ h.serve;
     fresh = h.fresh;
-    each = all_append (IsMark world writer) (done ++ marked mark f ∷ []) left
-        (all_append (IsMark world writer) done (marked mark f ∷ [])
+    each = all_append (IsMark world writer) (done ++ with_fate mark f ∷ []) left
+        (all_append (IsMark world writer) done (with_fate mark f ∷ [])
         (all_front (IsMark world writer) done (mark ∷ left) h.each) (new, tt))
         (all_back (IsMark world writer) done (mark ∷ left) h.each).1;
   }

@@ -4,13 +4,13 @@ use Rattle.mon_value.specs.LeafHistories.{is_opened, replica_rows}
 use Rattle.mon_value.specs.declared.positions.Leaf.{Leaf}
 use Rattle.mon_value.specs.declared.positions.Range.{Range}
 use Rattle.mon_value.specs.declared.positions.Slot.{Slot}
-use Rattle.mon_topo.specs.Zones.{leaf_numbered, range_numbered}
+use Rattle.mon_value.specs.Positions.{leaf_numbered, range_numbered}
 use Rattle.write_core.specs.Deeds.{HasDone, acks_by, puts_by}
 use Rattle.write_core.specs.Invariant.{IsActor, IsAimed, IsAt, IsCopyAt, IsKept, IsRecovery, IsSettled, IsWriter}
 use Rattle.write_core.specs.Recovering.{CopyStage}
 use Rattle.write_core.specs.Program.{Stage}
 use Rattle.mon_topo.specs.Settings.{Setting}
-use Rattle.write_core.specs.Views.{IsSound, IsWithin, View, of_leaf, of_range}
+use Rattle.write_core.specs.Views.{IsSound, IsViewWithin, View, of_leaf, of_range}
 use Rattle.write_core.specs.World.{Actor, IsPart, Recovers, Recovery, World, Writer, Writes, at_leaf, at_range}
 use Rattle.write_core.specs.World.{copied_on, gone_on, met_at_leaf, met_at_range, pass_of, recovers_on, writes_on}
 use Rattle.write_core.proofs.KeepsLemmas.{Keeps, actor_stays, apart_stay, changed_by, changed_other, part_moves}
@@ -33,8 +33,8 @@ pub record ChangesLeaf (setting : Setting) (world : World) (i : ℕ) (view : Vie
     : Type 0 where
   pub truth : IsSound setting (change world.truth)
   pub met : IsSound setting (met_at_leaf world view l change)
-  pub within : IsWithin (met_at_leaf world view l change) (change world.truth)
-  pub grows : IsWithin world.truth (change world.truth)
+  pub within : IsViewWithin (met_at_leaf world view l change) (change world.truth)
+  pub grows : IsViewWithin world.truth (change world.truth)
   pub count : length (change world.truth).seen.ranges ≡ length world.truth.seen.ranges
   pub whole : of_leaf (met_at_leaf world view l change) l ≡ of_leaf (change world.truth) l
   pub others : (o : Leaf) → o.0 ≢ l.0 → of_leaf (change world.truth) o ≡ of_leaf world.truth o
@@ -58,7 +58,7 @@ none_is_not_some i holder e f = absurd cc
 -- the invariant stays, and the truth only grows
 pub record IsStep (setting : Setting) (world next : World) : Type 0 where
   pub kept : IsKept setting next
-  pub grows : IsWithin world.truth next.truth
+  pub grows : IsViewWithin world.truth next.truth
 
 module _ (setting : Setting) (world : World) (i : ℕ) (view : View) (l : Leaf) (change : View → View)
     (holder : Option ℕ) (next : View → Actor)
@@ -123,8 +123,8 @@ pub record ChangesRange (setting : Setting) (world : World) (i : ℕ) (view : Vi
     : Type 0 where
   pub truth : IsSound setting (change world.truth)
   pub met : IsSound setting (met_at_range world view r change)
-  pub within : IsWithin (met_at_range world view r change) (change world.truth)
-  pub grows : IsWithin world.truth (change world.truth)
+  pub within : IsViewWithin (met_at_range world view r change) (change world.truth)
+  pub grows : IsViewWithin world.truth (change world.truth)
   pub count : length (change world.truth).seen.ranges ≡ length world.truth.seen.ranges
   pub whole : of_range (met_at_range world view r change) r ≡ of_range (change world.truth) r
   pub others : (o : Range) → o.0 ≢ r.0 → of_range (change world.truth) o ≡ of_range world.truth o

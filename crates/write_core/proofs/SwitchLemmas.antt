@@ -12,16 +12,17 @@ use Rattle.mon_value.specs.declared.positions.Zone.{Zone}
 use Rattle.mon_value.specs.declared.rows.Row.{Row}
 use Rattle.mon_topo.specs.HeldHistories.{AreAtHome}
 use Rattle.mon_topo.proofs.HeldLemmas.{leaf_entry_by, leaf_entry_other, leaf_entry_same}
-use Rattle.mon_topo.specs.Zones.{leaf_numbered, range_numbered}
+use Rattle.mon_value.specs.Positions.{leaf_numbered, range_numbered}
 use Rattle.mon_hints.specs.Covers.{Bits, Covers}
 use Rattle.mon_hints.specs.HistoryBuckets.{history_buckets}
 use Rattle.write_core.specs.Invariant.{IsActor, IsAt, IsCopyAt, IsKept, IsWriter}
 use Rattle.write_core.specs.Recovering.{CopyStage}
 use Rattle.write_core.specs.Program.{Stage}
-use Rattle.write_core.specs.Events.{CanBegin, CanSwitch, HasNotBegun, begun, learned, new_writer, resolved, switched}
-use Rattle.write_core.specs.Events.{visited}
+use Rattle.write_core.specs.Events.{CanBegin, CanSwitch, HasNotBegun, after_beginning, after_learning, new_writer}
+use Rattle.write_core.specs.Events.{after_resolving, after_switch}
+use Rattle.write_core.specs.Events.{after_visit}
 use Rattle.mon_topo.specs.Settings.{Setting, zone_of_leaf}
-use Rattle.write_core.specs.Views.{IsSound, IsWithin, View, joined, of_leaf, of_range, with_entry}
+use Rattle.write_core.specs.Views.{IsSound, IsViewWithin, View, joined_view, of_leaf, of_range, with_entry}
 use Rattle.write_core.specs.World.{Actor, IsPart, Recovers, Stands, World, Writes, copied_on, gone_on, pass_of, wiser}
 use Rattle.write_core.proofs.ChangeLemmas.{entry_sound, entry_up, entry_within}
 use Rattle.write_core.proofs.DeedLemmas.{puts_stay, switch_is_no_put}
@@ -65,14 +66,14 @@ nobody i holder e f = absurd cc
 module _ (setting : Setting) (world : World) (kept : IsKept setting world) where
   module _ (l : Leaf) (e : Entry) (view : View) (can : CanSwitch setting world l e view) where
     abbrev base : View
-    base = joined view (world.leaves l.0)
+    base = joined_view view (world.leaves l.0)
 
     base_sound : IsSound setting base
     base_sound =
         joined_sound view (world.leaves l.0) world.truth can.part.within (kept.leaves l).within setting can.part.sound
         (kept.leaves l).sound
 
-    base_within : IsWithin base world.truth
+    base_within : IsViewWithin base world.truth
     base_within = joined_within view (world.leaves l.0) world.truth can.part.within (kept.leaves l).within
 
     base_whole : of_leaf base l ≡ of_leaf world.truth l
@@ -88,7 +89,7 @@ module _ (setting : Setting) (world : World) (kept : IsKept setting world) where
     may_base = subst (λ (history : List Entry). leaf_spec.MayFollow history e) (sym base_whole) can.may
 
     abbrev next : World
-    next = switched world l e view
+    next = after_switch world l e view
 
     abbrev met : View
     met = with_entry l e base
@@ -100,7 +101,7 @@ module _ (setting : Setting) (world : World) (kept : IsKept setting world) where
       within = entry_within l e base world.truth in_base can.there base_whole base_within;
     }
 
-    grows : IsWithin world.truth next.truth
+    grows : IsViewWithin world.truth next.truth
     grows = entry_up world.truth l e can.there
 
     rows_stay : (r : Range) (s : Slot) (o : Leaf)
@@ -168,7 +169,7 @@ module _ (setting : Setting) (world : World) (kept : IsKept setting world) where
 
   module _ (i : ℕ) (view : View) (part : IsPart setting world view) where
     abbrev after : World
-    after = learned world i view
+    after = after_learning world i view
 
     moved : (x : View) → IsPart setting world x → IsPart setting after x
     moved x h = record { sound = h.sound; within = h.within }
@@ -183,7 +184,7 @@ module _ (setting : Setting) (world : World) (kept : IsKept setting world) where
       acks = λ r. refl;
     }
 
-    both : (x : View) → IsPart setting world x → IsPart setting after (joined x view)
+    both : (x : View) → IsPart setting world x → IsPart setting after (joined_view x view)
     both x h = record {
       sound = joined_sound x view world.truth h.within part.within setting h.sound part.sound;
       within = joined_within x view world.truth h.within part.within;
@@ -199,7 +200,8 @@ module _ (setting : Setting) (world : World) (kept : IsKept setting world) where
     wiser_kept (Writes writer) locking h = record {
       part = both writer.view h.part;
       lawful = record { at_home = h.lawful.at_home; there = h.lawful.there };
-      at = subst (λ (stage : Stage). IsAt setting after i (gone_on writer writer.stage (joined writer.view view)) stage)
+      at = subst
+          (λ (stage : Stage). IsAt setting after i (gone_on writer writer.stage (joined_view writer.view view)) stage)
           (sym locking) tt;
       deeds = record { puts = h.deeds.puts; acks = h.deeds.acks };
     }
@@ -207,7 +209,7 @@ module _ (setting : Setting) (world : World) (kept : IsKept setting world) where
       part = both recovery.view h.part;
       aimed = record { range_there = h.aimed.range_there; leaf_there = h.aimed.leaf_there };
       at = subst (λ (stage : CopyStage). IsCopyAt setting after i
-          (copied_on recovery recovery.stage (joined recovery.view view)) stage) (sym beginning) tt;
+          (copied_on recovery recovery.stage (joined_view recovery.view view)) stage) (sym beginning) tt;
     }
     wiser_kept (Stands stander) before h = record {
       part = both stander.view h.part;
@@ -236,7 +238,7 @@ module _ (setting : Setting) (world : World) (kept : IsKept setting world) where
 
   module _ (i : ℕ) (row : Row) (range : Range) where
     abbrev with_writer : World
-    with_writer = begun world i row range
+    with_writer = after_beginning world i row range
 
     stays_part : (x : View) → IsPart setting world x → IsPart setting with_writer x
     stays_part x h = record { sound = h.sound; within = h.within }
@@ -284,7 +286,7 @@ module _ (setting : Setting) (world : World) (kept : IsKept setting world) where
 
   module _ (l : Leaf) (view : View) (part : IsPart setting world view) where
     abbrev seen : World
-    seen = visited world l view
+    seen = after_visit world l view
 
     still : (x : View) → IsPart setting world x → IsPart setting seen x
     still x h = record { sound = h.sound; within = h.within }
@@ -304,7 +306,7 @@ module _ (setting : Setting) (world : World) (kept : IsKept setting world) where
     visit_kept = record {
       kept = record {
         truth = kept.truth;
-        leaves = λ o. changed_by world.leaves l.0 (joined view (world.leaves l.0)) (λ n x. IsPart setting seen x)
+        leaves = λ o. changed_by world.leaves l.0 (joined_view view (world.leaves l.0)) (λ n x. IsPart setting seen x)
             (record {
               sound = joined_sound view (world.leaves l.0) world.truth part.within (kept.leaves l).within setting
                   part.sound
@@ -313,7 +315,7 @@ module _ (setting : Setting) (world : World) (kept : IsKept setting world) where
             })
             (λ n apart. still (world.leaves n) (kept.leaves (leaf_numbered n))) o.0;
         ranges = λ r. still (world.ranges r.0) (kept.ranges r);
-        whole_leaves = λ o. changed_by world.leaves l.0 (joined view (world.leaves l.0))
+        whole_leaves = λ o. changed_by world.leaves l.0 (joined_view view (world.leaves l.0))
             (λ n x. of_leaf x (leaf_numbered n) ≡ of_leaf world.truth (leaf_numbered n))
             (joined_whole_leaf view (world.leaves l.0) world.truth part.within (kept.leaves l).within l
             (kept.whole_leaves l))
@@ -328,7 +330,7 @@ module _ (setting : Setting) (world : World) (kept : IsKept setting world) where
 
   module _ (r : Range) (view : View) (part : IsPart setting world view) where
     abbrev told : World
-    told = resolved world r view
+    told = after_resolving world r view
 
     still_told : (x : View) → IsPart setting world x → IsPart setting told x
     still_told x h = record { sound = h.sound; within = h.within }
@@ -349,7 +351,7 @@ module _ (setting : Setting) (world : World) (kept : IsKept setting world) where
       kept = record {
         truth = kept.truth;
         leaves = λ l. still_told (world.leaves l.0) (kept.leaves l);
-        ranges = λ o. changed_by world.ranges r.0 (joined view (world.ranges r.0)) (λ n x. IsPart setting told x)
+        ranges = λ o. changed_by world.ranges r.0 (joined_view view (world.ranges r.0)) (λ n x. IsPart setting told x)
             (record {
               sound = joined_sound view (world.ranges r.0) world.truth part.within (kept.ranges r).within setting
                   part.sound
@@ -358,7 +360,7 @@ module _ (setting : Setting) (world : World) (kept : IsKept setting world) where
             })
             (λ n apart. still_told (world.ranges n) (kept.ranges (range_numbered n))) o.0;
         whole_leaves = kept.whole_leaves;
-        whole_ranges = λ o. changed_by world.ranges r.0 (joined view (world.ranges r.0))
+        whole_ranges = λ o. changed_by world.ranges r.0 (joined_view view (world.ranges r.0))
             (λ n x. of_range x (range_numbered n) ≡ of_range world.truth (range_numbered n))
             (joined_whole_range view (world.ranges r.0) world.truth part.within (kept.ranges r).within r
             (kept.whole_ranges r))

@@ -9,12 +9,12 @@ use Rattle.mon_value.specs.declared.positions.Range.{Range}
 use Rattle.mon_value.specs.declared.positions.Slot.{Slot}
 use Rattle.mon_value.specs.declared.positions.SlotLeaf.{SlotLeaf}
 use Rattle.mon_value.specs.declared.rows.Row.{Row}
-use Rattle.mon_topo.specs.RangeHistories.{MayFollow, opened, serving}
+use Rattle.mon_topo.specs.RangeHistories.{MayFollow, opened_slots, serving}
 use Rattle.mon_topo.specs.Settings.{Setting, zone_of_leaf}
 use Rattle.mon_hints.specs.HistoryBuckets.{rows_buckets}
 use Rattle.write_core.specs.Recovering.{Admits, Beginning, Carrying, CopyStage, CopyTold, Copying, Denied, Gives}
 use Rattle.write_core.specs.Recovering.{HasRoom, Nearing, Over, Sources, Telling, WasDone, WasDown, Within, copying}
-use Rattle.write_core.specs.Steps.{AreUnraised, unchanged}
+use Rattle.write_core.specs.Steps.{AreUnraised, same_view}
 use Rattle.write_core.specs.Views.{View, of_leaf, of_range, with_entry, with_range_entry, with_root_bit, with_zone_bit}
 use Rattle.write_core.specs.World.{Actor, Recovers, Recovery, Stands, World, Writes, at_leaf, at_range, recovers_on}
 
@@ -22,7 +22,7 @@ use Rattle.write_core.specs.World.{Actor, Recovers, Recovery, Stands, World, Wri
 
 -- the slot of the next replica of a range
 abbrev pub next_slot : List RangeEntry → Slot
-next_slot history = record { 0 = length (opened history) }
+next_slot history = record { 0 = length (opened_slots history) }
 
 -- the replica that a recovery opens
 abbrev pub new_replica : Recovery → List RangeEntry → SlotLeaf
@@ -97,27 +97,29 @@ CanCopy setting world i told = CanRecover setting world (world.actors i) told
 
 -- ---- what it makes of the world
 
-abbrev pub begun : World → ℕ → Recovery → CopyTold → World
-begun world i who (Sources replicas) =
-    at_range world i who.view who.range unchanged (Some i) (recovers_on who (copying replicas))
-begun world i who told = at_range world i who.view who.range unchanged (Some i) (recovers_on who (Telling false))
+abbrev pub after_sources : World → ℕ → Recovery → CopyTold → World
+after_sources world i who (Sources replicas) =
+    at_range world i who.view who.range same_view (Some i) (recovers_on who (copying replicas))
+after_sources world i who told =
+    at_range world i who.view who.range same_view (Some i) (recovers_on who (Telling false))
 
-abbrev pub asked : World → ℕ → Recovery → List SlotLeaf → CopyTold → World
-asked world i who [] told = world
-asked world i who (source ∷ left) (Gives rows) =
-    at_leaf world i who.view source.leaf unchanged None (recovers_on who (Carrying rows))
-asked world i who (source ∷ left) told =
-    at_leaf world i who.view source.leaf unchanged None (recovers_on who (copying left))
+abbrev pub after_asking : World → ℕ → Recovery → List SlotLeaf → CopyTold → World
+after_asking world i who [] told = world
+after_asking world i who (source ∷ left) (Gives rows) =
+    at_leaf world i who.view source.leaf same_view None (recovers_on who (Carrying rows))
+after_asking world i who (source ∷ left) told =
+    at_leaf world i who.view source.leaf same_view None (recovers_on who (copying left))
 
-abbrev pub carried : World → ℕ → Recovery → List Row → CopyTold → World
-carried world i who rows HasRoom =
-    at_leaf world i who.view who.leaf unchanged None (recovers_on who (Nearing rows))
-carried world i who rows told = at_leaf world i who.view who.leaf unchanged None (recovers_on who (Telling false))
+abbrev pub after_carrying : World → ℕ → Recovery → List Row → CopyTold → World
+after_carrying world i who rows HasRoom =
+    at_leaf world i who.view who.leaf same_view None (recovers_on who (Nearing rows))
+after_carrying world i who rows told =
+    at_leaf world i who.view who.leaf same_view None (recovers_on who (Telling false))
 
-abbrev pub neared : World → ℕ → Recovery → List Row → CopyTold → World
-neared world i who rows (Admits buckets) =
-    at_leaf world i who.view who.leaf unchanged (Some i) (recovers_on who (Within rows buckets buckets))
-neared world i who rows told = at_leaf world i who.view who.leaf unchanged None (recovers_on who (Telling false))
+abbrev pub after_nearing : World → ℕ → Recovery → List Row → CopyTold → World
+after_nearing world i who rows (Admits buckets) =
+    at_leaf world i who.view who.leaf same_view (Some i) (recovers_on who (Within rows buckets buckets))
+after_nearing world i who rows told = at_leaf world i who.view who.leaf same_view None (recovers_on who (Telling false))
 
 abbrev pub copied_in : Setting → World → ℕ → Recovery → List Row → List ℕ → List ℕ → World
 copied_in setting world i who rows (bucket ∷ at_root) in_zone =
@@ -133,24 +135,24 @@ copied_in setting world i who rows [] [] =
 -- what a recovery appends to its range's history
 abbrev pub told_range : Recovery → List RangeEntry → Bool → View → View
 told_range recovery history true = with_range_entry recovery.range (opening_of recovery history)
-told_range recovery history false = unchanged
+told_range recovery history false = same_view
 
 abbrev pub copy_at : Setting → World → ℕ → Recovery → CopyStage → CopyTold → World
-copy_at setting world i who Beginning told = begun world i who told
-copy_at setting world i who (Copying sources) told = asked world i who sources told
-copy_at setting world i who (Carrying rows) told = carried world i who rows told
-copy_at setting world i who (Nearing rows) told = neared world i who rows told
+copy_at setting world i who Beginning told = after_sources world i who told
+copy_at setting world i who (Copying sources) told = after_asking world i who sources told
+copy_at setting world i who (Carrying rows) told = after_carrying world i who rows told
+copy_at setting world i who (Nearing rows) told = after_nearing world i who rows told
 copy_at setting world i who (Within rows at_root in_zone) told = copied_in setting world i who rows at_root in_zone
 copy_at setting world i who (Telling is_open) told =
     at_range world i who.view who.range (told_range who (of_range world.truth who.range) is_open) None
     (recovers_on who (Over is_open))
 copy_at setting world i who (Over is_open) told = world
 
-abbrev pub recovered : Setting → World → ℕ → Actor → CopyTold → World
-recovered setting world i (Writes writer) told = world
-recovered setting world i (Recovers recovery) told = copy_at setting world i recovery recovery.stage told
-recovered setting world i (Stands stander) told = world
+abbrev pub after_copy_event : Setting → World → ℕ → Actor → CopyTold → World
+after_copy_event setting world i (Writes writer) told = world
+after_copy_event setting world i (Recovers recovery) told = copy_at setting world i recovery recovery.stage told
+after_copy_event setting world i (Stands stander) told = world
 
 -- the next event of a recovery, with this answer
 abbrev pub copy_step : Setting → World → ℕ → CopyTold → World
-copy_step setting world i told = recovered setting world i (world.actors i) told
+copy_step setting world i told = after_copy_event setting world i (world.actors i) told

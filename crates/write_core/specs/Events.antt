@@ -11,8 +11,9 @@ use Rattle.write_core.specs.CopySteps.{CanCopy, copy_step}
 use Rattle.write_core.specs.Program.{Locking}
 use Rattle.write_core.specs.Recovering.{Beginning, CopyTold}
 use Rattle.write_core.specs.Steps.{CanCome, step}
-use Rattle.write_core.specs.Views.{View, joined, of_leaf, with_entry}
-use Rattle.write_core.specs.World.{Actor, IsPart, Recovers, Stands, World, Writer, Writes, changed, pass_of, view_of}
+use Rattle.write_core.specs.Views.{View, joined_view, of_leaf, with_entry}
+use Rattle.write_core.specs.World.{Actor, IsPart, Recovers, Stands, World, Writer, Writes, with_value_at, pass_of}
+use Rattle.write_core.specs.World.{view_of}
 use Rattle.write_core.specs.World.{wiser}
 use Rattle.write_core.specs.declared.asks.WriteTold.{WriteTold}
 
@@ -24,10 +25,10 @@ pub record CanSwitch (setting : Setting) (world : World) (leaf : Leaf) (entry : 
   pub may : MayFollow (of_leaf world.truth leaf) entry
   pub part : IsPart setting world view
 
-abbrev pub switched : World → Leaf → Entry → View → World
-switched world leaf entry view = record {
+abbrev pub after_switch : World → Leaf → Entry → View → World
+after_switch world leaf entry view = record {
   truth = with_entry leaf entry world.truth;
-  leaves = changed world.leaves leaf.0 (with_entry leaf entry (joined view (world.leaves leaf.0)));
+  leaves = with_value_at world.leaves leaf.0 (with_entry leaf entry (joined_view view (world.leaves leaf.0)));
   ranges = world.ranges;
   leaf_holder = world.leaf_holder;
   range_holder = world.range_holder;
@@ -41,14 +42,14 @@ HasNotBegun (Recovers recovery) = recovery.stage ≡ Beginning
 HasNotBegun (Stands stander) = Unit {0}
 
 -- an actor learns what someone has seen
-abbrev pub learned : World → ℕ → View → World
-learned world i view = record {
+abbrev pub after_learning : World → ℕ → View → World
+after_learning world i view = record {
   truth = world.truth;
   leaves = world.leaves;
   ranges = world.ranges;
   leaf_holder = world.leaf_holder;
   range_holder = world.range_holder;
-  actors = changed world.actors i (wiser (world.actors i) view);
+  actors = with_value_at world.actors i (wiser (world.actors i) view);
 }
 
 -- someone who stands by is to write a row, which lies in a range that there is
@@ -62,21 +63,21 @@ abbrev pub new_writer : Row → Range → Actor → Writer
 new_writer row range actor =
     record { pass = pass_of actor; row = row; range = range; stage = Locking; view = view_of actor }
 
-abbrev pub begun : World → ℕ → Row → Range → World
-begun world i row range = record {
+abbrev pub after_beginning : World → ℕ → Row → Range → World
+after_beginning world i row range = record {
   truth = world.truth;
   leaves = world.leaves;
   ranges = world.ranges;
   leaf_holder = world.leaf_holder;
   range_holder = world.range_holder;
-  actors = changed world.actors i (Writes (new_writer row range (world.actors i)));
+  actors = with_value_at world.actors i (Writes (new_writer row range (world.actors i)));
 }
 
 -- someone who has seen so much looks at a leaf: both have then seen what either had
-abbrev pub visited : World → Leaf → View → World
-visited world leaf view = record {
+abbrev pub after_visit : World → Leaf → View → World
+after_visit world leaf view = record {
   truth = world.truth;
-  leaves = changed world.leaves leaf.0 (joined view (world.leaves leaf.0));
+  leaves = with_value_at world.leaves leaf.0 (joined_view view (world.leaves leaf.0));
   ranges = world.ranges;
   leaf_holder = world.leaf_holder;
   range_holder = world.range_holder;
@@ -84,11 +85,11 @@ visited world leaf view = record {
 }
 
 -- or at a range
-abbrev pub resolved : World → Range → View → World
-resolved world range view = record {
+abbrev pub after_resolving : World → Range → View → World
+after_resolving world range view = record {
   truth = world.truth;
   leaves = world.leaves;
-  ranges = changed world.ranges range.0 (joined view (world.ranges range.0));
+  ranges = with_value_at world.ranges range.0 (joined_view view (world.ranges range.0));
   leaf_holder = world.leaf_holder;
   range_holder = world.range_holder;
   actors = world.actors;
@@ -116,20 +117,20 @@ CanHappen setting world (Begins i row range) = CanBegin setting world row range 
 CanHappen setting world (Visits leaf view) = (world.leaf_holder leaf.0 ≡ None) × IsPart setting world view
 CanHappen setting world (Resolves range view) = (world.range_holder range.0 ≡ None) × IsPart setting world view
 
-abbrev pub happened : Setting → World → Event → World
-happened setting world (Goes i answer) = step setting world i answer
-happened setting world (Copies i told) = copy_step setting world i told
-happened setting world (Switches leaf entry view) = switched world leaf entry view
-happened setting world (Learns i view) = learned world i view
-happened setting world (Begins i row range) = begun world i row range
-happened setting world (Visits leaf view) = visited world leaf view
-happened setting world (Resolves range view) = resolved world range view
+abbrev pub after_event : Setting → World → Event → World
+after_event setting world (Goes i answer) = step setting world i answer
+after_event setting world (Copies i told) = copy_step setting world i told
+after_event setting world (Switches leaf entry view) = after_switch world leaf entry view
+after_event setting world (Learns i view) = after_learning world i view
+after_event setting world (Begins i row range) = after_beginning world i row range
+after_event setting world (Visits leaf view) = after_visit world leaf view
+after_event setting world (Resolves range view) = after_resolving world range view
 
 abbrev pub CanRun : Setting → World → List Event → Type 0
 CanRun setting world [] = Unit {0}
 CanRun setting world (event ∷ events) =
-    CanHappen setting world event × CanRun setting (happened setting world event) events
+    CanHappen setting world event × CanRun setting (after_event setting world event) events
 
-abbrev pub run : Setting → World → List Event → World
-run setting world [] = world
-run setting world (event ∷ events) = run setting (happened setting world event) events
+abbrev pub after_events : Setting → World → List Event → World
+after_events setting world [] = world
+after_events setting world (event ∷ events) = after_events setting (after_event setting world event) events

@@ -12,7 +12,7 @@ use Rattle.mon_value.specs.declared.positions.Slot.{Slot}
 use Rattle.mon_value.specs.declared.positions.SlotLeaf.{SlotLeaf}
 use Rattle.mon_value.specs.declared.rows.Row.{Row}
 use Rattle.mon_topo.specs.HeldHistories.{BeginsWith, IsAtHome, IsBorneOut}
-use Rattle.mon_topo.specs.RangeHistories.{IsLegal, acked, opened, serving}
+use Rattle.mon_topo.specs.RangeHistories.{IsLegal, acknowledged_rows, opened_slots, serving}
 use Rattle.mon_topo.specs.Zones.{leaves_in, ranges_in}
 use Rattle.mon_hints.specs.HistoryBuckets.{rows_buckets}
 use Rattle.write_core.specs.CopySteps.{MayOpen, copy_of, new_replica, next_slot}
@@ -75,13 +75,13 @@ IsFresh view range from =
 -- the replicas that serve have just the acknowledged rows, and no replica was opened that the range does not know
 pub record IsSettled (view : View) (range : Range) : Type 0 where
   pub rows : (replica : SlotLeaf) → Contains (serving (of_range view range)) replica
-      → HasRows view range replica (acked (of_range view range))
-  pub fresh : IsFresh view range (length (opened (of_range view range)))
+      → HasRows view range replica (acknowledged_rows (of_range view range))
+  pub fresh : IsFresh view range (length (opened_slots (of_range view range)))
 
 -- ---- a write
 
 -- its row fits, and lies in its range, which there is
-pub record IsLawful (setting : Setting) (world : World) (writer : Writer) : Type 0 where
+pub record IsWriteLawful (setting : Setting) (world : World) (writer : Writer) : Type 0 where
   pub at_home : IsAtHome setting.held setting.zones writer.range writer.row
   pub there : writer.range.0 < length world.truth.seen.ranges
 
@@ -92,7 +92,7 @@ pub record Holds (world : World) (i : ℕ) (writer : Writer) : Type 0 where
 
 -- the rows that are acknowledged once its own is
 abbrev pub rows_after : World → Writer → List Row
-rows_after world writer = acked (of_range world.truth writer.range) ++ writer.row ∷ []
+rows_after world writer = acknowledged_rows (of_range world.truth writer.range) ++ writer.row ∷ []
 
 -- the leaf of a replica has its row
 pub record HasTaken (world : World) (writer : Writer) (mark : Mark) : Type 0 where
@@ -112,7 +112,7 @@ HasSeen world writer mark (fate.Missed cut) = HasMissed writer mark cut
 
 -- the rows that a replica has
 abbrev pub rows_of_mark : World → Writer → Fate → List Row
-rows_of_mark world writer fate = if is_taken fate then rows_after world writer else acked
+rows_of_mark world writer fate = if is_taken fate then rows_after world writer else acknowledged_rows
     (of_range world.truth writer.range)
 
 pub record IsMark (world : World) (writer : Writer) (mark : Mark) : Type 0 where
@@ -123,9 +123,9 @@ pub record IsMark (world : World) (writer : Writer) (mark : Mark) : Type 0 where
 pub record IsGoing (world : World) (i : ℕ) (setting : Setting) (writer : Writer) (marks : List Mark) : Type 0 where
   pub holds : Holds world i writer
   pub source : IsSource (rows_after world writer)
-  pub room : length (acked (of_range world.truth writer.range)) < setting.points
+  pub room : length (acknowledged_rows (of_range world.truth writer.range)) < setting.points
   pub serve : map replica_of marks ≡ serving (of_range world.truth writer.range)
-  pub fresh : IsFresh world.truth writer.range (length (opened (of_range world.truth writer.range)))
+  pub fresh : IsFresh world.truth writer.range (length (opened_slots (of_range world.truth writer.range)))
   pub each : AllByRecursion (IsMark world writer) marks
 
 -- inside a leaf: someone who knows so much holds the leaf, which is up, has seen all of its history, and each bucket
@@ -191,7 +191,7 @@ IsAt setting world i writer (Ended verdict) = IsAcked writer verdict
 
 pub record IsWriter (setting : Setting) (world : World) (i : ℕ) (writer : Writer) : Type 0 where
   pub part : IsPart setting world writer.view
-  pub lawful : IsLawful setting world writer
+  pub lawful : IsWriteLawful setting world writer
   pub at : IsAt setting world i writer writer.stage
   pub deeds : HasDone world.truth writer writer.stage
 
@@ -216,7 +216,7 @@ pub record IsCopying (setting : Setting) (world : World) (i : ℕ) (recovery : R
 -- it has the acknowledged rows, which are at home in its range
 pub record HasCopied (setting : Setting) (world : World) (i : ℕ) (recovery : Recovery) (rows : List Row) : Type 0 where
   pub copying : IsCopying setting world i recovery
-  pub all : rows ≡ acked (of_range world.truth recovery.range)
+  pub all : rows ≡ acknowledged_rows (of_range world.truth recovery.range)
   pub at_home : (row : Row) → Contains rows row → IsAtHome setting.held setting.zones recovery.range row
 
 -- its leaf has the new replica with the acknowledged rows, of which the range does not know yet
@@ -224,15 +224,15 @@ pub record HasOpened (setting : Setting) (world : World) (i : ℕ) (recovery : R
   pub holder : world.range_holder recovery.range.0 ≡ Some i
   pub whole : of_range recovery.view recovery.range ≡ of_range world.truth recovery.range
   pub rows : (replica : SlotLeaf) → Contains (serving (of_range world.truth recovery.range)) replica
-      → HasRows world.truth recovery.range replica (acked (of_range world.truth recovery.range))
-  pub fresh : IsFresh world.truth recovery.range (suc (length (opened (of_range world.truth recovery.range))))
+      → HasRows world.truth recovery.range replica (acknowledged_rows (of_range world.truth recovery.range))
+  pub fresh : IsFresh world.truth recovery.range (suc (length (opened_slots (of_range world.truth recovery.range))))
   pub may : MayOpen setting (of_range world.truth recovery.range) recovery
   pub has : HasRows world.truth recovery.range (new_replica recovery (of_range world.truth recovery.range))
-      (acked (of_range world.truth recovery.range))
+      (acknowledged_rows (of_range world.truth recovery.range))
   pub seen : BeginsWith (replica_rows recovery.range (next_slot (of_range world.truth recovery.range))
-      (of_leaf recovery.view recovery.leaf)) (acked (of_range world.truth recovery.range))
+      (of_leaf recovery.view recovery.leaf)) (acknowledged_rows (of_range world.truth recovery.range))
   pub entered : Contains (of_leaf recovery.view recovery.leaf)
-      (copy_of recovery (of_range world.truth recovery.range) (acked (of_range world.truth recovery.range)))
+      (copy_of recovery (of_range world.truth recovery.range) (acknowledged_rows (of_range world.truth recovery.range)))
 
 -- a recovery that opened a replica has seen that in its range's history
 pub record HasRecovered (recovery : Recovery) : Type 0 where
@@ -302,7 +302,7 @@ pub record IsKept (setting : Setting) (world : World) : Type 0 where
 
 -- a write that has not begun has seen all that there is; nobody has put anything by its pass
 pub record IsNewWriter (setting : Setting) (world : World) (writer : Writer) : Type 0 where
-  pub lawful : IsLawful setting world writer
+  pub lawful : IsWriteLawful setting world writer
   pub stage : writer.stage ≡ Locking
   pub view : writer.view ≡ world.truth
   pub unused : IsUnused world.truth writer.pass

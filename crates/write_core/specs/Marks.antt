@@ -18,8 +18,8 @@ abbrev pub waiting : SlotLeaf → Mark
 waiting replica = record { slot = replica.slot; leaf = replica.leaf; fate = fate.Waiting }
 
 -- a replica of which more is known
-abbrev pub marked : Mark → Fate → Mark
-marked mark fate = record { slot = mark.slot; leaf = mark.leaf; fate = fate }
+abbrev pub with_fate : Mark → Fate → Mark
+with_fate mark fate = record { slot = mark.slot; leaf = mark.leaf; fate = fate }
 
 abbrev pub replica_of : Mark → SlotLeaf
 replica_of mark = record { slot = mark.slot; leaf = mark.leaf }

@@ -13,7 +13,7 @@ use Rattle.write_core.specs.declared.marks.Mark.{Mark}
 use Rattle.write_core.specs.declared.marks.Refused.{Refused}
 use Rattle.write_core.specs.declared.marks.Refused.TheVariants as refused
 use Rattle.write_core.specs.Marks.{end_of, waiting}
-use Rattle.write_core.specs.Rounds.{Round, again, is_through, looked, marks_of, round_of, skipped}
+use Rattle.write_core.specs.Rounds.{Round, again, is_through, after_look, marks_of, round_of, after_skip}
 
 -- what was decided: the range does not take the row, or each replica took it or missed it
 pub data Verdict : Type 0 where
@@ -48,15 +48,15 @@ abbrev pub enter : List Mark → WriteAsk
 enter [] = ask.Ack
 enter (mark ∷ left) = ask.Enter mark.slot mark.leaf
 
-abbrev pub put : List Mark → WriteAsk
-put [] = ask.Ack
-put (mark ∷ left) = ask.Put mark.slot mark.leaf
+abbrev pub next_put : List Mark → WriteAsk
+next_put [] = ask.Ack
+next_put (mark ∷ left) = ask.Put mark.slot mark.leaf
 
 -- inside a leaf: all buckets at the root, then all in the zone, then the row
 abbrev pub inside : List Mark → List ℕ → List ℕ → WriteAsk
 inside left (bucket ∷ at_root) in_zone = ask.RaiseRoot bucket
 inside left [] (bucket ∷ in_zone) = ask.RaiseZone bucket
-inside left [] [] = put left
+inside left [] [] = next_put left
 
 abbrev pub ask_of : Stage → WriteAsk
 ask_of Locking = ask.Lock
@@ -71,7 +71,7 @@ ask_of (Ended verdict) = ask.Finished
 -- at the next replica whose leaf has room, and else at the acknowledgement
 abbrev pub entering : Round → Stage
 entering round =
-    if is_through (skipped round) then Acking (Marked (marks_of (skipped round))) else Entering (skipped round)
+    if is_through (after_skip round) then Acking (Marked (marks_of (after_skip round))) else Entering (after_skip round)
 
 -- at the next replica; the leaves are entered once all were asked for room
 abbrev pub reserving : Round → Stage
@@ -89,21 +89,21 @@ told_refused stage why = stage
 
 -- the leaf is up: it has made room, or it was entered
 abbrev pub told_up : Stage → List ℕ → Stage
-told_up (Reserving round) buckets = reserving (looked round fate.Ready)
+told_up (Reserving round) buckets = reserving (after_look round fate.Ready)
 told_up (Entering round) buckets = Inside round buckets buckets
 told_up stage buckets = stage
 
 -- the leaf is down
 abbrev pub told_down : Stage → ℕ → Stage
-told_down (Reserving round) cut = reserving (looked round (fate.Missed cut))
-told_down (Entering round) cut = entering (looked round (fate.Missed cut))
+told_down (Reserving round) cut = reserving (after_look round (fate.Missed cut))
+told_down (Entering round) cut = entering (after_look round (fate.Missed cut))
 told_down stage cut = stage
 
 -- a bit was raised, or the row was put
 abbrev pub done_inside : Round → List ℕ → List ℕ → Stage
 done_inside round (bucket ∷ at_root) in_zone = Inside round at_root in_zone
 done_inside round [] (bucket ∷ in_zone) = Inside round [] in_zone
-done_inside round [] [] = entering (looked round fate.Took)
+done_inside round [] [] = entering (after_look round fate.Took)
 
 -- the same, or the range's lock was let go of
 abbrev pub told_done : Stage → Stage

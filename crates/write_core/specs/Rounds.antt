@@ -2,7 +2,7 @@
 use Rattle.std.specs.Prelude.{Bool, true, false, List, [], ◌∷◌, ◌++◌, Option, Some, None, if◌then◌else◌}
 use Rattle.write_core.specs.declared.marks.Fate.{Fate}
 use Rattle.write_core.specs.declared.marks.Mark.{Mark}
-use Rattle.write_core.specs.Marks.{is_ready, marked}
+use Rattle.write_core.specs.Marks.{is_ready, with_fate}
 
 -- the replicas that it is through with, and those from the one on that it looks at, all in slot order
 pub record Round : Type 0 where
@@ -31,11 +31,11 @@ is_through round = is_none_left round.left
 
 abbrev pub looked_at : List Mark → List Mark → Fate → Round
 looked_at done [] fate = record { done = done; left = [] }
-looked_at done (mark ∷ left) fate = record { done = done ++ marked mark fate ∷ []; left = left }
+looked_at done (mark ∷ left) fate = record { done = done ++ with_fate mark fate ∷ []; left = left }
 
 -- more is known of the replica that it looks at, and it goes on to the next one
-abbrev pub looked : Round → Fate → Round
-looked round fate = looked_at round.done round.left fate
+abbrev pub after_look : Round → Fate → Round
+after_look round fate = looked_at round.done round.left fate
 
 abbrev pub skip : List Mark → List Mark → Round
 skip done [] = record { done = done; left = [] }
@@ -43,5 +43,5 @@ skip done (mark ∷ left) = if is_ready mark.fate then record { done = done; lef
     (done ++ mark ∷ []) left
 
 -- it goes on to the next replica whose leaf has room
-abbrev pub skipped : Round → Round
-skipped round = skip round.done round.left
+abbrev pub after_skip : Round → Round
+after_skip round = skip round.done round.left

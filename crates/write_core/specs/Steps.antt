@@ -9,7 +9,7 @@ use Rattle.mon_value.specs.declared.histories.Entry.{Entry}
 use Rattle.mon_value.specs.declared.histories.RangeEntry.{RangeEntry}
 use Rattle.mon_value.specs.declared.histories.RangeEntry.TheVariants as range_entry
 use Rattle.mon_value.specs.declared.rows.Row.{Row}
-use Rattle.mon_topo.specs.RangeHistories.{acked, serving}
+use Rattle.mon_topo.specs.RangeHistories.{acknowledged_rows, serving}
 use Rattle.mon_hints.specs.HistoryBuckets.{history_buckets}
 use Rattle.write_core.specs.Marks.{ack_of, some_took}
 use Rattle.write_core.specs.Program.{Acking, Ended, Entering, Inside, Locking, Marked, Not, Reserving, Stage, Verdict}
@@ -26,10 +26,12 @@ use Rattle.write_core.specs.declared.marks.Mark.{Mark}
 -- a range whose history is this one takes a row, or tells why not
 abbrev pub IsToldByRange : Setting → List RangeEntry → Row → WriteTold → Type 0
 IsToldByRange setting history row (told.Slots replicas) =
-    (replicas ≡ serving history) × IsSource (acked history ++ row ∷ []) × (length (acked history) < setting.points)
+    (replicas ≡ serving history) × IsSource (acknowledged_rows history ++ row ∷ [])
+    × (length (acknowledged_rows history) < setting.points)
 IsToldByRange setting history row (told.Old last) =
-    (last_end (points_of row.key (acked history)) ≡ Some last) × (row.point.end ≤ℤ last)
-IsToldByRange setting history row (told.Full count) = (count ≡ setting.points) × (length (acked history) ≡ count)
+    (last_end (points_of row.key (acknowledged_rows history)) ≡ Some last) × (row.point.end ≤ℤ last)
+IsToldByRange setting history row (told.Full count) = (count ≡ setting.points)
+    × (length (acknowledged_rows history) ≡ count)
 IsToldByRange setting history row answer = ⊥
 
 -- a leaf whose history is this one makes room, or is down
@@ -84,8 +86,8 @@ CanCome setting world i answer = CanGo setting world (world.actors i) answer
 
 -- ---- what it makes of the world
 
-abbrev pub unchanged : View → View
-unchanged view = view
+abbrev pub same_view : View → View
+same_view view = view
 
 -- a leaf that was entered is held, and one that was found down is not
 abbrev pub entrant : ℕ → WriteTold → Option ℕ
@@ -96,14 +98,14 @@ entrant i (told.Old last) = None
 entrant i (told.Full count) = None
 entrant i told.Done = None
 
-abbrev pub reserved : World → ℕ → Writer → List Mark → Stage → World
-reserved world i who [] next = world
-reserved world i who (mark ∷ left) next = at_leaf world i who.view mark.leaf unchanged None (writes_on who next)
+abbrev pub after_reserving : World → ℕ → Writer → List Mark → Stage → World
+after_reserving world i who [] next = world
+after_reserving world i who (mark ∷ left) next = at_leaf world i who.view mark.leaf same_view None (writes_on who next)
 
-abbrev pub entered : World → ℕ → Writer → List Mark → WriteTold → Stage → World
-entered world i who [] answer next = world
-entered world i who (mark ∷ left) answer next =
-    at_leaf world i who.view mark.leaf unchanged (entrant i answer) (writes_on who next)
+abbrev pub after_entering : World → ℕ → Writer → List Mark → WriteTold → Stage → World
+after_entering world i who [] answer next = world
+after_entering world i who (mark ∷ left) answer next =
+    at_leaf world i who.view mark.leaf same_view (entrant i answer) (writes_on who next)
 
 abbrev pub gone_on_inside : Setting → World → ℕ → Writer → List Mark → List ℕ → List ℕ → Stage → World
 gone_on_inside setting world i who [] at_root in_zone next = world
@@ -116,31 +118,32 @@ gone_on_inside setting world i who (mark ∷ left) [] [] next =
     at_leaf world i who.view mark.leaf (with_entry mark.leaf (put_of who mark)) None (writes_on who next)
 
 -- what a write that is decided appends to its range's history
-abbrev pub acknowledged : Writer → Verdict → View → View
-acknowledged writer (Not why) view = view
-acknowledged writer (Marked marks) view =
+abbrev pub with_acknowledgement : Writer → Verdict → View → View
+with_acknowledgement writer (Not why) view = view
+with_acknowledgement writer (Marked marks) view =
     if some_took marks
     then with_range_entry writer.range (range_entry.Acked writer.pass writer.row (ack_of writer.range marks)) view
     else view
 
 abbrev pub step_at : Setting → World → ℕ → Writer → Stage → WriteTold → World
 step_at setting world i who Locking answer =
-    at_range world i who.view who.range unchanged (Some i) (writes_on who (after Locking answer))
+    at_range world i who.view who.range same_view (Some i) (writes_on who (after Locking answer))
 step_at setting world i who (Reserving round) answer =
-    reserved world i who round.left (after (Reserving round) answer)
+    after_reserving world i who round.left (after (Reserving round) answer)
 step_at setting world i who (Entering round) answer =
-    entered world i who round.left answer (after (Entering round) answer)
+    after_entering world i who round.left answer (after (Entering round) answer)
 step_at setting world i who (Inside round at_root in_zone) answer =
     gone_on_inside setting world i who round.left at_root in_zone (after (Inside round at_root in_zone) answer)
 step_at setting world i who (Acking verdict) answer =
-    at_range world i who.view who.range (acknowledged who verdict) None (writes_on who (after (Acking verdict) answer))
+    at_range world i who.view who.range (with_acknowledgement who verdict) None
+    (writes_on who (after (Acking verdict) answer))
 step_at setting world i who (Ended verdict) answer = world
 
-abbrev pub stepped : Setting → World → ℕ → Actor → WriteTold → World
-stepped setting world i (Writes writer) answer = step_at setting world i writer writer.stage answer
-stepped setting world i (Recovers recovery) answer = world
-stepped setting world i (Stands stander) answer = world
+abbrev pub after_answer : Setting → World → ℕ → Actor → WriteTold → World
+after_answer setting world i (Writes writer) answer = step_at setting world i writer writer.stage answer
+after_answer setting world i (Recovers recovery) answer = world
+after_answer setting world i (Stands stander) answer = world
 
 -- the next event of a write, with this answer
 abbrev pub step : Setting → World → ℕ → WriteTold → World
-step setting world i answer = stepped setting world i (world.actors i) answer
+step setting world i answer = after_answer setting world i (world.actors i) answer

@@ -6,9 +6,11 @@ use Rattle.mon_value.specs.declared.histories.RangeEntry.{RangeEntry}
 use Rattle.mon_value.specs.declared.positions.Leaf.{Leaf}
 use Rattle.mon_value.specs.declared.positions.Range.{Range}
 use Rattle.mon_value.specs.declared.positions.Zone.{Zone}
-use Rattle.mon_topo.specs.HeldHistories.{AreHeld, Histories, leaf_history, range_history}
+use Rattle.mon_value.specs.Histories.{joined_histories, leaf_history, range_history}
+use Rattle.mon_value.specs.declared.histories.Histories.{Histories}
+use Rattle.mon_topo.specs.HeldHistories.{AreHeld}
 use Rattle.mon_topo.specs.SeenHistories as histories
-use Rattle.mon_topo.specs.SeenHistories.{AreWithin, joined_histories}
+use Rattle.mon_topo.specs.SeenHistories.{AreWithin}
 use Rattle.mon_topo.specs.Settings.{Setting, zone_of_leaf}
 use Rattle.mon_hints.specs.Covers.{AreBitsWithin, Bits, Covers, joined_bits, with_bit}
 use Rattle.mon_hints.specs.HistoryBuckets.{history_buckets}
@@ -31,13 +33,13 @@ pub record IsSound (setting : Setting) (view : View) : Type 0 where
       → Covers view.bits (zone_of_leaf setting leaf) leaf (history_buckets setting.buckets_of (of_leaf view leaf))
 
 -- one view is a part of another one
-pub record IsWithin (part whole : View) : Type 0 where
+pub record IsViewWithin (part whole : View) : Type 0 where
   pub seen : AreWithin part.seen whole.seen
   pub bits : AreBitsWithin part.bits whole.bits
 
 -- what two have seen, and know, together
-abbrev pub joined : View → View → View
-joined a b = record { seen = joined_histories a.seen b.seen; bits = joined_bits a.bits b.bits }
+abbrev pub joined_view : View → View → View
+joined_view a b = record { seen = joined_histories a.seen b.seen; bits = joined_bits a.bits b.bits }
 
 -- ---- one step more
 

@@ -8,7 +8,7 @@ use Rattle.mon_value.specs.declared.rows.Row.{Row}
 use Rattle.mon_topo.specs.Settings.{Setting}
 use Rattle.write_core.specs.Program.{Stage}
 use Rattle.write_core.specs.Recovering.{CopyStage}
-use Rattle.write_core.specs.Views.{IsSound, IsWithin, View, joined}
+use Rattle.write_core.specs.Views.{IsSound, IsViewWithin, View, joined_view}
 use Rattle.write_core.specs.declared.marks.Mark.{Mark}
 
 -- ---- actors
@@ -75,9 +75,9 @@ stands_on stander view = Stands (record { pass = stander.pass; view = view })
 
 -- the same, with more seen
 abbrev pub wiser : Actor → View → Actor
-wiser (Writes writer) view = writes_on writer writer.stage (joined writer.view view)
-wiser (Recovers recovery) view = recovers_on recovery recovery.stage (joined recovery.view view)
-wiser (Stands stander) view = stands_on stander (joined stander.view view)
+wiser (Writes writer) view = writes_on writer writer.stage (joined_view writer.view view)
+wiser (Recovers recovery) view = recovers_on recovery recovery.stage (joined_view recovery.view view)
+wiser (Stands stander) view = stands_on stander (joined_view stander.view view)
 
 -- the entry that a write puts to a replica
 abbrev pub put_of : Writer → Mark → Entry
@@ -98,40 +98,40 @@ pub record World : Type 0 where
 -- what someone has seen and knows: a part of the truth, which is sound in itself
 pub record IsPart (setting : Setting) (world : World) (view : View) : Type 0 where
   pub sound : IsSound setting view
-  pub within : IsWithin view world.truth
+  pub within : IsViewWithin view world.truth
 
 -- a table with one value changed
-abbrev pub changed : {X : Type 0} → (ℕ → X) → ℕ → X → (ℕ → X)
-changed table n value other = if nat_eq other n then value else table other
+abbrev pub with_value_at : {X : Type 0} → (ℕ → X) → ℕ → X → (ℕ → X)
+with_value_at table n value other = if nat_eq other n then value else table other
 
 -- ---- meetings
 
 -- what someone and a leaf know together, and then the change that the one makes there
 abbrev pub met_at_leaf : World → View → Leaf → (View → View) → View
-met_at_leaf world view leaf change = change (joined view (world.leaves leaf.0))
+met_at_leaf world view leaf change = change (joined_view view (world.leaves leaf.0))
 
 -- an event of an actor at a leaf: the truth changes; the actor and the leaf both know what either knew, and the change;
 -- and the actor goes on
 abbrev pub at_leaf : World → ℕ → View → Leaf → (View → View) → Option ℕ → (View → Actor) → World
 at_leaf world i view leaf change holder next = record {
   truth = change world.truth;
-  leaves = changed world.leaves leaf.0 (met_at_leaf world view leaf change);
+  leaves = with_value_at world.leaves leaf.0 (met_at_leaf world view leaf change);
   ranges = world.ranges;
-  leaf_holder = changed world.leaf_holder leaf.0 holder;
+  leaf_holder = with_value_at world.leaf_holder leaf.0 holder;
   range_holder = world.range_holder;
-  actors = changed world.actors i (next (met_at_leaf world view leaf change));
+  actors = with_value_at world.actors i (next (met_at_leaf world view leaf change));
 }
 
 abbrev pub met_at_range : World → View → Range → (View → View) → View
-met_at_range world view range change = change (joined view (world.ranges range.0))
+met_at_range world view range change = change (joined_view view (world.ranges range.0))
 
 -- the same at a range
 abbrev pub at_range : World → ℕ → View → Range → (View → View) → Option ℕ → (View → Actor) → World
 at_range world i view range change holder next = record {
   truth = change world.truth;
   leaves = world.leaves;
-  ranges = changed world.ranges range.0 (met_at_range world view range change);
+  ranges = with_value_at world.ranges range.0 (met_at_range world view range change);
   leaf_holder = world.leaf_holder;
-  range_holder = changed world.range_holder range.0 holder;
-  actors = changed world.actors i (next (met_at_range world view range change));
+  range_holder = with_value_at world.range_holder range.0 holder;
+  actors = with_value_at world.actors i (next (met_at_range world view range change));
 }

@@ -1,6 +1,7 @@
 // What a write does next, what it is told of that, and how it ends.
 use mon_hints::Buckets;
-use mon_value::{Ack, Founds, Leaf, Slot, SlotLeaves};
+use mon_value::{Ack, Founds, Leaf, Slot, SlotLeaves, TryCopy};
+use std::alloc::{AllocError, Global};
 
 /// The next event of a write.
 #[derive(Debug, PartialEq, Eq, Drop)]
@@ -52,4 +53,43 @@ pub enum WriteEnd {
     Full(u64),
     /// Every replica was found down, these in slot order.
     Unavailable(Founds),
+}
+
+impl TryCopy for WriteAsk {
+    fn copy(&self, _alloc: Global) -> Result<WriteAsk, AllocError> {
+        match self {
+            WriteAsk::Lock => Ok(WriteAsk::Lock),
+            WriteAsk::Reserve(slot, leaf) => Ok(WriteAsk::Reserve(*slot, *leaf)),
+            WriteAsk::Enter(slot, leaf) => Ok(WriteAsk::Enter(*slot, *leaf)),
+            WriteAsk::RaiseRoot(bucket) => Ok(WriteAsk::RaiseRoot(*bucket)),
+            WriteAsk::RaiseZone(bucket) => Ok(WriteAsk::RaiseZone(*bucket)),
+            WriteAsk::Put(slot, leaf) => Ok(WriteAsk::Put(*slot, *leaf)),
+            WriteAsk::Ack => Ok(WriteAsk::Ack),
+            WriteAsk::Finished => Ok(WriteAsk::Finished),
+        }
+    }
+}
+
+impl TryCopy for WriteTold {
+    fn copy(&self, alloc: Global) -> Result<WriteTold, AllocError> {
+        match self {
+            WriteTold::Slots(replicas) => Ok(WriteTold::Slots(replicas.copy(alloc)?)),
+            WriteTold::Old(last) => Ok(WriteTold::Old(*last)),
+            WriteTold::Full(count) => Ok(WriteTold::Full(*count)),
+            WriteTold::Up(buckets) => Ok(WriteTold::Up(buckets.copy(alloc)?)),
+            WriteTold::Down(cut) => Ok(WriteTold::Down(*cut)),
+            WriteTold::Done => Ok(WriteTold::Done),
+        }
+    }
+}
+
+impl TryCopy for WriteEnd {
+    fn copy(&self, alloc: Global) -> Result<WriteEnd, AllocError> {
+        match self {
+            WriteEnd::Written(ack) => Ok(WriteEnd::Written(ack.copy(alloc)?)),
+            WriteEnd::Old(last) => Ok(WriteEnd::Old(*last)),
+            WriteEnd::Full(count) => Ok(WriteEnd::Full(*count)),
+            WriteEnd::Unavailable(founds) => Ok(WriteEnd::Unavailable(founds.copy(alloc)?)),
+        }
+    }
 }

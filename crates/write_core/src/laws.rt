@@ -5,10 +5,10 @@ ghost use Rattle.write_core.specs.Courses.{EndsDecided, Leg, RunsItsCourse, afte
 ghost use Rattle.write_core.specs.Invariant.{IsAcknowledged, IsKept, IsNew, IsRecovered};
 ghost use Rattle.write_core.specs.Marks.{some_took};
 ghost use Rattle.write_core.specs.Program.{Ended, Locking, Marked};
-ghost use Rattle.write_core.specs.Events.{CanRun, Event, run};
+ghost use Rattle.write_core.specs.Events.{CanRun, Event, after_events};
 ghost use Rattle.mon_topo.specs.Settings.{Setting};
 ghost use Rattle.write_core.specs.Recovering.{Over};
-ghost use Rattle.write_core.specs.Views.{View, joined};
+ghost use Rattle.write_core.specs.Views.{View, joined_view};
 ghost use Rattle.write_core.specs.World.{IsPart, Recovers, Recovery, World, Writer, Writes};
 ghost use Rattle.write_core.specs.declared.asks.WriteTold.{WriteTold};
 ghost use Rattle.write_core.specs.declared.marks.Mark.{Mark};
@@ -34,12 +34,12 @@ pub fn writes_run_their_course()
 pub fn writes_keep_the_invariant()
     ensures begins { (setting : Setting) (world : World) → IsNew setting world → IsKept setting world }
     ensures stays { (setting : Setting) (world : World) (events : List Event) → CanRun setting world events
-        → IsKept setting world → IsKept setting (run setting world events) }
+        → IsKept setting world → IsKept setting (after_events setting world events) }
     ensures parts { (setting : Setting) (world : World) (events : List Event) (view : View)
         → CanRun setting world events → IsKept setting world → IsPart setting world view
-        → IsPart setting (run setting world events) view }
+        → IsPart setting (after_events setting world events) view }
     ensures meets { (setting : Setting) (world : World) (a b : View) → IsPart setting world a → IsPart setting world b
-        → IsPart setting world (joined a b) }
+        → IsPart setting world (joined_view a b) }
     ensures ended { (setting : Setting) (world : World) (i : ℕ) (writer : Writer) → IsKept setting world
         → world.actors i ≡ Writes writer → (marks : List Mark) → writer.stage ≡ Ended (Marked marks)
         → some_took marks ≡ true → IsAcknowledged setting writer marks }

@@ -52,7 +52,7 @@ impl Mark {
 
     /// The replica, of which more is known.
     pub(crate) fn marked(self, fate: Fate) -> Mark
-        ensures mark { result ≡ spec.marked self fate }
+        ensures mark { result ≡ spec.with_fate self fate }
     {
         Mark {
             slot: self.slot,

@@ -1,7 +1,7 @@
 // A round over a write's replicas.
 ghost use Rattle.std.specs.Prelude.{◌≡◌, ◌++◌, [], take, drop};
 ghost use Rattle.std.specs.Option.{option_copied};
-ghost use Rattle.write_core.specs.Rounds.{again, first_left, is_through, looked, round_of, skip, skipped};
+ghost use Rattle.write_core.specs.Rounds.{again, first_left, is_through, after_look, round_of, skip, after_skip};
 
 use crate::marks::{Fate, Mark};
 use std::alloc::Global;
@@ -63,7 +63,7 @@ impl Round {
     /// Says what became of the replica that it looks at, and goes on to the next one.
     #[tactic(auto, using(crate::proofs::RoundLemmas::rounds))]
     pub(crate) fn mark(&mut self, fate: Fate)
-        ensures looked { self.new ≡ looked self.old fate }
+        ensures looked { self.new ≡ after_look self.old fate }
     {
         if self.place < self.marks.len() {
             let mark = self.marks[self.place].marked(fate);
@@ -81,7 +81,7 @@ impl Round {
 
     /// Goes on to the next replica whose leaf has room for the row.
     pub(crate) fn skip(&mut self)
-        ensures skipped { self.new ≡ skipped self.old }
+        ensures skipped { self.new ≡ after_skip self.old }
     {
         self.place = next_ready(self.marks.as_slice(), self.place);
     }

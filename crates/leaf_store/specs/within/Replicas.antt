@@ -67,13 +67,13 @@ with_first None entries = entries
 with_first (Some entry) entries = entry ∷ entries
 
 -- the entries that are kept
-abbrev pub shown : Replicas → List Kept → List Entry
-shown replicas [] = []
-shown replicas (k ∷ ks) = with_first (entry_of replicas k) (shown replicas ks)
+abbrev pub shown_entries : Replicas → List Kept → List Entry
+shown_entries replicas [] = []
+shown_entries replicas (k ∷ ks) = with_first (entry_of replicas k) (shown_entries replicas ks)
 
 -- all of them have their rows
-abbrev pub AllThere : Replicas → List Kept → Type 0
-AllThere replicas ks = AllByRecursion (λ k. is_some (entry_of replicas k) ≡ true) ks
+abbrev pub AllHaveRows : Replicas → List Kept → Type 0
+AllHaveRows replicas ks = AllByRecursion (λ k. is_some (entry_of replicas k) ≡ true) ks
 
 -- ---- a row or a replica more
 
@@ -128,9 +128,9 @@ pub record Settles (old new : Replicas) (last : Entry) (own : Kept) : Type 0 whe
 -- ---- a history in two parts: what is kept, and what is left
 
 pub record Holds (replicas : Replicas) (ks : List Kept) (left : List Entry) : Type 0 where
-  pub there : AllThere replicas ks
-  pub formed : IsWellFormed (shown replicas ks ++ left)
-  pub holds : HoldsHistory replicas (shown replicas ks)
+  pub there : AllHaveRows replicas ks
+  pub formed : IsWellFormed (shown_entries replicas ks ++ left)
+  pub holds : HoldsHistory replicas (shown_entries replicas ks)
 
 abbrev pub SameHistory : Replicas → List Kept → List Entry → Replicas → List Kept → List Entry → Type 0
-SameHistory old ks left new more rest = shown new more ++ rest ≡ shown old ks ++ left
+SameHistory old ks left new more rest = shown_entries new more ++ rest ≡ shown_entries old ks ++ left

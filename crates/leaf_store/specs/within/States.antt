@@ -3,22 +3,21 @@ use Rattle.std.specs.Prelude.{◌≡◌, ℕ, ◌+◌, ◌<◌, ◌≤◌, true,
 use Rattle.std.specs.List.{AllByRecursion, count_by}
 use Rattle.mon_hints.specs.BucketSets.{is_set}
 use Rattle.mon_hints.specs.Listings.{is_among}
-use Rattle.mon_hints.specs.declared.fingerprints.TheConstants.{MOST_BUCKETS}
 use Rattle.mon_value.specs.LeafHistories.{is_down, is_switch}
 use Rattle.mon_value.specs.declared.histories.Entry.{Entry}
-use Rattle.mon_value.specs.declared.limits.TheConstants.{MOST_SWITCHES}
+use Rattle.mon_value.specs.declared.limits.TheConstants.{MOST_BUCKETS, MOST_SWITCHES}
 use Rattle.mon_hints.specs.HistoryBuckets.{history_buckets}
 use Rattle.leaf_store.specs.LeafBuckets.{key_buckets}
 use Rattle.leaf_store.specs.LeafStates.{LeafView}
 use Rattle.leaf_store.specs.declared.leaf_state.LeafState.TheInside.{Inside}
-use Rattle.leaf_store.specs.within.Replicas.{Holds, shown}
+use Rattle.leaf_store.specs.within.Replicas.{Holds, shown_entries}
 
 -- the entries that are left, whose rows aren't with the replicas yet
 abbrev pub left_of : Inside → List Entry
 left_of leaf = drop leaf.moved leaf.fresh.items
 
 abbrev pub history_of : Inside → List Entry
-history_of leaf = shown leaf.replicas.entries leaf.kept.items ++ left_of leaf
+history_of leaf = shown_entries leaf.replicas.entries leaf.kept.items ++ left_of leaf
 
 abbrev pub leaf_view : Inside → LeafView
 leaf_view leaf = record {
@@ -36,7 +35,7 @@ AllSwitches entries = AllByRecursion (λ entry. is_switch entry ≡ true) entrie
 -- the rows of what is kept are with the replicas; the set has the history's buckets; whether the leaf is down and how
 -- many switches it may still have are those of the history; a settled leaf has only switches left; and there is room
 -- for what is promised and for the switches to come
-pub record IsKept (leaf : Inside) : Type 0 where
+pub record IsLeafKept (leaf : Inside) : Type 0 where
   pub within : leaf.moved ≤ length leaf.fresh.items
   pub holds : Holds leaf.replicas.entries leaf.kept.items (left_of leaf)
   pub raised : (bucket : ℕ) → is_set leaf.raised.words bucket

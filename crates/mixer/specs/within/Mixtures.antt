@@ -19,9 +19,9 @@ abbrev pub finished_rows : Piece → List TimedRow
 finished_rows (piece.Table table) = table.rows
 finished_rows (piece.Groups groups) = map row_finished groups.groups
 
-abbrev pub first_rows : List Piece → List TimedRow
-first_rows [] = []
-first_rows (piece ∷ pieces) = finished_rows piece
+abbrev pub first_piece_rows : List Piece → List TimedRow
+first_piece_rows [] = []
+first_piece_rows (piece ∷ pieces) = finished_rows piece
 
 -- whether there is a piece of a node: it is done here, or rows begin there, or it groups what is done here
 abbrev pub is_piece : (Level → Bool) → NodeTree → Bool
@@ -50,26 +50,26 @@ pub record IsWayDown (here : Level → Bool) (above : List NodeTree) (top : Node
 -- ---- rows
 
 abbrev pub rows_from : (Level → Bool) → NodeTree → List Piece → List TimedRow
-rows_from here (node.Fetch info schema metric) pieces = first_rows pieces
+rows_from here (node.Fetch info schema metric) pieces = first_piece_rows pieces
 rows_from here (node.Filter info by input) pieces =
-    if here info.level then first_rows pieces
+    if here info.level then first_piece_rows pieces
     else operation_rows (node.Filter info by input) (rows_from here input pieces) []
-rows_from here (node.Align info by input) pieces = first_rows pieces
+rows_from here (node.Align info by input) pieces = first_piece_rows pieces
 rows_from here (node.GroupBy info by with input) pieces =
-    if (if here info.level then true else here (level_of input)) then first_rows pieces
+    if (if here info.level then true else here (level_of input)) then first_piece_rows pieces
     else operation_rows (node.GroupBy info by with input) (rows_from here input pieces) []
 rows_from here (node.Value info items input) pieces =
-    if here info.level then first_rows pieces
+    if here info.level then first_piece_rows pieces
     else operation_rows (node.Value info items input) (rows_from here input pieces) []
 rows_from here (node.Top info most column input) pieces =
-    if here info.level then first_rows pieces
+    if here info.level then first_piece_rows pieces
     else operation_rows (node.Top info most column input) (rows_from here input pieces) []
 rows_from here (node.Join info left right) pieces =
-    if here info.level then first_rows pieces
+    if here info.level then first_piece_rows pieces
     else operation_rows (node.Join info left right) (rows_from here left pieces)
     (rows_from here right (drop (part_count here left) pieces))
 rows_from here (node.Union info left right) pieces =
-    if here info.level then first_rows pieces
+    if here info.level then first_piece_rows pieces
     else operation_rows (node.Union info left right) (rows_from here left pieces)
     (rows_from here right (drop (part_count here left) pieces))
 
@@ -85,15 +85,15 @@ other_count here (node.Join info left right) = part_count here right
 other_count here (node.Union info left right) = part_count here right
 
 -- the rows of a node's right side, and none where it has no such side
-abbrev pub other_rows : (Level → Bool) → NodeTree → List Piece → List TimedRow
-other_rows here (node.Fetch info schema metric) pieces = []
-other_rows here (node.Filter info by input) pieces = []
-other_rows here (node.Align info by input) pieces = []
-other_rows here (node.GroupBy info by with input) pieces = []
-other_rows here (node.Value info items input) pieces = []
-other_rows here (node.Top info most column input) pieces = []
-other_rows here (node.Join info left right) pieces = rows_from here right pieces
-other_rows here (node.Union info left right) pieces = rows_from here right pieces
+abbrev pub other_piece_rows : (Level → Bool) → NodeTree → List Piece → List TimedRow
+other_piece_rows here (node.Fetch info schema metric) pieces = []
+other_piece_rows here (node.Filter info by input) pieces = []
+other_piece_rows here (node.Align info by input) pieces = []
+other_piece_rows here (node.GroupBy info by with input) pieces = []
+other_piece_rows here (node.Value info items input) pieces = []
+other_piece_rows here (node.Top info most column input) pieces = []
+other_piece_rows here (node.Join info left right) pieces = rows_from here right pieces
+other_piece_rows here (node.Union info left right) pieces = rows_from here right pieces
 
 -- ---- the work of joining
 
@@ -132,15 +132,16 @@ Unless true P = Unit {0}
 Unless false P = P
 
 -- the pieces behind those of what flows into a node first
-abbrev pub behind_first : (Level → Bool) → NodeTree → List Piece → List Piece
-behind_first here tree pieces = drop (part_count here (first_input tree)) pieces
+abbrev pub pieces_behind_first : (Level → Bool) → NodeTree → List Piece → List Piece
+pieces_behind_first here tree pieces = drop (part_count here (first_input tree)) pieces
 
 -- a node's operation can be done, where the load so far is within the rows that a table may have
 abbrev pub Operates : ℕ → (Level → Bool) → NodeTree → List Piece → Type 0
 Operates base here tree pieces =
     IsWithinRows (base + joins_from here (first_input tree) pieces + other_joins here tree
-    (behind_first here tree pieces))
-    → CanOperate tree (rows_from here (first_input tree) pieces) (other_rows here tree (behind_first here tree pieces))
+    (pieces_behind_first here tree pieces))
+    → CanOperate tree (rows_from here (first_input tree) pieces)
+    (other_piece_rows here tree (pieces_behind_first here tree pieces))
 
 -- each operation above the pieces can be done, where the load before is `base`
 abbrev pub CanMix : ℕ → (Level → Bool) → NodeTree → List Piece → Type 0
@@ -179,4 +180,4 @@ OtherCanMix base here (node.Union info left right) pieces = CanMix base here rig
 -- what a node adds to the pairs of what flows into it first: those of its right side, and its own
 abbrev pub own_joins : (Level → Bool) → NodeTree → List TimedRow → List Piece → ℕ
 own_joins here tree rows pieces =
-    other_joins here tree pieces + operation_load tree rows (other_rows here tree pieces)
+    other_joins here tree pieces + operation_load tree rows (other_piece_rows here tree pieces)

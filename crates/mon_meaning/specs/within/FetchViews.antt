@@ -28,8 +28,8 @@ abbrev pub all_hold : List BoundPredicate → List Value → Bool
 all_hold filters cells = list_all (λ by. bound_truth by cells) filters
 
 -- whether a series is fetched, and each filter of series holds of it
-abbrev pub is_met : FetchView → SeriesKey → Bool
-is_met fetch key = is_fetched fetch.schema fetch.metric key && all_hold fetch.of_series (series_cells key)
+abbrev pub is_fetch_met : FetchView → SeriesKey → Bool
+is_fetch_met fetch key = is_fetched fetch.schema fetch.metric key && all_hold fetch.of_series (series_cells key)
 
 -- whether each filter of points holds of a point with a value
 abbrev pub keeps : FetchView → SeriesKey → Value → Bool
@@ -46,7 +46,7 @@ met_rows grid by fetch series = map (row_of series.0) (aligned_values by grid (p
 -- the fetch of a part: it is met by the series that meet the part, and all filters of both kinds hold of what flows;
 -- filters of series hold of points as they do of the series
 pub record IsFetchOf (input : NodeTree) (fetch : FetchView) : Type 0 where
-  pub met : (key : SeriesKey) → is_met fetch key ≡ meets input key
+  pub met : (key : SeriesKey) → is_fetch_met fetch key ≡ meets input key
   pub flowing : (key : SeriesKey) (value : Value)
       → (is_fetched fetch.schema fetch.metric key
       && (all_hold fetch.of_series (cells_of key value) && keeps fetch key value)) ≡ flows input key value

@@ -24,12 +24,12 @@ KeysDecide (node.Join info left right) key = Unit {0}
 KeysDecide (node.Union info left right) key = Unit {0}
 
 -- whether a part fetches a series, whatever its filters say
-abbrev pub fetches : NodeTree → SeriesKey → Bool
-fetches (node.Fetch info schema metric) key = is_fetched schema metric key
-fetches (node.Filter info by input) key = fetches input key
-fetches (node.Align info by input) key = false
-fetches (node.GroupBy info by with input) key = false
-fetches (node.Value info items input) key = false
-fetches (node.Top info most column input) key = false
-fetches (node.Join info left right) key = false
-fetches (node.Union info left right) key = false
+abbrev pub fetches_series : NodeTree → SeriesKey → Bool
+fetches_series (node.Fetch info schema metric) key = is_fetched schema metric key
+fetches_series (node.Filter info by input) key = fetches_series input key
+fetches_series (node.Align info by input) key = false
+fetches_series (node.GroupBy info by with input) key = false
+fetches_series (node.Value info items input) key = false
+fetches_series (node.Top info most column input) key = false
+fetches_series (node.Join info left right) key = false
+fetches_series (node.Union info left right) key = false

@@ -4,17 +4,19 @@ use Rattle.mon_value.specs.Alignments.{CanAlign}
 use Rattle.mon_value.specs.declared.aligners.Aligner.{Aligner}
 use Rattle.mon_value.specs.declared.grids.Grid.{Grid}
 use Rattle.mon_meaning.specs.declared.alignments.Met.{Met}
-use Rattle.mon_meaning.specs.within.FetchViews.{FetchView, is_met, points_kept}
-use Rattle.mon_meaning.specs.within.Reach.{reached}
+use Rattle.mon_meaning.specs.within.FetchViews.{FetchView, is_fetch_met, points_kept}
+use Rattle.mon_meaning.specs.within.Reach.{points_within_reach}
 use Rattle.mon_meaning.specs.within.SeriesMeaning.{SeriesGroup}
 
 -- a series that is met and has points in reach
 abbrev pub is_counted : Grid → Aligner → FetchView → SeriesGroup → Bool
-is_counted grid by fetch series = is_met fetch series.0 && not (length (reached grid by series.1) == 0)
+is_counted grid by fetch series = is_fetch_met fetch series.0
+    && not (length (points_within_reach grid by series.1) == 0)
 
 -- how many points in reach a series has, if it is met
 abbrev pub met_count : Grid → Aligner → FetchView → SeriesGroup → ℕ
-met_count grid by fetch series = if is_met fetch series.0 then length (reached grid by series.1) else 0
+met_count grid by fetch series = if is_fetch_met fetch series.0 then length (points_within_reach grid by series.1)
+    else 0
 
 -- the series that references point to
 abbrev pub series_met : List Met → List SeriesGroup

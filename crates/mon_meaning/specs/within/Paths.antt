@@ -20,15 +20,15 @@ first_input (node.Join info left right) = left
 first_input (node.Union info left right) = left
 
 -- whether no rows flow into a node
-abbrev pub IsSource : NodeTree → Type 0
-IsSource (node.Fetch info schema metric) = Unit {0}
-IsSource (node.Filter info by input) = ⊥
-IsSource (node.Align info by input) = Unit {0}
-IsSource (node.GroupBy info by with input) = ⊥
-IsSource (node.Value info items input) = ⊥
-IsSource (node.Top info most column input) = ⊥
-IsSource (node.Join info left right) = ⊥
-IsSource (node.Union info left right) = ⊥
+abbrev pub HasNoInput : NodeTree → Type 0
+HasNoInput (node.Fetch info schema metric) = Unit {0}
+HasNoInput (node.Filter info by input) = ⊥
+HasNoInput (node.Align info by input) = Unit {0}
+HasNoInput (node.GroupBy info by with input) = ⊥
+HasNoInput (node.Value info items input) = ⊥
+HasNoInput (node.Top info most column input) = ⊥
+HasNoInput (node.Join info left right) = ⊥
+HasNoInput (node.Union info left right) = ⊥
 
 -- the trees that references point to
 abbrev pub trees_of : List (Bor Node) → List NodeTree

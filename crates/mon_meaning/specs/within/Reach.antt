@@ -6,5 +6,5 @@ use Rattle.mon_value.specs.declared.grids.Grid.{Grid}
 use Rattle.mon_value.specs.declared.rows.Point.{Point}
 use Rattle.mql_types.specs.Loads.{is_in_reach}
 
-abbrev pub reached : Grid → Aligner → List Point → List Point
-reached grid by points = filter (is_in_reach grid by) points
+abbrev pub points_within_reach : Grid → Aligner → List Point → List Point
+points_within_reach grid by points = filter (is_in_reach grid by) points

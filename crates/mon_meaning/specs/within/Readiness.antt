@@ -4,7 +4,7 @@ use Rattle.std.specs.Prelude.{◌≡◌, true, List, sum_by}
 use Rattle.std.specs.List.{AllByRecursion}
 use Rattle.mon_value.specs.Alignments.{CanAlign, seconds_of}
 use Rattle.mon_value.specs.Columns.{IsWhole}
-use Rattle.mon_value.specs.Grids.{IsDuration, IsLawful}
+use Rattle.mon_value.specs.Grids.{IsDuration, IsLawfulGrid}
 use Rattle.mon_value.specs.GroupConditions.{CanGroup}
 use Rattle.mon_value.specs.declared.aligners.Aligner.{Aligner}
 use Rattle.mon_value.specs.declared.grids.Grid.{Grid}
@@ -15,37 +15,38 @@ use Rattle.mql_ast.specs.Trees.{ItemTree}
 use Rattle.mql_types.specs.Nodes as node
 use Rattle.mql_types.specs.Nodes.{NodeTree, columns_of}
 use Rattle.mql_types.specs.Soundness.{IsWithinRows}
-use Rattle.mon_meaning.specs.within.KeyFilters.{KeysDecide, fetches}
+use Rattle.mon_meaning.specs.within.KeyFilters.{KeysDecide, fetches_series}
 use Rattle.mon_meaning.specs.within.SeriesMeaning.{SeriesGroup, load_by_series, points_flowing, reach_count}
 use Rattle.mon_meaning.specs.within.SeriesMeaning.{rows_by_series}
 
 -- series of which an alignment can be made
 pub record AreAlignable (grid : Grid) (by : Aligner) (input : NodeTree) (series : List SeriesGroup) : Type 0 where
-  pub lawful : IsLawful grid
+  pub lawful : IsLawfulGrid grid
   pub looks_back : IsDuration (seconds_of by)
-  pub decided : AllByRecursion (λ (one : SeriesGroup). fetches input one.0 ≡ true → KeysDecide input one.0) series
+  pub decided : AllByRecursion (λ (one : SeriesGroup). fetches_series input one.0 ≡ true → KeysDecide input one.0)
+      series
   pub each : IsWithinRows (sum_by (reach_count grid by input) series)
       → AllByRecursion (λ (one : SeriesGroup). CanAlign by grid (points_flowing input one)) series
 
 abbrev pub table_by_series : Grid → NodeTree → List SeriesGroup → Table
 table_by_series grid tree series = record { columns = columns_of tree; rows = rows_by_series grid tree series }
 
-abbrev pub IsReady : Grid → NodeTree → List SeriesGroup → Type 0
-IsReady grid (node.Fetch info schema metric) series = Unit {0}
-IsReady grid (node.Filter info by input) series = IsReady grid input series
-IsReady grid (node.Align info by input) series = AreAlignable grid by input series
-IsReady grid (node.GroupBy info by with input) series =
+abbrev pub IsNodeReady : Grid → NodeTree → List SeriesGroup → Type 0
+IsNodeReady grid (node.Fetch info schema metric) series = Unit {0}
+IsNodeReady grid (node.Filter info by input) series = IsNodeReady grid input series
+IsNodeReady grid (node.Align info by input) series = AreAlignable grid by input series
+IsNodeReady grid (node.GroupBy info by with input) series =
     (IsWithinRows (load_by_series grid input series)
     → CanGroup (columns_of input) by with (rows_by_series grid input series))
-    × IsReady grid input series
-IsReady grid (node.Value info items input) series =
+    × IsNodeReady grid input series
+IsNodeReady grid (node.Value info items input) series =
     AllByRecursion (λ (item : ItemTree). IsTypedSum item.sum (columns_of input) × HasShares item.sum) items
     × ((IsWithinRows (load_by_series grid input series)
     → AllByRecursion (λ (row : TimedRow). CanCompute (columns_of input) row.cells) (rows_by_series grid input series))
-    × IsReady grid input series)
-IsReady grid (node.Top info most column input) series = IsReady grid input series
-IsReady grid (node.Join info left right) series =
+    × IsNodeReady grid input series)
+IsNodeReady grid (node.Top info most column input) series = IsNodeReady grid input series
+IsNodeReady grid (node.Join info left right) series =
     (IsWithinRows (load_by_series grid left series) → IsWhole (table_by_series grid left series))
     × ((IsWithinRows (load_by_series grid right series) → IsWhole (table_by_series grid right series))
-    × (IsReady grid left series × IsReady grid right series))
-IsReady grid (node.Union info left right) series = IsReady grid left series × IsReady grid right series
+    × (IsNodeReady grid left series × IsNodeReady grid right series))
+IsNodeReady grid (node.Union info left right) series = IsNodeReady grid left series × IsNodeReady grid right series

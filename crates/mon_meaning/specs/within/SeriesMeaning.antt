@@ -17,7 +17,7 @@ use Rattle.mql_types.specs.Loads.{meets}
 use Rattle.mql_types.specs.Meaning.{is_fetched, value_row}
 use Rattle.mql_types.specs.Nodes as node
 use Rattle.mql_types.specs.Nodes.{NodeTree, columns_of}
-use Rattle.mon_meaning.specs.within.Reach.{reached}
+use Rattle.mon_meaning.specs.within.Reach.{points_within_reach}
 
 -- a series and its points
 abbrev pub SeriesGroup : Type 0
@@ -45,7 +45,7 @@ series_rows grid by input series = map (row_of series.0) (aligned_values by grid
 
 -- how many points in reach a series has, if it meets the fetch
 abbrev pub reach_count : Grid → Aligner → NodeTree → SeriesGroup → ℕ
-reach_count grid by input series = if meets input series.0 then length (reached grid by series.1) else 0
+reach_count grid by input series = if meets input series.0 then length (points_within_reach grid by series.1) else 0
 
 -- the rows of a tree
 abbrev pub rows_by_series : Grid → NodeTree → List SeriesGroup → List TimedRow

@@ -4,7 +4,7 @@ use Rattle.mon_value.specs.declared.rows.Row.{Row}
 use Rattle.mon_config.specs.declared.config.Config.{Config}
 use Rattle.mon_script.specs.declared.script.LineForm.TheVariants as form
 use Rattle.mon_run.specs.Endings.{Did, Progress}
-use Rattle.mon_run.specs.Feeds.{Fed, fed}
+use Rattle.mon_run.specs.Feeds.{Fed, feed_of}
 use Rattle.mon_run.specs.Folders.{Files, Told, content_of}
 use Rattle.mon_run.specs.Plans.{Accept, Ask, is_too_long}
 use Rattle.mon_run.specs.within.Stops.{LineStops}
@@ -27,8 +27,8 @@ pub record Front (rows before after : List Row) : Type 0 where
 pub record Took (config : Config) (files : Files) (name : List ℕ) (answer : Answer) (before after : Progress)
     : Type 0 where
   pub short : is_too_long files name ≡ false
-  pub told : FedAs answer (fed config before.rows (content_of files name))
-  pub did : Did (Ask name ∷ map (λ row. Accept row) (fed config before.rows (content_of files name)).accepted)
+  pub told : FedAs answer (feed_of config before.rows (content_of files name))
+  pub did : Did (Ask name ∷ map (λ row. Accept row) (feed_of config before.rows (content_of files name)).accepted)
       before after
 
 abbrev pub FileTaken : Config → List ℕ → Answer → Progress → Progress → Type 0

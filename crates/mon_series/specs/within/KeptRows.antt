@@ -2,9 +2,9 @@
 use Rattle.std.specs.Prelude.{List}
 use Rattle.mon_series.specs.declared.placing.Place.{Place}
 use Rattle.mon_series.specs.within.Metrics.{HasNumbers, Index}
-use Rattle.mon_series.specs.within.Places.{Group, IsKept, rows_at}
+use Rattle.mon_series.specs.within.Places.{Group, AreGroupsKept, rows_at_places}
 
 -- each place has its row, and each metric the numbers of its series
-pub record AreKept (groups : List Group) (places : List Place) (index : Index) : Type 0 where
-  pub placed : IsKept groups places
-  pub numbered : HasNumbers index (rows_at groups places)
+pub record AreRowsKept (groups : List Group) (places : List Place) (index : Index) : Type 0 where
+  pub placed : AreGroupsKept groups places
+  pub numbered : HasNumbers index (rows_at_places groups places)

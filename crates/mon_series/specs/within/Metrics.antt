@@ -14,13 +14,13 @@ use Rattle.mon_series.specs.MetricNumbers.{numbers_from}
 abbrev pub Index : Type 0
 Index = List (List ℕ × RoomList ℕ)
 
-abbrev pub listed : Option (RoomList ℕ) → List ℕ
-listed None = []
-listed (Some numbers) = numbers.items
+abbrev pub listed_numbers : Option (RoomList ℕ) → List ℕ
+listed_numbers None = []
+listed_numbers (Some numbers) = numbers.items
 
 -- the numbers under a metric
 abbrev pub numbers_held : Index → List ℕ → List ℕ
-numbers_held index metric = listed (lookup (same_text metric) index)
+numbers_held index metric = listed_numbers (lookup (same_text metric) index)
 
 abbrev pub SameNumbers : Index → Index → Type 0
 SameNumbers old new = (metric : List ℕ) → numbers_held new metric ≡ numbers_held old metric

@@ -22,23 +22,24 @@ row_at (group ∷ groups) zero point = option_map (row_of_parts group.0) (slice_
 row_at (group ∷ groups) (suc series) point = row_at groups series point
 
 -- a row in front of others, if there is one
-abbrev pub with_row : Option Row → List Row → List Row
-with_row None rows = rows
-with_row (Some row) rows = row ∷ rows
+abbrev pub with_found_row : Option Row → List Row → List Row
+with_found_row None rows = rows
+with_found_row (Some row) rows = row ∷ rows
 
 -- the rows at places
-abbrev pub rows_at : List Group → List Place → List Row
-rows_at groups [] = []
-rows_at groups (place ∷ places) = with_row (row_at groups place.series place.point) (rows_at groups places)
+abbrev pub rows_at_places : List Group → List Place → List Row
+rows_at_places groups [] = []
+rows_at_places groups (place ∷ places) = with_found_row (row_at groups place.series place.point)
+    (rows_at_places groups places)
 
 -- each place has a row
-abbrev pub AllThere : List Group → List Place → Type 0
-AllThere groups places = AllByRecursion (λ place. is_some (row_at groups place.series place.point) ≡ true) places
+abbrev pub HaveRows : List Group → List Place → Type 0
+HaveRows groups places = AllByRecursion (λ place. is_some (row_at groups place.series place.point) ≡ true) places
 
 -- the points of each series are those of its rows, each place has a row, and 32 bits number the series
-pub record IsKept (groups : List Group) (places : List Place) : Type 0 where
-  pub grouped : groups ≡ points_by_series (rows_at groups places)
-  pub there : AllThere groups places
+pub record AreGroupsKept (groups : List Group) (places : List Place) : Type 0 where
+  pub grouped : groups ≡ points_by_series (rows_at_places groups places)
+  pub there : HaveRows groups places
   pub few : length groups < 2 ^ 32
 
 -- groups with a point more at the end of one of them

@@ -9,24 +9,25 @@ use Rattle.mon_store.specs.Stores.{range_rows}
 use Rattle.mon_store.specs.within.Leaves.{first_slots}
 
 -- what a function makes of the first so many numbers
-abbrev pub listed : {X : Type 0} → (ℕ → X) → ℕ → List X
-listed f zero = []
-listed f (suc n) = listed f n ++ f n ∷ []
+abbrev pub values_below : {X : Type 0} → (ℕ → X) → ℕ → List X
+values_below f zero = []
+values_below f (suc n) = values_below f n ++ f n ∷ []
 
 -- the rows of some replicas, by those of their ranges
 abbrev pub slots_rows : Config → List Row → List RangeSlot → List Row
 slots_rows config rows slots = flat_map (λ own. range_rows config own.range rows) slots
 
 -- the rows on a leaf: those of the ranges whose first replicas it has
-abbrev pub leaf_rows : Config → List Row → ℕ → List Row
-leaf_rows config rows n = slots_rows config rows (first_slots config.topology n (length (ranges_in config.topology)))
+abbrev pub divided_leaf_rows : Config → List Row → ℕ → List Row
+divided_leaf_rows config rows n = slots_rows config rows
+    (first_slots config.topology n (length (ranges_in config.topology)))
 
 -- the rows of a zone's leaves
 abbrev pub zone_rows : Config → List Row → ℕ → List (List Row)
 zone_rows config rows zone =
-    listed (λ i. leaf_rows config rows (first_leaf config.topology zone + i))
+    values_below (λ i. divided_leaf_rows config rows (first_leaf config.topology zone + i))
     (length (zone_at config.topology zone).leaves)
 
 -- the rows of all zones
 abbrev pub divided_rows : Config → List Row → List (List (List Row))
-divided_rows config rows = listed (zone_rows config rows) (length config.topology)
+divided_rows config rows = values_below (zone_rows config rows) (length config.topology)

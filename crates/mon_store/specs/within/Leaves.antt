@@ -12,13 +12,11 @@ use Rattle.mon_value.specs.declared.positions.Slot.{Slot}
 use Rattle.mon_value.specs.declared.rows.Row.{Row}
 use Rattle.mon_value.specs.declared.values.Value.TheVariants as value
 use Rattle.mon_topo.specs.declared.zones.ZoneSpec.{ZoneSpec}
-use Rattle.mon_topo.specs.Zones.{first_replicas, leaves_in, range_numbered}
+use Rattle.mon_value.specs.Positions.{range_numbered, same_range}
+use Rattle.mon_topo.specs.Zones.{first_replicas, leaves_in}
 use Rattle.leaf_store.specs.LeafStates.{LeafView, with_promised}
 
 -- ---- rows in the order in which they came
-
-abbrev pub same_range : Range → Range → Bool
-same_range a b = nat_eq a.0 b.0
 
 -- the slot of a range's first replica
 abbrev pub first_slot : Slot
@@ -28,8 +26,8 @@ abbrev pub histories : List LeafView → List (List Entry)
 histories leaves = map (λ leaf. leaf.history) leaves
 
 -- the rows of a range, by the histories of all leaves: those of its first replica, which is on one leaf
-abbrev pub first_rows : List (List Entry) → Range → List Row
-first_rows leaves range = flat_map (replica_rows range first_slot) leaves
+abbrev pub first_replica_rows : List (List Entry) → Range → List Row
+first_replica_rows leaves range = flat_map (replica_rows range first_slot) leaves
 
 -- the rows of ranges without the first row of one of them
 abbrev pub without_first : Range → (Range → List Row) → Range → List Row
@@ -42,14 +40,14 @@ no_row = record {
   point = record { start = pos 0; end = pos 0; value = value.Int (pos 0) };
 }
 
-abbrev pub first_of : List Row → Row
-first_of [] = no_row
-first_of (row ∷ rows) = row
+abbrev pub first_row : List Row → Row
+first_row [] = no_row
+first_row (row ∷ rows) = row
 
 -- the rows of ranges, one by one: of each range in an order the next row
 abbrev pub in_turn : (Range → List Row) → List Range → List Row
 in_turn rows [] = []
-in_turn rows (range ∷ order) = first_of (rows range) ∷ in_turn (without_first range rows) order
+in_turn rows (range ∷ order) = first_row (rows range) ∷ in_turn (without_first range rows) order
 
 -- as many rows of each range as the range stands in the order
 abbrev pub AreInOrder : (Range → List Row) → List Range → Type 0
@@ -61,9 +59,9 @@ AreInOrder rows order = (range : Range) → length (rows range) ≡ length (filt
 abbrev pub leaf_of : List ZoneSpec → Range → Slot → Option Leaf
 leaf_of zones range slot = slice_get (first_replicas zones range.0) slot.0
 
-abbrev pub is_at : ℕ → Option Leaf → Bool
-is_at n None = false
-is_at n (Some leaf) = nat_eq leaf.0 n
+abbrev pub is_on_leaf : ℕ → Option Leaf → Bool
+is_on_leaf n None = false
+is_on_leaf n (Some leaf) = nat_eq leaf.0 n
 
 -- a leaf is up, and just these replicas are on it, each with its rows
 pub record Keeps (on : Range → Slot → Bool) (rows : Range → Slot → List Row) (history : List Entry) : Type 0 where
@@ -76,11 +74,11 @@ pub record Keeps (on : Range → Slot → Bool) (rows : Range → Slot → List 
 abbrev pub AllKeep : (Range → Slot → Option Leaf) → (Range → Slot → List Row) → List (List Entry) → Type 0
 AllKeep on rows leaves =
     (n : ℕ) (history : List Entry) → slice_get leaves n ≡ Some history
-    → Keeps (λ range slot. is_at n (on range slot)) rows history
+    → Keeps (λ range slot. is_on_leaf n (on range slot)) rows history
 
 -- rows of replicas with a row more of one of them
-abbrev pub with_row : (Range → Slot → List Row) → Range → Slot → Row → Range → Slot → List Row
-with_row rows range slot row other place =
+abbrev pub with_replica_row : (Range → Slot → List Row) → Range → Slot → Row → Range → Slot → List Row
+with_replica_row rows range slot row other place =
     rows other place ++ (if same_replica other place range slot then row ∷ [] else [])
 
 -- no rows of any replica
@@ -109,25 +107,27 @@ pub record MayCome (entry : Entry) (leaf : LeafView) : Type 0 where
   pub promised : is_switch entry ≡ false → 1 ≤ leaf.promised
 
 -- a leaf was opened for each that zones have
-pub record AreOpened (on : Range → Slot → Option Leaf) (zones : List ZoneSpec) (leaves : List LeafView) : Type 0 where
+pub record AreLeavesOpened (on : Range → Slot → Option Leaf) (zones : List ZoneSpec) (leaves : List LeafView)
+    : Type 0 where
   pub count : length leaves ≡ length (leaves_in zones)
   pub keep : AllKeep on no_rows (histories leaves)
 
 -- every replica of a range has the rows of its first one
-pub record AreAlike (zones : List ZoneSpec) (leaves : List LeafView) : Type 0 where
+pub record AreReplicasAlike (zones : List ZoneSpec) (leaves : List LeafView) : Type 0 where
   pub count : length leaves ≡ length (leaves_in zones)
-  pub keep : AllKeep (leaf_of zones) (λ range slot. first_rows (histories leaves) range) (histories leaves)
+  pub keep : AllKeep (leaf_of zones) (λ range slot. first_replica_rows (histories leaves) range) (histories leaves)
 
 -- no replica is on a leaf
 abbrev pub nowhere : Range → Slot → Option Leaf
 nowhere range slot = None
 
 -- the replicas in front of a slot of a range: those of lesser ranges, and its own in lesser slots
-abbrev pub is_before : ℕ → ℕ → Range → Slot → Bool
-is_before range place other slot = nat_lt other.0 range || (nat_eq other.0 range && nat_lt slot.0 place)
+abbrev pub is_slot_before : ℕ → ℕ → Range → Slot → Bool
+is_slot_before range place other slot = nat_lt other.0 range || (nat_eq other.0 range && nat_lt slot.0 place)
 
 abbrev pub opened_before : List ZoneSpec → ℕ → ℕ → Range → Slot → Option Leaf
-opened_before zones range place other slot = if is_before range place other slot then leaf_of zones other slot else None
+opened_before zones range place other slot = if is_slot_before range place other slot then leaf_of zones other slot
+    else None
 
 -- the rows of ranges, with a row more of one range in each slot from a place on
 abbrev pub with_row_from : (Range → List Row) → Range → ℕ → Row → Range → Slot → List Row
@@ -141,7 +141,7 @@ abbrev pub first_slots : List ZoneSpec → ℕ → ℕ → List RangeSlot
 first_slots zones n zero = []
 first_slots zones n (suc range) =
     first_slots zones n range
-    ++ (if is_at n (leaf_of zones (range_numbered range) first_slot)
+    ++ (if is_on_leaf n (leaf_of zones (range_numbered range) first_slot)
     then record { range = range_numbered range; slot = first_slot } ∷ [] else [])
 
 -- none is listed for any of so many leaves

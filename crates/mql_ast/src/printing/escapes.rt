@@ -1,7 +1,7 @@
 // Texts in quotes and patterns.
 ghost use Rattle.std.specs.Prelude.{◌≡◌, ◌++◌, ◌∷◌, [], OnOk, string_bytes, if◌then◌else◌};
 ghost use Rattle.std.specs.Char.{encode_utf8};
-ghost use Rattle.mql_ast.specs.Printed.{escaped, is_text_mark, is_pattern_mark, quoted, pattern_signs};
+ghost use Rattle.mql_ast.specs.Printed.{escaped_text, is_text_mark, is_pattern_mark, quotation, pattern_signs};
 ghost use Rattle.mql_ast.specs.Marks.{marks_of};
 
 use crate::predicates::Pieces;
@@ -53,7 +53,7 @@ fn is_pattern_mark(sign: char) -> bool
 
 // The text, with a backslash before each of its marks.
 fn push_escaped(out: &mut String, text: &str, marks: Marks) -> Result<(), AllocError>
-    ensures { OnOk result (string_bytes out.new ≡ string_bytes out.old ++ escaped (marks_of marks) text.now) }
+    ensures { OnOk result (string_bytes out.new ≡ string_bytes out.old ++ escaped_text (marks_of marks) text.now) }
 {
     for sign in text.chars() {
         push_sign(out, sign, marks)?;
@@ -74,7 +74,7 @@ fn push_sign(out: &mut String, sign: char, marks: Marks) -> Result<(), AllocErro
 
 /// The text in quotes.
 pub fn push_quoted(out: &mut String, text: &str) -> Result<(), AllocError>
-    ensures { OnOk result (string_bytes out.new ≡ string_bytes out.old ++ quoted text.now) }
+    ensures { OnOk result (string_bytes out.new ≡ string_bytes out.old ++ quotation text.now) }
 {
     out.push_str("\"")?;
     push_escaped(out, text, Marks::Text)?;
@@ -83,7 +83,7 @@ pub fn push_quoted(out: &mut String, text: &str) -> Result<(), AllocError>
 
 /// The signs of a pattern, in quotes.
 pub fn push_pattern(out: &mut String, pieces: &Pieces) -> Result<(), AllocError>
-    ensures { OnOk result (string_bytes out.new ≡ string_bytes out.old ++ quoted (pattern_signs pieces.now)) }
+    ensures { OnOk result (string_bytes out.new ≡ string_bytes out.old ++ quotation (pattern_signs pieces.now)) }
 {
     let mut signs = String::new(*out.allocator());
     push_signs(&mut signs, pieces.as_slice())?;

@@ -1,6 +1,6 @@
 // Lists with a comma between each two.
 ghost use Rattle.std.specs.Prelude.{◌≡◌, ◌++◌, OnOk, string_bytes, map};
-ghost use Rattle.mql_ast.specs.Printed.{separated, comma, name_text, item_text, aggregate_text};
+ghost use Rattle.mql_ast.specs.Printed.{separated_texts, comma, name_text, item_text, aggregate_text};
 ghost use Rattle.mql_ast.specs.Trees.{item_tree};
 
 use crate::names::Name;
@@ -22,7 +22,7 @@ pub trait Print {
 /// The items, with a comma and a blank between each two.
 pub fn print_list<T: Print>(out: &mut String, items: &[T]) -> Result<(), AllocError>
     ensures text { OnOk result (string_bytes out.new
-        ≡ string_bytes out.old ++ separated comma (map T.text items.now)) }
+        ≡ string_bytes out.old ++ separated_texts comma (map T.text items.now)) }
 {
     let Some((first, rest)) = items.split_first() else {
         return Ok(());

@@ -2,7 +2,7 @@
 ghost use Rattle.std.specs.Prelude.{◌≡◌, ◌+◌, ◌<◌, ◌++◌, ◌∷◌, [], OnOk, string_bytes, if◌then◌else◌};
 ghost use Rattle.mql_ast.specs.Trees.{predicate_tree};
 ghost use Rattle.mql_ast.specs.Printed.{predicate_text, condition_text, likeness_text};
-ghost use Rattle.mql_ast.specs.PredicateParts.{part_text, remaining_text, part_weight, remaining_weight};
+ghost use Rattle.mql_ast.specs.PredicateParts.{remaining_text, part_weight, remaining_weight};
 
 use crate::names::Name;
 use crate::predicates::{Comparison, Literal, Pattern, Predicate};

@@ -3,7 +3,7 @@ ghost use Rattle.std.specs.Prelude.{◌≡◌, ◌+◌, ◌<◌, ◌++◌, ◌�
 ghost use Rattle.std.specs.Prelude.{if◌then◌else◌};
 ghost use Rattle.mql_ast.specs.Trees.{sum_tree};
 ghost use Rattle.mql_ast.specs.Printed.{sum_text, share_text};
-ghost use Rattle.mql_ast.specs.SumParts.{part_text, remaining_text, part_weight, remaining_weight};
+ghost use Rattle.mql_ast.specs.SumParts.{remaining_text, part_weight, remaining_weight};
 
 use crate::expressions::Expr;
 use crate::names::Name;

@@ -1,5 +1,5 @@
 // Words and numbers.
-ghost use Rattle.std.specs.Prelude.{◌≡◌, ◌++◌, OnOk, IfOk, string_bytes, codes};
+ghost use Rattle.std.specs.Prelude.{◌≡◌, ◌++◌, OnOk, string_bytes};
 ghost use Rattle.std.specs.Fmt.{decimal, signed_decimal};
 ghost use Rattle.mql_ast.specs.Printed.{comparison_text, fold_text, how_text, value_text, label_text, column_text};
 ghost use Rattle.mql_ast.specs.Printed.{duration_text, aligner_text};

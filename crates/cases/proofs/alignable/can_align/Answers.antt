@@ -1,6 +1,6 @@
 use Rattle.std.proofs.Common.{rules, ◌≤◌, subst, sum_by, sym, IfOk, IsTrue}
 use Rattle.mon_value.specs.Alignments.{CanAddAll, CanAlign, most_aligned, values_of}
-use Rattle.mon_value.specs.Grids.{IsDuration, IsLawful}
+use Rattle.mon_value.specs.Grids.{IsDuration, IsLawfulGrid}
 use Rattle.mon_value.specs.Values.{magnitude}
 use Rattle.mon_value.specs.declared.aligners.Aligner.{Aligner}
 use Rattle.mon_value.specs.declared.aligners.Aligner.TheVariants.{Delta}
@@ -12,7 +12,7 @@ returns-in-Delta c =
     let grid = c.args.grid.now in
     let points = c.args.points.now in
     let looks : IsDuration c.in-Delta.seconds = search rules in
-    let lawful : IsLawful grid = search rules in record {
+    let lawful : IsLawfulGrid grid = search rules in record {
       can = subst (λ (by : Aligner). IfOk c.can_add.result (λ can. IsTrue can → CanAlign by grid points))
           (sym c.in-Delta.is)
           (both_told (CanAddAll (values_of points)) (sum_by magnitude (values_of points) ≤ most_aligned)

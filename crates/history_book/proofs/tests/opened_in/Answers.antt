@@ -1,4 +1,4 @@
-use Rattle.history_book.specs.Histories.{leaf_numbered, range_numbered}
+use Rattle.mon_value.specs.Positions.{leaf_numbered, range_numbered}
 use Rattle.history_book.proofs.TestLemmas.{still_has_room, still_held}
 use Rattle.history_book.proofs.tests.opened_in.Goals as goal
 

@@ -1,5 +1,5 @@
 use Rattle.std.proofs.Common.{sym, subst}
-use Rattle.history_book.specs.declared.views.Histories.{Histories}
+use Rattle.mon_value.specs.declared.histories.Histories.{Histories}
 use Rattle.know.specs.Sound.{IsSound}
 use Rattle.know.proofs.TestLemmas.{replica_is_sound}
 use Rattle.know.proofs.tests.first_caller.Goals as goal

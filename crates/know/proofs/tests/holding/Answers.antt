@@ -1,5 +1,5 @@
 use Rattle.std.proofs.Common.{ap, ◌∙◌}
-use Rattle.history_book.specs.Histories.{range_numbered}
+use Rattle.mon_value.specs.Positions.{range_numbered}
 use Rattle.history_book.specs.Seats.{guest_purse}
 use Rattle.know.proofs.TestLemmas.{holds_first}
 use Rattle.know.proofs.tests.holding.Goals as goal

@@ -2,7 +2,7 @@ use Rattle.std.proofs.Common.{◌≡◌, ◌∙◌, ◌+◌, ◌++◌, ◌∷◌
 use Rattle.std.proofs.lemmas.List.{drop_more}
 use Rattle.mon_value.specs.declared.histories.Entry.{Entry}
 use Rattle.leaf_store.specs.declared.kept.Kept.{Kept}
-use Rattle.leaf_store.specs.within.Replicas.{Holds, shown}
+use Rattle.leaf_store.specs.within.Replicas.{Holds, shown_entries}
 use Rattle.leaf_store.proofs.StepLemmas.{can_settle, settled}
 use Rattle.leaf_store.proofs.replays.settle_entries.Goals as goal
 
@@ -39,6 +39,6 @@ loop-moved-preserved c =
       within = omega (arith, c.loop-moved-test.true);
       onward = omega (arith, c.loop-moved.invariant.onward);
       holds = subst (λ (all : List Kept). Holds new all rest) (sym items) step.0;
-      same = ap (λ (all : List Kept). shown new all ++ rest) items ∙ step.1
-          ∙ ap (λ (left : List Entry). shown old ks ++ left) (sym next) ∙ c.loop-moved.invariant.same;
+      same = ap (λ (all : List Kept). shown_entries new all ++ rest) items ∙ step.1
+          ∙ ap (λ (left : List Entry). shown_entries old ks ++ left) (sym next) ∙ c.loop-moved.invariant.same;
     }

@@ -9,7 +9,7 @@ use Rattle.mon_meaning.specs.Operations.{CanOperate}
 use Rattle.mon_meaning.specs.TopParts.{up_to}
 use Rattle.mon_meaning.specs.within.Paths.{trees_of}
 use Rattle.mql_types.specs.ExplanationParts.{nodes}
-use Rattle.mixer.specs.within.Mixtures.{OtherCanMix, joins_from, other_joins, other_rows, own_joins}
+use Rattle.mixer.specs.within.Mixtures.{OtherCanMix, joins_from, other_joins, other_piece_rows, own_joins}
 use Rattle.mixer.proofs.MixedWalks.{Walk, next_step, step_over, walk_on}
 use Rattle.mixer.proofs.mixtures.+mixtures.Goals as goal
 
@@ -30,7 +30,7 @@ mixed_rows-rows_above-requires t c =
     let step = next_step here top all above one c.loop-node.rows left c.args.meter.now.load load walk c.requires.can in
     let others : OtherCanMix load here one left = step.others in
     let operates : IsWithinRows (load + other_joins here one left)
-    → CanOperate one c.loop-node.rows (other_rows here one left) = step.operates in
+    → CanOperate one c.loop-node.rows (other_piece_rows here one left) = step.operates in
     let falls : 3 * nodes one + 1 < 3 * nodes top + 2 = omega (arith, step.smaller) in
     search rules
 

@@ -3,7 +3,7 @@ use Rattle.std.proofs.Common.{◌-◌}
 use Rattle.mon_hints.specs.BucketSets.{is_set}
 use Rattle.mon_hints.proofs.ListingLemmas.{ListsBelow}
 use Rattle.mon_hints.proofs.hints.hints_of.Given as goal
-use Rattle.mon_hints.specs.declared.fingerprints.TheConstants.{MOST_BUCKETS}
+use Rattle.mon_value.specs.declared.limits.TheConstants.{MOST_BUCKETS}
 
 abbrev pub invariant-loop-bucket : goal.invariant-loop-bucket
 invariant-loop-bucket l = ListsBelow (is_set l.set.words) l.listed l.from

@@ -3,7 +3,7 @@ use Rattle.mon_value.specs.Alignments.{CanAlign, aligned_values}
 use Rattle.mon_value.specs.declared.rows.Point.{Point}
 use Rattle.mon_value.specs.declared.rows.SeriesKey.{SeriesKey}
 use Rattle.mon_meaning.specs.within.FetchViews.{keeps, points_kept}
-use Rattle.mon_meaning.specs.within.Reach.{reached}
+use Rattle.mon_meaning.specs.within.Reach.{points_within_reach}
 use Rattle.mon_meaning.proofs.KeptLemmas.{kept_all}
 use Rattle.mon_meaning.proofs.ReachLemmas.{CanAlign-in_reach, aligned-in_reach}
 use Rattle.mon_meaning.proofs.alignments.series_values.Goals as goal
@@ -32,7 +32,7 @@ align-requires-2 c =
     let met = c.args.met.now in
     let grid = c.args.setting.now.grid in
     let kept : c.in_ok-kept.kept.points ≡ points_kept fetch
-    (met.key.now, reached grid c.args.by met.series.now.points) =
+    (met.key.now, points_within_reach grid c.args.by met.series.now.points) =
     c.in_ok-kept.ensures.kept
     ∙ ap (λ (key : SeriesKey). points_kept fetch (key, c.points_in_reach-reached.result.now)) c.deref.ensures
     ∙ ap (λ (points : List Point). points_kept fetch (met.key.now, points)) c.points_in_reach-reached.ensures.reached in
@@ -46,7 +46,7 @@ returns c =
     let met = c.args.met.now in
     let grid = c.args.setting.now.grid in
     let kept : c.in_ok-kept.kept.points ≡ points_kept fetch
-    (met.key.now, reached grid c.args.by met.series.now.points) =
+    (met.key.now, points_within_reach grid c.args.by met.series.now.points) =
     c.in_ok-kept.ensures.kept
     ∙ ap (λ (key : SeriesKey). points_kept fetch (key, c.points_in_reach-reached.result.now)) c.deref.ensures
     ∙ ap (λ (points : List Point). points_kept fetch (met.key.now, points)) c.points_in_reach-reached.ensures.reached in

@@ -9,7 +9,7 @@ use Rattle.mon_meaning.specs.Counts.{TellsOver}
 use Rattle.mon_meaning.specs.Operations.{CanOperate}
 use Rattle.mql_types.specs.ExplanationParts.{nodes}
 use Rattle.mon_meaning.specs.within.Paths.{first_input, other_load, own_load, trees_of}
-use Rattle.mon_meaning.specs.within.Readiness.{IsReady}
+use Rattle.mon_meaning.specs.within.Readiness.{IsNodeReady}
 use Rattle.mon_meaning.specs.within.SeriesMeaning.{load_by_series, rows_by_series}
 use Rattle.mon_meaning.proofs.OperationLemmas.{can_operate}
 use Rattle.mon_meaning.proofs.PathLemmas.{ready_below}
@@ -64,7 +64,7 @@ rows_of-rows_above-requires t c =
     items c.loop-node.invariant.walk in
     let step = next_step grid series top left one c.loop-node.rows c.args.meter.now.load c.loop-node.meter.load walk
     c.requires.ready in
-    let ready : IsReady grid one series = step.ready in
+    let ready : IsNodeReady grid one series = step.ready in
     let flowing : c.loop-node.rows ≡ rows_by_series grid (first_input one) series = step.flowing in
     let within : load_by_series grid (first_input one) series ≤ c.loop-node.meter.load = step.within in
     let falls : 3 * nodes one + 1 < 3 * nodes top + 2 = omega (arith, step.smaller) in

@@ -5,7 +5,7 @@ use Rattle.std.proofs.lemmas.Iterator.Consumers.{YieldsList-turn, YieldsList-end
 use Rattle.std.proofs.lemmas.Iterator.Splits.{YieldsList-from_str_split}
 use Rattle.std.proofs.lemmas.List.{length_push}
 use Rattle.mon_value.specs.Values.{semicolon}
-use Rattle.mon_points.specs.Cells.{counts_of}
+use Rattle.mon_points.specs.Cells.{counts_of_texts}
 use Rattle.mon_points.proofs.CountsOfLemmas.{counts_of-more, counts_of-none}
 use Rattle.mon_points.proofs.cells.read_counts.Goals as goal
 
@@ -34,4 +34,4 @@ returns c =
     let end = YieldsList-end (YieldsList-from_str_split 59 c.args.cell.now (lit< tt) (cc) (cc) (cc))
     c.loop-part.yielded _ c.loop-part.yielded_by _ _ c.in-None.is c.next.ensures.steps in
     let all = take_all (length c.loop-part.yielded) parts (omega (arith, end.1)) in
-    record { counts = sym c.loop-part.invariant ∙ ap counts_of all }
+    record { counts = sym c.loop-part.invariant ∙ ap counts_of_texts all }

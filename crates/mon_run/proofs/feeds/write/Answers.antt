@@ -4,7 +4,7 @@ use Rattle.mon_value.specs.declared.refusals.Refusal.{Refusal}
 use Rattle.mon_store.specs.Writes.{write_fault}
 use Rattle.mon_store.specs.declared.faults.WriteFault.{WriteFault}
 use Rattle.mon_value.specs.declared.rows.Row.{Row}
-use Rattle.mon_run.specs.Feeds.{fault_in, taken}
+use Rattle.mon_run.specs.Feeds.{fault_in, accepted_row}
 use Rattle.mon_store.specs.Stores.{accepted_rows}
 use Rattle.mon_run.proofs.FeedLemmas.{accepted, refused_for}
 use Rattle.mon_run.proofs.feeds.write.Goals as goal
@@ -18,7 +18,7 @@ pub returns-in-Ok-clause-taken : goal.returns-in-Ok-clause-taken
 returns-in-Ok-clause-taken c =
     let rows = accepted_rows c.args.store.now in
     c.in-Ok.ensures.written ∙ ap (λ (more : List Row). rows ++ more)
-    (sym (ap taken (accepted c.args.config.now rows c.args.row.now c.in-Ok.ensures.refused)))
+    (sym (ap accepted_row (accepted c.args.config.now rows c.args.row.now c.in-Ok.ensures.refused)))
 
 pub returns-in-Err-Fault-clause-refused : goal.returns-in-Err-Fault-clause-refused
 returns-in-Err-Fault-clause-refused c =
@@ -34,4 +34,4 @@ returns-in-Err-Fault-clause-taken c =
     c.in-Err-Fault.field-0-is c.in-Err-Fault.ensures.refused in
     c.in-Err-Fault.ensures.rows ∙ sym (append-nil rows)
     ∙ ap (λ (more : List Row). rows ++ more)
-    (sym (ap taken (refused_for c.args.config.now rows c.args.row.now c.in-Err-Fault.fault why)))
+    (sym (ap accepted_row (refused_for c.args.config.now rows c.args.row.now c.in-Err-Fault.fault why)))

@@ -1,4 +1,4 @@
-use Rattle.std.proofs.Common.{◌≡◌, ◌∙◌, ◌+◌, List, ℕ, [], ◌++◌, sym, ap, arith, append-nil}
+use Rattle.std.proofs.Common.{◌∙◌, ◌+◌, List, ℕ, sym, ap, arith, append-nil}
 use Rattle.mon_script.specs.Lines.{lines_of}
 use Rattle.mon_script.specs.Scripts.{script_from}
 use Rattle.mon_script.specs.declared.script.ScriptLine.{ScriptLine}

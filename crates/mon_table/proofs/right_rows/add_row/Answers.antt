@@ -2,7 +2,7 @@ use Rattle.std.proofs.Common.{◌≡◌, ◌∙◌, Bool, IsSome, Some, None, []
 use Rattle.std.proofs.lemmas.List.{map-append}
 use Rattle.indexmap.specs.IndexMap.{get, UpdatesBy}
 use Rattle.mon_table.proofs.JoinKeyLemmas.{entry_rows-added, eq-same_join_key}
-use Rattle.mon_table.specs.JoinKeys.{entry_rows}
+use Rattle.mon_table.specs.JoinKeys.{rows_under_key}
 use Rattle.mon_table.specs.References.{rows_behind}
 use Rattle.mon_table.specs.declared.keys.JoinKey.{JoinKey}
 use Rattle.mon_table.specs.contracts.keys.JoinKeyPartialEq.TheImpl as derived
@@ -22,7 +22,7 @@ returns-in_ok-push-in-Some c =
     record {
       added = entry_rows-added m n key c.args.row.now w updates'
           (ap rows_behind c.in_ok-push-in-Some.ensures.items ∙ map-append (λ row. row.now) c.in-Some.rows.now.items
-          (c.args.row ∷ []) ∙ ap (λ r. entry_rows r ++ c.args.row.now ∷ []) there');
+          (c.args.row ∷ []) ∙ ap (λ r. rows_under_key r ++ c.args.row.now ∷ []) there');
     }
 
 pub returns-in_ok-insert-in-None : goal.returns-in_ok-insert-in-None
@@ -41,5 +41,5 @@ returns-in_ok-insert-in-None c =
     c.new-rows.ensures.items) in
     record {
       added = entry_rows-added m n key c.args.row.now w updates'
-          (alone ∙ ap (λ r. entry_rows r ++ c.args.row.now ∷ []) none');
+          (alone ∙ ap (λ r. rows_under_key r ++ c.args.row.now ∷ []) none');
     }

@@ -7,7 +7,7 @@ use Rattle.mon_topo.proofs.NumberedLemmas.{keys-numbered}
 use Rattle.mon_topo.proofs.PlaceLemmas.{first_at-found, first_at-past}
 use Rattle.mon_topo.proofs.RepeatLemmas.{leaves_more, leaves_so_far, repeated, unrepeated, with_new_name}
 use Rattle.mon_topo.specs.Faults.{repeated_at}
-use Rattle.mon_topo.specs.Indexed.{numbered, with_name}
+use Rattle.mon_topo.specs.Indexed.{numbered_texts, with_name}
 use Rattle.mon_topo.specs.Places.{first_at}
 use Rattle.mon_topo.specs.declared.places.Place.TheVariants as place
 use Rattle.mon_topo.proofs.repeats.add_leaves.Goals as goal
@@ -33,7 +33,7 @@ returns-then-not-branch-clause-apart c =
     let next : drop j texts ≡ text ∷ drop (j + 1) texts = drop_more texts j text (omega (arith, c.loop-j-test.true))
     ∙ ap (λ (t : List ℕ). t ∷ drop (j + 1) texts) (sym c.index-texts-j.is) in
     let whole = ap (first_at at_fault j) (sym next) ∙ c.loop-j.invariant.1 in
-    let own = numbered (length old) (take j texts) in
+    let own = numbered_texts (length old) (take j texts) in
     let keys = keys-numbered (length old) (take j texts) in
     let told : list_any (same_text name) (keys_of so_far) ≡ list_any (same_text text) (keys_of so_far) =
     ap (λ (t : List ℕ). list_any (same_text t) (keys_of so_far)) named in
@@ -56,7 +56,7 @@ loop-j-preserved c =
     let next : drop j texts ≡ text ∷ drop (j + 1) texts = drop_more texts j text (omega (arith, c.loop-j-test.true))
     ∙ ap (λ (t : List ℕ). t ∷ drop (j + 1) texts) (sym c.index-texts-j.is) in
     let whole = ap (first_at at_fault j) (sym next) ∙ c.loop-j.invariant.1 in
-    let own = numbered (length old) (take j texts) in
+    let own = numbered_texts (length old) (take j texts) in
     let keys = keys-numbered (length old) (take j texts) in
     let told : list_any (same_text name) (keys_of so_far) ≡ list_any (same_text text) (keys_of so_far) =
     ap (λ (t : List ℕ). list_any (same_text t) (keys_of so_far)) named in

@@ -1,14 +1,14 @@
 use Rattle.std.proofs.Common.{◌≡◌, ◌∙◌, ◌+◌, ◌∷◌, ◌++◌, List, Option, drop, map, ap, sym, arith}
+use Rattle.std.specs.Prelude.{option_to_list}
 use Rattle.std.proofs.lemmas.List.{drop_more}
 use Rattle.std.specs.List.{filter_map, flat_map}
 use Rattle.mon_value.specs.declared.columns.Column.{Column}
 use Rattle.mql_ast.specs.declared.operations.Item.{Item}
 use Rattle.mql_ast.specs.Trees.{item_tree}
 use Rattle.mql_types.specs.Faults.{first_with}
-use Rattle.mql_types.specs.Groupings.{listed}
 use Rattle.mql_types.specs.Items.{item_column, item_sum_faults}
 use Rattle.mql_types.proofs.FaultLemmas.{first_with-append}
-use Rattle.mql_types.proofs.ListedLemmas.{listed-filter_map}
+use Rattle.mql_types.proofs.ListedLemmas.{option_to_list-filter_map}
 use Rattle.mql_types.proofs.items.item_columns.Goals as goal
 
 pub loop-item-preserved : goal.loop-item-preserved
@@ -24,9 +24,9 @@ loop-item-preserved c =
     ∙ ap (λ (x : Item). x ∷ drop (i + 1) items) (sym c.item-item.is) in
     record {
       columns = ap (λ (m : List Column). m ++ filter_map (item_column columns) rest) c.in_ok-push_some.ensures.added
-          ∙ ap (λ (o : Option Column). (made ++ listed o) ++ filter_map (item_column columns) rest)
+          ∙ ap (λ (o : Option Column). (made ++ option_to_list o) ++ filter_map (item_column columns) rest)
           c.in_ok-column.ensures.column
-          ∙ listed-filter_map (item_column columns) (item_tree item) rest made
+          ∙ option_to_list-filter_map (item_column columns) (item_tree item) rest made
           ∙ sym (ap (λ (is : List Item). made ++ filter_map (item_column columns) (map item_tree is)) next)
           ∙ c.loop-item.invariant.columns;
       faults = ap (λ first. first_with first (flat_map (item_sum_faults columns) rest)) c.in_ok-column.ensures.faults

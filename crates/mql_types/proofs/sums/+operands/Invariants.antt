@@ -2,7 +2,7 @@
 use Rattle.std.proofs.Common.{◌≡◌, ◌+◌, ◌*◌, ◌≤◌, length}
 use Rattle.mql_ast.specs.SumParts.{nodes}
 use Rattle.mql_ast.specs.Trees.{sum_tree}
-use Rattle.mql_types.specs.OperandLinks.{linked, linked_nodes, seen, seen_sum}
+use Rattle.mql_types.specs.OperandLinks.{operand_links, linked_nodes, seen_operand, seen_sum}
 use Rattle.mql_types.proofs.sums.+operands.Given as goal
 
 abbrev pub decreases-gone_on : goal.decreases-gone_on
@@ -13,7 +13,7 @@ decreases-sum_operand l = 2 * nodes l.sum.now
 
 abbrev pub invariant-sum_operand-loop-link : goal.invariant-sum_operand-loop-link
 invariant-sum_operand-loop-link l = record {
-  whole : linked l.columns l.links.items (seen l.so_far l.found.first)
+  whole : operand_links l.columns l.links.items (seen_operand l.so_far l.found.first)
       ≡ seen_sum l.columns (sum_tree l.sum) l.fn.found.first;
   count : linked_nodes l.links.items + 1 ≤ nodes l.sum;
 }

@@ -1,7 +1,7 @@
 use Rattle.std.proofs.Common.{rules, ◌≡◌, ◌∙◌, Err, ap, drop}
 use Rattle.mon_value.specs.declared.refusals.Refusal.TheVariants as refusal
 use Rattle.query_core.specs.declared.courses.Course.{Course}
-use Rattle.query_core.specs.Courses.{kept}
+use Rattle.query_core.specs.Courses.{with_zone_answer}
 use Rattle.query_core.specs.Program.{next_zone}
 use Rattle.query_core.proofs.MixLemmas.{asked_leaves, may_go_on, zone_goes_on, zone_stops}
 use Rattle.query_core.proofs.mixing.mixed_zone.Goals as goal
@@ -15,7 +15,7 @@ pub turned-requires : goal.turned-requires
 turned-requires c =
     let setting = c.args.setting.now in
     let same : c.in_ok-turn-in-Ok.turn
-    ≡ next_zone (drop c.args.course.begun setting.areas) (kept c.args.course c.in-Ok.answer) =
+    ≡ next_zone (drop c.args.course.begun setting.areas) (with_zone_answer c.args.course c.in-Ok.answer) =
     c.in_ok-turn-in-Ok.ensures.turn
     ∙ ap (λ (some : Course). next_zone (drop some.begun setting.areas) some) c.in_ok-keep-in-Ok.ensures.kept in
     may_go_on setting c.plan.result.now c.limit.result c.plan.ensures.plan c.limit.ensures.limit c.args.course
@@ -26,7 +26,7 @@ pub returns-in_ok-turn-in-Ok : goal.returns-in_ok-turn-in-Ok
 returns-in_ok-turn-in-Ok c =
     let setting = c.args.setting.now in
     let same : c.in_ok-turn-in-Ok.turn
-    ≡ next_zone (drop c.args.course.begun setting.areas) (kept c.args.course c.in-Ok.answer) =
+    ≡ next_zone (drop c.args.course.begun setting.areas) (with_zone_answer c.args.course c.in-Ok.answer) =
     c.in_ok-turn-in-Ok.ensures.turn
     ∙ ap (λ (some : Course). next_zone (drop some.begun setting.areas) some) c.in_ok-keep-in-Ok.ensures.kept in
     record {

@@ -2,13 +2,13 @@
 use Rattle.mon_config.specs.declared.config.Config.{Config}
 use Rattle.weave_core.specs.ActorAgreements.{Agrees}
 use Rattle.weave_core.specs.States.{State, store_of}
-use Rattle.weave_core.specs.WeaveCalls.{IsKept}
+use Rattle.weave_core.specs.WeaveCalls.{IsWeaveKept}
 use Rattle.weave_core.proofs.TurnLemmas.{Going}
 use Rattle.weave_core.proofs.schedules.go_on.Given as goal
 
 abbrev pub invariant-loop-event : goal.invariant-loop-event
 invariant-loop-event l = record {
-  kept : IsKept l.weave;
+  kept : IsWeaveKept l.weave;
   going : (config : Config) (start : State (store_of config)) → Agrees config l.fn.weave start
       → Going config start l.actor l.goal l._event l.weave;
 }

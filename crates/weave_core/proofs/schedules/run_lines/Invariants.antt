@@ -4,14 +4,14 @@ use Rattle.mon_config.specs.declared.config.Config.{Config}
 use Rattle.mon_script.specs.Lines.{lines_of}
 use Rattle.weave_core.specs.ActorAgreements.{Agrees}
 use Rattle.weave_core.specs.States.{State, store_of}
-use Rattle.weave_core.specs.WeaveCalls.{IsKept}
+use Rattle.weave_core.specs.WeaveCalls.{IsWeaveKept}
 use Rattle.weave_core.specs.declared.limits.TheConstants.{MOST_LINES}
 use Rattle.weave_core.proofs.LineRunLemmas.{Running}
 use Rattle.weave_core.proofs.schedules.run_lines.Given as goal
 
 abbrev pub invariant-loop-line : goal.invariant-loop-line
 invariant-loop-line l = record {
-  kept : IsKept l.weave;
+  kept : IsWeaveKept l.weave;
   few : l.number ≤ MOST_LINES;
   running : (config : Config) (start : State (store_of config)) → Agrees config l.fn.weave start
       → Running config start (lines_of l.text) l.number (lines_of l.rest) l.weave (string_bytes l.fn.out)

@@ -1,7 +1,7 @@
 use Rattle.std.proofs.Common.{◌-◌}
 use Rattle.leaf_store.specs.LeafBuckets.{is_unraised}
 use Rattle.mon_hints.proofs.ListingLemmas.{ListsBelow}
-use Rattle.mon_hints.specs.declared.fingerprints.TheConstants.{MOST_BUCKETS}
+use Rattle.mon_value.specs.declared.limits.TheConstants.{MOST_BUCKETS}
 use Rattle.weave_core.proofs.write_events.unraised.Given as goal
 
 abbrev pub invariant-loop-bucket : goal.invariant-loop-bucket

@@ -1,11 +1,10 @@
 use Rattle.std.proofs.Common.{sym, ap, subst, ◌∙◌}
-use Rattle.history_book.specs.declared.views.Histories.{Histories}
+use Rattle.mon_value.specs.declared.histories.Histories.{Histories}
 use Rattle.history_book.specs.Histories.{AreFronts}
 use Rattle.raise_table.specs.declared.views.Hints.{Hints}
 use Rattle.raise_table.specs.Seats.{KnowsAsMuch}
-use Rattle.mon_topo.specs.Sights.{joined_sight}
+use Rattle.mon_topo.specs.Sights.{joined_sight, sight_of}
 use Rattle.mon_topo.proofs.SightLemmas.{joined_seen}
-use Rattle.know.specs.Sound.{histories, seat_sight}
 use Rattle.know.proofs.SoundLemmas.{sound_together}
 use Rattle.know.proofs.knows.Know.meet.Goals as goal
 
@@ -37,7 +36,7 @@ invariant_of-self g c =
     let theirs = c.other.inside.book.seen in
     let saw = ap (λ seat. seat.seen) c.meet-2.ensures.met in (
       c.join.ensures.joined ∙ (λ i. joined_sight (c.self.invariant.0 i) (c.other.invariant.0 i))
-          ∙ joined_seen (histories mine) (histories theirs) ∙ ap seat_sight (sym saw),
+          ∙ joined_seen mine theirs ∙ ap sight_of (sym saw),
       sound_together g.N.Names.setting c.self.inside.hints c.other.inside.hints c.meet.new.seat mine theirs
           c.meet-2.new.seat.seen c.meet.ensures.met saw c.meet-2.ensures.fronts.0 c.meet-2.ensures.fronts.1
           c.self.invariant.1 c.other.invariant.1,

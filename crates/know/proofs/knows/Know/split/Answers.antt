@@ -1,5 +1,5 @@
 use Rattle.std.proofs.Common.{◌≡◌, sym, ap, ◌∙◌}
-use Rattle.know.specs.Sound.{seat_sight}
+use Rattle.mon_topo.specs.Sights.{sight_of}
 use Rattle.know.proofs.SoundLemmas.{sound_alike}
 use Rattle.know.proofs.knows.Know.split.Goals as goal
 
@@ -14,7 +14,7 @@ pub invariant_of-result : goal.invariant_of-result
 invariant_of-result g c =
     let seen : c.split-book.result.seen ≡ c.self.inside.book.seen = ap (λ seat. seat.seen)
     c.split-book.ensures.split in (
-      c.in_ok-sight.ensures.equal ∙ c.self.invariant.0 ∙ ap seat_sight (sym seen),
+      c.in_ok-sight.ensures.equal ∙ c.self.invariant.0 ∙ ap sight_of (sym seen),
       sound_alike g.N.Names.setting c.self.inside.hints c.split-hints.result c.self.inside.book.seen
           c.split-book.result.seen
           (ap (λ hints. hints.known) c.split-hints.ensures.split) seen c.self.invariant.1,

@@ -1,5 +1,5 @@
 use Rattle.std.proofs.Common.{◌≡◌, sym, ap, ◌∙◌}
-use Rattle.know.specs.Sound.{seat_sight}
+use Rattle.mon_topo.specs.Sights.{sight_of}
 use Rattle.know.proofs.SoundLemmas.{sound_alike}
 use Rattle.know.proofs.knows.Know.split_numbered.Goals as goal
 
@@ -12,7 +12,7 @@ returns-clause-sound g c =
 pub invariant_of-result : goal.invariant_of-result
 invariant_of-result g c =
     let seen : c.in-Some.book.seen ≡ c.self.inside.book.seen = ap (λ seat. seat.seen) c.in-Some.ensures.handed.1 in (
-      c.in_ok-sight.ensures.equal ∙ c.self.invariant.0 ∙ ap seat_sight (sym seen),
+      c.in_ok-sight.ensures.equal ∙ c.self.invariant.0 ∙ ap sight_of (sym seen),
       sound_alike g.N.Names.setting c.self.inside.hints c.split.result c.self.inside.book.seen c.in-Some.book.seen
           (ap (λ hints. hints.known) c.split.ensures.split) seen c.self.invariant.1,
     )

@@ -10,7 +10,7 @@ use Rattle.mon_value.specs.declared.histories.Entry.{Entry}
 use Rattle.mon_hints.specs.HistoryBuckets.{history_buckets}
 use Rattle.leaf_store.specs.LeafBuckets.{key_buckets}
 use Rattle.leaf_store.specs.LeafStates.{LeafView}
-use Rattle.leaf_store.specs.within.Replicas.{Holds, shown}
+use Rattle.leaf_store.specs.within.Replicas.{Holds, shown_entries}
 use Rattle.leaf_store.specs.within.States.{AllSwitches, history_of, left_of}
 use Rattle.leaf_store.proofs.KnownLemmas.{holds_buckets}
 use Rattle.leaf_store.proofs.StateLemmas.{count_plain, count_switch, down_plain, down_switch, history_push, holds_push}
@@ -48,7 +48,7 @@ invariant_of-self c =
     let e = c.args.entry in
     let fresh = leaf.fresh.items in
     let moved = leaf.moved in
-    let first = shown leaf.replicas.entries leaf.kept.items in
+    let first = shown_entries leaf.replicas.entries leaf.kept.items in
     let history = history_of leaf in
     let is : is_switch e ≡ true = sym c.in-Some.ensures.switch in
     let formed : IsWellFormed (history ++ e ∷ []) = subst (λ (v : LeafView). IsWellFormed (v.history ++ e ∷ []))
@@ -84,7 +84,7 @@ invariant_of-self-in-None c =
     let e = c.args.entry in
     let fresh = leaf.fresh.items in
     let moved = leaf.moved in
-    let first = shown leaf.replicas.entries leaf.kept.items in
+    let first = shown_entries leaf.replicas.entries leaf.kept.items in
     let history = history_of leaf in
     let is : is_switch e ≡ false = sym c.in-None.ensures.switch in
     let formed : IsWellFormed (history ++ e ∷ []) = subst (λ (v : LeafView). IsWellFormed (v.history ++ e ∷ []))
@@ -117,4 +117,5 @@ pub raise-requires-clause-held : goal.raise-requires-clause-held
 raise-requires-clause-held c =
     let leaf = c.self.inside in
     holds_buckets (key_buckets leaf.buckets leaf.schemas) leaf.replicas.entries (is_set leaf.raised.words)
-    (shown leaf.replicas.entries leaf.kept.items) (left_of leaf) c.self.invariant.holds.holds c.self.invariant.raised
+    (shown_entries leaf.replicas.entries leaf.kept.items) (left_of leaf) c.self.invariant.holds.holds
+    c.self.invariant.raised

@@ -1,6 +1,6 @@
 use Rattle.std.proofs.Common.{rules, ◌≡◌, ◌∙◌, true, false, ap, subst}
 use Rattle.leaf_store.specs.LeafStates.{LeafView}
-use Rattle.leaf_store.specs.within.Replicas.{HoldsHistory, shown}
+use Rattle.leaf_store.specs.within.Replicas.{HoldsHistory, shown_entries}
 use Rattle.leaf_store.specs.within.States.{left_of}
 use Rattle.mon_value.specs.LeafHistories.{is_down}
 use Rattle.leaf_store.proofs.FollowLemmas.{is_new_there, never_opened, settled_holds}
@@ -12,7 +12,7 @@ returns-clause-may c =
     let settled : leaf.settled ≡ true = ap (λ (v : LeafView). v.settled) c.self.view_is ∙ c.requires.settled in
     let holds : HoldsHistory leaf.replicas.entries c.args.self.now.history =
     subst (λ (v : LeafView). HoldsHistory leaf.replicas.entries v.history) c.self.view_is
-    (settled_holds leaf.replicas.entries (shown leaf.replicas.entries leaf.kept.items) (left_of leaf)
+    (settled_holds leaf.replicas.entries (shown_entries leaf.replicas.entries leaf.kept.items) (left_of leaf)
     c.self.invariant.holds.holds (c.self.invariant.waits settled)) in
     let up : is_down c.args.self.now.history ≡ false = search rules in
     λ yes. (
@@ -27,7 +27,7 @@ returns-clause-refused c =
     let settled : leaf.settled ≡ true = ap (λ (v : LeafView). v.settled) c.self.view_is ∙ c.requires.settled in
     let holds : HoldsHistory leaf.replicas.entries c.args.self.now.history =
     subst (λ (v : LeafView). HoldsHistory leaf.replicas.entries v.history) c.self.view_is
-    (settled_holds leaf.replicas.entries (shown leaf.replicas.entries leaf.kept.items) (left_of leaf)
+    (settled_holds leaf.replicas.entries (shown_entries leaf.replicas.entries leaf.kept.items) (left_of leaf)
     c.self.invariant.holds.holds (c.self.invariant.waits settled)) in
     λ no up never. c.is_new.ensures.held no (is_new_there leaf.replicas.entries c.args.self.now.history c.args.replica
     holds never)

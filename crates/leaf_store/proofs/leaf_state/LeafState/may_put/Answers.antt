@@ -1,6 +1,6 @@
 use Rattle.std.proofs.Common.{rules, ◌≡◌, ◌∙◌, true, false, ap, subst}
 use Rattle.leaf_store.specs.LeafStates.{LeafView}
-use Rattle.leaf_store.specs.within.Replicas.{HoldsHistory, shown}
+use Rattle.leaf_store.specs.within.Replicas.{HoldsHistory, shown_entries}
 use Rattle.leaf_store.specs.within.States.{left_of}
 use Rattle.mon_value.specs.LeafHistories.{IsWellFormed, is_down}
 use Rattle.leaf_store.proofs.FollowLemmas.{can_take, settled_holds, takes_row}
@@ -12,7 +12,7 @@ returns-clause-may c =
     let settled : leaf.settled ≡ true = ap (λ (v : LeafView). v.settled) c.self.view_is ∙ c.requires.settled in
     let holds : HoldsHistory leaf.replicas.entries c.args.self.now.history =
     subst (λ (v : LeafView). HoldsHistory leaf.replicas.entries v.history) c.self.view_is
-    (settled_holds leaf.replicas.entries (shown leaf.replicas.entries leaf.kept.items) (left_of leaf)
+    (settled_holds leaf.replicas.entries (shown_entries leaf.replicas.entries leaf.kept.items) (left_of leaf)
     c.self.invariant.holds.holds (c.self.invariant.waits settled)) in
     let formed : IsWellFormed c.args.self.now.history = subst (λ (v : LeafView). IsWellFormed v.history) c.self.view_is
     c.self.invariant.holds.formed in
@@ -26,7 +26,7 @@ returns-clause-refused c =
     let settled : leaf.settled ≡ true = ap (λ (v : LeafView). v.settled) c.self.view_is ∙ c.requires.settled in
     let holds : HoldsHistory leaf.replicas.entries c.args.self.now.history =
     subst (λ (v : LeafView). HoldsHistory leaf.replicas.entries v.history) c.self.view_is
-    (settled_holds leaf.replicas.entries (shown leaf.replicas.entries leaf.kept.items) (left_of leaf)
+    (settled_holds leaf.replicas.entries (shown_entries leaf.replicas.entries leaf.kept.items) (left_of leaf)
     c.self.invariant.holds.holds (c.self.invariant.waits settled)) in
     λ no can. c.takes.ensures.refused no (takes_row leaf.replicas.entries c.args.self.now.history c.args.replica
     c.args.row.now holds can)

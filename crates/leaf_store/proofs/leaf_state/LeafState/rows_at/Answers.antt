@@ -3,7 +3,7 @@ use Rattle.mon_value.specs.LeafHistories.{replica_rows}
 use Rattle.mon_value.specs.declared.histories.Entry.{Entry}
 use Rattle.mon_value.specs.declared.rows.Row.{Row}
 use Rattle.leaf_store.specs.LeafStates.{LeafView}
-use Rattle.leaf_store.specs.within.Replicas.{all_rows, rows_held, shown}
+use Rattle.leaf_store.specs.within.Replicas.{all_rows, rows_held}
 use Rattle.leaf_store.specs.within.States.{history_of, left_of}
 use Rattle.leaf_store.proofs.StepLemmas.{cut_left, rows_early, rows_late}
 use Rattle.leaf_store.proofs.leaf_state.LeafState.rows_at.Goals as goal

@@ -2,7 +2,7 @@
 use Rattle.std.proofs.Common.{◌≡◌, ℕ, ◌-◌, ◌<◌, ◌≤◌, false}
 use Rattle.mon_hints.specs.BucketSets.{is_set}
 use Rattle.mon_hints.specs.Hints.{series_buckets}
-use Rattle.mon_hints.specs.declared.fingerprints.TheConstants.{MOST_BUCKETS}
+use Rattle.mon_value.specs.declared.limits.TheConstants.{MOST_BUCKETS}
 use Rattle.leaf_store.specs.within.Raises.{is_left}
 use Rattle.leaf_store.proofs.raised.Raised.next_left.Given as goal
 

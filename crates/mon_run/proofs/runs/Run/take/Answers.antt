@@ -1,7 +1,7 @@
 use Rattle.std.proofs.Common.{◌≡◌, ◌∙◌, ◌∷◌, [], List, ℕ, refl, ap, subst}
 use Rattle.mon_value.specs.declared.rows.Row.{Row}
 use Rattle.mon_run.specs.Endings.{Did, Progress, progress}
-use Rattle.mon_run.specs.Feeds.{fed}
+use Rattle.mon_run.specs.Feeds.{feed_of}
 use Rattle.mon_run.specs.Folders.{content_of}
 use Rattle.mon_run.specs.Plans.{Ask, feed_steps, plan_behind}
 use Rattle.mon_script.specs.declared.script.LineForm.TheVariants as form
@@ -25,7 +25,7 @@ returns-in_err-content-clause-stops g c =
     let fact : LineStops c.args.config.now (form.Feed name) c.in_err-content.field-0.0 before after =
     record {
       told = λ files told rest. stops.told files told
-          (plan_behind (feed_steps name (fed c.args.config.now before.rows (content_of files name))) rest);
+          (plan_behind (feed_steps name (feed_of c.args.config.now before.rows (content_of files name))) rest);
       causes =
           stops.causes;
     } in
@@ -48,9 +48,10 @@ returns-in_err-feed-clause-stops g c =
           subst (λ (n : List ℕ). HasRead files n c.in_ok-content.content.items) c.as_str.ensures.bytes
           (c.in_ok-content.ensures.content files told) in
           let text : c.as_slice.result.now ≡ content_of files name = c.as_slice.ensures.value ∙ has.whole in
-          let front : Front (fed c.args.config.now before.rows (content_of files name)).accepted mid.rows after.rows =
-          subst (λ (t : List ℕ). Front (fed c.args.config.now before.rows t).accepted mid.rows after.rows) text
-          (subst (λ (rows : List Row). Front (fed c.args.config.now rows c.as_slice.result.now).accepted mid.rows
+          let front : Front (feed_of c.args.config.now before.rows (content_of files name)).accepted mid.rows
+          after.rows =
+          subst (λ (t : List ℕ). Front (feed_of c.args.config.now before.rows t).accepted mid.rows after.rows) text
+          (subst (λ (rows : List Row). Front (feed_of c.args.config.now rows c.as_slice.result.now).accepted mid.rows
           after.rows) (ap (λ log. accepted_rows log.store) c.in_ok-content.ensures.log)
           c.in_err-feed.ensures.front) in
           front_starved c.args.config.now files name rest {before = before} {mid = mid} {after = after} has.short did

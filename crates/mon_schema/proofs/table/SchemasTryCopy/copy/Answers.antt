@@ -1,5 +1,5 @@
 use Rattle.std.proofs.Common.{◌∙◌, subst, sym}
-use Rattle.mon_schema.specs.HeldMetrics.{AreHeld}
+use Rattle.mon_schema.specs.HeldMetrics.{AreMetricsHeld}
 use Rattle.mon_schema.specs.HeldTargets.{AllTellLocations}
 use Rattle.mon_value.specs.declared.schemas.MetricSchema.{MetricSchema}
 use Rattle.mon_value.specs.declared.schemas.TargetSchema.{TargetSchema}
@@ -13,7 +13,7 @@ invariant_of-result c =
     record {
       targets = names-named_entries (λ (schema : TargetSchema). schema.name) _ _ targets c.self.invariant.targets;
       metrics = names-named_entries (λ (metric : MetricSchema). metric.name) _ _ metrics c.self.invariant.metrics;
-      held = subst AreHeld (sym (schemas-named_entries _ _ metrics)) c.self.invariant.held;
+      held = subst AreMetricsHeld (sym (schemas-named_entries _ _ metrics)) c.self.invariant.held;
       located = subst AllTellLocations (sym (schemas-named_entries _ _ targets)) c.self.invariant.located;
     }
 

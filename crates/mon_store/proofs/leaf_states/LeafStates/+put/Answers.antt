@@ -3,7 +3,8 @@ use Rattle.std.proofs.lemmas.Option.{slice_get_within}
 use Rattle.mon_value.specs.Sources.{IsSource}
 use Rattle.mon_value.specs.declared.histories.Entry.TheVariants as entry
 use Rattle.mon_topo.specs.Zones.{first_replicas}
-use Rattle.mon_store.specs.within.Leaves.{AllKeep, HasEntry, MayCome, first_rows, histories, leaf_of, with_row_from}
+use Rattle.mon_store.specs.within.Leaves.{AllKeep, HasEntry, MayCome, first_replica_rows, histories, leaf_of}
+use Rattle.mon_store.specs.within.Leaves.{with_row_from}
 use Rattle.mon_store.proofs.OpenLemmas.{histories_more, promise_keeps, replica_there}
 use Rattle.mon_store.proofs.PutLemmas.{alike_kept, apart_later, is_there, may_put, put_more, put_none, untouched_first}
 use Rattle.mon_store.proofs.PutLemmas.{untouched_rest, whatever_fails}
@@ -11,7 +12,7 @@ use Rattle.mon_store.proofs.leaf_states.LeafStates.+put.Goals as goal
 
 pub returns-in_default-clause-put : goal.returns-in_default-clause-put
 returns-in_default-clause-put t c =
-    put_none c.args.topology.now (first_rows (histories c.args.self.now.states.items))
+    put_none c.args.topology.now (first_replica_rows (histories c.args.self.now.states.items))
     (histories c.args.self.now.states.items) c.args.range c.args.slot c.args.row.now
     c.requires.alike.keep (sym c.leaf_at.ensures.leaf ∙ c.in_default.is)
 
@@ -23,7 +24,7 @@ reserve-requires-clause-there t c =
 
 pub reserve-requires-clause-opened : goal.reserve-requires-clause-opened
 reserve-requires-clause-opened t c =
-    is_there c.args.topology.now (λ range slot. first_rows (histories c.args.self.now.states.items) range)
+    is_there c.args.topology.now (λ range slot. first_replica_rows (histories c.args.self.now.states.items) range)
     c.args.self.now.states.items c.args.range (record { 0 = c.args.slot }) c.in-Some.leaf
     c.requires.alike.keep (sym c.leaf_at.ensures.leaf ∙ c.in-Some.is)
 
@@ -59,7 +60,8 @@ put-requires t c =
           c.requires.replicas,
           (
             alike_kept c.args.topology.now old mid c.requires.alike c.reserve.ensures.count same,
-            subst (λ h. IsSource (first_rows h c.args.range ++ c.args.row.now ∷ [])) (sym same) c.requires.source,
+            subst (λ h. IsSource (first_replica_rows h c.args.range ++ c.args.row.now ∷ [])) (sym same)
+                c.requires.source,
           ),
         ),
       ),
@@ -96,11 +98,12 @@ apply-requires-clause-may t c =
     let new = c.put.new.self.states.items in
     let at = sym c.leaf_at.ensures.leaf ∙ c.in-Some.is in
     let same = promise_keeps c.in-Some.leaf old mid c.in_ok-reserve.ensures.promised in
-    let keep = subst (λ h. AllKeep (leaf_of zones) (with_row_from (first_rows h) c.args.range (c.args.slot + 1)
+    let keep = subst (λ h. AllKeep (leaf_of zones) (with_row_from (first_replica_rows h) c.args.range (c.args.slot + 1)
     c.args.row.now) (histories new)) same c.in_ok-put.ensures.put in
     subst (λ row. IfSome (slice_get new c.in-Some.leaf.0)
     (MayCome (entry.Put 0 c.args.range (record { 0 = c.args.slot }) row))) (sym c.in_ok-own.ensures.equal)
-    (may_put zones (first_rows (histories old)) old mid new c.args.range c.args.slot c.in-Some.leaf c.args.row.now keep
+    (may_put zones (first_replica_rows (histories old))
+    old mid new c.args.range c.args.slot c.in-Some.leaf c.args.row.now keep
     at c.requires.source c.in_ok-reserve.ensures.promised
     (c.put.ensures.others c.in-Some.leaf.0 (apart_later (first_replicas zones c.args.range.0) c.args.slot
     c.in-Some.leaf c.requires.replicas.distinct at)))
@@ -114,12 +117,13 @@ returns-clause-put t c =
     let new = c.apply.new.self.states.items in
     let at = sym c.leaf_at.ensures.leaf ∙ c.in-Some.is in
     let same = promise_keeps c.in-Some.leaf old mid c.in_ok-reserve.ensures.promised in
-    let keep = subst (λ h. AllKeep (leaf_of zones) (with_row_from (first_rows h) c.args.range (c.args.slot + 1)
+    let keep = subst (λ h. AllKeep (leaf_of zones) (with_row_from (first_replica_rows h) c.args.range (c.args.slot + 1)
     c.args.row.now) (histories put)) same c.in_ok-put.ensures.put in
     let more = subst (λ row. HasEntry c.in-Some.leaf (entry.Put 0 c.args.range (record { 0 = c.args.slot }) row)
     (histories put) (histories new)) c.in_ok-own.ensures.equal
     (histories_more c.in-Some.leaf _ put new c.apply.ensures.applied) in
-    put_more zones (first_rows (histories old)) (histories put) (histories new) c.args.range c.args.slot c.in-Some.leaf
+    put_more zones (first_replica_rows (histories old)) (histories put) (histories new)
+    c.args.range c.args.slot c.in-Some.leaf
     c.args.row.now keep at c.requires.source more
 
 pub returns-clause-others : goal.returns-clause-others

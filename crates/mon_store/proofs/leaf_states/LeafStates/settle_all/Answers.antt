@@ -1,5 +1,5 @@
 use Rattle.std.proofs.Common.{◌∙◌, refl}
-use Rattle.mon_topo.specs.Zones.{leaf_numbered}
+use Rattle.mon_value.specs.Positions.{leaf_numbered}
 use Rattle.mon_store.proofs.SettleLemmas.{below_more, below_none, settle_keeps}
 use Rattle.mon_store.proofs.leaf_states.LeafStates.settle_all.Goals as goal
 

@@ -1,6 +1,6 @@
 use Rattle.std.proofs.Common.{◌∙◌, ◌++◌, ◌∷◌, [], List, sym, ap, subst}
 use Rattle.mon_value.specs.declared.positions.Range.{Range}
-use Rattle.mon_store.specs.Stores.{AreKept, rows_kept}
+use Rattle.mon_store.specs.Stores.{AreReplicasKept, rows_kept}
 use Rattle.mon_store.proofs.StoreLemmas.{kept_more, kept_same, rows_more}
 use Rattle.mon_store.proofs.store.Store.append.Goals as goal
 
@@ -10,7 +10,7 @@ put-requires-clause-alike c = c.requires.kept.rows.alike
 pub returns-in_err-put-clause-kept : goal.returns-in_err-put-clause-kept
 returns-in_err-put-clause-kept c = record {
   limited = c.requires.kept.limited;
-  rows = subst (λ (order : List Range). AreKept c.args.config.now c.put.new.self.states.items order)
+  rows = subst (λ (order : List Range). AreReplicasKept c.args.config.now c.put.new.self.states.items order)
       (sym c.reserve.ensures.items)
       (kept_same c.args.config.now c.args.self.now.leaves.states.items c.put.new.self.states.items
       c.args.self.now.order.items c.requires.kept.rows
@@ -28,7 +28,7 @@ returns-clause-kept c =
     c.reserve.ensures.items in
     record {
       limited = c.requires.kept.limited;
-      rows = subst (λ (order : List Range). AreKept config new order) (sym pushed)
+      rows = subst (λ (order : List Range). AreReplicasKept config new order) (sym pushed)
           (kept_more config old new c.args.self.now.order.items c.args.range c.args.row.now has c.requires.kept.rows
           c.requires.range c.requires.there c.put.ensures.count c.in_ok-put.ensures.put);
       firsts = c.requires.kept.firsts;

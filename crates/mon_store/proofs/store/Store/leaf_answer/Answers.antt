@@ -3,7 +3,7 @@ use Rattle.mon_value.specs.declared.rows.Row.{Row}
 use Rattle.mql_types.specs.Nodes.{typed_tree}
 use Rattle.mql_types.specs.Soundness.{IsTyped}
 use Rattle.mon_meaning.specs.LeafAnswers.{IsLeafAnswer}
-use Rattle.mon_store.specs.within.Divisions.{leaf_rows}
+use Rattle.mon_store.specs.within.Divisions.{divided_leaf_rows}
 use Rattle.mon_store.specs.Stores.{accepted_rows}
 use Rattle.mon_store.proofs.DivisionLemmas.{leaf_typed}
 use Rattle.mon_store.proofs.LeafRowLemmas.{leaf_apart, leaf_opened, leaf_source}
@@ -49,7 +49,7 @@ returns c =
     let are = c.requires.sound.kept.firsts.each c.args.leaf.0 c.firsts_on.result.now listed in
     let plain : to_z w64 (of_z w64 c.args.moment) ≡ c.args.moment = search rules in
     record {
-      answer = subst (λ (m : ℤ). IsLeafAnswer typed (leaf_rows c.args.config.now (accepted_rows c.args.self.now)
+      answer = subst (λ (m : ℤ). IsLeafAnswer typed (divided_leaf_rows c.args.config.now (accepted_rows c.args.self.now)
           c.args.leaf.0) m c.args.config.now.limit c.eval_leaf.result) plain
           (subst (λ (rows : List Row). IsLeafAnswer typed rows (to_z w64 (of_z w64 c.args.moment))
           c.args.config.now.limit c.eval_leaf.result)

@@ -1,5 +1,5 @@
 use Rattle.std.proofs.Common.{rules, ◌≡◌, ◌∙◌, length, sym}
-use Rattle.mon_store.specs.within.Leaves.{first_rows, histories}
+use Rattle.mon_store.specs.within.Leaves.{first_replica_rows, histories}
 use Rattle.mon_store.proofs.TurnLemmas.{length-in_turn}
 use Rattle.mon_store.proofs.store.Store.len.Goals as goal
 
@@ -8,5 +8,5 @@ returns c =
     let count : c.len.result ≡ length c.args.self.now.order.items = search rules in
     record {
       count = count ∙ sym (length-in_turn c.args.self.now.order.items
-          (first_rows (histories c.args.self.now.leaves.states.items)));
+          (first_replica_rows (histories c.args.self.now.leaves.states.items)));
     }

@@ -4,7 +4,7 @@ use Rattle.mql_types.specs.Nodes.{typed_tree}
 use Rattle.mon_meaning.specs.Central.{IsRefusedBy}
 use Rattle.mixer.specs.Divisions.{IsDivided, all_rows}
 use Rattle.mixer.specs.ZoneAnswers.{AllZoneParts}
-use Rattle.mon_store.specs.within.Divisions.{divided_rows, listed, zone_rows}
+use Rattle.mon_store.specs.within.Divisions.{divided_rows, values_below, zone_rows}
 use Rattle.mon_store.specs.Stores.{accepted_rows}
 use Rattle.mon_store.proofs.DivisionLemmas.{answer_divided, is_divided}
 use Rattle.mon_store.proofs.TableLemmas.{refused_answer, zone_parts_more}
@@ -35,7 +35,7 @@ loop-zone-preserved c =
     let rows = accepted_rows c.args.self.now in
     let typed = typed_tree c.args.plan.now.typed in
     let moment : ℤ = to_z w64 (of_z w64 c.args.moment) in
-    subst (λ parts. AllZoneParts typed (listed (zone_rows config rows) (c.loop-zone.zone + 1)) moment config.limit
+    subst (λ parts. AllZoneParts typed (values_below (zone_rows config rows) (c.loop-zone.zone + 1)) moment config.limit
     parts) (sym c.in_ok-push.ensures.added)
     (zone_parts_more typed moment config.limit (zone_rows config rows) c.loop-zone.zone c.loop-zone.answers
     c.in_ok-answer.answer c.loop-zone.invariant c.in_ok-answer.ensures.part)
@@ -56,9 +56,10 @@ mix_root-requires-clause-asked c =
     let count = c.zones-zone-end.ensures.count in omega arith in
     let plain : to_z w64 (of_z w64 c.args.moment) ≡ c.args.moment = search rules in
     let each : AllZoneParts typed (divided_rows config rows) c.args.moment config.limit c.loop-zone.answers =
-    subst (λ n. AllZoneParts typed (listed (zone_rows config rows) n) c.args.moment config.limit c.loop-zone.answers)
+    subst (λ n. AllZoneParts typed (values_below (zone_rows config rows) n) c.args.moment config.limit
+    c.loop-zone.answers)
     end
-    (subst (λ (m : ℤ). AllZoneParts typed (listed (zone_rows config rows) c.loop-zone.zone) m config.limit
+    (subst (λ (m : ℤ). AllZoneParts typed (values_below (zone_rows config rows) c.loop-zone.zone) m config.limit
     c.loop-zone.answers) plain c.loop-zone.invariant) in
     record {
       zones = divided_rows config rows;
@@ -83,9 +84,10 @@ returns c =
     let count = c.zones-zone-end.ensures.count in omega arith in
     let plain : to_z w64 (of_z w64 c.args.moment) ≡ c.args.moment = search rules in
     let each : AllZoneParts typed (divided_rows config rows) c.args.moment config.limit c.loop-zone.answers =
-    subst (λ n. AllZoneParts typed (listed (zone_rows config rows) n) c.args.moment config.limit c.loop-zone.answers)
+    subst (λ n. AllZoneParts typed (values_below (zone_rows config rows) n) c.args.moment config.limit
+    c.loop-zone.answers)
     end
-    (subst (λ (m : ℤ). AllZoneParts typed (listed (zone_rows config rows) c.loop-zone.zone) m config.limit
+    (subst (λ (m : ℤ). AllZoneParts typed (values_below (zone_rows config rows) c.loop-zone.zone) m config.limit
     c.loop-zone.answers) plain c.loop-zone.invariant) in
     record {
       answer = answer_divided config leaves order typed c.args.moment config.limit c.mix_root.result

@@ -1,7 +1,7 @@
 use Rattle.std.proofs.Common.{◌≡◌, ◌∙◌, ◌++◌, ◌∷◌, [], length, ap, arith}
 use Rattle.mon_topo.specs.Zones.{first_replicas}
 use Rattle.mon_store.specs.Writes.{fault_behind}
-use Rattle.mon_store.specs.within.Leaves.{first_rows, histories}
+use Rattle.mon_store.specs.within.Leaves.{first_replica_rows, histories}
 use Rattle.mon_store.proofs.StoreLemmas.{AllHave, kept_same, rows_same}
 use Rattle.mon_store.proofs.TakeLemmas.{fault_known, first_leaf_there, first_opened, replicas_there, row_goes_on}
 use Rattle.mon_store.proofs.TakeLemmas.{write_fault_known}
@@ -87,7 +87,7 @@ returns-in-Some-clause-refused c =
     let mid = c.settle_each.new.self.states.items in
     let kept = kept_same config old mid c.args.self.now.order.items c.requires.kept.rows c.settle_each.ensures.count
     c.settle_each.ensures.kept in
-    let fault : c.fault_of.result ≡ fault_behind (first_rows (histories mid) c.args.range) c.args.row.now
+    let fault : c.fault_of.result ≡ fault_behind (first_replica_rows (histories mid) c.args.range) c.args.row.now
     config.range_points =
     fault_known zones has c.args.range c.requires.there c.as_slice-leaves.result.now replicas mid (record { 0 = 0 })
     c.args.row.now config.range_points c.fault_of.result kept.alike c.fault_of.ensures.fault in
@@ -118,7 +118,7 @@ append-requires-clause-source c =
     let mid = c.settle_each.new.self.states.items in
     let kept = kept_same config old mid c.args.self.now.order.items c.requires.kept.rows c.settle_each.ensures.count
     c.settle_each.ensures.kept in
-    let fault : c.fault_of.result ≡ fault_behind (first_rows (histories mid) c.args.range) c.args.row.now
+    let fault : c.fault_of.result ≡ fault_behind (first_replica_rows (histories mid) c.args.range) c.args.row.now
     config.range_points =
     fault_known zones has c.args.range c.requires.there c.as_slice-leaves.result.now replicas mid (record { 0 = 0 })
     c.args.row.now config.range_points c.fault_of.result kept.alike c.fault_of.ensures.fault in
@@ -136,7 +136,7 @@ returns-in_ok-append-in-None-clause-refused c =
     let mid = c.settle_each.new.self.states.items in
     let kept = kept_same config old mid c.args.self.now.order.items c.requires.kept.rows c.settle_each.ensures.count
     c.settle_each.ensures.kept in
-    let fault : c.fault_of.result ≡ fault_behind (first_rows (histories mid) c.args.range) c.args.row.now
+    let fault : c.fault_of.result ≡ fault_behind (first_replica_rows (histories mid) c.args.range) c.args.row.now
     config.range_points =
     fault_known zones has c.args.range c.requires.there c.as_slice-leaves.result.now replicas mid (record { 0 = 0 })
     c.args.row.now config.range_points c.fault_of.result kept.alike c.fault_of.ensures.fault in

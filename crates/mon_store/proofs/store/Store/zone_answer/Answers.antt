@@ -9,7 +9,7 @@ use Rattle.mon_meaning.specs.Central.{IsRefusedBy}
 use Rattle.mon_meaning.specs.declared.meter.OverLimit.{OverLimit}
 use Rattle.mixer.specs.Divisions.{IsDivided, all_rows}
 use Rattle.mixer.specs.ZoneAnswers.{AllLeafParts, AreLeafParts}
-use Rattle.mon_store.specs.within.Divisions.{divided_rows, leaf_rows, listed, zone_rows}
+use Rattle.mon_store.specs.within.Divisions.{divided_rows, divided_leaf_rows, values_below, zone_rows}
 use Rattle.mon_store.specs.Stores.{accepted_rows}
 use Rattle.mon_store.proofs.DivisionLemmas.{is_divided}
 use Rattle.mon_store.proofs.ListedLemmas.{listed_split}
@@ -45,7 +45,7 @@ returns-in_err-part-clause-refused c =
     let divided : IsDivided typed (divided_rows config rows) =
     is_divided config leaves order typed c.requires.sound.kept.rows c.ranges_have_replicas.ensures.replicas
     c.requires.typed c.requires.sound.fit in
-    let f : ℕ → List Row = λ i. leaf_rows config rows (first_leaf config.topology c.args.zone.0 + i) in
+    let f : ℕ → List Row = λ i. divided_leaf_rows config rows (first_leaf config.topology c.args.zone.0 + i) in
     let within : c.loop-place.place < length (zone_at c.args.config.now.topology c.args.zone.0).leaves =
     let test = c.loop-place-test.true in let count = c.leaves_of-count.ensures.count in omega arith in
     let there = zone_leaf_there c.args.config.now.topology c.args.zone.0 c.loop-place.place c.requires.there within in
@@ -53,15 +53,16 @@ returns-in_err-part-clause-refused c =
     let refused = c.in_err-part.field-0.0 in
     let plain : to_z w64 (of_z w64 c.args.moment) ≡ c.args.moment = search rules in
     let own = refused_leaf typed c.args.moment config.limit (f c.loop-place.place) c.leaf_answer.result refused
-    (subst (λ n. IsLeafAnswer typed (leaf_rows config rows (n + c.loop-place.place)) c.args.moment config.limit
+    (subst (λ n. IsLeafAnswer typed (divided_leaf_rows config rows (n + c.loop-place.place)) c.args.moment config.limit
     c.leaf_answer.result) c.leaves_of-count.ensures.first
-    (subst (λ (m : ℤ). IsLeafAnswer typed (leaf_rows config rows (c.leaves_of-count.result.0.0 + c.loop-place.place)) m
+    (subst (λ (m : ℤ). IsLeafAnswer typed
+    (divided_leaf_rows config rows (c.leaves_of-count.result.0.0 + c.loop-place.place)) m
     config.limit c.leaf_answer.result) plain c.leaf_answer.ensures.answer))
     c.in_err-part.was in
     let fact : IsRefusedBy typed (all_rows (divided_rows config rows)) c.args.moment config.limit refused =
     subst (λ (zones : List (List (List Row))). IsRefusedBy typed (all_rows zones) c.args.moment config.limit refused)
     (sym split.is)
-    (c.refused_parts_refuse_queries.ensures.leaf typed (listed (zone_rows config rows) c.args.zone.0) split.first
+    (c.refused_parts_refuse_queries.ensures.leaf typed (values_below (zone_rows config rows) c.args.zone.0) split.first
     (f c.loop-place.place) split.rest split.after c.args.moment config.limit refused
     c.requires.moment (subst (IsDivided typed) split.is divided) own) in
     refused_on c.from_residual.result (λ (r : Refusal OverLimit). IsRefusedBy typed
@@ -74,10 +75,10 @@ loop-place-preserved c =
     let rows = accepted_rows c.args.self.now in
     let typed = typed_tree c.args.plan.now.typed in
     let moment : ℤ = to_z w64 (of_z w64 c.args.moment) in
-    let f : ℕ → List Row = λ i. leaf_rows config rows (c.leaves_of-count.result.0.0 + i) in
+    let f : ℕ → List Row = λ i. divided_leaf_rows config rows (c.leaves_of-count.result.0.0 + i) in
     let own = part_of typed moment config.limit (f c.loop-place.place) c.leaf_answer.result c.in_ok-part.part
     c.leaf_answer.ensures.answer c.in_ok-part.was in
-    subst (λ parts. AllLeafParts typed (listed f (c.loop-place.place + 1)) moment config.limit parts)
+    subst (λ parts. AllLeafParts typed (values_below f (c.loop-place.place + 1)) moment config.limit parts)
     (sym c.in_ok-push.ensures.added)
     (leaf_parts_more typed moment config.limit f c.loop-place.place c.loop-place.parts c.in_ok-part.part
     c.loop-place.invariant own)
@@ -93,20 +94,22 @@ mix_zone-requires-clause-asked c =
     let divided : IsDivided typed (divided_rows config rows) =
     is_divided config leaves order typed c.requires.sound.kept.rows c.ranges_have_replicas.ensures.replicas
     c.requires.typed c.requires.sound.fit in
-    let f : ℕ → List Row = λ i. leaf_rows config rows (first_leaf config.topology c.args.zone.0 + i) in
+    let f : ℕ → List Row = λ i. divided_leaf_rows config rows (first_leaf config.topology c.args.zone.0 + i) in
     let outer = listed_split (zone_rows config rows) (length config.topology) c.args.zone.0 c.requires.there in
     let end : c.loop-place.place ≡ length (zone_at config.topology c.args.zone.0).leaves =
     let past = c.loop-place-test.false in let before = c.loop-place.auto.place-end in
     let count = c.leaves_of-count.ensures.count in omega arith in
     let plain : to_z w64 (of_z w64 c.args.moment) ≡ c.args.moment = search rules in
     let each : AllLeafParts typed (zone_rows config rows c.args.zone.0) c.args.moment config.limit c.loop-place.parts =
-    subst (λ n. AllLeafParts typed (listed f n) c.args.moment config.limit c.loop-place.parts) end
-    (subst (λ n. AllLeafParts typed (listed (λ i. leaf_rows config rows (n + i)) c.loop-place.place) c.args.moment
+    subst (λ n. AllLeafParts typed (values_below f n) c.args.moment config.limit c.loop-place.parts) end
+    (subst (λ n. AllLeafParts typed (values_below (λ i. divided_leaf_rows config rows (n + i)) c.loop-place.place)
+    c.args.moment
     config.limit c.loop-place.parts) c.leaves_of-count.ensures.first
-    (subst (λ (m : ℤ). AllLeafParts typed (listed (λ i. leaf_rows config rows (c.leaves_of-count.result.0.0 + i))
+    (subst (λ (m : ℤ). AllLeafParts typed
+    (values_below (λ i. divided_leaf_rows config rows (c.leaves_of-count.result.0.0 + i))
     c.loop-place.place) m config.limit c.loop-place.parts) plain c.loop-place.invariant)) in
     let are : AreLeafParts typed (zone_rows config rows c.args.zone.0) c.args.moment config.limit c.loop-place.parts =
-    c.zones_are_asked.ensures.leaves typed (listed (zone_rows config rows) c.args.zone.0)
+    c.zones_are_asked.ensures.leaves typed (values_below (zone_rows config rows) c.args.zone.0)
     (zone_rows config rows c.args.zone.0) outer.rest c.args.moment config.limit c.loop-place.parts
     c.requires.moment (subst (IsDivided typed) outer.is divided) each in
     record { leaves = zone_rows config rows c.args.zone.0; moment = c.args.moment; are = are }
@@ -122,20 +125,22 @@ returns-clause-part c =
     let divided : IsDivided typed (divided_rows config rows) =
     is_divided config leaves order typed c.requires.sound.kept.rows c.ranges_have_replicas.ensures.replicas
     c.requires.typed c.requires.sound.fit in
-    let f : ℕ → List Row = λ i. leaf_rows config rows (first_leaf config.topology c.args.zone.0 + i) in
+    let f : ℕ → List Row = λ i. divided_leaf_rows config rows (first_leaf config.topology c.args.zone.0 + i) in
     let outer = listed_split (zone_rows config rows) (length config.topology) c.args.zone.0 c.requires.there in
     let end : c.loop-place.place ≡ length (zone_at config.topology c.args.zone.0).leaves =
     let past = c.loop-place-test.false in let before = c.loop-place.auto.place-end in
     let count = c.leaves_of-count.ensures.count in omega arith in
     let plain : to_z w64 (of_z w64 c.args.moment) ≡ c.args.moment = search rules in
     let each : AllLeafParts typed (zone_rows config rows c.args.zone.0) c.args.moment config.limit c.loop-place.parts =
-    subst (λ n. AllLeafParts typed (listed f n) c.args.moment config.limit c.loop-place.parts) end
-    (subst (λ n. AllLeafParts typed (listed (λ i. leaf_rows config rows (n + i)) c.loop-place.place) c.args.moment
+    subst (λ n. AllLeafParts typed (values_below f n) c.args.moment config.limit c.loop-place.parts) end
+    (subst (λ n. AllLeafParts typed (values_below (λ i. divided_leaf_rows config rows (n + i)) c.loop-place.place)
+    c.args.moment
     config.limit c.loop-place.parts) c.leaves_of-count.ensures.first
-    (subst (λ (m : ℤ). AllLeafParts typed (listed (λ i. leaf_rows config rows (c.leaves_of-count.result.0.0 + i))
+    (subst (λ (m : ℤ). AllLeafParts typed
+    (values_below (λ i. divided_leaf_rows config rows (c.leaves_of-count.result.0.0 + i))
     c.loop-place.place) m config.limit c.loop-place.parts) plain c.loop-place.invariant)) in
     let are : AreLeafParts typed (zone_rows config rows c.args.zone.0) c.args.moment config.limit c.loop-place.parts =
-    c.zones_are_asked.ensures.leaves typed (listed (zone_rows config rows) c.args.zone.0)
+    c.zones_are_asked.ensures.leaves typed (values_below (zone_rows config rows) c.args.zone.0)
     (zone_rows config rows c.args.zone.0) outer.rest c.args.moment config.limit c.loop-place.parts
     c.requires.moment (subst (IsDivided typed) outer.is divided) each in
     zone_part typed c.args.moment config.limit (zone_rows config rows c.args.zone.0) c.mix_zone.result
@@ -152,20 +157,22 @@ returns-clause-refused c =
     let divided : IsDivided typed (divided_rows config rows) =
     is_divided config leaves order typed c.requires.sound.kept.rows c.ranges_have_replicas.ensures.replicas
     c.requires.typed c.requires.sound.fit in
-    let f : ℕ → List Row = λ i. leaf_rows config rows (first_leaf config.topology c.args.zone.0 + i) in
+    let f : ℕ → List Row = λ i. divided_leaf_rows config rows (first_leaf config.topology c.args.zone.0 + i) in
     let outer = listed_split (zone_rows config rows) (length config.topology) c.args.zone.0 c.requires.there in
     let end : c.loop-place.place ≡ length (zone_at config.topology c.args.zone.0).leaves =
     let past = c.loop-place-test.false in let before = c.loop-place.auto.place-end in
     let count = c.leaves_of-count.ensures.count in omega arith in
     let plain : to_z w64 (of_z w64 c.args.moment) ≡ c.args.moment = search rules in
     let each : AllLeafParts typed (zone_rows config rows c.args.zone.0) c.args.moment config.limit c.loop-place.parts =
-    subst (λ n. AllLeafParts typed (listed f n) c.args.moment config.limit c.loop-place.parts) end
-    (subst (λ n. AllLeafParts typed (listed (λ i. leaf_rows config rows (n + i)) c.loop-place.place) c.args.moment
+    subst (λ n. AllLeafParts typed (values_below f n) c.args.moment config.limit c.loop-place.parts) end
+    (subst (λ n. AllLeafParts typed (values_below (λ i. divided_leaf_rows config rows (n + i)) c.loop-place.place)
+    c.args.moment
     config.limit c.loop-place.parts) c.leaves_of-count.ensures.first
-    (subst (λ (m : ℤ). AllLeafParts typed (listed (λ i. leaf_rows config rows (c.leaves_of-count.result.0.0 + i))
+    (subst (λ (m : ℤ). AllLeafParts typed
+    (values_below (λ i. divided_leaf_rows config rows (c.leaves_of-count.result.0.0 + i))
     c.loop-place.place) m config.limit c.loop-place.parts) plain c.loop-place.invariant)) in
     let are : AreLeafParts typed (zone_rows config rows c.args.zone.0) c.args.moment config.limit c.loop-place.parts =
-    c.zones_are_asked.ensures.leaves typed (listed (zone_rows config rows) c.args.zone.0)
+    c.zones_are_asked.ensures.leaves typed (values_below (zone_rows config rows) c.args.zone.0)
     (zone_rows config rows c.args.zone.0) outer.rest c.args.moment config.limit c.loop-place.parts
     c.requires.moment (subst (IsDivided typed) outer.is divided) each in
     zone_refused typed c.args.moment config.limit (divided_rows config rows) (zone_rows config rows c.args.zone.0)
@@ -173,6 +180,6 @@ returns-clause-refused c =
     (c.mix_zone.ensures.answer (zone_rows config rows c.args.zone.0) c.args.moment are)
     (λ refused own. subst (λ (zones : List (List (List Row))). IsRefusedBy typed (all_rows zones) c.args.moment
     config.limit refused) (sym outer.is)
-    (c.refused_parts_refuse_queries.ensures.zone typed (listed (zone_rows config rows) c.args.zone.0)
+    (c.refused_parts_refuse_queries.ensures.zone typed (values_below (zone_rows config rows) c.args.zone.0)
     (zone_rows config rows c.args.zone.0) outer.rest c.args.moment config.limit refused
     c.requires.moment (subst (IsDivided typed) outer.is divided) own))

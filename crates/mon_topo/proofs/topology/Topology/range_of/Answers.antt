@@ -3,8 +3,9 @@ use Rattle.std.proofs.lemmas.List.Sorted.{IsPartitionPoint-from_clause}
 use Rattle.std.proofs.lemmas.Option.{get_or_from_slice_get}
 use Rattle.mon_topo.proofs.KeptLemmas.{range_found, range_known, range_searched, range_zoned, ranges_parted, span_kept}
 use Rattle.mon_topo.proofs.SpanLemmas.{length-spans_from}
-use Rattle.mon_topo.specs.Bounds.{is_within, range_of}
-use Rattle.mon_topo.specs.Zones.{no_zone, range_numbered, ranges_in, zone_at, IsRangeOf}
+use Rattle.mon_topo.specs.Bounds.{is_bound_below, range_of}
+use Rattle.mon_value.specs.Positions.{range_numbered}
+use Rattle.mon_topo.specs.Zones.{no_zone, ranges_in, zone_at, IsRangeOf}
 use Rattle.mon_topo.specs.declared.zones.RangeSpec.{RangeSpec}
 use Rattle.mon_topo.specs.declared.zones.ZoneSpec.{ZoneSpec}
 use Rattle.mon_topo.proofs.topology.Topology.range_of.Goals as goal
@@ -25,7 +26,7 @@ overflow_sub-result c =
     ∙ ap (λ (zone : ZoneSpec). zone.ranges)
     (sym (get_or_from_slice_get zones i c.get.result.now no_zone c.get.ensures.item)) in
     let parted = ranges_parted zones i target ranges c.self.invariant.0 there is in
-    let point = IsPartitionPoint-from_clause (λ (range : RangeSpec). is_within range.from target) ranges
+    let point = IsPartitionPoint-from_clause (λ (range : RangeSpec). is_bound_below range.from target) ranges
     c.partition_point-above.result c.partition_point-above.ensures.partitioned parted (λ a r q k. search rules) in
     let found = range_searched zones i target ranges c.partition_point-above.result c.self.invariant.0 there is
     c.partition_point-above.ensures.bound point in
@@ -42,7 +43,7 @@ overflow_cast-result c =
     ∙ ap (λ (zone : ZoneSpec). zone.ranges)
     (sym (get_or_from_slice_get zones i c.get.result.now no_zone c.get.ensures.item)) in
     let parted = ranges_parted zones i target ranges c.self.invariant.0 there is in
-    let point = IsPartitionPoint-from_clause (λ (range : RangeSpec). is_within range.from target) ranges
+    let point = IsPartitionPoint-from_clause (λ (range : RangeSpec). is_bound_below range.from target) ranges
     c.partition_point-above.result c.partition_point-above.ensures.partitioned parted (λ a r q k. search rules) in
     let found = range_searched zones i target ranges c.partition_point-above.result c.self.invariant.0 there is
     c.partition_point-above.ensures.bound point in
@@ -59,7 +60,7 @@ overflow_add-result c =
     ∙ ap (λ (zone : ZoneSpec). zone.ranges)
     (sym (get_or_from_slice_get zones i c.get.result.now no_zone c.get.ensures.item)) in
     let parted = ranges_parted zones i target ranges c.self.invariant.0 there is in
-    let point = IsPartitionPoint-from_clause (λ (range : RangeSpec). is_within range.from target) ranges
+    let point = IsPartitionPoint-from_clause (λ (range : RangeSpec). is_bound_below range.from target) ranges
     c.partition_point-above.result c.partition_point-above.ensures.partitioned parted (λ a r q k. search rules) in
     let found = range_searched zones i target ranges c.partition_point-above.result c.self.invariant.0 there is
     c.partition_point-above.ensures.bound point in
@@ -78,7 +79,7 @@ returns c =
     ∙ ap (λ (zone : ZoneSpec). zone.ranges)
     (sym (get_or_from_slice_get zones i c.get.result.now no_zone c.get.ensures.item)) in
     let parted = ranges_parted zones i target ranges c.self.invariant.0 there is in
-    let point = IsPartitionPoint-from_clause (λ (range : RangeSpec). is_within range.from target) ranges
+    let point = IsPartitionPoint-from_clause (λ (range : RangeSpec). is_bound_below range.from target) ranges
     c.partition_point-above.result c.partition_point-above.ensures.partitioned parted (λ a r q k. search rules) in
     let found = range_searched zones i target ranges c.partition_point-above.result c.self.invariant.0 there is
     c.partition_point-above.ensures.bound point in

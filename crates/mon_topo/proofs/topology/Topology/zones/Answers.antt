@@ -1,7 +1,7 @@
 use Rattle.std.proofs.Common.{List, subst}
-use Rattle.mon_topo.specs.Faults.{IsLawful}
+use Rattle.mon_topo.specs.Faults.{AreLawfulZones}
 use Rattle.mon_topo.specs.declared.zones.ZoneSpec.{ZoneSpec}
 use Rattle.mon_topo.proofs.topology.Topology.zones.Goals as goal
 
 pub returns-clause-lawful : goal.returns-clause-lawful
-returns-clause-lawful c = subst (λ (zones : List ZoneSpec). IsLawful zones) c.self.view_is c.self.invariant.0
+returns-clause-lawful c = subst (λ (zones : List ZoneSpec). AreLawfulZones zones) c.self.view_is c.self.invariant.0
