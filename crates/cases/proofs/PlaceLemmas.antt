@@ -1,31 +1,16 @@
 -- Rows that lie at other places share no location with others, and no target.
-use Rattle.std.proofs.Common.{◌≡◌, ℕ, Bool, false, true, ◌&&◌, ◌||◌, List, [], ◌∷◌, refl, sym, ap, ◌∙◌, Option, Some}
+use Rattle.std.proofs.Common.{◌≡◌, ℕ, Bool, false, true, ◌||◌, List, [], ◌∷◌, refl, sym, ap, ◌∙◌, Option, Some}
 use Rattle.std.proofs.Common.{None}
 use Rattle.std.specs.Option.{option_map_or}
+use Rattle.mixer.proofs.ApartTargets.{one_target}
 use Rattle.mixer.specs.Divisions.{ShareNoLocation, ShareNoTarget, has_location, has_target, lies_at}
 use Rattle.mon_schema.specs.SchemaLists.{SchemaLists}
 use Rattle.mon_topo.specs.Locations.{location_of}
-use Rattle.mon_value.proofs.SameLemmas.{same_series-Decides, same_text-Decides}
-use Rattle.mon_value.specs.Same.{same_series, same_target, same_text}
+use Rattle.mon_value.proofs.SameLemmas.{same_text-Decides}
+use Rattle.mon_value.specs.Same.{same_target, same_text}
 use Rattle.mon_value.specs.declared.rows.Row.{Row}
-use Rattle.mon_value.specs.declared.rows.SeriesKey.{SeriesKey}
 use Rattle.mon_value.specs.declared.rows.Target.{Target}
 use Rattle.cases.specs.Readings.{ShareNoPlace}
-
--- ---- targets
-
--- the key of a target's series without a metric
-abbrev bare : Target → SeriesKey
-bare target = record { target = target; metric = []; fields = [] }
-
-with_true : (a b : Bool) → b ≡ true → a ≡ true → (a && b) ≡ true
-with_true a b p q = cc
-
-same_bare : (a b : Target) → same_target a b ≡ true → same_series (bare a) (bare b) ≡ true
-same_bare a b e = with_true (same_target a b) _ refl e
-
-one_target : (a b : Target) → same_target a b ≡ true → a ≡ b
-one_target a b e = ap (λ (key : SeriesKey). key.target) ((same_series-Decides (bare a) (bare b)).0 (same_bare a b e))
 
 same_place : (place : List ℕ) → same_text place place ≡ true
 same_place place = (same_text-Decides place place).1 refl

@@ -34,7 +34,7 @@ use Rattle.query_core.specs.Mixtures.{root_stage, typed_of, zone_turn}
 use Rattle.query_core.specs.Program as spec
 use Rattle.query_core.specs.Program.{after, begin_visits, let_some_in, next_zone, resolving, visiting}
 use Rattle.query_core.specs.Rounds.{Round, next_range, round_of, with_slot}
-use Rattle.query_core.specs.Settings.{Setting}
+use Rattle.query_core.specs.Settings.{QuerySetting}
 use Rattle.query_core.specs.Visits as visit
 use Rattle.query_core.specs.Visits.{Visits, gone_on, with_look, next_leaf}
 use Rattle.mql_types.specs.Soundness.{IsQueryType}
@@ -78,7 +78,7 @@ by_test : {S : Type 0} (P : S → Type 0) (b : Bool) (x y : S) → P x → P y �
 by_test P true x y p q = p
 by_test P false x y p q = q
 
-module _ (setting : Setting) (moment : ℤ) (reads : List (List Row)) where
+module _ (setting : QuerySetting) (moment : ℤ) (reads : List (List Row)) where
   abbrev ZonesAre : List ZoneAnswer → Type 0
   ZonesAre = AreZonesOf (typed_of setting) moment setting.limit reads
 
@@ -313,7 +313,7 @@ module _ (setting : Setting) (moment : ℤ) (reads : List (List Row)) where
 
 -- ---- one reading more
 
-module _ (setting : Setting) (moment : ℤ) (reads : List (List Row)) (rows : List Row) where
+module _ (setting : QuerySetting) (moment : ℤ) (reads : List (List Row)) (rows : List Row) where
   abbrev more : List (List Row)
   more = reads ++ rows ∷ []
 
@@ -393,17 +393,17 @@ module _ (setting : Setting) (moment : ℤ) (reads : List (List Row)) (rows : Li
 
 -- ---- a query that is told something
 
-module _ (held : SchemaLists) (asked : Asked) (reads : List (List Row)) (setting : Setting) (stage : Stage)
+module _ (held : SchemaLists) (asked : Asked) (reads : List (List Row)) (setting : QuerySetting) (stage : Stage)
     (going : IsGoingSo held asked reads setting stage) where
   -- it may be told so, and goes on
   abbrev GoesOver : List (List Row) → Told → Type 0
   GoesOver more answer = Leads setting asked.moment more (MayMix setting) (Settles setting) (after setting stage answer)
 
   goes_by : (more : List (List Row)) → AreReads held more → (answer : Told) → GoesOver more answer
-      → (next : Setting) (new : Stage) → next ≡ setting → LeadsTo setting stage answer new
+      → (next : QuerySetting) (new : Stage) → next ≡ setting → LeadsTo setting stage answer new
       → IsGoingSo held asked more next new
   goes_by more are answer goes next new same leads =
-      subst (λ (s : Setting). IsGoingSo held asked more s new) (sym same) (record {
+      subst (λ (s : QuerySetting). IsGoingSo held asked more s new) (sym same) (record {
         bounds = going.bounds;
         limit = going.limit;
         over = going.over;
@@ -421,7 +421,7 @@ module _ (held : SchemaLists) (asked : Asked) (reads : List (List Row)) (setting
     pub plain_may_be_told : MayBeTold setting stage answer
     plain_may_be_told = record { may_mix = plain_goes.0 }
 
-    pub plain_goes_on : (next : Setting) (new : Stage) → next ≡ setting → LeadsTo setting stage answer new
+    pub plain_goes_on : (next : QuerySetting) (new : Stage) → next ≡ setting → LeadsTo setting stage answer new
         → IsGoingSo held asked reads next new
     plain_goes_on = goes_by reads going.reads_are answer plain_goes
 
@@ -449,19 +449,19 @@ module _ (held : SchemaLists) (asked : Asked) (reads : List (List Row)) (setting
       pub read_may_be_told : MayBeTold setting stage answer
       read_may_be_told = record { may_mix = read_goes.0 }
 
-      pub read_goes_on : (next : Setting) (new : Stage) → next ≡ setting → LeadsTo setting stage answer new
+      pub read_goes_on : (next : QuerySetting) (new : Stage) → next ≡ setting → LeadsTo setting stage answer new
           → IsGoingSo held asked more next new
       read_goes_on = goes_by more are_more answer read_goes
 
 -- a plan's answers are those of the query that has it
 pub read_by_plan : (held : SchemaLists) (asked : Asked) (reads more : List (List Row)) (answer : Told) (plan : Plan)
-    (setting : Setting) → plan ≡ setting.plan → IsRead held (typed_tree plan.typed) asked reads more answer
+    (setting : QuerySetting) → plan ≡ setting.plan → IsRead held (typed_tree plan.typed) asked reads more answer
     → IsRead held (typed_of setting) asked reads more answer
 read_by_plan held asked reads more answer plan setting same read =
     subst (λ (p : Plan). IsRead held (typed_tree p.typed) asked reads more answer) same read
 
 -- before its first event a query was told nothing
-pub goes_at_first : (held : SchemaLists) (asked : Asked) (setting : Setting) → IsInBounds asked
+pub goes_at_first : (held : SchemaLists) (asked : Asked) (setting : QuerySetting) → IsInBounds asked
     → setting.limit ≡ asked.limit → IsQueryType held (typed_of setting)
     → IsGoingSo held asked [] setting (at.Rooting no_word)
 goes_at_first held asked setting bounds limit over = record {

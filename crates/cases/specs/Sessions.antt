@@ -14,7 +14,7 @@ use Rattle.query_core.specs.declared.stages.Stage.{Stage}
 use Rattle.query_core.specs.declared.stages.Stage.TheVariants as at
 use Rattle.query_core.specs.Machine.{Query}
 use Rattle.query_core.specs.Mixtures.{typed_of}
-use Rattle.query_core.specs.Settings.{Setting}
+use Rattle.query_core.specs.Settings.{QuerySetting}
 use Rattle.mql_types.specs.Soundness.{IsQueryType}
 use Rattle.cases.specs.declared.meanings.Asked.{Asked}
 use Rattle.cases.specs.Readings.{Among, AreReads, IsInBounds, IsReading, ShareNoPlace, leaves_of}
@@ -68,13 +68,13 @@ module _ (typed : TypedTree) (moment : ℤ) (limit : ℕ) (reads : List (List Ro
   StageIsOf (at.Ended end) = Unit {0}
 
 -- a query that was told readings which share nothing, and is at a stage
-pub record IsGoingSo (held : SchemaLists) (asked : Asked) (reads : List (List Row)) (setting : Setting) (stage : Stage)
-    : Type 0 where
+pub record IsGoingSo (held : SchemaLists) (asked : Asked) (reads : List (List Row)) (setting : QuerySetting)
+    (stage : Stage) : Type 0 where
   pub bounds : IsInBounds asked
   pub limit : setting.limit ≡ asked.limit
   pub over : IsQueryType held (typed_of setting)
   pub reads_are : AreReads held reads
   pub stage_is : StageIsOf (typed_of setting) asked.moment setting.limit reads stage
 
-abbrev pub IsGoing : SchemaLists → Asked → List (List Row) → Query → Type 0
-IsGoing held asked reads query = IsGoingSo held asked reads query.setting query.stage
+abbrev pub IsQueryGoing : SchemaLists → Asked → List (List Row) → Query → Type 0
+IsQueryGoing held asked reads query = IsGoingSo held asked reads query.setting query.stage

@@ -2,7 +2,7 @@
 use crate::case_tables::{Case, CaseTable, Entry};
 use crate::escapes::shown;
 use crate::files::{name_beside, read_text};
-use crate::settings::Setting;
+use crate::settings::CaseSetting;
 use crate::trouble::{Done, Trouble};
 use crate::{
     configurations, divided, expressions, groups, hints, leaf_growth, leaf_states, meanings,
@@ -56,7 +56,7 @@ const UNDER_NOTHING: &[&str] = &[
 /// What the cases of a table came to.
 #[derive(Drop)]
 pub(crate) struct Report {
-    setting: Setting,
+    setting: CaseSetting,
     /// A line for each case that differs.
     pub(crate) text: String,
     pub(crate) cases: u64,
@@ -66,7 +66,7 @@ pub(crate) struct Report {
 /// Checks the cases of a table.
 pub(crate) fn check(rt: &HostRuntime, name: &str, table: &CaseTable) -> Result<Report, AllocError> {
     let mut report = Report {
-        setting: Setting::new(rt.alloc()),
+        setting: CaseSetting::new(rt.alloc()),
         text: String::new(rt.alloc()),
         cases: 0,
         held: 0,
@@ -184,7 +184,7 @@ impl Report {
 }
 
 // What a call answers to a case, as tables write it.
-fn answer(setting: &mut Setting, call: &str, given: &str) -> Result<Vec<u8>, Trouble> {
+fn answer(setting: &mut CaseSetting, call: &str, given: &str) -> Result<Vec<u8>, Trouble> {
     match call {
         "mon_run::run" => runs::answer(setting.alloc, setting.content.as_str(), given),
         "mon_hints::excerpts_of" => hints::excerpts(setting.alloc, given),
@@ -192,13 +192,13 @@ fn answer(setting: &mut Setting, call: &str, given: &str) -> Result<Vec<u8>, Tro
     }
 }
 
-fn text_answer(setting: &mut Setting, call: &str, given: &str) -> Result<Vec<u8>, Trouble> {
+fn text_answer(setting: &mut CaseSetting, call: &str, given: &str) -> Result<Vec<u8>, Trouble> {
     let mut text = String::new(setting.alloc);
     write_answer(&mut text, setting, call, given)?;
     Ok(text.into_bytes())
 }
 
-fn write_answer(text: &mut String, setting: &mut Setting, call: &str, given: &str) -> Done {
+fn write_answer(text: &mut String, setting: &mut CaseSetting, call: &str, given: &str) -> Done {
     let (home, name) = call.split_once("::").unwrap_or((call, ""));
     match home {
         "mon_value" => values::write_answer(text, setting.alloc, name, given),
@@ -213,7 +213,7 @@ fn write_answer(text: &mut String, setting: &mut Setting, call: &str, given: &st
 // The same of the calls of the layers that read texts and make tables.
 fn write_of_files(
     text: &mut String,
-    setting: &Setting,
+    setting: &CaseSetting,
     home: &str,
     name: &str,
     given: &str,
@@ -230,7 +230,7 @@ fn write_of_files(
 }
 
 // The same of the calls of leaves' states.
-fn write_of_leaves(text: &mut String, setting: &Setting, name: &str, given: &str) -> Done {
+fn write_of_leaves(text: &mut String, setting: &CaseSetting, name: &str, given: &str) -> Done {
     match name {
         "LeafState" => leaf_states::write_answer(text, setting, given),
         "LeafState of many puts" => leaf_growth::write_answer(text, setting, given),
@@ -241,7 +241,7 @@ fn write_of_leaves(text: &mut String, setting: &Setting, name: &str, given: &str
 // The same of the calls of queries.
 fn write_of_queries(
     text: &mut String,
-    setting: &Setting,
+    setting: &CaseSetting,
     home: &str,
     name: &str,
     given: &str,
@@ -259,7 +259,7 @@ fn write_of_queries(
 }
 
 // The same of the calls that align, fold and group.
-fn write_of_folds(text: &mut String, setting: &Setting, name: &str, given: &str) -> Done {
+fn write_of_folds(text: &mut String, setting: &CaseSetting, name: &str, given: &str) -> Done {
     match name {
         "align" => series::write_answer(text, setting.alloc, given),
         "fold_pieces" => pieces::write_answer(text, setting.alloc, given),
@@ -269,7 +269,7 @@ fn write_of_folds(text: &mut String, setting: &Setting, name: &str, given: &str)
 }
 
 // The same of the calls that say what queries mean.
-fn write_of_meanings(text: &mut String, setting: &Setting, name: &str, given: &str) -> Done {
+fn write_of_meanings(text: &mut String, setting: &CaseSetting, name: &str, given: &str) -> Done {
     match name {
         "central" => meanings::write_answer(text, setting, given),
         "central divided" => divided::write_answer(text, setting, given),

@@ -4,7 +4,7 @@ use crate::descriptions::number_in;
 use crate::made::{Made, POINTS};
 use crate::meanings::{meant, rows_of};
 use crate::runs;
-use crate::settings::Setting;
+use crate::settings::CaseSetting;
 use crate::trouble::{Done, Trouble};
 use mon_value::Text;
 
@@ -21,7 +21,7 @@ const HALVINGS: u32 = 9;
 /// zones is asked within it, where it prints the table of all rows, and within one less, where it refuses. The answer
 /// is how many of the queries have a type, how many of these a table with rows, and their loads together; or the
 /// first of which a run differs.
-pub(crate) fn write_answer(text: &mut String, setting: &Setting, given: &str) -> Done {
+pub(crate) fn write_answer(text: &mut String, setting: &CaseSetting, given: &str) -> Done {
     let Some((count, seed)) = given.split_once(" queries of seed ") else {
         return Err(Trouble::Misspelled);
     };
@@ -62,7 +62,7 @@ impl Tally {
     }
 
     // Makes and counts a query, and writes it where it does not hold. Whether it does.
-    fn next_holds(&mut self, text: &mut String, setting: &Setting) -> Result<bool, Trouble> {
+    fn next_holds(&mut self, text: &mut String, setting: &CaseSetting) -> Result<bool, Trouble> {
         let made = Made::new(setting.alloc, &mut self.chance)?;
         let holds = self.holds(setting, &made)?;
         if !holds {
@@ -72,7 +72,7 @@ impl Tally {
     }
 
     // Whether a query has no type, or the runs over its zones are those of its meaning.
-    fn holds(&mut self, setting: &Setting, made: &Made) -> Result<bool, Trouble> {
+    fn holds(&mut self, setting: &CaseSetting, made: &Made) -> Result<bool, Trouble> {
         match told_of_all(setting, made, MOST) {
             Ok(table) => self.holds_typed(setting, made, table.as_str()),
             Err(Trouble::Misspelled) => Ok(true),
@@ -82,7 +82,7 @@ impl Tally {
 
     fn holds_typed(
         &mut self,
-        setting: &Setting,
+        setting: &CaseSetting,
         made: &Made,
         table: &str,
     ) -> Result<bool, Trouble> {
@@ -100,7 +100,7 @@ impl Tally {
 }
 
 // The least limit within which a query has a table over all rows.
-fn load_of(setting: &Setting, made: &Made) -> Result<u64, Trouble> {
+fn load_of(setting: &CaseSetting, made: &Made) -> Result<u64, Trouble> {
     let mut least = 0u64;
     let mut most = MOST;
     for _ in 0..HALVINGS {
@@ -115,19 +115,19 @@ fn load_of(setting: &Setting, made: &Made) -> Result<u64, Trouble> {
 }
 
 // What a query means over all rows.
-fn told_of_all(setting: &Setting, made: &Made, limit: u64) -> Result<Text, Trouble> {
+fn told_of_all(setting: &CaseSetting, made: &Made, limit: u64) -> Result<Text, Trouble> {
     let rows = rows_of(setting.alloc, &setting.schemas, made.points.as_bytes())?;
     meant(setting, made.query.as_bytes(), &rows, MOMENT, limit)
 }
 
 // Whether a run over the zones prints a table.
-fn prints(setting: &Setting, made: &Made, limit: u64, table: &str) -> Result<bool, Trouble> {
+fn prints(setting: &CaseSetting, made: &Made, limit: u64, table: &str) -> Result<bool, Trouble> {
     let wanted = format!(in setting.alloc; "0\nfeed p.csv: {POINTS} accepted, 0 refused\n{table}")?;
     Ok(run_of(setting, made, limit)?.as_slice() == wanted.as_bytes())
 }
 
 // Whether a run over the zones refuses a query within less than its load, if there is a limit that is less.
-fn refuses(setting: &Setting, made: &Made, load: u64) -> Result<bool, Trouble> {
+fn refuses(setting: &CaseSetting, made: &Made, load: u64) -> Result<bool, Trouble> {
     if load < 2 {
         return Ok(true);
     }
@@ -139,14 +139,14 @@ fn refuses(setting: &Setting, made: &Made, load: u64) -> Result<bool, Trouble> {
 }
 
 // What a run over the zones comes to.
-fn run_of(setting: &Setting, made: &Made, limit: u64) -> Result<Vec<u8>, Trouble> {
+fn run_of(setting: &CaseSetting, made: &Made, limit: u64) -> Result<Vec<u8>, Trouble> {
     let config = configuration(setting, made.zones.as_str(), limit)?;
     let described = description(setting, made)?;
     runs::answer(setting.alloc, config.as_str(), described.as_str())
 }
 
 // The configuration of the setting with other zones and a limit.
-fn configuration(setting: &Setting, zones: &str, limit: u64) -> Result<String, Trouble> {
+fn configuration(setting: &CaseSetting, zones: &str, limit: u64) -> Result<String, Trouble> {
     let (schemas, _) = setting
         .content
         .as_str()
@@ -156,7 +156,7 @@ fn configuration(setting: &Setting, zones: &str, limit: u64) -> Result<String, T
 }
 
 // The run as cases of runs are written.
-fn description(setting: &Setting, made: &Made) -> Result<String, Trouble> {
+fn description(setting: &CaseSetting, made: &Made) -> Result<String, Trouble> {
     let query = made.query.as_str();
     let mut text = format!(in setting.alloc; "> feed p.csv\n> query {MOMENT} {query}\n")?;
     for point in made.points.as_str().lines() {

@@ -1,7 +1,7 @@
 // A leaf that takes many rows.
 use crate::descriptions::{number_in, target_of};
 use crate::leaf_states::{append, may_come, new_leaf, settle};
-use crate::settings::Setting;
+use crate::settings::CaseSetting;
 use crate::trouble::{Done, Trouble};
 use leaf_store::{Entry, LeafState, SlotRows};
 use mon_value::{
@@ -23,7 +23,7 @@ const WINDOW: i64 = 10;
 /// A case is `COUNT puts of COUNT series`, of whole numbers to each series in turn, each settled before the next. Its
 /// answer is the length of the history, and how many points are seen by a window of each series, of the last ten
 /// seconds.
-pub(crate) fn write_answer(text: &mut String, setting: &Setting, given: &str) -> Done {
+pub(crate) fn write_answer(text: &mut String, setting: &CaseSetting, given: &str) -> Done {
     let Some((puts, series)) = given.split_once(" puts of ") else {
         return Err(Trouble::Misspelled);
     };

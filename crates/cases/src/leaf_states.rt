@@ -6,7 +6,7 @@ ghost use Rattle.mon_value.specs.Sources.{IsSource};
 use crate::descriptions::{first_word, number_in};
 use crate::meanings::{is_source, rows_of};
 use crate::points::{add_fields, add_names, add_row};
-use crate::settings::Setting;
+use crate::settings::CaseSetting;
 use crate::texts::put;
 use crate::trouble::{Done, Trouble};
 use leaf_store::{Entry, LeafState, SlotRows};
@@ -19,7 +19,7 @@ use std::alloc::Global;
 /// series would raise. Its answer has a line for each entry, with the length of the history, whether the leaf is
 /// down, and its buckets, or `no` where it may not follow; and then a line of each replica's rows at each cut, and
 /// one of its series.
-pub(crate) fn write_answer(text: &mut String, setting: &Setting, given: &str) -> Done {
+pub(crate) fn write_answer(text: &mut String, setting: &CaseSetting, given: &str) -> Done {
     let (head, lines) = given.split_once('\n').unwrap_or((given, ""));
     let Some((buckets, replicas)) = head.split_once(" buckets of ") else {
         return Err(Trouble::Misspelled);
@@ -37,8 +37,8 @@ struct Leaves {
     leaf: LeafState,
 }
 
-fn new_leaves(setting: &Setting, buckets: u32) -> Result<Leaves, Trouble>
-    ensures same { IfOk result (λ leaves. leaves.late.history ≡ leaves.leaf.history) }
+fn new_leaves(setting: &CaseSetting, buckets: u32) -> Result<Leaves, Trouble>
+    ensures histories { IfOk result (λ leaves. leaves.late.history ≡ leaves.leaf.history) }
 {
     Ok(Leaves {
         late: new_leaf(setting, buckets)?,
@@ -47,8 +47,8 @@ fn new_leaves(setting: &Setting, buckets: u32) -> Result<Leaves, Trouble>
 }
 
 // Takes what lines say, and tells what comes of it.
-fn take_lines(text: &mut String, setting: &Setting, leaves: &mut Leaves, lines: &str) -> Done
-    requires same { leaves.old.late.history ≡ leaves.old.leaf.history }
+fn take_lines(text: &mut String, setting: &CaseSetting, leaves: &mut Leaves, lines: &str) -> Done
+    requires histories { leaves.old.late.history ≡ leaves.old.leaf.history }
 {
     for line in lines.lines() {
         let told = told_of(setting, line)?;
@@ -84,7 +84,7 @@ enum Told {
     Left(Row),
 }
 
-fn told_of(setting: &Setting, line: &str) -> Result<Told, Trouble> {
+fn told_of(setting: &CaseSetting, line: &str) -> Result<Told, Trouble> {
     let (word, rest) = first_word(line);
     match word {
         "open" => opened(setting, rest),
@@ -97,7 +97,7 @@ fn told_of(setting: &Setting, line: &str) -> Result<Told, Trouble> {
     }
 }
 
-fn opened(setting: &Setting, words: &str) -> Result<Told, Trouble> {
+fn opened(setting: &CaseSetting, words: &str) -> Result<Told, Trouble> {
     let (replica, points) = first_word(words);
     let Replica { range, slot } = replica_in(replica)?;
     let mut rows = RowList::new(setting.alloc);
@@ -112,7 +112,7 @@ fn opened(setting: &Setting, words: &str) -> Result<Told, Trouble> {
     }))
 }
 
-fn put_in(setting: &Setting, words: &str) -> Result<Told, Trouble> {
+fn put_in(setting: &CaseSetting, words: &str) -> Result<Told, Trouble> {
     let (replica, point) = first_word(words);
     let Replica { range, slot } = replica_in(replica)?;
     Ok(Told::Came(Entry::Put {
@@ -134,7 +134,7 @@ fn replica_in(word: &str) -> Result<Replica, Trouble> {
 }
 
 // The row of a point.
-fn row_of(setting: &Setting, point: &str) -> Result<Row, Trouble> {
+fn row_of(setting: &CaseSetting, point: &str) -> Result<Row, Trouble> {
     let rows = rows_of(setting.alloc, &setting.schemas, point.as_bytes())?;
     match rows.into_iter().next() {
         Some(row) => Ok(row),
@@ -143,7 +143,7 @@ fn row_of(setting: &Setting, point: &str) -> Result<Row, Trouble> {
 }
 
 /// The state of a leaf to which nothing happened so far.
-pub(crate) fn new_leaf(setting: &Setting, buckets: u32) -> Result<LeafState, Trouble>
+pub(crate) fn new_leaf(setting: &CaseSetting, buckets: u32) -> Result<LeafState, Trouble>
     ensures empty { IfOk result (λ leaf. leaf.history ≡ []) }
 {
     if buckets == 0 || buckets > MOST_BUCKETS {
@@ -154,8 +154,8 @@ pub(crate) fn new_leaf(setting: &Setting, buckets: u32) -> Result<LeafState, Tro
 
 // Takes what a line says.
 fn take_told(text: &mut String, alloc: Global, leaves: &mut Leaves, told: Told) -> Done
-    requires same { leaves.old.late.history ≡ leaves.old.leaf.history }
-    ensures same { OnOk result (leaves.new.late.history ≡ leaves.new.leaf.history) }
+    requires histories { leaves.old.late.history ≡ leaves.old.leaf.history }
+    ensures histories { OnOk result (leaves.new.late.history ≡ leaves.new.leaf.history) }
 {
     match told {
         Told::Came(entry) => come(text, alloc, leaves, entry),
@@ -166,8 +166,8 @@ fn take_told(text: &mut String, alloc: Global, leaves: &mut Leaves, told: Told) 
 
 // Appends an entry to both states, if it may follow, and tells the state behind it.
 fn come(text: &mut String, alloc: Global, leaves: &mut Leaves, entry: Entry) -> Done
-    requires same { leaves.old.late.history ≡ leaves.old.leaf.history }
-    ensures same { OnOk result (leaves.new.late.history ≡ leaves.new.leaf.history) }
+    requires histories { leaves.old.late.history ≡ leaves.old.leaf.history }
+    ensures histories { OnOk result (leaves.new.late.history ≡ leaves.new.leaf.history) }
 {
     settle(&mut leaves.leaf)?;
     if !may_come(&leaves.leaf, &entry) {
@@ -179,10 +179,10 @@ fn come(text: &mut String, alloc: Global, leaves: &mut Leaves, entry: Entry) -> 
 
 // Appends an entry to both states.
 fn append_to_both(alloc: Global, leaves: &mut Leaves, entry: Entry) -> Done
-    requires same { leaves.old.late.history ≡ leaves.old.leaf.history }
+    requires histories { leaves.old.late.history ≡ leaves.old.leaf.history }
     requires may { MayFollow leaves.old.leaf.history entry }
     requires formed { IsWellFormed (leaves.old.leaf.history ++ entry ∷ []) }
-    ensures same { OnOk result (leaves.new.late.history ≡ leaves.new.leaf.history) }
+    ensures histories { OnOk result (leaves.new.late.history ≡ leaves.new.leaf.history) }
 {
     let own = entry.copy(alloc)?;
     append(&mut leaves.late, entry)?;

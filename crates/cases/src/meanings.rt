@@ -8,7 +8,7 @@ ghost use Rattle.cases.specs.Readings.{IsInBounds};
 use crate::descriptions::{first_word, number_in};
 use crate::escapes::bytes_of;
 use crate::expressions::query_of;
-use crate::settings::Setting;
+use crate::settings::CaseSetting;
 use crate::texts::put;
 use crate::trouble::{Done, Trouble};
 use crate::typing::typed_over;
@@ -31,7 +31,7 @@ pub(crate) struct Asked {
 
 /// A case is a paragraph: a line `at MOMENT within LIMIT: QUERY`, and a text of points. Its answer is the table that is
 /// printed, or `over`. The schemas are those of the configuration that the cases stand under.
-pub(crate) fn write_answer(text: &mut String, setting: &Setting, given: &str) -> Done {
+pub(crate) fn write_answer(text: &mut String, setting: &CaseSetting, given: &str) -> Done {
     let (head, points) = given.split_once('\n').unwrap_or((given, ""));
     let Some((when, query)) = head.split_once(": ") else {
         return Err(Trouble::Misspelled);
@@ -67,7 +67,7 @@ fn in_bounds(moment: i64, limit: u64) -> Result<Asked, Trouble>
 
 /// The table that a query's text means over rows.
 pub(crate) fn meant(
-    setting: &Setting,
+    setting: &CaseSetting,
     text: &[u8],
     rows: &RowList,
     moment: i64,

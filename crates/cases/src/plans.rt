@@ -6,7 +6,7 @@ ghost use Rattle.mql_types.specs.Soundness.{IsQueryType};
 use crate::descriptions::first_word;
 use crate::expressions::{DescribedRow, filter_of, filtering};
 use crate::hints::Described;
-use crate::settings::Setting;
+use crate::settings::CaseSetting;
 use crate::texts::{put, put_list};
 use crate::trouble::{Done, Trouble};
 use crate::typing::{query_in, typed_over};
@@ -25,7 +25,12 @@ const BUCKETS: u32 = 1_024;
 ///
 /// A case of `split` is a query text; its answer is the buckets of the formula of each fetch, with a `|` between, and
 /// those of the plan. The schemas are those of the configuration that the cases stand under.
-pub(crate) fn write_answer(text: &mut String, setting: &Setting, call: &str, given: &str) -> Done {
+pub(crate) fn write_answer(
+    text: &mut String,
+    setting: &CaseSetting,
+    call: &str,
+    given: &str,
+) -> Done {
     match call {
         "formula_of" => write_truths(text, setting.alloc, given),
         "split" => write_plan(text, setting, given),
@@ -82,7 +87,7 @@ fn lets_in(alloc: Global, formula: &Formula, series: &Described) -> Result<bool,
     Ok(mask(formula, &hints, &words) == 1)
 }
 
-fn write_plan(text: &mut String, setting: &Setting, given: &str) -> Done {
+fn write_plan(text: &mut String, setting: &CaseSetting, given: &str) -> Done {
     let plan = plan_of(setting, given)?;
     let mut sign = "";
     for formula in plan.formulas.as_slice() {
@@ -95,7 +100,7 @@ fn write_plan(text: &mut String, setting: &Setting, given: &str) -> Done {
 }
 
 /// The plan of the query that a case writes.
-pub(crate) fn plan_of(setting: &Setting, given: &str) -> Result<Plan, Trouble>
+pub(crate) fn plan_of(setting: &CaseSetting, given: &str) -> Result<Plan, Trouble>
     ensures asked { IfOk result (λ plan. IsQueryType setting.now.schemas (typed_tree plan.typed)) }
 {
     let query = query_in(setting.alloc, given)?;

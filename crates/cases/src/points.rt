@@ -1,6 +1,6 @@
 // Texts of points, and what their records are read as.
 use crate::escapes::bytes_of;
-use crate::settings::Setting;
+use crate::settings::CaseSetting;
 use crate::texts::put_between;
 use crate::trouble::Done;
 use mon_points::{RowRead, read_rows};
@@ -9,7 +9,7 @@ use std::alloc::Global;
 
 /// A case is a text of points; its answer has each record as a row's cells or as its fault, with ` | `
 /// between. The schemas are those of the configuration that the cases stand under.
-pub(crate) fn write_answer(text: &mut String, setting: &Setting, given: &str) -> Done {
+pub(crate) fn write_answer(text: &mut String, setting: &CaseSetting, given: &str) -> Done {
     let points = bytes_of(setting.alloc, given)?;
     let reads = read_rows(setting.alloc, points.as_slice(), &setting.schemas)?;
     for read in &reads {

@@ -1,6 +1,6 @@
 // Targets, and the ranges that they lie in.
 use crate::descriptions::{number_in, target_of};
-use crate::settings::{Setting, config_of};
+use crate::settings::{CaseSetting, config_of};
 use crate::texts::put;
 use crate::trouble::{Done, Trouble};
 use mon_config::Config;
@@ -13,7 +13,12 @@ use std::alloc::Global;
 ///
 /// A case of `range_of at bounds` is `COUNT ranges`, of a zone whose bounds are 10, 20 and so on; its answer says at
 /// how many bounds, and just below and just above how many, a target lies in the range of its number.
-pub(crate) fn write_answer(text: &mut String, setting: &Setting, call: &str, given: &str) -> Done {
+pub(crate) fn write_answer(
+    text: &mut String,
+    setting: &CaseSetting,
+    call: &str,
+    given: &str,
+) -> Done {
     match call {
         "range_of" => write_range(text, setting, given),
         "range_of at bounds" => write_bounds(text, setting.alloc, given),
@@ -21,7 +26,7 @@ pub(crate) fn write_answer(text: &mut String, setting: &Setting, call: &str, giv
     }
 }
 
-fn write_range(text: &mut String, setting: &Setting, given: &str) -> Done {
+fn write_range(text: &mut String, setting: &CaseSetting, given: &str) -> Done {
     let Some(topology) = &setting.topology else {
         return Err(Trouble::Misspelled);
     };

@@ -4,12 +4,12 @@ ghost use Rattle.std.specs.List.{AllByRecursion};
 ghost use Rattle.mql_types.specs.Nodes.{typed_tree};
 ghost use Rattle.mql_types.specs.Soundness.{IsQueryType};
 ghost use Rattle.cases.specs.Readings.{IsInBounds, IsReading, ShareNoPlace};
-ghost use Rattle.cases.specs.Sessions.{IsGoing, IsRead, IsToldOver};
+ghost use Rattle.cases.specs.Sessions.{IsQueryGoing, IsRead, IsToldOver};
 
 use crate::apartness::lie_apart;
 use crate::descriptions::{first_word, number_in};
 use crate::meanings::{Asked, is_source, rows_of};
-use crate::settings::Setting;
+use crate::settings::CaseSetting;
 use crate::trouble::{Done, Trouble};
 use leaf_eval::answer_by_series;
 use mon_schema::Schemas;
@@ -24,14 +24,14 @@ pub(crate) type Reads = ListOf<RowList>;
 /// Tells a query that a leaf was read, at a length of its history, over the rows of some points. Each row has a
 /// location, at which no row of an earlier reading lies, those of rounds that were dropped among them.
 pub(crate) fn take_read(
-    setting: &Setting,
+    setting: &CaseSetting,
     asked: Asked,
     machine: &mut QueryMachine,
     reads: &mut Reads,
     words: &str,
 ) -> Done
-    requires going { IsGoing setting.now.schemas asked reads.old machine.old }
-    ensures going { OnOk result (IsGoing setting.now.schemas asked reads.new machine.new) }
+    requires going { IsQueryGoing setting.now.schemas asked reads.old machine.old }
+    ensures going { OnOk result (IsQueryGoing setting.now.schemas asked reads.new machine.new) }
 {
     let told = read_in(setting, asked, machine.plan(), reads, words)?;
     Ok(machine.told(told)?)
@@ -39,7 +39,7 @@ pub(crate) fn take_read(
 
 // What a leaf answers, with a reading more.
 fn read_in(
-    setting: &Setting,
+    setting: &CaseSetting,
     asked: Asked,
     plan: &Plan,
     reads: &mut Reads,
@@ -58,7 +58,7 @@ fn read_in(
 }
 
 // The rows of points.
-fn points_of(setting: &Setting, points: &str) -> Result<RowList, Trouble>
+fn points_of(setting: &CaseSetting, points: &str) -> Result<RowList, Trouble>
     ensures reading { IfOk result (IsReading setting.now.schemas) }
 {
     let points = points.replace(setting.alloc, " ", "\n")?;
@@ -72,7 +72,7 @@ fn points_of(setting: &Setting, points: &str) -> Result<RowList, Trouble>
 
 // What a leaf answers over its rows.
 fn answered(
-    setting: &Setting,
+    setting: &CaseSetting,
     asked: Asked,
     plan: &Plan,
     cut: u64,

@@ -3,14 +3,14 @@ ghost use Rattle.std.specs.Prelude.{◌≡◌, [], IfOk, OnOk};
 ghost use Rattle.query_core.specs.Program.{ask_of};
 ghost use Rattle.query_core.specs.declared.asks.Ask.TheVariants.{Finished};
 ghost use Rattle.cases.specs.Readings.{IsInBounds};
-ghost use Rattle.cases.specs.Sessions.{IsGoing, IsPlain};
+ghost use Rattle.cases.specs.Sessions.{IsQueryGoing, IsPlain};
 
 use crate::descriptions::{first_word, number_in};
 use crate::meanings::{Asked, asked_of};
 use crate::plans::plan_of;
 use crate::session_reads::{Reads, take_read};
 use crate::session_texts::{add_ask, add_end};
-use crate::settings::Setting;
+use crate::settings::CaseSetting;
 use crate::texts::put;
 use crate::trouble::{Done, Trouble};
 use crate::writes::replica_of;
@@ -22,7 +22,7 @@ use std::alloc::Global;
 /// `slot SLOT@LEAF`, `none`, `down CUT`, `unread CUT`, or `read CUT POINT ..`. A line `seen CUT .. with SLOT@LEAF ..`
 /// says what the query's caller has seen from there on, of each leaf and of each range. Its answer has the events in
 /// order with ` > ` between, and how the query ended.
-pub(crate) fn write_answer(text: &mut String, setting: &Setting, given: &str) -> Done {
+pub(crate) fn write_answer(text: &mut String, setting: &CaseSetting, given: &str) -> Done {
     let Some((head, lines)) = given.split_once('\n') else {
         return Err(Trouble::Misspelled);
     };
@@ -33,7 +33,13 @@ pub(crate) fn write_answer(text: &mut String, setting: &Setting, given: &str) ->
 }
 
 // Adds what a query does that is asked so, by the lines.
-fn write_asked(text: &mut String, setting: &Setting, when: &str, query: &str, lines: &str) -> Done {
+fn write_asked(
+    text: &mut String,
+    setting: &CaseSetting,
+    when: &str,
+    query: &str,
+    lines: &str,
+) -> Done {
     let asked = asked_of(when)?;
     let machine = told_all(text, setting, asked, query, lines)?;
     write_end(text, setting.alloc, machine)
@@ -42,7 +48,7 @@ fn write_asked(text: &mut String, setting: &Setting, when: &str, query: &str, li
 // A query that was told what lines say, until nothing is left to do. Adds its events.
 fn told_all(
     text: &mut String,
-    setting: &Setting,
+    setting: &CaseSetting,
     asked: Asked,
     query: &str,
     lines: &str,
@@ -62,9 +68,9 @@ fn told_all(
 }
 
 // A query that has not begun.
-fn begun(setting: &Setting, asked: Asked, query: &str) -> Result<QueryMachine, Trouble>
+fn begun(setting: &CaseSetting, asked: Asked, query: &str) -> Result<QueryMachine, Trouble>
     requires bounds { IsInBounds asked }
-    ensures going { IfOk result (IsGoing setting.now.schemas asked []) }
+    ensures going { IfOk result (IsQueryGoing setting.now.schemas asked []) }
 {
     let Some(topology) = &setting.topology else {
         return Err(Trouble::Misspelled);
@@ -76,12 +82,12 @@ fn begun(setting: &Setting, asked: Asked, query: &str) -> Result<QueryMachine, T
 // Tells a query what lines say, until nothing is left to do, and adds its events.
 fn take_all(
     text: &mut String,
-    setting: &Setting,
+    setting: &CaseSetting,
     asked: Asked,
     machine: &mut QueryMachine,
     lines: &str,
 ) -> Done
-    requires going { IsGoing setting.now.schemas asked [] machine.old }
+    requires going { IsQueryGoing setting.now.schemas asked [] machine.old }
     ensures finished { OnOk result (ask_of machine.new.setting machine.new.stage ≡ Finished) }
 {
     take_lines(text, setting, asked, machine, lines)?;
@@ -109,12 +115,12 @@ fn add_last(text: &mut String, machine: &QueryMachine) -> Done
 // Tells a query what lines say, and adds the events that they are about.
 fn take_lines(
     text: &mut String,
-    setting: &Setting,
+    setting: &CaseSetting,
     asked: Asked,
     machine: &mut QueryMachine,
     lines: &str,
 ) -> Done
-    requires going { IsGoing setting.now.schemas asked [] machine.old }
+    requires going { IsQueryGoing setting.now.schemas asked [] machine.old }
 {
     let mut reads = Reads::new(setting.alloc);
     let mut seen = "";
@@ -133,15 +139,15 @@ fn take_lines(
 
 // Tells a query what a line says.
 fn take_line(
-    setting: &Setting,
+    setting: &CaseSetting,
     asked: Asked,
     machine: &mut QueryMachine,
     reads: &mut Reads,
     seen: &str,
     line: &str,
 ) -> Done
-    requires going { IsGoing setting.now.schemas asked reads.old machine.old }
-    ensures going { OnOk result (IsGoing setting.now.schemas asked reads.new machine.new) }
+    requires going { IsQueryGoing setting.now.schemas asked reads.old machine.old }
+    ensures going { OnOk result (IsQueryGoing setting.now.schemas asked reads.new machine.new) }
 {
     if let Some(words) = line.strip_prefix("read ") {
         return take_read(setting, asked, machine, reads, words);

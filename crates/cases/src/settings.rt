@@ -11,7 +11,7 @@ use std::alloc::Global;
 
 /// What the cases of a table stand under.
 #[derive(Drop)]
-pub(crate) struct Setting {
+pub(crate) struct CaseSetting {
     pub(crate) alloc: Global,
     /// The content of the last file: a configuration.
     pub(crate) content: String,
@@ -20,9 +20,9 @@ pub(crate) struct Setting {
     pub(crate) topology: Option<Topology>,
 }
 
-impl Setting {
-    pub(crate) fn new(alloc: Global) -> Setting {
-        Setting {
+impl CaseSetting {
+    pub(crate) fn new(alloc: Global) -> CaseSetting {
+        CaseSetting {
             alloc,
             content: String::new(alloc),
             schemas: Schemas::new(alloc),

@@ -9,7 +9,7 @@ ghost use Rattle.mql_types.specs.Typing.{typing};
 use crate::escapes::bytes_of;
 use crate::expressions::query_of;
 use crate::levels::write_levels;
-use crate::settings::Setting;
+use crate::settings::CaseSetting;
 use crate::texts::put;
 use crate::trouble::{Done, Trouble};
 use mon_schema::Schemas;
@@ -20,7 +20,12 @@ use std::alloc::Global;
 
 /// A case is a query text; its answer is its typed tree for `check`, what explains it for `op_levels`, or its fault.
 /// The schemas are those of the configuration that the cases stand under.
-pub(crate) fn write_answer(text: &mut String, setting: &Setting, call: &str, given: &str) -> Done {
+pub(crate) fn write_answer(
+    text: &mut String,
+    setting: &CaseSetting,
+    call: &str,
+    given: &str,
+) -> Done {
     let query = query_in(setting.alloc, given)?;
     match check(setting.alloc, &query, &setting.schemas) {
         Ok(typed) => write_typed(text, setting.alloc, call, &typed),

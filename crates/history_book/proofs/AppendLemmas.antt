@@ -25,11 +25,11 @@ use Rattle.history_book.specs.declared.views.Kept.{Kept}
 use Rattle.history_book.specs.declared.views.Purse.{Purse}
 use Rattle.history_book.specs.declared.views.SeatView.{SeatView}
 use Rattle.mon_value.specs.Positions.{leaf_numbered, range_numbered}
-use Rattle.history_book.specs.Histories.{IsFor, entries, history_numbered, is_about, is_under, pass_of}
-use Rattle.history_book.specs.Histories.{same_history, with_entry}
+use Rattle.history_book.specs.Histories.{IsFor, entries, history_numbered, is_about, is_under, book_entry_pass}
+use Rattle.history_book.specs.Histories.{same_history, with_book_entry}
 use Rattle.history_book.specs.Seats.{kept_in, kept_with, purse_with, times_number, times_range}
 use Rattle.history_book.specs.Seats.{times_room}
-use Rattle.history_book.specs.BookRule.{IsJoined, IsNumberKept, IsTrue, KeepsBookRule, has_number, has_room, holds}
+use Rattle.history_book.specs.BookRule.{IsJoined, IsNumberKept, IsTrue, KeepsBookRule, has_number, has_room, hold_count}
 use Rattle.history_book.specs.BookRule.{in_purse}
 use Rattle.history_book.specs.BookRule.{kept_in_purse, owns}
 use Rattle.history_book.specs.Steps.{view_after_append, own_history}
@@ -62,17 +62,17 @@ module _ (leaves ranges : ℕ) (whole : Histories) (words : List ℕ) (seats : L
     (n : ℕ) (low : n < leaves + ranges) (e : BookEntry) (fits : IsFor (history_numbered leaves n) e) (owns_is : v.owns
     ≡ history_numbered leaves n ∷ [])
     (p : Purse) (purse_is : v.purse ≡ Some p) (mine : Kept) (mine_is : p.own ≡ Some mine) (under : mine.number
-    ≡ pass_of e)
-    (about : (r : Range) → is_about r e ≡ true → 0 < holds r v) where
+    ≡ book_entry_pass e)
+    (about : (r : Range) → is_about r e ≡ true → 0 < hold_count r v) where
   abbrev h : History
   h = history_numbered leaves n
 
   abbrev whole' : Histories
-  whole' = with_entry h e whole
+  whole' = with_book_entry h e whole
 
   abbrev w : SeatView
   w = record {
-    seen = with_entry h e v.seen;
+    seen = with_book_entry h e v.seen;
     joined = None;
     purse = Some (purse_with h e p);
     owns = v.owns;
@@ -89,7 +89,7 @@ module _ (leaves ranges : ℕ) (whole : Histories) (words : List ℕ) (seats : L
 
   -- ---- what stands in the grown history
 
-  here : (a : Histories) → entries (with_entry h e a) h ≡ entries a h ++ e ∷ []
+  here : (a : Histories) → entries (with_book_entry h e a) h ≡ entries a h ++ e ∷ []
   here a = entries_added h e a fits
 
   -- what doesn't keep the entry keeps as much as before
@@ -119,31 +119,32 @@ module _ (leaves ranges : ℕ) (whole : Histories) (words : List ℕ) (seats : L
       (λ o. Contains (option_to_list o ++ p.met) mine) (sym mine_is) (Contains-append_left (mine ∷ []) p.met mine
       (Contains-push [] mine)))
 
-  has_pass : 0 < has_number (pass_of e) v
+  has_pass : 0 < has_number (book_entry_pass e) v
   has_pass = subst (λ m. 0 < has_number m v) under (kept_counts v.purse mine has_mine)
 
   no_keeper : (at : ℕ) (u : SeatView) (kept : Kept) → at ≢ id → get_elem? seats at ≡ some u
-      → Contains (kept_in_purse u.purse) kept → kept.number ≡ pass_of e → ⊥
+      → Contains (kept_in_purse u.purse) kept → kept.number ≡ book_entry_pass e → ⊥
   no_keeper at u kept apart there has same =
-      let two = parts_of_sum (has_number (pass_of e)) seats at id u v apart there is in
-      let theirs : 0 < has_number (pass_of e) u = subst (λ m. 0 < has_number m u) same (kept_counts u.purse kept has) in
-      let one = at_most_once leaves ranges whole words seats rule id v is (pass_of e) in
+      let two = parts_of_sum (has_number (book_entry_pass e)) seats at id u v apart there is in
+      let theirs : 0 < has_number (book_entry_pass e) u = subst (λ m. 0 < has_number m u) same
+      (kept_counts u.purse kept has) in
+      let one = at_most_once leaves ranges whole words seats rule id v is (book_entry_pass e) in
       let ours = has_pass in
       omega arith
 
-  no_holder : (at : ℕ) (u : SeatView) (r : Range) → at ≢ id → get_elem? seats at ≡ some u → 0 < holds r u
+  no_holder : (at : ℕ) (u : SeatView) (r : Range) → at ≢ id → get_elem? seats at ≡ some u → 0 < hold_count r u
       → is_about r e ≡ false
   no_holder at u r apart there o = elim (is_or_not (is_about r e)) [
     | inl yes' ↦
-        let two = parts_of_sum (holds r) seats at id u v apart there is in
+        let two = parts_of_sum (hold_count r) seats at id u v apart there is in
         let ours = about r yes' in
         absurd (dite (dec_lt r.0 ranges) (λ l. let one = rule.holders r.0 l in
         omega arith) (λ l. let none = rule.unheld r.0 (omega arith) in omega arith))
     | inr no' ↦ no'
   ]
 
-  other_number : (kept : Kept) → (kept.number ≡ pass_of e → ⊥) → is_under kept.number e ≡ false
-  other_number kept apart = let a : ℕ = pass_of e in let b : ℕ = kept.number in let d : b ≢ a = apart in
+  other_number : (kept : Kept) → (kept.number ≡ book_entry_pass e → ⊥) → is_under kept.number e ≡ false
+  other_number kept apart = let a : ℕ = book_entry_pass e in let b : ℕ = kept.number in let d : b ≢ a = apart in
       let r : nat_eq a b ≡ false = grind (arith, nat_tests) in r
 
   joined_later : (at : ℕ) (u : SeatView) → at ≢ id → get_elem? seats at ≡ some u
@@ -182,7 +183,7 @@ module _ (leaves ranges : ℕ) (whole : Histories) (words : List ℕ) (seats : L
       (let a = kept_number m h e p.own p.met in let b : has_number m w ≡ times_number m p = omega arith in b) ∙ ap
       (in_purse (times_number m)) (sym purse_is)
 
-  holds_later : (r : Range) → holds r w ≡ holds r v
+  holds_later : (r : Range) → hold_count r w ≡ hold_count r v
   holds_later r = ap (λ o. times_range r v.held + in_purse (λ q. times_range r q.holds) o) (sym purse_is)
 
   rooms_later : (leaf : Leaf) → has_room leaf w ≡ has_room leaf v
@@ -195,9 +196,9 @@ module _ (leaves ranges : ℕ) (whole : Histories) (words : List ℕ) (seats : L
   kept_was = ap kept_in_purse purse_is ∙ ap (λ o. option_to_list o ++ p.met) mine_is
 
   -- a number that was met is another one
-  met_apart : (kept : Kept) → Contains p.met kept → kept.number ≡ pass_of e → ⊥
+  met_apart : (kept : Kept) → Contains p.met kept → kept.number ≡ book_entry_pass e → ⊥
   met_apart kept has same =
-      let m : ℕ = pass_of e in
+      let m : ℕ = book_entry_pass e in
       let all : times_kept m (mine ∷ p.met) ≡ cond (nat_eq mine.number m) 1 0 + times_kept m p.met
       = sum_by-cons (λ k. cond (nat_eq k.number m) 1 0) mine p.met in
       let first : (let k : ℕ = cond (nat_eq mine.number m) 1 0 in k ≡ 1) = let a : ℕ = mine.number in let u : a ≡ m =
@@ -215,13 +216,15 @@ module _ (leaves ranges : ℕ) (whole : Histories) (words : List ℕ) (seats : L
       let part = part_of_sum (has_number m) seats id v is in
       omega arith
 
-  exact_mine : (g : History) → filter (is_under mine.number) (entries whole' g) ≡ entries (with_entry h e mine.own) g
+  exact_mine : (g : History) → filter (is_under mine.number) (entries whole' g)
+      ≡ entries (with_book_entry h e mine.own) g
   exact_mine g = elim (same_cases h g) [
-    | inl same ↦ subst (λ x. filter (is_under mine.number) (entries whole' x) ≡ entries (with_entry h e mine.own) x)
+    | inl same ↦ subst (λ x. filter (is_under mine.number) (entries whole' x)
+        ≡ entries (with_book_entry h e mine.own) x)
         same (
         ap (filter (is_under mine.number)) (here whole)
         ∙ filter_in (is_under mine.number) (entries whole h) e
-        (let a : ℕ = mine.number in let b : ℕ = pass_of e in let u : a ≡ b = under in
+        (let a : ℕ = mine.number in let b : ℕ = book_entry_pass e in let u : a ≡ b = under in
         let r : nat_eq b a ≡ true = grind (arith, nat_tests) in r)
         ∙ ap (λ xs. xs ++ e ∷ []) (was.exact mine h has_mine)
         ∙ sym (here mine.own))
@@ -367,16 +370,18 @@ module _ (leaves ranges : ℕ) (whole : Histories) (words : List ℕ) (seats : L
           | inr old ↦ let o' = rule.promised seat m low' (old.0, old.2) o in omega arith
         ];
     holders = λ m low'.
-        (let s = sum_changed (holds (range_numbered m)) seats id v w is in let same = holds_later (range_numbered m) in
+        (let s = sum_changed (hold_count (range_numbered m)) seats id v w is in
+        let same = holds_later (range_numbered m) in
         let o = rule.holders m low' in omega arith);
     unheld = λ m high.
-        (let s = sum_changed (holds (range_numbered m)) seats id v w is in let same = holds_later (range_numbered m) in
+        (let s = sum_changed (hold_count (range_numbered m)) seats id v w is in
+        let same = holds_later (range_numbered m) in
         let o = rule.unheld m high in omega arith);
   }
 
   appended_is : w ≡ view_after_append e v
   appended_is = λ i. record {
-    seen = with_entry (own_history (sym owns_is i)) e v.seen;
+    seen = with_book_entry (own_history (sym owns_is i)) e v.seen;
     joined = None;
     purse = option_map (purse_with (own_history (sym owns_is i)) e) (sym purse_is i);
     owns = v.owns;

@@ -14,10 +14,10 @@ use Rattle.history_book.specs.declared.views.History.{History}
 use Rattle.history_book.specs.declared.views.History.TheVariants as of
 use Rattle.history_book.specs.declared.views.SeatView.{SeatView}
 use Rattle.mon_value.specs.Positions.{same_range}
-use Rattle.history_book.specs.Histories.{IsFor, entries, history_numbered, is_about, numbered_as, pass_of}
+use Rattle.history_book.specs.Histories.{IsFor, entries, history_numbered, is_about, numbered_as, book_entry_pass}
 use Rattle.history_book.specs.Numbers.{is_spent}
 use Rattle.history_book.specs.Seats.{guest_purse, hand_of, times_range, times_room}
-use Rattle.history_book.specs.BookRule.{holds, owns}
+use Rattle.history_book.specs.BookRule.{hold_count, owns}
 use Rattle.history_book.specs.Steps.{Appends, Confirms, Learns, IsPromised, Seated, meeting}
 use Rattle.history_book.proofs.PurseLemmas.{guest_ranges, guest_rooms, ranges_both, rooms_both}
 use Rattle.history_book.proofs.PlayLemmas.{allows_append, allows_confirm, allows_learn, holds_of, owns_it}
@@ -47,8 +47,8 @@ pub append_with : (leaves ranges l r : ℕ) → l ≡ leaves → r ≡ ranges
     → (slots id : ℕ) (me : Seated) (n : ℕ) (e : BookEntry) → n < leaves + ranges → IsFor (history_numbered leaves n) e
     → me.0.owns ≡ history_numbered leaves n ∷ []
     → length (entries me.0.seen (history_numbered leaves n)) < 2 ^ 62
-    → (hand_of (guest_purse me.0.purse)).own ≡ Some (pass_of e)
-    → ((range : Range) → is_about range e ≡ true → 0 < holds range me.0)
+    → (hand_of (guest_purse me.0.purse)).own ≡ Some (book_entry_pass e)
+    → ((range : Range) → is_about range e ≡ true → 0 < hold_count range me.0)
     → Allows (holds_of l r) slots id me (n + 1) (λ m. (m + 1) % 2 ^ 64) (Appends e (step slots (n + 1) 1 0 none) me)
 append_with leaves ranges l r same_leaves same_ranges slots id me n e low fits owns_is room number about =
     subst (λ (z : ℕ × ℕ). Allows (holds_of z.0 z.1) slots id me
@@ -58,7 +58,7 @@ append_with leaves ranges l r same_leaves same_ranges slots id me n e low fits o
 
 -- what an owner or its guest holds
 pub holds_guests : (range : Range) (v : SeatView) → 0 < times_range range
-    (v.held ++ (guest_purse v.purse).holds) → 0 < holds range v
+    (v.held ++ (guest_purse v.purse).holds) → 0 < hold_count range v
 holds_guests range v has =
     let both : times_range range (v.held ++ (guest_purse v.purse).holds) ≡ times_range range v.held + times_range range
     (guest_purse v.purse).holds =
@@ -77,7 +77,7 @@ more_left numbers stock no_end e =
 
 -- what a guest brought is held by who met it
 pub lent_is_held : (range : Range) (v u : SeatView) → 0 < times_range range (guest_purse u.purse).holds
-    → 0 < holds range (meeting v u)
+    → 0 < hold_count range (meeting v u)
 lent_is_held range v u lent = let a = guest_ranges range u.purse in let b = ranges_both range v.purse u.purse in
     omega arith
 

@@ -19,7 +19,7 @@ use Rattle.mon_value.specs.Positions.{range_numbered, same_range}
 use Rattle.history_book.specs.Histories.{numbers_on, same_history}
 use Rattle.history_book.specs.Numbers.{numbers_between, times_among}
 use Rattle.history_book.specs.Seats.{new_number, times_range}
-use Rattle.history_book.specs.BookRule.{BookHolds, IsTrue, has_number, holds, owns}
+use Rattle.history_book.specs.BookRule.{BookHolds, IsTrue, has_number, hold_count, owns}
 use Rattle.history_book.specs.Steps.{first_view, ranges_on}
 use Rattle.history_book.proofs.ListLemmas.{prefix_refl}
 use Rattle.history_book.proofs.HistoryLemmas.{no_entries_at, numbered_once}
@@ -155,9 +155,9 @@ module _ (leaves ranges : ℕ) where
           ∙ among_high n 0 NUMBER_END (let m : ℕ = NUMBER_END in omega arith);
       kept = λ h x has. absurd (contains_none x (subst (λ xs. Contains xs x) (no_entries_at leaves ranges h) has));
       promised = λ seat n low has o. ap (λ (s : SeatView). s.promised) (sym (seat_alone v seat has));
-      holders = λ n low. alone (holds (range_numbered n)) ∙
+      holders = λ n low. alone (hold_count (range_numbered n)) ∙
           (let a = ranges_counted ranges n in let b = once_among n 0 ranges (omega arith) (omega arith) in omega arith);
-      unheld = λ n high. alone (holds (range_numbered n)) ∙
+      unheld = λ n high. alone (hold_count (range_numbered n)) ∙
           (let a = ranges_counted ranges n in let b = behind_all n 0 ranges (omega arith) in omega arith);
     },
   )

@@ -16,7 +16,7 @@ use Rattle.history_book.specs.declared.views.History.TheVariants as of
 use Rattle.mon_value.specs.Histories.{leaf_history, joined_histories, range_history}
 use Rattle.history_book.specs.Histories.{AreFronts, IsFor, empty_histories, entries, history_numbered}
 use Rattle.history_book.specs.Histories.{history_number, numbered_as, same_history}
-use Rattle.history_book.specs.Histories.{with_entry}
+use Rattle.history_book.specs.Histories.{with_book_entry}
 use Rattle.history_book.proofs.ListLemmas.{added_else, added_here, map_longer, prefix_unmapped}
 
 -- ---- which history
@@ -74,7 +74,7 @@ entries_longer a b (of.Range range) =
 -- ---- an entry more
 
 pub entries_added : (h : History) (e : BookEntry) (a : Histories) → IsFor h e
-    → entries (with_entry h e a) h ≡ entries a h ++ e ∷ []
+    → entries (with_book_entry h e a) h ≡ entries a h ++ e ∷ []
 entries_added (of.Leaf leaf) (one.Leaf e) a fits =
     ap (map (λ x. one.Leaf x)) (added_here leaf.0 e a.leaves) ∙ map-append (λ x. one.Leaf x) (leaf_history a leaf)
     (e ∷ [])
@@ -88,7 +88,7 @@ other_number : (n m : ℕ) → nat_eq n m ≡ false → m ≡ n → ⊥
 other_number n m e f = grind (arith, nat_tests)
 
 pub entries_else : (h g : History) (e : BookEntry) (a : Histories) → same_history h g ≡ false
-    → entries (with_entry h e a) g ≡ entries a g
+    → entries (with_book_entry h e a) g ≡ entries a g
 entries_else (of.Leaf x) (of.Leaf y) (one.Leaf e) a apart =
     ap (map (λ z. one.Leaf z)) (added_else x.0 y.0 e a.leaves (other_number x.0 y.0 apart))
 entries_else (of.Leaf x) (of.Range y) (one.Leaf e) a apart = refl
@@ -118,10 +118,10 @@ fronts a b all = (
 
 -- ---- a new book
 
-abbrev nothing : (X : Type 0) → List X
+abbrev pub nothing : (X : Type 0) → List X
 nothing X = []
 
-none_at : {X : Type 0} (n i : ℕ) → get_or (replicate n (nothing X)) i (nothing X) ≡ nothing X
+pub none_at : {X : Type 0} (n i : ℕ) → get_or (replicate n (nothing X)) i (nothing X) ≡ nothing X
 none_at zero i = refl
 none_at (suc n) zero = refl
 none_at (suc n) (suc i) = none_at n i

@@ -26,11 +26,11 @@ use Rattle.history_book.specs.declared.views.Purse.{Purse}
 use Rattle.history_book.specs.declared.views.SeatView.{SeatView}
 use Rattle.mon_value.specs.Farther.{longer}
 use Rattle.mon_value.specs.Positions.{leaf_numbered, same_range}
-use Rattle.history_book.specs.Histories.{entries, is_about, is_under, pass_of, same_history}
+use Rattle.history_book.specs.Histories.{entries, is_about, is_under, book_entry_pass, same_history}
 use Rattle.history_book.specs.Numbers.{times_among}
 use Rattle.history_book.specs.Seats.{first_handed, guest_purse, new_number, no_entries, with_note, times_number}
 use Rattle.history_book.specs.Seats.{times_range, times_room, with_stock_handed}
-use Rattle.history_book.specs.BookRule.{IsJoined, IsTrue, KeepsBookRule, has_number, has_room, holds, in_purse}
+use Rattle.history_book.specs.BookRule.{IsJoined, IsTrue, KeepsBookRule, has_number, has_room, hold_count, in_purse}
 use Rattle.history_book.specs.BookRule.{kept_in_purse, owns}
 use Rattle.history_book.specs.Steps.{after_deal, after_handed_number, dealt, handed_number, view_after_learning}
 use Rattle.history_book.specs.Steps.{meeting, spent_view}
@@ -61,7 +61,7 @@ filter_none p (x ∷ xs) none =
 
 -- what was joined is joined still, where a view owns and holds no more than before
 joined_still : (whole : Histories) (v w : SeatView) (j : Option Joined) → w.seen ≡ v.seen
-    → ((h : History) → 0 < owns h w → 0 < owns h v) → ((r : Range) → 0 < holds r w → 0 < holds r v)
+    → ((h : History) → 0 < owns h w → 0 < owns h v) → ((r : Range) → 0 < hold_count r w → 0 < hold_count r v)
     → IfSome j (IsJoined whole v) → IfSome j (IsJoined whole w)
 joined_still whole v w None seen own held is = is
 joined_still whole v w (Some j) seen own held is = record {
@@ -73,7 +73,7 @@ joined_still whole v w (Some j) seen own held is = record {
 
 pub true_alike : (whole : Histories) (v w : SeatView) → IsTrue whole v → w.seen ≡ v.seen
     → ((h : History) → 0 < owns h w → 0 < owns h v)
-    → ((r : Range) → 0 < holds r w → 0 < holds r v)
+    → ((r : Range) → 0 < hold_count r w → 0 < hold_count r v)
     → ((kept : Kept) (h : History) → Contains (kept_in_purse w.purse) kept
     → filter (is_under kept.number) (entries whole h) ≡ entries kept.own h)
     → IfSome w.joined (IsJoined whole w)
@@ -167,10 +167,10 @@ module _ (leaves ranges : ℕ) (whole : Histories) (words : List ℕ) (seats : L
         (set seats id (view_after_learning history length v))
     keeps_learned history length =
         let w = view_after_learning history length v in
-        let same : (r : Range) → holds r w ≡ holds r v
-        = λ r. let a : holds r w ≡ times_range r v.held + in_purse (λ p. times_range r p.holds) v.purse
+        let same : (r : Range) → hold_count r w ≡ hold_count r v
+        = λ r. let a : hold_count r w ≡ times_range r v.held + in_purse (λ p. times_range r p.holds) v.purse
         = ap (λ n. times_range r v.held + n) (noted_ranges r history length v.purse) in a in
-        let still : (r : Range) → 0 < holds r w → 0 < holds r v = λ r o. let e = same r in omega arith in
+        let still : (r : Range) → 0 < hold_count r w → 0 < hold_count r v = λ r o. let e = same r in omega arith in
         keeps_change leaves ranges whole words seats rule id v is w
         (true_alike whole v w was_true refl (λ h o. o) still
         (λ kept h has. was_true.exact kept h (subst (λ k. Contains k kept) (noted_kept history length v.purse) has))
@@ -188,7 +188,7 @@ module _ (leaves ranges : ℕ) (whole : Histories) (words : List ℕ) (seats : L
     keeps_split_off =
         let right = split_off v in
         let landless : (h : History) → owns h right ≡ 0 = λ h. refl in
-        let handless : (r : Range) → holds r right ≡ 0 = λ r. refl in
+        let handless : (r : Range) → hold_count r right ≡ 0 = λ r. refl in
         keeps_cut leaves ranges whole words seats rule id v is v right (record {
           true_left = was_true;
           true_right = true_alike whole v right was_true refl
@@ -213,7 +213,7 @@ module _ (leaves ranges : ℕ) (whole : Histories) (words : List ℕ) (seats : L
         let owned : (h : History) → owns h left + owns h right ≡ owns h v = λ h. let e : owns h right + owns h left
         ≡ owns h v
         = sum_by-take-drop (λ g. cond (same_history h g) 1 0) v.owns 1 in omega arith in
-        let ranges_held : (r : Range) → holds r left + holds r right ≡ holds r v = λ r.
+        let ranges_held : (r : Range) → hold_count r left + hold_count r right ≡ hold_count r v = λ r.
         let e : times_range r (take count v.held) + times_range r (drop count v.held) ≡ times_range r v.held
         = sum_by-take-drop (λ g. cond (same_range r g) 1 0) v.held count in
         let n : ℕ = in_purse (λ p. times_range r p.holds) v.purse in
@@ -275,7 +275,7 @@ module _ (leaves ranges : ℕ) (whole : Histories) (words : List ℕ) (seats : L
     unused_number n h in_stock = filter_none (is_under n) (entries whole h) (λ e has under.
         let k = rule.kept h e has in
         not_kept n k.there.0 k.seat k.kept in_stock k.there.1 k.has
-        (k.under ∙ (let p : ℕ = pass_of e in let u : nat_eq p n ≡ true = under in grind (arith, nat_tests))))
+        (k.under ∙ (let p : ℕ = book_entry_pass e in let u : nat_eq p n ≡ true = under in grind (arith, nat_tests))))
 
     pub keeps_hand_out : (guest_purse v.purse).stock.from < (guest_purse v.purse).stock.to
         → KeepsBookRule leaves ranges whole words (set seats id (after_handed_number v) ++ handed_number v ∷ [])
@@ -284,13 +284,13 @@ module _ (leaves ranges : ℕ) (whole : Histories) (words : List ℕ) (seats : L
         let right = handed_number v in
         let landless : (h : History) → owns h right ≡ 0 = λ h. refl in
         let none_held : (r : Range) → times_range r [] ≡ 0 = λ r. refl in
-        let handless : (r : Range) → holds r right ≡ 0
+        let handless : (r : Range) → hold_count r right ≡ 0
         = λ r. let a : in_purse (λ p. times_range r p.holds) (option_map first_handed v.purse)
         ≡ 0 = new_ranges r v.purse in
         let b = none_held r in omega arith in
-        let same : (r : Range) → holds r left ≡ holds r v = λ r. ap (λ n. times_range r v.held + n)
+        let same : (r : Range) → hold_count r left ≡ hold_count r v = λ r. ap (λ n. times_range r v.held + n)
         (handed_ranges r v.purse) in
-        let still : (r : Range) → 0 < holds r left → 0 < holds r v = λ r o. let e = same r in omega arith in
+        let still : (r : Range) → 0 < hold_count r left → 0 < hold_count r v = λ r o. let e = same r in omega arith in
         keeps_cut leaves ranges whole words seats rule id v is left right (record {
           true_left = true_alike whole v left was_true refl (λ h o. o) still
               (λ kept h has. was_true.exact kept h (subst (λ k. Contains k kept) (kept_after_handing v.purse) has))
@@ -323,7 +323,7 @@ module _ (leaves ranges : ℕ) (whole : Histories) (words : List ℕ) (seats : L
       seen = λ h. subst (λ xs. IsPrefix xs (entries whole h)) (sym (no_entries_in h)) (prefix_nil (entries whole h));
       own = λ h o. absurd (let none : owns h spent_view ≡ 0 = refl in omega arith);
       exact = λ kept h has. absurd (contains_none kept has);
-      held = λ r h o. absurd (let none : holds r spent_view ≡ 0 = refl in omega arith);
+      held = λ r h o. absurd (let none : hold_count r spent_view ≡ 0 = refl in omega arith);
       joined = tt;
     }
 
@@ -335,8 +335,9 @@ module _ (leaves ranges : ℕ) (whole : Histories) (words : List ℕ) (seats : L
         let theirs = rule.seats_true u (other, there) in
         let lands : (h : History) → owns h u ≡ 0 = λ h. ap (sum_by (λ g. cond (same_history h g) 1 0)) landless in
         let hands : (r : Range) → times_range r u.held ≡ 0 = λ r. ap (times_range r) handless in
-        let held_both : (r : Range) → holds r both + holds r spent_view ≡ holds r v + holds r u = λ r.
-        let a = ranges_both r v.purse u.purse in let b = hands r in let c : holds r spent_view
+        let held_both : (r : Range) → hold_count r both + hold_count r spent_view
+        ≡ hold_count r v + hold_count r u = λ r.
+        let a = ranges_both r v.purse u.purse in let b = hands r in let c : hold_count r spent_view
         ≡ 0 = refl in omega arith in
         let joins : (h : History) → longer (entries v.seen h) (entries u.seen h) ≡ entries both.seen h
         = λ h. sym (entries_longer v.seen u.seen h) in
@@ -364,14 +365,14 @@ module _ (leaves ranges : ℕ) (whole : Histories) (words : List ℕ) (seats : L
                   | inl m ↦ was_true.exact kept h m
                   | inr t ↦ theirs.exact kept h t
                 ];
-            held = λ r h o. dite (dec_lt 0 (holds r v))
+            held = λ r h o. dite (dec_lt 0 (hold_count r v))
                 (λ m. filter_between
                 (is_about r) (entries v.seen h) (entries both.seen h) (entries whole h) (mine h) (within h)
                 (was_true.held r h m))
                 (λ no_more. filter_between
                 (is_about r) (entries u.seen h) (entries both.seen h) (entries whole h) (others h) (within h)
                 (theirs.held r h
-                (let e = held_both r in let c : holds r spent_view ≡ 0 = refl in omega arith)));
+                (let e = held_both r in let c : hold_count r spent_view ≡ 0 = refl in omega arith)));
             joined = record {
               mine = mine;
               theirs = others;

@@ -15,7 +15,7 @@ use Rattle.history_book.specs.declared.views.SeatView.{SeatView}
 use Rattle.mon_value.specs.Positions.{leaf_numbered, same_leaf}
 use Rattle.history_book.specs.Histories.{same_history}
 use Rattle.history_book.specs.Seats.{guest_purse, promised_after, rooms_after, times_range, times_room}
-use Rattle.history_book.specs.BookRule.{KeepsBookRule, has_number, has_room, holds, owns}
+use Rattle.history_book.specs.BookRule.{KeepsBookRule, has_number, has_room, hold_count, owns}
 use Rattle.history_book.specs.Steps.{CanGiveBack, after_part, own_history, part}
 use Rattle.history_book.proofs.SumLemmas.{part_of_sum}
 use Rattle.history_book.proofs.PurseLemmas.{contains_none, guest_kept, guest_number, guest_ranges, guest_rooms}
@@ -65,7 +65,7 @@ module _ (leaves ranges : ℕ) (whole : Histories) (words : List ℕ) (seats : L
         ap (sum_by (is_of leaf)) owns_is ∙ sum_one (is_of leaf) h ∙ ap (is_of leaf) (sym own) in
         let landless : (g : History) → owns g right ≡ 0 = λ g. refl in
         let none_held : (r : Range) → times_range r [] ≡ 0 = λ r. refl in
-        let ranges_held : (r : Range) → holds r left + holds r right ≡ holds r v = λ r.
+        let ranges_held : (r : Range) → hold_count r left + hold_count r right ≡ hold_count r v = λ r.
         let a = ranges_parted r hold (own_history v.owns) v.held (guest_purse v.purse).holds in
         let b = guest_ranges r v.purse in
         let c = none_held r in

@@ -24,15 +24,16 @@ use Rattle.history_book.specs.declared.views.Kept.{Kept}
 use Rattle.history_book.specs.declared.views.Purse.{Purse}
 use Rattle.history_book.specs.declared.views.SeatView.{SeatView}
 use Rattle.mon_value.specs.Positions.{leaf_numbered}
-use Rattle.history_book.specs.Histories.{IsFor, entries, history_numbered, is_about, is_under, pass_of}
-use Rattle.history_book.specs.Histories.{same_history, with_entry}
-use Rattle.history_book.specs.Seats.{AreApart, HasEveryNumber, IsBorneOut, IsKeptIn, guest_purse, hand_of, kept_in}
+use Rattle.history_book.specs.Histories.{IsFor, entries, history_numbered, is_about, is_under, book_entry_pass}
+use Rattle.history_book.specs.Histories.{same_history, with_book_entry}
+use Rattle.history_book.specs.Seats.{AreNumbersApart, HasEveryNumber, IsPurseBorneOut, IsKeptIn, guest_purse, hand_of}
+use Rattle.history_book.specs.Seats.{kept_in}
 use Rattle.history_book.specs.Seats.{times_number}
-use Rattle.history_book.specs.BookRule.{BookHolds, IsJoined, IsTrue, KeepsBookRule, has_number, has_room, holds}
+use Rattle.history_book.specs.BookRule.{BookHolds, IsJoined, IsTrue, KeepsBookRule, has_number, has_room, hold_count}
 use Rattle.history_book.specs.BookRule.{in_purse, kept_in_purse, owns}
 use Rattle.history_book.specs.Steps.{Appends, CanGiveBack, Confirms, IsPromised, IsUnited, Learns, Seated, after_deal}
 use Rattle.history_book.specs.Steps.{after_handed_number, after_part, view_after_append, dealt, handed_number}
-use Rattle.history_book.specs.Steps.{history_of}
+use Rattle.history_book.specs.Steps.{word_history}
 use Rattle.history_book.specs.Steps.{view_after_learning, meeting, part, spent_view, split_off}
 use Rattle.history_book.proofs.ListLemmas.{prefix_contains, prefix_filter, prefix_length}
 use Rattle.history_book.proofs.HistoryLemmas.{fronts, same_history_refl}
@@ -46,7 +47,7 @@ use Rattle.history_book.proofs.AppendLemmas.{keeps_append}
 abbrev pub holds_of : ℕ → ℕ → State (Unit {0}) SeatView → Type 0
 holds_of leaves ranges state = BookHolds leaves ranges state.words state.views
 
-pub history_of_word : (n : ℕ) → history_of (n + 1) ≡ n
+pub history_of_word : (n : ℕ) → word_history (n + 1) ≡ n
 history_of_word n = omega arith
 
 pub owns_it : (leaves n : ℕ) (v : SeatView) → v.owns ≡ history_numbered leaves n ∷ []
@@ -70,7 +71,7 @@ allows_learn leaves ranges slots id me n low s rule _ is _ =
     = prefix_length (entries me.0.seen h) (entries rule.0 h) (true_v.seen h) in omega arith in
     let own : 0 < owns h me.0 → found ≡ length (entries me.0.seen h) = λ o. length_is
     ∙ ap length (sym (true_v.own h o)) in
-    let w = view_after_learning (history_of (n + 1)) found me.0 in (
+    let w = view_after_learning (word_history (n + 1)) found me.0 in (
       w,
       keeps,
       tt,
@@ -78,7 +79,7 @@ allows_learn leaves ranges slots id me n low s rule _ is _ =
         rule.0,
         subst (λ (ws : List ℕ). KeepsBookRule leaves ranges rule.0 ws (set s.views id w))
             (sym (set-get_or s.words (n + 1) 0))
-            (keeps_learned leaves ranges rule.0 s.words s.views rule.1 id me.0 is (history_of (n + 1)) found),
+            (keeps_learned leaves ranges rule.0 s.words s.views rule.1 id me.0 is (word_history (n + 1)) found),
       ),
       (
         subst (λ k. length (entries me.0.seen (history_numbered leaves k)) ≤ found) (sym back) longer,
@@ -124,7 +125,7 @@ module _ (leaves ranges : ℕ) (whole : Histories) (words : List ℕ) (seats : L
         subst (λ o. in_purse (times_number n) o ≤ sum_by (has_number n) seats) e (part_of_sum (has_number n) seats id v
         is)
 
-    apart : (p : Purse) → v.purse ≡ Some p → AreApart p
+    apart : (p : Purse) → v.purse ≡ Some p → AreNumbersApart p
     apart p e = record {
       once = λ n low. let most = number_below p e n in let one = rule.numbered n low in omega arith;
       below = λ n high. let most = number_below p e n in let none = rule.bounded n high in omega arith;
@@ -143,7 +144,7 @@ module _ (leaves ranges : ℕ) (whole : Histories) (words : List ℕ) (seats : L
     every p e all h x has =
         let there = prefix_contains (entries v.seen h) (entries whole h) x (true_v.seen h) has in
         let k = rule.kept h x there in
-        let n : ℕ = pass_of x in
+        let n : ℕ = book_entry_pass x in
         let theirs : 0 < has_number n k.seat
         = subst (λ m. 0 < has_number m k.seat) k.under (kept_counts k.seat.purse k.kept k.has) in
         let part = part_of_sum (has_number n) seats k.there.0 k.seat k.there.1 in
@@ -174,7 +175,7 @@ module _ (leaves ranges : ℕ) (whole : Histories) (words : List ℕ) (seats : L
     promised_told n low o = let e = rule.promised v n low (id, is) o in
         let part = part_of_sum (has_room (leaf_numbered n)) seats id v is in omega arith
 
-    borne_out : (o : Option Purse) → v.purse ≡ o → IfSome o (IsBorneOut v.seen)
+    borne_out : (o : Option Purse) → v.purse ≡ o → IfSome o (IsPurseBorneOut v.seen)
     borne_out None e = tt
     borne_out (Some p) e = record { apart = apart p e; exact = exact p e; every = every p e }
 
@@ -257,13 +258,13 @@ pub allows_append : (leaves ranges slots id : ℕ) (me : Seated) (n : ℕ) (e : 
     → IsFor (history_numbered leaves n) e
     → me.0.owns ≡ history_numbered leaves n ∷ []
     → length (entries me.0.seen (history_numbered leaves n)) < 2 ^ 62
-    → (hand_of (guest_purse me.0.purse)).own ≡ Some (pass_of e)
-    → ((r : Range) → is_about r e ≡ true → 0 < holds r me.0)
+    → (hand_of (guest_purse me.0.purse)).own ≡ Some (book_entry_pass e)
+    → ((r : Range) → is_about r e ≡ true → 0 < hold_count r me.0)
     → Allows (holds_of leaves ranges) slots id me (n + 1) (λ m. (m + 1) % 2 ^ 64)
     (Appends e (step slots (n + 1) 1 0 none) me)
 allows_append leaves ranges slots id me n e low fits owns_is room number about s rule _ is _ =
     let h = history_numbered leaves n in
-    let p = purse_found me.0.purse (pass_of e) number in
+    let p = purse_found me.0.purse (book_entry_pass e) number in
     let x : ℕ = (get_or s.words (n + 1) 0 + 1) % 18446744073709551616 in
     let length_is : get_or s.words (n + 1) 0 ≡ length (entries rule.0 h) = rule.1.lengths n low in
     let own = (rule.1.seats_true me.0 (id, is)).own h (owns_it leaves n me.0 owns_is) in
@@ -274,7 +275,7 @@ allows_append leaves ranges slots id me n e low fits owns_is room number about s
       keeps,
       tt,
       (
-        with_entry h e rule.0,
+        with_book_entry h e rule.0,
         keeps_append leaves ranges rule.0 s.words s.views rule.1 id me.0 is n low e fits owns_is p.0 p.1 p.2.0 p.2.1
             p.2.2 about
             x grown,

@@ -13,7 +13,7 @@ use Rattle.mon_value.specs.declared.positions.Leaf.{Leaf}
 use Rattle.mon_value.specs.declared.positions.Range.{Range}
 use Rattle.mon_value.specs.Positions.{leaf_numbered, range_numbered}
 use Rattle.history_book.specs.Histories.{history_numbered, numbered_as}
-use Rattle.history_book.specs.BookRule.{HasSeat, IsTrue, KeepsBookRule, has_number, has_room, holds, kept_in_purse}
+use Rattle.history_book.specs.BookRule.{HasSeat, IsTrue, KeepsBookRule, has_number, has_room, hold_count, kept_in_purse}
 use Rattle.history_book.specs.BookRule.{owns}
 use Rattle.atomic_table.proofs.Lists.{set_else}
 use Rattle.std.proofs.lemmas.Bool.Decides.{nat_tests}
@@ -44,7 +44,7 @@ module _ (leaves ranges : ℕ) (whole : Histories) (words : List ℕ) (seats : L
       → ((seat : SeatView) → HasSeat seats' seat → IsTrue whole seat)
       → ((h : History) → sum_by (owns h) seats' ≡ sum_by (owns h) seats)
       → ((n : ℕ) → sum_by (has_number n) seats' ≡ sum_by (has_number n) seats)
-      → ((r : Range) → sum_by (holds r) seats' ≡ sum_by (holds r) seats)
+      → ((r : Range) → sum_by (hold_count r) seats' ≡ sum_by (hold_count r) seats)
       → KeepsNumbers seats seats'
       → Promises leaves seats'
       → KeepsBookRule leaves ranges whole words seats'
@@ -76,7 +76,7 @@ module _ (leaves ranges : ℕ) (whole : Histories) (words : List ℕ) (seats : L
     pub keeps_change : (w : SeatView) → IsTrue whole w
         → ((h : History) → owns h w ≡ owns h v)
         → ((n : ℕ) → has_number n w ≡ has_number n v)
-        → ((r : Range) → holds r w ≡ holds r v)
+        → ((r : Range) → hold_count r w ≡ hold_count r v)
         → ((leaf : Leaf) → has_room leaf w ≡ has_room leaf v)
         → ((kept : Kept) → Contains (kept_in_purse v.purse) kept → Contains (kept_in_purse w.purse) kept)
         → w.promised ≡ v.promised
@@ -90,7 +90,7 @@ module _ (leaves ranges : ℕ) (whole : Histories) (words : List ℕ) (seats : L
         ])
         (λ h. let s = sum_changed (owns h) seats id v w is in let e = owns_w h in omega arith)
         (λ n. let s = sum_changed (has_number n) seats id v w is in let e = number_w n in omega arith)
-        (λ r. let s = sum_changed (holds r) seats id v w is in let e = holds_w r in omega arith)
+        (λ r. let s = sum_changed (hold_count r) seats id v w is in let e = holds_w r in omega arith)
         (λ seat kept has k. elim (seat_stays seats id v w seat is has) [
           | inl e ↦ (
             w,
@@ -121,7 +121,7 @@ module _ (leaves ranges : ℕ) (whole : Histories) (words : List ℕ) (seats : L
       pub true_right : IsTrue whole right
       pub owned : (h : History) → owns h left + owns h right ≡ owns h v
       pub numbers : (n : ℕ) → has_number n left + has_number n right ≡ has_number n v
-      pub ranges_held : (r : Range) → holds r left + holds r right ≡ holds r v
+      pub ranges_held : (r : Range) → hold_count r left + hold_count r right ≡ hold_count r v
       pub kept : (kept : Kept) → Contains (kept_in_purse v.purse) kept
           → Contains (kept_in_purse left.purse) kept ⊎ Contains (kept_in_purse right.purse) kept
       -- rooms of histories that the seat owns may come and go, where it promises as many
@@ -148,7 +148,7 @@ module _ (leaves ranges : ℕ) (whole : Histories) (words : List ℕ) (seats : L
         ])
         (λ h. let s = sum_split (owns h) seats id v left right is in let e = cut.owned h in omega arith)
         (λ n. let s = sum_split (has_number n) seats id v left right is in let e = cut.numbers n in omega arith)
-        (λ r. let s = sum_split (holds r) seats id v left right is in let e = cut.ranges_held r in omega arith)
+        (λ r. let s = sum_split (hold_count r) seats id v left right is in let e = cut.ranges_held r in omega arith)
         (λ seat kept has k. elim (seat_stays seats id v left seat is has) [
           | inl e ↦ elim (cut.kept kept (subst (λ (s : SeatView). Contains (kept_in_purse s.purse) kept) (sym e) k)) [
             | inl l ↦ (left, seat_before (set seats id left) right left (seat_changed seats id v left is), l)
@@ -198,7 +198,7 @@ module _ (leaves ranges : ℕ) (whole : Histories) (words : List ℕ) (seats : L
       pub landless : (h : History) → owns h u ≡ 0
       pub gone_landless : (h : History) → owns h gone ≡ 0
       pub numbers : (n : ℕ) → has_number n both + has_number n gone ≡ has_number n v + has_number n u
-      pub ranges_held : (r : Range) → holds r both + holds r gone ≡ holds r v + holds r u
+      pub ranges_held : (r : Range) → hold_count r both + hold_count r gone ≡ hold_count r v + hold_count r u
       pub rooms : (leaf : Leaf) → has_room leaf both + has_room leaf gone ≡ has_room leaf v + has_room leaf u
       pub kept : (kept : Kept) → Contains (kept_in_purse v.purse) kept ⊎ Contains (kept_in_purse u.purse) kept
           → Contains (kept_in_purse both.purse) kept
@@ -225,7 +225,7 @@ module _ (leaves ranges : ℕ) (whole : Histories) (words : List ℕ) (seats : L
         let b = union.landless h in let c = union.gone_landless h in omega arith)
         (λ n. let s = sum_joined (has_number n) seats id other v both u gone is is' in let e = union.numbers n in
         omega arith)
-        (λ r. let s = sum_joined (holds r) seats id other v both u gone is is' in let e = union.ranges_held r in
+        (λ r. let s = sum_joined (hold_count r) seats id other v both u gone is is' in let e = union.ranges_held r in
         omega arith)
         (λ seat kept has k. elim (seat_stays seats id v both seat is has) [
           | inl e ↦ (

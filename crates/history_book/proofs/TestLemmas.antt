@@ -17,7 +17,7 @@ use Rattle.mon_value.specs.declared.positions.Range.{Range}
 use Rattle.mon_value.specs.Positions.{leaf_numbered, range_numbered, same_leaf, same_range}
 use Rattle.history_book.specs.Histories.{IsFor, IsOfLeaf, entries, histories_in, history_numbered}
 use Rattle.history_book.specs.Histories.{numbered_as, numbers_on}
-use Rattle.history_book.specs.Seats.{HasRoom, HoldsOwn, Owner, Seat, after_append, after_parting, guest_purse}
+use Rattle.history_book.specs.Seats.{HasGuestRoom, HoldsOwn, Owner, Seat, after_append, after_parting, guest_purse}
 use Rattle.history_book.specs.Seats.{holds_after, is_own_range, new_owner, guest_seat, purse_with, rooms_after}
 use Rattle.history_book.specs.Seats.{times_range, times_room, with_guest}
 use Rattle.history_book.proofs.HistoryLemmas.{entries_added, no_entries_at}
@@ -140,7 +140,7 @@ module _ (before met gone_owner again : Owner) (seat gone : Seat) (leaf : Leaf) 
       (sym same) has)
 
   pub still_has_room : (after : Owner) (e : BookEntry) → gone_owner ≡ after_parting move.Make false met
-      → after ≡ after_append e again → HasRoom after
+      → after ≡ after_append e again → HasGuestRoom after
   still_has_room after e owner_is after_is =
       let history : after.history ≡ of.Leaf leaf
       = ap (λ o. o.history) after_is ∙ ap (λ o. o.history) again_is ∙ ap (λ o. o.history) owner_is

@@ -17,9 +17,9 @@ use Rattle.history_book.specs.declared.views.Joined.{Joined}
 use Rattle.history_book.specs.declared.views.Kept.{Kept}
 use Rattle.history_book.specs.declared.views.Purse.{Purse}
 use Rattle.history_book.specs.declared.views.SeatView.{SeatView}
-use Rattle.history_book.specs.Books.{word_count, word_of}
+use Rattle.history_book.specs.Books.{word_count, word_of_history}
 use Rattle.mon_value.specs.Positions.{leaf_numbered, range_numbered}
-use Rattle.history_book.specs.Histories.{entries, history_numbered, is_about, is_under, pass_of}
+use Rattle.history_book.specs.Histories.{entries, history_numbered, is_about, is_under, book_entry_pass}
 use Rattle.history_book.specs.Histories.{same_history}
 use Rattle.history_book.specs.Seats.{kept_in, times_number, times_range, times_room}
 
@@ -42,8 +42,8 @@ has_number n seat = in_purse (times_number n) seat.purse
 abbrev pub has_room : Leaf → SeatView → ℕ
 has_room leaf seat = in_purse (λ purse. times_room leaf purse.rooms) seat.purse
 
-abbrev pub holds : Range → SeatView → ℕ
-holds range seat = times_range range seat.held + in_purse (λ purse. times_range range purse.holds) seat.purse
+abbrev pub hold_count : Range → SeatView → ℕ
+hold_count range seat = times_range range seat.held + in_purse (λ purse. times_range range purse.holds) seat.purse
 
 abbrev pub kept_in_purse : Option Purse → List Kept
 kept_in_purse None = []
@@ -57,7 +57,7 @@ pub record IsJoined (whole : Histories) (seat : SeatView) (joined : Joined) : Ty
   pub mine : (history : History) → IsPrefix (entries joined.mine history) (entries seat.seen history)
   pub theirs : (history : History) → IsPrefix (entries joined.theirs history) (entries seat.seen history)
   pub own : (history : History) → 0 < owns history seat → entries joined.mine history ≡ entries seat.seen history
-  pub lent : (range : Range) (history : History) → 0 < times_range range joined.lent → 0 < holds range seat
+  pub lent : (range : Range) (history : History) → 0 < times_range range joined.lent → 0 < hold_count range seat
       → filter (is_about range) (entries whole history) ≡ filter (is_about range) (entries joined.theirs history)
 
 pub record IsTrue (whole : Histories) (seat : SeatView) : Type 0 where
@@ -69,7 +69,7 @@ pub record IsTrue (whole : Histories) (seat : SeatView) : Type 0 where
   pub exact : (kept : Kept) (history : History) → Contains (kept_in_purse seat.purse) kept
       → filter (is_under kept.number) (entries whole history) ≡ entries kept.own history
   -- it has seen every entry about a range that it holds
-  pub held : (range : Range) (history : History) → 0 < holds range seat
+  pub held : (range : Range) (history : History) → 0 < hold_count range seat
       → filter (is_about range) (entries whole history) ≡ filter (is_about range) (entries seat.seen history)
   pub joined : IfSome seat.joined (IsJoined whole seat)
 
@@ -79,7 +79,7 @@ pub record IsNumberKept (seats : List SeatView) (e : BookEntry) : Type 0 where
   pub there : HasSeat seats seat
   pub kept : Kept
   pub has : Contains (kept_in_purse seat.purse) kept
-  pub under : kept.number ≡ pass_of e
+  pub under : kept.number ≡ book_entry_pass e
 
 -- ---- the whole
 
@@ -87,7 +87,7 @@ pub record KeepsBookRule (leaves ranges : ℕ) (whole : Histories) (words : List
   -- each history has a word, which is its length
   pub sized : length words ≡ word_count leaves ranges
   pub lengths : (n : ℕ) → n < leaves + ranges
-      → slice_index words (word_of n) ≡ length (entries whole (history_numbered leaves n))
+      → slice_index words (word_of_history n) ≡ length (entries whole (history_numbered leaves n))
   pub seats_true : (seat : SeatView) → HasSeat seats seat → IsTrue whole seat
   -- each history has one owner
   pub owned : (n : ℕ) → n < leaves + ranges → sum_by (owns (history_numbered leaves n)) seats ≡ 1
@@ -100,8 +100,8 @@ pub record KeepsBookRule (leaves ranges : ℕ) (whole : Histories) (words : List
   pub promised : (seat : SeatView) (n : ℕ) → n < leaves → HasSeat seats seat → 0 < owns (of.Leaf (leaf_numbered n)) seat
       → seat.promised ≡ sum_by (has_room (leaf_numbered n)) seats
   -- each range is held by one seat, and no other range is held
-  pub holders : (n : ℕ) → n < ranges → sum_by (holds (range_numbered n)) seats ≡ 1
-  pub unheld : (n : ℕ) → ranges < n + 1 → sum_by (holds (range_numbered n)) seats ≡ 0
+  pub holders : (n : ℕ) → n < ranges → sum_by (hold_count (range_numbered n)) seats ≡ 1
+  pub unheld : (n : ℕ) → ranges < n + 1 → sum_by (hold_count (range_numbered n)) seats ≡ 0
 
 -- what a book is told once, and what holds of it
 abbrev pub BookHolds : ℕ → ℕ → List ℕ → List SeatView → Type 0

@@ -12,8 +12,8 @@ pub record BookIdentity : Type 0 where
 abbrev pub word_count : ℕ → ℕ → ℕ
 word_count leaves ranges = leaves + ranges + 1
 
-abbrev pub word_of : ℕ → ℕ
-word_of history = history + 1
+abbrev pub word_of_history : ℕ → ℕ
+word_of_history history = history + 1
 
 abbrev pub IsShaped : BookIdentity → Type 0
 IsShaped book = book.id.words ≡ word_count book.leaves book.ranges

@@ -80,12 +80,12 @@ range_entry_pass (range_entry.Opened pass slot leaf) = pass
 range_entry_pass (range_entry.Acked pass row ack) = pass
 
 -- the number under which an entry was appended
-abbrev pub pass_of : BookEntry → ℕ
-pass_of (one.Leaf e) = leaf_entry_pass e
-pass_of (one.Range e) = range_entry_pass e
+abbrev pub book_entry_pass : BookEntry → ℕ
+book_entry_pass (one.Leaf e) = leaf_entry_pass e
+book_entry_pass (one.Range e) = range_entry_pass e
 
 abbrev pub is_under : ℕ → BookEntry → Bool
-is_under number e = nat_eq (pass_of e) number
+is_under number e = nat_eq (book_entry_pass e) number
 
 abbrev pub leaf_entry_is_about : Range → Entry → Bool
 leaf_entry_is_about range (entry.Opened pass other slot rows) = same_range range other
@@ -116,11 +116,12 @@ module _ {X : Type 0} where
   added_at (suc n) x (xs ∷ xss) = xs ∷ added_at n x xss
 
 -- a history has an entry more
-abbrev pub with_entry : History → BookEntry → Histories → Histories
-with_entry (of.Leaf leaf) (one.Leaf e) seen = record { leaves = added_at leaf.0 e seen.leaves; ranges = seen.ranges }
-with_entry (of.Leaf leaf) (one.Range e) seen = seen
-with_entry (of.Range range) (one.Leaf e) seen = seen
-with_entry (of.Range range) (one.Range e) seen = record {
+abbrev pub with_book_entry : History → BookEntry → Histories → Histories
+with_book_entry (of.Leaf leaf) (one.Leaf e) seen =
+    record { leaves = added_at leaf.0 e seen.leaves; ranges = seen.ranges }
+with_book_entry (of.Leaf leaf) (one.Range e) seen = seen
+with_book_entry (of.Range range) (one.Leaf e) seen = seen
+with_book_entry (of.Range range) (one.Range e) seen = record {
   leaves = seen.leaves;
   ranges = added_at range.0 e seen.ranges;
 }

@@ -6,12 +6,12 @@ use Rattle.history_book.specs.declared.numbers.TheConstants.{MANY, SHARE}
 abbrev pub numbers_between : ℕ → ℕ → Numbers
 numbers_between from to = record { from = from; to = to }
 
-abbrev pub is_among : ℕ → Numbers → Bool
-is_among n numbers = not (nat_lt n numbers.from) && nat_lt n numbers.to
+abbrev pub is_number_among : ℕ → Numbers → Bool
+is_number_among n numbers = not (nat_lt n numbers.from) && nat_lt n numbers.to
 
 -- how often a number stands among some
 abbrev pub times_among : ℕ → Numbers → ℕ
-times_among n numbers = cond (is_among n numbers) 1 0
+times_among n numbers = cond (is_number_among n numbers) 1 0
 
 abbrev pub is_spent : Numbers → Bool
 is_spent numbers = not (nat_lt numbers.from numbers.to)

@@ -18,8 +18,8 @@ use Rattle.history_book.specs.declared.views.LengthNote.{LengthNote}
 use Rattle.history_book.specs.declared.views.Purse.{Purse}
 use Rattle.mon_value.specs.Positions.{same_leaf, same_range}
 use Rattle.mon_value.specs.Histories.{joined_histories}
-use Rattle.history_book.specs.Histories.{empty_histories, entries, is_under, pass_of}
-use Rattle.history_book.specs.Histories.{with_entry}
+use Rattle.history_book.specs.Histories.{empty_histories, entries, is_under, book_entry_pass}
+use Rattle.history_book.specs.Histories.{with_book_entry}
 use Rattle.history_book.specs.Numbers.{after_handing, handed_numbers, numbers_between, times_among}
 
 -- A seat: what it has seen, and what it has beside that
@@ -80,7 +80,7 @@ abbrev pub times_range : Range → List Range → ℕ
 times_range range holds = count_by (same_range range) holds
 
 -- no number stands there twice, and each is below the end
-pub record AreApart (purse : Purse) : Type 0 where
+pub record AreNumbersApart (purse : Purse) : Type 0 where
   pub once : (n : ℕ) → n < NUMBER_END → times_number n purse < 2
   pub below : (n : ℕ) → NUMBER_END < n + 1 → times_number n purse ≡ 0
 
@@ -91,12 +91,12 @@ HasEveryNumber purse = (n : ℕ) → n < NUMBER_END → 0 < times_number n purse
 pub record IsKeptIn (purse : Purse) (history : History) (e : BookEntry) : Type 0 where
   pub kept : Kept
   pub has : Contains (kept_in purse) kept
-  pub under : kept.number ≡ pass_of e
+  pub under : kept.number ≡ book_entry_pass e
   pub own : Contains (entries kept.own history) e
 
 -- what a purse says of what was seen
-pub record IsBorneOut (seen : Histories) (purse : Purse) : Type 0 where
-  pub apart : AreApart purse
+pub record IsPurseBorneOut (seen : Histories) (purse : Purse) : Type 0 where
+  pub apart : AreNumbersApart purse
   -- the entries of a number that were seen are the first of those that are kept
   pub exact : (kept : Kept) (history : History) → Contains (kept_in purse) kept
       → IsPrefix (filter (is_under kept.number) (entries seen history)) (entries kept.own history)
@@ -165,7 +165,7 @@ met_purse purse other = record {
 }
 
 abbrev pub kept_with : History → BookEntry → Kept → Kept
-kept_with history e kept = record { number = kept.number; own = with_entry history e kept.own }
+kept_with history e kept = record { number = kept.number; own = with_book_entry history e kept.own }
 
 -- an entry was appended under the purse's number
 abbrev pub purse_with : History → BookEntry → Purse → Purse
@@ -230,8 +230,9 @@ guest_purse None = no_purse
 guest_purse (Some purse) = purse
 
 -- the guest has a room of the owner's history
-abbrev pub HasRoom : Owner → Type 0
-HasRoom owner = (leaf : Leaf) × (owner.history ≡ of.Leaf leaf) × (0 < times_room leaf (guest_purse owner.guest).rooms)
+abbrev pub HasGuestRoom : Owner → Type 0
+HasGuestRoom owner = (leaf : Leaf) × (owner.history ≡ of.Leaf leaf)
+    × (0 < times_room leaf (guest_purse owner.guest).rooms)
 
 -- the owner is a range's, and it or its guest holds that range
 abbrev pub HoldsOwn : Owner → Type 0
@@ -286,7 +287,7 @@ new_owner leaves ranges history =
 abbrev pub after_append : BookEntry → Owner → Owner
 after_append e owner = record {
   history = owner.history;
-  seen = with_entry owner.history e owner.seen;
+  seen = with_book_entry owner.history e owner.seen;
   promised = owner.promised;
   held = owner.held;
   notes = owner.notes;

@@ -17,11 +17,11 @@ use Rattle.history_book.specs.declared.views.SeatView.{SeatView}
 use Rattle.history_book.specs.Histories.{AreFronts, empty_histories, entries, histories_in, history_numbered, is_about}
 use Rattle.mon_value.specs.Positions.{leaf_numbered, range_numbered}
 use Rattle.mon_value.specs.Histories.{joined_histories}
-use Rattle.history_book.specs.Histories.{numbers_on, with_entry}
-use Rattle.history_book.specs.Seats.{IsBorneOut, Owner, Seat, first_handed, guest_purse, held_after, met_purse}
+use Rattle.history_book.specs.Histories.{numbers_on, with_book_entry}
+use Rattle.history_book.specs.Seats.{IsPurseBorneOut, Owner, Seat, first_handed, guest_purse, held_after, met_purse}
 use Rattle.history_book.specs.Seats.{no_purse, with_note, numbered_purse, own_notes_after, own_ranges, parted_purse}
 use Rattle.history_book.specs.Seats.{promised_after, purse_with, times_range, times_room, with_stock_handed}
-use Rattle.history_book.specs.BookRule.{has_room, holds, owns}
+use Rattle.history_book.specs.BookRule.{has_room, hold_count, owns}
 
 abbrev pub Seated : Type 0
 Seated = Me (Unit {0}) SeatView
@@ -36,7 +36,7 @@ owner_of history v =
     record { history = history; seen = v.seen; promised = v.promised; held = v.held; notes = v.notes; guest = v.purse }
 
 -- a seat that owns nothing, and has a purse
-pub record IsPlain (v : SeatView) : Type 0 where
+pub record IsPlainSeat (v : SeatView) : Type 0 where
   pub purse : v.purse ≡ Some (guest_purse v.purse)
   pub owns : v.owns ≡ []
   pub held : v.held ≡ []
@@ -192,7 +192,7 @@ CanGiveBack move.TakeBack (of.Range range) rooms = Unit {0}
 
 abbrev pub view_after_append : BookEntry → SeatView → SeatView
 view_after_append e v = record {
-  seen = with_entry (own_history v.owns) e v.seen;
+  seen = with_book_entry (own_history v.owns) e v.seen;
   joined = None;
   purse = option_map (purse_with (own_history v.owns) e) v.purse;
   owns = v.owns;
@@ -215,16 +215,16 @@ view_after_learning history length v = record {
 -- ---- what a step tells
 
 -- the number of the history of a word
-abbrev pub history_of : ℕ → ℕ
-history_of word = word - 1
+abbrev pub word_history : ℕ → ℕ
+word_history word = word - 1
 
 -- the length that was found is at least that of what was seen, and just that of what is owned
 abbrev pub Learns : ℕ → Step (Unit {0}) → Seated → ℕ → Seated → Type 0
 Learns leaves step before found after =
-    (length (entries before.0.seen (history_numbered leaves (history_of step.word))) ≤ found)
-    × (0 < owns (history_numbered leaves (history_of step.word)) before.0
-    → found ≡ length (entries before.0.seen (history_numbered leaves (history_of step.word))))
-    × (after ≡ (view_after_learning (history_of step.word) found before.0, before.1))
+    (length (entries before.0.seen (history_numbered leaves (word_history step.word))) ≤ found)
+    × (0 < owns (history_numbered leaves (word_history step.word)) before.0
+    → found ≡ length (entries before.0.seen (history_numbered leaves (word_history step.word))))
+    × (after ≡ (view_after_learning (word_history step.word) found before.0, before.1))
 
 -- an entry was appended
 abbrev pub Appends : BookEntry → Step (Unit {0}) → Seated → ℕ → Seated → Type 0
@@ -236,7 +236,7 @@ pub record IsUnited (v : SeatView) (joined : Joined) : Type 0 where
   pub theirs : AreFronts joined.theirs v.seen
   pub own : (history : History) → 0 < owns history v → entries joined.mine history ≡ entries v.seen history
   pub lent : (range : Range) (history : History) → 0 < owns history v → 0 < times_range range joined.lent
-      → 0 < holds range v
+      → 0 < hold_count range v
       → filter (is_about range) (entries v.seen history) ≡ filter (is_about range) (entries joined.theirs history)
 
 -- who owns a leaf's history promised as many rooms as its purse has there
@@ -248,4 +248,4 @@ IsPromised leaves v = (n : ℕ) → n < leaves → 0 < owns (of.Leaf (leaf_numbe
 abbrev pub Confirms : ℕ → Step (Unit {0}) → Seated → ℕ → Seated → Type 0
 Confirms leaves step before found after =
     (after ≡ before) × IfSome before.0.joined (IsUnited before.0) × IfSome before.0.purse
-    (IsBorneOut before.0.seen) × IsPromised leaves before.0
+    (IsPurseBorneOut before.0.seen) × IsPromised leaves before.0

@@ -4,14 +4,16 @@ ghost use Rattle.std.specs.Prelude.{IfOk, IfSome, IfNone, IsTrue};
 ghost use Rattle.history_book.specs.declared.rooms.RoomMove.TheVariants as the_move;
 ghost use Rattle.history_book.specs.Books.{HasHistory, IsShaped};
 ghost use Rattle.history_book.specs.Histories.{AreFronts, IsFor, IsOfLeaf, entries, histories_in, history_numbered};
-ghost use Rattle.history_book.specs.Histories.{is_about, history_number, pass_of};
+ghost use Rattle.history_book.specs.Histories.{is_about, history_number, book_entry_pass};
 ghost use Rattle.history_book.specs.Numbers.{is_spent};
-ghost use Rattle.history_book.specs.Seats.{HasRoom, HoldsOwn, IsBorneOut, after_append, after_learn, after_meet};
+ghost use Rattle.history_book.specs.Seats.{HasGuestRoom, HoldsOwn, IsPurseBorneOut, after_append, after_learn};
+ghost use Rattle.history_book.specs.Seats.{after_meet};
 ghost use Rattle.history_book.specs.Seats.{after_own_learn, after_parting, after_split_numbered, first_seat};
 ghost use Rattle.history_book.specs.Seats.{guest_purse, hand_of, new_owner, numbered_seat, guest_seat, times_range};
 ghost use Rattle.history_book.specs.Seats.{times_room};
 ghost use Rattle.history_book.specs.Seats.{with_guest, without_purse};
-ghost use Rattle.history_book.specs.Steps.{CanGiveBack, IsPlain, IsPromised, IsUnited, after_part, dealing, meeting};
+ghost use Rattle.history_book.specs.Steps.{CanGiveBack, IsPlainSeat, IsPromised, IsUnited, after_part, dealing};
+ghost use Rattle.history_book.specs.Steps.{meeting};
 ghost use Rattle.history_book.specs.Steps.{own_history, owner_view, part};
 ghost use Rattle.history_book.specs.declared.views.History.TheVariants as of;
 ghost use Rattle.mon_value.specs.declared.positions.Leaf as a_leaf;
@@ -146,7 +148,7 @@ impl<N: BookName> Book<N> {
     pub fn append<E: NewEntry>(&self, owner: &mut BookOwner<N>)
         requires room { length (entries owner.old.seen owner.old.history) < 2 ^ 62 }
         requires fits { IsFor owner.old.history E.entry }
-        requires number { (hand_of (guest_purse owner.old.guest)).own ≡ Some (pass_of E.entry) }
+        requires number { (hand_of (guest_purse owner.old.guest)).own ≡ Some (book_entry_pass E.entry) }
         requires held { (range : a_range.Range) → IsTrue (is_about range E.entry)
             → 0 < times_range range (owner.old.held ++ (guest_purse owner.old.guest).holds) }
         ensures appended { owner.new ≡ after_append E.entry owner.old }
@@ -196,7 +198,7 @@ impl<N: BookName> Book<N> {
     pub fn meet(&self, seat: &mut BookSeat<N>, other: BookSeat<N>)
         ensures met { seat.new ≡ after_meet other seat.old }
         ensures fronts { AreFronts seat.old.seen seat.new.seen × AreFronts other.seen seat.new.seen }
-        ensures borne_out { IsBorneOut seat.new.seen seat.new.purse }
+        ensures borne_out { IsPurseBorneOut seat.new.seen seat.new.purse }
     {
         let met = other.seat;
         self.unite(&mut seat.seat, met);
@@ -207,7 +209,7 @@ impl<N: BookName> Book<N> {
     /// that was seen is kept. One step.
     pub fn confirm(&self, seat: &mut BookSeat<N>)
         ensures kept { seat.new ≡ seat.old }
-        ensures borne_out { IsBorneOut seat.old.seen seat.old.purse }
+        ensures borne_out { IsPurseBorneOut seat.old.seen seat.old.purse }
     {
         self.table.shared.load::<Confirm<N>>(&mut seat.seat, 0);
     }
@@ -223,7 +225,7 @@ impl<N: BookName> Book<N> {
         ensures held { (range : a_range.Range) → 0 < times_range range other.purse.holds
             → filter (is_about range) (entries owner.new.seen owner.old.history)
             ≡ filter (is_about range) (entries other.seen owner.old.history) }
-        ensures borne_out { IsBorneOut owner.new.seen other.purse }
+        ensures borne_out { IsPurseBorneOut owner.new.seen other.purse }
         ensures promised { (leaf : a_leaf.Leaf) → owner.old.history ≡ of.Leaf leaf
             → times_room leaf other.purse.rooms ≤ owner.new.promised }
     {
@@ -235,7 +237,7 @@ impl<N: BookName> Book<N> {
     // Two seats become one.
     fn unite(&self, seat: &mut Seat<(), SeatView>, other: Seat<(), SeatView>)
         requires tables { (seat.old.table_id ≡ N.book.id) × (other.table_id ≡ N.book.id) × (other.me.1 ≡ []) }
-        requires plain { IsPlain other.me.0 }
+        requires plain { IsPlainSeat other.me.0 }
         ensures table { (seat.new.table_id ≡ N.book.id) × (seat.new.id ≡ seat.old.id) }
         ensures met { seat.new.me ≡ (meeting seat.old.me.0 other.me.0, seat.old.me.1) }
         ensures united { IsUnited (meeting seat.old.me.0 other.me.0)
@@ -245,7 +247,7 @@ impl<N: BookName> Book<N> {
               lent = (guest_purse other.me.0.purse).holds;
             }) }
         ensures borne_out { IfSome (meeting seat.old.me.0 other.me.0).purse
-            (IsBorneOut (meeting seat.old.me.0 other.me.0).seen) }
+            (IsPurseBorneOut (meeting seat.old.me.0 other.me.0).seen) }
         ensures promised { IsPromised N.book.leaves (meeting seat.old.me.0 other.me.0) }
     {
         self.table.shared.join_seat::<Meet>(seat, other);
@@ -256,7 +258,7 @@ impl<N: BookName> Book<N> {
     /// room more in the owner's history or give one back, and hold the owner's range. One step.
     pub fn split_owner(&self, owner: &mut BookOwner<N>, rooms: RoomMove, hold: bool) -> BookSeat<N>
         requires make { rooms ≡ the_move.Make → IsOfLeaf owner.old.history }
-        requires take_back { rooms ≡ the_move.TakeBack → HasRoom owner.old }
+        requires take_back { rooms ≡ the_move.TakeBack → HasGuestRoom owner.old }
         requires hold { IsTrue hold → HoldsOwn owner.old }
         ensures owner { owner.new ≡ after_parting rooms hold owner.old }
         ensures seat { result ≡ guest_seat rooms hold owner.old }

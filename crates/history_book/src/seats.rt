@@ -18,14 +18,14 @@ pub struct BookSeat<N: BookName> {
 impl<N: BookName> Model for BookSeat<N> {
     ghost use Rattle.std.specs.Prelude.{◌≡◌, []};
     ghost use Rattle.history_book.specs.Seats.{Seat, guest_purse, hand_of};
-    ghost use Rattle.history_book.specs.Steps.{IsPlain, seat_of};
+    ghost use Rattle.history_book.specs.Steps.{IsPlainSeat, seat_of};
 
     ghost Value = { Seat };
 
     ghost view = { λ s. seat_of s.seat.me.0 };
 
     ghost invariant = { λ s. (s.seat.table_id ≡ N.book.id) × (s.seat.me.1 ≡ [])
-        × IsPlain s.seat.me.0 × (s.hand ≡ hand_of (guest_purse s.seat.me.0.purse)) };
+        × IsPlainSeat s.seat.me.0 × (s.hand ≡ hand_of (guest_purse s.seat.me.0.purse)) };
 }
 
 impl<N: BookName> BookSeat<N> {
@@ -38,7 +38,7 @@ impl<N: BookName> BookSeat<N> {
 
     /// What it has, in a type without the book's name, which takes no more steps. No memory is taken.
     pub fn unname(self) -> EndedSeat
-        ensures same { result ≡ self }
+        ensures seat { result ≡ self }
     {
         EndedSeat { seat: self.seat }
     }

@@ -1,5 +1,5 @@
 -- Who has seen nothing: that is held and covered, whatever bits are known.
-use Rattle.std.proofs.Common.{◌≡◌, ℕ, zero, suc, ◌<◌, List, [], ◌∷◌, length, map, get_or, replicate, refl, sym, ap}
+use Rattle.std.proofs.Common.{◌≡◌, ℕ, zero, suc, ◌<◌, List, [], ◌∷◌, length, map, replicate, refl, sym, ap}
 use Rattle.std.proofs.Common.{subst, ◌∙◌, arith}
 use Rattle.std.specs.Prelude.{Contains}
 use Rattle.mon_value.specs.LeafHistories.{IsWellFormed}
@@ -12,16 +12,9 @@ use Rattle.mon_topo.specs.RangeHistories.{IsLegal}
 use Rattle.mon_topo.specs.Settings.{Setting, zone_of_leaf}
 use Rattle.mon_topo.specs.Zones.{leaves_in, ranges_in}
 use Rattle.history_book.specs.Histories.{empty_histories}
+use Rattle.history_book.proofs.HistoryLemmas.{none_at, nothing}
 use Rattle.raise_table.specs.declared.views.Hints.{Hints}
 use Rattle.know.specs.Sound.{IsSound, known_bits}
-
-abbrev nothing : (X : Type 0) → List X
-nothing X = []
-
-none_at : {X : Type 0} (n i : ℕ) → get_or (replicate n (nothing X)) i (nothing X) ≡ nothing X
-none_at zero i = refl
-none_at (suc n) zero = refl
-none_at (suc n) (suc i) = none_at n i
 
 count_of : {X : Type 0} (n : ℕ) (x : X) → length (replicate n x) ≡ n
 count_of zero x = refl

@@ -6,7 +6,7 @@ ghost use Rattle.mon_topo.specs.Zones.{leaves_in, ranges_in};
 ghost use Rattle.mon_value.specs.Answers.{AnswersBy};
 ghost use Rattle.mon_value.specs.Histories.{leaf_history, range_history};
 ghost use Rattle.history_book.specs.Histories.{AreFronts};
-ghost use Rattle.history_book.specs.Seats.{IsBorneOut, hand_of};
+ghost use Rattle.history_book.specs.Seats.{IsPurseBorneOut, hand_of};
 ghost use Rattle.raise_table.specs.Seats.{HasKnown, KnowsAll, KnowsAsMuch};
 ghost use Rattle.raise_table.specs.Tables.{HasWord};
 ghost use Rattle.know.specs.Knowledge.{after_handing, after_load, after_numbering, from_seats, meeting};
@@ -154,7 +154,7 @@ impl<N: Names> Know<N> {
         ensures fronts { AreFronts self.old.seen self.new.seen × AreFronts other.seen self.new.seen }
         ensures knows { KnowsAsMuch self.old.hints self.new.hints × KnowsAsMuch other.hints self.new.hints }
         ensures handed { (self.old.handed ≤ self.new.handed) × (other.handed ≤ self.new.handed) }
-        ensures borne_out { IsBorneOut self.new.seen self.new.purse }
+        ensures borne_out { IsPurseBorneOut self.new.seen self.new.purse }
         ensures sound { IsSound N.setting self.new.hints self.new.seen }
     {
         let Know {

@@ -3,7 +3,7 @@ ghost use Rattle.history_book.specs.declared.rooms.RoomMove.TheVariants as the_m
 ghost use Rattle.history_book.specs.declared.views.History.TheVariants as of;
 ghost use Rattle.mon_value.specs.Positions.{leaf_numbered, range_numbered};
 ghost use Rattle.history_book.specs.Histories.{IsFor, empty_histories, entries, histories_in, is_about};
-ghost use Rattle.history_book.specs.Histories.{pass_of};
+ghost use Rattle.history_book.specs.Histories.{book_entry_pass};
 ghost use Rattle.history_book.specs.Seats.{after_append, first_seat, hand_of, new_owner, guest_seat};
 ghost use Rattle.history_book.specs.Seats.{times_range, with_guest};
 ghost use Rattle.mon_value.specs.declared.histories.Entry.TheVariants as entry;
@@ -35,7 +35,7 @@ fn appended<N: Names, E: NewEntry>(
     requires free { owner.old.guest ≡ None }
     requires room { length (entries owner.old.seen owner.old.history) < 2 ^ 62 }
     requires fits { IsFor owner.old.history E.entry }
-    requires number { (hand_of seat.purse).own ≡ Some (pass_of E.entry) }
+    requires number { (hand_of seat.purse).own ≡ Some (book_entry_pass E.entry) }
     requires held { (range : a_range.Range) → IsTrue (is_about range E.entry)
         → 0 < times_range range (owner.old.held ++ seat.purse.holds) }
     ensures seat { result ≡ guest_seat the_move.Keep false (after_append E.entry (with_guest seat owner.old)) }

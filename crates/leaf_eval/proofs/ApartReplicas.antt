@@ -13,7 +13,7 @@ use Rattle.mon_value.specs.declared.rows.Row.{Row}
 use Rattle.mon_value.specs.declared.rows.SeriesKey.{SeriesKey}
 use Rattle.mon_meaning.specs.Central.{all_held}
 use Rattle.mon_meaning.proofs.ApartSeries.{series-apart}
-use Rattle.leaf_eval.specs.Replicas.{AreApart, ShareNoSeries, has_series, replica_rows_of, replicas_rows}
+use Rattle.leaf_eval.specs.Replicas.{AreReplicasApart, ShareNoSeries, has_series, replica_rows_of, replicas_rows}
 
 abbrev SeriesGroup : Type 0
 SeriesGroup = SeriesKey × List Point
@@ -78,7 +78,7 @@ module _ (history : List Entry) where
       none_of_both rows (replica_rows_of history other) (replicas_rows history replicas) all.0
       (none_of_all rows replicas all.1)
 
-  by_replicas : (replicas : List RangeSlot) → AreApart history replicas
+  by_replicas : (replicas : List RangeSlot) → AreReplicasApart history replicas
       → flat_map points_by_series (map (replica_rows_of history) replicas) ≡ points_by_series
       (replicas_rows history replicas)
   by_replicas [] apart = refl
@@ -93,7 +93,7 @@ module _ (history : List Entry) where
   held_by (rows ∷ kept) = ap (λ (rest : List SeriesGroup). points_by_series rows.now ++ rest) (held_by kept)
 
   -- the series that are kept for replicas are those of all their rows
-  pub replicas_held : (kept : List (Bor (List Row))) (replicas : List RangeSlot) → AreApart history replicas
+  pub replicas_held : (kept : List (Bor (List Row))) (replicas : List RangeSlot) → AreReplicasApart history replicas
       → map (λ rows. rows.now) kept ≡ map (replica_rows_of history) replicas → all_held kept ≡ points_by_series
       (replicas_rows history replicas)
   replicas_held kept replicas apart same = held_by kept ∙ ap (flat_map points_by_series) same ∙ by_replicas replicas

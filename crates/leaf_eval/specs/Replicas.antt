@@ -29,8 +29,8 @@ abbrev pub ShareNoSeries : List Row → List Row → Type 0
 ShareNoSeries rows others = AllByRecursion (λ row. has_series others row.key ≡ false) rows
 
 -- no series has rows in two of the replicas
-abbrev pub AreApart : List Entry → List RangeSlot → Type 0
-AreApart history [] = Unit {0}
-AreApart history (own ∷ replicas) =
+abbrev pub AreReplicasApart : List Entry → List RangeSlot → Type 0
+AreReplicasApart history [] = Unit {0}
+AreReplicasApart history (own ∷ replicas) =
     AllByRecursion (λ other. ShareNoSeries (replica_rows_of history own) (replica_rows_of history other)) replicas
-    × AreApart history replicas
+    × AreReplicasApart history replicas

@@ -13,7 +13,8 @@ use Rattle.mon_value.specs.declared.rows.Row.{Row}
 use Rattle.leaf_store.specs.declared.kept.Kept.{Kept}
 use Rattle.leaf_store.specs.declared.kept.Kept.TheVariants as kept
 use Rattle.leaf_store.specs.declared.replicas.Replica.{Replica}
-use Rattle.leaf_store.specs.within.Replicas.{AllHaveRows, IsNew, IsOpened, IsPut, Replicas, Settles, entry_of}
+use Rattle.leaf_store.specs.within.Replicas.{AllHaveRows, IsNewReplica, IsReplicaAdded, IsPut, Replicas, SettlesEntry}
+use Rattle.leaf_store.specs.within.Replicas.{entry_of}
 use Rattle.leaf_store.specs.within.Replicas.{front_rows}
 use Rattle.leaf_store.specs.within.Replicas.{opened_entry, put_entry, rows_held, shown_entries, with_first}
 use Rattle.leaf_store.proofs.ReplicaLemmas.{holds_opened, holds_put, switch_rows, taken_rows}
@@ -118,7 +119,7 @@ set_there (o ∷ old) (suc at) replica rows new there = set_there old at replica
 
 pub put_settles : (old new : Replicas) (pass : ℕ) (replica : Replica) (row : Row) (number place : ℕ)
     → IsPut old new replica row number place
-    → Settles old new (entry.Put pass replica.range replica.slot row) (kept.Put pass number place)
+    → SettlesEntry old new (entry.Put pass replica.range replica.slot row) (kept.Put pass number place)
 put_settles old new pass replica row number place put = record {
   keeps = entry_kept old new (subst (Grows old) (sym put.grown) (grows_put old number replica put.rows (row ∷ [])
       put.there));
@@ -131,8 +132,9 @@ put_settles old new pass replica row number place put = record {
 }
 
 pub opened_settles : (old new : Replicas) (pass : ℕ) (replica : Replica) (rows : List Row) (number count : ℕ)
-    → IsNew old replica
-    → IsOpened old new replica rows number count → Settles old new (entry.Opened pass replica.range replica.slot rows)
+    → IsNewReplica old replica
+    → IsReplicaAdded old new replica rows number count
+    → SettlesEntry old new (entry.Opened pass replica.range replica.slot rows)
     (kept.Opened pass number count)
 opened_settles old new pass replica rows number count fresh opened = record {
   keeps = entry_kept old new (subst (Grows old) (sym opened.grown) (grows_new old ((replica, rows) ∷ [])));
@@ -146,7 +148,7 @@ opened_settles old new pass replica rows number count fresh opened = record {
       fresh other place);
 }
 
-pub down_settles : (old : Replicas) (pass : ℕ) → Settles old old (entry.Down pass) (kept.Down pass)
+pub down_settles : (old : Replicas) (pass : ℕ) → SettlesEntry old old (entry.Down pass) (kept.Down pass)
 down_settles old pass = record {
   keeps = λ k e is. is;
   own_is = refl;
@@ -154,7 +156,7 @@ down_settles old pass = record {
       ∙ sym (switch_rows range slot history (entry.Down pass) refl refl);
 }
 
-pub up_settles : (old : Replicas) (pass : ℕ) → Settles old old (entry.Up pass) (kept.Up pass)
+pub up_settles : (old : Replicas) (pass : ℕ) → SettlesEntry old old (entry.Up pass) (kept.Up pass)
 up_settles old pass = record {
   keeps = λ k e is. is;
   own_is = refl;

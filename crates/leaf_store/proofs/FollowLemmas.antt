@@ -18,8 +18,8 @@ use Rattle.mon_value.specs.declared.rows.Row.{Row}
 use Rattle.mon_value.specs.declared.rows.SeriesKey.{SeriesKey}
 use Rattle.mon_series.proofs.SourceEnds.{source_later}
 use Rattle.leaf_store.specs.declared.replicas.Replica.{Replica}
-use Rattle.leaf_store.specs.within.Follows.{CanTake}
-use Rattle.leaf_store.specs.within.Replicas.{CanPut, HoldsHistory, IsNew, Replicas}
+use Rattle.leaf_store.specs.within.Follows.{CanTakeRow}
+use Rattle.leaf_store.specs.within.Replicas.{CanPut, HoldsHistory, IsNewReplica, Replicas}
 use Rattle.leaf_store.specs.within.States.{AllSwitches}
 use Rattle.leaf_store.proofs.StepLemmas.{switches_rows}
 
@@ -166,7 +166,7 @@ some_held false own is = absurd cc
 
 -- a replica that isn't kept was never opened
 pub never_opened : (replicas : Replicas) (history : List Entry) (replica : Replica) → HoldsHistory replicas history
-    → IsNew replicas replica
+    → IsNewReplica replicas replica
     → is_opened replica.range replica.slot history ≡ false
 never_opened replicas history replica holds fresh =
     let range = replica.range in
@@ -174,7 +174,7 @@ never_opened replicas history replica holds fresh =
     held_none (is_opened range slot history) (replica_rows range slot history) (sym (holds range slot) ∙ fresh)
 
 pub is_new_there : (replicas : Replicas) (history : List Entry) (replica : Replica) → HoldsHistory replicas history
-    → is_opened replica.range replica.slot history ≡ false → IsNew replicas replica
+    → is_opened replica.range replica.slot history ≡ false → IsNewReplica replicas replica
 is_new_there replicas history replica holds never =
     let range = replica.range in
     let slot = replica.slot in
@@ -182,7 +182,7 @@ is_new_there replicas history replica holds never =
 
 -- a row that its replica takes may be put
 pub can_take : (replicas : Replicas) (history : List Entry) (replica : Replica) (row : Row) → IsWellFormed history
-    → HoldsHistory replicas history → is_down history ≡ false → CanPut replicas replica row → CanTake history replica
+    → HoldsHistory replicas history → is_down history ≡ false → CanPut replicas replica row → CanTakeRow history replica
     row
 can_take replicas history replica row formed holds up can =
     let range = replica.range in
@@ -198,7 +198,7 @@ can_take replicas history replica row formed holds up can =
 
 pub takes_row : (replicas : Replicas) (history : List Entry) (replica : Replica) (row : Row) → HoldsHistory replicas
     history
-    → CanTake history replica row → CanPut replicas replica row
+    → CanTakeRow history replica row → CanPut replicas replica row
 takes_row replicas history replica row holds can =
     let range = replica.range in
     let slot = replica.slot in

@@ -18,7 +18,7 @@ use Rattle.mon_value.specs.declared.positions.Range.{Range}
 use Rattle.mon_value.specs.declared.positions.Slot.{Slot}
 use Rattle.mon_value.specs.declared.rows.Row.{Row}
 use Rattle.mon_value.specs.declared.rows.SeriesKey.{SeriesKey}
-use Rattle.leaf_store.specs.within.Raises.{Adds, HoldsBuckets, IsKnown}
+use Rattle.leaf_store.specs.within.Raises.{AddsBuckets, HoldsBuckets, IsKnown}
 use Rattle.leaf_store.specs.within.Replicas.{HoldsHistory, Replicas}
 
 among_both : (bucket : ℕ) (xs ys : List ℕ) → is_among bucket (xs ++ ys) ≡ (is_among bucket xs || is_among bucket ys)
@@ -120,7 +120,7 @@ module _ (buckets_of : SeriesKey → List ℕ) where
   -- an entry of a known series adds none
   pub known_adds : (replicas : Replicas) (set : ℕ → Bool) (e : Entry) → HoldsBuckets replicas buckets_of set
       → IsKnown replicas e
-      → Adds set set (rows_buckets buckets_of (brought_rows e))
+      → AddsBuckets set set (rows_buckets buckets_of (brought_rows e))
   known_adds replicas set (entry.Opened pass range slot rows) holds known bucket = absurd known
   known_adds replicas set (entry.Put pass range slot row) holds known bucket =
       in_set (set bucket) (is_among bucket (rows_buckets buckets_of (row ∷ [])))

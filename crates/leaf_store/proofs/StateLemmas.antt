@@ -16,8 +16,8 @@ use Rattle.mon_hints.specs.HistoryBuckets.{history_buckets, rows_buckets}
 use Rattle.mon_value.specs.LeafHistories.{brought_rows}
 use Rattle.leaf_store.specs.LeafBuckets.{key_buckets}
 use Rattle.leaf_store.specs.declared.kept.Kept.{Kept}
-use Rattle.leaf_store.specs.within.Raises.{Adds}
-use Rattle.leaf_store.specs.within.Replicas.{AllHaveRows, Holds, Replicas, shown_entries}
+use Rattle.leaf_store.specs.within.Raises.{AddsBuckets}
+use Rattle.leaf_store.specs.within.Replicas.{AllHaveRows, IsInTwoParts, Replicas, shown_entries}
 use Rattle.leaf_store.specs.within.States.{AllSwitches}
 use Rattle.leaf_store.proofs.BucketLemmas.{history_more}
 use Rattle.leaf_store.proofs.EntryLemmas.{shown_count}
@@ -31,8 +31,8 @@ history_push first fresh moved last within =
     ∙ sym (append_assoc first (drop moved fresh) (last ∷ []))
 
 pub holds_push : (replicas : Replicas) (ks : List Kept) (fresh : List Entry) (moved : ℕ) (last : Entry) → moved
-    ≤ length fresh → Holds replicas ks (drop moved fresh)
-    → IsWellFormed ((shown_entries replicas ks ++ drop moved fresh) ++ last ∷ []) → Holds replicas ks
+    ≤ length fresh → IsInTwoParts replicas ks (drop moved fresh)
+    → IsWellFormed ((shown_entries replicas ks ++ drop moved fresh) ++ last ∷ []) → IsInTwoParts replicas ks
     (drop moved (fresh ++ last ∷ []))
 holds_push replicas ks fresh moved last within holds formed = record {
   there = holds.there;
@@ -98,7 +98,7 @@ no_rows buckets held (entry.Up pass) is = refl
 
 pub raised_push : (old new : ℕ → Bool) (buckets : ℕ) (held : SchemaLists) (history : List Entry) (last : Entry)
     → HasBuckets old buckets held history
-    → Adds old new (rows_buckets (key_buckets buckets held) (brought_rows last)) → HasBuckets new buckets held
+    → AddsBuckets old new (rows_buckets (key_buckets buckets held) (brought_rows last)) → HasBuckets new buckets held
     (history ++ last ∷ [])
 raised_push old new buckets held history last has adds bucket =
     let own = rows_buckets (key_buckets buckets held) (brought_rows last) in
@@ -126,11 +126,11 @@ history_count replicas ks fresh moved there within =
 -- ---- a leaf to which nothing happened
 
 pub nothing_holds : (replicas : Replicas) (ks : List Kept) (fresh : List Entry) → replicas ≡ [] → ks ≡ [] → fresh ≡ []
-    → Holds replicas ks (drop 0 fresh)
+    → IsInTwoParts replicas ks (drop 0 fresh)
 nothing_holds replicas ks fresh none kept left =
-    subst (λ (rs : Replicas). Holds rs ks (drop 0 fresh)) (sym none)
-    (subst (λ (all : List Kept). Holds [] all (drop 0 fresh)) (sym kept)
-    (subst (λ (es : List Entry). Holds [] [] (drop 0 es)) (sym left)
+    subst (λ (rs : Replicas). IsInTwoParts rs ks (drop 0 fresh)) (sym none)
+    (subst (λ (all : List Kept). IsInTwoParts [] all (drop 0 fresh)) (sym kept)
+    (subst (λ (es : List Entry). IsInTwoParts [] [] (drop 0 es)) (sym left)
     (record { there = tt; formed = tt; holds = λ range slot. refl })))
 
 pub no_history : (replicas : Replicas) (ks : List Kept) (fresh : List Entry) → replicas ≡ [] → ks ≡ [] → fresh ≡ []

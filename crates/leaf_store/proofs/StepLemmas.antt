@@ -17,8 +17,9 @@ use Rattle.mon_value.specs.declared.rows.Row.{Row}
 use Rattle.leaf_store.specs.LeafStates.{opened_rows}
 use Rattle.leaf_store.specs.declared.kept.Kept.{Kept}
 use Rattle.leaf_store.specs.declared.replicas.Replica.{Replica}
-use Rattle.leaf_store.specs.within.Replicas.{AllHaveRows, CanPut, CanSettle, Holds, HoldsHistory, IsNew, Replicas}
-use Rattle.leaf_store.specs.within.Replicas.{Settles, all_rows, entry_of, rows_held, shown_entries}
+use Rattle.leaf_store.specs.within.Replicas.{AllHaveRows, CanPut, CanSettle, IsInTwoParts, HoldsHistory, IsNewReplica}
+use Rattle.leaf_store.specs.within.Replicas.{Replicas}
+use Rattle.leaf_store.specs.within.Replicas.{SettlesEntry, rows_if_kept, entry_of, rows_held, shown_entries}
 use Rattle.leaf_store.specs.within.States.{AllSwitches}
 use Rattle.leaf_store.proofs.EntryLemmas.{shown_count, shown_kept, shown_push, shown_take, there_push}
 use Rattle.mon_value.proofs.LeafHistoryLemmas.{follows, front, no_rows, replica_rows-push}
@@ -26,7 +27,8 @@ use Rattle.leaf_store.proofs.ReplicaLemmas.{switch_rows}
 
 -- ---- one entry
 
-pub can_settle : (replicas : Replicas) (ks : List Kept) (e : Entry) (rest : List Entry) → Holds replicas ks (e ∷ rest)
+pub can_settle : (replicas : Replicas) (ks : List Kept) (e : Entry) (rest : List Entry)
+    → IsInTwoParts replicas ks (e ∷ rest)
     → CanSettle replicas e
 can_settle replicas ks e rest holds = record {
   history = shown_entries replicas ks;
@@ -36,8 +38,9 @@ can_settle replicas ks e rest holds = record {
 }
 
 pub settled : (old new : Replicas) (ks : List Kept) (own : Kept) (e : Entry) (rest : List Entry)
-    → Holds old ks (e ∷ rest) → Settles old new e own
-    → Holds new (ks ++ own ∷ []) rest × (shown_entries new (ks ++ own ∷ []) ++ rest ≡ shown_entries old ks ++ e ∷ rest)
+    → IsInTwoParts old ks (e ∷ rest) → SettlesEntry old new e own
+    → IsInTwoParts new (ks ++ own ∷ []) rest
+    × (shown_entries new (ks ++ own ∷ []) ++ rest ≡ shown_entries old ks ++ e ∷ rest)
 settled old new ks own e rest holds settles =
     let stays = shown_kept old new ks settles.keeps holds.there in
     let now : shown_entries new (ks ++ own ∷ []) ≡ shown_entries old ks ++ e ∷ [] =
@@ -77,7 +80,7 @@ can_put replicas pass replica row can =
 
 pub is_new : (replicas : Replicas) (pass : ℕ) (replica : Replica) (rows : List Row) → CanSettle replicas
     (entry.Opened pass replica.range replica.slot rows)
-    → IsNew replicas replica
+    → IsNewReplica replicas replica
 is_new replicas pass replica rows can =
     can.holds replica.range replica.slot
     ∙ unopened_held (is_opened replica.range replica.slot can.history) (replica_rows replica.range replica.slot
@@ -168,13 +171,13 @@ rows_early range slot replicas ks left cut there less =
     ∙ sym (take-append-le cut (shown_entries replicas ks) left within))
 
 held_all : (b : Bool) (own : List Row) (rows : Option (List Row)) → rows ≡ cond b (Some own) None
-    → (b ≡ false → own ≡ []) → all_rows rows ≡ own
-held_all true own rows is none = ap all_rows is
-held_all false own rows is none = ap all_rows is ∙ sym (none refl)
+    → (b ≡ false → own ≡ []) → rows_if_kept rows ≡ own
+held_all true own rows is none = ap rows_if_kept is
+held_all false own rows is none = ap rows_if_kept is ∙ sym (none refl)
 
 pub rows_late : (range : Range) (slot : Slot) (replicas : Replicas) (ks : List Kept) (left : List Entry) (cut : ℕ)
-    → Holds replicas ks left → length ks ≤ cut
-    → all_rows (rows_held replicas range slot) ++ replica_rows range slot (take (cut - length ks) left)
+    → IsInTwoParts replicas ks left → length ks ≤ cut
+    → rows_if_kept (rows_held replicas range slot) ++ replica_rows range slot (take (cut - length ks) left)
     ≡ replica_rows range slot (take cut (shown_entries replicas ks ++ left))
 rows_late range slot replicas ks left cut holds more =
     let first = shown_entries replicas ks in

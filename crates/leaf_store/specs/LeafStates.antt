@@ -43,8 +43,8 @@ with_settled leaf =
     }
 
 -- a leaf to which an entry came: one with rows spends a promise, and waits to be settled
-abbrev pub with_entry : LeafView → Entry → LeafView
-with_entry leaf entry = record {
+abbrev pub leaf_with_entry : LeafView → Entry → LeafView
+leaf_with_entry leaf entry = record {
   schemas = leaf.schemas;
   buckets = leaf.buckets;
   history = leaf.history ++ entry ∷ [];

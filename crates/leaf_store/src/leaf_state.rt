@@ -11,8 +11,8 @@ ghost use Rattle.mon_value.specs.LeafHistories.{is_opened, is_switch, replica_ro
 ghost use Rattle.mon_value.specs.Sources.{IsSource};
 ghost use Rattle.mon_hints.specs.HistoryBuckets.{history_buckets};
 ghost use Rattle.leaf_store.specs.LeafBuckets.{key_buckets, is_unraised};
-ghost use Rattle.leaf_store.specs.LeafStates.{new_leaf, opened_rows, with_entry, with_promised, with_settled};
-ghost use Rattle.leaf_store.specs.within.Follows.{CanTake};
+ghost use Rattle.leaf_store.specs.LeafStates.{new_leaf, opened_rows, leaf_with_entry, with_promised, with_settled};
+ghost use Rattle.leaf_store.specs.within.Follows.{CanTakeRow};
 
 use crate::kept::KeptEntries;
 use crate::raised::{Raised, raise};
@@ -201,8 +201,8 @@ impl LeafState {
     fn may_put(&self, replica: Replica, row: &Row) -> bool
         requires settled { IsTrue self.now.settled }
         ensures formed { IsWellFormed self.now.history }
-        ensures may { IsTrue result → CanTake self.now.history replica row.now }
-        ensures refused { result ≡ false → CanTake self.now.history replica row.now → ⊥ }
+        ensures may { IsTrue result → CanTakeRow self.now.history replica row.now }
+        ensures refused { result ≡ false → CanTakeRow self.now.history replica row.now → ⊥ }
     {
         if self.down {
             return false;
@@ -229,7 +229,7 @@ impl LeafState {
     pub fn apply(&mut self, entry: Entry)
         requires follows { IsWellFormed (self.old.history ++ entry ∷ []) }
         requires promised { is_switch entry ≡ false → 1 ≤ self.old.promised }
-        ensures applied { self.new ≡ with_entry self.old entry }
+        ensures applied { self.new ≡ leaf_with_entry self.old entry }
     {
         match switch_of(&entry) {
             Some(down) => {

@@ -5,7 +5,7 @@ ghost use Rattle.mon_hints.specs.Hints.{series_buckets};
 ghost use Rattle.mon_hints.specs.Listings.{is_among};
 ghost use Rattle.mon_hints.specs.HistoryBuckets.{rows_buckets};
 ghost use Rattle.leaf_store.specs.LeafBuckets.{key_buckets};
-ghost use Rattle.leaf_store.specs.within.Raises.{Adds, AddsEntry, HoldsBuckets, IsKnown, is_left};
+ghost use Rattle.leaf_store.specs.within.Raises.{AddsBuckets, AddsEntry, HoldsBuckets, IsKnown, is_left};
 
 use crate::replicas::{Replica, Replicas, has_series};
 use mon_hints::next_bucket;
@@ -62,7 +62,7 @@ impl Raised {
     fn add_rows(&mut self, schemas: &Schemas, buckets: u32, rows: &[Row])
         requires some { 0 < buckets }
         requires most { buckets ≤ MOST_BUCKETS }
-        ensures added { Adds (is_set self.old.words) (is_set self.new.words)
+        ensures added { AddsBuckets (is_set self.old.words) (is_set self.new.words)
             (rows_buckets (key_buckets buckets schemas.now) rows.now) }
     {
         for row in rows {
@@ -74,7 +74,8 @@ impl Raised {
     fn add_key(&mut self, schemas: &Schemas, buckets: u32, key: &SeriesKey)
         requires some { 0 < buckets }
         requires most { buckets ≤ MOST_BUCKETS }
-        ensures added { Adds (is_set self.old.words) (is_set self.new.words) (key_buckets buckets schemas.now key.now) }
+        ensures added { AddsBuckets (is_set self.old.words) (is_set self.new.words)
+            (key_buckets buckets schemas.now key.now) }
     {
         let Some(target) = schemas.target(key.target.schema.as_bytes()) else {
             return;
@@ -95,7 +96,7 @@ impl Raised {
     )
         requires some { 0 < buckets }
         requires most { buckets ≤ MOST_BUCKETS }
-        ensures added { Adds (is_set self.old.words) (is_set self.new.words)
+        ensures added { AddsBuckets (is_set self.old.words) (is_set self.new.words)
             (series_buckets buckets target.now metric.now key.now) }
     {
         let mut from = 0;

@@ -1,7 +1,8 @@
 // How the entries of a history reach replicas, and what they brought to one.
 ghost use Rattle.std.specs.Prelude.{◌≡◌, ◌≤◌, ◌++◌, length, drop, take, is_some, IfOk, IfSome, OnOk, true};
 ghost use Rattle.mon_value.specs.LeafHistories.{entry_rows, replica_rows};
-ghost use Rattle.leaf_store.specs.within.Replicas.{AllHaveRows, Holds, SameHistory, all_rows, entry_of, rows_held};
+ghost use Rattle.leaf_store.specs.within.Replicas.{AllHaveRows, IsInTwoParts, SameHistory, rows_if_kept, entry_of};
+ghost use Rattle.leaf_store.specs.within.Replicas.{rows_held};
 ghost use Rattle.leaf_store.specs.within.Replicas.{shown_entries};
 
 use crate::kept::{Kept, KeptEntries};
@@ -20,11 +21,11 @@ pub(crate) fn settle_entries(
     moved: &mut usize,
 ) -> Result<(), OutOfMemory>
     requires within { moved.old ≤ length fresh.now }
-    requires holds { Holds replicas.old.entries kept.old.items (drop moved.old fresh.now) }
+    requires holds { IsInTwoParts replicas.old.entries kept.old.items (drop moved.old fresh.now) }
     ensures within { moved.new ≤ length fresh.now }
     ensures onward { moved.old ≤ moved.new }
-    ensures holds { Holds replicas.new.entries kept.new.items (drop moved.new fresh.now) }
-    ensures same { SameHistory replicas.old.entries kept.old.items (drop moved.old fresh.now)
+    ensures holds { IsInTwoParts replicas.new.entries kept.new.items (drop moved.new fresh.now) }
+    ensures history { SameHistory replicas.old.entries kept.old.items (drop moved.old fresh.now)
         replicas.new.entries kept.new.items (drop moved.new fresh.now) }
     ensures done { OnOk result (moved.new ≡ length fresh.now) }
 {
@@ -100,7 +101,7 @@ pub(crate) fn push_held(
     replica: Replica,
 ) -> Result<(), OutOfMemory>
     ensures added { OnOk result (rows.new ≡ rows.old
-        ++ all_rows (rows_held replicas.now.entries replica.range replica.slot)) }
+        ++ rows_if_kept (rows_held replicas.now.entries replica.range replica.slot)) }
 {
     match rows_of(replicas, replica) {
         Some(slot) => push_front(alloc, rows, slot, slot.rows().len()),

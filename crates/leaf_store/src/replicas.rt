@@ -4,8 +4,9 @@ ghost use Rattle.std.specs.Prelude.{OnOk};
 ghost use Rattle.std.specs.Option.{option_copied};
 ghost use Rattle.mon_value.specs.LeafHistories.{same_replica};
 ghost use Rattle.mon_value.specs.Sources.{IsSource, last_end, points_of};
-ghost use Rattle.leaf_store.specs.within.Replicas.{CanPut, CanSettle, HasSeries, IsLater, IsNew, IsOpened, IsPut};
-ghost use Rattle.leaf_store.specs.within.Replicas.{Settles, rows_held, rows_if};
+ghost use Rattle.leaf_store.specs.within.Replicas.{CanPut, CanSettle, HasSeries, IsLater, IsNewReplica, IsReplicaAdded};
+ghost use Rattle.leaf_store.specs.within.Replicas.{IsPut};
+ghost use Rattle.leaf_store.specs.within.Replicas.{SettlesEntry, rows_held, rows_if};
 
 use crate::kept::Kept;
 use crate::slot_rows::SlotRows;
@@ -39,8 +40,8 @@ pub(crate) fn rows_of(replicas: &Replicas, replica: Replica) -> Option<&SlotRows
 
 /// Whether a replica was never opened.
 pub(crate) fn is_new(replicas: &Replicas, replica: Replica) -> bool
-    ensures new { IsTrue result → IsNew replicas.now.entries replica }
-    ensures held { result ≡ false → IsNew replicas.now.entries replica → ⊥ }
+    ensures new { IsTrue result → IsNewReplica replicas.now.entries replica }
+    ensures held { result ≡ false → IsNewReplica replicas.now.entries replica → ⊥ }
 {
     rows_of(replicas, replica).is_none()
 }
@@ -103,7 +104,7 @@ pub(crate) fn settle_entry(
     entry: &Entry,
 ) -> Result<Kept, OutOfMemory>
     requires settles { CanSettle replicas.old.entries entry.now }
-    ensures settled { IfOk result (λ kept. Settles replicas.old.entries replicas.new.entries entry.now kept) }
+    ensures settled { IfOk result (λ kept. SettlesEntry replicas.old.entries replicas.new.entries entry.now kept) }
     ensures stayed { OnErr result (replicas.new.entries ≡ replicas.old.entries) }
 {
     match entry {
@@ -154,8 +155,9 @@ fn open(
     rows: &[Row],
 ) -> Result<(u32, u32), OutOfMemory>
     requires source { IsSource rows.now }
-    requires fresh { IsNew replicas.old.entries replica }
-    ensures opened { IfOk result (λ at. IsOpened replicas.old.entries replicas.new.entries replica rows.now at.0 at.1) }
+    requires fresh { IsNewReplica replicas.old.entries replica }
+    ensures opened { IfOk result (λ at.
+        IsReplicaAdded replicas.old.entries replicas.new.entries replica rows.now at.0 at.1) }
     ensures stayed { OnErr result (replicas.new.entries ≡ replicas.old.entries) }
 {
     let Ok(number) = u32::try_from(replicas.len()) else {

@@ -2,6 +2,7 @@ pub mod AnchorLemmas
 pub mod ApartLoads
 pub mod ApartPieces
 pub mod ApartRows
+pub mod ApartTargets
 pub mod ApartTrees
 pub mod HeldCells
 pub mod JoinLoads

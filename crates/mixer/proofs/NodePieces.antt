@@ -9,7 +9,7 @@ use Rattle.mql_types.specs.Pieces.{AsRows, PartUse, ToCut, ToGroup, TopPart, par
 use Rattle.mql_types.specs.declared.levels.Level.{Level}
 use Rattle.mon_fold.specs.declared.answers.Piece.{Piece}
 use Rattle.mon_meaning.specs.Operations.{operation_rows}
-use Rattle.mon_meaning.specs.within.Paths.{first_input}
+use Rattle.mon_meaning.specs.within.Paths.{HasNoInput, first_input}
 use Rattle.mixer.specs.Mixing.{part_count}
 use Rattle.mixer.specs.within.Mixtures.{CanMix, Operates, OtherCanMix, Unless, pieces_behind_first, first_piece_rows}
 use Rattle.mixer.specs.within.Mixtures.{is_piece}
@@ -17,6 +17,17 @@ use Rattle.mixer.specs.within.Mixtures.{joins_from}
 use Rattle.mixer.specs.within.Mixtures.{other_count, other_piece_rows, own_joins, rows_from}
 
 -- ---- a node of which there is a piece
+
+-- rows begin at a piece
+pub source_is_piece : (here : Level → Bool) (tree : NodeTree) → HasNoInput tree → is_piece here tree ≡ true
+source_is_piece here (node.Fetch info schema metric) source = refl
+source_is_piece here (node.Filter info by input) source = absurd source
+source_is_piece here (node.Align info by input) source = refl
+source_is_piece here (node.GroupBy info by with input) source = absurd source
+source_is_piece here (node.Value info items input) source = absurd source
+source_is_piece here (node.Top info most column input) source = absurd source
+source_is_piece here (node.Join info left right) source = absurd source
+source_is_piece here (node.Union info left right) source = absurd source
 
 one_part : (b : Bool) (use_of : PartUse) (tree : NodeTree) (below : List TopPart) → b ≡ true
     → length (part_or b use_of tree below) ≡ 1

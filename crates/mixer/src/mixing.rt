@@ -11,7 +11,7 @@ ghost use Rattle.mixer.specs.ZoneAnswers.{AreLeafParts, AreZoneParts, HasLeafPar
 ghost use Rattle.mixer.specs.declared.zone_answers.ZoneAnswer.{ZoneAnswer as Answer};
 
 use crate::joining::pieces_together;
-use crate::mixtures::{Setting, mixed_rows};
+use crate::mixtures::{MixtureSetting, mixed_rows};
 use crate::zone_answers::{ZoneAnswer, ZoneAnswers};
 use crate::zone_pieces::zone_pieces;
 use mon_fold::{LeafAnswers, Pieces};
@@ -63,7 +63,7 @@ pub fn mix_root(
     let children = zone_children(alloc, zones, &mut meter)?;
     let tree = &plan.typed.tree;
     let pieces = pieces_together(alloc, tree, Level::Zone, children)?;
-    let setting = Setting {
+    let setting = MixtureSetting {
         alloc,
         below: Level::Zone,
     };

@@ -23,7 +23,7 @@ use std::vec::IntoIter;
 
 /// How rows are made of pieces: which level's pieces they are.
 #[derive(Clone, Copy)]
-pub(crate) struct Setting {
+pub(crate) struct MixtureSetting {
     pub alloc: Global,
     pub below: Level,
 }
@@ -32,7 +32,7 @@ pub(crate) struct Setting {
 /// right sides recurse: a text nests them, where it repeats operations and left sides.
 #[cycle(mixtures)]
 pub(crate) fn mixed_rows(
-    setting: Setting,
+    setting: MixtureSetting,
     tree: &Node,
     pieces: &mut IntoIter<Piece>,
     meter: &mut Meter,
@@ -61,7 +61,7 @@ pub(crate) fn mixed_rows(
 // The rows of an operation on those that flow into it first. The next pieces are those of its right side.
 #[cycle(mixtures)]
 fn rows_above(
-    setting: Setting,
+    setting: MixtureSetting,
     node: &Node,
     rows: TimedRows,
     pieces: &mut IntoIter<Piece>,
@@ -91,7 +91,7 @@ fn rows_above(
 // The rows of an operation's right side, and none where it has no such side.
 #[cycle(mixtures)]
 fn other_rows(
-    setting: Setting,
+    setting: MixtureSetting,
     node: &Node,
     pieces: &mut IntoIter<Piece>,
     meter: &mut Meter,

@@ -1,11 +1,11 @@
 // The way down a typed tree to the first of the parts of which there are pieces.
-ghost use Rattle.std.specs.Prelude.{◌≡◌, true, false, IfOk, IfSome, IsNone};
-ghost use Rattle.mql_types.specs.Nodes.{level_of, node_tree};
+ghost use Rattle.std.specs.Prelude.{◌≡◌, true, IfOk, IfSome, IsNone};
+ghost use Rattle.mql_types.specs.Nodes.{node_tree};
 ghost use Rattle.mon_meaning.specs.TopParts.{up_to};
 ghost use Rattle.mon_meaning.specs.within.Paths.{trees_of};
 ghost use Rattle.mixer.specs.within.Mixtures.{IsInput, IsWayDown, is_piece};
 
-use mon_meaning::is_up_to;
+use mon_meaning::{input_of, is_up_to};
 use mon_value::OutOfMemory;
 use mql_types::{Level, Node};
 use std::alloc::Global;
@@ -22,7 +22,7 @@ pub(crate) fn way_down<'a>(
 {
     let mut above = Vec::new(alloc);
     let mut end = tree;
-    while let Some(input) = input_of(end, below) {
+    while let Some(input) = input_above_pieces(end, below) {
         above.push(end)?;
         end = input;
     }
@@ -30,67 +30,30 @@ pub(crate) fn way_down<'a>(
 }
 
 // What rows flow in first; none where there is a piece.
-fn input_of(node: &Node, below: Level) -> Option<&Node>
+#[tactic(auto, using(crate::proofs::NodePieces::source_is_piece))]
+fn input_above_pieces(node: &Node, below: Level) -> Option<&Node>
     ensures input { IfSome result (λ input. IsInput (up_to below) (node_tree node.now) (node_tree input.now)) }
     ensures piece { IsNone result → is_piece (up_to below) (node_tree node.now) ≡ true }
 {
-    if is_up_to(node.info().level, below) {
+    if has_piece(node, below) {
         return None;
     }
-    match node {
-        Node::Filter {
-            info: _,
-            by: _,
-            input,
-        } => Some(input),
-        Node::GroupBy {
-            info: _,
-            by: _,
-            with: _,
-            input,
-        } => unless_piece(input, below),
-        Node::Value {
-            info: _,
-            items: _,
-            input,
-        } => Some(input),
-        Node::Top {
-            info: _,
-            most: _,
-            column: _,
-            input,
-        } => Some(input),
-        Node::Join {
-            info: _,
-            left,
-            right: _,
-        } => Some(left),
-        Node::Union {
-            info: _,
-            left,
-            right: _,
-        } => Some(left),
-        Node::Fetch {
-            info: _,
-            schema: _,
-            metric: _,
-        } => None,
-        Node::Align {
-            info: _,
-            by: _,
-            input: _,
-        } => None,
-    }
+    input_of(node)
 }
 
-// What flows into a grouping, unless there is a piece of its groups.
-fn unless_piece(input: &Node, below: Level) -> Option<&Node>
-    ensures input { IfSome result (λ given.
-        (given.now ≡ input.now) × (up_to below (level_of (node_tree input.now)) ≡ false)) }
-    ensures piece { IsNone result → up_to below (level_of (node_tree input.now)) ≡ true }
+// Whether there is a piece of a node: it is done here, or rows begin there, or it groups what is done here.
+fn has_piece(node: &Node, below: Level) -> bool
+    ensures piece { result ≡ is_piece (up_to below) (node_tree node.now) }
 {
-    if is_up_to(input.info().level, below) {
-        return None;
+    match node {
+        Node::Fetch { .. } | Node::Align { .. } => true,
+        Node::GroupBy { info, input, .. } => {
+            is_up_to(info.level, below) || is_up_to(input.info().level, below)
+        }
+        Node::Filter { info, .. }
+        | Node::Value { info, .. }
+        | Node::Top { info, .. }
+        | Node::Join { info, .. }
+        | Node::Union { info, .. } => is_up_to(info.level, below),
     }
-    Some(input)
 }

@@ -12,7 +12,7 @@ ghost use Rattle.mixer.specs.within.Mixtures.{joins_from};
 ghost use Rattle.mixer.specs.within.ZonePieces.{AreHandedUp, CanHandUp, CanHandUpAll, IsHandedUp, behind_part};
 ghost use Rattle.mixer.specs.within.ZonePieces.{joins_of_parts, piece_cut};
 
-use crate::mixtures::{Setting, mixed_rows};
+use crate::mixtures::{MixtureSetting, mixed_rows};
 use mon_fold::{Piece, Pieces};
 use mon_meaning::{GoesUp, Meter, OverLimit, TopPart, is_up_to, piece_of, top_parts, top_rows};
 use mon_value::{OutOfMemory, Refusal, Table};
@@ -71,7 +71,7 @@ fn zone_piece(
         };
         return Ok(cut_piece(alloc, part.goes_up, piece)?);
     }
-    let setting = Setting {
+    let setting = MixtureSetting {
         alloc,
         below: Level::Leaf,
     };

@@ -26,16 +26,16 @@ pub use Rattle.mon_config.specs.Numbers.{is_bucket_count, is_limit}
 use Rattle.mon_config.specs.Shapes.{absent_key, list_in, object_of, optional_key, required_key, value_or_here}
 
 -- the keys that an object may have
-abbrev pub keys_of : ObjectForm → List (List ℕ)
-keys_of form.Configuration =
+abbrev pub keys_of_form : ObjectForm → List (List ℕ)
+keys_of_form form.Configuration =
     codes "buckets" ∷ codes "limit" ∷ codes "range_points" ∷ codes "targets" ∷ codes "metrics" ∷ codes "zones" ∷ []
-keys_of form.Target = codes "name" ∷ codes "fields" ∷ []
-keys_of form.TargetField = codes "name" ∷ codes "type" ∷ codes "location" ∷ []
-keys_of form.Metric =
+keys_of_form form.Target = codes "name" ∷ codes "fields" ∷ []
+keys_of_form form.TargetField = codes "name" ∷ codes "type" ∷ codes "location" ∷ []
+keys_of_form form.Metric =
     codes "name" ∷ codes "kind" ∷ codes "type" ∷ codes "bounds" ∷ codes "column" ∷ codes "fields" ∷ []
-keys_of form.MetricField = codes "name" ∷ codes "type" ∷ []
-keys_of form.Zone = codes "name" ∷ codes "locations" ∷ codes "leaves" ∷ codes "ranges" ∷ []
-keys_of form.Range = codes "from" ∷ codes "leaves" ∷ []
+keys_of_form form.MetricField = codes "name" ∷ codes "type" ∷ []
+keys_of_form form.Zone = codes "name" ∷ codes "locations" ∷ codes "leaves" ∷ codes "ranges" ∷ []
+keys_of_form form.Range = codes "from" ∷ codes "leaves" ∷ []
 
 -- ---- values
 
@@ -70,7 +70,7 @@ field_type_in d = value_or_here (option_and_then field_type_of (as_str d))
 
 unfoldable pub target_field_in : Data → Result Field (List ℕ)
 target_field_in d = do
-  known ← object_of (keys_of form.TargetField) d
+  known ← object_of (keys_of_form form.TargetField) d
   name ← required_key (codes "name") text_of_data d
   typed ← required_key (codes "type") field_type_in d
   location ← optional_key false (codes "location") truth_in d
@@ -78,7 +78,7 @@ target_field_in d = do
 
 unfoldable pub target_in : Data → Result TargetSchema (List ℕ)
 target_in d = do
-  known ← object_of (keys_of form.Target) d
+  known ← object_of (keys_of_form form.Target) d
   name ← required_key (codes "name") text_of_data d
   fields ← required_key (codes "fields") (list_in target_field_in) d
   Ok (record { name = name; fields = fields })
@@ -86,19 +86,19 @@ target_in d = do
 -- a metric's field says nothing of the location
 unfoldable pub metric_field_in : Data → Result Field (List ℕ)
 metric_field_in d = do
-  known ← object_of (keys_of form.MetricField) d
+  known ← object_of (keys_of_form form.MetricField) d
   name ← required_key (codes "name") text_of_data d
   typed ← required_key (codes "type") field_type_in d
   Ok (record { name = name; of = typed; location = false })
 
-abbrev pub kind_of : List ℕ → Option Kind
-kind_of word =
+abbrev pub kind_named : List ℕ → Option Kind
+kind_named word =
     if same_text word (codes "gauge") then Some kind.Gauge
     else if same_text word (codes "delta") then Some kind.Delta
     else None
 
 abbrev pub kind_in : Data → Result Kind (List ℕ)
-kind_in d = value_or_here (option_and_then kind_of (as_str d))
+kind_in d = value_or_here (option_and_then kind_named (as_str d))
 
 -- a type, with no bounds yet
 abbrev pub value_type_of : List ℕ → Option ValueType
@@ -121,7 +121,7 @@ with_bounds type.Text d = absent_key (codes "bounds") d >>= λ none. Ok type.Tex
 
 unfoldable pub metric_in : Data → Result MetricSchema (List ℕ)
 metric_in d = do
-  known ← object_of (keys_of form.Metric) d
+  known ← object_of (keys_of_form form.Metric) d
   name ← required_key (codes "name") text_of_data d
   what ← required_key (codes "kind") kind_in d
   typed ← required_key (codes "type") value_type_in d
@@ -143,14 +143,14 @@ field_value_in (object keys) = Err []
 
 unfoldable pub range_in : Data → Result RangeSpec (List ℕ)
 range_in d = do
-  known ← object_of (keys_of form.Range) d
+  known ← object_of (keys_of_form form.Range) d
   bound ← required_key (codes "from") (list_in field_value_in) d
   leaves ← required_key (codes "leaves") (list_in text_of_data) d
   Ok (record { from = bound; leaves = leaves })
 
 unfoldable pub zone_in : Data → Result ZoneSpec (List ℕ)
 zone_in d = do
-  known ← object_of (keys_of form.Zone) d
+  known ← object_of (keys_of_form form.Zone) d
   name ← required_key (codes "name") text_of_data d
   locations ← required_key (codes "locations") (list_in text_of_data) d
   leaves ← required_key (codes "leaves") (list_in text_of_data) d
@@ -161,7 +161,7 @@ zone_in d = do
 
 unfoldable pub parts_in : Data → Result Parts (List ℕ)
 parts_in d = do
-  known ← object_of (keys_of form.Configuration) d
+  known ← object_of (keys_of_form form.Configuration) d
   buckets ← optional_key 1024 (codes "buckets") (number_of_data is_bucket_count) d
   limit ← optional_key 1000000 (codes "limit") (number_of_data is_limit) d
   range_points ← optional_key 1000000 (codes "range_points") (number_of_data is_limit) d

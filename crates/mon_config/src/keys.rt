@@ -27,7 +27,7 @@ pub enum ObjectForm {
 impl ObjectForm {
     // Whether the object may have a key.
     fn knows(self, key: &str) -> bool
-        ensures known { result ≡ list_any (same_text key.now) (spec.keys_of self) }
+        ensures known { result ≡ list_any (same_text key.now) (spec.keys_of_form self) }
     {
         match self {
             ObjectForm::Configuration => is_configuration_key(key),
@@ -42,7 +42,7 @@ impl ObjectForm {
 }
 
 fn is_configuration_key(key: &str) -> bool
-    ensures known { result ≡ list_any (same_text key.now) (spec.keys_of ObjectForm.Configuration) }
+    ensures known { result ≡ list_any (same_text key.now) (spec.keys_of_form ObjectForm.Configuration) }
 {
     key == "buckets"
         || key == "limit"
@@ -53,7 +53,7 @@ fn is_configuration_key(key: &str) -> bool
 }
 
 fn is_metric_key(key: &str) -> bool
-    ensures known { result ≡ list_any (same_text key.now) (spec.keys_of ObjectForm.Metric) }
+    ensures known { result ≡ list_any (same_text key.now) (spec.keys_of_form ObjectForm.Metric) }
 {
     key == "name"
         || key == "kind"
@@ -64,7 +64,7 @@ fn is_metric_key(key: &str) -> bool
 }
 
 fn is_zone_key(key: &str) -> bool
-    ensures known { result ≡ list_any (same_text key.now) (spec.keys_of ObjectForm.Zone) }
+    ensures known { result ≡ list_any (same_text key.now) (spec.keys_of_form ObjectForm.Zone) }
 {
     key == "name" || key == "locations" || key == "leaves" || key == "ranges"
 }
@@ -72,7 +72,7 @@ fn is_zone_key(key: &str) -> bool
 // The least by bytes of the keys that the object may not have: the map has its keys in that order.
 fn unknown_in(form: ObjectForm, members: &Map<String, Value>) -> Option<&String>
     ensures unknown { option_map (λ key. string_bytes key.now) result
-        ≡ unknown_in (spec.keys_of form) (members_view members.now.entries) }
+        ≡ unknown_in (spec.keys_of_form form) (members_view members.now.entries) }
 {
     for key in members.keys() {
         if !form.knows(key.as_str()) {
@@ -84,7 +84,7 @@ fn unknown_in(form: ObjectForm, members: &Map<String, Value>) -> Option<&String>
 
 /// The value is an object, and each of its keys is one that it may have.
 pub(crate) fn object_in(alloc: Global, form: ObjectForm, value: &Value) -> Shaped<bool>
-    ensures keys { Gives result (object_of (spec.keys_of form) (view value.now)) }
+    ensures keys { Gives result (object_of (spec.keys_of_form form) (view value.now)) }
 {
     let Some(members) = value.as_object() else {
         return wrong_form(alloc);

@@ -3,6 +3,7 @@ use Rattle.std.specs.Prelude.{◌≡◌, ◌<◌, ◌≤◌, ℕ, ℤ, pos, ◌+
 use Rattle.std.specs.Prelude.{length, sum, slice_get, Option, Some, None, option_map, option_and_then, if◌then◌else◌}
 use Rattle.std.specs.List.{AllByRecursion}
 use Rattle.std.specs.Option.{ForSome, option_map_or}
+use Rattle.mon_value.specs.declared.limits.TheConstants.{NUMBER_BITS}
 use Rattle.mon_value.specs.Distributions.{percentile_of}
 use Rattle.mon_value.specs.Groups.{number_in, counts_in}
 use Rattle.mon_value.specs.Limits.{greatest_sum}
@@ -55,8 +56,8 @@ bound_value (bound.Terms terms) cells = option_map value.Int (terms_total terms 
 -- how much a term counts at most, whether it is added or taken away: a number and a percentile have 64 bits
 abbrev pub term_size : Term → List Value → ℕ
 term_size (term.Column place) cells = option_map_or unsigned_abs (option_and_then number_in (slice_get cells place)) 0
-term_size (term.Number z) cells = 2 ^ 63
-term_size (term.Percentile place bounds p) cells = 2 ^ 63
+term_size (term.Number z) cells = 2 ^ NUMBER_BITS
+term_size (term.Percentile place bounds p) cells = 2 ^ NUMBER_BITS
 
 abbrev pub terms_size : List SignedTerm → List Value → ℕ
 terms_size [] cells = 0

@@ -1,6 +1,7 @@
 // Sums whose columns were found once for all rows of a table.
 ghost use Rattle.std.specs.Prelude.{◌≡◌, ◌<◌, ◌≤◌, ◌+◌, ◌^◌, ◌++◌, ◌∷◌, [], Bool, false, IfOk, IfSome, OnOk};
 ghost use Rattle.std.specs.Prelude.{unsigned_abs, option_and_then, slice_get};
+ghost use Rattle.mon_value.specs.declared.limits.TheConstants.{NUMBER_BITS};
 ghost use Rattle.mon_value.specs.Distributions as distribution;
 ghost use Rattle.mon_value.specs.Limits.{greatest_sum};
 ghost use Rattle.mon_value.specs.Groups.{number_in};
@@ -127,7 +128,7 @@ fn percentile_at(place: usize, bounds: &Bounds, p: u8, cells: &Cells) -> Option<
     requires can { ForSome (bound.counts_at place cells.now) (CanDivide bounds.now p) }
     ensures percentile { result ≡ option_and_then (λ counts. distribution.percentile_of counts bounds.now p)
         (bound.counts_at place cells.now) }
-    ensures small { IfSome result (λ number. unsigned_abs number ≤ 2 ^ 63) }
+    ensures small { IfSome result (λ number. unsigned_abs number ≤ 2 ^ NUMBER_BITS) }
 {
     let counts = counts_at(place, cells)?;
     percentile_of(counts, bounds, p)
@@ -147,7 +148,7 @@ fn counts_at<'a>(place: usize, cells: &'a Cells) -> Option<&'a Counts>
 fn percentile_of(counts: &Counts, bounds: &Bounds, p: u8) -> Option<i128>
     requires can { CanDivide bounds.now p counts.now }
     ensures percentile { result ≡ distribution.percentile_of counts.now bounds.now p }
-    ensures small { IfSome result (λ number. unsigned_abs number ≤ 2 ^ 63) }
+    ensures small { IfSome result (λ number. unsigned_abs number ≤ 2 ^ NUMBER_BITS) }
 {
     Some(i128::from(counts.percentile(bounds, p)?))
 }

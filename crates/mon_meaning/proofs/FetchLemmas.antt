@@ -19,7 +19,8 @@ use Rattle.mql_types.specs.Loads.{lets_in, meets, names_keys, series_cells}
 use Rattle.mql_types.specs.Meaning.{is_fetched}
 use Rattle.mql_types.specs.Nodes as node
 use Rattle.mql_types.specs.Nodes.{NodeTree}
-use Rattle.mon_meaning.specs.within.FetchViews.{FetchView, FetchesNothing, IsFetchOf, all_hold, is_fetch_met, keeps}
+use Rattle.mon_meaning.specs.within.FetchViews.{FetchView, FetchesNothing, IsFetchOf, all_filters_hold, is_fetch_met}
+use Rattle.mon_meaning.specs.within.FetchViews.{keeps}
 use Rattle.mon_meaning.specs.within.FetchViews.{met_rows, points_kept}
 use Rattle.mon_meaning.specs.within.MetSeries.{CanAlignMet, is_counted, met_count}
 use Rattle.mon_meaning.specs.within.Reach.{points_within_reach}
@@ -115,8 +116,8 @@ module _ (grid : Grid) (by : Aligner) (input : NodeTree) (fetch : FetchView) (is
   keeps_met : (key : SeriesKey) → (fetches_series input key ≡ true → KeysDecide input key) → meets input key ≡ true
       → (value : Value) → keeps fetch key value ≡ flows input key value
   keeps_met key decided met value =
-      keeps_by (is_fetched fetch.schema fetch.metric key) (all_hold fetch.of_series (series_cells key))
-      (all_hold fetch.of_series (cells_of key value)) (keeps fetch key value) (flows input key value)
+      keeps_by (is_fetched fetch.schema fetch.metric key) (all_filters_hold fetch.of_series (series_cells key))
+      (all_filters_hold fetch.of_series (cells_of key value)) (keeps fetch key value) (flows input key value)
       (is.met key ∙ met) (is.decided key value (decided (met_fetched input key met))) (is.flowing key value)
 
   points_met : (one : SeriesGroup) → (fetches_series input one.0 ≡ true → KeysDecide input one.0) → meets input one.0

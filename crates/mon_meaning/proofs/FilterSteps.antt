@@ -13,18 +13,19 @@ use Rattle.mql_types.specs.Loads.{meets, names_keys, series_cells}
 use Rattle.mql_types.specs.Nodes as node
 use Rattle.mql_types.specs.Nodes.{NodeTree}
 use Rattle.mql_types.specs.declared.nodes.NodeInfo.{NodeInfo}
-use Rattle.mon_meaning.specs.within.FetchViews.{all_hold}
+use Rattle.mon_meaning.specs.within.FetchViews.{all_filters_hold}
 use Rattle.mon_meaning.specs.within.KeyFilters.{KeysDecide}
 use Rattle.mon_meaning.specs.within.SeriesMeaning.{flows}
 
 -- the filters so far, with what is left below them, say what the whole part says
 pub record Remains (input rest : NodeTree) (of_series of_points : List BoundPredicate) : Type 0 where
-  pub met : (key : SeriesKey) → (all_hold of_series (series_cells key) && meets rest key) ≡ meets input key
+  pub met : (key : SeriesKey) → (all_filters_hold of_series (series_cells key) && meets rest key) ≡ meets input key
   pub flowing : (key : SeriesKey) (value : Value)
-      → ((all_hold of_series (cells_of key value) && all_hold of_points (cells_of key value)) && flows rest key value)
-      ≡ flows input key value
+      → ((all_filters_hold of_series (cells_of key value) && all_filters_hold of_points (cells_of key value))
+      && flows rest key value) ≡ flows input key value
   pub decided : (key : SeriesKey) (value : Value) → KeysDecide input key
-      → (all_hold of_series (cells_of key value) ≡ all_hold of_series (series_cells key)) × KeysDecide rest key
+      → (all_filters_hold of_series (cells_of key value) ≡ all_filters_hold of_series (series_cells key))
+      × KeysDecide rest key
 
 pub begins : (input : NodeTree) → Remains input input [] []
 begins input = record { met = λ key. refl; flowing = λ key value. refl; decided = λ key value decide. (refl, decide) }
@@ -33,11 +34,11 @@ begins input = record { met = λ key. refl; flowing = λ key value. refl; decide
 
 one_more : (filters : List BoundPredicate) (bound : BoundPredicate) (by : PredicateTree) (columns : List Column)
     (cells : List Value)
-    → IsBoundPredicate bound by columns → all_hold (filters ++ bound ∷ []) cells
-    ≡ (all_hold filters cells && predicate_truth by columns cells)
+    → IsBoundPredicate bound by columns → all_filters_hold (filters ++ bound ∷ []) cells
+    ≡ (all_filters_hold filters cells && predicate_truth by columns cells)
 one_more filters bound by columns cells is =
     list_all-append (λ (b : BoundPredicate). bound_truth b cells) filters (bound ∷ [])
-    ∙ ap (λ b. all_hold filters cells && b) (alone (bound_truth bound cells) ∙ is cells)
+    ∙ ap (λ b. all_filters_hold filters cells && b) (alone (bound_truth bound cells) ∙ is cells)
   where
     alone : (b : Bool) → (b && true) ≡ b
     alone true = refl
@@ -73,15 +74,17 @@ module _ (input rest : NodeTree) (info : NodeInfo) (by : PredicateTree) (of_seri
   with_series keys = record {
     met = λ key.
         ap (λ b. b && meets rest key) (one_more of_series bound by info.columns (series_cells key) is)
-        ∙ met_series (all_hold of_series (series_cells key)) (predicate_truth by info.columns (series_cells key))
+        ∙ met_series (all_filters_hold of_series (series_cells key))
+        (predicate_truth by info.columns (series_cells key))
         (meets rest key)
-        ∙ ap (λ k. all_hold of_series (series_cells key)
+        ∙ ap (λ k. all_filters_hold of_series (series_cells key)
         && ((not k || predicate_truth by info.columns (series_cells key)) && meets rest key)) (sym keys)
         ∙ remains.met key;
     flowing = λ key value.
-        ap (λ b. (b && all_hold of_points (cells_of key value)) && flows rest key value)
+        ap (λ b. (b && all_filters_hold of_points (cells_of key value)) && flows rest key value)
         (one_more of_series bound by info.columns (cells_of key value) is)
-        ∙ flow_series (all_hold of_series (cells_of key value)) (all_hold of_points (cells_of key value))
+        ∙ flow_series (all_filters_hold of_series (cells_of key value))
+        (all_filters_hold of_points (cells_of key value))
         (predicate_truth by info.columns (cells_of key value)) (flows rest key value)
         ∙ remains.flowing key value;
     decided = λ key value decide.
@@ -96,15 +99,16 @@ module _ (input rest : NodeTree) (info : NodeInfo) (by : PredicateTree) (of_seri
   pub with_points : names_keys info.columns by ≡ false → Remains input rest of_series (of_points ++ bound ∷ [])
   with_points other = record {
     met = λ key.
-        met_points (all_hold of_series (series_cells key)) (predicate_truth by info.columns (series_cells key))
+        met_points (all_filters_hold of_series (series_cells key)) (predicate_truth by info.columns (series_cells key))
         (meets rest key)
-        ∙ ap (λ k. all_hold of_series (series_cells key)
+        ∙ ap (λ k. all_filters_hold of_series (series_cells key)
         && ((not k || predicate_truth by info.columns (series_cells key)) && meets rest key)) (sym other)
         ∙ remains.met key;
     flowing = λ key value.
-        ap (λ b. (all_hold of_series (cells_of key value) && b) && flows rest key value)
+        ap (λ b. (all_filters_hold of_series (cells_of key value) && b) && flows rest key value)
         (one_more of_points bound by info.columns (cells_of key value) is)
-        ∙ flow_points (all_hold of_series (cells_of key value)) (all_hold of_points (cells_of key value))
+        ∙ flow_points (all_filters_hold of_series (cells_of key value))
+        (all_filters_hold of_points (cells_of key value))
         (predicate_truth by info.columns (cells_of key value)) (flows rest key value)
         ∙ remains.flowing key value;
     decided = λ key value decide.

@@ -8,7 +8,7 @@ use Rattle.mon_expr.specs.declared.condition_lists.BoundPredicate.{BoundPredicat
 use Rattle.mon_value.specs.SeriesRows.{cells_of}
 use Rattle.mon_value.specs.declared.rows.Point.{Point}
 use Rattle.mon_value.specs.declared.rows.SeriesKey.{SeriesKey}
-use Rattle.mon_meaning.specs.within.FetchViews.{FetchView, all_hold, keeps, points_kept}
+use Rattle.mon_meaning.specs.within.FetchViews.{FetchView, all_filters_hold, keeps, points_kept}
 use Rattle.mon_meaning.specs.within.SeriesMeaning.{SeriesGroup}
 
 module _ (fetch : FetchView) (key : SeriesKey) where
@@ -31,6 +31,7 @@ filter_all (p ∷ points) = ap (λ rest. p ∷ rest) (filter_all points)
 -- without a filter all points are kept
 pub kept_all : (fetch : FetchView) (one : SeriesGroup) → fetch.of_points ≡ [] → points_kept fetch one ≡ one.1
 kept_all fetch one none =
-    ap (λ (filters : List BoundPredicate). filter (λ (point : Point). all_hold filters (cells_of one.0 point.value))
+    ap (λ (filters : List BoundPredicate). filter
+    (λ (point : Point). all_filters_hold filters (cells_of one.0 point.value))
     one.1) none
     ∙ filter_all one.1

@@ -1,16 +1,16 @@
 -- The series of a metric, one number after another: those that are counted are all that are counted.
 use Rattle.std.proofs.Common.{◌≡◌, ◌∙◌, ◌&&◌, ◌==◌, ◌<◌, ◌+◌, ℕ, zero, suc, Bool, true, false, not, cond, Option, Some}
-use Rattle.std.proofs.Common.{List, [], ◌∷◌, ◌++◌, length, map, refl, sym, ap, subst, slice_get, append_assoc, arith}
+use Rattle.std.proofs.Common.{List, [], ◌∷◌, ◌++◌, length, refl, sym, ap, subst, slice_get, append_assoc, arith}
 use Rattle.std.specs.List.{AllByRecursion, cons_option, filter, filter_map, sum_by}
 use Rattle.std.proofs.lemmas.List.{length-append, length-map}
 use Rattle.std.proofs.lemmas.List.Elements.{filter_agree}
 use Rattle.std.proofs.lemmas.List.Sums.{sum_by-cons}
+use Rattle.mon_series.proofs.MetricLemmas.{keys_in, keys_of_groups}
 use Rattle.mon_series.specs.MetricNumbers.{metric_numbers, numbers_from}
 use Rattle.mon_value.specs.Same.{same_text}
 use Rattle.mon_value.specs.Sources.{points_by_series, points_of, series_of}
 use Rattle.mon_value.specs.declared.aligners.Aligner.{Aligner}
 use Rattle.mon_value.specs.declared.grids.Grid.{Grid}
-use Rattle.mon_value.specs.declared.rows.Point.{Point}
 use Rattle.mon_value.specs.declared.rows.Row.{Row}
 use Rattle.mon_value.specs.declared.rows.SeriesKey.{SeriesKey}
 use Rattle.mon_meaning.specs.within.FetchViews.{FetchView, is_fetch_met}
@@ -20,14 +20,6 @@ use Rattle.mon_meaning.specs.within.SeriesMeaning.{SeriesGroup}
 use Rattle.mon_meaning.proofs.FilterLemmas.{filter_twice}
 
 -- ---- the series of numbers
-
-abbrev keys_in : List SeriesGroup → List SeriesKey
-keys_in groups = map (λ (group : SeriesGroup). group.0) groups
-
-keys_of_groups : (of : SeriesKey → List Point) (keys : List SeriesKey)
-    → keys_in (map (λ (key : SeriesKey). (key, of key)) keys) ≡ keys
-keys_of_groups of [] = refl
-keys_of_groups of (key ∷ keys) = ap (λ (rest : List SeriesKey). key ∷ rest) (keys_of_groups of keys)
 
 -- the series with these numbers
 abbrev numbered : List SeriesGroup → List ℕ → List SeriesGroup

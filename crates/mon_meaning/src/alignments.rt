@@ -14,7 +14,7 @@ ghost use Rattle.mon_meaning.specs.within.MetSeries.{CanAlignMet, is_counted, me
 ghost use Rattle.mon_meaning.specs.within.Readiness.{AreAlignable};
 ghost use Rattle.mon_meaning.specs.within.SeriesMeaning.{align_load, series_rows};
 
-use crate::evaluation::Setting;
+use crate::evaluation::EvaluationSetting;
 use crate::fetches::{Fetch, series_cells};
 use crate::kept_points::{kept_series, points_in_reach};
 use crate::meter::{Meter, OverLimit};
@@ -29,7 +29,7 @@ use std::alloc::Global;
 
 /// The rows of an alignment. The points in reach are counted before a row is made.
 pub(crate) fn aligned_rows(
-    setting: &Setting<'_>,
+    setting: &EvaluationSetting<'_>,
     by: Aligner,
     input: &Node,
     meter: &mut Meter,
@@ -60,7 +60,7 @@ struct Met<'a> {
 
 // The series that meet a fetch and have points in reach, which are counted.
 fn met_series<'a>(
-    setting: &Setting<'a>,
+    setting: &EvaluationSetting<'a>,
     by: Aligner,
     fetch: &Fetch<'_>,
     meter: &mut Meter,
@@ -84,7 +84,7 @@ fn met_series<'a>(
 
 // Adds those of some rows. Only series of the fetch's metric are looked at.
 fn add_met<'a>(
-    setting: &Setting<'a>,
+    setting: &EvaluationSetting<'a>,
     by: Aligner,
     fetch: &Fetch<'_>,
     rows: &'a KeptRows,
@@ -116,7 +116,7 @@ fn add_met<'a>(
 
 // How many points in reach a series has, if it meets the fetch.
 fn reached_count(
-    setting: &Setting<'_>,
+    setting: &EvaluationSetting<'_>,
     by: Aligner,
     fetch: &Fetch<'_>,
     one: &Met<'_>,
@@ -134,7 +134,7 @@ fn reached_count(
 
 // The rows of series that meet a fetch, which are counted.
 fn rows_of_series(
-    setting: &Setting<'_>,
+    setting: &EvaluationSetting<'_>,
     by: Aligner,
     fetch: &Fetch<'_>,
     met: Vec<Met<'_>>,
@@ -160,7 +160,7 @@ fn rows_of_series(
 
 // The values of a series at the times of the grid.
 fn series_values(
-    setting: &Setting<'_>,
+    setting: &EvaluationSetting<'_>,
     by: Aligner,
     fetch: &Fetch<'_>,
     met: &Met<'_>,

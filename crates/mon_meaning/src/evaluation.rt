@@ -19,7 +19,7 @@ use std::alloc::Global;
 
 /// What every part is evaluated over: the series, and the times of the query.
 #[derive(Clone, Copy)]
-pub(crate) struct Setting<'a> {
+pub(crate) struct EvaluationSetting<'a> {
     pub alloc: Global,
     pub series: &'a [&'a KeptRows],
     pub grid: Grid,
@@ -29,7 +29,7 @@ pub(crate) struct Setting<'a> {
 /// operations and left sides.
 #[cycle(evaluation)]
 pub(crate) fn rows_of(
-    setting: &Setting<'_>,
+    setting: &EvaluationSetting<'_>,
     tree: &Node,
     meter: &mut Meter,
 ) -> Result<TimedRows, Refusal<OverLimit>>
@@ -53,7 +53,7 @@ pub(crate) fn rows_of(
 
 // The rows that others come from: those of an alignment, and none of points that aren't aligned.
 fn source_rows(
-    setting: &Setting<'_>,
+    setting: &EvaluationSetting<'_>,
     source: &Node,
     meter: &mut Meter,
 ) -> Result<TimedRows, Refusal<OverLimit>>
@@ -76,7 +76,7 @@ fn source_rows(
 // The rows of an operation on the rows that flow into it first.
 #[cycle(evaluation)]
 fn rows_above(
-    setting: &Setting<'_>,
+    setting: &EvaluationSetting<'_>,
     node: &Node,
     rows: TimedRows,
     meter: &mut Meter,
@@ -102,7 +102,7 @@ fn rows_above(
 // The rows of an operation's right side, and none where it has no such side.
 #[cycle(evaluation)]
 fn other_rows(
-    setting: &Setting<'_>,
+    setting: &EvaluationSetting<'_>,
     node: &Node,
     meter: &mut Meter,
 ) -> Result<TimedRows, Refusal<OverLimit>>

@@ -4,7 +4,7 @@ ghost use Rattle.mon_value.specs.Order.{field_as_value};
 ghost use Rattle.mql_types.specs.Loads as loads;
 ghost use Rattle.mql_types.specs.Meaning.{is_fetched};
 ghost use Rattle.mql_types.specs.Nodes.{node_tree};
-ghost use Rattle.mon_meaning.specs.within.FetchViews.{all_hold, is_fetch_met, IsFetchFound};
+ghost use Rattle.mon_meaning.specs.within.FetchViews.{all_filters_hold, is_fetch_met, IsFetchFound};
 
 use mon_expr::BoundPredicate;
 use mon_value::{Cells, FieldValue, OutOfMemory, SeriesKey, Text, TryCopy, Value};
@@ -93,14 +93,14 @@ impl<'a> Fetch<'a> {
 
     // Whether each filter of series holds of the one with these cells.
     fn holds_of_series(&self, cells: &Cells) -> bool
-        ensures holds { result ≡ all_hold self.now.of_series cells.now }
+        ensures holds { result ≡ all_filters_hold self.now.of_series cells.now }
     {
         self.of_series.iter().all(|by| by.holds(cells))
     }
 
     // Whether each filter of points holds of the one with these cells.
     fn holds_of_point(&self, row: &Cells) -> bool
-        ensures holds { result ≡ all_hold self.now.of_points row.now }
+        ensures holds { result ≡ all_filters_hold self.now.of_points row.now }
     {
         self.of_points.iter().all(|by| by.holds(row))
     }
@@ -126,7 +126,7 @@ impl<'a> Fetch<'a> {
         cells: Cells,
         value: Value,
     ) -> Result<(bool, Cells), OutOfMemory>
-        ensures kept { IfOk result (λ kept. kept.0 ≡ all_hold self.now.of_points (cells ++ value ∷ [])) }
+        ensures kept { IfOk result (λ kept. kept.0 ≡ all_filters_hold self.now.of_points (cells ++ value ∷ [])) }
         ensures cells { IfOk result (λ kept. kept.1 ≡ cells) }
     {
         let mut row = cells;

@@ -21,6 +21,7 @@ pub use meter::{Meter, OverLimit};
 pub use operations::table_of;
 pub use parts::part_by_series;
 pub use parts_up::{GoesUp, TopPart, is_up_to, top_parts};
+pub use paths::input_of;
 pub use pieces::piece_of;
 pub use steps::operation_rows;
 pub use tops::top_rows;

@@ -9,7 +9,7 @@ ghost use Rattle.mql_types.specs.Nodes.{node_tree};
 ghost use Rattle.mon_meaning.specs.Central.{IsPartAsked, all_held};
 ghost use Rattle.mon_meaning.specs.Counts.{TellsOver};
 
-use crate::evaluation::{Setting, rows_of};
+use crate::evaluation::{EvaluationSetting, rows_of};
 use crate::meter::{Meter, OverLimit};
 use mon_series::KeptRows;
 use mon_value::{Grid, Refusal, TimedRows};
@@ -36,7 +36,7 @@ pub fn part_by_series(
         → IfErr result (TellsOver meter.old.limit
         (meter.old.load + load_of grid (node_tree part.now) source)) }
 {
-    let setting = Setting {
+    let setting = EvaluationSetting {
         alloc,
         series,
         grid,

@@ -32,54 +32,19 @@ pub(crate) fn path_down<'a>(alloc: Global, tree: &'a Node) -> Result<Path<'a>, O
     Ok(Path { above, source })
 }
 
-// What rows flow in first; none into a fetch or an alignment.
-fn input_of(node: &Node) -> Option<&Node>
+/// What rows flow into a node first: its input, or the left side of a join or a union. Rows begin at a fetch and at an
+/// alignment, so that nothing flows in there.
+pub fn input_of(node: &Node) -> Option<&Node>
     ensures input { IfSome result (λ input. node_tree input.now ≡ first_input (node_tree node.now)) }
     ensures smaller { IfSome result (λ input. nodes (node_tree input.now) < nodes (node_tree node.now)) }
     ensures source { IsNone result → HasNoInput (node_tree node.now) }
 {
     match node {
-        Node::Filter {
-            info: _,
-            by: _,
-            input,
-        } => Some(input),
-        Node::GroupBy {
-            info: _,
-            by: _,
-            with: _,
-            input,
-        } => Some(input),
-        Node::Value {
-            info: _,
-            items: _,
-            input,
-        } => Some(input),
-        Node::Top {
-            info: _,
-            most: _,
-            column: _,
-            input,
-        } => Some(input),
-        Node::Join {
-            info: _,
-            left,
-            right: _,
-        } => Some(left),
-        Node::Union {
-            info: _,
-            left,
-            right: _,
-        } => Some(left),
-        Node::Fetch {
-            info: _,
-            schema: _,
-            metric: _,
-        } => None,
-        Node::Align {
-            info: _,
-            by: _,
-            input: _,
-        } => None,
+        Node::Filter { input, .. }
+        | Node::GroupBy { input, .. }
+        | Node::Value { input, .. }
+        | Node::Top { input, .. } => Some(input),
+        Node::Join { left, .. } | Node::Union { left, .. } => Some(left),
+        Node::Fetch { .. } | Node::Align { .. } => None,
     }
 }

@@ -125,10 +125,10 @@ takes (e ∷ index) metric key (suc at) number before after place there more oth
 
 -- ---- series that come
 
-abbrev keys_in : List SeriesGroup → List SeriesKey
+abbrev pub keys_in : List SeriesGroup → List SeriesKey
 keys_in groups = map (λ (group : SeriesGroup). group.0) groups
 
-keys_of_groups : (of : SeriesKey → List Point) (keys : List SeriesKey)
+pub keys_of_groups : (of : SeriesKey → List Point) (keys : List SeriesKey)
     → keys_in (map (λ (key : SeriesKey). (key, of key)) keys) ≡ keys
 keys_of_groups of [] = refl
 keys_of_groups of (key ∷ keys) = ap (λ (rest : List SeriesKey). key ∷ rest) (keys_of_groups of keys)

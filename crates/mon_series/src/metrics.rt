@@ -44,7 +44,7 @@ pub(crate) fn make_room(
     index: &mut ByMetric,
     metric: &Text,
 ) -> Result<usize, OutOfMemory>
-    ensures same { SameNumbers index.old.entries index.new.entries }
+    ensures numbers { SameNumbers index.old.entries index.new.entries }
     ensures room { IfOk result (HasRoom index.new.entries metric.now) }
 {
     match index.get_index_of(metric) {
@@ -70,7 +70,7 @@ fn more_room(index: &mut ByMetric, at: usize) -> Result<usize, OutOfMemory>
 // Adds a metric without numbers, with room for one, and gives its place.
 fn add_metric(alloc: Global, index: &mut ByMetric, metric: &Text) -> Result<usize, OutOfMemory>
     requires absent { lookup (same_text metric.now) index.old.entries ≡ None }
-    ensures same { SameNumbers index.old.entries index.new.entries }
+    ensures numbers { SameNumbers index.old.entries index.new.entries }
     ensures room { IfOk result (HasRoom index.new.entries metric.now) }
 {
     let at = index.len();

@@ -1,5 +1,5 @@
 -- The rows on a leaf, by its first replicas: what a leaf evaluates, and where each row lies.
-use Rattle.std.proofs.Common.{◌≡◌, ◌∙◌, ◌<◌, ◌||◌, ◌&&◌, ℕ, zero, suc, Bool, true, false, cond, Option, Some, None}
+use Rattle.std.proofs.Common.{◌≡◌, ◌∙◌, ◌<◌, ◌||◌, ℕ, zero, suc, Bool, true, false, cond, Option, Some, None}
 use Rattle.std.proofs.Common.{List, [], ◌∷◌, ◌++◌, length, nat_eq, slice_get, option_map, refl, sym, ap, subst}
 use Rattle.std.proofs.Common.{append-nil, arith}
 use Rattle.std.specs.List.{AllByRecursion}
@@ -7,22 +7,23 @@ use Rattle.std.proofs.lemmas.Bool.Decides.{nat_tests}
 use Rattle.std.proofs.lemmas.Option.{slice_get-map}
 use Rattle.mon_value.proofs.SameLemmas.{same_series-Decides}
 use Rattle.mon_value.specs.LeafHistories.{is_opened, replica_rows}
-use Rattle.mon_value.specs.Same.{same_series, same_target}
+use Rattle.mon_value.specs.Same.{same_series}
 use Rattle.mon_value.specs.declared.histories.Entry.{Entry}
 use Rattle.mon_value.specs.declared.positions.Leaf.{Leaf}
 use Rattle.mon_value.specs.declared.positions.Range.{Range}
 use Rattle.mon_value.specs.declared.positions.RangeSlot.{RangeSlot}
 use Rattle.mon_value.specs.declared.rows.Row.{Row}
 use Rattle.mon_value.specs.declared.rows.SeriesKey.{SeriesKey}
-use Rattle.mon_value.specs.declared.rows.Target.{Target}
 use Rattle.mon_topo.specs.Locations.{range_for}
 use Rattle.mon_value.specs.Positions.{range_numbered}
 use Rattle.mon_topo.specs.Zones.{ranges_in}
 use Rattle.mon_topo.specs.declared.zones.ZoneSpec.{ZoneSpec}
 use Rattle.mon_config.specs.declared.config.Config.{Config}
 use Rattle.leaf_store.specs.LeafStates.{LeafView}
-use Rattle.leaf_eval.specs.Replicas.{AreApart, AreOpened, ShareNoSeries, has_series, replica_rows_of, replicas_rows}
-use Rattle.mixer.specs.Divisions.{ShareNoTarget, has_target}
+use Rattle.leaf_eval.specs.Replicas.{AreReplicasApart, AreOpened, ShareNoSeries, has_series, replica_rows_of}
+use Rattle.leaf_eval.specs.Replicas.{replicas_rows}
+use Rattle.mixer.proofs.ApartTargets as apart_targets
+use Rattle.mixer.specs.Divisions.{ShareNoTarget}
 use Rattle.mon_store.specs.Writes.{is_range, range_of_key}
 use Rattle.mon_store.specs.within.Divisions.{divided_leaf_rows}
 use Rattle.mon_store.specs.Stores.{AreReplicasKept, range_rows, rows_kept}
@@ -115,9 +116,10 @@ module _ (config : Config) where
 
 -- ---- what a leaf evaluates
 
-replicas_push : (history : List Entry) (replicas : List RangeSlot) (last : RangeSlot) → AreApart history replicas
+replicas_push : (history : List Entry) (replicas : List RangeSlot) (last : RangeSlot)
+    → AreReplicasApart history replicas
     → AllByRecursion (λ own. ShareNoSeries (replica_rows_of history own) (replica_rows_of history last)) replicas
-    → AreApart history (replicas ++ last ∷ [])
+    → AreReplicasApart history (replicas ++ last ∷ [])
 replicas_push history [] last apart all = (tt, tt)
 replicas_push history (own ∷ replicas) last apart all = (
   all_push (λ other. ShareNoSeries (replica_rows_of history own) (replica_rows_of history other)) replicas last apart.0
@@ -156,8 +158,8 @@ module _ (config : Config) (leaves : List LeafView) (order : List Range)
         subst (AllByRecursion (InRange config own.range)) (sym (own_rows most own is)) (in_range config own.range rows)
 
     apart_by : (most : ℕ) (b : Bool) → is_on_leaf n (leaf_of config.topology (range_numbered most) first_slot) ≡ b
-        → AreApart state.history (first_slots config.topology n most)
-        → AreApart state.history (first_slots config.topology n most ++ cond b (first_replica most ∷ []) [])
+        → AreReplicasApart state.history (first_slots config.topology n most)
+        → AreReplicasApart state.history (first_slots config.topology n most ++ cond b (first_replica most ∷ []) [])
     apart_by most true here front =
         let last : IsFirstOn config.topology n (suc most) (first_replica most) =
         record { at = here; slot = refl; below = omega arith } in
@@ -167,10 +169,10 @@ module _ (config : Config) (leaves : List LeafView) (order : List Range)
         (replica_rows_of state.history (first_replica most)) is.below (own_in most own is)
         (own_in (suc most) (first_replica most) last))
         (first_slots config.topology n most) (firsts_on config.topology n most))
-    apart_by most false here front = subst (AreApart state.history)
+    apart_by most false here front = subst (AreReplicasApart state.history)
         (sym (append-nil (first_slots config.topology n most))) front
 
-    apart_below : (most : ℕ) → AreApart state.history (first_slots config.topology n most)
+    apart_below : (most : ℕ) → AreReplicasApart state.history (first_slots config.topology n most)
     apart_below zero = tt
     apart_below (suc most) =
         apart_by most (is_on_leaf n (leaf_of config.topology (range_numbered most) first_slot)) refl (apart_below most)
@@ -186,8 +188,8 @@ module _ (config : Config) (leaves : List LeafView) (order : List Range)
           (all_weaker (IsFirstOn config.topology n most) _ (opened most) (first_slots config.topology n most)
           (firsts_on config.topology n most))
 
-      pub leaf_apart : AreApart state.history slots
-      leaf_apart = subst (AreApart state.history) (sym are) (apart_below most)
+      pub leaf_apart : AreReplicasApart state.history slots
+      leaf_apart = subst (AreReplicasApart state.history) (sym are) (apart_below most)
 
       pub leaf_source : replicas_rows state.history slots ≡ divided_leaf_rows config rows n
       leaf_source =
@@ -224,39 +226,17 @@ one_leaf n m (Some leaf) one two =
     let second : nat_eq leaf.0 m ≡ true = two in
     grind (arith, nat_tests)
 
--- a key of a target alone
-abbrev key_at : Target → SeriesKey
-key_at target = record { target = target; metric = []; fields = [] }
-
-one_target : (a b : Target) → same_target a b ≡ true → a ≡ b
-one_target a b same =
-    let whole : same_series (key_at a) (key_at b) ≡ true = ap (λ c. c && true) same in
-    ap (λ (key : SeriesKey). key.target) ((same_series-Decides (key_at a) (key_at b)).0 whole)
-
 module _ (config : Config) (n m : ℕ) (lt : n < m) where
-  target_by : (row other : Row) (b : Bool) → same_target other.key.target row.key.target ≡ b → LiesOn config n row
-      → LiesOn config m other → b ≡ false
-  target_by row other true same here there =
-      let alike : other.key.target ≡ row.key.target = one_target other.key.target row.key.target same in
+  lie_apart : (row other : Row) → other.key.target ≡ row.key.target → LiesOn config n row → LiesOn config m other → ⊥
+  lie_apart row other alike here there =
       let both : Some there.range ≡ Some here.range =
       sym there.at ∙ ap (range_for config.schemas config.topology) alike ∙ here.at in
       let range : there.range ≡ here.range = cc in
       let moved : is_on_leaf m (leaf_of config.topology here.range first_slot) ≡ true =
       ap (λ (r : Range). is_on_leaf m (leaf_of config.topology r first_slot)) (sym range) ∙ there.first in
-      absurd (omega (arith, lt, one_leaf n m (leaf_of config.topology here.range first_slot) here.first moved))
-  target_by row other false same here there = refl
-
-  no_target : (row : Row) (others : List Row) → LiesOn config n row → AllByRecursion (LiesOn config m) others
-      → has_target others row.key.target ≡ false
-  no_target row [] here all = refl
-  no_target row (other ∷ others) here all =
-      ap (λ c. c || has_target others row.key.target)
-      (target_by row other (same_target other.key.target row.key.target) refl here all.0)
-      ∙ no_target row others here all.1
+      omega (arith, lt, one_leaf n m (leaf_of config.topology here.range first_slot) here.first moved)
 
   -- two leaves share no target
   pub no_targets : (rows others : List Row) → AllByRecursion (LiesOn config n) rows → AllByRecursion (LiesOn config m)
-      others
-      → ShareNoTarget rows others
-  no_targets [] others all more = tt
-  no_targets (row ∷ rows) others all more = (no_target row others all.0 more, no_targets rows others all.1 more)
+      others → ShareNoTarget rows others
+  no_targets = apart_targets.no_targets (LiesOn config n) (LiesOn config m) lie_apart

@@ -19,11 +19,12 @@ use Rattle.mon_topo.specs.Replicas.{HasReplicas}
 use Rattle.mon_topo.specs.declared.zones.RangeSpec.{RangeSpec}
 use Rattle.mon_topo.specs.declared.zones.ZoneSpec.{ZoneSpec}
 use Rattle.mon_topo.specs.Zones.{first_replicas, leaves_in, leaves_named, no_range, ranges_in}
-use Rattle.leaf_store.specs.LeafStates.{LeafView, with_entry}
+use Rattle.leaf_store.specs.LeafStates.{LeafView, leaf_with_entry}
 use Rattle.mon_store.proofs.KeepLemmas.{all_open, with_replica}
 use Rattle.leaf_store.specs.LeafLists.{IsChanged}
-use Rattle.mon_store.specs.within.Leaves.{AllKeep, AreLeavesOpened, HasEntry, Keeps, MayCome, histories, is_on_leaf}
-use Rattle.mon_store.specs.within.Leaves.{is_slot_before, leaf_of, nowhere, opened_before, with_promise}
+use Rattle.mon_store.specs.within.Leaves.{AllKeep, AreLeavesOpened, HasEntry, Keeps, MayComeToLeaf, histories}
+use Rattle.mon_store.specs.within.Leaves.{is_on_leaf}
+use Rattle.mon_store.specs.within.Leaves.{is_slot_before, leaf_of, nowhere, opened_slot_before, with_promise}
 use Rattle.mon_store.specs.within.Leaves as store
 
 -- ---- leaves that change
@@ -62,7 +63,8 @@ histories_kept leaf change old new changed keeps =
     ∙ sym (history_at old n))
 
 entry_by : (last : Entry) (b : Bool) (o : Option LeafView)
-    → option_map (λ (leaf : LeafView). leaf.history) (cond b (option_map (λ (state : LeafView). with_entry state last)
+    → option_map (λ (leaf : LeafView). leaf.history)
+    (cond b (option_map (λ (state : LeafView). leaf_with_entry state last)
     o) o)
     ≡ cond b (option_map (λ (h : List Entry). h ++ last ∷ []) (option_map (λ (leaf : LeafView). leaf.history) o))
     (option_map (λ (leaf : LeafView). leaf.history) o)
@@ -72,7 +74,7 @@ entry_by last false o = refl
 
 -- an entry that comes to a leaf
 pub histories_more : (leaf : Leaf) (last : Entry) (old new : List LeafView)
-    → IsChanged leaf (λ state. with_entry state last) old new
+    → IsChanged leaf (λ state. leaf_with_entry state last) old new
     → HasEntry leaf last (histories old) (histories new)
 histories_more leaf last old new changed n =
     history_at new n
@@ -83,7 +85,7 @@ histories_more leaf last old new changed n =
 
 -- an entry that comes to a leaf whose history was kept
 pub more_behind : (leaf : Leaf) (last : Entry) (old mid new : List LeafView) → histories mid ≡ histories old
-    → IsChanged leaf (λ state. with_entry state last) mid new → HasEntry leaf last (histories old) (histories new)
+    → IsChanged leaf (λ state. leaf_with_entry state last) mid new → HasEntry leaf last (histories old) (histories new)
 more_behind leaf last old mid new same changed =
     subst (λ (h : List (List Entry)). HasEntry leaf last h (histories new)) same (histories_more leaf last mid new
     changed)
@@ -93,7 +95,7 @@ pub promise_keeps : (leaf : Leaf) (old new : List LeafView) → IsChanged leaf w
 promise_keeps leaf old new changed = histories_kept leaf with_promise old new changed (λ state. refl)
 
 may_by : (last : Entry) (o : Option LeafView) → IfSome o (λ state. IsWellFormed (state.history ++ last ∷ []))
-    → IfSome (option_map with_promise o) (MayCome last)
+    → IfSome (option_map with_promise o) (MayComeToLeaf last)
 may_by last None may = tt
 may_by last (Some state) may = record { formed = may; promised = λ e. omega arith }
 
@@ -103,9 +105,9 @@ same_itself n = grind (arith, nat_tests)
 -- an entry may come where room was made for it
 pub may_come : (leaf : Leaf) (last : Entry) (old new : List LeafView) → IsChanged leaf with_promise old new
     → IfSome (slice_get old leaf.0) (λ state. IsWellFormed (state.history ++ last ∷ []))
-    → IfSome (slice_get new leaf.0) (MayCome last)
+    → IfSome (slice_get new leaf.0) (MayComeToLeaf last)
 may_come leaf last old new changed may =
-    subst (λ (o : Option LeafView). IfSome o (MayCome last))
+    subst (λ (o : Option LeafView). IfSome o (MayComeToLeaf last))
     (sym (changed leaf.0 ∙ ap (λ b. cond b (option_map with_promise (slice_get old leaf.0)) (slice_get old leaf.0))
     (same_itself leaf.0)))
     (may_by last (slice_get old leaf.0) may)
@@ -157,10 +159,10 @@ moved on on' leaves same = subst (λ (o : Range → Slot → Option Leaf). AllKe
 
 -- none is in front of the first
 pub opened_none : (zones : List ZoneSpec) (leaves : List LeafView) → AreLeavesOpened nowhere zones leaves
-    → AreLeavesOpened (opened_before zones 0 0) zones leaves
+    → AreLeavesOpened (opened_slot_before zones 0 0) zones leaves
 opened_none zones leaves opened = record {
   count = opened.count;
-  keep = moved nowhere (opened_before zones 0 0) (histories leaves)
+  keep = moved nowhere (opened_slot_before zones 0 0) (histories leaves)
       (λ range slot. by range slot (is_slot_before 0 0 range slot) (never range slot)) opened.keep;
 }
   where
@@ -212,7 +214,7 @@ replica_more zones range place leaf other slot true c same before at =
 replica_more zones range place leaf other slot false true same before at = refl
 replica_more zones range place leaf other slot false false same before at = refl
 
-not_yet : (zones : List ZoneSpec) (range : Range) (place : ℕ) → opened_before zones range.0 place range
+not_yet : (zones : List ZoneSpec) (range : Range) (place : ℕ) → opened_slot_before zones range.0 place range
     (record { 0 = place }) ≡ None
 not_yet zones range place =
     ap (λ b. cond b (leaf_of zones range (record { 0 = place })) None)
@@ -224,25 +226,26 @@ not_yet zones range place =
     by p false r e f = λ i. e i || false
 
 pub opened_more : (zones : List ZoneSpec) (old new : List LeafView) (range : Range) (place : ℕ) (leaf : Leaf)
-    → AreLeavesOpened (opened_before zones range.0 place) zones old → leaf_of zones range (record { 0 = place })
+    → AreLeavesOpened (opened_slot_before zones range.0 place) zones old → leaf_of zones range (record { 0 = place })
     ≡ Some leaf
     → length new ≡ length old
     → HasEntry leaf (entry.Opened 0 range (record { 0 = place }) []) (histories old) (histories new)
-    → AreLeavesOpened (opened_before zones range.0 (place + 1)) zones new
+    → AreLeavesOpened (opened_slot_before zones range.0 (place + 1)) zones new
 opened_more zones old new range place leaf opened at many more = record {
   count = many ∙ opened.count;
-  keep = moved (with_replica (opened_before zones range.0 place) range (record { 0 = place }) leaf)
-      (opened_before zones range.0 (place + 1)) (histories new)
+  keep = moved (with_replica (opened_slot_before zones range.0 place) range (record { 0 = place }) leaf)
+      (opened_slot_before zones range.0 (place + 1)) (histories new)
       (λ other slot. ap (λ b. cond b (leaf_of zones other slot) None) (next_place range.0 place other.0 slot.0)
       ∙ replica_more zones range place leaf other slot (same_replica other slot range (record { 0 = place }))
       (is_slot_before range.0 place other slot) refl refl at)
-      (all_open (opened_before zones range.0 place) (histories old) (histories new) 0 range (record { 0 = place }) leaf
+      (all_open (opened_slot_before zones range.0 place) (histories old) (histories new) 0 range (record { 0 = place })
+      leaf
       opened.keep (not_yet zones range place) more);
 }
 
 -- a replica may be opened where it comes next
 pub may_open : (zones : List ZoneSpec) (leaves : List LeafView) (range : Range) (place : ℕ) (leaf : Leaf)
-    → AreLeavesOpened (opened_before zones range.0 place) zones leaves
+    → AreLeavesOpened (opened_slot_before zones range.0 place) zones leaves
     → IfSome (slice_get leaves leaf.0)
     (λ state. IsWellFormed (state.history ++ entry.Opened 0 range (record { 0 = place }) [] ∷ []))
 may_open zones leaves range place leaf opened = by (slice_get leaves leaf.0) refl
@@ -280,11 +283,12 @@ same_number : (a b : Range) → a.0 ≡ b.0 → a ≡ b
 same_number a b e = λ i. record { 0 = e i }
 
 pub opened_range : (zones : List ZoneSpec) (leaves : List LeafView) (range : Range) (place : ℕ)
-    → AreLeavesOpened (opened_before zones range.0 place) zones leaves → length (first_replicas zones range.0) ≤ place
-    → AreLeavesOpened (opened_before zones (range.0 + 1) 0) zones leaves
+    → AreLeavesOpened (opened_slot_before zones range.0 place) zones leaves
+    → length (first_replicas zones range.0) ≤ place
+    → AreLeavesOpened (opened_slot_before zones (range.0 + 1) 0) zones leaves
 opened_range zones leaves range place opened past = record {
   count = opened.count;
-  keep = moved (opened_before zones range.0 place) (opened_before zones (range.0 + 1) 0) (histories leaves)
+  keep = moved (opened_slot_before zones range.0 place) (opened_slot_before zones (range.0 + 1) 0) (histories leaves)
       (λ other slot. past_range range.0 place other.0 slot.0 (leaf_of zones other slot)
       (λ same behind. slice_get_past (first_replicas zones other.0) slot.0
       (let long : length (first_replicas zones other.0) ≡ length (first_replicas zones range.0) =
@@ -313,12 +317,12 @@ all_before n a b o none = by (nat_lt a n) (nat_eq a n) (nat_lt b 0) refl refl re
     by false false z e f g = sym (none (grind (arith, nat_tests)))
 
 pub opened_all : (zones : List ZoneSpec) (leaves : List LeafView) (r : ℕ)
-    → AreLeavesOpened (opened_before zones r 0) zones
+    → AreLeavesOpened (opened_slot_before zones r 0) zones
     leaves → length (ranges_in zones) ≤ r
     → AreLeavesOpened (leaf_of zones) zones leaves
 opened_all zones leaves r opened past = record {
   count = opened.count;
-  keep = moved (opened_before zones r 0) (leaf_of zones) (histories leaves)
+  keep = moved (opened_slot_before zones r 0) (leaf_of zones) (histories leaves)
       (λ other slot. sym (all_before r other.0 slot.0 (leaf_of zones other slot)
       (λ behind. ap (λ (l : List Leaf). slice_get l slot.0) (no_replicas zones other.0 (omega (arith, behind, past))))))
       opened.keep;

@@ -21,7 +21,8 @@ use Rattle.mon_topo.specs.Zones.{first_replicas}
 use Rattle.leaf_store.specs.LeafStates.{LeafView}
 use Rattle.mon_store.proofs.KeepLemmas.{all_alike, all_put}
 use Rattle.leaf_store.specs.LeafLists.{IsChanged}
-use Rattle.mon_store.specs.within.Leaves.{AllKeep, AreReplicasAlike, HasEntry, MayCome, Untouched, first_replica_rows}
+use Rattle.mon_store.specs.within.Leaves.{AllKeep, AreReplicasAlike, HasEntry, MayComeToLeaf, Untouched}
+use Rattle.mon_store.specs.within.Leaves.{first_replica_rows}
 use Rattle.mon_store.specs.within.Leaves.{histories, is_on_leaf, leaf_of, with_promise, with_replica_row}
 use Rattle.mon_store.specs.within.Leaves.{with_row_from}
 
@@ -186,7 +187,7 @@ pub may_put : (zones : List ZoneSpec) (rows : Range → List Row) (old reserved 
     (slot_at place) ≡ Some leaf
     → IsSource (rows range ++ row ∷ []) → IsChanged leaf with_promise old reserved → slice_get mid leaf.0
     ≡ slice_get reserved leaf.0
-    → IfSome (slice_get mid leaf.0) (MayCome (entry.Put 0 range (slot_at place) row))
+    → IfSome (slice_get mid leaf.0) (MayComeToLeaf (entry.Put 0 range (slot_at place) row))
 may_put zones rows old reserved mid range place leaf row keep at source changed same =
     each (slice_get mid leaf.0) (λ state there.
     let keeps = keep leaf.0 state.history (history_at mid leaf.0 state there) in

@@ -12,10 +12,10 @@ ghost use Rattle.mon_store.specs.Writes.{fault_behind};
 ghost use Rattle.mon_store.specs.within.Leaves as spec;
 ghost use Rattle.leaf_store.specs.LeafLists.{IsChanged};
 ghost use Rattle.mon_store.specs.within.Leaves.{AllKeep, AreReplicasAlike, AreLeavesOpened, HasEntry, IsSettled};
-ghost use Rattle.mon_store.specs.within.Leaves.{AreSettled, MayCome, first_replica_rows, first_slot, histories};
+ghost use Rattle.mon_store.specs.within.Leaves.{AreSettled, MayComeToLeaf, first_replica_rows, first_slot, histories};
 ghost use Rattle.mon_store.specs.within.Leaves.{leaf_of};
 ghost use Rattle.mon_store.specs.within.Leaves.{with_row_from};
-ghost use Rattle.leaf_store.specs.LeafStates.{with_entry, with_settled};
+ghost use Rattle.leaf_store.specs.LeafStates.{leaf_with_entry, with_settled};
 
 use crate::faults::WriteFault;
 use leaf_store::{Entry, LeafState};
@@ -86,10 +86,10 @@ impl LeafStates {
     fn open_range(&mut self, topology: &Topology, range: Range) -> Result<(), OutOfMemory>
         requires there { range.0 < length (ranges_in topology.now) }
         requires replicas { HasReplicas topology.now range }
-        requires before { AreLeavesOpened (spec.opened_before topology.now range.0 0)
+        requires before { AreLeavesOpened (spec.opened_slot_before topology.now range.0 0)
             topology.now self.old.states.items }
-        ensures opened { OnOk result
-            (AreLeavesOpened (spec.opened_before topology.now (range.0 + 1) 0) topology.now self.new.states.items) }
+        ensures opened { OnOk result (AreLeavesOpened (spec.opened_slot_before topology.now (range.0 + 1) 0)
+            topology.now self.new.states.items) }
     {
         let mut slot = 0;
         for leaf in topology.first_replicas(range).as_slice() {
@@ -173,9 +173,10 @@ impl LeafStates {
     // Appends an entry to the history of a leaf.
     fn apply(&mut self, leaf: Leaf, entry: Entry)
         requires there { leaf.0 < length self.old.states.items }
-        requires may { IfSome (slice_get self.old.states.items leaf.0) (MayCome entry) }
+        requires may { IfSome (slice_get self.old.states.items leaf.0) (MayComeToLeaf entry) }
         ensures count { length self.new.states.items ≡ length self.old.states.items }
-        ensures applied { IsChanged leaf (λ state. with_entry state entry) self.old.states.items self.new.states.items }
+        ensures applied { IsChanged leaf (λ state. leaf_with_entry state entry) self.old.states.items
+            self.new.states.items }
     {
         self.states[leaf.0 as usize].apply(entry);
     }

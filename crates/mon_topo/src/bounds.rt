@@ -93,7 +93,7 @@ fn are_leading(fields: &[Field], values: &[FieldValue]) -> bool
 }
 
 fn is_of_type(of: FieldType, value: &FieldValue) -> bool
-    ensures same { result ≡ spec.is_of_type of value.now }
+    ensures of_type { result ≡ spec.is_of_type of value.now }
 {
     match (of, value) {
         (FieldType::Text, FieldValue::Text(_)) => true,

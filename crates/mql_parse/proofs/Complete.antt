@@ -9,7 +9,7 @@ use Rattle.mql_ast.specs.Bytes.{is_digit}
 use Rattle.mql_ast.specs.Rests.{Rest, head, behind, skip}
 use Rattle.mql_ast.specs.Tokens.{sign_at, past, name_at, metric_at, positive_at, number_at, signed_at, duration_at}
 use Rattle.mql_parse.specs.declared.faults.What.{What}
-use Rattle.mql_parse.specs.Outcomes.{Outcome, exact, sign, map_outcome, up_to}
+use Rattle.mql_parse.specs.Outcomes.{Outcome, exact, sign, map_outcome, up_to_sign}
 use Rattle.mql_parse.specs.Repeats.{Turn, Done, repetition}
 use Rattle.mql_parse.specs.TokenReading as reading
 use Rattle.mql_parse.proofs.BehindLemmas.{chosen_any, sign_taken}
@@ -54,7 +54,7 @@ pub mapped : {A B : Type 0} (f : A → B) (o : Outcome A) (x : A) (r : Rest) →
 mapped f o x r e = ap (map_outcome f) e
 
 pub up_to_read : {A : Type 0} (b : ℕ) (w : What) (o : Outcome A) (x : A) (k r : Rest) → o ≡ Ok (x, k) →
-    sign_at b k ≡ Some r → up_to b w o ≡ Ok (x, r)
+    sign_at b k ≡ Some r → up_to_sign b w o ≡ Ok (x, r)
 up_to_read b w o x k r e h =
     bound o _ (x, k) (Ok (x, r)) e (bound (sign b w k) _ r (Ok (x, r)) (sign_read b w k r h) refl)
 

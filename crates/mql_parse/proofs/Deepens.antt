@@ -9,7 +9,7 @@ use Rattle.mql_parse.specs.declared.faults.ParseKind.{ParseKind}
 use Rattle.mql_parse.specs.declared.faults.ParseKind.TheVariants.{BadToken, BadPattern, Expected, NumberTooLarge}
 use Rattle.mql_parse.specs.declared.faults.ParseKind.TheVariants.{TooDeep, TooLong}
 use Rattle.mql_parse.specs.declared.faults.What.{What}
-use Rattle.mql_parse.specs.Outcomes.{Outcome, fault, sign, map_outcome, up_to}
+use Rattle.mql_parse.specs.Outcomes.{Outcome, fault, sign, map_outcome, up_to_sign}
 use Rattle.mql_parse.specs.Repeats.{Turn, Done, Again, Stuck, turn_outcome, repetition, goes_on, on_read}
 use Rattle.mql_parse.specs.Behind.{Behind}
 use Rattle.mql_parse.specs.Soundness.{OfTurn}
@@ -117,7 +117,7 @@ deepens_to (Ok x) p h = record { way = h.way }
 deepens_to (Err e) p h = record { way = by_kind e.kind (wider_reaches (e.at + 1) p) (λ k. k) h.way }
 
 pub deepens_up_to : {A : Type 0} (b : ℕ) (w : What) (o p : Outcome A) → Deepens next o p →
-    Deepens next (up_to b w o) (up_to b w p)
+    Deepens next (up_to_sign b w o) (up_to_sign b w p)
 deepens_up_to {A = A} b w o p h =
     let on : A × Rest → Outcome A = λ x. sign b w x.1 >>= λ r. Ok (x.0, r) in
     deepens_bind next next o p on on h

@@ -6,7 +6,7 @@ use Rattle.mql_ast.specs.Trees.{PredicateTree, DeedTree, Filter, GroupBy, Value,
 use Rattle.mql_ast.specs.Rests.{Rest, skip}
 use Rattle.mql_parse.specs.declared.faults.What.{What}
 use Rattle.mql_parse.specs.declared.faults.What.TheVariants as what
-use Rattle.mql_parse.specs.Outcomes.{Outcome, unexpected_fault, sign, map_outcome, up_to}
+use Rattle.mql_parse.specs.Outcomes.{Outcome, unexpected_fault, sign, map_outcome, up_to_sign}
 use Rattle.mql_parse.specs.TokenReading as reading
 use Rattle.mql_parse.specs.SumReading as sums
 use Rattle.mql_parse.specs.PredicateReading as predicates
@@ -43,7 +43,7 @@ OpGoes x read = OnBar x read.1 (pipes.is_group_by read.0.what)
 
 -- aligners
 abbrev closed : Rest → Outcome ℤ
-closed k = up_to 41 what.CloseParenthesis (reading.duration k)
+closed k = up_to_sign 41 what.CloseParenthesis (reading.duration k)
 
 abbrev opened : Rest → Outcome ℤ
 opened m = sign 40 what.OpenParenthesis m >>= closed

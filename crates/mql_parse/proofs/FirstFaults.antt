@@ -10,7 +10,7 @@ use Rattle.mql_parse.specs.declared.faults.ParseFault.{ParseFault}
 use Rattle.mql_parse.specs.declared.faults.ParseKind.TheVariants.{BadToken, Expected}
 use Rattle.mql_parse.specs.declared.faults.What.{What}
 use Rattle.mql_parse.specs.declared.faults.What.TheVariants as what
-use Rattle.mql_parse.specs.Outcomes.{Outcome, kind_of, unexpected_fault, exact}
+use Rattle.mql_parse.specs.Outcomes.{Outcome, kind_of_fault, unexpected_fault, exact}
 use Rattle.mql_parse.specs.PipeReading as pipes
 use Rattle.mql_parse.specs.Steadiness.{next, Reaches}
 use Rattle.mql_parse.proofs.Steady.{skip_on, reaches_before, steady_to, steady_map}
@@ -40,7 +40,7 @@ first_if : {A : Type 0} (n : ℕ) (t : Bool) (o p : Outcome A) → (t ≡ true �
 first_if n true o p f g = f refl
 first_if n false o p f g = g refl
 
-expected_fetch : (bs : List ℕ) (w : What) → kind_of what.Fetch bs ≡ Expected w → w ≡ what.Fetch
+expected_fetch : (bs : List ℕ) (w : What) → kind_of_fault what.Fetch bs ≡ Expected w → w ≡ what.Fetch
 expected_fetch [] w h = cc
 expected_fetch (b ∷ bs) w h = either (is_alphabet b) h
   where

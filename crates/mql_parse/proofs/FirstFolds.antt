@@ -10,7 +10,7 @@ use Rattle.mql_ast.specs.Bytes.{is_blank}
 use Rattle.mql_ast.specs.Rests.{Rest, first_of, head, behind, skip}
 use Rattle.mql_parse.specs.declared.faults.What.{What}
 use Rattle.mql_parse.specs.declared.faults.What.TheVariants as what
-use Rattle.mql_parse.specs.Outcomes.{Outcome, unexpected_fault, exact, sign, up_to}
+use Rattle.mql_parse.specs.Outcomes.{Outcome, unexpected_fault, exact, sign, up_to_sign}
 use Rattle.mql_parse.specs.Repeats.{Done, Again, on_read, repetition, list_turn}
 use Rattle.mql_parse.specs.TokenReading as reading
 use Rattle.mql_parse.specs.Folds as folds
@@ -64,7 +64,7 @@ names_meets x = meets_of x next next NoMore what.Name folds.names (names_first x
 
 -- the words of folds
 read_as_meets : (x : Spot) (word : FoldWord) (rest : List ℕ) → all_solid rest ≡ true →
-    Meets x here here NoMore (folds.read_as word rest)
+    Meets x here here NoMore (folds.fold_word_from word rest)
 read_as_meets x word rest h = meets_behind_pass x here here here NoMore (exact what.Aggregate rest) (λ r. Ok (word, r))
     (meets_exact x what.Aggregate rest h) (meets_ok x here NoMore word)
 
@@ -77,15 +77,19 @@ letter_meets x b read other z blank f g =
 
 fold_behind_me_meets : (x : Spot) → Meets x here here NoMore folds.fold_behind_me
 fold_behind_me_meets x =
-    letter_meets x 97 (folds.read_as fold.Mean (codes "n")) _ refl refl (read_as_meets x fold.Mean (codes "n") refl)
-    (letter_meets x 114 (folds.read_as fold.Merge (codes "ge")) (λ s. Err (unexpected_fault what.Aggregate s)) refl refl
+    letter_meets x 97 (folds.fold_word_from fold.Mean (codes "n")) _ refl refl
+    (read_as_meets x fold.Mean (codes "n") refl)
+    (letter_meets x 114 (folds.fold_word_from fold.Merge (codes "ge")) (λ s. Err (unexpected_fault what.Aggregate s))
+    refl refl
     (read_as_meets x fold.Merge (codes "ge") refl) (meets_unexpected x here NoMore what.Aggregate))
 
 fold_behind_m_meets : (x : Spot) → Meets x here here NoMore folds.fold_behind_m
 unfolding folds.fold_behind_m
 fold_behind_m_meets x =
-    letter_meets x 105 (folds.read_as fold.Min (codes "n")) _ refl refl (read_as_meets x fold.Min (codes "n") refl)
-    (letter_meets x 97 (folds.read_as fold.Max (codes "x")) _ refl refl (read_as_meets x fold.Max (codes "x") refl)
+    letter_meets x 105 (folds.fold_word_from fold.Min (codes "n")) _ refl refl
+    (read_as_meets x fold.Min (codes "n") refl)
+    (letter_meets x 97 (folds.fold_word_from fold.Max (codes "x")) _ refl refl
+    (read_as_meets x fold.Max (codes "x") refl)
     (letter_meets x 101 folds.fold_behind_me (λ s. Err (unexpected_fault what.Aggregate s)) refl refl
     (fold_behind_me_meets x)
     (meets_unexpected x here NoMore what.Aggregate)))
@@ -104,7 +108,7 @@ fold_first x =
     (first_if_or x here what.Aggregate (λ b. b == 97) _ _
     (λ s e h. keyword_far x here what.Aggregate what.Aggregate 97 (codes "ggregate") (λ r. Ok (fold.Aggregate, r)) refl
     (steady_ok here fold.Aggregate) s e h)
-    (second_or x what.Aggregate 97 (codes "ggregate") (folds.read_as fold.Aggregate (codes "aggregate"))
+    (second_or x what.Aggregate 97 (codes "ggregate") (folds.fold_word_from fold.Aggregate (codes "aggregate"))
     (exact_fails what.Aggregate 97 (codes "ggregate") (λ r. Ok (fold.Aggregate, r)))
     (at_bytes x what.Aggregate what.Aggregate 97 103 refl refl))
     (first_if x here what.Aggregate (λ b. b == 109) (λ s. folds.fold_behind_m (behind (skip s)))
@@ -117,7 +121,7 @@ fold_before : (x : Spot) → Before x here here NoMore folds.fold_here
 unfolding folds.fold_here
 fold_before x =
     let word = λ (w : FoldWord) (rest : List ℕ) (h : all_solid rest ≡ true).
-    before_of x here here NoMore (folds.read_as w rest) (read_as_meets x w rest h) in
+    before_of x here here NoMore (folds.fold_word_from w rest) (read_as_meets x w rest h) in
     before_if_here x here NoMore (λ b. b == 99) _ _ (word fold.Count (codes "count") refl)
     (before_if_here x here NoMore (λ b. b == 115) _ _ (word fold.Sum (codes "sum") refl)
     (before_if_here x here NoMore (λ b. b == 97) _ _ (word fold.Aggregate (codes "aggregate") refl)
@@ -127,14 +131,14 @@ fold_before x =
     (before_unexpected x here NoMore what.Aggregate))))
 
 -- a fold from behind its word
-folded_column_meets : (x : Spot) (word : FoldWord) → Meets x next next NoMore (folds.folded_column word)
+folded_column_meets : (x : Spot) (word : FoldWord) → Meets x next next NoMore (folds.fold_column word)
 folded_column_meets x word = by_word word
   where
     column : Meets x next next NoMore folds.some_column
     column = meets_map x next next NoMore NoMore Some reading.name (λ n h. h)
         (meets_to x next NoMore reading.name (meets_name x))
 
-    by_word : (word : FoldWord) → Meets x next next NoMore (folds.folded_column word)
+    by_word : (word : FoldWord) → Meets x next next NoMore (folds.fold_column word)
     by_word fold.Count = meets_ok x next NoMore None
     by_word fold.Sum = column
     by_word fold.Min = column
@@ -147,9 +151,9 @@ fold_call_meets : (x : Spot) (at : ℕ) (label : Option Name) (word : FoldWord) 
     Meets x next next NoMore (folds.fold_call at label word)
 unfolding folds.fold_call
 fold_call_meets x at label word =
-    let column = λ (s : Rest). up_to 41 what.CloseParenthesis (folds.folded_column word s) in
-    meets_map x next next NoMore NoMore (folds.aggregate_of at label word) column (λ y h. h)
-    (meets_up_to x next NoMore NoMore 41 what.CloseParenthesis (folds.folded_column word) refl
+    let column = λ (s : Rest). up_to_sign 41 what.CloseParenthesis (folds.fold_column word s) in
+    meets_map x next next NoMore NoMore (folds.aggregate_from at label word) column (λ y h. h)
+    (meets_up_to x next NoMore NoMore 41 what.CloseParenthesis (folds.fold_column word) refl
     (closing_begins x what.CloseParenthesis refl) (λ y h. absurd h) (folded_column_meets x word))
 
 abbrev call_of : Name → ℕ → FoldWord → Rest → Outcome Aggregate
@@ -210,14 +214,14 @@ fold_fails : (r : Rest) → (head r == 58) ≡ true → Failed (folds.fold_here 
 unfolding folds.fold_here
 fold_fails r h =
     let same = equal_byte (head r) 58 h in
-    subst (λ s. Failed (if head s == 99 then folds.read_as fold.Count (codes "count") s else
-    (if head s == 115 then folds.read_as fold.Sum (codes "sum") s else
-    (if head s == 97 then folds.read_as fold.Aggregate (codes "aggregate") s else
+    subst (λ s. Failed (if head s == 99 then folds.fold_word_from fold.Count (codes "count") s else
+    (if head s == 115 then folds.fold_word_from fold.Sum (codes "sum") s else
+    (if head s == 97 then folds.fold_word_from fold.Aggregate (codes "aggregate") s else
     (if head s == 109 then folds.fold_behind_m (behind s) else Err (unexpected_fault what.Aggregate s))))))
     (sym (skip_off r (ap is_blank same)))
-    (subst (λ b. Failed (if b == 99 then folds.read_as fold.Count (codes "count") r else
-    (if b == 115 then folds.read_as fold.Sum (codes "sum") r else
-    (if b == 97 then folds.read_as fold.Aggregate (codes "aggregate") r else
+    (subst (λ b. Failed (if b == 99 then folds.fold_word_from fold.Count (codes "count") r else
+    (if b == 115 then folds.fold_word_from fold.Sum (codes "sum") r else
+    (if b == 97 then folds.fold_word_from fold.Aggregate (codes "aggregate") r else
     (if b == 109 then folds.fold_behind_m (behind r) else Err (unexpected_fault what.Aggregate r))))))
     (sym same) tt)
 

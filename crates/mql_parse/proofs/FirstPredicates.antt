@@ -123,8 +123,8 @@ true_begins x h = either (first_of x.more == 114) refl
     either false e =
         at_byte x what.Text what.Operation 116 (ap (λ t. if t then what.Truth else what.Operation) e) refl h
 
-value_first : (x : Spot) → First x next here what.Text predicates.value
-unfolding predicates.value
+value_first : (x : Spot) → First x next here what.Text predicates.literal_value
+unfolding predicates.literal_value
 value_first x =
     let yes : Rest → Outcome FieldValue = λ r. Ok (field.Bool true, r) in
     let no : Rest → Outcome FieldValue = λ r. Ok (field.Bool false, r) in
@@ -147,8 +147,8 @@ value_first x =
     (λ s e h. map_first x here what.Text (λ z. field.Int z) (reading.signed_reading s) (signed_far x what.Text s e h))
     (minus_or_digit x what.Text refl refl) (first_unexpected x here what.Text))))
 
-value_before : (x : Spot) → Before x next here NoMore predicates.value
-unfolding predicates.value
+value_before : (x : Spot) → Before x next here NoMore predicates.literal_value
+unfolding predicates.literal_value
 value_before x =
     before_if x here NoMore (λ b. b == 34) (λ s. map_outcome (λ y. field.Text y) (reading.text (behind (skip s)))) _
     (before_behind_skip x here NoMore (λ s. map_outcome (λ y. field.Text y) (reading.text s))
@@ -172,12 +172,12 @@ compares_how_meets : (x : Spot) (column : Name) (how : Compared) →
     Meets x next here NoMore (λ r. predicates.compares_how column (how, r))
 compares_how_meets x column (WithValue how) =
     let read = λ (n : ℕ) (s : Rest). map_outcome (λ v. Compare column how (record { at = n; value = v }))
-    (predicates.value s) in
+    (predicates.literal_value s) in
     meets_of x next here NoMore what.Text (λ r. predicates.compares_how column (WithValue how, r))
-    (first_next x here what.Text read (λ n. first_bind x next here here what.Text predicates.value _ (value_first x)
-    (λ v. steady_ok here (Compare column how (record { at = n; value = v })))))
+    (first_next x here what.Text read (λ n. first_bind x next here here what.Text predicates.literal_value _
+    (value_first x) (λ v. steady_ok here (Compare column how (record { at = n; value = v })))))
     (before_next x here NoMore read
-    (λ n. before_map x next here (λ v. Compare column how (record { at = n; value = v })) predicates.value
+    (λ n. before_map x next here (λ v. Compare column how (record { at = n; value = v })) predicates.literal_value
     (value_before x)))
 compares_how_meets x column WithPattern =
     let read = λ (n : ℕ) (s : Rest). sign 34 what.Text s >>= like column n in

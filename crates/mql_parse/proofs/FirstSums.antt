@@ -14,7 +14,7 @@ use Rattle.mql_parse.specs.Outcomes.{Outcome, unexpected_fault, sign, map_outcom
 use Rattle.mql_parse.specs.Repeats.{Done, goes_on, repetition}
 use Rattle.mql_parse.specs.TokenReading as reading
 use Rattle.mql_parse.specs.SumReading as sums
-use Rattle.mql_parse.specs.SumReading.{SumSeen, seen_sum, is_percentile}
+use Rattle.mql_parse.specs.SumReading.{SumSeen, as_sum_seen, is_percentile}
 use Rattle.mql_parse.specs.Steadiness.{here, next, unit_read}
 use Rattle.mql_parse.proofs.SumSound.{term_turn_behind}
 use Rattle.mql_parse.proofs.ListSound.{items_turn_behind}
@@ -56,19 +56,19 @@ percentile_meets x at =
     (meets_to x next NoMore (reading.positive 100) (meets_positive x 100))
     (λ p. meets_behind_pass x next next next (SumGoes x) (sign 41 what.CloseParenthesis) _
     (sign_to x 41 what.CloseParenthesis refl (closing_begins x what.CloseParenthesis refl))
-    (meets_ok x next (SumGoes x) (seen_sum (Percentile at column p) false)))))
+    (meets_ok x next (SumGoes x) (as_sum_seen (Percentile at column p) false)))))
 
 word_read_meets : (x : Spot) (word : Name) → Meets x next next (SumGoes x) (λ r. sums.word_read (word, r))
 word_read_meets x word =
-    meets_choice x next next (SumGoes x) (is_percentile word.text) _ (λ r. Ok (seen_sum (Column word) false, r))
+    meets_choice x next next (SumGoes x) (is_percentile word.text) _ (λ r. Ok (as_sum_seen (Column word) false, r))
     (meets_either x (SumGoes x) (λ b. b == 40) (λ r. sums.percentile word.at (behind (skip r)))
-    (λ r. Ok (seen_sum (Column word) true, r))
+    (λ r. Ok (as_sum_seen (Column word) true, r))
     (before_part_behind x next (SumGoes x) (sums.percentile word.at) (percentile_meets x word.at))
     (skip_far x next (SumGoes x) (λ b. b == 40) refl (sums.percentile word.at)
     (steady_from next (sums.percentile word.at) (percentile_meets x word.at).steady))
-    (meets_ok x next (SumGoes x) (seen_sum (Column word) true))
+    (meets_ok x next (SumGoes x) (as_sum_seen (Column word) true))
     (λ h s e l. (e, opening_begins x what.OpenParenthesis refl h)))
-    (meets_ok x next (SumGoes x) (seen_sum (Column word) false))
+    (meets_ok x next (SumGoes x) (as_sum_seen (Column word) false))
 
 word_term_meets : (x : Spot) → Meets x here next (SumGoes x) (λ t. sums.word_read (word_here t))
 word_term_meets x = meets_then x here next next (SumGoes x) (λ t. Ok (word_here t)) sums.word_read
@@ -76,9 +76,10 @@ word_term_meets x = meets_then x here next next (SumGoes x) (λ t. Ok (word_here
 
 number_term_before : (x : Spot) → Before x next next (SumGoes x) sums.number_term
 number_term_before x =
-    before_next x next (SumGoes x) (λ n s. map_outcome (λ z. seen_sum (Number n z) false) (reading.signed_reading s))
-    (λ n. before_to x next (SumGoes x) (λ s. map_outcome (λ z. seen_sum (Number n z) false) (reading.signed_reading s))
-    (before_map x next here (λ z. seen_sum (Number n z) false) reading.signed_reading (before_signed x)))
+    before_next x next (SumGoes x) (λ n s. map_outcome (λ z. as_sum_seen (Number n z) false) (reading.signed_reading s))
+    (λ n. before_to x next (SumGoes x)
+    (λ s. map_outcome (λ z. as_sum_seen (Number n z) false) (reading.signed_reading s))
+    (before_map x next here (λ z. as_sum_seen (Number n z) false) reading.signed_reading (before_signed x)))
 
 -- a term begins with a name
 term_first_with : (x : Spot) (group : Rest → Rest → Outcome SumSeen) →
@@ -90,7 +91,7 @@ term_first_with x group k =
     first_if x next what.Name (λ b. b == 40) (λ s. group (skip s) (behind (skip s))) _ k
     (opening_begins x what.Name refl)
     (first_if x next what.Name (λ b. b == 45 || is_digit b) sums.number_term _
-    (λ s e h. map_first x next what.Name (λ z. seen_sum (Number (skip s).at z) false) (reading.signed_reading s)
+    (λ s e h. map_first x next what.Name (λ z. as_sum_seen (Number (skip s).at z) false) (reading.signed_reading s)
     (first_wider x what.Name (reading.signed_reading s) (signed_far x what.Name s e h)))
     (minus_or_digit x what.Name refl refl)
     (first_if x next what.Name is_letter (λ s. sums.word_read (word_here (skip s)))
@@ -208,17 +209,17 @@ sum_end_first : (x : Spot) (inner : SumSeen) →
     First x next next (sums.behind_sum inner.bare) (λ r. sums.sum_end (inner, r))
 sum_end_first x inner =
     let w = sums.behind_sum inner.bare in
-    first_behind_pass x next next next w (sign 41 w) (λ r. Ok (seen_sum inner.sum false, r))
+    first_behind_pass x next next next w (sign 41 w) (λ r. Ok (as_sum_seen inner.sum false, r))
     (first_to x next w (λ s. unit_read (sign 41 w s))
     (first_sign x 41 w refl (closing_begins x w (behind_sum_admits inner.bare))))
-    (steady_ok next (seen_sum inner.sum false))
+    (steady_ok next (as_sum_seen inner.sum false))
 
 sum_end_meets : (x : Spot) (inner : SumSeen) → Meets x next next (SumGoes x) (λ r. sums.sum_end (inner, r))
 sum_end_meets x inner =
     let w = sums.behind_sum inner.bare in
-    meets_behind_pass x next next next (SumGoes x) (sign 41 w) (λ r. Ok (seen_sum inner.sum false, r))
+    meets_behind_pass x next next next (SumGoes x) (sign 41 w) (λ r. Ok (as_sum_seen inner.sum false, r))
     (sign_to x 41 w refl (closing_begins x w (behind_sum_admits inner.bare)))
-    (meets_ok x next (SumGoes x) (seen_sum inner.sum false))
+    (meets_ok x next (SumGoes x) (as_sum_seen inner.sum false))
 
 group_meets_by : (x : Spot) (d : ℕ) → Meets x next next (SumGoes x) (sums.sum d) →
     Meets x next next (SumGoes x) (λ s. sums.sum d s >>= sums.sum_end)
@@ -283,7 +284,7 @@ item_meets x d =
     (λ h s e l. (e, colon_begins x what.CloseBracket refl refl h)))
 
 pub items_meets : (x : Spot) (d : ℕ) → Meets x next next NoMore (sums.items d)
-unfolding sums.items_with
+unfolding sums.items_with_sum
 items_meets x d =
     meets_list x (λ i. Begun x what.CloseBracket) 93 what.CloseBracket (sums.item_with (sums.sum d)) refl
     (comma_begins x what.CloseBracket refl) (close_bracket_begins x what.CloseBracket refl)

@@ -10,7 +10,7 @@ use Rattle.mql_parse.specs.declared.faults.ParseFault.{ParseFault}
 use Rattle.mql_parse.specs.declared.faults.ParseKind.{ParseKind}
 use Rattle.mql_parse.specs.declared.faults.ParseKind.TheVariants.{BadToken, Expected}
 use Rattle.mql_parse.specs.declared.faults.What.{What}
-use Rattle.mql_parse.specs.Outcomes.{Outcome, fault, kind_of, unexpected_fault, sign, map_outcome, up_to}
+use Rattle.mql_parse.specs.Outcomes.{Outcome, fault, kind_of_fault, unexpected_fault, sign, map_outcome, up_to_sign}
 use Rattle.mql_parse.specs.Steadiness.{here, next, Reaches, Steady, unit_read}
 use Rattle.mql_parse.proofs.FirstWords.{allowed, leads, allowed_later}
 use Rattle.mql_parse.proofs.Spots.{beyond}
@@ -207,7 +207,7 @@ meets_to x from G read k = record {
 }
 
 -- a reader that is at fault here
-pub kind_names : (w : What) (bs : List ℕ) (v : What) → kind_of w bs ≡ Expected v → v ≡ w
+pub kind_names : (w : What) (bs : List ℕ) (v : What) → kind_of_fault w bs ≡ Expected v → v ≡ w
 kind_names w [] v h = cc
 kind_names w (b ∷ bs) v h = either (is_alphabet b) h
   where
@@ -487,7 +487,7 @@ sign_to x b w z h = meets_to x next NoMore (λ s. unit_read (sign b w s)) (meets
 -- a part up to a sign, which is expected where nothing goes on the part
 pub meets_up_to : {A : Type 0} (x : Spot) (from : Rest → ℕ) (G : A → Type 0) (H : A → Type 0) (b : ℕ) (w : What)
     (read : Rest → Outcome A) → (0 == b) ≡ false → ((x.byte == b) ≡ true → Begun x w) → ((a : A) → G a → Begun x w) →
-    Meets x from next G read → Meets x from next H (λ s. up_to b w (read s))
+    Meets x from next G read → Meets x from next H (λ s. up_to_sign b w (read s))
 meets_up_to x from G H b w read z h goes k =
     meets_bind x from next next G H read (λ y. sign b w y.1 >>= λ r. Ok (y.0, r)) k
     (λ a. meets_behind_pass x next next next H (sign b w) (λ r. Ok (a, r)) (sign_to x b w z h) (meets_ok x next H a))

@@ -6,7 +6,7 @@ use Rattle.mql_ast.specs.declared.operations.FoldWord.{FoldWord}
 use Rattle.mql_ast.specs.declared.operations.FoldWord.TheVariants as fold
 use Rattle.mql_ast.specs.Rests.{Rest, head, behind, skip}
 use Rattle.mql_parse.specs.declared.faults.What.TheVariants as what
-use Rattle.mql_parse.specs.Outcomes.{unexpected_fault, exact, sign, up_to}
+use Rattle.mql_parse.specs.Outcomes.{unexpected_fault, exact, sign, up_to_sign}
 use Rattle.mql_parse.specs.Repeats.{Done, Again, repetition, list_turn}
 use Rattle.mql_parse.specs.TokenReading as reading
 use Rattle.mql_parse.specs.Folds as folds
@@ -24,28 +24,28 @@ names_fits s = if_fits None s (head (skip s) == 93) (Ok ([], behind (skip s)))
     (list_turn_fits 93 refl refl what.CloseBracket reading.name name_fits) [] s)
 
 read_as_fits : (word : FoldWord) (rest : List ℕ) → plain_bytes rest ≡ true → (s : Rest) →
-    Fits None s (folds.read_as word rest s)
+    Fits None s (folds.fold_word_from word rest s)
 read_as_fits word rest h s = pass_then s (exact what.Aggregate rest s) (λ r. Ok (word, r))
     (exact_fits what.Aggregate rest h s) outside_itself
 
 fold_behind_me_fits : (s : Rest) → Fits None s (folds.fold_behind_me s)
 fold_behind_me_fits s =
-    if_fits None s (head s == 97) (folds.read_as fold.Mean (codes "n") (behind s)) _
-    (λ h. behind_fits (λ b. b == 97) refl refl s h (folds.read_as fold.Mean (codes "n") (behind s))
+    if_fits None s (head s == 97) (folds.fold_word_from fold.Mean (codes "n") (behind s)) _
+    (λ h. behind_fits (λ b. b == 97) refl refl s h (folds.fold_word_from fold.Mean (codes "n") (behind s))
     (read_as_fits fold.Mean (codes "n") refl (behind s)))
-    (λ _. if_fits None s (head s == 114) (folds.read_as fold.Merge (codes "ge") (behind s))
+    (λ _. if_fits None s (head s == 114) (folds.fold_word_from fold.Merge (codes "ge") (behind s))
     (Err (unexpected_fault what.Aggregate s))
-    (λ h. behind_fits (λ b. b == 114) refl refl s h (folds.read_as fold.Merge (codes "ge") (behind s))
+    (λ h. behind_fits (λ b. b == 114) refl refl s h (folds.fold_word_from fold.Merge (codes "ge") (behind s))
     (read_as_fits fold.Merge (codes "ge") refl (behind s))) (λ _. unexpected_fits what.Aggregate s))
 
 fold_behind_m_fits : (s : Rest) → Fits None s (folds.fold_behind_m s)
 unfolding folds.fold_behind_m
 fold_behind_m_fits s =
-    if_fits None s (head s == 105) (folds.read_as fold.Min (codes "n") (behind s)) _
-    (λ h. behind_fits (λ b. b == 105) refl refl s h (folds.read_as fold.Min (codes "n") (behind s))
+    if_fits None s (head s == 105) (folds.fold_word_from fold.Min (codes "n") (behind s)) _
+    (λ h. behind_fits (λ b. b == 105) refl refl s h (folds.fold_word_from fold.Min (codes "n") (behind s))
     (read_as_fits fold.Min (codes "n") refl (behind s)))
-    (λ _. if_fits None s (head s == 97) (folds.read_as fold.Max (codes "x") (behind s)) _
-    (λ h. behind_fits (λ b. b == 97) refl refl s h (folds.read_as fold.Max (codes "x") (behind s))
+    (λ _. if_fits None s (head s == 97) (folds.fold_word_from fold.Max (codes "x") (behind s)) _
+    (λ h. behind_fits (λ b. b == 97) refl refl s h (folds.fold_word_from fold.Max (codes "x") (behind s))
     (read_as_fits fold.Max (codes "x") refl (behind s)))
     (λ _. if_fits None s (head s == 101) (folds.fold_behind_me (behind s)) (Err (unexpected_fault what.Aggregate s))
     (λ h. behind_fits (λ b. b == 101) refl refl s h (folds.fold_behind_me (behind s))
@@ -54,11 +54,11 @@ fold_behind_m_fits s =
 fold_here_fits : (s : Rest) → Fits None s (folds.fold_here s)
 unfolding folds.fold_here
 fold_here_fits s =
-    if_fits None s (head s == 99) (folds.read_as fold.Count (codes "count") s) _
+    if_fits None s (head s == 99) (folds.fold_word_from fold.Count (codes "count") s) _
     (λ _. read_as_fits fold.Count (codes "count") refl s)
-    (λ _. if_fits None s (head s == 115) (folds.read_as fold.Sum (codes "sum") s) _
+    (λ _. if_fits None s (head s == 115) (folds.fold_word_from fold.Sum (codes "sum") s) _
     (λ _. read_as_fits fold.Sum (codes "sum") refl s)
-    (λ _. if_fits None s (head s == 97) (folds.read_as fold.Aggregate (codes "aggregate") s) _
+    (λ _. if_fits None s (head s == 97) (folds.fold_word_from fold.Aggregate (codes "aggregate") s) _
     (λ _. read_as_fits fold.Aggregate (codes "aggregate") refl s)
     (λ _. if_fits None s (head s == 109) (folds.fold_behind_m (behind s)) (Err (unexpected_fault what.Aggregate s))
     (λ h. behind_fits (λ b. b == 109) refl refl s h (folds.fold_behind_m (behind s))
@@ -67,7 +67,7 @@ fold_here_fits s =
 some_column_fits : (s : Rest) → Fits None s (folds.some_column s)
 some_column_fits s = map_fits None s Some (reading.name s) (name_fits s)
 
-folded_column_fits : (word : FoldWord) (s : Rest) → Fits None s (folds.folded_column word s)
+folded_column_fits : (word : FoldWord) (s : Rest) → Fits None s (folds.fold_column word s)
 folded_column_fits fold.Count s = outside_itself s
 folded_column_fits fold.Sum s = some_column_fits s
 folded_column_fits fold.Min s = some_column_fits s
@@ -80,8 +80,9 @@ fold_call_fits : (at : ℕ) (label : Option Name) (word : FoldWord) (s : Rest) �
     Fits None s (folds.fold_call at label word s)
 unfolding folds.fold_call
 fold_call_fits at label word s =
-    map_fits None s (folds.aggregate_of at label word) (up_to 41 what.CloseParenthesis (folds.folded_column word s))
-    (up_to_fits 41 refl refl what.CloseParenthesis s (folds.folded_column word s) (folded_column_fits word s))
+    map_fits None s (folds.aggregate_from at label word)
+    (up_to_sign 41 what.CloseParenthesis (folds.fold_column word s))
+    (up_to_fits 41 refl refl what.CloseParenthesis s (folds.fold_column word s) (folded_column_fits word s))
 
 labelled_fold_fits : (label : Name) (s : Rest) → Fits None s (folds.labelled_fold label s)
 labelled_fold_fits label s =

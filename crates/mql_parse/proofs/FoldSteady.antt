@@ -7,7 +7,7 @@ use Rattle.mql_ast.specs.declared.operations.FoldWord.{FoldWord}
 use Rattle.mql_ast.specs.declared.operations.FoldWord.TheVariants as fold
 use Rattle.mql_ast.specs.Rests.{Rest, head, behind, skip}
 use Rattle.mql_parse.specs.declared.faults.What.TheVariants as what
-use Rattle.mql_parse.specs.Outcomes.{unexpected_fault, exact, sign, up_to}
+use Rattle.mql_parse.specs.Outcomes.{unexpected_fault, exact, sign, up_to_sign}
 use Rattle.mql_parse.specs.Repeats.{Done, Again, list_turn}
 use Rattle.mql_parse.specs.TokenReading as reading
 use Rattle.mql_parse.specs.Folds as folds
@@ -27,28 +27,28 @@ names_steady = steady_if next here (λ s. head (skip s) == 93) (λ s. Ok ([], be
     (steady_repetition here (list_turn 93 what.CloseBracket reading.name) names_turn_behind
     (λ so_far. list_turn_steady 93 what.CloseBracket reading.name so_far name_next) [])
 
-read_as_steady : (word : FoldWord) (rest : List ℕ) → Steady here here (folds.read_as word rest)
+read_as_steady : (word : FoldWord) (rest : List ℕ) → Steady here here (folds.fold_word_from word rest)
 read_as_steady word rest = steady_behind_pass here here here (exact what.Aggregate rest) (λ r. Ok (word, r))
     (exact_steady what.Aggregate rest) (steady_ok here word)
 
 fold_behind_me_steady : Steady here here folds.fold_behind_me
 fold_behind_me_steady =
-    steady_if here here (λ s. head s == 97) (λ s. folds.read_as fold.Mean (codes "n") (behind s)) _
-    (head_test (λ b. b == 97)) (steady_behind here (folds.read_as fold.Mean (codes "n"))
+    steady_if here here (λ s. head s == 97) (λ s. folds.fold_word_from fold.Mean (codes "n") (behind s)) _
+    (head_test (λ b. b == 97)) (steady_behind here (folds.fold_word_from fold.Mean (codes "n"))
     (read_as_steady fold.Mean (codes "n")))
-    (steady_if here here (λ s. head s == 114) (λ s. folds.read_as fold.Merge (codes "ge") (behind s)) _
-    (head_test (λ b. b == 114)) (steady_behind here (folds.read_as fold.Merge (codes "ge"))
+    (steady_if here here (λ s. head s == 114) (λ s. folds.fold_word_from fold.Merge (codes "ge") (behind s)) _
+    (head_test (λ b. b == 114)) (steady_behind here (folds.fold_word_from fold.Merge (codes "ge"))
     (read_as_steady fold.Merge (codes "ge")))
     (steady_unexpected here what.Aggregate))
 
 fold_behind_m_steady : Steady here here folds.fold_behind_m
 unfolding folds.fold_behind_m
 fold_behind_m_steady =
-    steady_if here here (λ s. head s == 105) (λ s. folds.read_as fold.Min (codes "n") (behind s)) _
-    (head_test (λ b. b == 105)) (steady_behind here (folds.read_as fold.Min (codes "n"))
+    steady_if here here (λ s. head s == 105) (λ s. folds.fold_word_from fold.Min (codes "n") (behind s)) _
+    (head_test (λ b. b == 105)) (steady_behind here (folds.fold_word_from fold.Min (codes "n"))
     (read_as_steady fold.Min (codes "n")))
-    (steady_if here here (λ s. head s == 97) (λ s. folds.read_as fold.Max (codes "x") (behind s)) _
-    (head_test (λ b. b == 97)) (steady_behind here (folds.read_as fold.Max (codes "x"))
+    (steady_if here here (λ s. head s == 97) (λ s. folds.fold_word_from fold.Max (codes "x") (behind s)) _
+    (head_test (λ b. b == 97)) (steady_behind here (folds.fold_word_from fold.Max (codes "x"))
     (read_as_steady fold.Max (codes "x")))
     (steady_if here here (λ s. head s == 101) (λ s. folds.fold_behind_me (behind s)) _ (head_test (λ b. b == 101))
     (steady_behind here folds.fold_behind_me fold_behind_me_steady)
@@ -57,11 +57,13 @@ fold_behind_m_steady =
 fold_here_steady : Steady here here folds.fold_here
 unfolding folds.fold_here
 fold_here_steady =
-    steady_if here here (λ s. head s == 99) (folds.read_as fold.Count (codes "count")) _ (head_test (λ b. b == 99))
+    steady_if here here (λ s. head s == 99) (folds.fold_word_from fold.Count (codes "count")) _
+    (head_test (λ b. b == 99))
     (read_as_steady fold.Count (codes "count"))
-    (steady_if here here (λ s. head s == 115) (folds.read_as fold.Sum (codes "sum")) _ (head_test (λ b. b == 115))
+    (steady_if here here (λ s. head s == 115) (folds.fold_word_from fold.Sum (codes "sum")) _
+    (head_test (λ b. b == 115))
     (read_as_steady fold.Sum (codes "sum"))
-    (steady_if here here (λ s. head s == 97) (folds.read_as fold.Aggregate (codes "aggregate")) _
+    (steady_if here here (λ s. head s == 97) (folds.fold_word_from fold.Aggregate (codes "aggregate")) _
     (head_test (λ b. b == 97)) (read_as_steady fold.Aggregate (codes "aggregate"))
     (steady_if here here (λ s. head s == 109) (λ s. folds.fold_behind_m (behind s)) _ (head_test (λ b. b == 109))
     (steady_behind here folds.fold_behind_m fold_behind_m_steady)
@@ -70,7 +72,7 @@ fold_here_steady =
 some_column_steady : Steady next next folds.some_column
 some_column_steady = steady_map next next Some reading.name name_next
 
-folded_column_steady : (word : FoldWord) → Steady next next (folds.folded_column word)
+folded_column_steady : (word : FoldWord) → Steady next next (folds.fold_column word)
 folded_column_steady fold.Count = steady_ok next None
 folded_column_steady fold.Sum = some_column_steady
 folded_column_steady fold.Min = some_column_steady
@@ -82,9 +84,9 @@ folded_column_steady fold.Aggregate = some_column_steady
 fold_call_steady : (at : ℕ) (label : Option Name) (word : FoldWord) → Steady next next (folds.fold_call at label word)
 unfolding folds.fold_call
 fold_call_steady at label word =
-    let column = λ (s : Rest). up_to 41 what.CloseParenthesis (folds.folded_column word s) in
-    steady_map next next (folds.aggregate_of at label word) column
-    (steady_to next column (steady_up_to next 41 what.CloseParenthesis (folds.folded_column word)
+    let column = λ (s : Rest). up_to_sign 41 what.CloseParenthesis (folds.fold_column word s) in
+    steady_map next next (folds.aggregate_from at label word) column
+    (steady_to next column (steady_up_to next 41 what.CloseParenthesis (folds.fold_column word)
     (folded_column_steady word)))
 
 labelled_fold_steady : (label : Name) → Steady next next (folds.labelled_fold label)

@@ -7,7 +7,7 @@ use Rattle.mql_ast.specs.Trees.{PredicateTree, DeedTree, Filter, Align, GroupBy,
 use Rattle.mql_ast.specs.Rests.{Rest, head, skip}
 use Rattle.mql_parse.specs.declared.faults.What.{What}
 use Rattle.mql_parse.specs.declared.faults.What.TheVariants as what
-use Rattle.mql_parse.specs.Outcomes.{Outcome, unexpected_fault, exact, sign, apart, map_outcome, up_to}
+use Rattle.mql_parse.specs.Outcomes.{Outcome, unexpected_fault, exact, sign, apart, map_outcome, up_to_sign}
 use Rattle.mql_parse.specs.Repeats.{Done, Again, repetition}
 use Rattle.mql_parse.specs.TokenReading as reading
 use Rattle.mql_parse.specs.SumReading as sums
@@ -47,7 +47,7 @@ duration_next x = follows_to x next Any reading.duration reading.duration (durat
 aligned_for_follows : (x : Swap) (word : List ℕ) → no_counts word ≡ true →
     Follows x here next Any (pipes.aligned_for word) (pipes.aligned_for word)
 aligned_for_follows x word n =
-    let closed = λ (k : Rest). up_to 41 what.CloseParenthesis (reading.duration k) in
+    let closed = λ (k : Rest). up_to_sign 41 what.CloseParenthesis (reading.duration k) in
     let opened = λ (m : Rest). sign 40 what.OpenParenthesis m >>= closed in
     follows_behind_pass x here here next Any (exact what.Aligner word) (exact what.Aligner word) opened opened
     (exact_follows x what.Aligner word n)

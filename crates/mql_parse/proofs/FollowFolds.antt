@@ -7,7 +7,7 @@ use Rattle.mql_ast.specs.declared.operations.FoldWord.{FoldWord}
 use Rattle.mql_ast.specs.declared.operations.FoldWord.TheVariants as fold
 use Rattle.mql_ast.specs.Rests.{Rest, behind, skip}
 use Rattle.mql_parse.specs.declared.faults.What.TheVariants as what
-use Rattle.mql_parse.specs.Outcomes.{Outcome, unexpected_fault, exact, sign, up_to}
+use Rattle.mql_parse.specs.Outcomes.{Outcome, unexpected_fault, exact, sign, up_to_sign}
 use Rattle.mql_parse.specs.Repeats.{Done, Again, list_turn, repetition}
 use Rattle.mql_parse.specs.TokenReading as reading
 use Rattle.mql_parse.specs.Folds as folds
@@ -40,7 +40,7 @@ abbrev Same : FoldWord → FoldWord → Type 0
 Same word other = word ≡ other
 
 read_as_follows : (x : Swap) (word : FoldWord) (rest : List ℕ) → no_counts rest ≡ true →
-    Follows x here here Same (folds.read_as word rest) (folds.read_as word rest)
+    Follows x here here Same (folds.fold_word_from word rest) (folds.fold_word_from word rest)
 read_as_follows x word rest n =
     follows_behind_pass x here here here Same (exact what.Aggregate rest) (exact what.Aggregate rest)
     (λ r. Ok (word, r)) (λ r. Ok (word, r)) (exact_follows x what.Aggregate rest n)
@@ -48,27 +48,31 @@ read_as_follows x word rest n =
 
 fold_behind_me_follows : (x : Swap) → Follows x here here Same folds.fold_behind_me folds.fold_behind_me
 fold_behind_me_follows x =
-    follows_taken x 97 here Same (λ s. folds.read_as fold.Mean (codes "n") (behind s))
-    (λ s. folds.read_as fold.Mean (codes "n") (behind s)) _ _ refl
-    (behind_taken x 97 here Same (folds.read_as fold.Mean (codes "n")) (folds.read_as fold.Mean (codes "n")) refl
+    follows_taken x 97 here Same (λ s. folds.fold_word_from fold.Mean (codes "n") (behind s))
+    (λ s. folds.fold_word_from fold.Mean (codes "n") (behind s)) _ _ refl
+    (behind_taken x 97 here Same (folds.fold_word_from fold.Mean (codes "n"))
+    (folds.fold_word_from fold.Mean (codes "n")) refl
     (read_as_follows x fold.Mean (codes "n") refl))
-    (follows_taken x 114 here Same (λ s. folds.read_as fold.Merge (codes "ge") (behind s))
-    (λ s. folds.read_as fold.Merge (codes "ge") (behind s)) (λ s. Err (unexpected_fault what.Aggregate s))
+    (follows_taken x 114 here Same (λ s. folds.fold_word_from fold.Merge (codes "ge") (behind s))
+    (λ s. folds.fold_word_from fold.Merge (codes "ge") (behind s)) (λ s. Err (unexpected_fault what.Aggregate s))
     (λ s. Err (unexpected_fault what.Aggregate s)) refl
-    (behind_taken x 114 here Same (folds.read_as fold.Merge (codes "ge")) (folds.read_as fold.Merge (codes "ge")) refl
+    (behind_taken x 114 here Same (folds.fold_word_from fold.Merge (codes "ge"))
+    (folds.fold_word_from fold.Merge (codes "ge")) refl
     (read_as_follows x fold.Merge (codes "ge") refl))
     (follows_unexpected x here Same what.Aggregate what.Aggregate))
 
 fold_behind_m_follows : (x : Swap) → Follows x here here Same folds.fold_behind_m folds.fold_behind_m
 unfolding folds.fold_behind_m
 fold_behind_m_follows x =
-    follows_taken x 105 here Same (λ s. folds.read_as fold.Min (codes "n") (behind s))
-    (λ s. folds.read_as fold.Min (codes "n") (behind s)) _ _ refl
-    (behind_taken x 105 here Same (folds.read_as fold.Min (codes "n")) (folds.read_as fold.Min (codes "n")) refl
+    follows_taken x 105 here Same (λ s. folds.fold_word_from fold.Min (codes "n") (behind s))
+    (λ s. folds.fold_word_from fold.Min (codes "n") (behind s)) _ _ refl
+    (behind_taken x 105 here Same (folds.fold_word_from fold.Min (codes "n"))
+    (folds.fold_word_from fold.Min (codes "n")) refl
     (read_as_follows x fold.Min (codes "n") refl))
-    (follows_taken x 97 here Same (λ s. folds.read_as fold.Max (codes "x") (behind s))
-    (λ s. folds.read_as fold.Max (codes "x") (behind s)) _ _ refl
-    (behind_taken x 97 here Same (folds.read_as fold.Max (codes "x")) (folds.read_as fold.Max (codes "x")) refl
+    (follows_taken x 97 here Same (λ s. folds.fold_word_from fold.Max (codes "x") (behind s))
+    (λ s. folds.fold_word_from fold.Max (codes "x") (behind s)) _ _ refl
+    (behind_taken x 97 here Same (folds.fold_word_from fold.Max (codes "x"))
+    (folds.fold_word_from fold.Max (codes "x")) refl
     (read_as_follows x fold.Max (codes "x") refl))
     (follows_taken x 101 here Same (λ s. folds.fold_behind_me (behind s)) (λ s. folds.fold_behind_me (behind s))
     (λ s. Err (unexpected_fault what.Aggregate s)) (λ s. Err (unexpected_fault what.Aggregate s)) refl
@@ -78,12 +82,14 @@ fold_behind_m_follows x =
 fold_here_follows : (x : Swap) → Follows x here here Same folds.fold_here folds.fold_here
 unfolding folds.fold_here
 fold_here_follows x =
-    follows_taken x 99 here Same (folds.read_as fold.Count (codes "count")) (folds.read_as fold.Count (codes "count"))
+    follows_taken x 99 here Same (folds.fold_word_from fold.Count (codes "count"))
+    (folds.fold_word_from fold.Count (codes "count"))
     _ _ refl (taken x 99 here Same _ _ (read_as_follows x fold.Count (codes "count") refl))
-    (follows_taken x 115 here Same (folds.read_as fold.Sum (codes "sum")) (folds.read_as fold.Sum (codes "sum"))
+    (follows_taken x 115 here Same (folds.fold_word_from fold.Sum (codes "sum"))
+    (folds.fold_word_from fold.Sum (codes "sum"))
     _ _ refl (taken x 115 here Same _ _ (read_as_follows x fold.Sum (codes "sum") refl))
-    (follows_taken x 97 here Same (folds.read_as fold.Aggregate (codes "aggregate"))
-    (folds.read_as fold.Aggregate (codes "aggregate")) _ _ refl
+    (follows_taken x 97 here Same (folds.fold_word_from fold.Aggregate (codes "aggregate"))
+    (folds.fold_word_from fold.Aggregate (codes "aggregate")) _ _ refl
     (taken x 97 here Same _ _ (read_as_follows x fold.Aggregate (codes "aggregate") refl))
     (follows_taken x 109 here Same (λ s. folds.fold_behind_m (behind s)) (λ s. folds.fold_behind_m (behind s))
     (λ s. Err (unexpected_fault what.Aggregate s)) (λ s. Err (unexpected_fault what.Aggregate s)) refl
@@ -94,7 +100,7 @@ some_column_follows : (x : Swap) → Follows x next next Any folds.some_column f
 some_column_follows x = follows_map x next next Some Some reading.name reading.name (name_any x)
 
 folded_column_follows : (x : Swap) (word : FoldWord) →
-    Follows x next next Any (folds.folded_column word) (folds.folded_column word)
+    Follows x next next Any (folds.fold_column word) (folds.fold_column word)
 folded_column_follows x fold.Count = ok_any x next None None
 folded_column_follows x fold.Sum = some_column_follows x
 folded_column_follows x fold.Min = some_column_follows x
@@ -107,9 +113,9 @@ fold_call_follows : (x : Swap) (m n : ℕ) (one two : Option Name) (word : FoldW
     Follows x next next Any (folds.fold_call m one word) (folds.fold_call n two word)
 unfolding folds.fold_call
 fold_call_follows x m n one two word =
-    let column = λ (s : Rest). up_to 41 what.CloseParenthesis (folds.folded_column word s) in
-    follows_map x next next (folds.aggregate_of m one word) (folds.aggregate_of n two word) column column
-    (up_to_follows x 41 what.CloseParenthesis (folds.folded_column word) (folds.folded_column word) refl
+    let column = λ (s : Rest). up_to_sign 41 what.CloseParenthesis (folds.fold_column word s) in
+    follows_map x next next (folds.aggregate_from m one word) (folds.aggregate_from n two word) column column
+    (up_to_follows x 41 what.CloseParenthesis (folds.fold_column word) (folds.fold_column word) refl
     (folded_column_follows x word))
 
 labelled_fold_follows : (x : Swap) (a b : Name) →

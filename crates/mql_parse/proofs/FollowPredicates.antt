@@ -100,8 +100,8 @@ truth_follows x word truth n =
     (λ r. Ok (field.Bool truth, r)) (λ r. Ok (field.Bool truth, r)) (exact_follows x what.Truth word n)
     (ok_any x here (field.Bool truth) (field.Bool truth))
 
-value_follows : (x : Swap) → Follows x next here Any predicates.value predicates.value
-unfolding predicates.value
+value_follows : (x : Swap) → Follows x next here Any predicates.literal_value predicates.literal_value
+unfolding predicates.literal_value
 value_follows x =
     let quoted = λ (t : Rest). map_outcome (λ y. field.Text y) (reading.text t) in
     let number = λ (s : Rest). map_outcome (λ z. field.Int z) (reading.signed_reading s) in
@@ -126,11 +126,11 @@ compares_how_follows : (x : Swap) (a b : Name) (how : Compared) →
     Follows x next next Any (λ r. predicates.compares_how a (how, r)) (λ r. predicates.compares_how b (how, r))
 compares_how_follows x a b (WithValue how) =
     let read = λ (column : Name) (n : ℕ) (s : Rest). map_outcome (λ v. Compare column how
-    (record { at = n; value = v })) (predicates.value s) in
+    (record { at = n; value = v })) (predicates.literal_value s) in
     follows_next x next Any (read a) (read b)
     (λ m n. follows_map x next next (λ v. Compare a how (record { at = m; value = v }))
-    (λ v. Compare b how (record { at = n; value = v })) predicates.value predicates.value
-    (follows_to x next Any predicates.value predicates.value (value_follows x)))
+    (λ v. Compare b how (record { at = n; value = v })) predicates.literal_value predicates.literal_value
+    (follows_to x next Any predicates.literal_value predicates.literal_value (value_follows x)))
 compares_how_follows x a b WithPattern =
     let pieces = λ (column : Name) (n : ℕ) (q : Rest). map_outcome (λ ps. Like column
     (record { at = n; pieces = ps })) (reading.pattern q) in

@@ -13,7 +13,7 @@ use Rattle.mql_parse.specs.Outcomes.{Outcome, fault, unexpected_fault, sign, map
 use Rattle.mql_parse.specs.Repeats.{Done, goes_on, repetition, list_turn}
 use Rattle.mql_parse.specs.TokenReading as reading
 use Rattle.mql_parse.specs.SumReading as sums
-use Rattle.mql_parse.specs.SumReading.{SumSeen, seen_sum, is_percentile}
+use Rattle.mql_parse.specs.SumReading.{SumSeen, as_sum_seen, is_percentile}
 use Rattle.mql_parse.specs.Steadiness.{here, next}
 use Rattle.mql_parse.proofs.SumSound.{term_turn_behind}
 use Rattle.mql_parse.proofs.ListSound.{items_turn_behind}
@@ -35,7 +35,7 @@ percentile_follows x m n =
     (follows_then x next next next Any (reading.positive 100) (reading.positive 100) _ _ (positive_next_follows x 100)
     (λ p q. follows_behind_pass x next next next Any (sign 41 what.CloseParenthesis) (sign 41 what.CloseParenthesis) _ _
     (sign_follows x 41 what.CloseParenthesis what.CloseParenthesis refl)
-    (ok_any x next (seen_sum (Percentile m a p) false) (seen_sum (Percentile n b q) false)))))
+    (ok_any x next (as_sum_seen (Percentile m a p) false) (as_sum_seen (Percentile n b q) false)))))
 
 pub constant_tests : (x : Swap) (from : Rest → ℕ) (t u : Bool) → u ≡ t → AlikeTests x from (λ s. t) (λ s. u)
 constant_tests x from t u h r s c l = h
@@ -44,13 +44,13 @@ word_read_follows : (x : Swap) (a b : Name) → AlikeNames a b →
     Follows x next next Any (λ r. sums.word_read (a, r)) (λ r. sums.word_read (b, r))
 word_read_follows x a b g =
     follows_if x next next Any (λ r. is_percentile a.text) (λ r. is_percentile b.text) _ _
-    (λ r. Ok (seen_sum (Column a) false, r)) (λ r. Ok (seen_sum (Column b) false, r))
+    (λ r. Ok (as_sum_seen (Column a) false, r)) (λ r. Ok (as_sum_seen (Column b) false, r))
     (constant_tests x next (is_percentile a.text) (is_percentile b.text) (sym g.1))
     (next_taken x 40 next Any (λ t. sums.percentile a.at (behind t)) (λ t. sums.percentile b.at (behind t))
-    (λ r. Ok (seen_sum (Column a) true, r)) (λ r. Ok (seen_sum (Column b) true, r)) refl
+    (λ r. Ok (as_sum_seen (Column a) true, r)) (λ r. Ok (as_sum_seen (Column b) true, r)) refl
     (part_taken x 40 next Any (sums.percentile a.at) (sums.percentile b.at) refl (percentile_follows x a.at b.at))
-    (ok_any x next (seen_sum (Column a) true) (seen_sum (Column b) true)))
-    (ok_any x next (seen_sum (Column a) false) (seen_sum (Column b) false))
+    (ok_any x next (as_sum_seen (Column a) true) (as_sum_seen (Column b) true)))
+    (ok_any x next (as_sum_seen (Column a) false) (as_sum_seen (Column b) false))
 
 word_term_follows : (x : Swap) →
     Follows x here next Any (λ t. sums.word_read (word_here t)) (λ t. sums.word_read (word_here t))
@@ -62,9 +62,9 @@ word_term_follows x =
 
 number_term_follows : (x : Swap) → Follows x next next Any sums.number_term sums.number_term
 number_term_follows x =
-    let read = λ (n : ℕ) (s : Rest). map_outcome (λ z. seen_sum (Number n z) false) (reading.signed_reading s) in
+    let read = λ (n : ℕ) (s : Rest). map_outcome (λ z. as_sum_seen (Number n z) false) (reading.signed_reading s) in
     follows_next x next Any read read
-    (λ m n. follows_map x next next (λ z. seen_sum (Number m z) false) (λ z. seen_sum (Number n z) false)
+    (λ m n. follows_map x next next (λ z. as_sum_seen (Number m z) false) (λ z. as_sum_seen (Number n z) false)
     reading.signed_reading reading.signed_reading
     (follows_to x next Any reading.signed_reading reading.signed_reading (signed_follows x)))
 
@@ -116,9 +116,9 @@ sum_end_follows : (x : Swap) (a b : SumSeen) →
 sum_end_follows x a b =
     let w = sums.behind_sum a.bare in
     let v = sums.behind_sum b.bare in
-    follows_behind_pass x next next next Any (sign 41 w) (sign 41 v) (λ r. Ok (seen_sum a.sum false, r))
-    (λ r. Ok (seen_sum b.sum false, r)) (sign_follows x 41 w v refl)
-    (ok_any x next (seen_sum a.sum false) (seen_sum b.sum false))
+    follows_behind_pass x next next next Any (sign 41 w) (sign 41 v) (λ r. Ok (as_sum_seen a.sum false, r))
+    (λ r. Ok (as_sum_seen b.sum false, r)) (sign_follows x 41 w v refl)
+    (ok_any x next (as_sum_seen a.sum false) (as_sum_seen b.sum false))
 
 -- a sum in parentheses, from the first
 group_follows : (x : Swap) (d : ℕ) →
@@ -155,7 +155,7 @@ item_follows x d =
     (sums.item_behind (sums.sum d)) name_itself (name_next x) (λ a b g. item_behind_follows x d a b)
 
 pub items_follows : (x : Swap) (d : ℕ) → Follows x next next Any (sums.items d) (sums.items d)
-unfolding sums.items_with
+unfolding sums.items_with_sum
 items_follows x d =
     let item = sums.item_with (sums.sum d) in
     repetition_follows x Any (list_turn 93 what.CloseBracket item) (items_turn_behind d) (λ a. tt)

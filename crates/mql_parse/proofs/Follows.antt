@@ -9,7 +9,7 @@ use Rattle.mql_parse.specs.declared.faults.ParseFault.{ParseFault}
 use Rattle.mql_parse.specs.declared.faults.ParseKind.{ParseKind}
 use Rattle.mql_parse.specs.declared.faults.ParseKind.TheVariants.{NumberTooLarge}
 use Rattle.mql_parse.specs.declared.faults.What.{What}
-use Rattle.mql_parse.specs.Outcomes.{Outcome, unexpected_fault, fault, sign, map_outcome, up_to}
+use Rattle.mql_parse.specs.Outcomes.{Outcome, unexpected_fault, fault, sign, map_outcome, up_to_sign}
 use Rattle.mql_parse.specs.Steadiness.{here, next, Reaches, unit_read}
 pub use Rattle.mql_parse.proofs.Swaps.{Swap, counts, Pair, Blind, blind_sign, head_alike, skip_pair, behind_pair}
 use Rattle.mql_parse.proofs.Steady.{skip_on, behind_on, reaches_before, if_reaches, pass_bind, unit_if}
@@ -330,7 +330,8 @@ sign_follows x b w v n =
     follows_to x next Any (λ s. unit_read (sign b w s)) (λ s. unit_read (sign b v s)) (sign_here x b w v n)
 
 pub up_to_follows : {A : Type 0} (x : Swap) (b : ℕ) (w : What) (read other : Rest → Outcome A) → counts b ≡ false →
-    Follows x next next Any read other → Follows x next next Any (λ s. up_to b w (read s)) (λ s. up_to b w (other s))
+    Follows x next next Any read other
+    → Follows x next next Any (λ s. up_to_sign b w (read s)) (λ s. up_to_sign b w (other s))
 up_to_follows x b w read other n k =
     follows_then x next next next Any read other (λ y. sign b w y.1 >>= λ r. Ok (y.0, r))
     (λ y. sign b w y.1 >>= λ r. Ok (y.0, r)) k

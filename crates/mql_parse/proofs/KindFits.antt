@@ -11,7 +11,7 @@ use Rattle.mql_parse.specs.declared.faults.ParseFault.{ParseFault}
 use Rattle.mql_parse.specs.declared.faults.ParseKind.{ParseKind}
 use Rattle.mql_parse.specs.declared.faults.ParseKind.TheVariants.{BadToken, Expected, TooDeep}
 use Rattle.mql_parse.specs.declared.faults.What.{What}
-use Rattle.mql_parse.specs.Outcomes.{Outcome, kind_of, fault, unexpected_fault, sign, map_outcome, up_to}
+use Rattle.mql_parse.specs.Outcomes.{Outcome, kind_of_fault, fault, unexpected_fault, sign, map_outcome, up_to_sign}
 use Rattle.mql_parse.specs.Repeats.{Turn, Done, Again, Stuck, turn_outcome, repetition, goes_on, on_read, list_or_end}
 use Rattle.mql_parse.specs.Repeats.{list_turn}
 use Rattle.mql_parse.specs.Behind.{Behind}
@@ -203,7 +203,7 @@ pub quote_fits : {A : Type 0} (s : Rest) (x : Outcome A) → (head s == 34) ≡ 
 quote_fits s x h f = quote_outside s.at s.bytes x h f
 
 -- what might have come in place of what stands here
-kind_of_fits : (w : What) (bs : List ℕ) → KindFits None bs (kind_of w bs)
+kind_of_fits : (w : What) (bs : List ℕ) → KindFits None bs (kind_of_fault w bs)
 kind_of_fits w [] = tt
 kind_of_fits w (b ∷ bs) = either (is_alphabet b)
   where
@@ -250,7 +250,7 @@ sign_fits b none fails w s = if_pass s (head (skip s) == b) (Ok (behind (skip s)
     (λ h. part_outside (λ c. c == b) none fails s h) (λ h. unexpected_next w s)
 
 pub up_to_fits : {A : Type 0} (b : ℕ) → (0 == b) ≡ false → (34 == b) ≡ false → (w : What) (s : Rest) (x : Outcome A) →
-    Fits None s x → Fits None s (up_to b w x)
+    Fits None s x → Fits None s (up_to_sign b w x)
 up_to_fits b none fails w s x h = bind_fits None s x (λ y. sign b w y.1 >>= λ r. Ok (y.0, r)) h
     (λ a r. pass_then r (sign b w r) (λ k. Ok (a, k)) (sign_fits b none fails w r) outside_itself)
 

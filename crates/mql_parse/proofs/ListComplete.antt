@@ -15,7 +15,7 @@ use Rattle.mql_ast.specs.Grammar.{counted, Folding, unnamed, named, FoldingList,
 use Rattle.mql_ast.specs.Grammar.{single, labelled, ItemList, one_item, more_items}
 use Rattle.mql_parse.specs.declared.faults.What.{What}
 use Rattle.mql_parse.specs.declared.faults.What.TheVariants as what
-use Rattle.mql_parse.specs.Outcomes.{Outcome, sign, exact, up_to}
+use Rattle.mql_parse.specs.Outcomes.{Outcome, sign, exact, up_to_sign}
 use Rattle.mql_parse.specs.Repeats.{Turn, Done, Again, on_read, list_or_end, list_turn, repetition}
 use Rattle.mql_parse.specs.TokenReading as reading
 use Rattle.mql_parse.specs.SumReading as sums
@@ -110,14 +110,14 @@ single_read d s r n e h =
     (if_false (head (skip r) == 58) _ _ h)
 
 labelled_read : (d : ℕ) (s m k r : Rest) (n : Name) (e : SumTree) (b : Bool) → name_at s ≡ Some (n, m) →
-    sign_at 58 m ≡ Some k → sums.sum d k ≡ Ok (sums.seen_sum e b, r) →
+    sign_at 58 m ≡ Some k → sums.sum d k ≡ Ok (sums.as_sum_seen e b, r) →
     sums.item_with (sums.sum d) s ≡ Ok (sums.labelled_item n e, r)
 unfolding sums.item_with
 labelled_read d s m k r n e b f h g =
     let t = sign_taken 58 m k h in
     bound (reading.name s) (sums.item_behind (sums.sum d)) (n, m) _ (name_read s m n f)
     (if_true (head (skip m) == 58) _ _ t.0 ∙ mapped (sums.labelled_sum n) (sums.sum d (behind (skip m)))
-    (sums.seen_sum e b) r (ap (sums.sum d) t.1 ∙ g))
+    (sums.as_sum_seen e b) r (ap (sums.sum d) t.1 ∙ g))
 
 item_read : {d : ℕ} {s r : Rest} {i : ItemTree} → ItemOf d s r i → ItemEnds r → sums.item_with (sums.sum d) s ≡ Ok
     (i, r)
@@ -148,7 +148,7 @@ items_end {d = d} {r = r} (more_items {k = j} {items = items} {i = i} l e p) k h
 
 pub items_read : (d : ℕ) (s k r : Rest) (all : List ItemTree) → ItemList d s k all → sign_at 93 k ≡ Some r →
     sums.items d s ≡ Ok (all, r)
-unfolding sums.items_with
+unfolding sums.items_with_sum
 items_read d s k r all l h = items_end l r h
 
 -- the word of a fold
@@ -161,7 +161,8 @@ fold_of_named fold.Mean = refl
 fold_of_named fold.Merge = refl
 fold_of_named fold.Aggregate = refl
 
-read_as_read : (w : FoldWord) (word : List ℕ) (s r : Rest) → past word s ≡ Some r → folds.read_as w word s ≡ Ok (w, r)
+read_as_read : (w : FoldWord) (word : List ℕ) (s r : Rest) → past word s ≡ Some r
+    → folds.fold_word_from w word s ≡ Ok (w, r)
 read_as_read w word s r e = bound (exact what.Aggregate word s) _ r _ (exact_read what.Aggregate word s r e) refl
 
 -- a byte that stands here, and tests of others before it
@@ -248,7 +249,7 @@ some_column_read : (s r : Rest) (n : Name) → name_at s ≡ Some (n, r) → fol
 some_column_read s r n e = mapped Some (reading.name s) n r (name_read s r n e)
 
 folded_column_read : (w : FoldWord) → (w ≡ fold.Count → ⊥) → (s r : Rest) (n : Name) → name_at s ≡ Some (n, r) →
-    folds.folded_column w s ≡ Ok (Some n, r)
+    folds.fold_column w s ≡ Ok (Some n, r)
 folded_column_read fold.Count h s r n e = absurd (h refl)
 folded_column_read fold.Sum h s r n e = some_column_read s r n e
 folded_column_read fold.Min h s r n e = some_column_read s r n e
@@ -258,16 +259,16 @@ folded_column_read fold.Merge h s r n e = some_column_read s r n e
 folded_column_read fold.Aggregate h s r n e = some_column_read s r n e
 
 fold_call_read : (at : ℕ) (label : Option Name) (w : FoldWord) (s k r : Rest) (c : Option Name) →
-    folds.folded_column w s ≡ Ok (c, k) → sign_at 41 k ≡ Some r →
-    folds.fold_call at label w s ≡ Ok (folds.aggregate_of at label w c, r)
+    folds.fold_column w s ≡ Ok (c, k) → sign_at 41 k ≡ Some r →
+    folds.fold_call at label w s ≡ Ok (folds.aggregate_from at label w c, r)
 unfolding folds.fold_call
 fold_call_read at label w s k r c e h =
-    mapped (folds.aggregate_of at label w) (up_to 41 what.CloseParenthesis (folds.folded_column w s)) c r
-    (up_to_read 41 what.CloseParenthesis (folds.folded_column w s) c k r e h)
+    mapped (folds.aggregate_from at label w) (up_to_sign 41 what.CloseParenthesis (folds.fold_column w s)) c r
+    (up_to_read 41 what.CloseParenthesis (folds.fold_column w s) c k r e h)
 
 folded_read : {w : FoldWord} {s r : Rest} {c : Option Name} → Folded w s r c →
     (m : Rest) × ((sign_at 40 s ≡ Some m) × ((at : ℕ) (label : Option Name) →
-    folds.fold_call at label w m ≡ Ok (folds.aggregate_of at label w c, r)))
+    folds.fold_call at label w m ≡ Ok (folds.aggregate_from at label w c, r)))
 folded_read {r = r} (counted {m = m} e h) = (m, (e, λ at label. fold_call_read at label fold.Count m m r None refl h))
 folded_read {w = w} {r = r} (grammar.folded {m = m} {k = k} {n = n} x e f h) =
     (m, (e, λ at label. fold_call_read at label w m k r (Some n) (folded_column_read w x m k n f) h))
@@ -275,8 +276,8 @@ folded_read {w = w} {r = r} (grammar.folded {m = m} {k = k} {n = n} x e f h) =
 -- aggregates
 unnamed_read : (s m k r : Rest) (n : Name) (w : FoldWord) (c : Option Name) → name_at s ≡ Some (n, m) →
     n.text ≡ fold_named w → sign_at 40 m ≡ Some k →
-    folds.fold_call n.at None w k ≡ Ok (folds.aggregate_of n.at None w c, r) →
-    folds.aggregate s ≡ Ok (folds.aggregate_of (skip s).at None w c, r)
+    folds.fold_call n.at None w k ≡ Ok (folds.aggregate_from n.at None w c, r) →
+    folds.aggregate s ≡ Ok (folds.aggregate_from (skip s).at None w c, r)
 unfolding folds.aggregate
 unnamed_read s m k r n w c e f h g =
     let t = sign_taken 40 m k h in
@@ -286,12 +287,12 @@ unnamed_read s m k r n w c e f h g =
     ∙ if_true (head (skip m) == 40) _ _ t.0
     ∙ ap (folds.fold_call n.at None w) t.1
     ∙ g
-    ∙ ap (λ at. Ok (folds.aggregate_of at None w c, r)) (place_of_name s m n e))
+    ∙ ap (λ at. Ok (folds.aggregate_from at None w c, r)) (place_of_name s m n e))
 
 named_read : (s m k j i r : Rest) (n : Name) (w : FoldWord) (c : Option Name) → name_at s ≡ Some (n, m) →
     sign_at 58 m ≡ Some k → keyword_at (fold_named w) k ≡ Some j → sign_at 40 j ≡ Some i →
-    folds.fold_call (skip k).at (Some n) w i ≡ Ok (folds.aggregate_of (skip k).at (Some n) w c, r) →
-    folds.aggregate s ≡ Ok (folds.aggregate_of (skip k).at (Some n) w c, r)
+    folds.fold_call (skip k).at (Some n) w i ≡ Ok (folds.aggregate_from (skip k).at (Some n) w c, r) →
+    folds.aggregate s ≡ Ok (folds.aggregate_from (skip k).at (Some n) w c, r)
 unfolding folds.aggregate
 named_read s m k j i r n w c e f g h call =
     let t = sign_taken 58 m k f in

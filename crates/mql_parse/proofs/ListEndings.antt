@@ -16,7 +16,7 @@ use Rattle.mql_ast.specs.Grammar.{FoldingList, one_folding, more_foldings, ItemO
 use Rattle.mql_ast.specs.Grammar.{one_item, more_items}
 use Rattle.mql_parse.specs.declared.faults.What.{What}
 use Rattle.mql_parse.specs.declared.faults.What.TheVariants as what
-use Rattle.mql_parse.specs.Outcomes.{Outcome, unexpected_fault, exact, sign, map_outcome, up_to}
+use Rattle.mql_parse.specs.Outcomes.{Outcome, unexpected_fault, exact, sign, map_outcome, up_to_sign}
 use Rattle.mql_parse.specs.Repeats.{Done, Again, Stuck, list_or_end, list_turn, repetition}
 use Rattle.mql_parse.specs.FaultTokens.{IsBare}
 use Rattle.mql_parse.specs.TokenReading as reading
@@ -174,7 +174,7 @@ item_ends d s =
     (λ h. record { way = stay (ItemText d) x.1 w (single_text d w f) }))
 
 pub items_ends : (d : ℕ) (s : Rest) → Reads (Text Anyhow true (Then (ItemsSpan d) (SignSpan 93))) s (sums.items d s)
-unfolding sums.items_with
+unfolding sums.items_with_sum
 items_ends d =
     list_ends (sums.item_with (sums.sum d)) 93 what.CloseBracket close_bracket refl refl (items_turn_behind d)
     (ItemSpan d)
@@ -206,7 +206,7 @@ fold_from : (f : FoldWord) (cs : List ℕ) → all_nonzero cs ≡ true → (s m 
     (begun : List ℕ) → s.bytes ≡ v ++ m.bytes → m.at ≡ s.at + length v → v ≡ before ++ b ∷ begun →
     Fronts what.Aggregate (b ∷ begun) cs → IsBare what.Aggregate (b ∷ (begun ++ cs)) → FoldWordText f (v ++ cs)
     → Ends behind_read
-    (λ x. FoldWordText x.0) AnyFoldWord s (folds.read_as f cs m)
+    (λ x. FoldWordText x.0) AnyFoldWord s (folds.fold_word_from f cs m)
 fold_from f cs nonzero s m v before b begun e p q u k h =
     done_ends s (exact what.Aggregate cs m) (λ r. (f, r))
     (ends_as s (exact what.Aggregate cs m) (word_from what.Aggregate cs (λ e. cc) nonzero s m v before b begun e p q u
@@ -217,7 +217,7 @@ fold_from f cs nonzero s m v before b begun e p q u k h =
 -- a word that is read from its first byte on
 whole_ends : (s : Rest) (f : FoldWord) (c : ℕ) (cs : List ℕ) → all_nonzero (c ∷ cs) ≡ true →
     WordOf what.Aggregate c cs → ((bs : List ℕ) → AreBlanks bs → FoldWordText f (bs ++ c ∷ cs)) →
-    Ends behind_read (λ x. FoldWordText x.0) AnyFoldWord s (folds.read_as f (c ∷ cs) (skip s))
+    Ends behind_read (λ x. FoldWordText x.0) AnyFoldWord s (folds.fold_word_from f (c ∷ cs) (skip s))
 whole_ends s f c cs nonzero word h =
     done_ends s (exact what.Aggregate (c ∷ cs) (skip s)) (λ r. (f, r))
     (ends_as s (exact what.Aggregate (c ∷ cs) (skip s))
@@ -253,7 +253,7 @@ module _ (s m : Rest) (bs v x : List ℕ) (e : AreBlanks bs) (q : v ≡ bs ++ 10
   m_on : (f : FoldWord) (b : ℕ) (cs : List ℕ) → (0 == b) ≡ false → all_nonzero cs ≡ true → (head m == b) ≡ true →
       fold_named f ≡ 109 ∷ ((x ++ b ∷ []) ++ cs) → Fronts what.Aggregate (109 ∷ (x ++ b ∷ [])) cs →
       IsBare what.Aggregate (109 ∷ ((x ++ b ∷ []) ++ cs)) →
-      Ends behind_read (λ y. FoldWordText y.0) AnyFoldWord s (folds.read_as f cs (behind m))
+      Ends behind_read (λ y. FoldWordText y.0) AnyFoldWord s (folds.fold_word_from f cs (behind m))
   m_on f b cs zero nonzero h spelled u token =
       let c = byte_is b zero m h in
       let longer = (v ++ x) ++ b ∷ [] in
@@ -282,10 +282,10 @@ behind_me_ends : (s m : Rest) (bs v : List ℕ) → AreBlanks bs → v ≡ bs ++
     Ends behind_read (λ x. FoldWordText x.0) AnyFoldWord s (folds.fold_behind_me m)
 behind_me_ends s m bs v e q bytes place =
     let x = 101 ∷ [] in
-    if_ends s (head m == 97) (folds.read_as fold.Mean (codes "n") (behind m)) _
+    if_ends s (head m == 97) (folds.fold_word_from fold.Mean (codes "n") (behind m)) _
     (λ h. m_on s m bs v x e q bytes place fold.Mean 97
     (codes "n") refl refl h refl mean_word.fronts.1.1 mean_word.bare)
-    (λ _. if_ends s (head m == 114) (folds.read_as fold.Merge (codes "ge") (behind m))
+    (λ _. if_ends s (head m == 114) (folds.fold_word_from fold.Merge (codes "ge") (behind m))
     (Err (unexpected_fault what.Aggregate m))
     (λ h. m_on s m bs v x e q bytes place fold.Merge 114 (codes "ge") refl refl h refl merge_word.fronts.1.1
     merge_word.bare)
@@ -304,9 +304,9 @@ behind_m_ends s m c =
     let q = c.is.1.1 in
     let bytes : s.bytes ≡ (v ++ []) ++ m.bytes = c.bytes ∙ ap (λ t. t ++ m.bytes) (sym (append-nil v)) in
     let place : m.at ≡ s.at + length (v ++ []) = c.place ∙ ap (λ t. s.at + length t) (sym (append-nil v)) in
-    if_ends s (head m == 105) (folds.read_as fold.Min (codes "n") (behind m)) _
+    if_ends s (head m == 105) (folds.fold_word_from fold.Min (codes "n") (behind m)) _
     (λ h. m_on s m bs v [] e q bytes place fold.Min 105 (codes "n") refl refl h refl min_word.fronts.1 min_word.bare)
-    (λ _. if_ends s (head m == 97) (folds.read_as fold.Max (codes "x") (behind m)) _
+    (λ _. if_ends s (head m == 97) (folds.fold_word_from fold.Max (codes "x") (behind m)) _
     (λ h. m_on s m bs v [] e q bytes place fold.Max 97 (codes "x") refl refl h refl max_word.fronts.1 max_word.bare)
     (λ _. if_ends s (head m == 101) (folds.fold_behind_me (behind m)) (Err (unexpected_fault what.Aggregate m))
     (λ h. let k = byte_is 101 refl m h in
@@ -323,11 +323,11 @@ fold_here_ends : (s : Rest) → Ends behind_read (λ x. FoldWordText x.0) AnyFol
 unfolding folds.fold_here
 fold_here_ends s =
     let t = skip s in
-    if_ends s (head t == 99) (folds.read_as fold.Count (codes "count") t) _
+    if_ends s (head t == 99) (folds.fold_word_from fold.Count (codes "count") t) _
     (λ _. whole_ends s fold.Count 99 (codes "ount") refl count_word count_text)
-    (λ _. if_ends s (head t == 115) (folds.read_as fold.Sum (codes "sum") t) _
+    (λ _. if_ends s (head t == 115) (folds.fold_word_from fold.Sum (codes "sum") t) _
     (λ _. whole_ends s fold.Sum 115 (codes "um") refl sum_word sum_word_text)
-    (λ _. if_ends s (head t == 97) (folds.read_as fold.Aggregate (codes "aggregate") t) _
+    (λ _. if_ends s (head t == 97) (folds.fold_word_from fold.Aggregate (codes "aggregate") t) _
     (λ _. whole_ends s fold.Aggregate 97 (codes "ggregate") refl aggregate_word aggregate_text)
     (λ _. if_ends s (head t == 109) (folds.fold_behind_m (behind t)) (Err (unexpected_fault what.Aggregate t))
     (λ h. behind_m_ends s (behind t) (first_is 109 refl s h))
@@ -360,10 +360,10 @@ CallEnds w v s o = Reads (λ u. FoldedText w (v ++ u)) s o
 
 count_ends : (at : ℕ) (label : Option Name) (s : Rest) (v : List ℕ) → Text Parted true (SignSpan 40) v →
     CallEnds fold.Count v s
-    (map_outcome (folds.aggregate_of at label fold.Count) (sign 41 what.CloseParenthesis s >>= λ r. Ok (None, r)))
+    (map_outcome (folds.aggregate_from at label fold.Count) (sign 41 what.CloseParenthesis s >>= λ r. Ok (None, r)))
 count_ends at label s v f =
     done_ends s (sign 41 what.CloseParenthesis s >>= λ r. Ok (None, r))
-    (λ x. (folds.aggregate_of at label fold.Count x.0, x.1))
+    (λ x. (folds.aggregate_from at label fold.Count x.0, x.1))
     (done_ends {left' = behind_read} s (sign 41 what.CloseParenthesis s) (λ r. (None, r))
     (ends_as s (sign 41 what.CloseParenthesis s) (sign_ends 41 what.CloseParenthesis close_parenthesis refl s)
     (λ r u g. counted_text v u f g) (λ u g. counted_text v u f g)) (λ r. refl) (λ r u g. g)) (λ x. refl)
@@ -371,9 +371,11 @@ count_ends at label s v f =
 
 named_fold_ends : (at : ℕ) (label : Option Name) (w : FoldWord) → (w ≡ fold.Count → ⊥) → (s : Rest) (v : List ℕ) →
     Text Parted true (SignSpan 40) v →
-    CallEnds w v s (map_outcome (folds.aggregate_of at label w) (up_to 41 what.CloseParenthesis (folds.some_column s)))
+    CallEnds w v s (map_outcome (folds.aggregate_from at label w)
+    (up_to_sign 41 what.CloseParenthesis (folds.some_column s)))
 named_fold_ends at label w h s v f =
-    done_ends s (up_to 41 what.CloseParenthesis (folds.some_column s)) (λ x. (folds.aggregate_of at label w x.0, x.1))
+    done_ends s (up_to_sign 41 what.CloseParenthesis (folds.some_column s))
+    (λ x. (folds.aggregate_from at label w x.0, x.1))
     (bind_ends {left' = behind_read} s (folds.some_column s) _
     (done_ends {left' = behind_read} s (reading.name s) (λ x. (Some x.0, x.1)) (name_ends s) (λ x. refl)
     (λ x u g. g)) (λ u g. let e = sign_default 41 close_parenthesis refl in
@@ -432,7 +434,7 @@ named_text f w v u y g h k l = anyhow (w ++ (v ++ (u ++ y))) (changed (λ x z t 
     let b = t.second.first a.0.0 in
     let c = t.second.second.first b.0 in
     let e = t.second.second.second c.0 in (
-      (e.0.0, folds.aggregate_of (skip (at_place b.0 t.second.between)).at (Some a.0.1) f e.0.1),
+      (e.0.0, folds.aggregate_from (skip (at_place b.0 t.second.between)).at (Some a.0.1) f e.0.1),
       named a.1 b.1 c.1
           e.1,
     )) (w ++ (v ++ (u ++ y))) (join w (v ++ (u ++ y)) refl g (join v (u ++ y) refl h (join u y refl k l))))
@@ -442,7 +444,7 @@ unnamed_text : (text : List ℕ) (f : FoldWord) (w v : List ℕ) → text ≡ fo
 unnamed_text text f w v e g h =
     anyhow (w ++ v)
     (changed (λ x z t at. let a = t.first at in let b = t.second a.0.0 in
-    ((b.0.0, folds.aggregate_of (skip (at_place at x)).at None f b.0.1), unnamed a.1 e b.1)) (w ++ v)
+    ((b.0.0, folds.aggregate_from (skip (at_place at x)).at None f b.0.1), unnamed a.1 e b.1)) (w ++ v)
     (join w v refl g h))
 
 -- `:count()`

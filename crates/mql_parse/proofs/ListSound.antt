@@ -18,7 +18,7 @@ use Rattle.mql_ast.specs.Grammar.{FoldingList, one_folding, more_foldings, ItemO
 use Rattle.mql_ast.specs.Grammar.{one_item, more_items}
 use Rattle.mql_parse.specs.declared.faults.What.{What}
 use Rattle.mql_parse.specs.declared.faults.What.TheVariants as what
-use Rattle.mql_parse.specs.Outcomes.{Outcome, sign, exact, map_outcome, up_to, unexpected_fault}
+use Rattle.mql_parse.specs.Outcomes.{Outcome, sign, exact, map_outcome, up_to_sign, unexpected_fault}
 use Rattle.mql_parse.specs.Repeats.{Turn, Done, Stuck, on_read, list_or_end, list_turn, repetition}
 use Rattle.mql_parse.specs.TokenReading as reading
 use Rattle.mql_parse.specs.SumReading as sums
@@ -128,7 +128,7 @@ items_turn_behind d =
 
 pub items_sound : (d : ℕ) (s : Rest) →
     IfOk (sums.items d s) (λ x. (k : Rest) × (ItemList d s k x.0 × (sign_at 93 k ≡ Some x.1)))
-unfolding sums.items_with
+unfolding sums.items_with_sum
 items_sound d s =
     list_sound (sums.item_with (sums.sum d)) (IsItem d) (item_sound d) (λ s x i. item_behind i) (ItemList d)
     (λ s x i. one_item i) (λ s m k all x l e i. more_items l e i) 93 what.CloseBracket s
@@ -158,7 +158,7 @@ IsFoldWord k x = keyword_at (fold_named x.0) k ≡ Some x.1
 
 read_as_sound : (k : Rest) (w : FoldWord) (end : List ℕ) (m : Rest) →
     ((r : Rest) → past end m ≡ Some r → keyword_at (fold_named w) k ≡ Some r)
-    → IfOk (folds.read_as w end m) (IsFoldWord k)
+    → IfOk (folds.fold_word_from w end m) (IsFoldWord k)
 read_as_sound k w end m h =
     bind_sound (exact what.Aggregate end m) _ (λ r. past end m ≡ Some r) (IsFoldWord k)
     (exact_sound what.Aggregate end m) (λ r e. h r e)
@@ -191,27 +191,27 @@ fold_here_sound k =
 
 -- a fold with its column
 abbrev FoldsTo : ℕ → Option Name → FoldWord → Rest → Aggregate × Rest → Type 0
-FoldsTo at label w s x = (c : Option Name) × ((x.0 ≡ folds.aggregate_of at label w c) × Folded w s x.1 c)
+FoldsTo at label w s x = (c : Option Name) × ((x.0 ≡ folds.aggregate_from at label w c) × Folded w s x.1 c)
 
 closed_fold : (at : ℕ) (label : Option Name) (w : FoldWord) (s : Rest) (c : Option Name) (k : Rest) →
     ((r : Rest) → sign_at 41 k ≡ Some r → Folded w s r c) →
-    IfOk (map_outcome (folds.aggregate_of at label w) (sign 41 what.CloseParenthesis k >>= λ r. Ok (c, r)))
+    IfOk (map_outcome (folds.aggregate_from at label w) (sign 41 what.CloseParenthesis k >>= λ r. Ok (c, r)))
     (FoldsTo at label w s)
 closed_fold at label w s c k h =
-    changed_sound (folds.aggregate_of at label w) (sign 41 what.CloseParenthesis k >>= λ r. Ok (c, r))
+    changed_sound (folds.aggregate_from at label w) (sign 41 what.CloseParenthesis k >>= λ r. Ok (c, r))
     (λ x. (x.0 ≡ c) × Folded w s x.1 c) (FoldsTo at label w s)
     (bind_sound (sign 41 what.CloseParenthesis k) (λ r. Ok (c, r)) (λ r. sign_at 41 k ≡ Some r) _
     (sign_sound 41 what.CloseParenthesis k) (λ r e. (refl, h r e)))
-    (λ x p. (c, (ap (folds.aggregate_of at label w) p.0, p.1)))
+    (λ x p. (c, (ap (folds.aggregate_from at label w) p.0, p.1)))
 
 named_fold : (at : ℕ) (label : Option Name) (w : FoldWord) (s m : Rest) → (w ≡ fold.Count → ⊥) →
     sign_at 40 s ≡ Some m →
-    IfOk (map_outcome (folds.aggregate_of at label w) (up_to 41 what.CloseParenthesis (folds.some_column m)))
+    IfOk (map_outcome (folds.aggregate_from at label w) (up_to_sign 41 what.CloseParenthesis (folds.some_column m)))
     (FoldsTo at label w s)
 named_fold at label w s m n e = either (reading.name m) (name_sound m)
   where
     either : (o : Outcome Name) → IfOk o (IsName m) →
-        IfOk (map_outcome (folds.aggregate_of at label w) (up_to 41 what.CloseParenthesis (map_outcome Some o)))
+        IfOk (map_outcome (folds.aggregate_from at label w) (up_to_sign 41 what.CloseParenthesis (map_outcome Some o)))
         (FoldsTo at label w s)
     either (Err f) h = tt
     either (Ok x) h = closed_fold at label w s (Some x.0) x.1 (λ r f. grammar.folded n e h f)
@@ -249,7 +249,7 @@ bare_fold_sound s x e None h = tt
 bare_fold_sound s x e (Some w) h =
     if_sound (head (skip x.1) == 40) _ _ (IsFolding s)
     (λ g. if_ok_weaker (folds.fold_call x.0.at None w (behind (skip x.1))) (FoldsTo x.0.at None w x.1) (IsFolding s)
-    (λ y z. subst (λ a. Folding s y.1 a) (ap (λ n. folds.aggregate_of n None w z.0) (name_place s x e) ∙ sym z.1.0)
+    (λ y z. subst (λ a. Folding s y.1 a) (ap (λ n. folds.aggregate_from n None w z.0) (name_place s x e) ∙ sym z.1.0)
     (unnamed e h z.1.1))
     (folded_sound x.0.at None w x.1 (behind (skip x.1)) (sign_here 40 x.1 g)))
     (λ g. tt)

@@ -12,7 +12,7 @@ use Rattle.mql_ast.specs.Tokens.{positive_at, duration_at}
 use Rattle.mql_ast.specs.Grammar as grammar
 use Rattle.mql_ast.specs.Grammar.{Deed, align_delta, align_next_older}
 use Rattle.mql_parse.specs.declared.faults.What.TheVariants as what
-use Rattle.mql_parse.specs.Outcomes.{Outcome, unexpected_fault, exact, sign, map_outcome, up_to}
+use Rattle.mql_parse.specs.Outcomes.{Outcome, unexpected_fault, exact, sign, map_outcome, up_to_sign}
 use Rattle.mql_parse.specs.TokenReading as reading
 use Rattle.mql_parse.specs.SumReading.{items}
 use Rattle.mql_parse.specs.PredicateReading as predicates
@@ -52,7 +52,7 @@ in_aligned : Default (Text Parted true (Then (SignSpan 40) (Then (Token duration
 in_aligned = both refl (sign_default 40 open_parenthesis refl) duration_closed
 
 up_to_ends : (j : Rest) → Reads (Text Worded true (Then (Token duration_at) (SignSpan 41))) j
-    (up_to 41 what.CloseParenthesis (reading.duration j))
+    (up_to_sign 41 what.CloseParenthesis (reading.duration j))
 up_to_ends j =
     then_ends j (reading.duration j) _ refl (duration_ends j) (sign_default 41 close_parenthesis refl)
     (λ x. done_ends x.1 (sign 41 what.CloseParenthesis x.1) (λ r. (x.0, r))

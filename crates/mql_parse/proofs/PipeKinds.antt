@@ -10,7 +10,7 @@ use Rattle.mql_ast.specs.Trees.{PipeTree, Flow, SourceTree, Fetch, Branches, bra
 use Rattle.mql_ast.specs.Rests.{Rest, head, behind, skip}
 use Rattle.mql_parse.specs.declared.faults.What.{What}
 use Rattle.mql_parse.specs.declared.faults.What.TheVariants as what
-use Rattle.mql_parse.specs.Outcomes.{Outcome, unexpected_fault, exact, sign, apart, map_outcome, up_to}
+use Rattle.mql_parse.specs.Outcomes.{Outcome, unexpected_fault, exact, sign, apart, map_outcome, up_to_sign}
 use Rattle.mql_parse.specs.Repeats.{Done, Again, Stuck, repetition}
 use Rattle.mql_parse.specs.TokenReading as reading
 use Rattle.mql_parse.specs.SumReading as sums
@@ -37,7 +37,7 @@ word_then word h w t read k = pass_then t (pipes.word_apart word w t) read
 aligned_for_fits : (word : List ℕ) → plain_bytes word ≡ true → (t : Rest) → Fits None t (pipes.aligned_for word t)
 aligned_for_fits word h t =
     pass_then t (exact what.Aligner word t) _ (exact_fits what.Aligner word h t)
-    (λ m. pass_then m (sign 40 what.OpenParenthesis m) (λ k. up_to 41 what.CloseParenthesis (reading.duration k))
+    (λ m. pass_then m (sign 40 what.OpenParenthesis m) (λ k. up_to_sign 41 what.CloseParenthesis (reading.duration k))
     (sign_fits 40 refl refl what.OpenParenthesis m)
     (λ k. up_to_fits 41 refl refl what.CloseParenthesis k (reading.duration k) (duration_fits k)))
 

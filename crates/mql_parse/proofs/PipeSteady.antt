@@ -11,7 +11,7 @@ use Rattle.mql_ast.specs.Rests.{Rest, head, behind, skip}
 use Rattle.mql_parse.specs.declared.faults.ParseKind.TheVariants.{TooDeep}
 use Rattle.mql_parse.specs.declared.faults.What.{What}
 use Rattle.mql_parse.specs.declared.faults.What.TheVariants as what
-use Rattle.mql_parse.specs.Outcomes.{Outcome, unexpected_fault, exact, sign, apart, map_outcome, up_to}
+use Rattle.mql_parse.specs.Outcomes.{Outcome, unexpected_fault, exact, sign, apart, map_outcome, up_to_sign}
 use Rattle.mql_parse.specs.Repeats.{Done, Again, Stuck, repetition}
 use Rattle.mql_parse.specs.TokenReading as reading
 use Rattle.mql_parse.specs.SumReading as sums
@@ -44,7 +44,7 @@ word_then to word w read k = steady_behind_pass here here to (pipes.word_apart w
 
 aligned_for_steady : (word : List ℕ) → Steady here here (pipes.aligned_for word)
 aligned_for_steady word =
-    let closed = λ (k : Rest). up_to 41 what.CloseParenthesis (reading.duration k) in
+    let closed = λ (k : Rest). up_to_sign 41 what.CloseParenthesis (reading.duration k) in
     let opened = λ (m : Rest). sign 40 what.OpenParenthesis m >>= closed in
     steady_behind_pass here here here (exact what.Aligner word) opened (exact_steady what.Aligner word)
     (steady_from here opened (steady_behind_pass next here here (sign 40 what.OpenParenthesis) closed

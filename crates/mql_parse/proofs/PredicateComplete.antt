@@ -21,7 +21,7 @@ use Rattle.mql_ast.specs.Grammar.{or, Conjunction, one_negation, and, Negation, 
 use Rattle.mql_parse.specs.declared.faults.ParseFault.{ParseFault}
 use Rattle.mql_parse.specs.declared.faults.What.{What}
 use Rattle.mql_parse.specs.declared.faults.What.TheVariants as what
-use Rattle.mql_parse.specs.Outcomes.{Outcome, sign, exact, map_outcome, up_to, unexpected_fault}
+use Rattle.mql_parse.specs.Outcomes.{Outcome, sign, exact, map_outcome, up_to_sign, unexpected_fault}
 use Rattle.mql_parse.specs.Repeats.{Done, Again, goes_on, repetition}
 use Rattle.mql_parse.specs.TokenReading as reading
 use Rattle.mql_parse.specs.PredicateReading as predicates
@@ -42,14 +42,15 @@ either_read true o p r q x y f g e = f refl e
 either_read false o p r q x y f g e = g refl e
 
 -- a comparison with a value
-compared_with : (x y : Comparison × Rest) → Some x ≡ Some y → predicates.with_value x ≡ predicates.with_value y
-compared_with x y e = let same : x ≡ y = cc in ap predicates.with_value same
+compared_with : (x y : Comparison × Rest) → Some x ≡ Some y
+    → predicates.value_comparison x ≡ predicates.value_comparison y
+compared_with x y e = let same : x ≡ y = cc in ap predicates.value_comparison same
 
 and_equal_read : (with how : Comparison) (m r : Rest) (other : Outcome Compared) → and_equal with m ≡ Some (how, r) →
     (if head m == 61 then Ok (WithValue with, behind m) else other) ≡ Ok (WithValue how, r)
 and_equal_read with how m r other e =
     let t = chosen (head m == 61) (with, behind m) (how, r) e in
-    if_true (head m == 61) (Ok (WithValue with, behind m)) other t.0 ∙ ap predicates.with_value t.1
+    if_true (head m == 61) (Ok (WithValue with, behind m)) other t.0 ∙ ap predicates.value_comparison t.1
 
 abbrev unequal : Rest → Outcome Compared
 unequal k = Ok (WithValue comparison.NotEqual, k)
@@ -59,7 +60,7 @@ not_equal_read : (how : Comparison) (m r : Rest) → and_equal comparison.NotEqu
 not_equal_read how m r e =
     let t = chosen (head m == 61) (comparison.NotEqual, behind m) (how, r) e in
     bound (exact what.Comparison (codes "=") m) unequal (behind m) _ (if_true (head m == 61) _ _ t.0)
-    (ap predicates.with_value t.1)
+    (ap predicates.value_comparison t.1)
 
 or_equal_read : (without with how : Comparison) (m r : Rest) → or_equal without with m ≡ Some (how, r) →
     predicates.maybe_equal without with m ≡ Ok (WithValue how, r)
@@ -112,8 +113,8 @@ unfolding reading.text
 text_links s h = ap (λ o. option_and_then (λ q. quotes.text_from Whole [] q.at q.bytes) o) (sign_here 34 s h)
     ∙ text_from_links Whole [] (behind (skip s)).at (behind (skip s)).bytes
 
-value_links : (s : Rest) → literal_at s ≡ result_ok (predicates.value s)
-unfolding predicates.value
+value_links : (s : Rest) → literal_at s ≡ result_ok (predicates.literal_value s)
+unfolding predicates.literal_value
 value_links s =
     let b = head (skip s) in
     either_links (b == 34) _ _ _ _ (λ h. changed_links (λ x. (field.Text x.0, x.1)) (quotes.text_at s)
@@ -126,8 +127,8 @@ value_links s =
     (λ _. either_links (b == 45 || is_digit b) _ None _ (Err (unexpected_fault what.Text (skip s)))
     (λ _. changed_links (λ x. (field.Int x.0, x.1)) _ (reading.signed_reading s) (signed_links s)) (λ _. refl))))
 
-value_read : (s r : Rest) (v : FieldValue) → literal_at s ≡ Some (v, r) → predicates.value s ≡ Ok (v, r)
-value_read s r v e = read_of (literal_at s) (predicates.value s) (v, r) (value_links s) e
+value_read : (s r : Rest) (v : FieldValue) → literal_at s ≡ Some (v, r) → predicates.literal_value s ≡ Ok (v, r)
+value_read s r v e = read_of (literal_at s) (predicates.literal_value s) (v, r) (value_links s) e
 
 pattern_read : (s r : Rest) (ps : List (List ℕ)) → pattern_at s ≡ Some (ps, r) →
     (q : Rest) × ((sign_at 34 s ≡ Some q) × (reading.pattern q ≡ Ok (ps, r)))
@@ -161,7 +162,7 @@ compare_read : (d : ℕ) (s m k r : Rest) (n : Name) (how : Comparison) (v : Fie
 compare_read d s m k r n how v e f g =
     named_condition (predicates.deeper d Opposite) (predicates.deeper d Group) s m n e
     ∙ bound (predicates.comparison_kind m) (predicates.compares_how n) (WithValue how, k) _ (comparison_read m k how f)
-    (mapped (λ x. tree.Compare n how (literal k x)) (predicates.value k) v r (value_read k r v g))
+    (mapped (λ x. tree.Compare n how (literal k x)) (predicates.literal_value k) v r (value_read k r v g))
 
 like_read : (d : ℕ) (s m k r : Rest) (n : Name) (ps : List (List ℕ)) → name_at s ≡ Some (n, m) →
     keyword_at (codes "=~") m ≡ Some k → pattern_at k ≡ Some (ps, r) →
@@ -181,12 +182,12 @@ opposite_here d s m e = let t = sign_taken 33 s m e in
     if_true (head (skip s) == 33) _ _ t.0 ∙ ap (λ n. map_outcome tree.Not (predicates.negation d n)) t.1
 
 group_here : (d : ℕ) (s m : Rest) → sign_at 40 s ≡ Some m →
-    predicates.negation (suc d) s ≡ up_to 41 what.CloseParenthesis (predicates.disjunction d m)
+    predicates.negation (suc d) s ≡ up_to_sign 41 what.CloseParenthesis (predicates.disjunction d m)
 unfolding predicates.negation_with predicates.deeper
 group_here d s m e =
     let t = sign_taken 40 s m e in
     if_false (head (skip s) == 33) _ _ (other_sign 33 40 refl s m e) ∙ if_true (head (skip s) == 40) _ _ t.0
-    ∙ ap (λ n. up_to 41 what.CloseParenthesis (predicates.disjunction d n)) t.1
+    ∙ ap (λ n. up_to_sign 41 what.CloseParenthesis (predicates.disjunction d n)) t.1
 
 not_read : (d : ℕ) (s m r : Rest) (p : PredicateTree) → sign_at 33 s ≡ Some m → predicates.negation d m ≡ Ok (p, r) →
     predicates.negation (suc d) s ≡ Ok (tree.Not p, r)

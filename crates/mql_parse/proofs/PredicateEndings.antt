@@ -87,8 +87,8 @@ how_ends : (d : ℕ) (n : Name) (w : List ℕ) → Text Worded false NameSpan w 
     ComparedText x.0 v → Ends behind_read (λ y u. NegationText d (w ++ (v ++ u)))
     (λ u. NegationText d (w ++ (v ++ u))) x.1 (predicates.compares_how n x)
 how_ends d n w f (WithValue how, k) v g =
-    done_ends k (predicates.value k) (λ x. (tree.Compare n how (literal k x.0), x.1))
-    (ends_as k (predicates.value k) (value_ends k) (λ x u h. compare_text d how w v u f g h)
+    done_ends k (predicates.literal_value k) (λ x. (tree.Compare n how (literal k x.0), x.1))
+    (ends_as k (predicates.literal_value k) (value_ends k) (λ x u h. compare_text d how w v u f g h)
     (λ u h. compare_text d how w v u f g h)) (λ x. refl) (λ x u h. h)
 how_ends d n w f (WithPattern, k) v g =
     let t = skip k in

@@ -61,8 +61,8 @@ comparison_fits s =
     (predicates.maybe_equal comparison.Greater comparison.AtLeast (behind t))
     (maybe_equal_fits comparison.Greater comparison.AtLeast (behind t))) (λ _. unexpected_next what.Comparison s))))
 
-value_fits : (s : Rest) → Fits None s (predicates.value s)
-unfolding predicates.value
+value_fits : (s : Rest) → Fits None s (predicates.literal_value s)
+unfolding predicates.literal_value
 value_fits s =
     let t = skip s in
     let quoted = map_outcome (λ x. field.Text x) (reading.text (behind t)) in
@@ -93,7 +93,7 @@ in_quotes s f k = either (head (skip s) == 34) refl
 
 compares_how_fits : (column : Name) (how : Compared) (s : Rest) → Fits None s (predicates.compares_how column (how, s))
 compares_how_fits column (WithValue how) s = map_fits None s (λ v. Compare column how (literal s v))
-    (predicates.value s) (value_fits s)
+    (predicates.literal_value s) (value_fits s)
 compares_how_fits column WithPattern s =
     in_quotes s (λ q. map_outcome (λ ps. Like column (predicates.pattern_of s ps)) (reading.pattern q))
     (λ q. map_fits (Some Whole) q (λ ps. Like column (predicates.pattern_of s ps)) (reading.pattern q)

@@ -19,7 +19,7 @@ use Rattle.mql_ast.specs.Grammar.{Conjunction, one_negation, and, Negation, not,
 use Rattle.mql_parse.specs.declared.faults.ParseKind.TheVariants.{TooDeep}
 use Rattle.mql_parse.specs.declared.faults.What.{What}
 use Rattle.mql_parse.specs.declared.faults.What.TheVariants as what
-use Rattle.mql_parse.specs.Outcomes.{Outcome, fault, sign, exact, map_outcome, up_to, unexpected_fault}
+use Rattle.mql_parse.specs.Outcomes.{Outcome, fault, sign, exact, map_outcome, up_to_sign, unexpected_fault}
 use Rattle.mql_parse.specs.Repeats.{Done, Stuck, goes_on}
 use Rattle.mql_parse.specs.TokenReading as reading
 use Rattle.mql_parse.specs.PredicateReading as predicates
@@ -90,8 +90,8 @@ text_here s h = linked (text_at s) (reading.text_from Whole [] (behind (skip s))
     (ap (λ o. option_and_then (λ q. quotes.text_from Whole [] q.at q.bytes) o) (sign_here 34 s h)
     ∙ text_from_links Whole [] (behind (skip s)).at (behind (skip s)).bytes)
 
-pub value_sound : (s : Rest) → IfOk (predicates.value s) (λ x. literal_at s ≡ Some x)
-unfolding predicates.value
+pub value_sound : (s : Rest) → IfOk (predicates.literal_value s) (λ x. literal_at s ≡ Some x)
+unfolding predicates.literal_value
 value_sound s =
     let t = skip s in
     let b = head t in
@@ -221,7 +221,7 @@ condition_sound d s h =
     behind_how : (n : Name) (m : Rest) → name_at s ≡ Some (n, m) → (x : Compared × Rest) → ComparesAt m x →
         IfOk (predicates.compares_how n x) (IsNegation d s)
     behind_how n m e (WithValue how, k) f =
-        changed_sound _ (predicates.value k) (λ x. literal_at k ≡ Some x) (IsNegation d s) (value_sound k)
+        changed_sound _ (predicates.literal_value k) (λ x. literal_at k ≡ Some x) (IsNegation d s) (value_sound k)
         (λ x g. compare e f g)
     behind_how n m e (WithPattern, k) f =
         bind_sound (sign 34 what.Text k) _ (λ q. sign_at 34 k ≡ Some q) (IsNegation d s) (sign_sound 34 what.Text k)
@@ -349,10 +349,10 @@ opposite_deeper zero here s h = absurd (h refl)
 opposite_deeper (suc d) here s h = ap (λ n. map_outcome tree.Not (predicates.negation n s)) (omega arith)
 
 pub group_deeper : (d : ℕ) (here s : Rest) → (d ≡ 0 → ⊥) →
-    predicates.deeper d Group here s ≡ up_to 41 what.CloseParenthesis (predicates.disjunction (d - 1) s)
+    predicates.deeper d Group here s ≡ up_to_sign 41 what.CloseParenthesis (predicates.disjunction (d - 1) s)
 unfolding predicates.deeper
 group_deeper zero here s h = absurd (h refl)
-group_deeper (suc d) here s h = ap (λ n. up_to 41 what.CloseParenthesis (predicates.disjunction n s)) (omega arith)
+group_deeper (suc d) here s h = ap (λ n. up_to_sign 41 what.CloseParenthesis (predicates.disjunction n s)) (omega arith)
 
 pub too_deep : (d : ℕ) (way : predicates.Deeper) (here s : Rest) → d ≡ 0 → predicates.deeper d way here s ≡ Err
     (fault TooDeep here)

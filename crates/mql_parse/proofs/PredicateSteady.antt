@@ -12,7 +12,7 @@ use Rattle.mql_ast.specs.Tokens.{word_here}
 use Rattle.mql_parse.specs.declared.faults.ParseKind.TheVariants.{TooDeep}
 use Rattle.mql_parse.specs.declared.faults.What.{What}
 use Rattle.mql_parse.specs.declared.faults.What.TheVariants as what
-use Rattle.mql_parse.specs.Outcomes.{Outcome, unexpected_fault, exact, sign, map_outcome, up_to}
+use Rattle.mql_parse.specs.Outcomes.{Outcome, unexpected_fault, exact, sign, map_outcome, up_to_sign}
 use Rattle.mql_parse.specs.Repeats.{Turn, Done, Stuck, goes_on, repetition}
 use Rattle.mql_parse.specs.TokenReading as reading
 use Rattle.mql_parse.specs.PredicateReading as predicates
@@ -71,8 +71,8 @@ truth_steady : (word : List ℕ) (truth : Bool) →
 truth_steady word truth = steady_behind_pass here here here (exact what.Truth word) (λ r. Ok (field.Bool truth, r))
     (exact_steady what.Truth word) (steady_ok here (field.Bool truth))
 
-value_steady : Steady next here predicates.value
-unfolding predicates.value
+value_steady : Steady next here predicates.literal_value
+unfolding predicates.literal_value
 value_steady =
     steady_if next here (λ s. head (skip s) == 34)
     (λ s. map_outcome (λ x. field.Text x) (reading.text (behind (skip s)))) _ (next_test (λ b. b == 34))
@@ -91,8 +91,10 @@ value_steady =
 
 compares_how_steady : (column : Name) (how : Compared) → Steady next here (λ r. predicates.compares_how column (how, r))
 compares_how_steady column (WithValue how) =
-    steady_next here (λ n s. map_outcome (λ v. Compare column how (record { at = n; value = v })) (predicates.value s))
-    (λ n. steady_map next here (λ v. Compare column how (record { at = n; value = v })) predicates.value value_steady)
+    steady_next here (λ n s. map_outcome (λ v. Compare column how (record { at = n; value = v }))
+    (predicates.literal_value s))
+    (λ n. steady_map next here (λ v. Compare column how (record { at = n; value = v })) predicates.literal_value
+    value_steady)
 compares_how_steady column WithPattern =
     steady_next here (λ n s. sign 34 what.Text s >>=
     λ q. map_outcome (λ ps. Like column (record { at = n; pieces = ps })) (reading.pattern q))
@@ -168,7 +170,7 @@ disjunction_steady_by d k = steady_bind next next next (predicates.conjunction d
 pub deeper_steady_by : (d : ℕ) (way : Deeper) → Steady next next (predicates.negation d) →
     Steady next next (predicates.deeper_with (predicates.negation d) way)
 deeper_steady_by d Opposite k = steady_map next next Not (predicates.negation d) k
-deeper_steady_by d Group k = steady_to next (λ s. up_to 41 what.CloseParenthesis (predicates.disjunction d s))
+deeper_steady_by d Group k = steady_to next (λ s. up_to_sign 41 what.CloseParenthesis (predicates.disjunction d s))
     (steady_up_to next 41 what.CloseParenthesis (predicates.disjunction d) (disjunction_steady_by d k))
 
 -- what stands behind a sign that goes a level deeper, from the sign

@@ -15,7 +15,8 @@ use Rattle.mql_parse.specs.declared.faults.ParseKind.TheVariants.{BadToken, BadP
 use Rattle.mql_parse.specs.declared.faults.ParseKind.TheVariants.{TooDeep}
 use Rattle.mql_parse.specs.declared.faults.What.{What}
 use Rattle.mql_parse.specs.declared.faults.What.TheVariants as what
-use Rattle.mql_parse.specs.Outcomes.{Outcome, kind_of, fault, unexpected_fault, exact, sign, apart, map_outcome, up_to}
+use Rattle.mql_parse.specs.Outcomes.{Outcome, kind_of_fault, fault, unexpected_fault, exact, sign, apart, map_outcome}
+use Rattle.mql_parse.specs.Outcomes.{up_to_sign}
 use Rattle.mql_parse.specs.Repeats.{Turn, Done, Again, Stuck, turn_outcome, turns, repetition, on_read, list_or_end}
 use Rattle.mql_parse.specs.Repeats.{list_turn}
 use Rattle.mql_parse.specs.TokenReading as reading
@@ -35,7 +36,7 @@ pub fault_shallow : {X : Type 0} (kind : ParseKind) (s : Rest) → (kind ≡ Too
     Shallow {X = X} (Err (fault kind s))
 fault_shallow kind s h = record { other = h }
 
-pub unexpected_kind : (w : What) (bs : List ℕ) → kind_of w bs ≡ TooDeep → ⊥
+pub unexpected_kind : (w : What) (bs : List ℕ) → kind_of_fault w bs ≡ TooDeep → ⊥
 unexpected_kind w [] h = cc
 unexpected_kind w (b ∷ bs) h = either (is_alphabet b) h
   where
@@ -74,7 +75,7 @@ pub apart_shallow : (w : What) (s : Rest) → Shallow (apart w s)
 apart_shallow w s = if_shallow (is_word_byte (head s)) (Err (unexpected_fault w s)) (Ok s) (unexpected_shallow w s)
     (ok_shallow s)
 
-pub up_to_shallow : {A : Type 0} (b : ℕ) (w : What) (o : Outcome A) → Shallow o → Shallow (up_to b w o)
+pub up_to_shallow : {A : Type 0} (b : ℕ) (w : What) (o : Outcome A) → Shallow o → Shallow (up_to_sign b w o)
 up_to_shallow b w o h = bind_shallow o (λ x. sign b w x.1 >>= λ r. Ok (x.0, r)) h
     (λ x. bind_shallow (sign b w x.1) (λ r. Ok (x.0, r)) (sign_shallow b w x.1) (λ r. ok_shallow (x.0, r)))
 

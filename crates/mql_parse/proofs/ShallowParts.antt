@@ -64,8 +64,8 @@ comparison_shallow s =
     (if_shallow (head t == 62) _ _ (maybe_equal_shallow comparison.Greater comparison.AtLeast m)
     (unexpected_shallow what.Comparison t))))
 
-value_shallow : (s : Rest) → Shallow (predicates.value s)
-unfolding predicates.value
+value_shallow : (s : Rest) → Shallow (predicates.literal_value s)
+unfolding predicates.literal_value
 value_shallow s =
     let t = skip s in
     if_shallow (head t == 34) _ _ (map_shallow _ (reading.text (behind t)) (text_shallow (behind t)))
@@ -79,7 +79,7 @@ value_shallow s =
     (unexpected_shallow what.Text t))))
 
 how_shallow : (column : Name) (x : Compared × Rest) → Shallow (predicates.compares_how column x)
-how_shallow column (WithValue how, s) = map_shallow _ (predicates.value s) (value_shallow s)
+how_shallow column (WithValue how, s) = map_shallow _ (predicates.literal_value s) (value_shallow s)
 how_shallow column (WithPattern, s) =
     bind_shallow (sign 34 what.Text s) _ (sign_shallow 34 what.Text s)
     (λ q. map_shallow _ (reading.pattern q) (pattern_shallow q))
@@ -98,7 +98,7 @@ names_shallow s =
     (repetition_shallow (list_turn 93 what.CloseBracket reading.name)
     (list_turn_shallow 93 what.CloseBracket reading.name name_shallow) [] s)
 
-read_as_shallow : (word : FoldWord) (rest : List ℕ) (s : Rest) → Shallow (folds.read_as word rest s)
+read_as_shallow : (word : FoldWord) (rest : List ℕ) (s : Rest) → Shallow (folds.fold_word_from word rest s)
 read_as_shallow word rest s =
     bind_shallow (exact what.Aggregate rest s) _ (exact_shallow what.Aggregate rest s) (λ r. ok_shallow _)
 
@@ -125,7 +125,7 @@ fold_here_shallow s =
 some_column_shallow : (s : Rest) → Shallow (folds.some_column s)
 some_column_shallow s = map_shallow Some (reading.name s) (name_shallow s)
 
-folded_column_shallow : (word : FoldWord) (s : Rest) → Shallow (folds.folded_column word s)
+folded_column_shallow : (word : FoldWord) (s : Rest) → Shallow (folds.fold_column word s)
 folded_column_shallow fold.Count s = ok_shallow _
 folded_column_shallow fold.Sum s = some_column_shallow s
 folded_column_shallow fold.Min s = some_column_shallow s
@@ -138,7 +138,7 @@ fold_call_shallow : (at : ℕ) (label : Option Name) (word : FoldWord) (s : Rest
     Shallow (folds.fold_call at label word s)
 unfolding folds.fold_call
 fold_call_shallow at label word s =
-    map_shallow _ _ (up_to_shallow 41 what.CloseParenthesis (folds.folded_column word s) (folded_column_shallow word s))
+    map_shallow _ _ (up_to_shallow 41 what.CloseParenthesis (folds.fold_column word s) (folded_column_shallow word s))
 
 labelled_fold_shallow : (label : Name) (s : Rest) → Shallow (folds.labelled_fold label s)
 labelled_fold_shallow label s =

@@ -7,7 +7,7 @@ use Rattle.mql_ast.specs.Rests.{Rest, first_of, behind_first, behind_blanks, hea
 use Rattle.mql_parse.specs.declared.faults.ParseFault.{ParseFault}
 use Rattle.mql_parse.specs.declared.faults.ParseKind.{ParseKind}
 use Rattle.mql_parse.specs.declared.faults.What.{What}
-use Rattle.mql_parse.specs.Outcomes.{Outcome, unexpected_fault, fault, sign, map_outcome, up_to}
+use Rattle.mql_parse.specs.Outcomes.{Outcome, unexpected_fault, fault, sign, map_outcome, up_to_sign}
 use Rattle.mql_parse.specs.Steadiness.{Shares, here, next, ReadAlike, AgreesBefore, Reaches, Steady, unit_read}
 use Rattle.mql_parse.specs.Steadiness.{SteadyPass}
 use Rattle.mql_parse.specs.Steadiness.{SteadyTest}
@@ -305,6 +305,6 @@ pub sign_next : (b : ℕ) (w : What) → SteadyPass next next (sign b w)
 sign_next b w = steady_to next (λ s. unit_read (sign b w s)) (steady_sign b w)
 
 pub steady_up_to : {A : Type 0} (from : Rest → ℕ) (b : ℕ) (w : What) (read : Rest → Outcome A) → Steady from next read →
-    Steady from here (λ s. up_to b w (read s))
+    Steady from here (λ s. up_to_sign b w (read s))
 steady_up_to from b w read k = steady_bind from next here read (λ x. sign b w x.1 >>= λ r. Ok (x.0, r)) k
     (λ a. steady_behind_pass next here here (sign b w) (λ r. Ok (a, r)) (steady_sign b w) (steady_ok here a))

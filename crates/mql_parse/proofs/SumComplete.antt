@@ -15,7 +15,7 @@ use Rattle.mql_parse.specs.Outcomes.{Outcome, sign}
 use Rattle.mql_parse.specs.Repeats.{Done, Again, goes_on, repetition}
 use Rattle.mql_parse.specs.TokenReading as reading
 use Rattle.mql_parse.specs.SumReading as sums
-use Rattle.mql_parse.specs.SumReading.{SumSeen, seen_sum, is_percentile}
+use Rattle.mql_parse.specs.SumReading.{SumSeen, as_sum_seen, is_percentile}
 use Rattle.mql_parse.specs.Behind.{Behind}
 use Rattle.mql_parse.proofs.BehindLemmas.{behind_behind, sign_behind, chosen, sign_taken}
 use Rattle.mql_parse.proofs.Sound.{repeated_again}
@@ -41,11 +41,11 @@ Uncalled r = (head (skip r) == 40) ≡ false
 
 -- a term is read, and whether it is the bare word `percentile`
 abbrev TermRead : ℕ → Rest → Rest → SumTree → Type 0
-TermRead d s r e = (b : Bool) × (sums.term d s ≡ Ok (seen_sum e b, r))
+TermRead d s r e = (b : Bool) × (sums.term d s ≡ Ok (as_sum_seen e b, r))
 
 -- the reading of a sum goes on from its terms so far
 abbrev SumGoesOn : ℕ → Rest → Rest → SumTree → Type 0
-SumGoesOn d s r e = (b : Bool) × (sums.sum d s ≡ repetition (sums.term_turn (sums.term d)) (seen_sum e b) r)
+SumGoesOn d s r e = (b : Bool) × (sums.sum d s ≡ repetition (sums.term_turn (sums.term d)) (as_sum_seen e b) r)
 
 word_term : (group : Rest → Rest → Outcome SumSeen) (s : Rest) → is_letter (head (skip s)) ≡ true →
     sums.term_with group s ≡ sums.word_read (word_here (skip s))
@@ -62,7 +62,8 @@ named_term d s r n e = let t = name_taken s r n e in word_term (sums.sum_group d
 
 -- a name without a parenthesis
 uncalled_word : (t u : Bool) (call : Outcome SumSeen) (e : SumTree) (r : Rest) → u ≡ false →
-    (if t then (if u then call else Ok (seen_sum e true, r)) else Ok (seen_sum e false, r)) ≡ Ok (seen_sum e t, r)
+    (if t then (if u then call else Ok (as_sum_seen e true, r)) else Ok (as_sum_seen e false, r))
+    ≡ Ok (as_sum_seen e t, r)
 uncalled_word true u call e r h = if_false u call _ h
 uncalled_word false u call e r h = refl
 
@@ -75,7 +76,7 @@ column_read d s r n e u = (
 
 percentile_read : (at : ℕ) (b c e f r : Rest) (n : Name) (p : ℕ) → name_at b ≡ Some (n, c) → sign_at 44 c ≡ Some e →
     positive_at 100 e ≡ Some (p, f) → sign_at 41 f ≡ Some r →
-    sums.percentile at b ≡ Ok (seen_sum (Percentile at n p) false, r)
+    sums.percentile at b ≡ Ok (as_sum_seen (Percentile at n p) false, r)
 unfolding sums.percentile
 percentile_read at b c e f r n p h4 h5 h6 h7 =
     bound (reading.name b) _ (n, c) _ (name_read b c n h4)
@@ -91,14 +92,14 @@ called_word w a b h2 h3 =
     if_true (is_percentile w.text) _ _ word ∙ if_true (head (skip a) == 40) _ _ t.0 ∙ ap (sums.percentile w.at) t.1
 
 number_read : (d : ℕ) (s r : Rest) (z : ℤ) → signed_at s ≡ Some (z, r) →
-    sums.term d s ≡ Ok (seen_sum (Number (skip s).at z) false, r)
+    sums.term d s ≡ Ok (as_sum_seen (Number (skip s).at z) false, r)
 unfolding sums.term_with
 number_read d s r z e =
     let b = head (skip s) in
     let h = signed_begins s (z, r) e in
     if_false (b == 40) _ _ (not_that_byte (λ x. x == 45 || is_digit x) 40 refl b h)
     ∙ if_true (b == 45 || is_digit b) _ _ h
-    ∙ mapped (λ z. seen_sum (Number (skip s).at z) false) (reading.signed_reading s) z r (signed_read s r z e)
+    ∙ mapped (λ z. as_sum_seen (Number (skip s).at z) false) (reading.signed_reading s) z r (signed_read s r z e)
 
 -- a sum ends where no further sign stands
 turn_ends : (term : Rest → Outcome SumSeen) (a : SumSeen) (s : Rest) → (head (skip s) == 43) ≡ false →
@@ -117,41 +118,41 @@ group_here d s m e = let t = sign_taken 40 s m e in
     if_true (head (skip s) == 40) _ _ t.0 ∙ ap (λ n. sums.sum d n >>= sums.sum_end) t.1
 
 group_read : (d : ℕ) (s m k r : Rest) (e : SumTree) (b : Bool) → sign_at 40 s ≡ Some m →
-    sums.sum d m ≡ repetition (sums.term_turn (sums.term d)) (seen_sum e b) k → sign_at 41 k ≡ Some r →
-    sums.term (suc d) s ≡ Ok (seen_sum e false, r)
+    sums.sum d m ≡ repetition (sums.term_turn (sums.term d)) (as_sum_seen e b) k → sign_at 41 k ≡ Some r →
+    sums.term (suc d) s ≡ Ok (as_sum_seen e false, r)
 group_read d s m k r e b h1 h h2 =
     group_here d s m h1
-    ∙ bound (sums.sum d m) sums.sum_end (seen_sum e b, k) _
-    (h ∙ sum_ends d (seen_sum e b) k (other_sign 43 41 refl k r h2) (other_sign 45 41 refl k r h2))
+    ∙ bound (sums.sum d m) sums.sum_end (as_sum_seen e b, k) _
+    (h ∙ sum_ends d (as_sum_seen e b) k (other_sign 43 41 refl k r h2) (other_sign 45 41 refl k r h2))
     (bound (sign 41 (sums.behind_sum b) k) _ r _ (sign_read 41 (sums.behind_sum b) k r h2) refl)
 
 -- a further term
 plus_turn : (term : Rest → Outcome SumSeen) (l e : SumTree) (b c : Bool) (m k r : Rest) → sign_at 43 m ≡ Some k →
-    term k ≡ Ok (seen_sum e c, r) →
-    sums.term_turn term (seen_sum l b) m ≡ Again (seen_sum (Plus l e) c) r
+    term k ≡ Ok (as_sum_seen e c, r) →
+    sums.term_turn term (as_sum_seen l b) m ≡ Again (as_sum_seen (Plus l e) c) r
 unfolding sums.term_turn
 plus_turn term l e b c m k r h g =
     let t = sign_taken 43 m k h in
-    if_true (head (skip m) == 43) _ _ t.0 ∙ ap (λ o. goes_on (sums.sum_plus (seen_sum l b)) o) (ap term t.1 ∙ g)
+    if_true (head (skip m) == 43) _ _ t.0 ∙ ap (λ o. goes_on (sums.sum_plus (as_sum_seen l b)) o) (ap term t.1 ∙ g)
 
 minus_turn : (term : Rest → Outcome SumSeen) (l e : SumTree) (b c : Bool) (m k r : Rest) → sign_at 45 m ≡ Some k →
-    term k ≡ Ok (seen_sum e c, r) →
-    sums.term_turn term (seen_sum l b) m ≡ Again (seen_sum (Minus l e) c) r
+    term k ≡ Ok (as_sum_seen e c, r) →
+    sums.term_turn term (as_sum_seen l b) m ≡ Again (as_sum_seen (Minus l e) c) r
 unfolding sums.term_turn
 minus_turn term l e b c m k r h g =
     let t = sign_taken 45 m k h in
     if_false (head (skip m) == 43) _ _ (other_sign 43 45 refl m k h) ∙ if_true (head (skip m) == 45) _ _ t.0
-    ∙ ap (λ o. goes_on (sums.sum_minus (seen_sum l b)) o) (ap term t.1 ∙ g)
+    ∙ ap (λ o. goes_on (sums.sum_minus (as_sum_seen l b)) o) (ap term t.1 ∙ g)
 
 first_term : (d : ℕ) (s r : Rest) (e : SumTree) → TermRead d s r e → SumGoesOn d s r e
 unfolding sums.sum_with
-first_term d s r e t = (t.0, bound (sums.term d s) _ (seen_sum e t.0, r) _ t.1 refl)
+first_term d s r e t = (t.0, bound (sums.term d s) _ (as_sum_seen e t.0, r) _ t.1 refl)
 
 next_plus : (d : ℕ) (s m k r : Rest) (l e : SumTree) → SumGoesOn d s m l → sign_at 43 m ≡ Some k → TermRead d k r e →
     Behind k r → SumGoesOn d s r (Plus l e)
 next_plus d s m k r l e S h t f = (
   t.0,
-  S.1 ∙ repeated_again (sums.term_turn (sums.term d)) (seen_sum l S.0) (seen_sum (Plus l e) t.0) m r
+  S.1 ∙ repeated_again (sums.term_turn (sums.term d)) (as_sum_seen l S.0) (as_sum_seen (Plus l e) t.0) m r
       (plus_turn (sums.term d) l e S.0 t.0 m k r h t.1) (behind_behind m k r (sign_behind 43 refl m k h) f),
 )
 
@@ -159,7 +160,7 @@ next_minus : (d : ℕ) (s m k r : Rest) (l e : SumTree) → SumGoesOn d s m l �
     Behind k r → SumGoesOn d s r (Minus l e)
 next_minus d s m k r l e S h t f = (
   t.0,
-  S.1 ∙ repeated_again (sums.term_turn (sums.term d)) (seen_sum l S.0) (seen_sum (Minus l e) t.0) m r
+  S.1 ∙ repeated_again (sums.term_turn (sums.term d)) (as_sum_seen l S.0) (as_sum_seen (Minus l e) t.0) m r
       (minus_turn (sums.term d) l e S.0 t.0 m k r h t.1) (behind_behind m k r (sign_behind 45 refl m k h) f),
 )
 
@@ -178,7 +179,7 @@ mutual
       h3 h4 h5 h6 h7) u = (
         false,
         named_term d s a w h1 ∙ called_word w a b h2 h3 ∙ percentile_read w.at b c e f r n p h4 h5 h6 h7
-            ∙ ap (λ at. Ok (seen_sum (Percentile at n p) false, r)) (place_of_name s a w h1),
+            ∙ ap (λ at. Ok (as_sum_seen (Percentile at n p) false, r)) (place_of_name s a w h1),
       )
   term_read {s = s} {r = r} (sum_in_parentheses {d = d} {m = m} {k = k} {e = e} h1 S h2) u =
       let inner = sum_goes_on S (other_sign 40 41 refl k r h2) in
@@ -194,7 +195,7 @@ sum_ends_before c a b z s r e = (other_sign 40 c a s r e, (other_sign 43 c b s r
 
 -- each sum of the grammar is read as its tree
 pub sum_read : {d : ℕ} {s r : Rest} {e : SumTree} → Sum d s r e → SumEnds r →
-    (b : Bool) × (sums.sum d s ≡ Ok (seen_sum e b, r))
+    (b : Bool) × (sums.sum d s ≡ Ok (as_sum_seen e b, r))
 sum_read {d = d} {s = s} {r = r} {e = e} S u =
     let inner = sum_goes_on S u.0 in
-    (inner.0, inner.1 ∙ sum_ends d (seen_sum e inner.0) r u.1.0 u.1.1)
+    (inner.0, inner.1 ∙ sum_ends d (as_sum_seen e inner.0) r u.1.0 u.1.1)

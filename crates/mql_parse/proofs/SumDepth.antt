@@ -10,7 +10,7 @@ use Rattle.mql_parse.specs.Outcomes.{Outcome, sign}
 use Rattle.mql_parse.specs.Repeats.{Done, repetition, list_or_end, list_turn}
 use Rattle.mql_parse.specs.TokenReading as reading
 use Rattle.mql_parse.specs.SumReading as sums
-use Rattle.mql_parse.specs.SumReading.{SumSeen, seen_sum}
+use Rattle.mql_parse.specs.SumReading.{SumSeen, as_sum_seen}
 use Rattle.mql_parse.specs.Steadiness.{here, next, SteadyTurn}
 use Rattle.mql_parse.proofs.SumSound.{term_turn_behind}
 use Rattle.mql_parse.proofs.ListSound.{items_turn_behind}
@@ -61,8 +61,8 @@ sum_deepens_by d e k s =
 sum_end_shallow : (x : SumSeen × Rest) → Shallow (sums.sum_end x)
 sum_end_shallow x =
     let w = sums.behind_sum x.0.bare in
-    bind_shallow (sign 41 w x.1) (λ r. Ok (seen_sum x.0.sum false, r)) (sign_shallow 41 w x.1)
-    (λ r. ok_shallow (seen_sum x.0.sum false, r))
+    bind_shallow (sign 41 w x.1) (λ r. Ok (as_sum_seen x.0.sum false, r)) (sign_shallow 41 w x.1)
+    (λ r. ok_shallow (as_sum_seen x.0.sum false, r))
 
 -- a sum in parentheses, from the first
 group_deepens : (d e : ℕ) → d < e → (t : Rest) → (head t == 40) ≡ true →
@@ -103,7 +103,7 @@ item_deepens d e l s =
     (item_behind_deepens d e l)
 
 pub items_deepens : (d e : ℕ) → d < e → (s : Rest) → Deepens here (sums.items d s) (sums.items e s)
-unfolding sums.items_with
+unfolding sums.items_with_sum
 items_deepens d e l s =
     let w = what.CloseBracket in
     let fewer = sums.item_with (sums.sum d) in

@@ -17,7 +17,7 @@ use Rattle.mql_parse.specs.Outcomes.{Outcome, unexpected_fault, sign}
 use Rattle.mql_parse.specs.Repeats.{Done, goes_on}
 use Rattle.mql_parse.specs.TokenReading as reading
 use Rattle.mql_parse.specs.SumReading as sums
-use Rattle.mql_parse.specs.SumReading.{SumSeen, seen_sum, is_percentile}
+use Rattle.mql_parse.specs.SumReading.{SumSeen, as_sum_seen, is_percentile}
 use Rattle.mql_parse.proofs.Sound.{bind_sound}
 use Rattle.mql_parse.proofs.MetricEndings.{if_bind}
 use Rattle.mql_parse.proofs.SumSound.{same_word, term_turn_behind}
@@ -130,7 +130,7 @@ percentile_ends at m =
     rest_of_percentile (λ k.
     then_ends k (reading.positive 100 k) _ refl (positive_ends 100 refl k) (sign_default 41 close_parenthesis refl)
     (λ p.
-    done_ends p.1 (sign 41 what.CloseParenthesis p.1) (λ r. (seen_sum (tree.Percentile at column.0 p.0) false, r))
+    done_ends p.1 (sign 41 what.CloseParenthesis p.1) (λ r. (as_sum_seen (tree.Percentile at column.0 p.0) false, r))
     (sign_ends 41 what.CloseParenthesis close_parenthesis refl p.1) (λ r. refl) (λ r w f. f))))
 
 pub any_ok : {A : Type 0} (o : Result A ParseFault) → IfOk o (λ x. Unit {0})
@@ -158,8 +158,8 @@ word_ends : (d : ℕ) (s : Rest) → is_letter (head (skip s)) ≡ true →
 word_ends d s l =
     let word = word_here (skip s) in
     let m = behind (skip word.1) in
-    let bare = seen_sum (tree.Column word.0) true in
-    let plain = seen_sum (tree.Column word.0) false in
+    let bare = as_sum_seen (tree.Column word.0) true in
+    let plain = as_sum_seen (tree.Column word.0) false in
     let T = TermText d in
     cut_then s word.1 (sums.word_read word) (name_cut s l) (λ w f.
     let whole = column_text d w (changed (some_name word.0.text) w f) in
@@ -188,7 +188,7 @@ module _ (d : ℕ) (group : Rest → Rest → Outcome SumSeen) (grouped : (s : R
       let b = head t in
       if_ends s (b == 40) (group t (behind t)) _ (grouped s)
       (λ _. if_ends s (b == 45 || is_digit b) (sums.number_term s) _
-      (λ _. done_ends s (reading.signed_reading s) (λ x. (seen_sum (tree.Number (skip s).at x.0) false, x.1))
+      (λ _. done_ends s (reading.signed_reading s) (λ x. (as_sum_seen (tree.Number (skip s).at x.0) false, x.1))
       (ends_as s (reading.signed_reading s) (signed_ends s) (λ x w f. number_text d w f) (λ w f. number_text d w f))
       (λ x. refl) (λ x w f. (f, not_bare (TermText d) false w refl)))
       (λ _. if_ends s (is_letter b) (sums.word_read (word_here t)) (Err (unexpected_fault what.Name t)) (word_ends d s)
@@ -240,7 +240,7 @@ sum_end_ends : (d : ℕ) (w v : List ℕ) → Text Parted true (SignSpan 40) w �
 sum_end_ends d w v f x g =
     let r = x.1 in
     if_bind r (head (skip r) == 41) (behind (skip r)) (unexpected_fault (sums.behind_sum x.0.bare) (skip r))
-    (λ q. Ok (seen_sum x.0.sum false, q))
+    (λ q. Ok (as_sum_seen x.0.sum false, q))
     (λ h. record {
       way = cut_as r (behind (skip r)) (sign_cut 41 close_parenthesis r h) (λ u k. group_text d w v u f g.0 k);
     })

@@ -11,7 +11,7 @@ use Rattle.mql_parse.specs.Outcomes.{Outcome, unexpected_fault, sign, map_outcom
 use Rattle.mql_parse.specs.Repeats.{Done, goes_on, repetition, list_turn}
 use Rattle.mql_parse.specs.TokenReading as reading
 use Rattle.mql_parse.specs.SumReading as sums
-use Rattle.mql_parse.specs.SumReading.{SumSeen, seen_sum, is_percentile}
+use Rattle.mql_parse.specs.SumReading.{SumSeen, as_sum_seen, is_percentile}
 use Rattle.mql_parse.proofs.SumSound.{term_turn_behind}
 use Rattle.mql_parse.proofs.ListSound.{items_turn_behind}
 use Rattle.mql_parse.proofs.KindFits.{Fits, TurnFits, outside_itself, outside_before, fits_before, bind_fits, map_fits}
@@ -31,9 +31,9 @@ percentile_fits at s =
 
 word_read_fits : (word : Name) (r : Rest) → Fits None r (sums.word_read (word, r))
 word_read_fits word r =
-    if_fits None r (is_percentile word.text) _ (Ok (seen_sum (Column word) false, r))
+    if_fits None r (is_percentile word.text) _ (Ok (as_sum_seen (Column word) false, r))
     (λ _. if_fits None r (head (skip r) == 40) (sums.percentile word.at (behind (skip r)))
-    (Ok (seen_sum (Column word) true, r))
+    (Ok (as_sum_seen (Column word) true, r))
     (λ h. part_fits (λ b. b == 40) refl refl r h (sums.percentile word.at (behind (skip r)))
     (percentile_fits word.at (behind (skip r)))) (λ _. outside_itself r))
     (λ _. outside_itself r)
@@ -47,7 +47,7 @@ term_fits_with group k s =
     let word = word_here t in
     if_fits None s (head t == 40) (group t (behind t)) _ (λ h. skip_fits s (group t (behind t)) (k t h))
     (λ _. if_fits None s (head t == 45 || is_digit (head t)) (sums.number_term s) _
-    (λ _. map_fits None s (λ z. seen_sum (Number t.at z) false) (reading.signed_reading s) (signed_fits s))
+    (λ _. map_fits None s (λ z. as_sum_seen (Number t.at z) false) (reading.signed_reading s) (signed_fits s))
     (λ _. if_fits None s (is_letter (head t)) (sums.word_read word) (Err (unexpected_fault what.Name t))
     (λ _. fits_before None s word.1 (sums.word_read word)
     (outside_before None s t word.1 (skip_outside s) (word_outside t)) (word_read_fits word.0 word.1))
@@ -70,7 +70,7 @@ sum_fits_by d k s = bind_fits None s (sums.term d s)
 
 sum_end_fits : (inner : SumSeen) (r : Rest) → Fits None r (sums.sum_end (inner, r))
 sum_end_fits inner r = let w = sums.behind_sum inner.bare in pass_then r (sign 41 w r)
-    (λ k. Ok (seen_sum inner.sum false, k)) (sign_fits 41 refl refl w r) outside_itself
+    (λ k. Ok (as_sum_seen inner.sum false, k)) (sign_fits 41 refl refl w r) outside_itself
 
 group_fits : (d : ℕ) (t : Rest) → (head t == 40) ≡ true → Fits None t (sums.sum_group d t (behind t))
 unfolding sums.sum_group
@@ -96,6 +96,6 @@ unfolding sums.item_with
 item_fits d s = bind_fits None s (reading.name s) (sums.item_behind (sums.sum d)) (name_fits s) (item_behind_fits d)
 
 pub items_fits : (d : ℕ) (s : Rest) → Fits None s (sums.items d s)
-unfolding sums.items_with
+unfolding sums.items_with_sum
 items_fits d s = repetition_fits (list_turn 93 what.CloseBracket (sums.item_with (sums.sum d))) (items_turn_behind d)
     (list_turn_fits 93 refl refl what.CloseBracket (sums.item_with (sums.sum d)) (item_fits d)) [] s

@@ -12,7 +12,7 @@ use Rattle.mql_parse.specs.Outcomes.{Outcome, unexpected_fault, sign, map_outcom
 use Rattle.mql_parse.specs.Repeats.{Done, goes_on, repetition, list_turn}
 use Rattle.mql_parse.specs.TokenReading as reading
 use Rattle.mql_parse.specs.SumReading as sums
-use Rattle.mql_parse.specs.SumReading.{SumSeen, seen_sum, is_percentile}
+use Rattle.mql_parse.specs.SumReading.{SumSeen, as_sum_seen, is_percentile}
 use Rattle.mql_parse.specs.Steadiness.{here, next, Steady, SteadyTurn}
 use Rattle.mql_parse.proofs.SumSound.{term_turn_behind}
 use Rattle.mql_parse.proofs.ListSound.{items_turn_behind}
@@ -29,20 +29,20 @@ percentile_steady at =
     (λ column. steady_behind_pass next next here (sign 44 what.Comma) _ (sign_next 44 what.Comma)
     (steady_bind next next here (reading.positive 100) _ (positive_next 100)
     (λ p. steady_behind_pass next here here (sign 41 what.CloseParenthesis) _ (steady_sign 41 what.CloseParenthesis)
-    (steady_ok here (seen_sum (Percentile at column p) false)))))
+    (steady_ok here (as_sum_seen (Percentile at column p) false)))))
 
 percentile_next : (at : ℕ) → Steady next next (sums.percentile at)
 percentile_next at = steady_to next (sums.percentile at) (percentile_steady at)
 
 word_read_steady : (word : Name) → Steady next next (λ r. sums.word_read (word, r))
 word_read_steady word =
-    steady_if next next (λ r. is_percentile word.text) _ (λ r. Ok (seen_sum (Column word) false, r))
+    steady_if next next (λ r. is_percentile word.text) _ (λ r. Ok (as_sum_seen (Column word) false, r))
     (constant_test next (is_percentile word.text))
     (steady_if next next (λ r. head (skip r) == 40) (λ r. sums.percentile word.at (behind (skip r)))
-    (λ r. Ok (seen_sum (Column word) true, r)) (next_test (λ b. b == 40))
+    (λ r. Ok (as_sum_seen (Column word) true, r)) (next_test (λ b. b == 40))
     (steady_part_behind next (sums.percentile word.at) (percentile_next word.at))
-    (steady_ok next (seen_sum (Column word) true)))
-    (steady_ok next (seen_sum (Column word) false))
+    (steady_ok next (as_sum_seen (Column word) true)))
+    (steady_ok next (as_sum_seen (Column word) false))
 
 word_term_steady : Steady here next (λ t. sums.word_read (word_here t))
 word_term_steady = steady_bind here next next (λ t. Ok (word_here t)) sums.word_read
@@ -50,8 +50,8 @@ word_term_steady = steady_bind here next next (λ t. Ok (word_here t)) sums.word
 
 number_term_steady : Steady next next sums.number_term
 number_term_steady =
-    steady_next next (λ n s. map_outcome (λ z. seen_sum (Number n z) false) (reading.signed_reading s))
-    (λ n. steady_map next next (λ z. seen_sum (Number n z) false) reading.signed_reading
+    steady_next next (λ n s. map_outcome (λ z. as_sum_seen (Number n z) false) (reading.signed_reading s))
+    (λ n. steady_map next next (λ z. as_sum_seen (Number n z) false) reading.signed_reading
     (steady_to next reading.signed_reading signed_steady))
 
 pub term_steady_with : (group : Rest → Rest → Outcome SumSeen) → Steady here next (λ t. group t (behind t)) →
@@ -86,8 +86,8 @@ sum_steady_by d k = steady_bind next next next (sums.term d)
 pub sum_end_steady : (inner : SumSeen) → Steady next next (λ r. sums.sum_end (inner, r))
 sum_end_steady inner =
     let w = sums.behind_sum inner.bare in
-    steady_behind_pass next next next (sign 41 w) (λ r. Ok (seen_sum inner.sum false, r)) (sign_next 41 w)
-    (steady_ok next (seen_sum inner.sum false))
+    steady_behind_pass next next next (sign 41 w) (λ r. Ok (as_sum_seen inner.sum false, r)) (sign_next 41 w)
+    (steady_ok next (as_sum_seen inner.sum false))
 
 -- a sum in parentheses, from the first
 pub group_steady : (d : ℕ) → Steady here next (λ t. sums.sum_group d t (behind t))
@@ -117,7 +117,7 @@ unfolding sums.item_with
 item_steady d = steady_bind next next next reading.name (sums.item_behind (sums.sum d)) name_next (item_behind_steady d)
 
 pub items_steady : (d : ℕ) → Steady next here (sums.items d)
-unfolding sums.items_with
+unfolding sums.items_with_sum
 items_steady d = steady_repetition here (list_turn 93 what.CloseBracket (sums.item_with (sums.sum d)))
     (items_turn_behind d) (λ so_far. list_turn_steady 93 what.CloseBracket (sums.item_with (sums.sum d)) so_far
     (item_steady d)) []

@@ -12,7 +12,7 @@ use Rattle.mql_parse.specs.declared.faults.ParseKind.{ParseKind}
 use Rattle.mql_parse.specs.declared.faults.ParseKind.TheVariants.{BadToken, Expected}
 use Rattle.mql_parse.specs.declared.faults.What.{What}
 use Rattle.mql_parse.specs.declared.faults.What.TheVariants as what
-use Rattle.mql_parse.specs.Outcomes.{kind_of, fault, unexpected_fault, exact, sign}
+use Rattle.mql_parse.specs.Outcomes.{kind_of_fault, fault, unexpected_fault, exact, sign}
 use Rattle.mql_parse.specs.FaultTokens.{IsBare}
 use Rattle.mql_parse.specs.TokenReading as reading
 use Rattle.mql_parse.proofs.RestLemmas.{skip_off}
@@ -121,7 +121,7 @@ byte_cut test z s h = of_bytes s.at s.bytes h
     of_bytes at [] h = absurd (false≢true (sym z ∙ h))
     of_bytes at (b ∷ bs) h = record { front = b ∷ []; bytes = refl; place = omega arith; is = refl }
 
-pub none_too_large : (P : Type 0) (w : What) (bs : List ℕ) → IfTooLarge (kind_of w bs) P
+pub none_too_large : (P : Type 0) (w : What) (bs : List ℕ) → IfTooLarge (kind_of_fault w bs) P
 none_too_large P w [] = tt
 none_too_large P w (b ∷ bs) = either (is_alphabet b)
   where
@@ -129,7 +129,7 @@ none_too_large P w (b ∷ bs) = either (is_alphabet b)
     either true = tt
     either false = tt
 
-pub expected_of : (P : What → Type 0) (w : What) (bs : List ℕ) → P w → IfExpected (kind_of w bs) P
+pub expected_of : (P : What → Type 0) (w : What) (bs : List ℕ) → P w → IfExpected (kind_of_fault w bs) P
 expected_of P w [] h = h
 expected_of P w (b ∷ bs) h = either (is_alphabet b)
   where

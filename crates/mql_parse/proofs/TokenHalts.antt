@@ -7,7 +7,7 @@ use Rattle.mql_ast.specs.Quotes.{Whole}
 use Rattle.mql_parse.specs.declared.faults.ParseFault.{ParseFault}
 use Rattle.mql_parse.specs.declared.faults.ParseKind.{ParseKind}
 use Rattle.mql_parse.specs.declared.faults.What.{What}
-use Rattle.mql_parse.specs.Outcomes.{Outcome, kind_of, fault, unexpected_fault, map_outcome}
+use Rattle.mql_parse.specs.Outcomes.{Outcome, kind_of_fault, fault, unexpected_fault, map_outcome}
 use Rattle.mql_parse.specs.declared.faults.What.TheVariants as what
 use Rattle.mql_parse.specs.FaultKinds.{open_quotes}
 use Rattle.mql_parse.specs.FaultTokens.{IsBare}
@@ -61,7 +61,8 @@ halted_at w kind s byte rest u h q k e = record {
 pub halted_unexpected : {A : Type 0} {K L : List ℕ → Type 0} (w : What) (s : Rest) (byte : ℕ) (rest : List ℕ) →
     K [] → L (byte ∷ rest) → (w ≡ what.Text → ⊥) → Halts {A = A} w K L s (Err (unexpected_fault w s))
 halted_unexpected {K = K} {L = L} w s byte rest u h o =
-    halted_at {K = K} {L = L} w (kind_of w s.bytes) s byte rest u h (λ e. absurd (o e)) (none_too_large ⊥ w s.bytes)
+    halted_at {K = K} {L = L} w (kind_of_fault w s.bytes) s byte rest u h (λ e. absurd (o e))
+    (none_too_large ⊥ w s.bytes)
     (expected_of (λ x. x ≡ w) w s.bytes refl)
 
 pub if_halts : {A : Type 0} {w : What} {K L : List ℕ → Type 0} {s : Rest} (t : Bool) (o p : Outcome A) →

@@ -344,8 +344,8 @@ text_token u f =
       ),
     ) in inl whole
 
-pub value_ends : (s : Rest) → Reads ValueText s (predicates.value s)
-unfolding predicates.value
+pub value_ends : (s : Rest) → Reads ValueText s (predicates.literal_value s)
+unfolding predicates.literal_value
 value_ends s =
     let t = skip s in
     let b = head t in

@@ -8,7 +8,7 @@ use Rattle.mql_ast.specs.declared.operations.FoldWord.{FoldWord}
 use Rattle.mql_ast.specs.declared.operations.FoldWord.TheVariants as fold
 use Rattle.mql_ast.specs.Rests.{Rest, head, behind, skip}
 use Rattle.mql_parse.specs.declared.faults.What.TheVariants as what
-use Rattle.mql_parse.specs.Outcomes.{Outcome, unexpected_fault, exact, sign, map_outcome, up_to}
+use Rattle.mql_parse.specs.Outcomes.{Outcome, unexpected_fault, exact, sign, map_outcome, up_to_sign}
 use Rattle.mql_parse.specs.Repeats.{Turn, Done, Again, on_read, repetition, list_turn}
 use Rattle.mql_parse.specs.TokenReading.{name}
 
@@ -29,48 +29,49 @@ fold_of word =
     (if pointwise nat_eq word (codes "merge") then Some fold.Merge else
     (if pointwise nat_eq word (codes "aggregate") then Some fold.Aggregate else None))))))
 
-abbrev pub read_as : FoldWord → List ℕ → Rest → Outcome FoldWord
-read_as word rest s = exact what.Aggregate rest s >>= λ r. Ok (word, r)
+abbrev pub fold_word_from : FoldWord → List ℕ → Rest → Outcome FoldWord
+fold_word_from word rest s = exact what.Aggregate rest s >>= λ r. Ok (word, r)
 
 -- the word of a fold from behind `me`, from behind `m`, and from its first byte on
 abbrev pub fold_behind_me : Rest → Outcome FoldWord
 fold_behind_me s =
-    if head s == 97 then read_as fold.Mean (codes "n") (behind s) else
-    (if head s == 114 then read_as fold.Merge (codes "ge") (behind s) else Err (unexpected_fault what.Aggregate s))
+    if head s == 97 then fold_word_from fold.Mean (codes "n") (behind s) else
+    (if head s == 114 then fold_word_from fold.Merge (codes "ge") (behind s)
+    else Err (unexpected_fault what.Aggregate s))
 
 unfoldable pub fold_behind_m : Rest → Outcome FoldWord
 fold_behind_m s =
-    if head s == 105 then read_as fold.Min (codes "n") (behind s) else
-    (if head s == 97 then read_as fold.Max (codes "x") (behind s) else
+    if head s == 105 then fold_word_from fold.Min (codes "n") (behind s) else
+    (if head s == 97 then fold_word_from fold.Max (codes "x") (behind s) else
     (if head s == 101 then fold_behind_me (behind s) else Err (unexpected_fault what.Aggregate s)))
 
 unfoldable pub fold_here : Rest → Outcome FoldWord
 fold_here s =
-    if head s == 99 then read_as fold.Count (codes "count") s else
-    (if head s == 115 then read_as fold.Sum (codes "sum") s else
-    (if head s == 97 then read_as fold.Aggregate (codes "aggregate") s else
+    if head s == 99 then fold_word_from fold.Count (codes "count") s else
+    (if head s == 115 then fold_word_from fold.Sum (codes "sum") s else
+    (if head s == 97 then fold_word_from fold.Aggregate (codes "aggregate") s else
     (if head s == 109 then fold_behind_m (behind s) else Err (unexpected_fault what.Aggregate s))))
 
 abbrev pub some_column : Rest → Outcome (Option Name)
 some_column s = map_outcome Some (name s)
 
 -- the column of a fold, from behind its parenthesis. A count has none
-abbrev pub folded_column : FoldWord → Rest → Outcome (Option Name)
-folded_column fold.Count s = Ok (None, s)
-folded_column fold.Sum s = some_column s
-folded_column fold.Min s = some_column s
-folded_column fold.Max s = some_column s
-folded_column fold.Mean s = some_column s
-folded_column fold.Merge s = some_column s
-folded_column fold.Aggregate s = some_column s
+abbrev pub fold_column : FoldWord → Rest → Outcome (Option Name)
+fold_column fold.Count s = Ok (None, s)
+fold_column fold.Sum s = some_column s
+fold_column fold.Min s = some_column s
+fold_column fold.Max s = some_column s
+fold_column fold.Mean s = some_column s
+fold_column fold.Merge s = some_column s
+fold_column fold.Aggregate s = some_column s
 
-abbrev pub aggregate_of : ℕ → Option Name → FoldWord → Option Name → Aggregate
-aggregate_of at label word column = record { at = at; name = label; fold = word; column = column }
+abbrev pub aggregate_from : ℕ → Option Name → FoldWord → Option Name → Aggregate
+aggregate_from at label word column = record { at = at; name = label; fold = word; column = column }
 
 -- a fold from behind its parenthesis
 unfoldable pub fold_call : ℕ → Option Name → FoldWord → Rest → Outcome Aggregate
 fold_call at label word s =
-    map_outcome (aggregate_of at label word) (up_to 41 what.CloseParenthesis (folded_column word s))
+    map_outcome (aggregate_from at label word) (up_to_sign 41 what.CloseParenthesis (fold_column word s))
 
 -- a fold with a name, from behind the colon
 abbrev pub labelled_fold : Name → Rest → Outcome Aggregate

@@ -35,13 +35,13 @@ Leaves result outcome = GivesView rest_of result outcome
 abbrev pub fault : ParseKind → Rest → ParseFault
 fault kind s = record { at = s.at; kind = kind }
 
-abbrev pub kind_of : What → List ℕ → ParseKind
-kind_of what [] = Expected what
-kind_of what (b ∷ bs) = if is_alphabet b then Expected what else BadToken
+abbrev pub kind_of_fault : What → List ℕ → ParseKind
+kind_of_fault what [] = Expected what
+kind_of_fault what (b ∷ bs) = if is_alphabet b then Expected what else BadToken
 
 -- the fault of what stands here in place of what might have come
 abbrev pub unexpected_fault : What → Rest → ParseFault
-unexpected_fault what s = fault (kind_of what s.bytes) s
+unexpected_fault what s = fault (kind_of_fault what s.bytes) s
 
 -- what is left behind these bytes, which stand here
 abbrev pub exact : What → List ℕ → Rest → Result Rest ParseFault
@@ -61,8 +61,8 @@ abbrev pub map_outcome : {A B : Type 0} → (A → B) → Outcome A → Outcome 
 map_outcome f read = read >>= λ x. Ok (f x.0, x.1)
 
 -- a part that was read, up to a sign behind it
-abbrev pub up_to : {A : Type 0} → ℕ → What → Outcome A → Outcome A
-up_to b what read = read >>= λ x. sign b what x.1 >>= λ r. Ok (x.0, r)
+abbrev pub up_to_sign : {A : Type 0} → ℕ → What → Outcome A → Outcome A
+up_to_sign b what read = read >>= λ x. sign b what x.1 >>= λ r. Ok (x.0, r)
 
 -- bytes that were read, behind others
 abbrev pub with_front : List ℕ → Outcome (List ℕ) → Outcome (List ℕ)

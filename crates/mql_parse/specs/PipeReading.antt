@@ -13,7 +13,7 @@ use Rattle.mql_parse.specs.declared.faults.ParseFault.{ParseFault}
 use Rattle.mql_parse.specs.declared.faults.ParseKind.TheVariants.{Expected, TooDeep, TooLong}
 use Rattle.mql_parse.specs.declared.faults.What.{What}
 use Rattle.mql_parse.specs.declared.faults.What.TheVariants as what
-use Rattle.mql_parse.specs.Outcomes.{Outcome, fault, unexpected_fault, exact, sign, apart, map_outcome, up_to}
+use Rattle.mql_parse.specs.Outcomes.{Outcome, fault, unexpected_fault, exact, sign, apart, map_outcome, up_to_sign}
 use Rattle.mql_parse.specs.Repeats.{Turn, Done, Again, Stuck, on_read, repetition}
 use Rattle.mql_parse.specs.TokenReading.{name, metric, positive, duration}
 use Rattle.mql_parse.specs.SumReading.{items}
@@ -29,7 +29,7 @@ abbrev pub aligned_for : List ℕ → Rest → Outcome ℤ
 aligned_for word t = do
   end ← exact what.Aligner word t
   open_parenthesis ← sign 40 what.OpenParenthesis end
-  up_to 41 what.CloseParenthesis (duration open_parenthesis)
+  up_to_sign 41 what.CloseParenthesis (duration open_parenthesis)
 
 -- an aligner and its duration, from the aligner's first byte on
 abbrev pub aligner_here : Rest → Outcome DeedTree

@@ -15,7 +15,7 @@ use Rattle.mql_ast.specs.Grammar.{literal}
 use Rattle.mql_parse.specs.declared.faults.ParseKind.TheVariants.{TooDeep}
 use Rattle.mql_parse.specs.declared.faults.What.{What}
 use Rattle.mql_parse.specs.declared.faults.What.TheVariants as what
-use Rattle.mql_parse.specs.Outcomes.{Outcome, fault, unexpected_fault, exact, sign, map_outcome, up_to}
+use Rattle.mql_parse.specs.Outcomes.{Outcome, fault, unexpected_fault, exact, sign, map_outcome, up_to_sign}
 use Rattle.mql_parse.specs.Repeats.{Turn, Done, Stuck, goes_on, repetition}
 use Rattle.mql_parse.specs.TokenReading.{signed_reading, text, pattern}
 
@@ -24,8 +24,8 @@ pub data Compared : Type 0 where
   WithValue : Comparison → Compared
   WithPattern : Compared
 
-abbrev pub with_value : Comparison × Rest → Outcome Compared
-with_value read = Ok (WithValue read.0, read.1)
+abbrev pub value_comparison : Comparison × Rest → Outcome Compared
+value_comparison read = Ok (WithValue read.0, read.1)
 
 -- behind the first byte of a comparison
 abbrev pub behind_equals : Rest → Outcome Compared
@@ -47,8 +47,8 @@ comparison_kind s =
     Err (unexpected_fault what.Comparison t))))
 
 -- a literal's value
-unfoldable pub value : Rest → Outcome FieldValue
-value s =
+unfoldable pub literal_value : Rest → Outcome FieldValue
+literal_value s =
     let t = skip s in
     let b = head t in
     if b == 34 then map_outcome (λ x. field.Text x) (text (behind t)) else
@@ -58,7 +58,7 @@ value s =
     else Err (unexpected_fault what.Text t))))
 
 abbrev pub compares : Name → Comparison → Rest → Outcome PredicateTree
-compares column how s = map_outcome (λ v. Compare column how (literal s v)) (value s)
+compares column how s = map_outcome (λ v. Compare column how (literal s v)) (literal_value s)
 
 abbrev pub pattern_of : Rest → List (List ℕ) → Pattern
 pattern_of s pieces = record { at = (skip s).at; pieces = pieces }
@@ -114,7 +114,7 @@ pub data Deeper : Type 0 where
 
 abbrev pub deeper_with : (Rest → Outcome PredicateTree) → Deeper → Rest → Outcome PredicateTree
 deeper_with negation Opposite s = map_outcome Not (negation s)
-deeper_with negation Group s = up_to 41 what.CloseParenthesis (disjunction_with negation s)
+deeper_with negation Group s = up_to_sign 41 what.CloseParenthesis (disjunction_with negation s)
 
 -- the opposite of what stands behind the sign here, or a predicate in parentheses from behind the first here
 unfoldable pub deeper : ℕ → Deeper → Rest → Rest → Outcome PredicateTree

@@ -21,8 +21,8 @@ pub record SumSeen : Type 0 where
   pub sum : SumTree
   pub bare : Bool
 
-abbrev pub seen_sum : SumTree → Bool → SumSeen
-seen_sum sum bare = record { sum = sum; bare = bare }
+abbrev pub as_sum_seen : SumTree → Bool → SumSeen
+as_sum_seen sum bare = record { sum = sum; bare = bare }
 
 abbrev pub is_percentile : List ℕ → Bool
 is_percentile word = pointwise nat_eq word (codes "percentile")
@@ -34,17 +34,17 @@ percentile at s = do
   comma ← sign 44 what.Comma column.1
   p ← positive 100 comma
   r ← sign 41 what.CloseParenthesis p.1
-  Ok (seen_sum (Percentile at column.0 p.0) false, r)
+  Ok (as_sum_seen (Percentile at column.0 p.0) false, r)
 
 -- a column, or a percentile of one
 abbrev pub word_read : Name × Rest → Outcome SumSeen
 word_read word =
     if is_percentile word.0.text then (if head (skip word.1) == 40 then percentile word.0.at (behind (skip word.1))
-    else Ok (seen_sum (Column word.0) true, word.1))
-    else Ok (seen_sum (Column word.0) false, word.1)
+    else Ok (as_sum_seen (Column word.0) true, word.1))
+    else Ok (as_sum_seen (Column word.0) false, word.1)
 
 abbrev pub number_term : Rest → Outcome SumSeen
-number_term s = map_outcome (λ z. seen_sum (Number (skip s).at z) false) (signed_reading s)
+number_term s = map_outcome (λ z. as_sum_seen (Number (skip s).at z) false) (signed_reading s)
 
 -- a term, where a parenthesis at its front is read so
 unfoldable pub term_with : (Rest → Rest → Outcome SumSeen) → Rest → Outcome SumSeen
@@ -56,10 +56,10 @@ term_with group s =
     (if is_letter b then word_read (word_here t) else Err (unexpected_fault what.Name t)))
 
 abbrev pub sum_plus : SumSeen → SumSeen → SumSeen
-sum_plus left right = seen_sum (Plus left.sum right.sum) right.bare
+sum_plus left right = as_sum_seen (Plus left.sum right.sum) right.bare
 
 abbrev pub sum_minus : SumSeen → SumSeen → SumSeen
-sum_minus left right = seen_sum (Minus left.sum right.sum) right.bare
+sum_minus left right = as_sum_seen (Minus left.sum right.sum) right.bare
 
 -- a further term
 unfoldable pub term_turn : (Rest → Outcome SumSeen) → SumSeen → Rest → Turn SumSeen
@@ -75,7 +75,7 @@ abbrev pub behind_sum : Bool → What
 behind_sum bare = if bare then what.OpenParenthesis else what.CloseParenthesis
 
 abbrev pub sum_end : SumSeen × Rest → Outcome SumSeen
-sum_end inner = sign 41 (behind_sum inner.0.bare) inner.1 >>= λ r. Ok (seen_sum inner.0.sum false, r)
+sum_end inner = sign 41 (behind_sum inner.0.bare) inner.1 >>= λ r. Ok (as_sum_seen inner.0.sum false, r)
 
 -- a sum in parentheses, from behind the first, which stands here
 unfoldable pub sum_group : ℕ → Rest → Rest → Outcome SumSeen
@@ -107,8 +107,8 @@ unfoldable pub item_with : (Rest → Outcome SumSeen) → Rest → Outcome ItemT
 item_with sum s = name s >>= item_behind sum
 
 -- items between brackets, from behind the first
-unfoldable pub items_with : (Rest → Outcome SumSeen) → Rest → Outcome (List ItemTree)
-items_with sum s = repetition (list_turn 93 what.CloseBracket (item_with sum)) [] s
+unfoldable pub items_with_sum : (Rest → Outcome SumSeen) → Rest → Outcome (List ItemTree)
+items_with_sum sum s = repetition (list_turn 93 what.CloseBracket (item_with sum)) [] s
 
 abbrev pub items : ℕ → Rest → Outcome (List ItemTree)
-items d = items_with (sum d)
+items d = items_with_sum (sum d)

@@ -11,10 +11,10 @@ use Rattle.mql_parse.specs.declared.sums.SumRead.{SumRead}
 use Rattle.mql_parse.specs.declared.filters.FilterRead.{FilterRead}
 use Rattle.mql_parse.specs.declared.operations.OpRead.{OpRead}
 use Rattle.mql_parse.specs.declared.pipes.OpsRead.{OpsRead}
-use Rattle.mql_parse.specs.SumReading.{SumSeen, seen_sum}
+use Rattle.mql_parse.specs.SumReading.{SumSeen, as_sum_seen}
 
 abbrev pub sum_seen : SumRead → SumSeen
-sum_seen read = seen_sum (sum_tree read.sum) read.bare
+sum_seen read = as_sum_seen (sum_tree read.sum) read.bare
 
 abbrev pub item_trees : List Item → List ItemTree
 item_trees items = map item_tree items

@@ -167,7 +167,7 @@ fn folded<'a>(
 
 // The column of a fold. A count has none.
 fn folded_column<'a>(alloc: Global, fold: FoldWord, from: Cursor<'a>) -> Read<'a, Option<Name>>
-    ensures read { Reads itself result (folds.folded_column fold (rest_of from.entry)) }
+    ensures read { Reads itself result (folds.fold_column fold (rest_of from.entry)) }
 {
     match fold {
         FoldWord::Count => Ok((None, from)),

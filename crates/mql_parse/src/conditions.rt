@@ -46,7 +46,7 @@ fn comparison_with<'a>(
     ensures read { Reads predicate_tree result (predicates.compares column how (rest_of from.entry)) }
 {
     let at = from.skip().at;
-    let (value, from) = value(alloc, from)?;
+    let (value, from) = literal_value(alloc, from)?;
     Ok((Predicate::Compare(column, how, Literal { at, value }), from))
 }
 
@@ -103,9 +103,9 @@ fn maybe_equal<'a>(without: Comparison, with: Comparison, from: Cursor<'a>) -> R
     }
 }
 
-#[tactic(auto, unfolding(crate::specs::PredicateReading::value))]
-fn value<'a>(alloc: Global, from: Cursor<'a>) -> Read<'a, FieldValue>
-    ensures read { Reads itself result (predicates.value (rest_of from.entry)) }
+#[tactic(auto, unfolding(crate::specs::PredicateReading::literal_value))]
+fn literal_value<'a>(alloc: Global, from: Cursor<'a>) -> Read<'a, FieldValue>
+    ensures read { Reads itself result (predicates.literal_value (rest_of from.entry)) }
 {
     let here = from.skip();
     let byte = here.head();

@@ -80,7 +80,7 @@ fn behind_me<'a>(here: Cursor<'a>) -> Read<'a, FoldWord>
 
 // The fold whose word ends in these bytes, which stand here.
 fn read_as<'a>(fold: FoldWord, end: &[u8], here: Cursor<'a>) -> Read<'a, FoldWord>
-    ensures read { Reads itself result (folds.read_as fold end.now (rest_of here.entry)) }
+    ensures read { Reads itself result (folds.fold_word_from fold end.now (rest_of here.entry)) }
 {
     let from = here.exact(end, What::Aggregate)?;
     Ok((fold, from))

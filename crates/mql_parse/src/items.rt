@@ -16,7 +16,7 @@ use mql_ast::{Expr, Item, Items, Name};
 use std::alloc::Global;
 
 /// Items between brackets, from behind the first.
-#[tactic(auto, unfolding(crate::specs::SumReading::items_with))]
+#[tactic(auto, unfolding(crate::specs::SumReading::items_with_sum))]
 pub fn items<'a>(alloc: Global, levels: u32, from: Cursor<'a>) -> Read<'a, Items>
     ensures read { Reads item_trees result (sums.items levels (rest_of from.entry)) }
 {

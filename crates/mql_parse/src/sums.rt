@@ -206,7 +206,7 @@ fn is_percentile(word: &Name) -> bool
 }
 
 fn of_column(column: Name, bare: bool) -> SumRead
-    ensures { sum_seen result ≡ sums.seen_sum (SumTree.Column column) bare }
+    ensures { sum_seen result ≡ sums.as_sum_seen (SumTree.Column column) bare }
 {
     SumRead {
         sum: Expr::Column(column),

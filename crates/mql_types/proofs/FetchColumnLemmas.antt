@@ -17,7 +17,7 @@ use Rattle.mql_types.specs.Times.{every_said, pipe_order_faults, query_times, ti
 use Rattle.mql_types.specs.Typing.{Part, align_faults, align_node, aligned_tree, branch_faults, branch_node}
 use Rattle.mql_types.specs.Typing.{branches_faults, branches_node, deed_faults, deed_part, further_faults}
 use Rattle.mql_types.specs.Typing.{further_node, info, ops_faults, ops_part, pipe_faults, pipe_part, query_faults}
-use Rattle.mql_types.specs.Typing.{source_faults, source_part, typed_query, typing, typed_unless}
+use Rattle.mql_types.specs.Typing.{source_faults, source_part, typed_query, typing, tree_or_fault}
 
 -- ---- no faults
 
@@ -33,7 +33,7 @@ pub none_first : (faults : List TypeFault) → first_fault faults ≡ None → f
 none_first [] e = refl
 none_first (fault ∷ faults) e = absurd (some_first fault faults e)
 
-unless_ok : (fault : Option TypeFault) (typed typed' : TypedTree) → typed_unless fault typed ≡ Ok typed'
+unless_ok : (fault : Option TypeFault) (typed typed' : TypedTree) → tree_or_fault fault typed ≡ Ok typed'
     → (fault ≡ None) × (typed ≡ typed')
 unless_ok None typed typed' e = (refl, cc)
 unless_ok (Some fault) typed typed' e = absurd (cc)

@@ -8,7 +8,7 @@ use Rattle.mql_types.specs.Faults.{first_fault, first_with}
 use Rattle.mql_types.specs.Nodes.{NodeTree, TypedTree}
 use Rattle.mql_types.specs.Times.{every_said, pipe_order_faults, query_times, times_faults, within_said}
 use Rattle.mql_types.specs.Typing.{aligned_tree, pipe_faults, pipe_part, query_faults, typed_query, typing}
-use Rattle.mql_types.specs.Typing.{typed_unless}
+use Rattle.mql_types.specs.Typing.{tree_or_fault}
 use Rattle.mql_types.proofs.FaultLemmas.{first_with-three}
 
 -- the order of `every` and `within`, the times and the parts are looked through one after another
@@ -40,7 +40,7 @@ unfolding typing made
 typing-typed held query tree every within none t e w =
     let step = every_said (query_times query) in
     let reach = within_said (query_times query) in
-    ap (λ (f : Option TypeFault). typed_unless f (typed_query held query)) none
+    ap (λ (f : Option TypeFault). tree_or_fault f (typed_query held query)) none
     ∙ ap (λ (n : NodeTree). Ok (made n step reach)) t
     ∙ ap (λ (z : ℤ). Ok (made tree z reach)) e
     ∙ ap (λ (z : ℤ). Ok (made tree every z)) w

@@ -18,18 +18,18 @@ word_of (node.Top info most column input) = word.Top
 word_of (node.Join info left right) = word.Join
 word_of (node.Union info left right) = word.Union
 
-abbrev pub same_place_told : Option ℕ → Option ℕ → Bool
-same_place_told None None = true
-same_place_told (Some at) None = false
-same_place_told None (Some at) = false
-same_place_told (Some at) (Some other) = at == other
+abbrev pub is_at_same_place : Option ℕ → Option ℕ → Bool
+is_at_same_place None None = true
+is_at_same_place (Some at) None = false
+is_at_same_place None (Some at) = false
+is_at_same_place (Some at) (Some other) = at == other
 
 -- the line of a node that stands below one at a place: none for an alignment by default, which has no place, and
 -- none where the node above has the same place. That is so of a join or a union of several branches, of which the
 -- last node has the line.
 abbrev pub own_line : Option ℕ → OpWord → NodeInfo → List OpLevel
 own_line above word info =
-    if is_some info.at && not (same_place_told info.at above) then record { word = word; level = info.level } ∷ []
+    if is_some info.at && not (is_at_same_place info.at above) then record { word = word; level = info.level } ∷ []
     else []
 
 -- the lines of a part below a node at a place: those of what flows into it, and then its own

@@ -240,10 +240,10 @@ query_faults held query =
     pipe_order_faults false query
     ++ (times_faults (query_times query) ++ pipe_faults held (every_said (query_times query)) query)
 
-abbrev pub typed_unless : Option TypeFault → TypedTree → Result TypedTree TypeFault
-typed_unless None typed = Ok typed
-typed_unless (Some fault) typed = Err fault
+abbrev pub tree_or_fault : Option TypeFault → TypedTree → Result TypedTree TypeFault
+tree_or_fault None typed = Ok typed
+tree_or_fault (Some fault) typed = Err fault
 
 -- the typed tree of a query, or its first fault
 unfoldable pub typing : SchemaLists → PipeTree → Result TypedTree TypeFault
-typing held query = typed_unless (first_fault (query_faults held query)) (typed_query held query)
+typing held query = tree_or_fault (first_fault (query_faults held query)) (typed_query held query)

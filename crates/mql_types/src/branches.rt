@@ -9,7 +9,7 @@ ghost use Rattle.mql_types.specs.Widths as widths;
 
 use crate::faults::{Faults, TypeKind, type_word};
 use crate::levels::common_anchor;
-use crate::parts::Setting;
+use crate::parts::TypingSetting;
 use crate::places::NamedColumns;
 use crate::widths::Width;
 use mon_value::{Column, Columns, TryCopy, ValueType};
@@ -27,7 +27,7 @@ impl Joined {
     /// The columns of the join of two tables. Tells tables that have no common column, and common columns of two types.
     #[tactic(auto, using(crate::proofs::FaultLemmas::faults))]
     pub(crate) fn new(
-        setting: Setting<'_>,
+        setting: TypingSetting<'_>,
         at: u32,
         lefts: &[Column],
         rights: &[Column],
@@ -60,7 +60,7 @@ impl Joined {
     #[tactic(auto, using(crate::proofs::ItemLemmas::item_steps))]
     fn push_lefts(
         &mut self,
-        setting: Setting<'_>,
+        setting: TypingSetting<'_>,
         at: u32,
         lefts: &[Column],
         rights: &NamedColumns<'_>,
@@ -82,7 +82,7 @@ impl Joined {
     // Adds a left column, anchored to what the right's of its name is anchored to as well.
     fn push_left(
         &mut self,
-        setting: Setting<'_>,
+        setting: TypingSetting<'_>,
         at: u32,
         left: &Column,
         rights: &NamedColumns<'_>,
@@ -158,7 +158,7 @@ pub(crate) fn with_width(mut column: Column, width: Width) -> Column
 
 // A copy of a column, anchored to what another that holds the same is anchored to as well.
 fn anchored_with(
-    setting: Setting<'_>,
+    setting: TypingSetting<'_>,
     column: &Column,
     other: &Column,
 ) -> Result<Column, AllocError>
@@ -178,7 +178,7 @@ fn have_common(lefts: &[Column], rights: &NamedColumns<'_>) -> bool
 
 /// The columns of a union: the left's, each as wide as the rows of both may be.
 pub(crate) fn union_columns(
-    setting: Setting<'_>,
+    setting: TypingSetting<'_>,
     lefts: &[Column],
     rights: &[Column],
 ) -> Result<Columns, AllocError>
@@ -198,7 +198,11 @@ pub(crate) fn union_columns(
 }
 
 // A left column over the rows of both.
-fn united_column(setting: Setting<'_>, left: &Column, right: &Column) -> Result<Column, AllocError>
+fn united_column(
+    setting: TypingSetting<'_>,
+    left: &Column,
+    right: &Column,
+) -> Result<Column, AllocError>
     ensures column { IfOk result (λ column. column
         ≡ spec.united_column setting.entry.schemas.now left.now right.now) }
 {

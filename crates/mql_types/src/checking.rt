@@ -9,7 +9,7 @@ ghost use Rattle.mql_types.specs.Typing.{typing};
 use crate::aligning::aligned_tree;
 use crate::faults::{Faults, TypeFault};
 use crate::nodes::{Node, Typed};
-use crate::parts::{Setting, pipe_part};
+use crate::parts::{TypingSetting, pipe_part};
 use crate::times::{Times, hear_pipe};
 use mon_schema::Schemas;
 use mon_value::Refusal;
@@ -26,7 +26,7 @@ pub fn check(alloc: Global, query: &Query, schemas: &Schemas) -> Result<Typed, R
     let mut found = Faults::new();
     hear_pipe(&query.pipe, false, &mut times, &mut found);
     times.tell_many(&mut found);
-    let setting = Setting {
+    let setting = TypingSetting {
         alloc,
         schemas,
         every: times.every(),

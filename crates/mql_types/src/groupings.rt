@@ -15,7 +15,7 @@ use crate::fetches::column_number;
 use crate::items::plain_column;
 use crate::levels::{Level, meeting_level};
 use crate::nodes::Node;
-use crate::parts::Setting;
+use crate::parts::TypingSetting;
 use crate::places::{NamedColumns, push_some};
 use crate::taken::{Label, Taken};
 use crate::widths::{OF_COUNT, Width};
@@ -38,7 +38,7 @@ impl Grouping {
     /// The grouping of a table by the names, as far as they are known. Tells what is wrong in it.
     #[tactic(auto, using(crate::proofs::TakenLemmas::taken_names))]
     pub(crate) fn new(
-        setting: Setting<'_>,
+        setting: TypingSetting<'_>,
         input: &Node,
         names: &[Name],
         aggregates: &[mql_ast::Aggregate],

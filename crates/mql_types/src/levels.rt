@@ -4,7 +4,7 @@ ghost use Rattle.std.specs.List.{list_any};
 ghost use Rattle.mon_value.specs.declared.columns.Anchor.TheVariants as anchor;
 ghost use Rattle.mql_types.specs.Levels as spec;
 
-use crate::parts::Setting;
+use crate::parts::TypingSetting;
 use mon_schema::Schemas;
 use mon_value::{Anchor, Column, Field, Text, TryCopy};
 use std::alloc::AllocError;
@@ -148,7 +148,7 @@ fn is_location_anchor(schemas: &Schemas, anchor: &Anchor) -> bool
 
 /// What two columns that hold the same are both anchored to.
 pub(crate) fn common_anchor(
-    setting: Setting<'_>,
+    setting: TypingSetting<'_>,
     one: &Option<Anchor>,
     other: &Option<Anchor>,
 ) -> Result<Option<Anchor>, AllocError>

@@ -19,7 +19,7 @@ use crate::groupings::Grouping;
 use crate::items::value_columns;
 use crate::levels::Level;
 use crate::nodes::{Node, NodeInfo};
-use crate::parts::{Part, Setting, table};
+use crate::parts::{Part, TypingSetting, table};
 use crate::places::NamedColumns;
 use mon_value::{Column, TryCopy};
 use mql_ast::{Items, Name, Op, OpKind, Predicate};
@@ -28,7 +28,7 @@ use std::alloc::{AllocError, Global};
 /// A part with operations more. Tells what is wrong in them.
 #[tactic(auto, using(crate::proofs::FaultLemmas::faults))]
 pub(crate) fn ops_part(
-    setting: Setting<'_>,
+    setting: TypingSetting<'_>,
     part: Part,
     ops: &[Op],
     found: &mut Faults,
@@ -47,7 +47,7 @@ pub(crate) fn ops_part(
 
 // A part with an operation more.
 fn op_part(
-    setting: Setting<'_>,
+    setting: TypingSetting<'_>,
     part: Part,
     op: &Op,
     found: &mut Faults,

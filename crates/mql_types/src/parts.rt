@@ -23,7 +23,7 @@ use std::alloc::{AllocError, Global};
 
 /// What every part is typed by: the schemas that are held, and the seconds from one time to the next.
 #[derive(Clone, Copy)]
-pub(crate) struct Setting<'a> {
+pub(crate) struct TypingSetting<'a> {
     pub(crate) alloc: Global,
     pub(crate) schemas: &'a Schemas,
     pub(crate) every: i64,
@@ -47,7 +47,7 @@ pub(crate) fn table(node: Node) -> Part
 #[cycle(parts)]
 #[tactic(auto, using(crate::proofs::FaultLemmas::faults))]
 pub(crate) fn pipe_part(
-    setting: Setting<'_>,
+    setting: TypingSetting<'_>,
     pipe: &Pipe,
     found: &mut Faults,
 ) -> Result<Part, AllocError>
@@ -63,7 +63,7 @@ pub(crate) fn pipe_part(
 #[cycle(parts)]
 #[tactic(auto, using(crate::proofs::FaultLemmas::faults))]
 fn source_part(
-    setting: Setting<'_>,
+    setting: TypingSetting<'_>,
     source: &Source,
     found: &mut Faults,
 ) -> Result<Part, AllocError>
@@ -94,7 +94,7 @@ fn source_part(
 #[cycle(parts)]
 #[tactic(auto, using(crate::proofs::FaultLemmas::faults))]
 fn branches_node(
-    setting: Setting<'_>,
+    setting: TypingSetting<'_>,
     pipes: &[Pipe],
     how: Joint,
     found: &mut Faults,
@@ -120,7 +120,11 @@ fn branches_node(
 // A branch, whose table is aligned.
 #[cycle(parts)]
 #[tactic(auto, using(crate::proofs::FaultLemmas::faults))]
-fn branch_table(setting: Setting<'_>, pipe: &Pipe, found: &mut Faults) -> Result<Node, AllocError>
+fn branch_table(
+    setting: TypingSetting<'_>,
+    pipe: &Pipe,
+    found: &mut Faults,
+) -> Result<Node, AllocError>
     ensures node { IfOk result (λ node. node_tree node ≡ spec.aligned_tree setting.entry.every
         (spec.pipe_part setting.entry.schemas.now setting.entry.every (pipe_tree pipe.now))) }
     ensures faults { OnOk result (found.new.first ≡ first_with found.old.first
@@ -139,7 +143,7 @@ pub(crate) struct Joint {
 
 // Two tables brought together.
 fn branch_node(
-    setting: Setting<'_>,
+    setting: TypingSetting<'_>,
     how: Joint,
     left: Node,
     right: Node,
@@ -170,7 +174,7 @@ fn branch_node(
 // What is told of a join.
 #[tactic(auto, using(crate::proofs::FaultLemmas::faults))]
 fn join_info(
-    setting: Setting<'_>,
+    setting: TypingSetting<'_>,
     at: u32,
     left: &Node,
     right: &Node,
@@ -193,7 +197,7 @@ fn join_info(
 // What is told of a union.
 #[tactic(auto, using(crate::proofs::FaultLemmas::faults))]
 fn union_info(
-    setting: Setting<'_>,
+    setting: TypingSetting<'_>,
     at: u32,
     left: &Node,
     right: &Node,
@@ -216,7 +220,7 @@ fn union_info(
 // A fetch, which each leaf does.
 #[tactic(auto, using(crate::proofs::FaultLemmas::faults))]
 fn fetch_part(
-    setting: Setting<'_>,
+    setting: TypingSetting<'_>,
     at: u32,
     schema: &Name,
     metric: &Name,

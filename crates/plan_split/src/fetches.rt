@@ -10,7 +10,7 @@ ghost use Rattle.plan_split.specs.JoinedFormulas as joined;
 ghost use Rattle.plan_split.specs.PredicateFormulas.{predicate_formula};
 
 use crate::joined_formulas::both;
-use crate::predicates::Setting;
+use crate::predicates::BucketSetting;
 use mon_hints::Formula;
 use mon_value::{Columns, OutOfMemory};
 use mql_ast::Predicate;
@@ -42,7 +42,7 @@ pub(crate) fn fetch_formula(
                 metric,
             } => {
                 let schema = schema.as_bytes();
-                let setting = Setting {
+                let setting = BucketSetting {
                     alloc,
                     schema,
                     buckets,
@@ -51,7 +51,7 @@ pub(crate) fn fetch_formula(
                 return setting.filtered(formula, filters);
             }
             _ => {
-                let setting = Setting {
+                let setting = BucketSetting {
                     alloc,
                     schema: &[],
                     buckets,
@@ -81,7 +81,7 @@ fn push_key_filter<'a>(
     Ok(())
 }
 
-impl<'a> Setting<'a> {
+impl<'a> BucketSetting<'a> {
     // A formula with those of filters, the last of them first.
     #[tactic(auto, using(crate::proofs::LinkLemmas::filters_pushed))]
     fn filtered(&self, formula: Formula, filters: Vec<&Predicate>) -> Result<Formula, OutOfMemory>

@@ -28,7 +28,7 @@ pub fn formula_of(
     ensures promise { IfOk result (λ formula.
         HoldsWhereTrue buckets schema.now (predicate_tree predicate.now) (formula_tree formula)) }
 {
-    Setting {
+    BucketSetting {
         alloc,
         schema,
         buckets,
@@ -38,7 +38,7 @@ pub fn formula_of(
 
 /// What buckets are taken of: the fields of a schema, among so many buckets.
 #[derive(Clone, Copy)]
-pub(crate) struct Setting<'a> {
+pub(crate) struct BucketSetting<'a> {
     pub(crate) alloc: Global,
     pub(crate) schema: &'a [u8],
     pub(crate) buckets: u32,
@@ -51,7 +51,7 @@ pub(crate) enum Link<'a> {
     Or(&'a Predicate),
 }
 
-impl<'a> Setting<'a> {
+impl<'a> BucketSetting<'a> {
     /// The formula of a predicate. The stack doesn't grow with a chain.
     #[cycle(predicate_formulas)]
     #[tactic(auto, using(crate::proofs::LinkLemmas::links_pushed))]

@@ -6,7 +6,7 @@ use Rattle.mon_meaning.specs.LeafAnswers.{IsOverLeaf}
 use Rattle.mon_value.specs.Histories.{leaf_history}
 use Rattle.mon_value.specs.declared.histories.Histories.{Histories}
 use Rattle.mon_topo.specs.SeenHistories.{AreWithin}
-use Rattle.mon_topo.specs.Settings.{Setting as Store}
+use Rattle.mon_topo.specs.Settings.{Setting}
 use Rattle.mon_value.specs.declared.positions.Leaf.{Leaf}
 use Rattle.mon_value.specs.declared.positions.RangeSlot.{RangeSlot}
 use Rattle.mon_value.specs.declared.rows.Row.{Row}
@@ -30,7 +30,7 @@ use Rattle.query_core.specs.Program.{ask_of, let_some_in, with_zone}
 use Rattle.query_core.specs.Rounds.{Round, round_of, slots_on}
 use Rattle.query_core.specs.Sessions as session
 use Rattle.query_core.specs.Sessions.{View}
-use Rattle.query_core.specs.Settings.{Setting}
+use Rattle.query_core.specs.Settings.{QuerySetting}
 use Rattle.query_core.specs.Traces.{slot_rows}
 use Rattle.query_core.specs.Visits as visit
 use Rattle.query_core.specs.Visits.{Visits, with_look}
@@ -48,7 +48,7 @@ get_set [] place look there = absurd (omega (arith, there))
 get_set (first ∷ looks) zero look there = refl
 get_set (first ∷ looks) (suc place) look there = get_set looks place look (omega (arith, there))
 
-module _ (store : Store) (setting : Setting) (moment : ℤ) where
+module _ (store : Setting) (setting : QuerySetting) (moment : ℤ) where
   over_so : (now : Histories) (course : Course) (round : Round) (visits : Visits) (leaf : Leaf) (over cut : ℕ)
       → CourseIn store setting moment now course round.area → RoundWhole store setting moment round
       → VisitSo store setting moment now round visits leaf
@@ -92,7 +92,7 @@ module _ (store : Store) (setting : Setting) (moment : ℤ) where
             rows is;
       }
 
-module _ (store : Store) (setting : Setting) (moment : ℤ) (Tells : Histories → Course → Type 0)
+module _ (store : Setting) (setting : QuerySetting) (moment : ℤ) (Tells : Histories → Course → Type 0)
     (areas : setting.areas ≡ areas_of store.zones) (before after : View) (sound : session.IsSound store before)
     (grown : AreWithin before.seen after.seen) (avoided : List Leaf) where
   inside_then : (course : Course) (area : Area) → CourseIn store setting moment before.seen course area

@@ -1,5 +1,5 @@
 -- Rows of ranges, each on one leaf, divided into zones and leaves: leaves share no target, and zones no location.
-use Rattle.std.proofs.Common.{◌≡◌, ◌∙◌, ◌||◌, ◌&&◌, ℕ, Bool, true, false, cond, Option, Some, None, List, [], ◌∷◌}
+use Rattle.std.proofs.Common.{◌≡◌, ◌∙◌, ◌||◌, ℕ, Bool, true, false, cond, Option, Some, None, List, [], ◌∷◌}
 use Rattle.std.proofs.Common.{◌++◌, map, nat_eq, slice_get, refl, sym, ap, subst, append-nil, arith}
 use Rattle.std.specs.List.{AllByRecursion, filter, flat_map, list_any}
 use Rattle.std.specs.Option.{option_map_or}
@@ -9,7 +9,7 @@ use Rattle.std.proofs.lemmas.List.{map-append}
 use Rattle.std.proofs.lemmas.List.Concat.{flat_map-append}
 use Rattle.std.proofs.lemmas.List.Elements.{filter-append}
 use Rattle.mon_value.proofs.SameLemmas.{same_series-Decides, same_text-Decides}
-use Rattle.mon_value.specs.Same.{same_series, same_target, same_text}
+use Rattle.mon_value.specs.Same.{same_series, same_text}
 use Rattle.mon_value.specs.Sources.{points_of, rows_of}
 use Rattle.mon_value.specs.declared.positions.Leaf.{Leaf}
 use Rattle.mon_value.specs.declared.positions.Range.{Range}
@@ -17,7 +17,6 @@ use Rattle.mon_value.specs.declared.positions.Zone.{Zone}
 use Rattle.mon_value.specs.declared.rows.Point.{Point}
 use Rattle.mon_value.specs.declared.rows.Row.{Row}
 use Rattle.mon_value.specs.declared.rows.SeriesKey.{SeriesKey}
-use Rattle.mon_value.specs.declared.rows.Target.{Target}
 use Rattle.mon_schema.specs.Fits.{fits}
 use Rattle.mon_schema.specs.SchemaLists.{SchemaLists}
 use Rattle.mon_topo.specs.HeldHistories.{IsAtHome}
@@ -26,7 +25,8 @@ use Rattle.mon_topo.specs.RangeHistories.{IsInZoneOf}
 use Rattle.mon_value.specs.Positions.{same_leaf, zone_numbered}
 use Rattle.mon_topo.specs.Zones.{leaf_zones, zone_of}
 use Rattle.mon_topo.specs.declared.zones.ZoneSpec.{ZoneSpec}
-use Rattle.mixer.specs.Divisions.{AreApart, ShareNoLocation, ShareNoTarget, all_rows, has_location, has_target}
+use Rattle.mixer.proofs.ApartTargets as apart_targets
+use Rattle.mixer.specs.Divisions.{AreApart, ShareNoLocation, ShareNoTarget, all_rows, has_location}
 use Rattle.mixer.specs.Divisions.{together}
 use Rattle.mql_types.proofs.JoinedRows.{all-map}
 use Rattle.mql_types.proofs.KeptRows.{all-append, all-filter}
@@ -109,15 +109,6 @@ pub points_together : (key : SeriesKey) (lists : List (List Row))
 points_together key [] = refl
 points_together key (rows ∷ lists) =
     points_append key rows (together lists) ∙ ap (λ rest. points_of key rows ++ rest) (points_together key lists)
-
--- a key of a target alone
-abbrev key_at : Target → SeriesKey
-key_at target = record { target = target; metric = []; fields = [] }
-
-pub one_target : (a b : Target) → same_target a b ≡ true → a ≡ b
-one_target a b same =
-    let whole : same_series (key_at a) (key_at b) ≡ true = ap (λ c. c && true) same in
-    ap (λ (key : SeriesKey). key.target) ((same_series-Decides (key_at a) (key_at b)).0 whole)
 
 -- ---- the rows of ranges that resolved, by leaves
 
@@ -246,28 +237,16 @@ module _ (held : SchemaLists) (zones : List ZoneSpec) (own : Resolved → List R
         let test : same_leaf leaf other_leaf ≡ true = ap (same_leaf leaf) (sym is) ∙ itself leaf.0 in
         absurd cc
 
-    target_by : (row other : Row) (b : Bool) → same_target other.key.target row.key.target ≡ b → LiesOn leaf row
-        → LiesOn other_leaf other → b ≡ false
-    target_by row other true same here there =
-        let alike : other.key.target ≡ row.key.target = one_target other.key.target row.key.target same in
+    lie_apart : (row other : Row) → other.key.target ≡ row.key.target → LiesOn leaf row → LiesOn other_leaf other
+        → ⊥
+    lie_apart row other alike here there =
         let both : Some there.range ≡ Some here.range = sym there.at ∙ ap (range_for held zones) alike ∙ here.at in
         let range : there.range ≡ here.range = cc in
-        absurd (one_leaf here.range here.first (ap (leaf_for resolved) (sym range) ∙ there.first))
-    target_by row other false same here there = refl
-
-    no_target : (row : Row) (others : List Row) → LiesOn leaf row → AllByRecursion (LiesOn other_leaf) others
-        → has_target others row.key.target ≡ false
-    no_target row [] here all = refl
-    no_target row (other ∷ others) here all =
-        ap (λ c. c || has_target others row.key.target)
-        (target_by row other (same_target other.key.target row.key.target) refl here all.0)
-        ∙ no_target row others here all.1
+        one_leaf here.range here.first (ap (leaf_for resolved) (sym range) ∙ there.first)
 
     no_targets : (rows others : List Row) → AllByRecursion (LiesOn leaf) rows → AllByRecursion (LiesOn other_leaf)
-        others
-        → ShareNoTarget rows others
-    no_targets [] others all more = tt
-    no_targets (row ∷ rows) others all more = (no_target row others all.0 more, no_targets rows others all.1 more)
+        others → ShareNoTarget rows others
+    no_targets = apart_targets.no_targets (LiesOn leaf) (LiesOn other_leaf) lie_apart
 
   leaf_apart : (leaf : Leaf) (leaves : List Leaf) → list_any (same_leaf leaf) leaves ≡ false
       → AllByRecursion (ShareNoTarget (rows_at own resolved leaf)) (map (rows_at own resolved) leaves)

@@ -31,7 +31,7 @@ use Rattle.query_core.specs.Loadings.{no_word}
 use Rattle.query_core.specs.Mixtures.{HasParts, IsRootMixed, IsZoneMixed, MayMixRoot, TurnSettles, root_stage, typed_of}
 use Rattle.query_core.specs.Program.{next_zone, stopped_stage}
 use Rattle.query_core.specs.Rounds.{round_of}
-use Rattle.query_core.specs.Settings.{Setting}
+use Rattle.query_core.specs.Settings.{QuerySetting}
 
 -- ---- the last zone of several
 
@@ -53,7 +53,7 @@ last_one : {X : Type 0} (P : X → Type 0) (xs : List X) (x : X) → AllByRecurs
 last_one P [] x all = all.0
 last_one P (y ∷ xs) x all = last_one P xs x all.1
 
-module _ (setting : Setting) where
+module _ (setting : QuerySetting) where
   -- the answers of its leaves can be mixed
   pub leaf_parts : (answers : List ZoneAnswer) (parts : List LeafAnswer) (has : HasParts setting answers parts)
       → AreLeafParts (typed_of setting) has.leaves has.moment setting.limit parts
@@ -142,7 +142,7 @@ module _ (setting : Setting) where
 
 -- ---- what a plan and a limit are handed to, where they are those of the setting
 
-module _ (setting : Setting) (plan : Plan) (limit : ℕ) (same_plan : plan ≡ setting.plan) (same_limit : limit
+module _ (setting : QuerySetting) (plan : Plan) (limit : ℕ) (same_plan : plan ≡ setting.plan) (same_limit : limit
     ≡ setting.limit) where
   pub asked_leaves : (answers : List ZoneAnswer) (parts : List LeafAnswer) → HasParts setting answers parts
       → HasLeafParts (typed_tree plan.typed) limit parts

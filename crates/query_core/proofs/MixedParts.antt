@@ -9,7 +9,7 @@ use Rattle.mixer.specs.declared.zone_answers.ZoneAnswer.{ZoneAnswer}
 use Rattle.mon_fold.specs.declared.answers.LeafAnswer.{LeafAnswer}
 use Rattle.mon_value.specs.declared.histories.Histories.{Histories}
 use Rattle.mon_topo.specs.HeldHistories.{AreHeld}
-use Rattle.mon_topo.specs.Settings.{Setting as Store}
+use Rattle.mon_topo.specs.Settings.{Setting}
 use Rattle.mon_topo.specs.Zones.{first_leaf}
 use Rattle.mon_value.specs.declared.positions.Leaf.{Leaf}
 use Rattle.mon_value.specs.declared.rows.Row.{Row}
@@ -22,7 +22,7 @@ use Rattle.query_core.specs.declared.looks.Look.{Look}
 use Rattle.query_core.specs.Courses.{with_zone_behind, trace_of}
 use Rattle.query_core.specs.Looks.{unread_look}
 use Rattle.query_core.specs.Mixtures.{HasParts, typed_of}
-use Rattle.query_core.specs.Settings.{Setting}
+use Rattle.query_core.specs.Settings.{QuerySetting}
 use Rattle.query_core.proofs.ChosenLeaves.{ChosenAscend, chosen_append, chosen_leaves}
 use Rattle.query_core.proofs.DividedRows.{SomeLeaves, divided_rows, rows_at, zone_rows}
 use Rattle.query_core.proofs.PartClaims.{CourseIn}
@@ -34,8 +34,9 @@ use Rattle.query_core.proofs.TraceRows.{is_divided, own_rows}
 use Rattle.query_core.proofs.WholeTraces.{AllStand, PartsIn, all_parts, chosen_in}
 use Rattle.query_core.proofs.ZoneRows.{AllZoned, Stands, reads_up, rows_there}
 
-module _ (store : Store) (setting : Setting) (asked : IsAskedOf store setting) (moment : ℤ) (from : pos 0 ≤ℤ moment)
-    (exit : Histories) (held : AreHeld store.held store.zones store.points exit) (before : Course) (area : Area)
+module _ (store : Setting) (setting : QuerySetting) (asked : IsAskedOf store setting) (moment : ℤ)
+    (from : pos 0 ≤ℤ moment) (exit : Histories) (held : AreHeld store.held store.zones store.points exit)
+    (before : Course) (area : Area)
     (resolved : List Resolved) (looks : List Look) (inside : CourseIn store setting moment exit before area)
     (whole : IsWhole area resolved looks)
     (zoned : AllZoned store.zones (trace_of (with_zone_behind before resolved looks)).resolved) where

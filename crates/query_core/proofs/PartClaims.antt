@@ -10,7 +10,7 @@ use Rattle.mon_meaning.specs.LeafAnswers.{IsOverLeaf}
 use Rattle.mon_meaning.specs.declared.meter.OverLimit.{OverLimit}
 use Rattle.mon_value.specs.Histories.{leaf_history}
 use Rattle.mon_value.specs.declared.histories.Histories.{Histories}
-use Rattle.mon_topo.specs.Settings.{Setting as Store}
+use Rattle.mon_topo.specs.Settings.{Setting}
 use Rattle.mon_value.specs.declared.positions.Leaf.{Leaf}
 use Rattle.mon_value.specs.declared.rows.Row.{Row}
 use Rattle.mql_types.specs.Explanations.{op_levels}
@@ -33,13 +33,13 @@ use Rattle.query_core.specs.Areas.{area_of, leaf_at, range_at}
 use Rattle.query_core.specs.Courses.{with_zone_behind, trace_of}
 use Rattle.query_core.specs.Mixtures.{typed_of}
 use Rattle.query_core.specs.Rounds.{Round, slots_on}
-use Rattle.query_core.specs.Settings.{Setting}
+use Rattle.query_core.specs.Settings.{QuerySetting}
 use Rattle.query_core.specs.Traces.{slot_rows}
 use Rattle.query_core.specs.Visits.{Visits}
 use Rattle.query_core.proofs.ReadLeaves.{IsUnread}
 use Rattle.query_core.proofs.SegmentFacts.{Behind, IsWhole, PartsSo, RangesFrom, Segment, SeenSo}
 
-module _ (store : Store) (setting : Setting) (moment : ℤ) where
+module _ (store : Setting) (setting : QuerySetting) (moment : ℤ) where
   -- between two zones
   pub record CourseAt (now : Histories) (course : Course) : Type 0 where
     pub segments : List Segment
@@ -125,7 +125,7 @@ module _ (store : Store) (setting : Setting) (moment : ℤ) where
     pub parts_so : PartsSo setting moment now resolved area.first_leaf.0 looks parts
     pub is : course ≡ with_zone_behind before resolved looks
 
-module _ (store : Store) (setting : Setting) (moment : ℤ) (Tells : Histories → Course → Type 0) where
+module _ (store : Setting) (setting : QuerySetting) (moment : ℤ) (Tells : Histories → Course → Type 0) where
   -- a zone's load is above the limit
   pub record ZoneOver (now : Histories) (trace : Trace) : Type 0 where
     pub course : Course

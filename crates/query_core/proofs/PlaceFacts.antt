@@ -1,7 +1,7 @@
 -- What a query asks of at each of its stages is there in the store.
 use Rattle.std.proofs.Common.{◌<◌, ℕ, List, length, sym, ap, subst, arith}
 use Rattle.mon_value.specs.declared.histories.Histories.{Histories}
-use Rattle.mon_topo.specs.Settings.{Setting as Store}
+use Rattle.mon_topo.specs.Settings.{Setting}
 use Rattle.mon_topo.specs.Zones.{no_zone}
 use Rattle.mon_topo.specs.declared.zones.ZoneSpec.{ZoneSpec}
 use Rattle.mon_value.specs.declared.positions.Leaf.{Leaf}
@@ -10,7 +10,7 @@ use Rattle.query_core.specs.AskedPlaces.{IsThere}
 use Rattle.query_core.specs.Program.{ask_of}
 use Rattle.query_core.specs.Rounds.{Round}
 use Rattle.query_core.specs.Sessions.{View}
-use Rattle.query_core.specs.Settings.{Setting}
+use Rattle.query_core.specs.Settings.{QuerySetting}
 use Rattle.query_core.specs.declared.areas.Area.{Area}
 use Rattle.query_core.specs.declared.courses.Course.{Course}
 use Rattle.query_core.specs.declared.stages.Stage.{Stage}
@@ -19,7 +19,7 @@ use Rattle.query_core.proofs.TraceClaims as claim
 use Rattle.mon_topo.proofs.SizeLemmas.{parts_so_far}
 use Rattle.query_core.proofs.ZoneFacts.{leaves_next}
 
-module _ (store : Store) (setting : Setting) (at_entry : Histories) (now : View) (avoided : List Leaf) where
+module _ (store : Setting) (setting : QuerySetting) (at_entry : Histories) (now : View) (avoided : List Leaf) where
   zone_there : (below k : ℕ) (course : Course) (round : Round)
       → claim.InZone store setting at_entry now avoided below k course round → round.area.zone.0 < length store.zones
   zone_there below k course round is = subst (λ (area : Area). area.zone.0 < length store.zones) (sym is.area) is.there

@@ -17,7 +17,7 @@ use Rattle.mon_value.specs.declared.positions.SlotLeaf.{SlotLeaf}
 use Rattle.mql_types.proofs.JoinedRows.{all-map, column_of_all}
 use Rattle.mql_types.proofs.KeptRows.{all-filter}
 use Rattle.query_core.specs.declared.answers.Resolved.{Resolved}
-use Rattle.query_core.specs.Traces.{IsFirst, first_serving, is_avoided, replica_of}
+use Rattle.query_core.specs.Traces.{IsFirstServing, first_serving, is_avoided, replica_of}
 use Rattle.query_core.proofs.AckedRows.{HasRows, serve_at}
 
 nothing_past : {X : Type 0} (lists : List (List X)) (n : ℕ) → length lists ≤ n → get_or lists n [] ≡ []
@@ -33,7 +33,7 @@ take_nothing (suc n) (x ∷ xs) none = absurd cc
 module _ (held : SchemaLists) (zones : List ZoneSpec) (points : ℕ)
     (replicas : (range : ℕ) → range < length (ranges_in zones) → HasReplicas zones (range_numbered range))
     (at_entry exit : Histories) (holds : AreHeld held zones points exit) (avoided : List Leaf) where
-  zoned_by : (one : Resolved) → IsFirst at_entry exit avoided one
+  zoned_by : (one : Resolved) → IsFirstServing at_entry exit avoided one
       → (one.range.0 < length exit.ranges) ⊎ (length exit.ranges ≤ one.range.0) → IsInZoneOf zones one.range one.leaf
   zoned_by one is (inl within) =
       let history = range_history exit one.range in
@@ -51,8 +51,8 @@ module _ (held : SchemaLists) (zones : List ZoneSpec) (points : ℕ)
       ap (first_serving avoided) (sym none) ∙ is.first in
       absurd cc
 
-  pub zoned_first : (some : List Resolved) → AllByRecursion (IsFirst at_entry exit avoided) some
+  pub zoned_first : (some : List Resolved) → AllByRecursion (IsFirstServing at_entry exit avoided) some
       → AllByRecursion (λ (one : Resolved). IsInZoneOf zones one.range one.leaf) some
   zoned_first some all =
-      all-map (IsFirst at_entry exit avoided) (λ (one : Resolved). IsInZoneOf zones one.range one.leaf) some
+      all-map (IsFirstServing at_entry exit avoided) (λ (one : Resolved). IsInZoneOf zones one.range one.leaf) some
       (λ one is. zoned_by one is (cases_lt one.range.0 (length exit.ranges))) all

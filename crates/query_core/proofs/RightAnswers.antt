@@ -9,7 +9,7 @@ use Rattle.mon_value.specs.Histories.{leaf_history}
 use Rattle.mon_value.specs.declared.histories.Histories.{Histories}
 use Rattle.mon_topo.specs.HeldHistories.{AreHeld}
 use Rattle.mon_topo.specs.SeenHistories.{AreWithin}
-use Rattle.mon_topo.specs.Settings.{Setting as Store}
+use Rattle.mon_topo.specs.Settings.{Setting}
 use Rattle.mon_topo.specs.Zones.{first_leaf}
 use Rattle.mon_value.specs.declared.positions.FoundDown.{FoundDown}
 use Rattle.mon_value.specs.declared.positions.Leaf.{Leaf}
@@ -37,8 +37,8 @@ use Rattle.query_core.specs.Program as spec
 use Rattle.query_core.specs.Rounds.{slots_on}
 use Rattle.query_core.specs.Sessions as session
 use Rattle.query_core.specs.Sessions.{IsSound, View}
-use Rattle.query_core.specs.Settings.{Setting}
-use Rattle.query_core.specs.Traces.{IsFirst, is_wanted, slot_rows}
+use Rattle.query_core.specs.Settings.{QuerySetting}
+use Rattle.query_core.specs.Traces.{IsFirstServing, is_wanted, slot_rows}
 use Rattle.query_core.proofs.SessionEnds.{sound_then, stage_last}
 use Rattle.query_core.proofs.PartClaims.{EndParts, StageParts}
 use Rattle.query_core.proofs.ReadLeaves.{cuts_of, flags_of}
@@ -68,11 +68,12 @@ cut_at (look ∷ looks) zero = refl
 cut_at (look ∷ looks) (suc i) = cut_at looks i
 
 -- the buckets that a plan's formulas name are those that its query loads words of
-pub listed : (store : Store) (setting : Setting) → IsAskedOf store setting
+pub listed : (store : Setting) (setting : QuerySetting) → IsAskedOf store setting
     → AreAmong (all_named (formulas (map formula_tree setting.plan.formulas))) setting.plan.buckets
 listed store setting asked bucket named = asked.listed.same bucket ∙ named
 
-module _ (store : Store) (setting : Setting) (moment : ℤ) (asked : IsAskedOf store setting) (at_entry : Histories) where
+module _ (store : Setting) (setting : QuerySetting) (moment : ℤ) (asked : IsAskedOf store setting)
+    (at_entry : Histories) where
   module _ (now : View) (avoided : List Leaf) where
     told_by : (leaf : Leaf) (course : Course)
         → ⊥ ⊎ Tells (claim.wanted store setting) (claim.met store setting) store.buckets_of
@@ -120,7 +121,7 @@ module _ (store : Store) (setting : Setting) (moment : ℤ) (asked : IsAskedOf s
   trace_zoned now held Skip trace is =
       zoned_first store.held store.zones store.points asked.replicas at_entry now.seen held is.avoided trace.resolved
       (all-map (ResolvedSo at_entry now.seen is.avoided 0 (first_leaf store.zones (length store.zones)))
-      (IsFirst at_entry now.seen is.avoided) trace.resolved (λ one so. so.first) is.span.each)
+      (IsFirstServing at_entry now.seen is.avoided) trace.resolved (λ one so. so.first) is.span.each)
 
   -- ---- from one event to the next
 
@@ -156,7 +157,8 @@ module _ (store : Store) (setting : Setting) (moment : ℤ) (asked : IsAskedOf s
 
 -- ---- how a session ends
 
-module _ (store : Store) (setting : Setting) (moment : ℤ) (asked : IsAskedOf store setting) (from : pos 0 ≤ℤ moment)
+module _ (store : Setting) (setting : QuerySetting) (moment : ℤ) (asked : IsAskedOf store setting)
+    (from : pos 0 ≤ℤ moment)
     (view : View) (events : List (session.Event store setting moment)) (sound : IsSound store view)
     (licensed : session.IsLicensed store setting moment view (new_query setting) events) where
   abbrev exit : View

@@ -40,7 +40,7 @@ use Rattle.query_core.proofs.ZoneFacts.{leaf_zoned, leaves_next, ranges_next}
 use Rattle.query_core.specs.Areas.{area_of}
 use Rattle.query_core.specs.Looks.{unread_look}
 use Rattle.query_core.specs.Rounds.{slots_on}
-use Rattle.query_core.specs.Traces.{IsFirst, first_serving, is_avoided, replica_of, slot_rows}
+use Rattle.query_core.specs.Traces.{IsFirstServing, first_serving, is_avoided, replica_of, slot_rows}
 use Rattle.query_core.specs.declared.answers.Resolved.{Resolved}
 use Rattle.query_core.specs.declared.looks.Look.{Look}
 
@@ -194,8 +194,8 @@ module _ (held : SchemaLists) (zones : List ZoneSpec) (points : ℕ)
     pub resolved : ResolvedSo at_entry seen avoided (first_leaf zones k) (first_leaf zones (k + 1)) one
     pub stands : StandsIn (acknowledged_rows (range_history at_entry one.range)) (leaf_history seen one.leaf) one
 
-  pub resolves_so : (avoided : List Leaf) (one : Resolved) → IsOfZone one.range → IsFirst at_entry seen avoided one
-      → ResolvesSo avoided one
+  pub resolves_so : (avoided : List Leaf) (one : Resolved) → IsOfZone one.range
+      → IsFirstServing at_entry seen avoided one → ResolvesSo avoided one
   resolves_so avoided one in_zone is =
       let history = range_history seen one.range in
       let front = take is.found history in
@@ -327,7 +327,8 @@ module _ (held : SchemaLists) (zones : List ZoneSpec) (points : ℕ)
 
     -- each of the zone's ranges
     first_is : (one : Resolved) → (first ≤ one.range.0) × (one.range.0 < first + count)
-        → first_serving [] (range_history seen one.range) ≡ Some (replica_of one) → IsFirst at_entry seen avoided one
+        → first_serving [] (range_history seen one.range) ≡ Some (replica_of one)
+        → IsFirstServing at_entry seen avoided one
     first_is one in_zone is =
         let history = range_history seen one.range in
         let all : take (length history) history ≡ history = take_all (length history) history (omega arith) in

@@ -13,7 +13,7 @@ use Rattle.mon_value.specs.Histories.{leaf_history}
 use Rattle.mon_value.specs.declared.histories.Histories.{Histories}
 use Rattle.mon_topo.specs.HeldHistories.{AreHeld}
 use Rattle.mon_topo.specs.SeenHistories.{AreWithin}
-use Rattle.mon_topo.specs.Settings.{Setting as Store}
+use Rattle.mon_topo.specs.Settings.{Setting}
 use Rattle.mon_value.specs.Positions.{range_numbered}
 use Rattle.mon_topo.specs.Zones.{leaves_in, no_zone, ranges_in}
 use Rattle.mon_topo.specs.declared.zones.ZoneSpec.{ZoneSpec}
@@ -34,7 +34,7 @@ use Rattle.query_core.specs.Looks.{unread_look}
 use Rattle.query_core.specs.Mixtures.{typed_of}
 use Rattle.query_core.specs.Rounds.{slots_on}
 use Rattle.query_core.specs.Sessions.{IsSeenSo}
-use Rattle.query_core.specs.Settings.{Setting}
+use Rattle.query_core.specs.Settings.{QuerySetting}
 use Rattle.query_core.specs.Traces.{slot_rows}
 use Rattle.mon_topo.proofs.SizeLemmas.{parts_so_far}
 use Rattle.query_core.proofs.DividedRows.{all_both}
@@ -133,7 +133,7 @@ pub record SeenSo (zones : List ZoneSpec) (seen : Seen) : Type 0 where
   pub from : RangesFrom 0 seen.firsts
   pub ranges : length seen.firsts ≡ length (ranges_in zones)
 
-pub seen_so : (store : Store) (seen : Histories) (told : Seen) → AreHeld store.held store.zones store.points seen
+pub seen_so : (store : Setting) (seen : Histories) (told : Seen) → AreHeld store.held store.zones store.points seen
     → IsSeenSo seen told → SeenSo store.zones told
 seen_so store seen told held is =
     let ranges = listed 0 (length seen.ranges) told.firsts is.ranges in
@@ -176,7 +176,7 @@ seen_whole zones k area seen there is so =
 
 -- ---- the answers of leaves
 
-module _ (setting : Setting) (moment : ℤ) where
+module _ (setting : QuerySetting) (moment : ℤ) where
   -- the rows of the slots on a leaf that was read
   abbrev pub read_rows : Histories → List Resolved → LeafRead → List Row
   read_rows now resolved one = slot_rows (take one.cut (leaf_history now one.leaf)) (slots_on one.leaf resolved)

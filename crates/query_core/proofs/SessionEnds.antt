@@ -2,17 +2,17 @@
 use Rattle.std.proofs.Common.{◌≡◌, ℤ, List, [], ◌∷◌}
 use Rattle.mon_topo.proofs.HeldLemmas.{seen_within_itself, seen_within_through}
 use Rattle.mon_topo.specs.SeenHistories.{AreWithin}
-use Rattle.mon_topo.specs.Settings.{Setting as Store}
+use Rattle.mon_topo.specs.Settings.{Setting}
 use Rattle.query_core.specs.Areas.{areas_of}
 use Rattle.query_core.specs.Machine.{Query, new_query}
 use Rattle.query_core.specs.Sessions as session
 use Rattle.query_core.specs.Sessions.{IsSound, View}
-use Rattle.query_core.specs.Settings.{Setting}
+use Rattle.query_core.specs.Settings.{QuerySetting}
 use Rattle.query_core.proofs.PartClaims.{StageParts}
 use Rattle.query_core.proofs.SessionParts.{Keeps, session_parts}
 use Rattle.query_core.proofs.UnreadLeaves.{TellsOf}
 
-module _ (store : Store) (setting : Setting) (moment : ℤ) where
+module _ (store : Setting) (setting : QuerySetting) (moment : ℤ) where
   -- what was seen at the end of a session is sound
   pub sound_then : (events : List (session.Event store setting moment)) (before : View) (query : Query)
       → IsSound store before

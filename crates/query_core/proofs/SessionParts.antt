@@ -7,7 +7,7 @@ use Rattle.mixer.specs.declared.zone_answers.ZoneAnswer.{ZoneAnswer}
 use Rattle.mon_fold.specs.declared.answers.LeafAnswer.{LeafAnswer}
 use Rattle.mon_meaning.specs.declared.meter.OverLimit.{OverLimit}
 use Rattle.mon_value.specs.declared.histories.Histories.{Histories}
-use Rattle.mon_topo.specs.Settings.{Setting as Store}
+use Rattle.mon_topo.specs.Settings.{Setting}
 use Rattle.mon_value.specs.declared.tables.Table.{Table}
 use Rattle.query_core.specs.declared.courses.Course.{Course}
 use Rattle.query_core.specs.declared.stages.Stage.{Stage}
@@ -23,13 +23,13 @@ use Rattle.query_core.specs.Mixtures.{RootMixes, Settles, TurnSettles, ZoneMixes
 use Rattle.query_core.specs.Program as spec
 use Rattle.query_core.specs.Sessions as session
 use Rattle.query_core.specs.Sessions.{View}
-use Rattle.query_core.specs.Settings.{Setting}
+use Rattle.query_core.specs.Settings.{QuerySetting}
 use Rattle.query_core.proofs.AnswerParts.{answer_parts}
 use Rattle.query_core.proofs.PartClaims.{CourseAt, CourseThrough, GatheredSo, StageParts, StepParts, TurnParts}
 use Rattle.query_core.proofs.ZoneParts.{next_so}
 use Rattle.query_core.proofs.SegmentFacts.{Mixed, Segment, behind_push}
 
-module _ (store : Store) (setting : Setting) (moment : ℤ) (Tells : Histories → Course → Type 0)
+module _ (store : Setting) (setting : QuerySetting) (moment : ℤ) (Tells : Histories → Course → Type 0)
     (areas : setting.areas ≡ areas_of store.zones) where
   -- what else is known where answers are mixed
   abbrev pub TurnTells : Histories → Turn → Type 0

@@ -29,7 +29,7 @@ use Rattle.mon_value.specs.declared.rows.Row.{Row}
 use Rattle.mon_value.specs.declared.rows.SeriesKey.{SeriesKey}
 use Rattle.query_core.specs.Looks.{unread_look}
 use Rattle.query_core.specs.Rounds.{slot_of, slots_on}
-use Rattle.query_core.specs.Traces.{IsBetween, IsFirst, first_serving, is_avoided, slot_rows}
+use Rattle.query_core.specs.Traces.{IsBetween, IsFirstServing, first_serving, is_avoided, slot_rows}
 use Rattle.query_core.specs.declared.answers.Resolved.{Resolved}
 use Rattle.query_core.specs.declared.looks.Look.{Look}
 
@@ -65,7 +65,7 @@ stands_on rows now was one grows is = record {
 module _ (at_entry : Histories) where
   -- a range resolved to a leaf of some leaves, on which all its replicas were that served
   pub record ResolvedSo (now : Histories) (avoided : List Leaf) (low high : ℕ) (one : Resolved) : Type 0 where
-    pub first : IsFirst at_entry now avoided one
+    pub first : IsFirstServing at_entry now avoided one
     pub near : All (λ (replica : SlotLeaf). (low ≤ replica.leaf.0) × (replica.leaf.0 < high))
         (serving (take first.found (range_history now one.range)))
     pub from : low ≤ one.leaf.0

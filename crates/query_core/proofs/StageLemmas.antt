@@ -19,7 +19,7 @@ use Rattle.query_core.specs.Program.{after, loaded_again, next_zone, told_word}
 use Rattle.query_core.specs.Areas.{has_leaf}
 use Rattle.query_core.specs.Machine.{slots_in}
 use Rattle.query_core.specs.Rounds.{Round, round_of, slots_on}
-use Rattle.query_core.specs.Settings.{Setting}
+use Rattle.query_core.specs.Settings.{QuerySetting}
 use Rattle.query_core.specs.Visits.{but_first, first_left}
 
 next_by : (course : Course) (area : Area) (areas : List Area) (enter : Bool) → is_entered course ≡ enter
@@ -56,7 +56,7 @@ no_leaf_left leaves i done = ap first_left (drop_all i leaves done)
 
 -- ---- a word that is loaded again
 
-pub word_again : {E : Type 0} (setting : Setting) (stage : Stage) (course : Course) (round : Round)
+pub word_again : {E : Type 0} (setting : QuerySetting) (stage : Stage) (course : Course) (round : Round)
     (loading loaded : Loading)
     (word : ℕ) (seen : Seen) (result : Result Step E) → stage ≡ at.Reloading course round loading
     → loaded ≡ with_word loading word seen
@@ -68,11 +68,11 @@ word_again setting stage course round loading loaded word seen result is same gi
 
 -- ---- where an answer leads
 
-pub may_settle : (setting : Setting) (stage : Stage) (answer : Told) (step : Step) → step ≡ after setting stage answer
-    → MayBeTold setting stage answer → MayMix setting step
+pub may_settle : (setting : QuerySetting) (stage : Stage) (answer : Told) (step : Step)
+    → step ≡ after setting stage answer → MayBeTold setting stage answer → MayMix setting step
 may_settle setting stage answer step is may = subst (λ (s : Step). MayMix setting s) (sym is) may.may_mix
 
-pub settles_so : {E : Type 0} (setting : Setting) (stage : Stage) (answer : Told) (step : Step)
+pub settles_so : {E : Type 0} (setting : QuerySetting) (stage : Stage) (answer : Told) (step : Step)
     (result : Result Stage E)
     → step ≡ after setting stage answer → IfOk result (Settles setting step)
     → IfOk result (LeadsTo setting stage answer)

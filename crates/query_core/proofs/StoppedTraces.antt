@@ -22,7 +22,7 @@ use Rattle.mon_value.specs.declared.refusals.Refusal.TheVariants as refusal
 use Rattle.mon_value.specs.declared.rows.Row.{Row}
 use Rattle.mql_types.proofs.JoinedRows.{all-map}
 use Rattle.mql_types.specs.Loads.{load}
-use Rattle.mon_topo.specs.Settings.{Setting as Store}
+use Rattle.mon_topo.specs.Settings.{Setting}
 use Rattle.query_core.specs.Askings.{IsAskedOf}
 use Rattle.query_core.specs.declared.answers.Resolved.{Resolved}
 use Rattle.query_core.specs.declared.answers.Trace.{Trace}
@@ -34,7 +34,7 @@ use Rattle.query_core.specs.Courses.{with_zone_behind, trace_of}
 use Rattle.query_core.specs.Looks.{unread_look}
 use Rattle.query_core.specs.Mixtures.{typed_of}
 use Rattle.query_core.specs.Rounds.{slots_on}
-use Rattle.query_core.specs.Settings.{Setting}
+use Rattle.query_core.specs.Settings.{QuerySetting}
 use Rattle.query_core.specs.Traces.{slot_rows, source_of}
 use Rattle.query_core.proofs.ChosenLeaves.{ChosenAscend, among_append, among_behind, among_zones, front_among}
 use Rattle.query_core.proofs.ChosenLeaves.{chosen_append, chosen_leaves, chosen_once, zone_ascends, zones_ascend}
@@ -51,8 +51,8 @@ use Rattle.query_core.proofs.UnreadLeaves.{TellsOf, left_out_by}
 use Rattle.query_core.proofs.ZoneRows.{AllZoned, IsZoned, Stands, cut_there, get_back, leaf_rows, leaves_below}
 use Rattle.query_core.proofs.ZoneRows.{reads_up, rows_there}
 
-module _ (store : Store) (setting : Setting) (asked : IsAskedOf store setting) (moment : ℤ) (from : pos 0 ≤ℤ moment)
-    (exit : Histories) (held : AreHeld store.held store.zones store.points exit) where
+module _ (store : Setting) (setting : QuerySetting) (asked : IsAskedOf store setting) (moment : ℤ)
+    (from : pos 0 ≤ℤ moment) (exit : Histories) (held : AreHeld store.held store.zones store.points exit) where
   module _ (before : Course) (area : Area) (resolved : List Resolved) (looks : List Look)
       (inside : CourseIn store setting moment exit before area) (whole : IsWhole area resolved looks)
       (zoned : AllZoned store.zones (trace_of (with_zone_behind before resolved looks)).resolved) where

@@ -12,12 +12,12 @@ use Rattle.query_core.specs.declared.courses.Course.{Course}
 use Rattle.query_core.specs.declared.looks.Look.{Look}
 use Rattle.query_core.specs.Areas.{area_of}
 use Rattle.query_core.specs.Courses.{with_zone_behind, trace_of}
-use Rattle.query_core.specs.Settings.{Setting}
+use Rattle.query_core.specs.Settings.{QuerySetting}
 use Rattle.query_core.proofs.SegmentFacts.{AreFrom, Behind, IsWhole, Mixed, Passed, RangesFrom, Segment, SegmentSo}
 use Rattle.query_core.proofs.SegmentFacts.{SeenSo, area_in, looks_in, ranges_append, ranges_behind, resolved_in}
 use Rattle.query_core.proofs.ZoneFacts.{leaves_next, ranges_next}
 
-module _ (setting : Setting) (moment : ℤ) (zones : List ZoneSpec) (now : Histories) where
+module _ (setting : QuerySetting) (moment : ℤ) (zones : List ZoneSpec) (now : Histories) where
   pub whole_in : (one : Segment) → SegmentSo setting moment now one → IsWhole (area_in one) (resolved_in one)
       (looks_in one)
   whole_in (Passed area resolved looks) so = so.0

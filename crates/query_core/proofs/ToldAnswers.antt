@@ -2,7 +2,7 @@
 use Rattle.std.proofs.Common.{◌≡◌, ◌≤ℤ◌, ℕ, ℤ, pos, true, List, length, take, sym, ap, subst}
 use Rattle.mon_value.specs.Histories.{leaf_history}
 use Rattle.mon_topo.specs.SeenHistories.{AreWithin}
-use Rattle.mon_topo.specs.Settings.{Setting as Store}
+use Rattle.mon_topo.specs.Settings.{Setting}
 use Rattle.mon_topo.specs.Zones.{first_leaf}
 use Rattle.mon_value.specs.declared.positions.Leaf.{Leaf}
 use Rattle.mon_value.specs.declared.positions.RangeSlot.{RangeSlot}
@@ -27,7 +27,7 @@ use Rattle.query_core.specs.ReadableSlots.{CanBeRead}
 use Rattle.query_core.specs.Rounds.{Round}
 use Rattle.query_core.specs.Sessions as session
 use Rattle.query_core.specs.Sessions.{IsGrown, IsSound, View}
-use Rattle.query_core.specs.Settings.{Setting}
+use Rattle.query_core.specs.Settings.{QuerySetting}
 use Rattle.query_core.specs.Traces.{IsBetween}
 use Rattle.query_core.specs.Visits.{Visits}
 use Rattle.query_core.proofs.MixedParts.{zone_mixes}
@@ -49,8 +49,8 @@ use Rattle.query_core.proofs.WholeTraces.{zones_mix}
 use Rattle.query_core.proofs.ZoneRows.{AllZoned}
 
 -- what it asks of is there
-pub all_there : (store : Store) (setting : Setting) (moment : ℤ) (asked : IsAskedOf store setting) → pos 0 ≤ℤ moment
-    → (view : View) (events : List (session.Event store setting moment)) → IsSound store view
+pub all_there : (store : Setting) (setting : QuerySetting) (moment : ℤ) (asked : IsAskedOf store setting)
+    → pos 0 ≤ℤ moment → (view : View) (events : List (session.Event store setting moment)) → IsSound store view
     → session.IsLicensed store setting moment view (new_query setting) events
     → IsThere store.zones (ask_of setting (session.query_after store setting moment (new_query setting) events).stage)
 all_there store setting moment asked from view events sound licensed =
@@ -58,7 +58,8 @@ all_there store setting moment asked from view events sound licensed =
     is_there store setting view.seen (session.view_after store setting moment view events) last.avoided last.stage
     (claim_now store setting moment asked from view events sound licensed)
 
-module _ (store : Store) (setting : Setting) (moment : ℤ) (asked : IsAskedOf store setting) (from : pos 0 ≤ℤ moment)
+module _ (store : Setting) (setting : QuerySetting) (moment : ℤ) (asked : IsAskedOf store setting)
+    (from : pos 0 ≤ℤ moment)
     (view : View) (events : List (session.Event store setting moment)) (sound : IsSound store view)
     (licensed : session.IsLicensed store setting moment view (new_query setting) events) (after : View)
     (grown : IsGrown (session.view_after store setting moment view events) after) (sound_after : IsSound store after)

@@ -15,7 +15,7 @@ use Rattle.mon_value.specs.Histories.{leaf_history, range_history}
 use Rattle.mon_value.specs.declared.histories.Histories.{Histories}
 use Rattle.mon_topo.specs.HeldHistories.{AreHeld}
 use Rattle.mon_topo.specs.RangeHistories.{acknowledged_rows}
-use Rattle.mon_topo.specs.Settings.{Setting as Store}
+use Rattle.mon_topo.specs.Settings.{Setting}
 use Rattle.mon_value.specs.Positions.{range_numbered}
 use Rattle.mon_topo.specs.Zones.{first_leaf}
 use Rattle.mon_value.specs.LeafHistories.{IsDownAt, is_opened, leaf_rows, replica_rows}
@@ -44,8 +44,8 @@ use Rattle.query_core.specs.Mixtures.{typed_of}
 use Rattle.query_core.specs.Openings.{is_plan_met}
 use Rattle.query_core.specs.Rounds.{slots_on}
 use Rattle.query_core.specs.Sessions.{View}
-use Rattle.query_core.specs.Settings.{Setting}
-use Rattle.query_core.specs.Traces.{IsFirst, IsFresh, IsReadRightly, IsTraceOf, cut_of, is_wanted, looked_at}
+use Rattle.query_core.specs.Settings.{QuerySetting}
+use Rattle.query_core.specs.Traces.{IsFirstServing, IsFresh, IsReadRightly, IsTraceOf, cut_of, is_wanted, looked_at}
 use Rattle.query_core.specs.Traces.{resolved_rows}
 use Rattle.query_core.specs.Traces.{rows_on, sent_by, sent_if, slot_rows, source_of, was_read}
 use Rattle.query_core.specs.declared.answers.Resolved.{Resolved}
@@ -94,7 +94,7 @@ module _ (held : SchemaLists) (buckets : ℕ) (row : Row)
         ]
 
 -- where no formula holds of a leaf's buckets, none of its rows is wanted
-pub unmet_rows : (store : Store) (setting : Setting) → IsAskedOf store setting → (history : List Entry)
+pub unmet_rows : (store : Setting) (setting : QuerySetting) → IsAskedOf store setting → (history : List Entry)
     → All (λ row. fits store.held row ≡ true) (leaf_rows history)
     → claim.met store setting (history_buckets store.buckets_of history) ≡ false
     → All (λ row. claim.wanted store setting row ≡ false) (leaf_rows history)
@@ -134,7 +134,7 @@ of_range (x ∷ xs) base (suc m) (suc n) e lt =
       is = rest.is ∙ ap range_numbered (omega arith);
     }
 
-module _ (store : Store) (setting : Setting) (moment : ℤ) (at_entry : Histories) (now : View)
+module _ (store : Setting) (setting : QuerySetting) (moment : ℤ) (at_entry : Histories) (now : View)
     (held : AreHeld store.held store.zones store.points now.seen) (Skip : Leaf → Type 0) (trace : Trace)
     (is : claim.TraceSo store setting at_entry now Skip trace) where
   abbrev all : ℕ
@@ -201,8 +201,9 @@ module _ (store : Store) (setting : Setting) (moment : ℤ) (at_entry : Historie
     cuts = ap length is.cuts ∙ length-map is.looks (λ (look : Look). look.cut) ∙ looks_long;
     flags = ap length is.read ∙ length-map is.looks (λ (look : Look). look.read) ∙ looks_long;
     counts = is.counts ∙ looks_long;
-    resolved = subst (λ (leaves : List Leaf). All (IsFirst at_entry now.seen leaves) trace.resolved) is.founds.avoids
-        (all_on (ResolvedSo at_entry now.seen is.avoided 0 all) (IsFirst at_entry now.seen is.avoided)
+    resolved = subst (λ (leaves : List Leaf). All (IsFirstServing at_entry now.seen leaves) trace.resolved)
+        is.founds.avoids
+        (all_on (ResolvedSo at_entry now.seen is.avoided 0 all) (IsFirstServing at_entry now.seen is.avoided)
         (λ one so. so.first)
         trace.resolved is.span.each);
     within = λ leaf within.

@@ -9,7 +9,7 @@ use Rattle.mon_value.specs.Histories.{leaf_history, range_history}
 use Rattle.mon_value.specs.declared.histories.Histories.{Histories}
 use Rattle.mon_topo.specs.RangeHistories.{acknowledged_rows}
 use Rattle.mon_topo.specs.SeenHistories.{AreWithin}
-use Rattle.mon_topo.specs.Settings.{Setting as Store}
+use Rattle.mon_topo.specs.Settings.{Setting}
 use Rattle.mon_value.specs.Positions.{range_numbered}
 use Rattle.mon_topo.specs.Zones.{first_leaf, first_range}
 use Rattle.mon_topo.specs.declared.zones.ZoneSpec.{ZoneSpec}
@@ -26,7 +26,7 @@ use Rattle.query_core.specs.Mixtures.{typed_of}
 use Rattle.query_core.specs.Openings.{flag_at, is_plan_met}
 use Rattle.query_core.specs.Rounds.{Round}
 use Rattle.query_core.specs.Sessions.{IsGrown, IsSeenSo, IsSound, View}
-use Rattle.query_core.specs.Settings.{Setting}
+use Rattle.query_core.specs.Settings.{QuerySetting}
 use Rattle.query_core.specs.Traces.{is_wanted}
 use Rattle.query_core.specs.Visits.{Visits}
 use Rattle.query_core.specs.declared.answers.Answer.{Answer}
@@ -67,14 +67,14 @@ root_known bits = bits.root
 abbrev pub zone_known : List ZoneSpec → ℕ → KnownOf
 zone_known zones k bits child bucket = bits.zone (first_leaf zones k + child) bucket
 
-module _ (store : Store) (setting : Setting) where
+module _ (store : Setting) (setting : QuerySetting) where
   abbrev pub wanted : Row → Bool
   wanted = is_wanted (typed_of setting)
 
   abbrev pub met : List ℕ → Bool
   met = is_plan_met setting.plan
 
-module _ (store : Store) (setting : Setting) (at_entry : Histories) where
+module _ (store : Setting) (setting : QuerySetting) (at_entry : Histories) where
   abbrev pub zones : List ZoneSpec
   zones = store.zones
 

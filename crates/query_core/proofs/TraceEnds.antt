@@ -5,14 +5,14 @@ use Rattle.mon_meaning.specs.Central.{IsMeant}
 use Rattle.mon_value.specs.declared.histories.Histories.{Histories}
 use Rattle.mon_topo.specs.HeldHistories.{AreHeld}
 use Rattle.mql_types.specs.Loads.{load}
-use Rattle.mon_topo.specs.Settings.{Setting as Store}
+use Rattle.mon_topo.specs.Settings.{Setting}
 use Rattle.query_core.specs.Askings.{IsAskedOf}
 use Rattle.query_core.specs.declared.answers.Answer.{Answer}
 use Rattle.query_core.specs.declared.answers.Trace.{Trace}
 use Rattle.query_core.specs.declared.courses.Course.{Course}
 use Rattle.query_core.specs.Courses.{with_zone_behind, trace_of}
 use Rattle.query_core.specs.Mixtures.{typed_of}
-use Rattle.query_core.specs.Settings.{Setting}
+use Rattle.query_core.specs.Settings.{QuerySetting}
 use Rattle.query_core.specs.Traces.{source_of}
 use Rattle.query_core.proofs.PartClaims.{AnsweredSo, LeafOver, OverSo, RootOver, ZoneOver}
 use Rattle.query_core.proofs.SentRows.{AllSent, stopped_sends, whole_sends}
@@ -21,8 +21,8 @@ use Rattle.query_core.proofs.UnreadLeaves.{TellsOf}
 use Rattle.query_core.proofs.WholeTraces.{root_over, table_meant}
 use Rattle.query_core.proofs.ZoneRows.{AllZoned}
 
-module _ (store : Store) (setting : Setting) (asked : IsAskedOf store setting) (moment : ℤ) (from : pos 0 ≤ℤ moment)
-    (exit : Histories) (held : AreHeld store.held store.zones store.points exit) where
+module _ (store : Setting) (setting : QuerySetting) (asked : IsAskedOf store setting) (moment : ℤ)
+    (from : pos 0 ≤ℤ moment) (exit : Histories) (held : AreHeld store.held store.zones store.points exit) where
   pub answered : (answer : Answer) → AnsweredSo store setting moment (TellsOf setting) exit answer
       → AllZoned store.zones answer.trace.resolved
       → IsMeant (typed_of setting) (source_of exit answer.trace) moment setting.limit answer.table

@@ -15,7 +15,7 @@ use Rattle.mon_value.specs.declared.histories.Histories.{Histories}
 use Rattle.mon_topo.specs.RangeHistories.{acknowledged_rows}
 use Rattle.mon_topo.specs.Replicas.{HasReplicas}
 use Rattle.mon_topo.specs.SeenHistories.{AreWithin}
-use Rattle.mon_topo.specs.Settings.{Setting as Store}
+use Rattle.mon_topo.specs.Settings.{Setting}
 use Rattle.mon_value.specs.Positions.{range_numbered}
 use Rattle.mon_topo.specs.Zones.{first_leaf, first_range, ranges_in}
 use Rattle.mon_value.specs.LeafHistories.{leaf_rows}
@@ -31,7 +31,7 @@ use Rattle.query_core.specs.Courses.{all_looks, trace_of}
 use Rattle.query_core.specs.Looks.{unread_look}
 use Rattle.query_core.specs.Rounds.{slots_on}
 use Rattle.query_core.specs.Sessions.{IsGrown, View}
-use Rattle.query_core.specs.Settings.{Setting}
+use Rattle.query_core.specs.Settings.{QuerySetting}
 use Rattle.query_core.specs.Traces.{IsBetween}
 use Rattle.query_core.specs.Visits.{Visits, with_look}
 use Rattle.query_core.specs.declared.answers.Resolved.{Resolved}
@@ -40,7 +40,8 @@ use Rattle.query_core.specs.declared.looks.Look.{Look}
 
 -- ---- a look at a leaf
 
-module _ (store : Store) (setting : Setting) (at_entry : Histories) (before after : View) (grown : IsGrown before after)
+module _ (store : Setting) (setting : QuerySetting) (at_entry : Histories) (before after : View)
+    (grown : IsGrown before after)
     (since : AreWithin at_entry before.seen) (avoided : List Leaf) (Skip : Leaf → Type 0) (low high first last : ℕ)
     (resolved : List Resolved) (looks : List Look) (leaf : Leaf) (left : List Leaf) (look : Look)
     (was : claim.Span store setting at_entry before.seen avoided (Contains (leaf ∷ left)) low high first last resolved
@@ -158,7 +159,7 @@ looked_is visits leaf look low e from =
 
 -- ---- the trace at the end
 
-module _ (store : Store) (setting : Setting) (at_entry : Histories)
+module _ (store : Setting) (setting : QuerySetting) (at_entry : Histories)
     (replicated : (r : ℕ) → r < length (ranges_in store.zones) → HasReplicas store.zones (range_numbered r))
     (unmet : (history : List Entry) → All (λ row. fits store.held row ≡ true) (leaf_rows history)
     → claim.met store setting (history_buckets store.buckets_of history) ≡ false

@@ -25,7 +25,7 @@ use Rattle.mon_value.specs.Histories.{leaf_history}
 use Rattle.mon_value.specs.declared.histories.Histories.{Histories}
 use Rattle.mon_topo.specs.HeldHistories.{AreAtHome, AreHeld, IsAtHome}
 use Rattle.mon_topo.specs.RangeHistories.{IsInZoneOf}
-use Rattle.mon_topo.specs.Settings.{Setting as Store}
+use Rattle.mon_topo.specs.Settings.{Setting}
 use Rattle.mon_value.specs.Positions.{leaf_numbered, same_leaf}
 use Rattle.mon_topo.specs.declared.zones.ZoneSpec.{ZoneSpec}
 use Rattle.mon_meaning.proofs.FilterLemmas.{filter_twice}
@@ -44,7 +44,7 @@ use Rattle.query_core.specs.declared.answers.Resolved.{Resolved}
 use Rattle.query_core.specs.declared.answers.Trace.{Trace}
 use Rattle.query_core.specs.Mixtures.{typed_of}
 use Rattle.query_core.specs.Rounds.{slot_of, slots_on}
-use Rattle.query_core.specs.Settings.{Setting}
+use Rattle.query_core.specs.Settings.{QuerySetting}
 use Rattle.query_core.specs.Traces as trace
 use Rattle.query_core.specs.Traces.{is_wanted, looked_at, rows_on, slot_rows, source_of}
 use Rattle.query_core.proofs.DividedRows.{AreLeavesOf, AreOtherLeaves, AreOthers, AreResolvedIn, IsOther, SomeLeaves}
@@ -148,7 +148,7 @@ IsLeftOut typed exit of chosen one = list_any (same_leaf one.leaf) (all_leaves c
     → AllByRecursion (λ row. is_wanted typed row ≡ false) (own_rows exit of one)
 
 -- a query has its type over all rows that fit
-abbrev pub typed_for : (store : Store) (setting : Setting) → IsAskedOf store setting → (rows : List Row)
+abbrev pub typed_for : (store : Setting) (setting : QuerySetting) → IsAskedOf store setting → (rows : List Row)
     → AllByRecursion (λ row. fits store.held row ≡ true) rows → IsTyped (typed_of setting) rows
 typed_for store setting asked rows fit = record {
   held = store.held;
@@ -160,8 +160,8 @@ typed_for store setting asked rows fit = record {
   fit = fit;
 }
 
-module _ (store : Store) (setting : Setting) (asked : IsAskedOf store setting) (moment : ℤ) (from : pos 0 ≤ℤ moment)
-    (exit : Histories) (held : AreHeld store.held store.zones store.points exit) (of : Trace)
+module _ (store : Setting) (setting : QuerySetting) (asked : IsAskedOf store setting) (moment : ℤ)
+    (from : pos 0 ≤ℤ moment) (exit : Histories) (held : AreHeld store.held store.zones store.points exit) (of : Trace)
     (ranges : RangesFrom 0 of.resolved)
     (zoned : AllByRecursion (λ (one : Resolved). IsInZoneOf store.zones one.range one.leaf) of.resolved) where
   homes : (some : List Resolved)

@@ -23,7 +23,7 @@ use Rattle.mon_value.specs.declared.histories.Histories.{Histories}
 use Rattle.mon_topo.specs.HeldHistories.{AreAtHome}
 use Rattle.mon_topo.specs.Replicas.{HasReplicas}
 use Rattle.mon_topo.specs.SeenHistories.{AreWithin}
-use Rattle.mon_topo.specs.Settings.{Setting as Store}
+use Rattle.mon_topo.specs.Settings.{Setting}
 use Rattle.mon_value.specs.Positions.{leaf_numbered, range_numbered, zone_numbered}
 use Rattle.mon_topo.specs.Zones.{first_leaf, first_range, ranges_in}
 use Rattle.mon_topo.specs.declared.zones.ZoneSpec.{ZoneSpec}
@@ -54,7 +54,7 @@ use Rattle.query_core.specs.Program.{ask_of, begin_visits, let_some_in, next_zon
 use Rattle.query_core.specs.Rounds.{Round, slots_on}
 use Rattle.query_core.specs.Sessions as session
 use Rattle.query_core.specs.Sessions.{IsFoundSo, IsGrown, IsSound, IsZoneWord, View}
-use Rattle.query_core.specs.Settings.{Setting}
+use Rattle.query_core.specs.Settings.{QuerySetting}
 use Rattle.query_core.specs.Traces.{IsBetween}
 use Rattle.query_core.specs.Visits as visit
 use Rattle.query_core.specs.Visits.{Visits, with_look}
@@ -81,7 +81,7 @@ no_flag (flag ∷ flags) e (suc j) = no_flag flags (or_parts flag (list_any (λ 
 enough : (a b : ℕ) → nat_le a b ≡ true → a ≤ b
 enough a b e = grind (arith, nat_tests)
 
-module _ (store : Store) (setting : Setting) (moment : ℤ) (at_entry : Histories)
+module _ (store : Setting) (setting : QuerySetting) (moment : ℤ) (at_entry : Histories)
     (replicated : (r : ℕ) → r < length (ranges_in store.zones) → HasReplicas store.zones (range_numbered r))
     (areas : setting.areas ≡ areas_of store.zones)
     (listed : AreAmong (all_named (formulas (map formula_tree setting.plan.formulas))) setting.plan.buckets)

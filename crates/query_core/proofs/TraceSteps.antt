@@ -11,7 +11,7 @@ use Rattle.mon_topo.proofs.RangeHistoryLemmas.{all_on}
 use Rattle.mon_value.specs.Histories.{leaf_history}
 use Rattle.mon_value.specs.declared.histories.Histories.{Histories}
 use Rattle.mon_topo.specs.Replicas.{HasReplicas}
-use Rattle.mon_topo.specs.Settings.{Setting as Store}
+use Rattle.mon_topo.specs.Settings.{Setting}
 use Rattle.mon_value.specs.Positions.{range_numbered}
 use Rattle.mon_topo.specs.Zones.{first_leaf, first_range, ranges_in}
 use Rattle.mon_topo.specs.declared.zones.ZoneSpec.{ZoneSpec}
@@ -30,7 +30,7 @@ use Rattle.query_core.specs.Openings.{flag_at}
 use Rattle.query_core.specs.Program.{next_zone, resolving, resolving_at, visiting, visiting_at, with_zone}
 use Rattle.query_core.specs.Rounds.{Round, round_of}
 use Rattle.query_core.specs.Sessions.{View}
-use Rattle.query_core.specs.Settings.{Setting}
+use Rattle.query_core.specs.Settings.{QuerySetting}
 use Rattle.query_core.specs.Visits.{Visits, but_first, first_left, gone_on}
 use Rattle.query_core.specs.declared.areas.Area.{Area}
 use Rattle.query_core.specs.declared.asks.Seen.{Seen}
@@ -43,7 +43,7 @@ below_more n m le leaves below =
     all_on (λ (leaf : Leaf). leaf.0 < n) (λ (leaf : Leaf). leaf.0 < m) (λ leaf less. omega (arith, less, le)) leaves
     below
 
-module _ (store : Store) (setting : Setting) (at_entry : Histories)
+module _ (store : Setting) (setting : QuerySetting) (at_entry : Histories)
     (replicated : (r : ℕ) → r < length (ranges_in store.zones) → HasReplicas store.zones (range_numbered r))
     (unmet : (history : List Entry) → All (λ row. fits store.held row ≡ true) (leaf_rows history)
     → claim.met store setting (history_buckets store.buckets_of history) ≡ false

@@ -20,7 +20,7 @@ use Rattle.mon_topo.specs.HeldHistories.{BeginsWith}
 use Rattle.mon_topo.specs.RangeHistories.{acknowledged_rows, serving}
 use Rattle.mon_topo.specs.Replicas.{HasReplicas}
 use Rattle.mon_topo.specs.SeenHistories.{AreWithin}
-use Rattle.mon_topo.specs.Settings.{Setting as Store}
+use Rattle.mon_topo.specs.Settings.{Setting}
 use Rattle.mon_value.specs.Positions.{range_numbered}
 use Rattle.mon_topo.specs.Zones.{first_leaf, first_range, range_zones, ranges_in}
 use Rattle.mon_topo.specs.declared.zones.ZoneSpec.{ZoneSpec}
@@ -50,8 +50,8 @@ use Rattle.query_core.specs.Program.{resolving}
 use Rattle.query_core.specs.Rounds.{Round, is_none, is_to_visit, leaves_to_visit, resolution, round_of, slots_by_leaf}
 use Rattle.query_core.specs.Rounds.{slots_on, with_slot}
 use Rattle.query_core.specs.Sessions.{IsFoundSo, IsGrown, IsResolvedSo, IsSound, View}
-use Rattle.query_core.specs.Settings.{Setting}
-use Rattle.query_core.specs.Traces.{IsFirst, is_avoided, slot_rows}
+use Rattle.query_core.specs.Settings.{QuerySetting}
+use Rattle.query_core.specs.Traces.{IsFirstServing, is_avoided, slot_rows}
 use Rattle.query_core.specs.Visits.{Visits, visits_of}
 use Rattle.query_core.specs.declared.answers.Resolved.{Resolved}
 use Rattle.query_core.specs.declared.areas.Area.{Area}
@@ -136,7 +136,7 @@ module _ (at_entry now : Histories) (avoided more : List Leaf) (low high : ℕ)
         to = is.to;
       }
 
-module _ (store : Store) (setting : Setting) (at_entry : Histories)
+module _ (store : Setting) (setting : QuerySetting) (at_entry : Histories)
     (replicated : (r : ℕ) → r < length (ranges_in store.zones) → HasReplicas store.zones (range_numbered r))
     (listed : AreAmong (all_named (formulas (map formula_tree setting.plan.formulas))) setting.plan.buckets)
     (unmet : (history : List Entry) → All (λ row. fits store.held row ≡ true) (leaf_rows history)
@@ -161,7 +161,7 @@ module _ (store : Store) (setting : Setting) (at_entry : Histories)
         let zone = is.zone in
         let one = resolution range slot leaf in
         let number : range.0 ≡ first_range zs k + length round.resolved = ap (λ (r : Range). r.0) is.next in
-        let first : IsFirst at_entry after.seen avoided one = record {
+        let first : IsFirstServing at_entry after.seen avoided one = record {
           found = found.found;
           between = record {
             from = omega (

@@ -18,7 +18,7 @@ use Rattle.mon_value.specs.Histories.{leaf_history}
 use Rattle.mon_value.specs.declared.histories.Histories.{Histories}
 use Rattle.mon_topo.specs.Replicas.{HasReplicas}
 use Rattle.mon_topo.specs.SeenHistories.{AreWithin}
-use Rattle.mon_topo.specs.Settings.{Setting as Store}
+use Rattle.mon_topo.specs.Settings.{Setting}
 use Rattle.mon_topo.specs.Settings.{zone_of_leaf}
 use Rattle.mon_value.specs.Positions.{range_numbered, zone_numbered}
 use Rattle.mon_topo.specs.Zones.{first_leaf, first_range, leaf_zones, no_zone, ranges_in}
@@ -40,7 +40,7 @@ use Rattle.query_core.specs.Loadings.{seen_first}
 use Rattle.query_core.specs.Looks.{unread_look}
 use Rattle.query_core.specs.Openings.{flag_at, let_in, lets_child_in}
 use Rattle.query_core.specs.Sessions.{IsGrown, IsSeenSo, IsSound, View}
-use Rattle.query_core.specs.Settings.{Setting}
+use Rattle.query_core.specs.Settings.{QuerySetting}
 use Rattle.query_core.specs.declared.answers.Resolved.{Resolved}
 use Rattle.query_core.specs.declared.asks.Seen.{Seen}
 use Rattle.query_core.specs.declared.looks.Look.{Look}
@@ -65,7 +65,7 @@ more_words known count named words word all tells i l child lt is =
           (tells child lt (subst (λ (n : ℕ). known child (get_or named n 0) ≡ true) last is)))
     ]
 
-module _ (store : Store) (setting : Setting) (at_entry : Histories) where
+module _ (store : Setting) (setting : QuerySetting) (at_entry : Histories) where
   pub loading_from : (now : View) (known_of : KnownOf) (count : ℕ) (Also : Histories → Type 0) (words : List ℕ)
       (seen : Seen)
       → LoadedSo store setting at_entry now known_of count Also words seen
@@ -108,7 +108,7 @@ get_from [] i x d e = absurd (cc)
 get_from (y ∷ xs) zero x d e = cc
 get_from (y ∷ xs) (suc i) x d e = get_from xs i x d e
 
-module _ (store : Store) (setting : Setting)
+module _ (store : Setting) (setting : QuerySetting)
     (listed : AreAmong (all_named (formulas (map formula_tree setting.plan.formulas))) setting.plan.buckets) where
   module _ (then : View) (sound : IsSound store then) (z : ℕ) (there : z < length store.zones) (leaf : Leaf)
       (from : first_leaf store.zones z ≤ leaf.0) (to : leaf.0 < first_leaf store.zones (z + 1)) where
@@ -169,7 +169,7 @@ module _ (store : Store) (setting : Setting)
 
 -- ---- zones that stand as they had been seen
 
-module _ (store : Store) (setting : Setting) (at_entry : Histories)
+module _ (store : Setting) (setting : QuerySetting) (at_entry : Histories)
     (replicated : (r : ℕ) → r < length (ranges_in store.zones) → HasReplicas store.zones (range_numbered r))
     (unmet : (history : List Entry) → All (λ row. fits store.held row ≡ true) (leaf_rows history)
     → met store setting (history_buckets store.buckets_of history) ≡ false

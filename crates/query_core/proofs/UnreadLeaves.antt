@@ -12,7 +12,7 @@ use Rattle.mon_topo.specs.Zones.{first_leaf, first_range, leaf_zones}
 use Rattle.mon_value.specs.declared.positions.Leaf.{Leaf}
 use Rattle.mon_value.specs.declared.rows.Row.{Row}
 use Rattle.mql_types.proofs.JoinedRows.{all-front, all-map}
-use Rattle.mon_topo.specs.Settings.{Setting as Store}
+use Rattle.mon_topo.specs.Settings.{Setting}
 use Rattle.query_core.specs.declared.answers.Resolved.{Resolved}
 use Rattle.query_core.specs.declared.answers.Trace.{Trace}
 use Rattle.query_core.specs.declared.courses.Course.{Course}
@@ -21,7 +21,7 @@ use Rattle.query_core.specs.Courses.{trace_of}
 use Rattle.query_core.specs.Looks.{unread_look}
 use Rattle.query_core.specs.Mixtures.{typed_of}
 use Rattle.query_core.specs.Rounds.{slots_on}
-use Rattle.query_core.specs.Settings.{Setting}
+use Rattle.query_core.specs.Settings.{QuerySetting}
 use Rattle.query_core.specs.Traces.{cut_of, is_wanted, slot_rows}
 use Rattle.query_core.proofs.DividedRows.{SomeLeaves, all_both, all_leaves, rows_at}
 use Rattle.query_core.proofs.ReadLeaves.{cuts_of, flags_of}
@@ -64,13 +64,13 @@ module _ (exit : Histories) (of : Trace) (P : Row → Type 0) where
       )
 
 -- what is known of leaves that were not read
-abbrev pub TellsOf : Setting → Histories → Course → Type 0
+abbrev pub TellsOf : QuerySetting → Histories → Course → Type 0
 TellsOf setting now course = (leaf : Leaf) → leaf.0 < length course.looks
     → get_or (flags_of course.looks) leaf.0 false ≡ false
     → AllByRecursion (λ row. is_wanted (typed_of setting) row ≡ false)
     (slot_rows (take (get_or (cuts_of course.looks) leaf.0 0) (leaf_history now leaf)) (slots_on leaf course.resolved))
 
-module _ (store : Store) (setting : Setting) (moment : ℤ) (exit : Histories) where
+module _ (store : Setting) (setting : QuerySetting) (moment : ℤ) (exit : Histories) where
   abbrev Unwanted : Row → Type 0
   Unwanted row = is_wanted (typed_of setting) row ≡ false
 

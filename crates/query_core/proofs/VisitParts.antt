@@ -10,7 +10,7 @@ use Rattle.mon_meaning.specs.LeafAnswers.{IsLeafPart}
 use Rattle.mon_value.specs.Histories.{leaf_history}
 use Rattle.mon_value.specs.declared.histories.Histories.{Histories}
 use Rattle.mon_topo.specs.SeenHistories.{AreWithin}
-use Rattle.mon_topo.specs.Settings.{Setting as Store}
+use Rattle.mon_topo.specs.Settings.{Setting}
 use Rattle.mon_value.specs.declared.positions.Leaf.{Leaf}
 use Rattle.mon_value.specs.declared.positions.RangeSlot.{RangeSlot}
 use Rattle.mon_value.specs.declared.rows.Row.{Row}
@@ -29,7 +29,7 @@ use Rattle.query_core.specs.Openings.{let_in}
 use Rattle.query_core.specs.Program as spec
 use Rattle.query_core.specs.Program.{begin_visits, visiting}
 use Rattle.query_core.specs.Rounds.{Round, is_to_visit, slots_on}
-use Rattle.query_core.specs.Settings.{Setting}
+use Rattle.query_core.specs.Settings.{QuerySetting}
 use Rattle.query_core.specs.Traces.{slot_rows}
 use Rattle.query_core.specs.Visits as visit
 use Rattle.query_core.specs.Visits.{Visits, with_look}
@@ -41,7 +41,7 @@ use Rattle.query_core.proofs.StageLemmas.{slots_here}
 use Rattle.query_core.proofs.PartClaims.{CourseIn, LoadedSo, RoundWhole, StepParts, VisitSo, VisitsSo}
 use Rattle.query_core.proofs.NextPlaces.{IsNextPlace, MaybePlace, next_place}
 
-module _ (store : Store) (setting : Setting) (moment : ℤ) where
+module _ (store : Setting) (setting : QuerySetting) (moment : ℤ) where
   -- ---- a leaf is looked at
 
   -- what is known of the leaves is set at the leaf's place
@@ -213,7 +213,7 @@ module _ (store : Store) (setting : Setting) (moment : ℤ) where
           };
         }
 
-module _ (store : Store) (setting : Setting) (moment : ℤ) (Tells : Histories → Course → Type 0) where
+module _ (store : Setting) (setting : QuerySetting) (moment : ℤ) (Tells : Histories → Course → Type 0) where
   leaf_by : (now : Histories) (course : Course) (round : Round) (visits : Visits) (from place : ℕ)
       (so : VisitsSo store setting moment now round visits from from) → CourseIn store setting moment now course
       round.area

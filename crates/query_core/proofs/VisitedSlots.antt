@@ -1,8 +1,9 @@
 -- The slots that resolved to a leaf can be read together at its visit.
-use Rattle.std.proofs.Common.{◌≡◌, ◌∙◌, ◌||◌, ℕ, Bool, true, false, cond, Some, List, [], ◌∷◌, length, map, filter}
+use Rattle.std.proofs.Common.{◌≡◌, ◌∙◌, ℕ, Bool, true, false, cond, Some, List, [], ◌∷◌, length, map, filter}
 use Rattle.std.proofs.Common.{nat_eq, take, sym, ap, subst, refl, arith}
 use Rattle.std.specs.List.{AllByRecursion}
-use Rattle.mixer.specs.Divisions.{AreApart, ShareNoTarget, has_target}
+use Rattle.mixer.proofs.ApartTargets as apart_targets
+use Rattle.mixer.specs.Divisions.{AreApart, ShareNoTarget}
 use Rattle.mon_schema.specs.Fits.{fits}
 use Rattle.mon_topo.proofs.RangeHistoryLemmas.{all_from}
 use Rattle.mon_value.specs.Histories.{leaf_history, range_history}
@@ -12,9 +13,8 @@ use Rattle.mon_topo.specs.Locations.{range_for}
 use Rattle.mon_topo.specs.RangeHistories.{acknowledged_rows}
 use Rattle.mon_value.specs.Positions.{same_leaf}
 use Rattle.mon_topo.specs.SeenHistories.{AreWithin}
-use Rattle.mon_topo.specs.Settings.{Setting as Store}
+use Rattle.mon_topo.specs.Settings.{Setting}
 use Rattle.mon_value.specs.LeafHistories.{is_opened, replica_rows}
-use Rattle.mon_value.specs.Same.{same_target}
 use Rattle.mon_value.specs.declared.histories.Entry.{Entry}
 use Rattle.mon_value.specs.declared.positions.Leaf.{Leaf}
 use Rattle.mon_value.specs.declared.positions.Range.{Range}
@@ -28,9 +28,9 @@ use Rattle.query_core.specs.declared.looks.Look.{Look}
 use Rattle.query_core.specs.Mixtures.{typed_of}
 use Rattle.query_core.specs.ReadableSlots.{CanBeRead}
 use Rattle.query_core.specs.Rounds.{slot_of, slots_on}
-use Rattle.query_core.specs.Settings.{Setting}
+use Rattle.query_core.specs.Settings.{QuerySetting}
 use Rattle.query_core.specs.Traces.{IsBetween, slot_rows}
-use Rattle.query_core.proofs.DividedRows.{AreOthers, IsOther, all_flat, itself, one_target}
+use Rattle.query_core.proofs.DividedRows.{AreOthers, IsOther, all_flat, itself}
 use Rattle.query_core.proofs.FindingLemmas.{same_number}
 use Rattle.query_core.proofs.Spans.{IsLookedAt, StandsAt, StandsIn, look_at, stands_on, up_to}
 use Rattle.query_core.proofs.TraceRows.{replica_at_home, typed_for}
@@ -38,33 +38,20 @@ use Rattle.query_core.proofs.TraceVisits.{fronts_begin}
 
 -- ---- ranges that differ share no target
 
-module _ (store : Store) (a b : Range) (apart : nat_eq a.0 b.0 ≡ false) where
+module _ (store : Setting) (a b : Range) (apart : nat_eq a.0 b.0 ≡ false) where
   abbrev LiesIn : Range → Row → Type 0
   LiesIn = IsAtHome store.held store.zones
 
-  target_by : (row other : Row) (c : Bool) → same_target other.key.target row.key.target ≡ c → LiesIn a row
-      → LiesIn b other
-      → c ≡ false
-  target_by row other true same here there =
-      let alike = one_target other.key.target row.key.target same in
+  ranges_apart : (row other : Row) → other.key.target ≡ row.key.target → LiesIn a row → LiesIn b other → ⊥
+  ranges_apart row other alike here there =
       let both : Some b ≡ Some a = sym there.1 ∙ ap (range_for store.held store.zones) alike ∙ here.1 in
       let range : b ≡ a = cc in
       let test : nat_eq a.0 b.0 ≡ true = ap (λ (r : Range). nat_eq a.0 r.0) range ∙ itself a.0 in
-      absurd cc
-  target_by row other false same here there = refl
-
-  no_target : (row : Row) (others : List Row) → LiesIn a row → AllByRecursion (LiesIn b) others
-      → has_target others row.key.target ≡ false
-  no_target row [] here all = refl
-  no_target row (other ∷ others) here all =
-      ap (λ c. c || has_target others row.key.target)
-      (target_by row other (same_target other.key.target row.key.target) refl here all.0)
-      ∙ no_target row others here all.1
+      cc
 
   no_targets : (rows others : List Row) → AllByRecursion (LiesIn a) rows → AllByRecursion (LiesIn b) others
       → ShareNoTarget rows others
-  no_targets [] others all more = tt
-  no_targets (row ∷ rows) others all more = (no_target row others all.0 more, no_targets rows others all.1 more)
+  no_targets = apart_targets.no_targets (LiesIn a) (LiesIn b) ranges_apart
 
 -- ---- slots of different ranges
 
@@ -79,7 +66,7 @@ fewer_others test (one ∷ some) others =
     others_by one (filter test some) (test one) (all-filter (IsOther one) test some others.0)
     (fewer_others test some others.1)
 
-module _ (store : Store) (setting : Setting) (asked : IsAskedOf store setting) (history : List Entry)
+module _ (store : Setting) (setting : QuerySetting) (asked : IsAskedOf store setting) (history : List Entry)
     (home : AllByRecursion (AreAtHome store.held store.zones) history) where
   abbrev own_rows : RangeSlot → List Row
   own_rows one = replica_rows one.range one.slot history
@@ -153,7 +140,7 @@ module _ (at_entry before after : Histories) (grown : AreWithin before after) (l
       (λ same. opened_here one (same_number one.leaf leaf same) stand.0) (all_opened resolved stand.1)
 
 -- the leaf's history up to a cut
-pub front_home : (store : Store) (seen : Histories) → AreHeld store.held store.zones store.points seen → (leaf : Leaf)
+pub front_home : (store : Setting) (seen : Histories) → AreHeld store.held store.zones store.points seen → (leaf : Leaf)
     (cut : ℕ) → AllByRecursion (AreAtHome store.held store.zones) (take cut (leaf_history seen leaf))
 front_home store seen held leaf cut =
     all-take (AreAtHome store.held store.zones) cut (leaf_history seen leaf)

@@ -19,7 +19,7 @@ use Rattle.mon_value.specs.declared.positions.Leaf.{Leaf}
 use Rattle.mon_value.specs.declared.rows.Row.{Row}
 use Rattle.mon_value.specs.declared.tables.Table.{Table}
 use Rattle.mql_types.specs.Loads.{load}
-use Rattle.mon_topo.specs.Settings.{Setting as Store}
+use Rattle.mon_topo.specs.Settings.{Setting}
 use Rattle.query_core.specs.Askings.{IsAskedOf}
 use Rattle.query_core.specs.declared.answers.Resolved.{Resolved}
 use Rattle.query_core.specs.declared.answers.Trace.{Trace}
@@ -30,7 +30,7 @@ use Rattle.query_core.specs.Areas.{area_of}
 use Rattle.query_core.specs.Courses.{trace_of}
 use Rattle.query_core.specs.Looks.{unread_look}
 use Rattle.query_core.specs.Mixtures.{typed_of}
-use Rattle.query_core.specs.Settings.{Setting}
+use Rattle.query_core.specs.Settings.{QuerySetting}
 use Rattle.query_core.specs.Traces.{source_of}
 use Rattle.query_core.proofs.ChosenLeaves.{ChosenAscend, chosen_append, chosen_leaves, chosen_once}
 use Rattle.query_core.proofs.DividedRows.{SomeLeaves, all_leaves, divided_rows, rows_at, zone_rows}
@@ -45,8 +45,8 @@ use Rattle.query_core.proofs.ThroughZones.{IsThrough, none_first, through_so, tr
 use Rattle.query_core.proofs.UnreadLeaves.{TellsOf, left_out_by}
 use Rattle.query_core.proofs.ZoneRows.{AllZoned, Stands, leaves_below, reads_up, rows_there}
 
-module _ (store : Store) (setting : Setting) (asked : IsAskedOf store setting) (moment : ℤ) (from : pos 0 ≤ℤ moment)
-    (exit : Histories) (held : AreHeld store.held store.zones store.points exit) where
+module _ (store : Setting) (setting : QuerySetting) (asked : IsAskedOf store setting) (moment : ℤ)
+    (from : pos 0 ≤ℤ moment) (exit : Histories) (held : AreHeld store.held store.zones store.points exit) where
   abbrev pub chosen_in : Segment → List SomeLeaves
   chosen_in (Passed area resolved looks) = []
   chosen_in (Mixed area resolved looks parts answer) =

@@ -5,7 +5,7 @@ use Rattle.std.proofs.lemmas.Bool.Decides.{nat_tests}
 use Rattle.std.proofs.lemmas.List.{length-append, length-drop}
 use Rattle.std.proofs.lemmas.List.FromFn.{length-map-range_with_len}
 use Rattle.mon_value.specs.declared.histories.Histories.{Histories}
-use Rattle.mon_topo.specs.Settings.{Setting as Store}
+use Rattle.mon_topo.specs.Settings.{Setting}
 use Rattle.mon_value.specs.declared.positions.Leaf.{Leaf}
 use Rattle.mon_value.specs.declared.positions.Range.{Range}
 use Rattle.mon_value.specs.declared.positions.Slot.{Slot}
@@ -23,7 +23,7 @@ use Rattle.query_core.specs.Looks.{unread_look}
 use Rattle.query_core.specs.Program as spec
 use Rattle.query_core.specs.Program.{next_zone, resolving}
 use Rattle.query_core.specs.Rounds.{Round, resolution, round_of, with_slot}
-use Rattle.query_core.specs.Settings.{Setting}
+use Rattle.query_core.specs.Settings.{QuerySetting}
 use Rattle.query_core.proofs.SegmentFacts.{RangesFrom, Segment, SeenSo, Passed, behind_push, passed_so, ranges_append}
 use Rattle.query_core.proofs.ZoneFacts.{areas_from}
 use Rattle.query_core.proofs.PartClaims.{CourseAt, CourseIn, LoadedSo, RoundSo, StepParts, TurnParts}
@@ -31,7 +31,7 @@ use Rattle.query_core.proofs.PartClaims.{CourseAt, CourseIn, LoadedSo, RoundSo, 
 pair_is : {X : Type 0} (x y : X) (xs ys : List X) → x ∷ xs ≡ y ∷ ys → (x ≡ y) × (xs ≡ ys)
 pair_is x y xs ys e = (cc, cc)
 
-module _ (store : Store) (setting : Setting) (moment : ℤ) where
+module _ (store : Setting) (setting : QuerySetting) (moment : ℤ) where
   -- ---- the next zone
 
   -- a zone that stands as it had been seen is behind
@@ -100,7 +100,7 @@ module _ (store : Store) (setting : Setting) (moment : ℤ) where
     few = omega (arith, ap length none);
   }
 
-module _ (store : Store) (setting : Setting) (moment : ℤ) (Tells : Histories → Course → Type 0) where
+module _ (store : Setting) (setting : QuerySetting) (moment : ℤ) (Tells : Histories → Course → Type 0) where
   enters_by : (now : Histories) (course : Course) (area : Area) (areas : List Area) (enter : Bool)
       → CourseIn store setting moment now (with_next_zone course) area
       → TurnParts store setting moment Tells now (next_zone areas (left (with_next_zone course) area course.seen))

@@ -19,7 +19,7 @@ use Rattle.query_core.specs.declared.answers.Trace.{Trace}
 use Rattle.query_core.specs.declared.looks.Look.{Look}
 use Rattle.query_core.specs.Areas.{area_of}
 use Rattle.query_core.specs.Rounds.{slot_of, slots_on}
-use Rattle.query_core.specs.Settings.{Setting}
+use Rattle.query_core.specs.Settings.{QuerySetting}
 use Rattle.query_core.specs.Traces.{rows_on, cut_of, slot_rows}
 use Rattle.query_core.proofs.ChosenLeaves.{leaf_before, leaf_behind}
 use Rattle.query_core.proofs.DividedRows.{rows_at}
@@ -217,7 +217,7 @@ module _ (zones : List ZoneSpec) where
         (first_leaf zones (k + 1))
         reads_up)
 
-    module _ (setting : Setting) (moment : ℤ) (exit : Histories) where
+    module _ (setting : QuerySetting) (moment : ℤ) (exit : Histories) where
       -- the rows on a leaf of the zone, and on those that were read
       pub leaf_rows : (leaf : Leaf) (cut : ℕ) → first_leaf zones k ≤ leaf.0 → leaf.0 < first_leaf zones (k + 1)
           → cut_of of leaf ≡ cut

@@ -2,18 +2,18 @@
 use Rattle.std.specs.Prelude.{◌≡◌, ◌<◌, ℕ, ℤ, length}
 use Rattle.mon_meaning.specs.Central.{IsMeant}
 use Rattle.mon_value.specs.declared.histories.Histories.{Histories}
-use Rattle.mon_topo.specs.Settings.{Setting as Store}
+use Rattle.mon_topo.specs.Settings.{Setting}
 use Rattle.mon_value.specs.declared.positions.Leaf.{Leaf}
 use Rattle.mql_types.specs.Explanations.{op_levels}
 use Rattle.mql_types.specs.Loads.{load}
 use Rattle.query_core.specs.Findings.{AreFoundThen}
 use Rattle.query_core.specs.Mixtures.{typed_of}
-use Rattle.query_core.specs.Settings.{Setting}
+use Rattle.query_core.specs.Settings.{QuerySetting}
 use Rattle.query_core.specs.Traces.{IsFresh, IsReadRightly, IsTraceOf, source_of}
 use Rattle.query_core.specs.declared.answers.Answer.{Answer}
 use Rattle.query_core.specs.declared.answers.Trace.{Trace}
 
-module _ (store : Store) (setting : Setting) (moment : ℤ) (at_entry at_exit : Histories) where
+module _ (store : Setting) (setting : QuerySetting) (moment : ℤ) (at_entry at_exit : Histories) where
   -- a table is what the query means over the rows of its trace, which holds all that was seen at entry; a leaf was read
   -- only where a formula holds of it, and left out only where it has nothing that the query wants
   pub record IsAnsweredRightly (answer : Answer) : Type 0 where

@@ -8,7 +8,7 @@ use Rattle.mon_schema.specs.HeldTargets.{AllTellLocations}
 use Rattle.mon_schema.specs.SchemaLists.{metric_named, target_named}
 use Rattle.mon_topo.specs.Faults.{AreLawfulZones}
 use Rattle.mon_topo.specs.Replicas.{HasReplicas}
-use Rattle.mon_topo.specs.Settings.{Setting as Store}
+use Rattle.mon_topo.specs.Settings.{Setting}
 use Rattle.mon_value.specs.Positions.{range_numbered}
 use Rattle.mon_topo.specs.Zones.{ranges_in}
 use Rattle.mon_value.specs.declared.rows.SeriesKey.{SeriesKey}
@@ -22,11 +22,11 @@ use Rattle.mql_types.specs.Typing.{typing}
 use Rattle.plan_split.specs.Promises.{AllHoldWhereMet}
 use Rattle.query_core.specs.Areas.{areas_of}
 use Rattle.query_core.specs.Mixtures.{typed_of}
-use Rattle.query_core.specs.Settings.{Setting}
+use Rattle.query_core.specs.Settings.{QuerySetting}
 
 -- the zones of the store, and the plan of a query that has a type over its schemas: a formula for each fetch, which
 -- holds of the buckets of every series that meets it
-pub record IsAskedOf (store : Store) (setting : Setting) : Type 0 where
+pub record IsAskedOf (store : Setting) (setting : QuerySetting) : Type 0 where
   pub lawful : AreLawfulZones store.zones
   pub replicas : (range : ℕ) → range < length (ranges_in store.zones) → HasReplicas store.zones (range_numbered range)
   pub areas : setting.areas ≡ areas_of store.zones

@@ -13,10 +13,10 @@ use Rattle.query_core.specs.declared.looks.Look.{Look}
 use Rattle.query_core.specs.Areas.{has_leaf}
 use Rattle.query_core.specs.Looks.{unread_look}
 use Rattle.query_core.specs.Openings.{flag_at, let_in}
-use Rattle.query_core.specs.Settings.{Setting}
+use Rattle.query_core.specs.Settings.{QuerySetting}
 
 -- before the first zone, once all root words are loaded
-abbrev pub course_of : Setting → Loading → Course
+abbrev pub course_of : QuerySetting → Loading → Course
 course_of setting loading = record {
   seen = loading.seen;
   entered = let_in setting.plan loading.words (length setting.areas);

@@ -12,15 +12,15 @@ use Rattle.query_core.specs.Areas.{has_leaf}
 use Rattle.query_core.specs.Loadings.{no_word}
 use Rattle.query_core.specs.Program.{round_in}
 use Rattle.query_core.specs.Rounds.{Round, slots_on}
-use Rattle.query_core.specs.Settings.{Setting}
+use Rattle.query_core.specs.Settings.{QuerySetting}
 
 -- with the leaves that were found down
 pub record Query : Type 0 where
-  pub setting : Setting
+  pub setting : QuerySetting
   pub avoided : List Leaf
   pub stage : Stage
 
-abbrev pub new_query : Setting → Query
+abbrev pub new_query : QuerySetting → Query
 new_query setting = record { setting = setting; avoided = []; stage = at.Rooting no_word }
 
 -- a leaf that was found down at its visit is avoided from then on

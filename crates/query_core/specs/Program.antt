@@ -28,12 +28,12 @@ use Rattle.query_core.specs.Loadings.{is_whole, next_bucket, no_word, with_word}
 use Rattle.query_core.specs.Looks.{read_at, unread_look}
 use Rattle.query_core.specs.Openings.{let_in}
 use Rattle.query_core.specs.Rounds.{Round, leaves_to_visit, next_range, round_of, with_slot}
-use Rattle.query_core.specs.Settings.{Setting}
+use Rattle.query_core.specs.Settings.{QuerySetting}
 use Rattle.query_core.specs.Visits.{Visits, gone_on, with_leaf_answer, with_look, next_leaf, visits_of}
 
 -- ---- the next event
 
-abbrev pub ask_of : Setting → Stage → Ask
+abbrev pub ask_of : QuerySetting → Stage → Ask
 ask_of setting (at.Rooting loading) = ask.LoadRoot (next_bucket setting.plan loading)
 ask_of setting (at.Entering course round loading) =
     ask.LoadZone round.area.zone (next_bucket setting.plan loading)
@@ -59,7 +59,7 @@ abbrev pub refused_stage : RoundFault → Stage
 refused_stage why = at.Ended (Err why)
 
 -- the load is above the limit
-abbrev pub stopped_stage : Setting → Course → Stage
+abbrev pub stopped_stage : QuerySetting → Course → Stage
 stopped_stage setting course = refused_stage (fault.StepLimit setting.limit (trace_of course))
 
 -- at the words of the next zone that the root words let in; those before it are left out
@@ -69,7 +69,7 @@ next_zone (area ∷ areas) course =
     if is_entered course then turn.Goes (at.Entering (with_next_zone course) (round_of area) no_word)
     else next_zone areas (left (with_next_zone course) area course.seen)
 
-abbrev pub on_from : Setting → Course → Step
+abbrev pub on_from : QuerySetting → Course → Step
 on_from setting course = step.Takes (next_zone (drop course.begun setting.areas) course)
 
 -- at the next range of the zone; once all have resolved, at the zone's words, which are loaded again
@@ -94,38 +94,38 @@ visiting course round visits = visiting_at course round visits (next_leaf visits
 
 -- ---- words
 
-abbrev pub loaded_root : Setting → Loading → Step
+abbrev pub loaded_root : QuerySetting → Loading → Step
 loaded_root setting loading =
     if is_whole setting.plan loading then on_from setting (course_of setting loading) else going (at.Rooting loading)
 
 -- whether the words let some leaf of a zone in
-abbrev pub let_some_in : Setting → Area → Loading → Bool
+abbrev pub let_some_in : QuerySetting → Area → Loading → Bool
 let_some_in setting area loading = list_any (λ flag. flag) (let_in setting.plan loading.words area.leaves)
 
-abbrev pub opened_zone : Setting → Course → Round → Loading → Step
+abbrev pub opened_zone : QuerySetting → Course → Round → Loading → Step
 opened_zone setting course round loading =
     if let_some_in setting round.area loading then resolving course round
     else on_from setting (left course round.area loading.seen)
 
-abbrev pub loaded_zone : Setting → Course → Round → Loading → Step
+abbrev pub loaded_zone : QuerySetting → Course → Round → Loading → Step
 loaded_zone setting course round loading =
     if is_whole setting.plan loading then opened_zone setting course round loading
     else going (at.Entering course round loading)
 
 -- the leaves that are to be visited are known once the words were loaded again
-abbrev pub begin_visits : Setting → Round → Loading → Visits
+abbrev pub begin_visits : QuerySetting → Round → Loading → Visits
 begin_visits setting round loading =
     visits_of (leaves_to_visit round (let_in setting.plan loading.words round.area.leaves))
     round.area.first_leaf (cuts_seen loading.seen round.area)
 
-abbrev pub loaded_again : Setting → Course → Round → Loading → Step
+abbrev pub loaded_again : QuerySetting → Course → Round → Loading → Step
 loaded_again setting course round loading =
     if is_whole setting.plan loading then visiting course round (begin_visits setting round loading)
     else going (at.Reloading course round loading)
 
 -- ---- what each answer makes of a stage
 
-abbrev pub told_word : Setting → Stage → ℕ → Seen → Step
+abbrev pub told_word : QuerySetting → Stage → ℕ → Seen → Step
 told_word setting (at.Rooting loading) word seen = loaded_root setting (with_word loading word seen)
 told_word setting (at.Entering course round loading) word seen =
     loaded_zone setting course round (with_word loading word seen)
@@ -158,12 +158,12 @@ told_read (at.Visiting course round visits leaf) cut answer =
     visiting course round (with_leaf_answer (with_look visits leaf (read_at cut answer.sent)) answer)
 told_read stage cut answer = going stage
 
-abbrev pub told_over : Setting → Stage → ℕ → Step
+abbrev pub told_over : QuerySetting → Stage → ℕ → Step
 told_over setting (at.Visiting course round visits leaf) cut =
     going (stopped_stage setting (with_zone course round (with_look visits leaf (unread_look cut))))
 told_over setting stage cut = going stage
 
-abbrev pub after : Setting → Stage → Told → Step
+abbrev pub after : QuerySetting → Stage → Told → Step
 after setting stage (told.Word word seen) = told_word setting stage word seen
 after setting stage (told.Slot slot leaf) = told_slot stage slot leaf
 after setting stage told.NoSlot = told_no_slot stage

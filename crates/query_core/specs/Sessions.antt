@@ -11,7 +11,7 @@ use Rattle.mon_value.specs.declared.histories.Histories.{Histories}
 use Rattle.mon_topo.specs.HeldHistories.{AreHeld}
 use Rattle.mon_topo.specs.SeenHistories.{AreWithin}
 use Rattle.mon_topo.specs.Settings.{zone_of_leaf}
-use Rattle.mon_topo.specs.Settings.{Setting as Store}
+use Rattle.mon_topo.specs.Settings.{Setting}
 use Rattle.mon_value.specs.Positions.{range_numbered}
 use Rattle.mon_topo.specs.Zones.{first_leaf, leaf_zones}
 use Rattle.mon_topo.specs.declared.zones.ZoneSpec.{ZoneSpec}
@@ -33,7 +33,7 @@ use Rattle.query_core.specs.Machine.{Query, avoided_after, slots_at}
 use Rattle.query_core.specs.Mixtures.{Settles, typed_of}
 use Rattle.query_core.specs.Openings.{is_plan_met}
 use Rattle.query_core.specs.Program.{after, ask_of}
-use Rattle.query_core.specs.Settings.{Setting}
+use Rattle.query_core.specs.Settings.{QuerySetting}
 use Rattle.query_core.specs.Traces.{IsBetween, first_serving, replica_of, slot_rows}
 
 -- what someone has seen, and the bits that they know
@@ -42,7 +42,7 @@ pub record View : Type 0 where
   pub bits : Bits
 
 -- what was seen is held, and the known bits lead to all of it
-pub record IsSound (store : Store) (view : View) : Type 0 where
+pub record IsSound (store : Setting) (view : View) : Type 0 where
   pub held : AreHeld store.held store.zones store.points view.seen
   pub covered : (leaf : Leaf) → leaf.0 < length view.seen.leaves
       → Covers view.bits (zone_of_leaf store leaf) leaf (history_buckets store.buckets_of (leaf_history view.seen leaf))
@@ -86,15 +86,15 @@ pub record IsFoundSo (before after : View) (leaf : Leaf) (cut : ℕ) (down : Boo
   pub between : IsBetween (length (leaf_history before.seen leaf)) (length (leaf_history after.seen leaf)) cut
   pub is : is_down (take cut (leaf_history after.seen leaf)) ≡ down
 
-module _ (store : Store) (setting : Setting) (moment : ℤ) where
+module _ (store : Setting) (setting : QuerySetting) (moment : ℤ) where
   -- whether a formula holds of a leaf's buckets at a cut
   abbrev pub is_met_at : View → Leaf → ℕ → Bool
   is_met_at after leaf cut =
       is_plan_met setting.plan (history_buckets store.buckets_of (take cut (leaf_history after.seen leaf)))
 
   -- the rows of the slots that resolved to the leaf, at a cut
-  abbrev pub rows_at : View → Leaf → ℕ → List RangeSlot → List Row
-  rows_at after leaf cut slots = slot_rows (take cut (leaf_history after.seen leaf)) slots
+  abbrev pub rows_at_cut : View → Leaf → ℕ → List RangeSlot → List Row
+  rows_at_cut after leaf cut slots = slot_rows (take cut (leaf_history after.seen leaf)) slots
 
   -- an answer to an ask is true, where these leaves were avoided, and these slots resolved to the leaf that was visited
   abbrev pub IsTrueAnswer : View → View → List Leaf → List RangeSlot → Ask → Told → Type 0
@@ -110,10 +110,10 @@ module _ (store : Store) (setting : Setting) (moment : ℤ) where
       IsFoundSo before after leaf cut false × (is_met_at after leaf cut ≡ false)
   IsTrueAnswer before after avoided slots (ask.Visit leaf) (told.Read cut answer) =
       IsFoundSo before after leaf cut false × (is_met_at after leaf cut ≡ true)
-      × IsLeafPart (typed_of setting) (rows_at after leaf cut slots) moment setting.limit answer
+      × IsLeafPart (typed_of setting) (rows_at_cut after leaf cut slots) moment setting.limit answer
   IsTrueAnswer before after avoided slots (ask.Visit leaf) (told.Over load cut) =
       IsFoundSo before after leaf cut false × (is_met_at after leaf cut ≡ true)
-      × IsOverLeaf (typed_of setting) (rows_at after leaf cut slots) moment setting.limit (record { load = load })
+      × IsOverLeaf (typed_of setting) (rows_at_cut after leaf cut slots) moment setting.limit (record { load = load })
   IsTrueAnswer before after avoided slots asked answer = ⊥
 
   -- ---- sessions

@@ -3,7 +3,7 @@ use Rattle.std.specs.Prelude.{ℕ, List}
 use Rattle.mql_types.specs.declared.plans.Plan.{Plan}
 use Rattle.query_core.specs.declared.areas.Area.{Area}
 
-pub record Setting : Type 0 where
+pub record QuerySetting : Type 0 where
   pub plan : Plan
   pub areas : List Area
   pub limit : ℕ

@@ -46,7 +46,7 @@ pub record IsBetween (before after length : ℕ) : Type 0 where
 
 -- at a length of the range's history that was found on the way, the slot was the first that serves and is not on one of
 -- these leaves
-pub record IsFirst (at_entry at_exit : Histories) (avoided : List Leaf) (one : Resolved) : Type 0 where
+pub record IsFirstServing (at_entry at_exit : Histories) (avoided : List Leaf) (one : Resolved) : Type 0 where
   pub found : ℕ
   pub between : IsBetween (length (range_history at_entry one.range)) (length (range_history at_exit one.range)) found
   pub first : first_serving avoided (take found (range_history at_exit one.range)) ≡ Some (replica_of one)
@@ -98,7 +98,7 @@ pub record IsTraceOf (typed : TypedTree) (moment : ℤ) (at_entry at_exit : Hist
   pub cuts : length trace.cuts ≡ length at_exit.leaves
   pub flags : length trace.read ≡ length at_exit.leaves
   pub counts : length trace.sent ≡ length at_exit.leaves
-  pub resolved : AllByRecursion (IsFirst at_entry at_exit (found_leaves trace.down)) trace.resolved
+  pub resolved : AllByRecursion (IsFirstServing at_entry at_exit (found_leaves trace.down)) trace.resolved
   pub within : (leaf : Leaf) → leaf.0 < length at_exit.leaves → cut_of trace leaf ≤ length (leaf_history at_exit leaf)
   pub opened : AllByRecursion
       (λ (one : Resolved). is_opened one.range one.slot (looked_at at_exit trace one.leaf) ≡ true) trace.resolved

@@ -10,7 +10,7 @@ use crate::loadings::Loading;
 use crate::looks::{Look, Looks, add_unread, cuts_of, read_of, sent_of};
 use crate::openings::{flag_at, let_in};
 use crate::segments::{from_place, segment};
-use crate::settings::Setting;
+use crate::settings::QuerySetting;
 use mixer::{ZoneAnswer, ZoneAnswers};
 use mon_value::{FoundDown, Founds, Leaf, OutOfMemory};
 use std::alloc::Global;
@@ -31,7 +31,7 @@ pub(crate) struct Course {
 
 impl Course {
     /// Before the first zone, once all root words are loaded.
-    pub(crate) fn new(setting: &Setting, loading: Loading) -> Result<Course, OutOfMemory>
+    pub(crate) fn new(setting: &QuerySetting, loading: Loading) -> Result<Course, OutOfMemory>
         ensures new { IfOk result (λ course. course ≡ spec.course_of setting.now loading) }
     {
         let alloc = setting.alloc();

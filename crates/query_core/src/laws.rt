@@ -1,7 +1,7 @@
 // What holds of every query's session.
 ghost use Rattle.std.specs.Prelude.{◌≡◌, ◌≤ℤ◌, ℕ, ℤ, pos, List, length, take, Ok, Err};
 ghost use Rattle.mon_value.specs.Histories.{leaf_history};
-ghost use Rattle.mon_topo.specs.Settings.{Setting as Store};
+ghost use Rattle.mon_topo.specs.Settings.{Setting};
 ghost use Rattle.mon_value.specs.declared.positions.FoundDown.{FoundDown as Found};
 ghost use Rattle.mon_value.specs.declared.positions.Leaf.{Leaf as LeafOf};
 ghost use Rattle.mon_value.specs.declared.positions.Range.{Range as RangeOf};
@@ -15,7 +15,7 @@ ghost use Rattle.query_core.specs.Program.{ask_of};
 ghost use Rattle.query_core.specs.ReadableSlots.{CanBeRead};
 ghost use Rattle.query_core.specs.Sessions.{Event, IsGrown, IsLicensed, IsSound, IsTrueAnswer, View, query_after};
 ghost use Rattle.query_core.specs.Sessions.{view_after};
-ghost use Rattle.query_core.specs.Settings.{Setting};
+ghost use Rattle.query_core.specs.Settings.{QuerySetting};
 ghost use Rattle.query_core.specs.Traces.{IsBetween};
 ghost use Rattle.query_core.specs.declared.answers.Answer.{Answer as AnswerOf};
 ghost use Rattle.query_core.specs.declared.answers.RoundFault.TheVariants.{NoReplica, StepLimit};
@@ -32,20 +32,20 @@ ghost use Rattle.query_core.specs.declared.stages.Stage.TheVariants.{Ended};
 /// replica, each slot that served at a length of the range's history that was found in the session is on a leaf of
 /// the range's zone that was found down in it, and all these are named.
 pub fn sessions_answer_rightly()
-    ensures answered { (store : Store) (setting : Setting) (moment : ℤ) (view : View)
+    ensures answered { (store : Setting) (setting : QuerySetting) (moment : ℤ) (view : View)
         (events : List (Event store setting moment)) (answer : AnswerOf)
         → IsAskedOf store setting → pos 0 ≤ℤ moment → IsSound store view
         → IsLicensed store setting moment view (new_query setting) events
         → (query_after store setting moment (new_query setting) events).stage ≡ Ended (Ok answer)
         → IsAnsweredRightly store setting moment view.seen (view_after store setting moment view events).seen answer }
-    ensures stopped { (store : Store) (setting : Setting) (moment : ℤ) (view : View)
+    ensures stopped { (store : Setting) (setting : QuerySetting) (moment : ℤ) (view : View)
         (events : List (Event store setting moment)) (limit : ℕ) (trace : TraceOf)
         → IsAskedOf store setting → pos 0 ≤ℤ moment → IsSound store view
         → IsLicensed store setting moment view (new_query setting) events
         → (query_after store setting moment (new_query setting) events).stage ≡ Ended (Err (StepLimit limit trace))
         → IsStoppedRightly store setting moment view.seen (view_after store setting moment view events).seen limit
         trace }
-    ensures no_replica { (store : Store) (setting : Setting) (moment : ℤ) (view : View)
+    ensures no_replica { (store : Setting) (setting : QuerySetting) (moment : ℤ) (view : View)
         (events : List (Event store setting moment)) (range : RangeOf) (named : List Found)
         → IsAskedOf store setting → pos 0 ≤ℤ moment → IsSound store view
         → IsLicensed store setting moment view (new_query setting) events
@@ -58,7 +58,7 @@ pub fn sessions_answer_rightly()
 /// resolved to it can be read together, at each length of the leaf's history that is found then. The zones, ranges
 /// and leaves that it asks of are there.
 pub fn sessions_may_go_on()
-    ensures told { (store : Store) (setting : Setting) (moment : ℤ) (view : View)
+    ensures told { (store : Setting) (setting : QuerySetting) (moment : ℤ) (view : View)
         (events : List (Event store setting moment)) (later : View) (answer : ToldOf)
         → IsAskedOf store setting → pos 0 ≤ℤ moment → IsSound store view
         → IsLicensed store setting moment view (new_query setting) events
@@ -67,7 +67,7 @@ pub fn sessions_may_go_on()
         IsTrueAnswer store setting moment (view_after store setting moment view events) later query.avoided
         (slots_at query) (ask_of setting query.stage) answer
         → MayBeTold setting query.stage answer }
-    ensures read { (store : Store) (setting : Setting) (moment : ℤ) (view : View)
+    ensures read { (store : Setting) (setting : QuerySetting) (moment : ℤ) (view : View)
         (events : List (Event store setting moment)) (later : View) (leaf : LeafOf) (cut : ℕ)
         → IsAskedOf store setting → pos 0 ≤ℤ moment → IsSound store view
         → IsLicensed store setting moment view (new_query setting) events
@@ -77,7 +77,7 @@ pub fn sessions_may_go_on()
         → let query : Query = query_after store setting moment (new_query setting) events in
         ask_of setting query.stage ≡ Visit leaf
         → CanBeRead (typed_of setting) (take cut (leaf_history later.seen leaf)) (slots_at query) }
-    ensures there { (store : Store) (setting : Setting) (moment : ℤ) (view : View)
+    ensures there { (store : Setting) (setting : QuerySetting) (moment : ℤ) (view : View)
         (events : List (Event store setting moment))
         → IsAskedOf store setting → pos 0 ≤ℤ moment → IsSound store view
         → IsLicensed store setting moment view (new_query setting) events

@@ -11,7 +11,7 @@ use crate::answers::{Answer, RoundFault};
 use crate::asks::{Ask, Told};
 use crate::loadings::Loading;
 use crate::mixing::told_so;
-use crate::settings::Setting;
+use crate::settings::QuerySetting;
 use crate::stages::Stage;
 use mon_topo::Topology;
 use mon_value::{Leaf, Leaves, OutOfMemory, RangeSlots};
@@ -23,7 +23,7 @@ use std::mem;
 /// A query that is asked of zones. It says what is done next, and is told how that went.
 #[derive(Drop)]
 pub struct QueryMachine {
-    setting: Setting,
+    setting: QuerySetting,
     avoided: Leaves,
     nowhere: RangeSlots,
     stage: Stage,
@@ -62,7 +62,7 @@ impl QueryMachine {
             ≡ spec.new_query (record { plan = plan; areas = areas_of topology.now; limit = limit })) }
     {
         Ok(QueryMachine {
-            setting: Setting::new(alloc, plan, topology, limit)?,
+            setting: QuerySetting::new(alloc, plan, topology, limit)?,
             avoided: Leaves::new(alloc),
             nowhere: RangeSlots::new(alloc),
             stage: Stage::Rooting(Loading::none(alloc)),
@@ -152,7 +152,7 @@ impl QueryMachine {
 
 // Goes on by an answer.
 fn tell(
-    setting: &Setting,
+    setting: &QuerySetting,
     avoided: &mut Leaves,
     stage: &mut Stage,
     told: Told,
@@ -166,7 +166,7 @@ fn tell(
 }
 
 // Goes on to the stage to which an answer leads.
-fn advance(setting: &Setting, stage: &mut Stage, told: Told) -> Result<(), OutOfMemory>
+fn advance(setting: &QuerySetting, stage: &mut Stage, told: Told) -> Result<(), OutOfMemory>
     requires { MayBeTold setting.now stage.old told }
     ensures stage { OnOk result (LeadsTo setting.now stage.old told stage.new) }
 {

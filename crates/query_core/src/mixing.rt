@@ -7,7 +7,7 @@ ghost use Rattle.query_core.specs.Mixtures as spec;
 use crate::answers::Answer;
 use crate::asks::Told;
 use crate::courses::Course;
-use crate::settings::Setting;
+use crate::settings::QuerySetting;
 use crate::stages::{Stage, Step, Turn, next_zone, stopped};
 use mixer::{ZoneAnswers, mix_root, mix_zone};
 use mon_fold::LeafAnswers;
@@ -18,7 +18,11 @@ use std::mem;
 
 /// The stage to which an answer leads, once what it gathered is mixed.
 #[tactic(auto, using(crate::proofs::StageLemmas::may_settle, crate::proofs::StageLemmas::settles_so))]
-pub(crate) fn told_so(setting: &Setting, stage: Stage, told: Told) -> Result<Stage, OutOfMemory>
+pub(crate) fn told_so(
+    setting: &QuerySetting,
+    stage: Stage,
+    told: Told,
+) -> Result<Stage, OutOfMemory>
     requires { spec.MayBeTold setting.now stage told }
     ensures stage { IfOk result (spec.LeadsTo setting.now stage told) }
 {
@@ -27,7 +31,7 @@ pub(crate) fn told_so(setting: &Setting, stage: Stage, told: Told) -> Result<Sta
 }
 
 // The stage to which a step leads.
-fn settled(setting: &Setting, step: Step) -> Result<Stage, OutOfMemory>
+fn settled(setting: &QuerySetting, step: Step) -> Result<Stage, OutOfMemory>
     requires { spec.MayMix setting.now step }
     ensures stage { IfOk result (spec.Settles setting.now step) }
 {
@@ -39,7 +43,11 @@ fn settled(setting: &Setting, step: Step) -> Result<Stage, OutOfMemory>
 
 // The answers of a zone's leaves are mixed, unless their load is above the limit.
 #[tactic(auto, using(crate::proofs::MixLemmas::zone_mixed))]
-fn mixed_zone(setting: &Setting, course: Course, answers: LeafAnswers) -> Result<Stage, OutOfMemory>
+fn mixed_zone(
+    setting: &QuerySetting,
+    course: Course,
+    answers: LeafAnswers,
+) -> Result<Stage, OutOfMemory>
     requires { spec.HasParts setting.now course.answers answers }
     ensures stage { IfOk result (spec.IsZoneMixed setting.now course answers) }
 {
@@ -56,7 +64,7 @@ fn mixed_zone(setting: &Setting, course: Course, answers: LeafAnswers) -> Result
 }
 
 // Where a query goes on at a stage, it is at this stage; once it is through with all zones, their answers are mixed.
-fn turned(setting: &Setting, turn: Turn) -> Result<Stage, OutOfMemory>
+fn turned(setting: &QuerySetting, turn: Turn) -> Result<Stage, OutOfMemory>
     requires { spec.MayMixRoot setting.now turn }
     ensures stage { IfOk result (spec.TurnSettles setting.now turn) }
 {
@@ -68,7 +76,7 @@ fn turned(setting: &Setting, turn: Turn) -> Result<Stage, OutOfMemory>
 
 // The answers of all zones are mixed, unless their load is above the limit.
 #[tactic(auto, using(crate::proofs::MixLemmas::asked_zones, crate::proofs::MixLemmas::root_stops))]
-fn mixed_root(setting: &Setting, course: Course) -> Result<Stage, OutOfMemory>
+fn mixed_root(setting: &QuerySetting, course: Course) -> Result<Stage, OutOfMemory>
     requires { HasZoneParts (typed_tree setting.now.plan.typed) setting.now.limit course.answers }
     ensures stage { IfOk result (spec.IsRootMixed setting.now course) }
 {

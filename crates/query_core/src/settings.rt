@@ -13,14 +13,14 @@ use std::marker::Model;
 
 /// The plan of a query, the zones that it is asked of, and the limit of its load.
 #[derive(Drop)]
-pub(crate) struct Setting {
+pub(crate) struct QuerySetting {
     alloc: Global,
     plan: Plan,
     areas: Vec<Area>,
     limit: u64,
 }
 
-impl Model for Setting {
+impl Model for QuerySetting {
     ghost use Rattle.std.specs.Prelude.{◌≤◌, ◌^◌, length};
     ghost use Rattle.mon_value.specs.declared.limits.TheConstants.{ROW_BITS};
     ghost use Rattle.std.specs.List.{AllByRecursion};
@@ -32,7 +32,7 @@ impl Model for Setting {
 
     ghost coded = { Prim.hlevel (codes, node.the_row.coded, formula.the_row.coded) };
 
-    ghost Value = { spec.Setting };
+    ghost Value = { spec.QuerySetting };
 
     ghost view = { λ setting. record { plan = setting.plan; areas = setting.areas.items; limit = setting.limit } };
 
@@ -43,18 +43,18 @@ impl Model for Setting {
     } };
 }
 
-impl Setting {
+impl QuerySetting {
     pub(crate) fn new(
         alloc: Global,
         plan: Plan,
         topology: &Topology,
         limit: u64,
-    ) -> Result<Setting, OutOfMemory>
+    ) -> Result<QuerySetting, OutOfMemory>
         requires limit { limit ≤ 2 ^ ROW_BITS }
         ensures new { IfOk result (λ setting.
             setting ≡ record { plan = plan; areas = areas_of topology.now; limit = limit }) }
     {
-        Ok(Setting {
+        Ok(QuerySetting {
             alloc,
             plan,
             areas: areas_of(alloc, topology)?,

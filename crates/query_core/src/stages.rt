@@ -12,7 +12,7 @@ use crate::loadings::Loading;
 use crate::looks::Look;
 use crate::openings::{let_in, some_flag};
 use crate::rounds::Round;
-use crate::settings::Setting;
+use crate::settings::QuerySetting;
 use crate::visits::Visits;
 use mon_fold::{LeafAnswer, LeafAnswers};
 use mon_value::{Leaf, OutOfMemory, Range, Slot};
@@ -66,7 +66,7 @@ impl Stage {
     }
 
     /// Where an answer leads.
-    pub(crate) fn told(self, setting: &Setting, told: Told) -> Result<Step, OutOfMemory>
+    pub(crate) fn told(self, setting: &QuerySetting, told: Told) -> Result<Step, OutOfMemory>
         ensures step { IfOk result (λ step. step ≡ spec.after setting.now self told) }
     {
         match told {
@@ -81,7 +81,7 @@ impl Stage {
     }
 
     /// A word was loaded.
-    fn told_word(self, setting: &Setting, word: u64, seen: Seen) -> Result<Step, OutOfMemory>
+    fn told_word(self, setting: &QuerySetting, word: u64, seen: Seen) -> Result<Step, OutOfMemory>
         ensures step { IfOk result (λ step. step ≡ spec.told_word setting.now self word seen) }
     {
         match self {
@@ -97,7 +97,7 @@ impl Stage {
     }
 
     /// The range resolves to a slot.
-    fn told_slot(self, setting: &Setting, slot: Slot, leaf: Leaf) -> Result<Step, OutOfMemory>
+    fn told_slot(self, setting: &QuerySetting, slot: Slot, leaf: Leaf) -> Result<Step, OutOfMemory>
         ensures step { IfOk result (λ step. step ≡ spec.told_slot self slot leaf) }
     {
         match self {
@@ -109,7 +109,7 @@ impl Stage {
     }
 
     /// The range resolves to no slot.
-    fn told_no_slot(self, setting: &Setting) -> Result<Step, OutOfMemory>
+    fn told_no_slot(self, setting: &QuerySetting) -> Result<Step, OutOfMemory>
         ensures step { IfOk result (λ step. step ≡ spec.told_no_slot self) }
     {
         match self {
@@ -122,7 +122,7 @@ impl Stage {
     }
 
     /// The leaf is down: the zone begins again at its first range, and what was gathered there is let go of.
-    fn told_down(self, setting: &Setting, cut: u64) -> Result<Step, OutOfMemory>
+    fn told_down(self, setting: &QuerySetting, cut: u64) -> Result<Step, OutOfMemory>
         ensures step { IfOk result (λ step. step ≡ spec.told_down self cut) }
     {
         match self {
@@ -166,7 +166,7 @@ impl Stage {
     }
 
     /// The leaf's load is above the limit.
-    fn told_over(self, setting: &Setting, cut: u64) -> Result<Step, OutOfMemory>
+    fn told_over(self, setting: &QuerySetting, cut: u64) -> Result<Step, OutOfMemory>
         ensures step { IfOk result (λ step. step ≡ spec.told_over setting.now self cut) }
     {
         match self {
@@ -194,7 +194,7 @@ fn refused(fault: RoundFault) -> Step
 }
 
 /// The end of a query whose load is above the limit.
-pub(crate) fn stopped(setting: &Setting, course: Course) -> Result<Stage, OutOfMemory>
+pub(crate) fn stopped(setting: &QuerySetting, course: Course) -> Result<Stage, OutOfMemory>
     ensures stage { IfOk result (λ stage. stage ≡ spec.stopped_stage setting.now course) }
 {
     let trace = course.into_trace(setting.alloc())?;
@@ -202,7 +202,7 @@ pub(crate) fn stopped(setting: &Setting, course: Course) -> Result<Stage, OutOfM
 }
 
 // A word of the root's was loaded.
-fn loaded_root(setting: &Setting, loading: Loading) -> Result<Step, OutOfMemory>
+fn loaded_root(setting: &QuerySetting, loading: Loading) -> Result<Step, OutOfMemory>
     ensures step { IfOk result (λ step. step ≡ spec.loaded_root setting.now loading) }
 {
     if loading.is_whole(setting.plan()) {
@@ -214,7 +214,7 @@ fn loaded_root(setting: &Setting, loading: Loading) -> Result<Step, OutOfMemory>
 }
 
 /// Goes on to the next zone that the root's words let in, and past those before it.
-pub(crate) fn next_zone(setting: &Setting, course: Course) -> Result<Turn, OutOfMemory>
+pub(crate) fn next_zone(setting: &QuerySetting, course: Course) -> Result<Turn, OutOfMemory>
     ensures turn { IfOk result (λ turn. turn ≡ spec.next_zone (drop course.begun setting.now.areas) course) }
 {
     let mut course = course;
@@ -232,7 +232,7 @@ pub(crate) fn next_zone(setting: &Setting, course: Course) -> Result<Turn, OutOf
 
 // A zone's word was loaded for the first time.
 fn loaded_zone(
-    setting: &Setting,
+    setting: &QuerySetting,
     course: Course,
     round: Round,
     loading: Loading,
@@ -248,7 +248,7 @@ fn loaded_zone(
 
 // All words of a zone were loaded for the first time.
 fn opened_zone(
-    setting: &Setting,
+    setting: &QuerySetting,
     course: Course,
     round: Round,
     loading: Loading,
@@ -266,7 +266,7 @@ fn opened_zone(
 
 // Is through with a zone that its words left out.
 fn left_out(
-    setting: &Setting,
+    setting: &QuerySetting,
     course: Course,
     area: &Area,
     seen: &Seen,
@@ -279,7 +279,7 @@ fn left_out(
 }
 
 // Goes on to the next range of the zone, or to its words, which are loaded again.
-fn resolving(setting: &Setting, course: Course, round: Round) -> Step
+fn resolving(setting: &QuerySetting, course: Course, round: Round) -> Step
     ensures step { result ≡ spec.resolving course round }
 {
     match round.next_range() {
@@ -290,7 +290,7 @@ fn resolving(setting: &Setting, course: Course, round: Round) -> Step
 
 // A zone's word was loaded again.
 fn loaded_again(
-    setting: &Setting,
+    setting: &QuerySetting,
     course: Course,
     round: Round,
     loading: Loading,
@@ -306,7 +306,11 @@ fn loaded_again(
 }
 
 // Before the first visit of a round, once the zone's words were loaded again.
-fn begin_visits(setting: &Setting, round: &Round, loading: &Loading) -> Result<Visits, OutOfMemory>
+fn begin_visits(
+    setting: &QuerySetting,
+    round: &Round,
+    loading: &Loading,
+) -> Result<Visits, OutOfMemory>
     ensures visits { IfOk result (λ visits. visits ≡ spec.begin_visits setting.now round.now loading.now) }
 {
     let alloc = setting.alloc();

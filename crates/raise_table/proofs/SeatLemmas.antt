@@ -9,7 +9,7 @@ use Rattle.std.proofs.lemmas.List.Sums.{sum_by-set, sum_by_push}
 use Rattle.atomic_table.proofs.Lists.{at_set, at_snoc, at_longer, at_last, set_else, set_here}
 use Rattle.raise_table.specs.declared.places.ZoneLeaf.{ZoneLeaf}
 use Rattle.raise_table.specs.declared.views.SeatView.{SeatView}
-use Rattle.raise_table.specs.RaiseRule.{HasSeat, owners, times}
+use Rattle.raise_table.specs.RaiseRule.{HasSeat, owners, times_leaf}
 
 at_within : (seats : List SeatView) (id : ℕ) (v : SeatView) → get_elem? seats id ≡ some v → id < length seats
 at_within [] id v e = absurd (some-ne-none v (sym e))
@@ -42,10 +42,10 @@ pub seat_changed : (seats : List SeatView) (id : ℕ) (v w : SeatView) → get_e
 seat_changed seats id v w is = (id, set_here seats id w (at_within seats id v is))
 
 pub owners_changed : (leaf : ZoneLeaf) (seats : List SeatView) (id : ℕ) (v w : SeatView) → get_elem? seats id ≡ some v
-    → owners leaf (set seats id w) + times leaf v.leaves ≡ owners leaf seats + times leaf w.leaves
-owners_changed leaf seats id v w is = ap (λ u. owners leaf (set seats id w) + times leaf u.leaves)
+    → owners leaf (set seats id w) + times_leaf leaf v.leaves ≡ owners leaf seats + times_leaf leaf w.leaves
+owners_changed leaf seats id v w is = ap (λ u. owners leaf (set seats id w) + times_leaf leaf u.leaves)
     (sym (at_found seats id v v is))
-    ∙ sum_by-set (λ seat. times leaf seat.leaves) seats id w v (at_within seats id v is)
+    ∙ sum_by-set (λ seat. times_leaf leaf seat.leaves) seats id w v (at_within seats id v is)
 
 -- ---- after a seat came
 
@@ -63,8 +63,8 @@ pub seat_last : (seats : List SeatView) (w : SeatView) → HasSeat (seats ++ w �
 seat_last seats w = (length seats, at_last seats w (length seats) refl)
 
 pub owners_came : (leaf : ZoneLeaf) (seats : List SeatView) (w : SeatView) → owners leaf (seats ++ w ∷ [])
-    ≡ owners leaf seats + times leaf w.leaves
-owners_came leaf seats w = sum_by_push (λ seat. times leaf seat.leaves) seats w
+    ≡ owners leaf seats + times_leaf leaf w.leaves
+owners_came leaf seats w = sum_by_push (λ seat. times_leaf leaf seat.leaves) seats w
 
 -- ---- one seat
 

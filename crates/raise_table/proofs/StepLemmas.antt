@@ -13,11 +13,11 @@ use Rattle.raise_table.specs.declared.places.Place.{Place}
 use Rattle.raise_table.specs.declared.places.ZoneLeaf.{ZoneLeaf}
 use Rattle.raise_table.specs.declared.views.Hints.{Hints}
 use Rattle.raise_table.specs.declared.views.SeatView.{SeatView}
-use Rattle.raise_table.specs.Places.{bit_of, bucket_of, place_of, word_at, word_count, word_number}
+use Rattle.raise_table.specs.Places.{bit_of, bucket_of_word, place_of_word, word_at, word_count, word_number}
 use Rattle.raise_table.specs.Seats.{HasKnown, MayRaise, Owner, after_load, after_raise, met, no_hints, note}
 use Rattle.raise_table.specs.Seats.{without_notes}
-use Rattle.raise_table.specs.RaiseRule.{KeepsRaiseRule, KnowsTrueBits, same_zone_leaf, times}
-use Rattle.raise_table.specs.Steps.{Loads, Raises, Seated, after_deal, dealt, view_after_load, meeting, raising}
+use Rattle.raise_table.specs.RaiseRule.{KeepsRaiseRule, KnowsTrueBits, same_zone_leaf, times_leaf}
+use Rattle.raise_table.specs.Steps.{Loads, RaisesBucket, Seated, after_deal, dealt, view_after_load, meeting, raising}
 use Rattle.raise_table.specs.Steps.{spent_view}
 use Rattle.raise_table.specs.Steps.{split_off}
 use Rattle.raise_table.proofs.WordLemmas.{bucket_found, place_found, word_numbered}
@@ -37,8 +37,8 @@ pub keeps_load : (zones : List ℕ) (slots id : ℕ) (me : Seated) (word : ℕ) 
     (λ n. n) (Loads (step slots word 0 0 none) me)
 keeps_load zones slots id me word s rule _ is _ =
     let found : ℕ = get_or s.words word 0 in
-    let place = place_of word in
-    let bucket = bucket_of word in
+    let place = place_of_word word in
+    let bucket = bucket_of_word word in
     let here : word_at s.words place bucket ≡ found = ap (λ i. get_or s.words i 0) (word_numbered word) in
     let known : HasKnown me.0.hints place bucket found = λ bit knows. subst (λ n. bit_at n bit ≡ 1) here
     (rule.known me.0 (id, is) place bucket bit knows) in
@@ -56,35 +56,36 @@ keeps_load zones slots id me word s rule _ is _ =
 -- what a load tells, at the place and the bucket of its word
 pub loaded_view : (me me' : Seated) (place : Place) (bucket word found : ℕ) → bucket < 4096 → word ≡ word_number place
     bucket
-    → me' ≡ (view_after_load (place_of word) (bucket_of word) found me.0, me.1) → me'.0.hints
+    → me' ≡ (view_after_load (place_of_word word) (bucket_of_word word) found me.0, me.1) → me'.0.hints
     ≡ after_load place bucket found
     me.0.hints
 loaded_view me me' place bucket word found low number is = ap (λ (m : Seated). m.0.hints) is
-    ∙ (λ i. after_load ((ap place_of number ∙ place_found place bucket low) i)
-    ((ap bucket_of number ∙ bucket_found place bucket low) i) found me.0.hints)
+    ∙ (λ i. after_load ((ap place_of_word number ∙ place_found place bucket low) i)
+    ((ap bucket_of_word number ∙ bucket_found place bucket low) i) found me.0.hints)
 
 pub loaded_known : (hints : Hints) (place : Place) (bucket word found : ℕ) → bucket < 4096 → word ≡ word_number place
     bucket
-    → HasKnown hints (place_of word) (bucket_of word) found → HasKnown hints place bucket found
+    → HasKnown hints (place_of_word word) (bucket_of_word word) found → HasKnown hints place bucket found
 loaded_known hints place bucket word found low number known = subst (λ (z : Place × ℕ). HasKnown hints z.0 z.1 found)
     (λ i. (
-      (ap place_of number ∙ place_found place bucket low) i,
-      (ap bucket_of number ∙ bucket_found place bucket low)
+      (ap place_of_word number ∙ place_found place bucket low) i,
+      (ap bucket_of_word number ∙ bucket_found place bucket low)
           i,
     )) known
 
 -- what a raise tells, at the place and the bucket of its word
 raise_tells : (place : Place) (bucket word bits power : ℕ) (v : SeatView) → bucket < 4096 → word ≡ word_number place
     bucket → bits ≡ power
-    → raising place bucket power v ≡ raising (place_of word) (bucket_of word) bits v
+    → raising place bucket power v ≡ raising (place_of_word word) (bucket_of_word word) bits v
 raise_tells place bucket word bits power v low number is =
-    λ i. raising ((sym (place_found place bucket low) ∙ ap place_of (sym number)) i)
-    ((sym (bucket_found place bucket low) ∙ ap bucket_of (sym number)) i) (sym is i) v
+    λ i. raising ((sym (place_found place bucket low) ∙ ap place_of_word (sym number)) i)
+    ((sym (bucket_found place bucket low) ∙ ap bucket_of_word (sym number)) i) (sym is i) v
 
 -- what the owner's seat is after it
 pub raised_view : (leaf : ZoneLeaf) (me me' : Seated) (place : Place) (bucket word bits : ℕ) → bucket < 4096 → word
     ≡ word_number place bucket → bits ≡ 2 ^ bit_of leaf place
-    → me' ≡ (raising (place_of word) (bucket_of word) bits me.0, me.1) → owner_of leaf me'.0 ≡ after_raise place bucket
+    → me' ≡ (raising (place_of_word word) (bucket_of_word word) bits me.0, me.1)
+    → owner_of leaf me'.0 ≡ after_raise place bucket
     (owner_of leaf me.0)
 raised_view leaf me me' place bucket word bits low number power is =
     ap (λ (m : Seated). owner_of leaf m.0) is
@@ -94,7 +95,7 @@ pub keeps_fetch_or : (zones : List ℕ) (slots id : ℕ) (me : Seated) (leaf : Z
     (bucket word bits : ℕ)
     → me.0.leaves ≡ leaf ∷ [] → MayRaise leaf me.0.raised place bucket → bucket < 4096 → word ≡ word_number place
     bucket → word < word_count zones → bits ≡ 2 ^ bit_of leaf place
-    → Allows (holds zones) slots id me word (λ n. bit_or n bits) (Raises (step slots word bits 0 none) me)
+    → Allows (holds zones) slots id me word (λ n. bit_or n bits) (RaisesBucket (step slots word bits 0 none) me)
 keeps_fetch_or zones slots id me leaf place bucket word bits own may low number within power s rule _ is _ =
     let w = raising place bucket (2 ^ bit_of leaf place) me.0 in
     let within' : word_number place bucket < length s.words = let e : length s.words ≡ word_count zones = rule.sized in
@@ -152,7 +153,8 @@ keeps_deal zones id v idle calm s rule is = let left = after_deal v in let right
       owned = λ leaf. owners_came leaf seats right ∙ (
           let c = owners_changed leaf s.views id v left is in
           let o = rule.owned leaf in
-          let t : times leaf (take 1 v.leaves) + times leaf (drop 1 v.leaves) ≡ times leaf v.leaves = sum_by-take-drop
+          let t : times_leaf leaf (take 1 v.leaves) + times_leaf leaf (drop 1 v.leaves)
+          ≡ times_leaf leaf v.leaves = sum_by-take-drop
           (λ other. cond (same_zone_leaf leaf other) 1 0) v.leaves 1 in
           omega arith
           );

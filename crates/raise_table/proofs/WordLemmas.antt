@@ -14,8 +14,9 @@ use native.Mathlib.Decide.{ℕ_discrete}
 use Rattle.raise_table.specs.declared.places.Place.{Place}
 use Rattle.raise_table.specs.declared.places.Place.TheVariants as at
 use Rattle.raise_table.specs.declared.places.ZoneLeaf.{ZoneLeaf}
-use Rattle.raise_table.specs.Places.{IsPlace, bit_of, word_count, bucket_of, leaves_from, leaves_in, leaves_of_zone}
-use Rattle.raise_table.specs.Places.{place_number, place_numbered, place_of, word_at, word_number, zone_leaf}
+use Rattle.raise_table.specs.Places.{IsPlaceAmong, bit_of, word_count, bucket_of_word, leaves_from, leaves_in}
+use Rattle.raise_table.specs.Places.{leaves_of_zone}
+use Rattle.raise_table.specs.Places.{place_number, place_numbered, place_of_word, word_at, word_number, zone_leaf}
 use Rattle.raise_table.specs.declared.views.Raised.{Raised}
 use Rattle.raise_table.specs.Seats.{MayRaise}
 use Rattle.raise_table.specs.Tables.{AreFew}
@@ -31,14 +32,14 @@ placed_number at.Root = refl
 placed_number (at.Zone zone) = refl
 
 -- each number is that of the word of its place and its bucket
-pub word_numbered : (word : ℕ) → word_number (place_of word) (bucket_of word) ≡ word
+pub word_numbered : (word : ℕ) → word_number (place_of_word word) (bucket_of_word word) ≡ word
 word_numbered word = ap (λ n. n * 4096 + word % 4096) (number_placed (word / 4096)) ∙ div-add-mod' word 4096
 
-pub place_found : (place : Place) (bucket : ℕ) → bucket < 4096 → place_of (word_number place bucket) ≡ place
+pub place_found : (place : Place) (bucket : ℕ) → bucket < 4096 → place_of_word (word_number place bucket) ≡ place
 place_found place bucket low = let n : ℕ = place_number place in let e : (n * 4096 + bucket) / 4096 ≡ n =
     omega arith in ap place_numbered e ∙ placed_number place
 
-pub bucket_found : (place : Place) (bucket : ℕ) → bucket < 4096 → bucket_of (word_number place bucket) ≡ bucket
+pub bucket_found : (place : Place) (bucket : ℕ) → bucket < 4096 → bucket_of_word (word_number place bucket) ≡ bucket
 bucket_found place bucket low = let n : ℕ = place_number place in let e : (n * 4096 + bucket) % 4096 ≡ bucket =
     omega arith in e
 
@@ -92,8 +93,10 @@ module _ (words : List ℕ) (place : Place) (bucket own : ℕ) (low : bucket < 4
   pub bit_cases : (other : Place) (name bit : ℕ) → name < 4096 → bit_at (word_at after other name) bit ≡ 1
       → (bit_at (word_at words other name) bit ≡ 1) ⊎ ((other ≡ place) × (name ≡ bucket) × (bit ≡ own))
   bit_cases other name bit low' is = dite (ℕ_discrete (word_number other name) (word_number place bucket))
-      (λ e. let p : other ≡ place = sym (place_found other name low') ∙ ap place_of e ∙ place_found place bucket low in
-      let b : name ≡ bucket = sym (bucket_found other name low') ∙ ap bucket_of e ∙ bucket_found place bucket low in
+      (λ e. let p : other ≡ place = sym (place_found other name low') ∙ ap place_of_word e
+      ∙ place_found place bucket low in
+      let b : name ≡ bucket = sym (bucket_found other name low') ∙ ap bucket_of_word e
+      ∙ bucket_found place bucket low in
       let found : bit_at (bit_or (word_at words place bucket) (2 ^ own)) bit ≡ 1 = ap (λ n. bit_at n bit) (sym here)
       ∙ ap (λ i. bit_at (get_or after i 0) bit) (sym e) ∙ is in
       elim (or_cases (word_at words place bucket) own bit found) [
@@ -134,7 +137,7 @@ leaf_is_low zones leaf few has = let r = leaf_from 0 zones leaf few.1 has in let
 
 -- ---- the words of a table
 
-pub word_within : (zones : List ℕ) (place : Place) (bucket : ℕ) → IsPlace (length zones) place → bucket < 4096
+pub word_within : (zones : List ℕ) (place : Place) (bucket : ℕ) → IsPlaceAmong (length zones) place → bucket < 4096
     → word_number place bucket < word_count zones
 word_within zones at.Root bucket is low = omega arith
 word_within zones (at.Zone zone) bucket is low = let n : ℕ = zone.0 in let m : ℕ = length zones in let h : n < m =
@@ -146,7 +149,7 @@ has_words zones count e = let n : ℕ = length zones in omega (arith, e)
 -- where a leaf may raise, the table has words
 pub may_has_place : (zones : List ℕ) (leaf : ZoneLeaf) (raised : List Raised) (place : Place) (bucket : ℕ)
     → AreFew zones → Contains (leaves_in zones) leaf
-    → MayRaise leaf raised place bucket → IsPlace (length zones) place
+    → MayRaise leaf raised place bucket → IsPlaceAmong (length zones) place
 may_has_place zones leaf raised at.Root bucket few has may = tt
 may_has_place zones leaf raised (at.Zone zone) bucket few has may = subst (λ z. z.0 < length zones) (sym may.0)
     (leaf_is_low zones leaf few has).0

@@ -41,11 +41,11 @@ place_numbered (suc n) = at.Zone (zone_numbered n)
 abbrev pub word_number : Place → ℕ → ℕ
 word_number place bucket = place_number place * MOST_BUCKETS + bucket
 
-abbrev pub place_of : ℕ → Place
-place_of word = place_numbered (word / MOST_BUCKETS)
+abbrev pub place_of_word : ℕ → Place
+place_of_word word = place_numbered (word / MOST_BUCKETS)
 
-abbrev pub bucket_of : ℕ → ℕ
-bucket_of word = word % MOST_BUCKETS
+abbrev pub bucket_of_word : ℕ → ℕ
+bucket_of_word word = word % MOST_BUCKETS
 
 -- how many words a table has
 abbrev pub word_count : List ℕ → ℕ
@@ -56,9 +56,9 @@ abbrev pub word_at : List ℕ → Place → ℕ → ℕ
 word_at words place bucket = slice_index words (word_number place bucket)
 
 -- the place is the root, or one of so many zones
-abbrev pub IsPlace : ℕ → Place → Type 0
-IsPlace zones at.Root = Unit {0}
-IsPlace zones (at.Zone zone) = zone.0 < zones
+abbrev pub IsPlaceAmong : ℕ → Place → Type 0
+IsPlaceAmong zones at.Root = Unit {0}
+IsPlaceAmong zones (at.Zone zone) = zone.0 < zones
 
 -- ---- bits
 

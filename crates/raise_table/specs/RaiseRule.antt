@@ -36,12 +36,12 @@ abbrev pub same_zone_leaf : ZoneLeaf → ZoneLeaf → Bool
 same_zone_leaf leaf other = (leaf.zone.0 == other.zone.0) && (leaf.child == other.child)
 
 -- how often a list of leaves has a leaf
-abbrev pub times : ZoneLeaf → List ZoneLeaf → ℕ
-times leaf leaves = count_by (same_zone_leaf leaf) leaves
+abbrev pub times_leaf : ZoneLeaf → List ZoneLeaf → ℕ
+times_leaf leaf leaves = count_by (same_zone_leaf leaf) leaves
 
 -- how many seats own a leaf
 abbrev pub owners : ZoneLeaf → List SeatView → ℕ
-owners leaf seats = sum_by (λ seat. times leaf seat.leaves) seats
+owners leaf seats = sum_by (λ seat. times_leaf leaf seat.leaves) seats
 
 pub record KeepsRaiseRule (zones words : List ℕ) (seats : List SeatView) : Type 0 where
   -- the root and each zone have a word for each bucket
@@ -57,4 +57,4 @@ pub record KeepsRaiseRule (zones words : List ℕ) (seats : List SeatView) : Typ
   -- in its zone an owner raised only what it had raised at the root
   pub ordered : (seat : SeatView) → HasSeat seats seat → RaisedInOrder seat
   -- each leaf has one owner: it has as many as it stands among the leaves of the zones
-  pub owned : (leaf : ZoneLeaf) → owners leaf seats ≡ times leaf (leaves_in zones)
+  pub owned : (leaf : ZoneLeaf) → owners leaf seats ≡ times_leaf leaf (leaves_in zones)

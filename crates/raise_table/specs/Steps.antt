@@ -3,7 +3,7 @@ use Rattle.std.specs.Prelude.{◌≡◌, ℕ, List, [], ◌∷◌, ◌++◌, dro
 use Rattle.atomic_table.specs.Table.{Me, Step}
 use Rattle.raise_table.specs.declared.places.Place.{Place}
 use Rattle.raise_table.specs.declared.views.SeatView.{SeatView}
-use Rattle.raise_table.specs.Places.{bucket_of, leaves_in, place_of}
+use Rattle.raise_table.specs.Places.{bucket_of_word, leaves_in, place_of_word}
 use Rattle.raise_table.specs.Seats.{HasKnown, after_load, after_set, met, no_hints, raised_at, without_notes}
 
 abbrev pub Seated : Type 0
@@ -49,12 +49,12 @@ spent_view = record { hints = no_hints; leaves = []; raised = [] }
 -- the word has every bit that the seat knew, and the seat knows it
 abbrev pub Loads : Step (Unit {0}) → Seated → ℕ → Seated → Type 0
 Loads step before found after =
-    HasKnown before.0.hints (place_of step.word) (bucket_of step.word) found
-    × (after ≡ (view_after_load (place_of step.word) (bucket_of step.word) found before.0, before.1))
+    HasKnown before.0.hints (place_of_word step.word) (bucket_of_word step.word) found
+    × (after ≡ (view_after_load (place_of_word step.word) (bucket_of_word step.word) found before.0, before.1))
 
 -- the seat raised the bucket at the place of the word
-abbrev pub Raises : Step (Unit {0}) → Seated → ℕ → Seated → Type 0
-Raises step before found after = after ≡ (
-  raising (place_of step.word) (bucket_of step.word) step.first before.0,
+abbrev pub RaisesBucket : Step (Unit {0}) → Seated → ℕ → Seated → Type 0
+RaisesBucket step before found after = after ≡ (
+  raising (place_of_word step.word) (bucket_of_word step.word) step.first before.0,
   before.1,
 )

@@ -3,7 +3,7 @@ use Rattle.std.specs.Prelude.{◌≡◌, ℕ, ◌<◌, ◌≤◌, List, length}
 use Rattle.std.specs.List.{All}
 use Rattle.atomic_table.specs.Seated.{TableId}
 use Rattle.raise_table.specs.declared.places.Place.{Place}
-use Rattle.raise_table.specs.Places.{IsPlace, word_count}
+use Rattle.raise_table.specs.Places.{IsPlaceAmong, word_count}
 use Rattle.mon_value.specs.declared.limits.TheConstants.{MOST_BUCKETS}
 
 -- the table itself, how many leaves each zone has, and the number of buckets
@@ -24,4 +24,4 @@ pub record IsShaped (raise : RaiseIdentity) : Type 0 where
 
 -- the table has a word for the place and the bucket
 abbrev pub HasWord : RaiseIdentity → Place → ℕ → Type 0
-HasWord raise place bucket = IsPlace (length raise.zones) place × (bucket < raise.buckets)
+HasWord raise place bucket = IsPlaceAmong (length raise.zones) place × (bucket < raise.buckets)

@@ -2,7 +2,7 @@
 ghost use Rattle.std.specs.Prelude.{◌≡◌, ℕ, ◌≤◌, ◌<◌, List, ◌++◌, length, IfOk, OnOk};
 ghost use Rattle.raise_table.specs.declared.places.ZoneLeaf as the;
 ghost use Rattle.raise_table.specs.Places.{bit_of, leaves_in, leaves_of_zone, word_number};
-ghost use Rattle.raise_table.specs.RaiseRule.{times};
+ghost use Rattle.raise_table.specs.RaiseRule.{times_leaf};
 
 use mon_value::{LeafCounts, ListOf, MOST_BUCKETS, OutOfMemory, Zone};
 use std::alloc::Global;
@@ -72,5 +72,5 @@ fn push_zone(leaves: &mut ListOf<ZoneLeaf>, zone: Zone, count: u32) -> Result<()
 
 /// A law: each leaf stands at most once among the leaves of the zones, so by the raise rule it has at most one owner.
 pub fn leaves_stand_once()
-    ensures once { (zones : List ℕ) (leaf : the.ZoneLeaf) → times leaf (leaves_in zones) ≤ 1 }
+    ensures once { (zones : List ℕ) (leaf : the.ZoneLeaf) → times_leaf leaf (leaves_in zones) ≤ 1 }
 {}

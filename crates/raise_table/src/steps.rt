@@ -28,9 +28,9 @@ impl Play<(), SeatView> for Load {
 pub(crate) struct Raise;
 
 impl Play<(), SeatView> for Raise {
-    ghost use Rattle.raise_table.specs.Steps.{Raises};
+    ghost use Rattle.raise_table.specs.Steps.{RaisesBucket};
 
-    ghost then = { Raises };
+    ghost then = { RaisesBucket };
 }
 
 /// A seat is split off that knows as much.

@@ -36,7 +36,7 @@ use Rattle.weave_core.specs.declared.writes.Writing.{Writing}
 use Rattle.write_core.proofs.KeepsLemmas.{changed_same}
 use Rattle.write_core.proofs.ViewLemmas.{joined_whole_range}
 use Rattle.write_core.specs.Invariant.{IsAcking, IsAt}
-use Rattle.write_core.specs.Marks.{ack_of, found_down, some_took}
+use Rattle.write_core.specs.Marks.{ack_of, found_in_mark, some_took}
 use Rattle.write_core.specs.Program.{Acking, Ended, Marked, Not, Stage, Verdict, end_of_verdict}
 use Rattle.write_core.specs.Steps.{with_acknowledgement, step}
 use Rattle.write_core.specs.Views.{View, joined_view, of_leaf, of_range, with_range_entry}
@@ -87,7 +87,7 @@ module _ (config : Config) (world : World) (i : ℕ) (store : Store) (writing : 
   later_by (Not (refused.Old last)) h = tt
   later_by (Not (refused.Full count)) h = tt
   later_by (Marked marks) h =
-      if_written (some_took marks) (ack_of range marks) (flat_map found_down marks)
+      if_written (some_took marks) (ack_of range marks) (flat_map found_in_mark marks)
       (IsLater (of_range world.truth range))
       (source_later (acknowledged_rows (of_range world.truth range)) writing.row h.going.source)
 
@@ -160,7 +160,7 @@ module _ (config : Config) (world : World) (i : ℕ) (store : Store) (writing : 
   change_is : (one : Verdict) → IsChangeSo (with_acknowledgement writer one) (end_of_verdict range one)
   change_is (Not (refused.Old last)) = quiet (end.Old last) refl
   change_is (Not (refused.Full count)) = quiet (end.Full count) refl
-  change_is (Marked marks) = change_by (some_took marks) (ack_of range marks) (flat_map found_down marks)
+  change_is (Marked marks) = change_by (some_took marks) (ack_of range marks) (flat_map found_in_mark marks)
 
   -- ---- it has ended
 

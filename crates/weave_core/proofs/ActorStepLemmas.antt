@@ -7,7 +7,8 @@ use Rattle.weave_core.specs.ActorAgreements.{IsActorSo, IsCourseSo}
 use Rattle.weave_core.specs.ActorSteps.{ActorSteps, HasStepped, IsIn, IsSomewhere, QueriedSo, WrittenSo}
 use Rattle.weave_core.specs.Core.{Core, Reader}
 use Rattle.weave_core.specs.QueryTurns.{IsAskedSomewhere, IsAsking, QueriesSo}
-use Rattle.weave_core.specs.States.{Asking, Dismissed, Eventless, Role, State, Undeclared, Writing, fault_in, store_of}
+use Rattle.weave_core.specs.States.{Asking, Dismissed, Eventless, Role, State, Undeclared, Writing, role_fault}
+use Rattle.weave_core.specs.States.{store_of}
 use Rattle.weave_core.specs.Steps.{StepsIn, with_role}
 use Rattle.weave_core.specs.WriteTurns.{IsAtWork, WritesSo}
 use Rattle.weave_core.specs.declared.actors.Actor.{Actor}
@@ -45,7 +46,7 @@ module _ (config : Config) (state : State (store_of config)) (i : ℕ) where
         (stepped.Ended text)
     refused_by Undeclared e h = absurd h
     refused_by (Eventless own) e h = record {
-      fault = ap (fault_in (store_of config) state i) e;
+      fault = ap (role_fault (store_of config) state i) e;
       after = with_role (store_of config) state i Dismissed;
       steps = subst (λ (role : Role). StepsIn (store_of config) role state i (stepped.Ended text)
           (with_role (store_of config) state i Dismissed)) (sym e)

@@ -8,7 +8,7 @@ use Rattle.query_core.specs.Machine.{Query, slots_at}
 use Rattle.query_core.specs.Mixtures.{MayBeTold}
 use Rattle.query_core.specs.Program.{ask_of}
 use Rattle.query_core.specs.Sessions.{IsSeenSo}
-use Rattle.query_core.specs.Settings.{Setting as Asked}
+use Rattle.query_core.specs.Settings.{QuerySetting}
 use Rattle.query_core.specs.declared.asks.Ask.{Ask}
 use Rattle.query_core.specs.declared.asks.Told.{Told}
 use Rattle.weave_core.proofs.ReaderAnswers.{reader_may, reader_there}
@@ -42,7 +42,7 @@ module _ (config : Config) (core : Core (store_of config)) (k : ℕ) (store : St
   abbrev query : Query
   query = query_now (store_of config) reader
 
-  abbrev asked : Asked
+  abbrev asked : QuerySetting
   asked = querying.machine.setting
 
   abbrev asks : Ask
@@ -80,7 +80,7 @@ module _ (config : Config) (core : Core (store_of config)) (k : ℕ) (store : St
       → MayBeTold querying.machine.setting querying.machine.stage answer
   may_tell answer is =
       subst (λ (one : Query). MayBeTold asked one.stage answer) asking.reader.now
-      (subst (λ (some : Asked). MayBeTold some query.stage answer) asking.reader.setting
+      (subst (λ (some : QuerySetting). MayBeTold some query.stage answer) asking.reader.setting
       (reader_may (store_of config) world reader kept own asking.reader.first asked_of from answer is))
 
   pub seen_here : IsSeenSo reader.view.seen (seen_of sight)

@@ -25,7 +25,8 @@ use Rattle.write_core.specs.Invariant.{IsGoing, IsMark, IsWriter}
 use Rattle.write_core.specs.Marks.{waiting}
 use Rattle.write_core.specs.Program.{Acking, Ended, Entering, Inside, Locking, Marked, Not, Reserving, Stage, Verdict}
 use Rattle.write_core.specs.Program.{after, ask_of, done_inside, enter, entering, inside, reserve, reserving}
-use Rattle.write_core.specs.Rounds.{Round, again, is_none_left, is_through, after_look, marks_of, round_of, after_skip}
+use Rattle.write_core.specs.Rounds.{Round, again, is_no_mark_left, is_through, after_look, round_marks, round_of}
+use Rattle.write_core.specs.Rounds.{after_skip}
 use Rattle.write_core.specs.Views.{View}
 use Rattle.write_core.specs.World.{World, Writer, view_of}
 use Rattle.write_core.specs.declared.asks.WriteAsk.{WriteAsk}
@@ -67,19 +68,19 @@ StandsAt (ask.Put slot leaf) stage = StandsBefore (λ round. Inside round [] [])
 StandsAt ask.Ack stage = (verdict : Verdict) × (stage ≡ Acking verdict)
 StandsAt ask.Finished stage = (verdict : Verdict) × (stage ≡ Ended verdict)
 
-reserving_at : (done left : List Mark) → is_none_left left ≡ false
+reserving_at : (done left : List Mark) → is_no_mark_left left ≡ false
     → StandsAt (reserve left) (Reserving (record { done = done; left = left }))
 reserving_at done [] some = absurd cc
 reserving_at done (mark ∷ left) some =
     record { done = done; mark = mark; left = left; is = refl; slot_is = refl; leaf_is = refl }
 
-entering_at : (done left : List Mark) → is_none_left left ≡ false
+entering_at : (done left : List Mark) → is_no_mark_left left ≡ false
     → StandsAt (enter left) (Entering (record { done = done; left = left }))
 entering_at done [] some = absurd cc
 entering_at done (mark ∷ left) some =
     record { done = done; mark = mark; left = left; is = refl; slot_is = refl; leaf_is = refl }
 
-inside_at : (done left : List Mark) (at_root in_zone : List ℕ) → is_none_left left ≡ false
+inside_at : (done left : List Mark) (at_root in_zone : List ℕ) → is_no_mark_left left ≡ false
     → StandsAt (inside left at_root in_zone) (Inside (record { done = done; left = left }) at_root in_zone)
 inside_at done [] at_root in_zone some = absurd cc
 inside_at done (mark ∷ left) (bucket ∷ at_root) in_zone some =
@@ -108,7 +109,7 @@ reserving_looks true round later e = later
 reserving_looks false round later e = e
 
 entering_looks : (b : Bool) (round : Round) → is_through round ≡ b
-    → LooksAtOne (cond b (Acking (Marked (marks_of round))) (Entering round))
+    → LooksAtOne (cond b (Acking (Marked (round_marks round))) (Entering round))
 entering_looks true round e = tt
 entering_looks false round e = e
 
@@ -185,8 +186,9 @@ going_inside done (mark ∷ left) [] [] e = cc
 going_acking : (verdict : Verdict) → IsGoingOn (Acking verdict)
 going_acking verdict e = cc
 
-going_entering_by : (b : Bool) (round : Round) → IsGoingOn (cond b (Acking (Marked (marks_of round))) (Entering round))
-going_entering_by true round = going_acking (Marked (marks_of round))
+going_entering_by : (b : Bool) (round : Round)
+    → IsGoingOn (cond b (Acking (Marked (round_marks round))) (Entering round))
+going_entering_by true round = going_acking (Marked (round_marks round))
 going_entering_by false round = going_enter round.done round.left
 
 pub going_entering : (round : Round) → IsGoingOn (entering round)
@@ -210,7 +212,7 @@ going_locked told.Done = λ e. cc
 
 -- ---- where it is inside of no leaf
 
-none_entering_by : (b : Bool) (round : Round) → leaf_inside (cond b (Acking (Marked (marks_of round)))
+none_entering_by : (b : Bool) (round : Round) → leaf_inside (cond b (Acking (Marked (round_marks round)))
     (Entering round)) ≡ None
 none_entering_by true round = refl
 none_entering_by false round = refl
@@ -237,7 +239,7 @@ none_locked told.Done = refl
 
 module _ (count : ℕ) where
   below_entering_by : (b : Bool) (round : Round)
-      → RaisesBelow count (cond b (Acking (Marked (marks_of round))) (Entering round))
+      → RaisesBelow count (cond b (Acking (Marked (round_marks round))) (Entering round))
   below_entering_by true round = tt
   below_entering_by false round = tt
 

@@ -30,9 +30,9 @@ use Rattle.mql_types.specs.declared.levels.Level.TheVariants as level
 use Rattle.mql_types.specs.declared.nodes.Node.TheVariants as node
 use Rattle.mql_types.specs.declared.plans.Plan.{Plan}
 use Rattle.query_core.specs.Machine.{new_query}
-use Rattle.query_core.specs.Settings.{Setting}
+use Rattle.query_core.specs.Settings.{QuerySetting}
 use Rattle.write_core.specs.Deeds.{IsUnused, acks_by, puts_by}
-use Rattle.write_core.specs.Invariant.{IsSettled}
+use Rattle.write_core.specs.Invariant.{IsRangeSettled}
 use Rattle.write_core.specs.Views.{IsSound}
 use Rattle.weave_core.proofs.CoreLemmas.{new_woven}
 use Rattle.weave_core.proofs.FirstLemmas as begun
@@ -44,7 +44,7 @@ use Rattle.weave_core.specs.FirstHistories.{first_histories, opened_here, opened
 use Rattle.weave_core.specs.FirstHistories.{slot_numbered}
 use Rattle.weave_core.specs.Licensed.{IsNewCore}
 use Rattle.weave_core.specs.Openings.{first_world}
-use Rattle.weave_core.specs.Schedules.{IsFirst}
+use Rattle.weave_core.specs.Schedules.{IsFirstState}
 use Rattle.weave_core.specs.States.{State, Undeclared, store_of}
 use Rattle.weave_core.specs.WeaveCalls.{BeginsSo}
 use Rattle.weave_core.specs.declared.actors.Actor.{Actor}
@@ -267,7 +267,7 @@ module _ (config : Config) (served : IsServed config) where
     | inr past ↦ never_opened range slot leaf (omega (arith, past))
   ]
 
-  settled : (range : Range) → IsSettled (first_view config) range
+  settled : (range : Range) → IsRangeSettled (first_view config) range
   settled range = record {
     rows = λ replica serves. record {
       opened = opened_serving range replica serves;
@@ -309,7 +309,7 @@ module _ (config : Config) (served : IsServed config) where
     buckets = [];
   }
 
-  abbrev no_setting : Setting
+  abbrev no_setting : QuerySetting
   no_setting = record { plan = no_plan; areas = []; limit = 0 }
 
   abbrev first_reader : Reader (store_of config)
@@ -341,7 +341,7 @@ module _ (config : Config) (served : IsServed config) where
     readers = λ i. record { begin = refl; session = refl; view = refl };
   }
 
-  is_first : IsFirst config first_state
+  is_first : IsFirstState config first_state
   is_first = record { new = new_core; seen = refl; roles = λ k. refl }
 
 -- ---- actors

@@ -8,7 +8,7 @@ use Rattle.mon_hints.specs.HistoryBuckets.{history_buckets}
 use Rattle.mon_meaning.specs.LeafAnswers.{IsLeafPart, IsOverLeaf}
 use Rattle.mon_topo.proofs.FrontLemmas.{begins_length}
 use Rattle.mon_topo.specs.Settings.{zone_of_leaf}
-use Rattle.mon_topo.specs.Settings.{Setting as Store}
+use Rattle.mon_topo.specs.Settings.{Setting}
 use Rattle.mon_value.specs.Positions.{leaf_numbered}
 use Rattle.mon_value.specs.LeafHistories.{is_down}
 use Rattle.mon_value.specs.declared.histories.Entry.{Entry}
@@ -21,7 +21,7 @@ use Rattle.query_core.specs.Mixtures.{typed_of}
 use Rattle.query_core.specs.Openings.{is_plan_met}
 use Rattle.query_core.specs.Sessions as session
 use Rattle.query_core.specs.Sessions.{IsFoundSo, IsLicensed, IsLicensedEvent, IsTrueAnswer, query_after, view_after}
-use Rattle.query_core.specs.Settings.{Setting}
+use Rattle.query_core.specs.Settings.{QuerySetting}
 use Rattle.query_core.specs.Traces.{first_serving, slot_rows}
 use Rattle.query_core.specs.declared.asks.Ask.{Ask}
 use Rattle.query_core.specs.declared.asks.Ask.TheVariants as ask
@@ -36,14 +36,14 @@ use Rattle.write_core.specs.Invariant.{IsKept}
 use Rattle.write_core.specs.Views.{IsViewWithin, View, joined_view, of_leaf, of_range}
 use Rattle.write_core.specs.World.{IsPart, World}
 use Rattle.weave_core.specs.Core.{CanCome, CanGoOn, Core, CoreEvent, Happens, Hears, IsLookedAt, IsTold, MayTell}
-use Rattle.weave_core.specs.Core.{Reader, Tells, asked_now, begun_with, came, gone_on, query_now, root_word_bits}
+use Rattle.weave_core.specs.Core.{Reader, Tells, asked_now, begun_with, came, core_gone_on, query_now, root_word_bits}
 use Rattle.weave_core.specs.Core.{seen_by, told_on, view_then, view_told, with_bits, world_then, world_told}
 use Rattle.weave_core.specs.Core.{zone_word_bits}
 use Rattle.weave_core.specs.Licensed.{IsNewCore, IsNewReader, IsReader, IsWoven}
 
 -- ---- a session with one event more
 
-module _ (store : Store) (setting : Setting) (moment : ℤ) where
+module _ (store : Setting) (setting : QuerySetting) (moment : ℤ) where
   abbrev Told' : Type 0
   Told' = session.Event store setting moment
 
@@ -71,8 +71,8 @@ take_whole : {X : Type 0} (xs : List X) → take (length xs) xs ≡ xs
 take_whole [] = refl
 take_whole (x ∷ xs) = ap (λ rest. x ∷ rest) (take_whole xs)
 
-module _ (store : Store) (setting : Setting) (moment : ℤ) (world : World) (view : View) (kept : IsKept store world)
-    (part : IsPart store world view) where
+module _ (store : Setting) (setting : QuerySetting) (moment : ℤ) (world : World) (view : View)
+    (kept : IsKept store world) (part : IsPart store world view) where
   free_range : (avoided : List Leaf) (slots : List RangeSlot) (range : Range) (answer : Told)
       → IsTold store setting moment world view avoided slots (ask.Resolve range) answer
       → world.range_holder range.0 ≡ None
@@ -293,11 +293,11 @@ module _ (store : Store) (setting : Setting) (moment : ℤ) (world : World) (vie
 
 -- ---- each reader
 
-pub sound_so : (store : Store) (world : World) (view : View) → IsPart store world view → session.IsSound store
+pub sound_so : (store : Setting) (world : World) (view : View) → IsPart store world view → session.IsSound store
     (seen_by view)
 sound_so store world view part = record { held = part.sound.held; covered = λ leaf here. part.sound.covered leaf }
 
-module _ (store : Store) (world : World) (reader : Reader store) (kept : IsKept store world)
+module _ (store : Setting) (world : World) (reader : Reader store) (kept : IsKept store world)
     (own : IsReader store world reader) (answer : Told) (stage : Stage) (may : MayTell store world reader answer stage)
   where
     abbrev query : Query
@@ -336,7 +336,7 @@ module _ (store : Store) (world : World) (reader : Reader store) (kept : IsKept 
           (record { answer = answer; view = seen_by next; stage = stage });
     }
 
-reader_stays : (store : Store) (before after : World) (reader : Reader store)
+reader_stays : (store : Setting) (before after : World) (reader : Reader store)
     → ((other : View) → IsPart store before other → IsPart store after other) → IsReader store before reader
     → IsReader store after reader
 reader_stays store before after reader stays h = record {
@@ -348,7 +348,7 @@ reader_stays store before after reader stays h = record {
 
 -- ---- each event
 
-came_woven : (store : Store) (core : Core store) (event : CoreEvent store) → CanCome store core event
+came_woven : (store : Setting) (core : Core store) (event : CoreEvent store) → CanCome store core event
     → IsWoven store core
     → IsWoven store (came store core event)
 came_woven store core (Happens event) can woven = record {
@@ -383,15 +383,15 @@ came_woven store core (Hears i view) can woven =
           (λ j apart. woven.readers j);
     }
 
-pub stays_woven : (store : Store) (core : Core store) (events : List (CoreEvent store)) → CanGoOn store core events
-    → IsWoven store core → IsWoven store (gone_on store core events)
+pub stays_woven : (store : Setting) (core : Core store) (events : List (CoreEvent store)) → CanGoOn store core events
+    → IsWoven store core → IsWoven store (core_gone_on store core events)
 stays_woven store core [] can woven = woven
 stays_woven store core (event ∷ events) can woven =
     stays_woven store (came store core event) events can.1 (came_woven store core event can.0 woven)
 
 -- ---- the beginning
 
-pub new_woven : (store : Store) (core : Core store) → IsNewCore store core → IsWoven store core
+pub new_woven : (store : Setting) (core : Core store) → IsNewCore store core → IsWoven store core
 new_woven store core new = record {
   world = new_kept store core.world new.world;
   readers = λ i. new_reader (core.readers i) (new.readers i);

@@ -5,7 +5,7 @@ use Rattle.std.specs.Option.{option_copied}
 use Rattle.mon_config.specs.declared.config.Config.{Config}
 use Rattle.query_core.specs.Machine.{Query}
 use Rattle.query_core.specs.Program as query
-use Rattle.query_core.specs.Settings.{Setting}
+use Rattle.query_core.specs.Settings.{QuerySetting}
 use Rattle.query_core.specs.declared.asks.Ask.{Ask}
 use Rattle.query_core.specs.declared.asks.Ask.TheVariants as query_ask
 use Rattle.weave_core.specs.ActorAgreements.{Agrees, IsActorSo, IsCourseSo, IsQuerying, IsWriting, actor_numbered}
@@ -14,7 +14,7 @@ use Rattle.weave_core.specs.Courses.{event_of, is_over}
 use Rattle.weave_core.specs.EventNames.{event_of_query, event_of_write}
 use Rattle.weave_core.specs.States as spec
 use Rattle.weave_core.specs.States.{Asking, Dismissed, Eventless, Role, State, Undeclared, Writing, begun_in}
-use Rattle.weave_core.specs.States.{declared_in, ended_in, fault_in, next_in, store_of, write_asks}
+use Rattle.weave_core.specs.States.{declared_in, ended_in, role_fault, next_in, store_of, write_asks}
 use Rattle.weave_core.specs.declared.actors.Actor.{Actor}
 use Rattle.weave_core.specs.declared.actors.Course.{Course}
 use Rattle.weave_core.specs.declared.actors.Course.TheVariants as course
@@ -73,7 +73,7 @@ module _ (config : Config) (state : State (store_of config)) (i : ℕ) where
       → IsQuerying config i Doer' Reader' querying begun sight
       → query.ask_of querying.machine.setting querying.machine.stage ≡ asked_now (store_of config) Reader'
   query_asks_so querying begun sight h =
-      sym (ap (λ (setting : Setting). query.ask_of setting (query_now (store_of config) Reader').stage)
+      sym (ap (λ (setting : QuerySetting). query.ask_of setting (query_now (store_of config) Reader').stage)
       h.reader_so.setting
       ∙ ap (λ (now : Query). query.ask_of querying.machine.setting now.stage) h.reader_so.now)
 
@@ -125,7 +125,7 @@ module _ (config : Config) (state : State (store_of config)) (i : ℕ) where
   declared_so Asking (Some own) h = refl
 
   pub no_actor : (role : Role) → IsActorSo config i Doer' Reader' role None
-      → fault_in (store_of config) state i role ≡ Some fault.NoActor
+      → role_fault (store_of config) state i role ≡ Some fault.NoActor
   no_actor Undeclared h = refl
   no_actor (Eventless text) h = absurd h
   no_actor Dismissed h = absurd h

@@ -14,7 +14,7 @@ use Rattle.mon_value.specs.declared.rows.Row.{Row}
 use Rattle.mql_types.specs.Nodes.{TypedTree}
 use Rattle.query_core.specs.Machine.{Query, new_query}
 use Rattle.query_core.specs.Program as query
-use Rattle.query_core.specs.Settings.{Setting}
+use Rattle.query_core.specs.Settings.{QuerySetting}
 use Rattle.query_core.specs.declared.asks.Ask.TheVariants as query_ask
 use Rattle.query_core.specs.declared.stages.Stage.{Stage}
 use Rattle.weave_core.proofs.CoreLemmas.{stays_woven}
@@ -22,7 +22,8 @@ use Rattle.weave_core.proofs.HolderLemmas.{holders_changed}
 use Rattle.weave_core.proofs.NumberLemmas.{agrees_at, set_apart, set_at, shared_beside}
 use Rattle.weave_core.proofs.ReachedLemmas.{fresh_reader, part_of}
 use Rattle.weave_core.proofs.StepLemmas.{Leaves}
-use Rattle.weave_core.specs.ActorAgreements.{Agrees, IsActorSo, IsQuerying, IsStander, IsWriting, actor_numbered, flat}
+use Rattle.weave_core.specs.ActorAgreements.{Agrees, HasWrittenNothing, IsActorSo, IsQuerying, IsWriting}
+use Rattle.weave_core.specs.ActorAgreements.{actor_numbered, flat}
 use Rattle.weave_core.specs.Agreements.{AreShared, IsServed, first_view}
 use Rattle.weave_core.specs.Core.{CanCome, Happens, Reader}
 use Rattle.weave_core.specs.Declarations.{Declares, QueryBegins, WriteBegins, new_reader, with_reader}
@@ -105,7 +106,7 @@ writing_is config i row writing h = λ k. record {
 
 -- ---- a query that has not begun
 
-loads_first : (setting : Setting) (stage : Stage) → stage ≡ (new_query setting).stage
+loads_first : (setting : QuerySetting) (stage : Stage) → stage ≡ (new_query setting).stage
     → query.ask_of setting stage ≡ query_ask.Finished → ⊥
 loads_first setting stage e finished =
     let no : query.ask_of setting (new_query setting).stage ≡ query_ask.Finished
@@ -145,7 +146,7 @@ module _ (config : Config) (state : State (store_of config)) (i : ℕ) where
       pub actor : IsActorSo config i (after.core.world.actors i) (after.core.readers i) (after.roles i)
           (Some (record { course = one; sight = sight; begun = begun }))
 
-    stands_now : IsStander config i Doer' Reader'
+    stands_now : HasWrittenNothing config i Doer' Reader'
     stands_now = stands_so i (first_view config) Doer' stands
 
     first_seen : First ≡ sight_of (view_of Doer').seen
@@ -257,7 +258,7 @@ module _ (config : Config) (state : State (store_of config)) (i : ℕ) where
 
     module _ (moment : ℤ) (text : List ℕ) (querying : Querying) (asks : BeginsToAsk config moment text querying)
         (lawful : pos 0 ≤ℤ moment) where
-      abbrev Asked : Setting
+      abbrev Asked : QuerySetting
       Asked = querying.machine.setting
 
       abbrev Fresh : Reader (store_of config)

@@ -9,7 +9,7 @@ use Rattle.weave_core.specs.Holders.{AreHolders, HoldsLeaf, HoldsRange, IsHoldin
 use Rattle.write_core.proofs.KeepsLemmas.{changed_by, changed_same}
 use Rattle.write_core.specs.Program.{Acking, Ended, Entering, Inside, Locking, Marked, Reserving, Stage, Verdict}
 use Rattle.write_core.specs.Program.{after, entering, reserving}
-use Rattle.write_core.specs.Rounds.{Round, again, is_through, after_look, marks_of, round_of, after_skip}
+use Rattle.write_core.specs.Rounds.{Round, again, is_through, after_look, round_marks, round_of, after_skip}
 use Rattle.write_core.specs.Marks.{waiting}
 use Rattle.write_core.specs.Steps.{CanCome, CanComeAt, CanGo, with_acknowledgement, entrant, step, step_at}
 use Rattle.write_core.specs.Steps.{after_answer, same_view}
@@ -22,7 +22,7 @@ use Rattle.write_core.specs.declared.marks.Mark.{Mark}
 
 -- ---- stages that hold
 
-holding_entering_by : (b : Bool) (round : Round) → IsHolding (cond b (Acking (Marked (marks_of round)))
+holding_entering_by : (b : Bool) (round : Round) → IsHolding (cond b (Acking (Marked (round_marks round)))
     (Entering round))
 holding_entering_by true round = tt
 holding_entering_by false round = tt

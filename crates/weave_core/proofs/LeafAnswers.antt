@@ -20,7 +20,7 @@ use Rattle.query_core.specs.Mixtures.{typed_of}
 use Rattle.query_core.specs.Openings.{is_plan_met}
 use Rattle.query_core.specs.Program.{ask_of}
 use Rattle.query_core.specs.ReadableSlots.{CanBeRead}
-use Rattle.query_core.specs.Settings.{Setting as Asked}
+use Rattle.query_core.specs.Settings.{QuerySetting}
 use Rattle.query_core.specs.Traces.{slot_rows}
 use Rattle.query_core.specs.declared.asks.Ask.{Ask}
 use Rattle.query_core.specs.declared.asks.Ask.TheVariants as ask
@@ -51,7 +51,7 @@ use Rattle.write_core.specs.World.{World}
 use Rattle.weave_core.proofs.AskingLemmas.{answered, asked_of, asks_then, from, not_mine, some_holder, there_at, waits}
 
 -- the slots of a leaf that is asked of are those of the visit
-slots_same : (asked : Asked) (stage : Stage) (leaf : Leaf) → ask_of asked stage ≡ ask.Visit leaf
+slots_same : (asked : QuerySetting) (stage : Stage) (leaf : Leaf) → ask_of asked stage ≡ ask.Visit leaf
     → slots_of stage leaf ≡ slots_visited stage
 slots_same asked (at.Rooting loading) leaf e = absurd cc
 slots_same asked (at.Entering course round loading) leaf e = absurd cc
@@ -100,7 +100,7 @@ module _ (config : Config) (core : Core (store_of config)) (k : ℕ) (store : St
   abbrev query : Query
   query = query_now (store_of config) reader
 
-  abbrev asked : Asked
+  abbrev asked : QuerySetting
   asked = querying.machine.setting
 
   abbrev asks : Ask
@@ -132,7 +132,7 @@ module _ (config : Config) (core : Core (store_of config)) (k : ℕ) (store : St
         (asks_then config core k store querying sight asking (ask.Visit leaf) e) (sym so.holder ∙ free) in
         subst (λ (slots : List RangeSlot). CanBeRead (typed_of asked) seat.state.history slots) (sym own_slots)
         (subst (λ (history : List Entry). CanBeRead (typed_of asked) history (slots_at query)) (sym so.history)
-        (subst (λ (some : Asked). CanBeRead (typed_of some) (of_leaf world.truth leaf) (slots_at query))
+        (subst (λ (some : QuerySetting). CanBeRead (typed_of some) (of_leaf world.truth leaf) (slots_at query))
         asking.reader.setting all))
 
     pub leaf_seated : IsSeatedForLeaf querying leaf store.leaves.items sight
@@ -160,7 +160,7 @@ module _ (config : Config) (core : Core (store_of config)) (k : ℕ) (store : St
       limit_is : store.config.limit ≡ reader.setting.limit
       limit_is =
           ap (λ (c : Config). c.limit) asking.shared.config_is ∙ sym asking.planned.limit
-          ∙ ap (λ (some : Asked). some.limit) (sym asking.reader.setting)
+          ∙ ap (λ (some : QuerySetting). some.limit) (sym asking.reader.setting)
 
       -- what the leaf tells, of the world and of the query in the core
       abbrev Then : Told → Type 0
@@ -172,7 +172,7 @@ module _ (config : Config) (core : Core (store_of config)) (k : ℕ) (store : St
       tells_there some tells =
           let own_buckets = key_buckets config.buckets config.schemas in
           let slots = slots_of querying.machine.stage leaf in
-          subst (λ (a : Asked). TellsOf a.plan reader.moment reader.setting.limit (of_leaf world.truth leaf)
+          subst (λ (a : QuerySetting). TellsOf a.plan reader.moment reader.setting.limit (of_leaf world.truth leaf)
           own_buckets (slots_at query) some) (sym asking.reader.setting)
           (subst (λ (slots : List RangeSlot). TellsOf asked.plan reader.moment reader.setting.limit
           (of_leaf world.truth leaf) own_buckets slots some) own_slots

@@ -9,9 +9,10 @@ use Rattle.mon_value.specs.declared.refusals.Refusal.{Refusal}
 use Rattle.mon_value.specs.declared.refusals.Refusal.TheVariants as refusal
 use Rattle.weave_core.specs.ActorAgreements.{Agrees}
 use Rattle.weave_core.specs.ScheduleLines.{schedule_form}
-use Rattle.weave_core.specs.ScheduleTurns.{HasRun, HasStopped, HavePrinted, IsDone, IsRefused, LineBy, LinesSo}
+use Rattle.weave_core.specs.ScheduleTurns.{HasRun, HasStopped, HavePrinted, IsDone, IsLineRefused, LineBy, LinesSo}
 use Rattle.weave_core.specs.ScheduleTurns.{NumberedSo}
-use Rattle.weave_core.specs.Schedules.{DoneThen, DoneUnless, IsFirst, LineRuns, Numbered, Printed, Prints, RunsFrom}
+use Rattle.weave_core.specs.Schedules.{DoneThen, DoneUnless, IsFirstState, Numbered, Printed, Prints}
+use Rattle.weave_core.specs.Schedules.{RunsFrom, ScheduleLineRuns}
 use Rattle.weave_core.specs.Schedules.{RunsUnless, line_fault, refused_at, said_before, unfinished_text}
 use Rattle.weave_core.specs.States.{State, store_of}
 use Rattle.weave_core.specs.declared.calls.ScheduleFault.{ScheduleFault}
@@ -45,8 +46,8 @@ module _ (config : Config) (number : ℕ) where
 
     -- a line that is no remark
     runs_by : (lines : List (List ℕ)) (printed : Printed) → nat_lt MOST_LINES number ≡ false → is_remark line ≡ false
-        → LineRuns config number (RunsFrom config (number + 1) lines) state (schedule_form config.schemas line) printed
-        → RunsFrom config number (line ∷ lines) state printed
+        → ScheduleLineRuns config number (RunsFrom config (number + 1) lines) state (schedule_form config.schemas line)
+        printed → RunsFrom config number (line ∷ lines) state printed
     runs_by lines printed few text runs = within_most _ printed few
         (subst (λ (b : Bool). RunsUnless config number (RunsFrom config (number + 1) lines) state line b printed)
         (sym text) runs)
@@ -65,14 +66,15 @@ module _ (config : Config) (number : ℕ) where
           let unless : DoneUnless config number rest state what (line_fault (store_of config) state what) printed =
           subst (λ (f : Option WeaveFault). DoneUnless config number rest state what f printed) (sym done.fault) then in
           runs_by lines printed few text
-          (subst (λ (form : Option LineForm). LineRuns config number rest state form printed) (sym says) unless);
+          (subst (λ (form : Option LineForm). ScheduleLineRuns config number rest state form printed) (sym says)
+          unless);
       agrees = done.agrees;
       prints = done.prints;
     }
 
     refused_stops : (what : LineForm) (why : WeaveFault) (before after : List ℕ) → schedule_form config.schemas line
         ≡ Some what
-        → nat_lt MOST_LINES number ≡ false → is_remark line ≡ false → IsRefused config state what why before after
+        → nat_lt MOST_LINES number ≡ false → is_remark line ≡ false → IsLineRefused config state what why before after
         → HasStopped config state number line (record { line = number; fault = why }) before after
     refused_stops what why before after says few text refused = record {
       runs = λ lines.
@@ -82,7 +84,8 @@ module _ (config : Config) (number : ℕ) where
           subst (λ (f : Option WeaveFault). DoneUnless config number rest state what f printed) (sym refused.fault)
           refl in
           runs_by lines printed few text
-          (subst (λ (form : Option LineForm). LineRuns config number rest state form printed) (sym says) unless);
+          (subst (λ (form : Option LineForm). ScheduleLineRuns config number rest state form printed) (sym says)
+          unless);
       prints = refused.prints;
     }
 
@@ -93,8 +96,8 @@ module _ (config : Config) (number : ℕ) where
       runs = λ lines.
           let rest = RunsFrom config (number + 1) lines in
           runs_by lines (refused_at number fault.BadLine) few text
-          (subst (λ (form : Option LineForm). LineRuns config number rest state form (refused_at number fault.BadLine))
-          (sym says) refl);
+          (subst (λ (form : Option LineForm). ScheduleLineRuns config number rest state form
+          (refused_at number fault.BadLine)) (sym says) refl);
       prints = refl;
     }
 
@@ -220,7 +223,7 @@ module _ (config : Config) (start : State (store_of config)) (text : List ℕ) (
 -- it is what a schedule prints, where nobody was declared
 pub printed_by : (X : Type 0) (config : Config) (start : State (store_of config)) (text before after : List ℕ)
     (answer : Result X (Refusal ScheduleFault))
-    → IsFirst config start → LinesSo config start text answer before after → Prints config text answer before after
+    → IsFirstState config start → LinesSo config start text answer before after → Prints config text answer before after
 printed_by X config start text before after (Ok x) first so =
     (so.said, so.prints, record { first = start; is_first = first; runs = so.runs })
 printed_by X config start text before after (Err (refusal.Fault why)) first so =

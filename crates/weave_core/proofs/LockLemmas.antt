@@ -9,7 +9,7 @@ use Rattle.mon_schema.specs.SchemaLists.{SchemaLists}
 use Rattle.mon_topo.proofs.RangeHistoryLemmas.{acknowledged_rows-push}
 use Rattle.mon_topo.specs.RangeHistories as spec
 use Rattle.mon_topo.specs.RangeHistories.{acknowledged_rows, serving}
-use Rattle.mon_topo.specs.Settings.{Setting as Store}
+use Rattle.mon_topo.specs.Settings.{Setting}
 use Rattle.mon_topo.specs.declared.zones.ZoneSpec.{ZoneSpec}
 use Rattle.mon_value.specs.Sources.{IsSource, last_end, points_of}
 use Rattle.mon_value.specs.declared.histories.RangeEntry.{RangeEntry}
@@ -48,7 +48,7 @@ module _ (held : SchemaLists) (zones : List ZoneSpec) (points : ℕ) (range : Ra
 
 -- ---- the answer
 
-module _ (store : Store) (history : List RangeEntry) (row : Row) (source : IsSource (acknowledged_rows history))
+module _ (store : Setting) (history : List RangeEntry) (row : Row) (source : IsSource (acknowledged_rows history))
     (few : length (acknowledged_rows history) ≤ store.points) where
   by_count : (b : Bool) → nat_le store.points (length (acknowledged_rows history)) ≡ b
       → IfSome (last_end (points_of row.key (acknowledged_rows history))) (λ last. last <ℤ row.point.end)
@@ -75,7 +75,7 @@ module _ (store : Store) (history : List RangeEntry) (row : Row) (source : IsSou
           by_count (nat_le store.points (length (acknowledged_rows history))) refl
           (subst (λ (o : Option ℤ). IfSome o (λ last. last <ℤ row.point.end)) (sym some) after)
 
-pub lock_true : (store : Store) (range : Range) (history : List RangeEntry) (row : Row)
+pub lock_true : (store : Setting) (range : Range) (history : List RangeEntry) (row : Row)
     → spec.IsLegal store.held store.zones store.points range history
     → IsToldByRange store history row (lock_answer store.points history row)
 lock_true store range history row legal =

@@ -148,6 +148,6 @@ module _ (history : List Entry) where
       (no_series_of (rows_of one) (rows_of other) apart.0, apart_each one slots apart.1)
 
   pub apart_series : (slots : List RangeSlot) → AreApart ShareNoTarget (map rows_of slots)
-      → leaf_eval.AreApart history slots
+      → leaf_eval.AreReplicasApart history slots
   apart_series [] apart = tt
   apart_series (one ∷ slots) apart = (apart_each one slots apart.0, apart_series slots apart.1)

@@ -7,7 +7,7 @@ use Rattle.weave_core.specs.Meetings.{met_at_leaf, met_at_range}
 use Rattle.mon_topo.specs.Sights.{range_sight, sight_of, with_leaf_sight, with_range_sight}
 use Rattle.mon_value.specs.Histories.{joined_histories, leaf_history, range_history}
 use Rattle.mon_value.specs.declared.histories.Histories.{Histories}
-use Rattle.mon_topo.specs.Settings.{Setting as Store}
+use Rattle.mon_topo.specs.Settings.{Setting}
 use Rattle.mon_value.specs.declared.histories.Entry.{Entry}
 use Rattle.mon_value.specs.declared.histories.RangeEntry.{RangeEntry}
 use Rattle.mon_value.specs.declared.positions.Leaf.{Leaf}
@@ -36,7 +36,7 @@ range_noted seen range history is = λ i. record {
       ∙ set-get_or (map range_sight seen.ranges) range.0 (range_sight [])) i;
 }
 
-module _ (store : Store) (world : World) (view : View) where
+module _ (store : Setting) (world : World) (view : View) where
   pub leaf_met : (leaf : Leaf) → IsKept store world → IsPart store world view
       → met_at_leaf leaf (of_leaf world.truth leaf) (sight_of view.seen) (sight_of (world.leaves leaf.0).seen)
       ≡ sight_of (joined_view view (world.leaves leaf.0)).seen

@@ -7,7 +7,7 @@ use Rattle.std.proofs.lemmas.Bool.{cases_eq, eq-eqb, ne_eqb}
 use Rattle.std.proofs.lemmas.List.{length-replicate, length-take-le, take_all, take_more}
 use Rattle.std.proofs.lemmas.List.FromFn.{map-range_with_len_more}
 use Rattle.std.proofs.lemmas.Option.{get_or_from_slice_get, slice_get-get_or, slice_get_within}
-use Rattle.leaf_store.specs.LeafStates.{LeafView, new_leaf, with_entry, with_promised}
+use Rattle.leaf_store.specs.LeafStates.{LeafView, new_leaf, leaf_with_entry, with_promised}
 use Rattle.mon_config.specs.declared.config.Config.{Config}
 use Rattle.mon_topo.proofs.PartLemmas.{length-zones_of}
 use Rattle.mon_topo.proofs.RangeHistoryLemmas.{all_at}
@@ -275,10 +275,11 @@ slot_follows range slot old new rows promised none may =
     (sym (ap (λ (l : LeafView). l.history) promised)) may)
 
 pub slot_opened : (range : Range) (slot : Slot) (old new after : LeafView) (rows : List Row)
-    → new ≡ with_promised old (old.promised + 1) → rows ≡ [] → after ≡ with_entry new (entry.Opened 0 range slot rows)
+    → new ≡ with_promised old (old.promised + 1) → rows ≡ []
+    → after ≡ leaf_with_entry new (entry.Opened 0 range slot rows)
     → after ≡ with_opening range slot.0 old
 slot_opened range slot old new after rows promised none applied =
-    applied ∙ (λ i. with_entry (promised i) (entry.Opened 0 range slot (none i)))
+    applied ∙ (λ i. leaf_with_entry (promised i) (entry.Opened 0 range slot (none i)))
 
 -- ---- a range's replicas
 

@@ -22,7 +22,7 @@ use Rattle.plan_split.specs.FetchFormulas.{plan_formulas}
 use Rattle.plan_split.specs.Promises.{AllHoldWhereMet}
 use Rattle.query_core.specs.Areas.{areas_of}
 use Rattle.query_core.specs.Machine.{Query, new_query}
-use Rattle.query_core.specs.Settings.{Setting}
+use Rattle.query_core.specs.Settings.{QuerySetting}
 use Rattle.weave_core.proofs.PlanBuckets.{plan_below}
 use Rattle.weave_core.specs.Agreements.{IsServed}
 use Rattle.weave_core.specs.Declarations.{printed_fault, query_typed}
@@ -57,7 +57,7 @@ module _ (config : Config) (served : IsServed config) (text : List ℕ) (typed :
     (listed : IsListing (all_named (formulas (map formula_tree plan.formulas))) plan.buckets)
     (promise : AllHoldWhereMet config.schemas config.buckets (fetches typed.tree) (map formula_tree plan.formulas))
   where
-    abbrev setting : Setting
+    abbrev setting : QuerySetting
     setting = record { plan = plan; areas = areas_of config.topology; limit = config.limit }
 
     pub machine_so : (machine : Query) → machine ≡ new_query setting → IsMachineSo config text machine

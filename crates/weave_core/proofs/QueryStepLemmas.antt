@@ -3,11 +3,11 @@ use Rattle.std.proofs.Common.{◌≡◌, ◌≢◌, ℕ, ℤ, Bool, true, not, c
 use Rattle.std.proofs.Common.{sym, ap, subst, ◌∙◌, inl, inr}
 use Rattle.std.specs.Prelude.{is_some}
 use Rattle.mon_config.specs.declared.config.Config.{Config}
-use Rattle.mon_topo.specs.Settings.{Setting as Store'}
+use Rattle.mon_topo.specs.Settings.{Setting}
 use Rattle.mon_topo.specs.declared.zones.ZoneSpec.{ZoneSpec}
 use Rattle.query_core.specs.Machine.{Query}
 use Rattle.query_core.specs.Program as query
-use Rattle.query_core.specs.Settings.{Setting}
+use Rattle.query_core.specs.Settings.{QuerySetting}
 use Rattle.query_core.specs.declared.asks.Ask.{Ask}
 use Rattle.query_core.specs.declared.asks.Ask.TheVariants as ask
 use Rattle.query_core.specs.declared.asks.Told.{Told}
@@ -19,7 +19,7 @@ use Rattle.weave_core.specs.Core.{Reader, Tells, asked_now, told_on, view_told, 
 use Rattle.weave_core.specs.EndTexts.{query_text}
 use Rattle.weave_core.specs.EventNames.{event_of_query}
 use Rattle.weave_core.specs.QueryTurns.{IsAsking, QueriesSo}
-use Rattle.weave_core.specs.States.{Asking, Dismissed, Eventless, Role, State, Undeclared, Writing, fault_in}
+use Rattle.weave_core.specs.States.{Asking, Dismissed, Eventless, Role, State, Undeclared, Writing, role_fault}
 use Rattle.mon_value.specs.Parts.{is_any}
 use Rattle.weave_core.specs.States.{holder_in, step_fault, store_of}
 use Rattle.weave_core.specs.Steps.{StepsIn, query_stepped, with_event}
@@ -39,8 +39,8 @@ use Rattle.write_core.specs.World.{Actor as Doer, Stands, World, view_of}
 
 -- ---- stages
 
-query_stays : (zones : List ZoneSpec) (setting : Setting) (stage : Stage) → query.ask_of setting stage ≢ ask.Finished
-    → query_stepped zones stage ≡ stepped.Went
+query_stays : (zones : List ZoneSpec) (setting : QuerySetting) (stage : Stage)
+    → query.ask_of setting stage ≢ ask.Finished → query_stepped zones stage ≡ stepped.Went
 query_stays zones setting (at.Rooting loading) going = refl
 query_stays zones setting (at.Entering course' round loading) going = refl
 query_stays zones setting (at.Resolving course' round range) going = refl
@@ -58,7 +58,7 @@ has_event ask.Finished going = absurd (going refl)
 
 -- ---- what a query's event leaves as it was
 
-module _ (store : Store') (setting : Setting) (moment : ℤ) (world : World) (view : View) where
+module _ (store : Setting) (setting : QuerySetting) (moment : ℤ) (world : World) (view : View) where
   pub actors_stay : (asks : Ask) (i : ℕ) → (world_then store setting moment world view asks).actors i ≡ world.actors i
   actors_stay (ask.LoadRoot bucket) i = refl
   actors_stay (ask.LoadZone zone bucket) i = refl
@@ -115,7 +115,7 @@ module _ (config : Config) (state : State (store_of config)) (i : ℕ) (store : 
 
   no_fault : step_fault (store_of config) state i ≡ None
   no_fault =
-      ap (fault_in (store_of config) state i) role_is
+      ap (role_fault (store_of config) state i) role_is
       ∙ ap (λ (some : Bool). cond (not some) (Some fault.Finished) None)
       (ap (λ (asks : Ask). is_some (event_of_query asks)) asks_so
       ∙ has_event (query.ask_of querying.machine.setting querying.machine.stage) queries.goes_on)

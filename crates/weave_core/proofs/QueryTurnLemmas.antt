@@ -11,7 +11,7 @@ use Rattle.query_core.specs.Mixtures.{Settles}
 use Rattle.query_core.specs.Program.{after}
 use Rattle.query_core.specs.Sessions as session
 use Rattle.query_core.specs.Sessions.{query_after, told_then}
-use Rattle.query_core.specs.Settings.{Setting as Asked}
+use Rattle.query_core.specs.Settings.{QuerySetting}
 use Rattle.query_core.specs.declared.answers.Answer.{Answer}
 use Rattle.query_core.specs.declared.answers.RoundFault.{RoundFault}
 use Rattle.query_core.specs.declared.asks.Told.{Told}
@@ -37,7 +37,7 @@ pub if_ok_on : {X E : Type 0} (P Q : X → Type 0) → ((x : X) → P x → Q x)
 if_ok_on P Q on (Ok x) is = on x is
 if_ok_on P Q on (Err fault) is = is
 
-query_push : (store : Setting) (asked : Asked) (moment : ℤ) (query : Query)
+query_push : (store : Setting) (asked : QuerySetting) (moment : ℤ) (query : Query)
     (events : List (session.Event store asked moment)) (event : session.Event store asked moment)
     → query_after store asked moment query (events ++ event ∷ [])
     ≡ told_then store asked moment (query_after store asked moment query events) event
@@ -71,7 +71,7 @@ module _ (config : Config) (core : Core (store_of config)) (k : ℕ) (store : St
         → Settles querying.machine.setting (after querying.machine.setting querying.machine.stage answer) stage
         → Settles reader.setting (after reader.setting query.stage answer) stage
     settled stage so =
-        subst (λ (some : Asked). Settles some (after some query.stage answer) stage) (sym asking.reader.setting)
+        subst (λ (some : QuerySetting). Settles some (after some query.stage answer) stage) (sym asking.reader.setting)
         (subst (λ (one : Query). Settles querying.machine.setting (after querying.machine.setting one.stage answer)
         stage)
         (sym asking.reader.now) so)
@@ -105,8 +105,8 @@ module _ (config : Config) (core : Core (store_of config)) (k : ℕ) (store : St
                 seen = is.sight_is;
               });
           planned = record {
-            limit = ap (λ (some : Asked). some.limit) on.setting ∙ asking.planned.limit;
-            buckets = subst (λ (some : Asked). AllByRecursion (λ (bucket : ℕ). bucket < config.buckets)
+            limit = ap (λ (some : QuerySetting). some.limit) on.setting ∙ asking.planned.limit;
+            buckets = subst (λ (some : QuerySetting). AllByRecursion (λ (bucket : ℕ). bucket < config.buckets)
                 some.plan.buckets)
                 (sym on.setting) asking.planned.buckets;
           };

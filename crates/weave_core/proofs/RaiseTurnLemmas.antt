@@ -24,7 +24,7 @@ use Rattle.weave_core.specs.Holders.{leaf_inside}
 use Rattle.weave_core.specs.Meetings.{met_at_leaf}
 use Rattle.mon_topo.specs.Sights.{sight_of}
 use Rattle.weave_core.specs.States.{store_of}
-use Rattle.weave_core.specs.WriteEvents.{Raises, RaisesWord}
+use Rattle.weave_core.specs.WriteEvents.{RaisesBit, RaisesWord}
 use Rattle.weave_core.specs.WriteTurns.{IsAtWork, WriteWent}
 use Rattle.weave_core.specs.Writers.{IsWriterSo, RaisesBelow, writer_of}
 use Rattle.weave_core.specs.declared.leaves.LeafSeat.{LeafSeat}
@@ -230,7 +230,8 @@ module _ (config : Config) (world : World) (i : ℕ) (store : Store) (writing : 
   -- a bit was set, and it goes on
   module _ (seat : LeafSeat) (so : IsLeafSo config world mark.leaf seat) (new : Store) (other : LeafSeat)
       (next : Writing)
-      (now : Sight) (raises : Raises mark.leaf seat other writing next sight now) (change : View → View) (stage : Stage)
+      (now : Sight) (raises : RaisesBit mark.leaf seat other writing next sight now) (change : View → View)
+      (stage : Stage)
       (after_is : after (Inside round at_root in_zone) told.Done ≡ stage)
       (seen_same : (v : View) → (change v).seen ≡ v.seen) where
     seen_is : now ≡ sight_of (change met).seen
@@ -284,7 +285,7 @@ module _ (config : Config) (world : World) (i : ℕ) (store : Store) (writing : 
 
   pub root_turn : (new : Store) (other : LeafSeat) (next : Writing) (now : Sight)
       → RaisesWord word.Root seat.zone.0 bucket at.mark.leaf other store new
-      → Raises at.mark.leaf seat other writing next sight now → WriteWent config world i new writing next now
+      → RaisesBit at.mark.leaf seat other writing next sight now → WriteWent config world i new writing next now
   root_turn new other next now changes raises =
       let below : RaisesBelow config.buckets (Inside (record { done = at.done; left = at.mark ∷ at.left })
       (bucket ∷ at_root) in_zone)
@@ -349,7 +350,7 @@ module _ (config : Config) (world : World) (i : ℕ) (store : Store) (writing : 
 
   pub zone_turn : (new : Store) (other : LeafSeat) (next : Writing) (now : Sight)
       → RaisesWord (word.Zone seat.zone) seat.place bucket at.mark.leaf other store new
-      → Raises at.mark.leaf seat other writing next sight now → WriteWent config world i new writing next now
+      → RaisesBit at.mark.leaf seat other writing next sight now → WriteWent config world i new writing next now
   zone_turn new other next now changes raises =
       let below : RaisesBelow config.buckets (Inside (record { done = at.done; left = at.mark ∷ at.left }) []
       (bucket ∷ in_zone))

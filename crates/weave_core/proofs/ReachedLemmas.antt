@@ -3,13 +3,13 @@ use Rattle.std.proofs.Common.{◌≡◌, ◌≤ℤ◌, ◌⊎◌, inl, inr, ℕ,
 use Rattle.std.proofs.Common.{Result, Ok, Err, refl, sym, subst, ◌∙◌}
 use Rattle.mon_config.specs.declared.config.Config.{Config}
 use Rattle.mon_topo.specs.Locations.{range_for}
-use Rattle.mon_topo.specs.Settings.{Setting as Store}
+use Rattle.mon_topo.specs.Settings.{Setting}
 use Rattle.mon_value.specs.declared.positions.Range.{Range}
 use Rattle.mon_value.specs.declared.rows.Row.{Row}
 use Rattle.mql_types.specs.Nodes.{TypedTree}
 use Rattle.query_core.specs.Askings.{IsAskedOf}
 use Rattle.query_core.specs.Machine.{new_query}
-use Rattle.query_core.specs.Settings.{Setting}
+use Rattle.query_core.specs.Settings.{QuerySetting}
 use Rattle.weave_core.proofs.CoreLemmas.{new_woven, stays_woven}
 use Rattle.weave_core.specs.Core.{CanCome, CoreEvent, Happens, Hears, Reader, Tells, begun_with, came, told_on}
 use Rattle.weave_core.specs.Core.{view_told}
@@ -18,8 +18,8 @@ use Rattle.weave_core.specs.Declarations.{with_reader}
 use Rattle.weave_core.specs.EndTexts.{no_zone_text}
 use Rattle.weave_core.specs.LawfulLines.{IsLawfulCall, IsLawfulForm}
 use Rattle.weave_core.specs.Licensed.{IsReader, IsWoven}
-use Rattle.weave_core.specs.Reached.{Leads}
-use Rattle.weave_core.specs.Schedules.{Does, EndsBy, GoesOn, IsFirst, Rests, StopsBefore, Went}
+use Rattle.weave_core.specs.Reached.{LinesLead}
+use Rattle.weave_core.specs.Schedules.{Does, EndsBy, ActorGoesOn, IsFirstState, Rests, StopsBeforeEvent, Went}
 use Rattle.weave_core.specs.States.{Asking, Dismissed, Eventless, Role, State, Undeclared, Writing, actor_at, store_of}
 use Rattle.weave_core.specs.Steps.{StepsIn, with_event, with_role}
 use Rattle.weave_core.specs.declared.calls.Call.{Call}
@@ -36,15 +36,15 @@ use Rattle.write_core.specs.Views.{View, joined_view}
 use Rattle.write_core.specs.World.{Actor, IsPart, Recovers, Stands, World, Writes, view_of}
 
 -- what an actor has seen and knows is a part of the truth
-pub part_of : (store : Store) (world : World) (i : ℕ) (actor : Actor) → IsActor store world i actor
+pub part_of : (store : Setting) (world : World) (i : ℕ) (actor : Actor) → IsActor store world i actor
     → IsPart store world (view_of actor)
 part_of store world i (Writes writer) h = h.part
 part_of store world i (Recovers recovery) h = h.part
 part_of store world i (Stands stander) h = h.part
 
 -- a query that has not begun
-pub fresh_reader : (store : Store) (world : World) (setting : Setting) (moment : ℤ) (view : View) → IsPart store world
-    view
+pub fresh_reader : (store : Setting) (world : World) (setting : QuerySetting) (moment : ℤ) (view : View)
+    → IsPart store world view
     → IsReader store world (new_reader store setting moment view)
 fresh_reader store world setting moment view part = record {
   part = part;
@@ -54,7 +54,7 @@ fresh_reader store world setting moment view part = record {
 }
 
 module _ (config : Config) where
-  abbrev Store' : Store
+  abbrev Store' : Setting
   Store' = store_of config
 
   abbrev State' : Type 0
@@ -115,8 +115,8 @@ module _ (config : Config) where
   writing : Writing ≡ Asking → ⊥
   writing e = cc
 
-  reader_holds : (state : State') (k : ℕ) (setting : Setting) (moment : ℤ) → IsAskedOf Store' setting → pos 0 ≤ℤ moment
-      → Holds state
+  reader_holds : (state : State') (k : ℕ) (setting : QuerySetting) (moment : ℤ) → IsAskedOf Store' setting
+      → pos 0 ≤ℤ moment → Holds state
       → Holds (with_reader Store' state k (new_reader Store' setting moment (view_of (actor_at Store' state k))))
   reader_holds state k setting moment asked from h =
       let view = view_of (actor_at Store' state k) in
@@ -170,14 +170,14 @@ module _ (config : Config) where
       steps_in (before.roles k) before k stepped.Went state steps (went_holds k goal from count before went h)
 
   ends_hold : (k : ℕ) (goal : Option Event) (count : ℕ) (state : State') (how : Stepped) (after : State')
-      → StopsBefore Store' k goal state how after ⊎ (EndsBy Store' k goal state how after ⊎ Rests Store' count state
-      how after)
+      → StopsBeforeEvent Store' k goal state how after ⊎ (EndsBy Store' k goal state how after
+      ⊎ Rests Store' count state how after)
       → Holds state → Holds after
   ends_hold k goal count state how after (inl stops) h = subst Holds (sym stops.2) h
   ends_hold k goal count state how after (inr (inl ends)) h = steps_in (state.roles k) state k how after ends.1 h
   ends_hold k goal count state how after (inr (inr rests)) h = subst Holds (sym rests.2) h
 
-  goes_hold : (k : ℕ) (goal : Option Event) (from : State') (how : Stepped) (after : State') → GoesOn Store' k goal
+  goes_hold : (k : ℕ) (goal : Option Event) (from : State') (how : Stepped) (after : State') → ActorGoesOn Store' k goal
       from how after
       → Holds from → Holds after
   goes_hold k goal from how after goes h =
@@ -221,14 +221,14 @@ module _ (config : Config) where
       does.goes h
   does_hold state (form.Finish k) said after lawful does h = goes_hold k None state does.how after does.goes h
 
-  leads_hold : (lines : List LineForm) (from to : State') → Leads config from lines to → Holds from → Holds to
+  leads_hold : (lines : List LineForm) (from to : State') → LinesLead config from lines to → Holds from → Holds to
   leads_hold [] from to leads h = subst Holds (sym leads) h
   leads_hold (what ∷ lines) from to (mid, by, leads) h =
       leads_hold lines mid to leads (does_hold from what by.said mid by.lawful by.does h)
 
   -- what holds wherever lines lead to
-  pub reached : (first state : State') (lines : List LineForm) → IsFirst config first → Leads config first lines state
-      → Holds state
+  pub reached : (first state : State') (lines : List LineForm) → IsFirstState config first
+      → LinesLead config first lines state → Holds state
   reached first state lines is_first leads = leads_hold lines first state leads (record {
     woven = new_woven Store' first.core is_first.new;
     asked = λ k is. let no : Undeclared ≡ Asking = sym (is_first.roles k) ∙ is in absurd cc;

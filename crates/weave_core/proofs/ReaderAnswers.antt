@@ -2,7 +2,7 @@
 use Rattle.std.proofs.Common.{◌≡◌, ◌∙◌, ◌≤ℤ◌, ℕ, Bool, pos, List, length, take, refl, sym, ap, subst}
 use Rattle.std.specs.Prelude.{None}
 use Rattle.mon_value.specs.Histories.{leaf_history}
-use Rattle.mon_topo.specs.Settings.{Setting as Store}
+use Rattle.mon_topo.specs.Settings.{Setting}
 use Rattle.mon_value.specs.LeafHistories.{is_down}
 use Rattle.mon_value.specs.declared.histories.Entry.{Entry}
 use Rattle.mon_value.specs.declared.positions.Leaf.{Leaf}
@@ -26,7 +26,7 @@ use Rattle.write_core.specs.Invariant.{IsKept}
 use Rattle.write_core.specs.Views.{View, joined_view, of_leaf}
 use Rattle.write_core.specs.World.{World}
 
-module _ (store : Store) (world : World) (reader : Reader store) (kept : IsKept store world)
+module _ (store : Setting) (world : World) (reader : Reader store) (kept : IsKept store world)
     (own : IsReader store world reader) (new : reader.first ≡ new_query reader.setting)
     (asked : IsAskedOf store reader.setting) (from : pos 0 ≤ℤ reader.moment) where
   abbrev query : Query

@@ -1,6 +1,6 @@
 -- A reader that began as a new query: its session is one of such a query, and ends where the reader is.
 use Rattle.std.proofs.Common.{◌≡◌, sym, ap, subst, ◌∙◌}
-use Rattle.mon_topo.specs.Settings.{Setting as Store}
+use Rattle.mon_topo.specs.Settings.{Setting}
 use Rattle.query_core.specs.Machine.{Query, new_query}
 use Rattle.query_core.specs.Sessions as session
 use Rattle.query_core.specs.Sessions.{IsLicensed, query_after, view_after}
@@ -9,7 +9,7 @@ use Rattle.weave_core.specs.Core.{Reader, query_now, seen_by}
 use Rattle.weave_core.specs.Licensed.{IsReader}
 use Rattle.write_core.specs.World.{World}
 
-module _ (store : Store) (world : World) (reader : Reader store) (own : IsReader store world reader)
+module _ (store : Setting) (world : World) (reader : Reader store) (own : IsReader store world reader)
     (new : reader.first ≡ new_query reader.setting) where
   pub as_new : IsLicensed store reader.setting reader.moment (seen_by reader.begin) (new_query reader.setting)
       reader.session

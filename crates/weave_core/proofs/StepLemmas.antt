@@ -1,7 +1,7 @@
 -- What a step leaves: the core stays woven, its holders stay true, and all other actors stay as they were.
 use Rattle.std.proofs.Common.{◌≡◌, ◌≢◌, ℕ, ℤ, List, [], ◌∷◌, refl, sym, subst, inl, inr}
-use Rattle.mon_topo.specs.Settings.{Setting as Store}
-use Rattle.query_core.specs.Settings.{Setting}
+use Rattle.mon_topo.specs.Settings.{Setting}
+use Rattle.query_core.specs.Settings.{QuerySetting}
 use Rattle.query_core.specs.declared.asks.Ask.{Ask}
 use Rattle.query_core.specs.declared.asks.Ask.TheVariants as ask
 use Rattle.query_core.specs.declared.asks.Told.{Told}
@@ -26,7 +26,7 @@ use Rattle.write_core.specs.declared.marks.Mark.{Mark}
 
 -- ---- other actors of the world
 
-module _ (setting : Store) (world : World) (i j : ℕ) (apart : j ≢ i) where
+module _ (setting : Setting) (world : World) (i j : ℕ) (apart : j ≢ i) where
   at_reserve : (who : Writer) (left : List Mark) (next : Stage) → (after_reserving world i who left next).actors j
       ≡ world.actors j
   at_reserve who [] next = refl
@@ -65,7 +65,7 @@ module _ (setting : Store) (world : World) (i j : ℕ) (apart : j ≢ i) where
 
 -- ---- holders beside a query
 
-queried_held : (store : Store) (setting : Setting) (moment : ℤ) (world : World) (view : View) (asks : Ask)
+queried_held : (store : Setting) (setting : QuerySetting) (moment : ℤ) (world : World) (view : View) (asks : Ask)
     → AreHolders world
     → AreHolders (world_then store setting moment world view asks)
 queried_held store setting moment world view (ask.LoadRoot bucket) h = h
@@ -76,7 +76,7 @@ queried_held store setting moment world view ask.Finished h = h
 
 -- ---- steps
 
-module _ (store : Store) (state : State store) (i : ℕ) where
+module _ (store : Setting) (state : State store) (i : ℕ) where
   -- the other actors are as before
   pub record OthersStay (left : State store) : Type 0 where
     pub actor : (j : ℕ) → j ≢ i → left.core.world.actors j ≡ state.core.world.actors j

@@ -2,20 +2,20 @@
 use Rattle.std.proofs.Common.{◌≡◌, ◌∙◌, inl, inr, ℕ, zero, suc, ◌+◌, ◌<◌, Bool, true, not, is_some, cond, List, []}
 use Rattle.std.proofs.Common.{◌∷◌, Option, Some, None, Err, refl, sym, ap, subst, arith}
 use Rattle.mon_config.specs.declared.config.Config.{Config}
-use Rattle.mon_topo.specs.Settings.{Setting as Store}
+use Rattle.mon_topo.specs.Settings.{Setting}
 use Rattle.mon_topo.specs.declared.zones.ZoneSpec.{ZoneSpec}
 use Rattle.mon_value.specs.declared.refusals.Refusal.{Refusal}
 use Rattle.mon_value.specs.declared.refusals.Refusal.TheVariants as refusal
 use Rattle.query_core.specs.Program.{ask_of}
-use Rattle.query_core.specs.Settings.{Setting}
+use Rattle.query_core.specs.Settings.{QuerySetting}
 use Rattle.query_core.specs.declared.stages.Stage.{Stage}
 use Rattle.query_core.specs.declared.stages.Stage.TheVariants as query
 use Rattle.weave_core.specs.ActorAgreements.{Agrees}
 use Rattle.weave_core.specs.Core.{query_now}
 use Rattle.weave_core.specs.EventNames.{event_of_query, event_of_write}
 use Rattle.weave_core.specs.ScheduleTurns.{GoesSo, HasGone}
-use Rattle.weave_core.specs.Schedules.{IsNext, Went}
-use Rattle.weave_core.specs.States.{Asking, Dismissed, Eventless, Role, State, Undeclared, Writing, fault_in, next_in}
+use Rattle.weave_core.specs.Schedules.{IsNextEvent, Went}
+use Rattle.weave_core.specs.States.{Asking, Dismissed, Eventless, Role, State, Undeclared, Writing, role_fault, next_in}
 use Rattle.weave_core.specs.States.{step_fault, store_of, write_asks}
 use Rattle.weave_core.specs.Steps.{Steps, StepsIn, query_stepped, write_stepped, writer_stepped}
 use Rattle.weave_core.specs.WeaveCalls as call
@@ -64,7 +64,7 @@ write_on zones (Writes writer) e = writer_on zones writer writer.stage e
 write_on zones (Recovers recovery) e = absurd cc
 write_on zones (Stands stander) e = absurd cc
 
-query_on : (zones : List ZoneSpec) (setting : Setting) (stage : Stage) → stepped.Went ≡ query_stepped zones stage
+query_on : (zones : List ZoneSpec) (setting : QuerySetting) (stage : Stage) → stepped.Went ≡ query_stepped zones stage
     → is_some (event_of_query (ask_of setting stage)) ≡ true
 query_on zones setting (query.Rooting loading) e = refl
 query_on zones setting (query.Entering course round loading) e = refl
@@ -77,9 +77,9 @@ query_on zones setting (query.Ended end) e = absurd cc
 no_fault : (some : Bool) → some ≡ true → cond (not some) (Some fault.Finished) None ≡ None
 no_fault some e = ap (λ b. cond (not b) (Some fault.Finished) None) e
 
-module _ (store : Store) (k : ℕ) where
+module _ (store : Setting) (k : ℕ) where
   went_in : (role : Role) (state after : State store) → StepsIn store role state k stepped.Went after
-      → fault_in store after k role ≡ None
+      → role_fault store after k role ≡ None
   went_in Undeclared state after steps = absurd steps
   went_in (Eventless text) state after steps = refl
   went_in Dismissed state after steps = absurd steps
@@ -105,11 +105,11 @@ module _ (store : Store) (k : ℕ) where
   -- it can be stepped again
   pub went_on : (state after : State store) → Steps store state k stepped.Went after → step_fault store after k ≡ None
   went_on state after steps =
-      ap (fault_in store after k) (same_role (state.roles k) state after steps) ∙ went_in (state.roles k) state after
+      ap (role_fault store after k) (same_role (state.roles k) state after steps) ∙ went_in (state.roles k) state after
       steps
 
   next_free_in : (role : Role) (state : State store) (event : Event) → next_in store state k role ≡ Some event
-      → fault_in store state k role ≡ None
+      → role_fault store state k role ≡ None
   next_free_in Undeclared state event e = absurd cc
   next_free_in (Eventless text) state event e = refl
   next_free_in Dismissed state event e = absurd cc
@@ -117,8 +117,8 @@ module _ (store : Store) (k : ℕ) where
   next_free_in Asking state event e = no_fault (is_some (next_in store state k Asking)) (ap is_some e)
 
   -- who has a next event can be stepped
-  pub next_free : (state : State store) (goal : Option Event) → IsNext store state k goal → step_fault store state k
-      ≡ None
+  pub next_free : (state : State store) (goal : Option Event) → IsNextEvent store state k goal
+      → step_fault store state k ≡ None
   next_free state None next = absurd next
   next_free state (Some event) next = next_free_in (state.roles k) state event next
 
@@ -134,7 +134,7 @@ pub record Going (config : Config) (start : State (store_of config)) (k : ℕ) (
   pub free : 0 < count → (step_fault (store_of config) start k ≡ None) × (step_fault (store_of config) state k ≡ None)
 
 module _ (config : Config) (start : State (store_of config)) (k : ℕ) (goal : Option Event) where
-  abbrev Store' : Store
+  abbrev Store' : Setting
   Store' = store_of config
 
   -- what hinders a step now hindered the first
@@ -152,14 +152,14 @@ module _ (config : Config) (start : State (store_of config)) (k : ℕ) (goal : O
       let none : None ≡ Some why = sym (free (omega arith)).1 ∙ e in absurd cc
 
   one_more : (count : ℕ) (before state : State Store') → Went Store' k goal start count before
-      → (IsNext Store' before k goal → ⊥) → Steps Store' before k stepped.Went state → Went Store' k goal start
+      → (IsNextEvent Store' before k goal → ⊥) → Steps Store' before k stepped.Went state → Went Store' k goal start
       (count + 1) state
   one_more count before state went other steps =
       let next : suc count ≡ count + 1 = omega arith in
       subst (λ (n : ℕ). Went Store' k goal start n state) next (before, went, other, steps)
 
   pub going_more : (count : ℕ) (weave new : Weave) (so_far : Going config start k goal count weave)
-      → (IsNext Store' so_far.state k goal → ⊥) → call.StepsSo config so_far.state k stepped.Went new
+      → (IsNextEvent Store' so_far.state k goal → ⊥) → call.StepsSo config so_far.state k stepped.Went new
       → Going config start k goal (count + 1) new
   going_more count weave new so_far other steps = record {
     state = steps.after;
@@ -173,7 +173,7 @@ module _ (config : Config) (start : State (store_of config)) (k : ℕ) (goal : O
   }
 
   pub gone_before : (count : ℕ) (weave : Weave) (so_far : Going config start k goal count weave)
-      → IsNext Store' so_far.state k goal
+      → IsNextEvent Store' so_far.state k goal
       → HasGone config start k goal stepped.Went weave
   gone_before count weave so_far next = record {
     fault = free_at count so_far.state so_far.went so_far.free (next_free Store' k so_far.state goal next);
@@ -183,8 +183,8 @@ module _ (config : Config) (start : State (store_of config)) (k : ℕ) (goal : O
   }
 
   pub gone_by : (count : ℕ) (how : Stepped) (weave new : Weave) (so_far : Going config start k goal count weave)
-      → (IsNext Store' so_far.state k goal → ⊥) → (how ≡ stepped.Went → ⊥) → call.StepsSo config so_far.state k how new
-      → HasGone config start k goal how new
+      → (IsNextEvent Store' so_far.state k goal → ⊥) → (how ≡ stepped.Went → ⊥)
+      → call.StepsSo config so_far.state k how new → HasGone config start k goal how new
   gone_by count how weave new so_far other last steps = record {
     fault = free_at count so_far.state so_far.went so_far.free steps.fault;
     after = steps.after;

@@ -12,7 +12,7 @@ use Rattle.mon_topo.specs.declared.zones.ZoneSpec.{ZoneSpec}
 use Rattle.mon_value.specs.declared.positions.Leaf.{Leaf}
 use Rattle.mon_value.specs.declared.positions.Zone.{Zone}
 use Rattle.query_core.specs.Program.{ask_of}
-use Rattle.query_core.specs.Settings.{Setting as Asked}
+use Rattle.query_core.specs.Settings.{QuerySetting}
 use Rattle.query_core.specs.declared.asks.Ask.{Ask}
 use Rattle.query_core.specs.declared.asks.Ask.TheVariants as ask
 use Rattle.query_core.specs.declared.stages.Stage.{Stage}
@@ -33,7 +33,7 @@ use Rattle.weave_core.proofs.AskingLemmas.{answered, seen_here, there_at}
 
 -- ---- the buckets that are asked of
 
-module _ (asked : Asked) (count : ℕ) (some : 0 < count)
+module _ (asked : QuerySetting) (count : ℕ) (some : 0 < count)
     (below : (i : ℕ) → get_or asked.plan.buckets i 0 < count) where
   root_below : (stage : Stage) (bucket : ℕ) → ask_of asked stage ≡ ask.LoadRoot bucket → bucket < count
   root_below (at.Rooting loading) bucket e =
@@ -63,7 +63,7 @@ module _ (config : Config) (core : Core (store_of config)) (k : ℕ) (store : St
   abbrev world : World
   world = core.world
 
-  abbrev asked : Asked
+  abbrev asked : QuerySetting
   asked = querying.machine.setting
 
   abbrev asks : Ask

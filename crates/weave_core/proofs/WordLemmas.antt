@@ -8,7 +8,7 @@ use Rattle.std.proofs.lemmas.List.{get_or-set_same, get_or-set_other}
 use Rattle.std.proofs.Math.Nat.{add-mul, mul-le-mul_right}
 use Rattle.std.proofs.lemmas.Nat.Bits.{bit_at_set_same, bit_at_set_other}
 use Rattle.mon_hints.specs.Words.{has_bit}
-use Rattle.weave_core.specs.HintWords.{HasWord, HintTable, RaisesOne, bit_of, index_of, with_child_bit}
+use Rattle.weave_core.specs.HintWords.{HasWord, HintTable, RaisesOne, child_bit, index_of, with_child_bit}
 use Rattle.weave_core.specs.HintWords.{same_word_place}
 use Rattle.weave_core.specs.HintWords.{table_number}
 use Rattle.weave_core.specs.HintWords.{with_raised, hint_word_at}
@@ -42,7 +42,7 @@ module _ (hints : HintTable) (place : Place) (child bucket : ℕ) (small : child
     (there : HasWord hints place bucket)
     (other : Place) (b c : ℕ) (within : b < hints.buckets) where
   abbrev new : ℕ
-  new = bit_or (hint_word_at hints place bucket) (bit_of child)
+  new = bit_or (hint_word_at hints place bucket) (child_bit child)
 
   abbrev Wanted : Type 0
   Wanted = has_bit (hint_word_at (with_child_bit hints place child bucket) other b) c

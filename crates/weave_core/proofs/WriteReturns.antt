@@ -28,7 +28,8 @@ use Rattle.weave_core.specs.Agreements.{IsLeafSo, IsRangeSo, place_of_leaf}
 use Rattle.weave_core.specs.HintWords.{HasWord}
 use Rattle.mon_topo.specs.Sights.{AreAlike}
 use Rattle.weave_core.specs.States.{store_of}
-use Rattle.weave_core.specs.WriteEvents.{ChangesLeaf, ChangesRange, EntersIf, IfWritten, LetsGo, LocksIf, Puts, Raises}
+use Rattle.weave_core.specs.WriteEvents.{ChangesLeaf, ChangesRange, EntersIf, IfWritten, LetsGo, LocksIf, Puts}
+use Rattle.weave_core.specs.WriteEvents.{RaisesBit}
 use Rattle.weave_core.specs.WriteEvents.{RaisesWord, ReservesIf}
 use Rattle.weave_core.specs.WriteTurns.{IsAtWork, IsInSomeWorld, WentSo, WriteEnded, WriteWent, WritesSo, turn_of}
 use Rattle.weave_core.specs.Writers.{writer_of}
@@ -275,11 +276,11 @@ module _ (config : Config) (world : World) (i : ℕ) (store : Store) (writing : 
   pub root_returns : (bucket : ℕ) → ask_of writing.machine.stage ≡ ask.RaiseRoot bucket → (leaf : Leaf)
       → writing.inside ≡ Some leaf → (seat : LeafSeat) → slice_get store.leaves.items leaf.0 ≡ Some seat → (new : Store)
       (other : LeafSeat) (next : Writing) (now : Sight) → RaisesWord word.Root seat.zone.0 bucket leaf other store new
-      → Raises leaf seat other writing next sight now → WriteWent config world i new writing next now
+      → RaisesBit leaf seat other writing next sight now → WriteWent config world i new writing next now
   root_returns bucket e leaf is seat got new other next now changes raises =
       let at = root_at bucket e in
       subst (λ (l : Leaf). IsLeafSo config world l seat → RaisesWord word.Root seat.zone.0 bucket l other store new
-      → Raises l seat other writing next sight now → WriteWent config world i new writing next now)
+      → RaisesBit l seat other writing next sight now → WriteWent config world i new writing next now)
       (same_leaf (bucket ∷ at.0) at.1 at.2 leaf is)
       (λ so changes' raises'. root_turn config world i store writing sight work bucket at.0 at.1 at.2 seat so new other
       next now
@@ -289,12 +290,12 @@ module _ (config : Config) (world : World) (i : ℕ) (store : Store) (writing : 
       → writing.inside ≡ Some leaf → (seat : LeafSeat) → slice_get store.leaves.items leaf.0 ≡ Some seat → (new : Store)
       (other : LeafSeat) (next : Writing) (now : Sight) → RaisesWord (word.Zone seat.zone) seat.place bucket leaf other
       store new
-      → Raises leaf seat other writing next sight now → WriteWent config world i new writing next now
+      → RaisesBit leaf seat other writing next sight now → WriteWent config world i new writing next now
   zone_returns bucket e leaf is seat got new other next now changes raises =
       let at = zone_at_ask bucket e in
       subst (λ (l : Leaf). IsLeafSo config world l seat → RaisesWord (word.Zone seat.zone) seat.place bucket l other
       store new
-      → Raises l seat other writing next sight now → WriteWent config world i new writing next now)
+      → RaisesBit l seat other writing next sight now → WriteWent config world i new writing next now)
       (same_leaf [] (bucket ∷ at.0) at.1 leaf is)
       (λ so changes' raises'. zone_turn config world i store writing sight work bucket at.0 at.1 seat so new other next
       now

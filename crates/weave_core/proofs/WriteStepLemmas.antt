@@ -11,7 +11,7 @@ use Rattle.weave_core.specs.ActorSteps.{ActorSteps, IsIn, WrittenSo}
 use Rattle.weave_core.specs.Core.{Happens}
 use Rattle.weave_core.specs.EndTexts.{write_end_text}
 use Rattle.weave_core.specs.EventNames.{event_of_write}
-use Rattle.weave_core.specs.States.{Asking, Dismissed, Eventless, Role, State, Undeclared, Writing, fault_in}
+use Rattle.weave_core.specs.States.{Asking, Dismissed, Eventless, Role, State, Undeclared, Writing, role_fault}
 use Rattle.weave_core.specs.States.{holder_in, is_past_lock, step_fault, store_of, write_asks, writes_begun}
 use Rattle.weave_core.specs.Steps.{StepsIn, with_event, write_stepped, writer_stepped}
 use Rattle.weave_core.specs.WriteTurns.{IsAtWork, WritesSo}
@@ -31,7 +31,7 @@ use Rattle.write_core.specs.Program.{Acking, Ended, Entering, Inside, Locking, M
 use Rattle.write_core.specs.Program.{end_of_verdict, entering, reserving}
 use Rattle.write_core.specs.Program as write
 use Rattle.write_core.specs.Marks.{waiting}
-use Rattle.write_core.specs.Rounds.{Round, again, is_through, after_look, marks_of, round_of, after_skip}
+use Rattle.write_core.specs.Rounds.{Round, again, is_through, after_look, round_marks, round_of, after_skip}
 use Rattle.write_core.specs.Steps.{CanComeAt, CanGo}
 use Rattle.write_core.specs.World.{Actor as Doer, World, Writer, view_of}
 use Rattle.write_core.specs.declared.asks.WriteAsk.{WriteAsk}
@@ -43,7 +43,7 @@ use Rattle.write_core.specs.declared.marks.Fate.TheVariants as fate
 -- ---- stages behind the lock
 
 past_entering_by : (b : Bool) (round : Round)
-    → is_past_lock (cond b (Acking (Marked (marks_of round))) (Entering round)) ≡ true
+    → is_past_lock (cond b (Acking (Marked (round_marks round))) (Entering round)) ≡ true
 past_entering_by true round = refl
 past_entering_by false round = refl
 
@@ -154,7 +154,7 @@ module _ (config : Config) (state : State (store_of config)) (i : ℕ) (store : 
 
   no_fault : step_fault (store_of config) state i ≡ None
   no_fault =
-      ap (fault_in (store_of config) state i) role_is
+      ap (role_fault (store_of config) state i) role_is
       ∙ ap (λ (some : Bool). cond (not some) (Some fault.Finished) None)
       (ap (λ (who : Doer). is_some (event_of_write (write_asks who))) writes.writer.writer
       ∙ has_event (ask_of writing.machine.stage) writes.goes_on)

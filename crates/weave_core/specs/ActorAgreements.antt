@@ -3,7 +3,7 @@ use Rattle.std.specs.Prelude.{ℕ, ◌+◌, pos, ◌≡◌, ◌≢◌, ◌≤ℤ
 use Rattle.std.specs.Prelude.{None}
 use Rattle.mon_config.specs.declared.config.Config.{Config}
 use Rattle.mon_topo.specs.SeenHistories.{AreWithin}
-use Rattle.mon_topo.specs.Settings.{Setting as Store}
+use Rattle.mon_topo.specs.Settings.{Setting}
 use Rattle.query_core.specs.Askings.{IsAskedOf}
 use Rattle.query_core.specs.Machine.{new_query}
 use Rattle.query_core.specs.Program as query
@@ -34,7 +34,7 @@ use Rattle.write_core.specs.declared.asks.WriteAsk.TheVariants as write_ask
 -- ---- a query
 
 -- a query of the core is this one, and its caller has seen so much
-pub record IsReaderSo (store : Store) (reader : Reader store) (querying : Querying) (sight : Sight) : Type 0 where
+pub record IsReaderSo (store : Setting) (reader : Reader store) (querying : Querying) (sight : Sight) : Type 0 where
   pub asked : IsAskedOf store querying.machine.setting
   pub moment_lawful : pos 0 ≤ℤ querying.moment
   pub setting : reader.setting ≡ querying.machine.setting
@@ -48,8 +48,8 @@ pub record IsReaderSo (store : Store) (reader : Reader store) (querying : Queryi
 
 module _ (config : Config) (i : ℕ) (doer : Doer) (reader : Reader (store_of config)) where
   -- it has written nothing
-  abbrev pub IsStander : Type 0
-  IsStander = doer ≡ Stands (record { pass = i; view = view_of doer })
+  abbrev pub HasWrittenNothing : Type 0
+  HasWrittenNothing = doer ≡ Stands (record { pass = i; view = view_of doer })
 
   -- nothing was said yet of what it is to do, and it has seen what all have seen at first
   abbrev pub IsUndeclared : Type 0
@@ -58,13 +58,13 @@ module _ (config : Config) (i : ℕ) (doer : Doer) (reader : Reader (store_of co
   -- its call has no event, and it ends with this text at its first step
   pub record IsWithoutEvent (text own : List ℕ) (begun : Bool) (sight : Sight) : Type 0 where
     pub text_is : own ≡ text
-    pub stands : IsStander
+    pub stands : HasWrittenNothing
     pub begun_is : begun ≡ false
     pub seen : sight ≡ sight_of (view_of doer).seen
 
   -- which it has done
   pub record IsDismissed (sight : Sight) : Type 0 where
-    pub stands : IsStander
+    pub stands : HasWrittenNothing
     pub seen : sight ≡ sight_of (view_of doer).seen
 
   -- it writes
@@ -83,7 +83,7 @@ module _ (config : Config) (i : ℕ) (doer : Doer) (reader : Reader (store_of co
   pub record IsQuerying (querying : Querying) (begun : Bool) (sight : Sight) : Type 0 where
     pub reader_so : IsReaderSo (store_of config) reader querying sight
     pub planned : IsPlanned config querying
-    pub stands : IsStander
+    pub stands : HasWrittenNothing
     pub goes_on : query.ask_of querying.machine.setting querying.machine.stage ≢ query_ask.Finished
     pub begun_is : begun ≡ is_any reader.session
 
@@ -91,7 +91,7 @@ module _ (config : Config) (i : ℕ) (doer : Doer) (reader : Reader (store_of co
   pub record HasQueried (sight : Sight) : Type 0 where
     pub ended : asked_now (store_of config) reader ≡ query_ask.Finished
     pub begun_is : is_any reader.session ≡ true
-    pub stands : IsStander
+    pub stands : HasWrittenNothing
     pub seen : sight ≡ sight_of reader.view.seen
 
   -- an actor of this role is so far, and has seen so much

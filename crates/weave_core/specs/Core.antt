@@ -6,7 +6,7 @@ use Rattle.mon_hints.specs.HistoryBuckets.{history_buckets}
 use Rattle.mon_hints.specs.Words.{has_bit}
 use Rattle.mon_meaning.specs.LeafAnswers.{IsLeafPart, IsOverLeaf}
 use Rattle.mon_topo.specs.Settings.{zone_of_leaf}
-use Rattle.mon_topo.specs.Settings.{Setting as Store}
+use Rattle.mon_topo.specs.Settings.{Setting}
 use Rattle.mon_value.specs.Positions.{leaf_numbered}
 use Rattle.mon_topo.specs.Zones.{first_leaf, leaf_zones}
 use Rattle.mon_value.specs.LeafHistories.{is_down}
@@ -20,7 +20,7 @@ use Rattle.query_core.specs.Openings.{is_plan_met}
 use Rattle.query_core.specs.Program.{after, ask_of}
 use Rattle.query_core.specs.Sessions as session
 use Rattle.query_core.specs.Sessions.{IsSeenSo, query_after}
-use Rattle.query_core.specs.Settings.{Setting}
+use Rattle.query_core.specs.Settings.{QuerySetting}
 use Rattle.query_core.specs.Traces.{first_serving, slot_rows}
 use Rattle.query_core.specs.declared.asks.Ask.{Ask}
 use Rattle.query_core.specs.declared.asks.Ask.TheVariants as ask
@@ -42,7 +42,7 @@ pub record IsWordOfRoot (world : World) (bucket word : ℕ) : Type 0 where
   pub bits : (zone : ℕ) → has_bit word zone ≡ world.truth.bits.root zone bucket
 
 -- and that of a zone's those of its leaves; a leaf's bit stands at its place in the zone
-pub record IsWordOfZone (store : Store) (world : World) (zone : Zone) (bucket word : ℕ) : Type 0 where
+pub record IsWordOfZone (store : Setting) (world : World) (zone : Zone) (bucket word : ℕ) : Type 0 where
   pub bits : (leaf : Leaf) → slice_get (leaf_zones store.zones) leaf.0 ≡ Some zone
       → has_bit word (leaf.0 - first_leaf store.zones zone.0) ≡ world.truth.bits.zone leaf.0 bucket
 
@@ -52,14 +52,14 @@ pub record IsLookedAt (world : World) (leaf : Leaf) (cut : ℕ) (down : Bool) : 
   pub whole : cut ≡ length (of_leaf world.truth leaf)
   pub is : is_down (of_leaf world.truth leaf) ≡ down
 
-module _ (store : Store) (setting : Setting) (moment : ℤ) (world : World) (view : View) where
+module _ (store : Setting) (setting : QuerySetting) (moment : ℤ) (world : World) (view : View) where
   -- whether a formula of the query's plan holds of a leaf's buckets
   abbrev pub is_met_on : Leaf → Bool
   is_met_on leaf = is_plan_met setting.plan (history_buckets store.buckets_of (of_leaf world.truth leaf))
 
   -- the rows of slots of a leaf
-  abbrev pub rows_on : Leaf → List RangeSlot → List Row
-  rows_on leaf slots = slot_rows (of_leaf world.truth leaf) slots
+  abbrev pub rows_of_slots : Leaf → List RangeSlot → List Row
+  rows_of_slots leaf slots = slot_rows (of_leaf world.truth leaf) slots
 
   -- a query that avoids these leaves, and to which these slots of the leaf that it visits resolved, does an event and
   -- is told so: a word as it stands; the first replica that serves, of a range that nobody holds; of a leaf that
@@ -78,10 +78,10 @@ module _ (store : Store) (setting : Setting) (moment : ℤ) (world : World) (vie
   IsTold avoided slots (ask.Visit leaf) (told.Unread cut) = IsLookedAt world leaf cut false × (is_met_on leaf ≡ false)
   IsTold avoided slots (ask.Visit leaf) (told.Read cut answer) =
       IsLookedAt world leaf cut false × (is_met_on leaf ≡ true)
-      × IsLeafPart (typed_of setting) (rows_on leaf slots) moment setting.limit answer
+      × IsLeafPart (typed_of setting) (rows_of_slots leaf slots) moment setting.limit answer
   IsTold avoided slots (ask.Visit leaf) (told.Over load cut) =
       IsLookedAt world leaf cut false × (is_met_on leaf ≡ true)
-      × IsOverLeaf (typed_of setting) (rows_on leaf slots) moment setting.limit (record { load = load })
+      × IsOverLeaf (typed_of setting) (rows_of_slots leaf slots) moment setting.limit (record { load = load })
   IsTold avoided slots asked answer = ⊥
 
   -- ---- what its caller has seen and knows then, and what it leaves behind
@@ -122,11 +122,11 @@ module _ (store : Store) (setting : Setting) (moment : ℤ) (world : World) (vie
 
 -- ---- queries side by side with writes and recoveries
 
-module _ (store : Store) where
+module _ (store : Setting) where
   -- a query: how it began, what its caller had seen and knew then, what it was told so far, and what its caller has
   -- seen and knows now
   pub record Reader : Type 0 where
-    pub setting : Setting
+    pub setting : QuerySetting
     pub moment : ℤ
     pub first : Query
     pub begin : View
@@ -209,6 +209,6 @@ module _ (store : Store) where
   CanGoOn core [] = Unit {0}
   CanGoOn core (event ∷ events) = CanCome core event × CanGoOn (came core event) events
 
-  abbrev pub gone_on : Core → List CoreEvent → Core
-  gone_on core [] = core
-  gone_on core (event ∷ events) = gone_on (came core event) events
+  abbrev pub core_gone_on : Core → List CoreEvent → Core
+  core_gone_on core [] = core
+  core_gone_on core (event ∷ events) = core_gone_on (came core event) events

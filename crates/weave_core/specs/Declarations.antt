@@ -3,7 +3,7 @@ use Rattle.std.specs.Prelude.{ℕ, ℤ, ◌≡◌, List, [], map, Option, Some, 
 use Rattle.mon_config.specs.declared.config.Config.{Config}
 use Rattle.mon_hints.specs.Formulas.{formula_tree}
 use Rattle.mon_topo.specs.Locations.{range_for}
-use Rattle.mon_topo.specs.Settings.{Setting as Store}
+use Rattle.mon_topo.specs.Settings.{Setting}
 use Rattle.mon_value.specs.Answers.{◌>>=◌}
 use Rattle.mon_value.specs.declared.positions.Range.{Range}
 use Rattle.mon_value.specs.declared.rows.Row.{Row}
@@ -14,7 +14,7 @@ use Rattle.plan_split.specs.FetchFormulas.{plan_formulas}
 use Rattle.query_core.specs.Askings.{IsAskedOf}
 use Rattle.query_core.specs.Machine.{new_query}
 use Rattle.query_core.specs.Mixtures.{typed_of}
-use Rattle.query_core.specs.Settings.{Setting}
+use Rattle.query_core.specs.Settings.{QuerySetting}
 use Rattle.weave_core.specs.Core.{CanCome, CoreEvent, Happens, Hears, Reader}
 use Rattle.weave_core.specs.EndTexts.{no_zone_text}
 use Rattle.weave_core.specs.Refusals.{parse_line, typing_line}
@@ -41,7 +41,7 @@ query_typed config text = do
   printed_fault typing_line (typing config.schemas tree)
 
 -- a typed query is asked of the store, with the hints that its fetches have, and the limit
-pub record IsAskedSo (config : Config) (typed : TypedTree) (setting : Setting) : Type 0 where
+pub record IsAskedSo (config : Config) (typed : TypedTree) (setting : QuerySetting) : Type 0 where
   pub asked : IsAskedOf (store_of config) setting
   pub typed_so : typed_of setting ≡ typed
   pub hints : map formula_tree setting.plan.formulas ≡ plan_formulas config.buckets typed.tree
@@ -49,9 +49,9 @@ pub record IsAskedSo (config : Config) (typed : TypedTree) (setting : Setting) :
 
 -- ---- actors that are declared
 
-module _ (store : Store) where
+module _ (store : Setting) where
   -- a query that has not begun, by someone who has seen and knows so much
-  abbrev pub new_reader : Setting → ℤ → View → Reader store
+  abbrev pub new_reader : QuerySetting → ℤ → View → Reader store
   new_reader setting moment view = record {
     setting = setting;
     moment = moment;
@@ -81,7 +81,7 @@ module _ (config : Config) where
       → Type 0
   QueryBegins state k moment (Err line) after = after ≡ with_role (store_of config) state k (Eventless line)
   QueryBegins state k moment (Ok typed) after =
-      (setting : Setting) × IsAskedSo config typed setting
+      (setting : QuerySetting) × IsAskedSo config typed setting
       × (after ≡ with_reader (store_of config) state k
       (new_reader (store_of config) setting moment (view_of (actor_at (store_of config) state k))))
 
@@ -93,7 +93,7 @@ module _ (config : Config) where
 
 -- ---- meetings
 
-module _ (store : Store) where
+module _ (store : Setting) where
   abbrev pub hearing_in : Role → ℕ → View → CoreEvent store
   hearing_in Undeclared k view = Happens (Learns k view)
   hearing_in (Eventless text) k view = Happens (Learns k view)

@@ -30,13 +30,13 @@ abbrev pub no_words : ℕ → ℕ → HintTable
 no_words zones buckets = record { words = replicate ((zones + 1) * buckets) 0; buckets = buckets }
 
 -- the bit of a child
-abbrev pub bit_of : ℕ → ℕ
-bit_of child = 1 * 2 ^ child % 2 ^ 64
+abbrev pub child_bit : ℕ → ℕ
+child_bit child = 1 * 2 ^ child % 2 ^ 64
 
 -- a child's bit is set
 abbrev pub with_child_bit : HintTable → Place → ℕ → ℕ → HintTable
 with_child_bit hints place child bucket = record {
-  words = set hints.words (index_of hints place bucket) (bit_or (hint_word_at hints place bucket) (bit_of child));
+  words = set hints.words (index_of hints place bucket) (bit_or (hint_word_at hints place bucket) (child_bit child));
   buckets = hints.buckets;
 }
 

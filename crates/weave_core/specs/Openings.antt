@@ -2,7 +2,7 @@
 use Rattle.std.specs.Prelude.{ℕ, ◌≡◌, ◌+◌, ◌-◌, List, [], ◌∷◌, ◌++◌, length, map, take, slice_get}
 use Rattle.std.specs.Prelude.{Some, None}
 use Rattle.std.specs.List.{flat_map, range_with_len, slice_index_or}
-use Rattle.leaf_store.specs.LeafStates.{LeafView, with_entry, with_promised}
+use Rattle.leaf_store.specs.LeafStates.{LeafView, leaf_with_entry, with_promised}
 use Rattle.mon_config.specs.declared.config.Config.{Config}
 use Rattle.mon_topo.specs.Zones.{first_leaf, first_replicas, leaf_zones, leaves_in}
 use Rattle.mon_value.specs.Positions.{leaf_numbered, range_numbered, zone_numbered}
@@ -44,7 +44,7 @@ pub record AreOpenedSo (config : Config) (so_far : ℕ → List Entry) (states :
 
 -- a replica without rows is opened on a leaf
 abbrev pub with_opening : Range → ℕ → LeafView → LeafView
-with_opening range slot state = with_entry (with_promised state (state.promised + 1)) (opening range slot)
+with_opening range slot state = leaf_with_entry (with_promised state (state.promised + 1)) (opening range slot)
 
 -- the histories of all ranges
 abbrev pub first_range_histories : List ZoneSpec → List (List RangeEntry)

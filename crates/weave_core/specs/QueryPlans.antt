@@ -31,13 +31,13 @@ pub record IsMachineSo (config : Config) (text : List ℕ) (machine : Query) : T
   pub buckets : AllByRecursion (λ (bucket : ℕ). bucket < config.buckets) machine.setting.plan.buckets
   pub new : machine ≡ new_query machine.setting
 
-abbrev pub IsRefusedSo : Config → List ℕ → Refusal (List ℕ) → Type 0
-IsRefusedSo config text (refusal.Fault line) = query_typed config text ≡ Err line
-IsRefusedSo config text refusal.OutOfMemory = Unit {0}
+abbrev pub IsQueryRefused : Config → List ℕ → Refusal (List ℕ) → Type 0
+IsQueryRefused config text (refusal.Fault line) = query_typed config text ≡ Err line
+IsQueryRefused config text refusal.OutOfMemory = Unit {0}
 
 abbrev pub IsMachineOf : Config → List ℕ → Result Query (Refusal (List ℕ)) → Type 0
 IsMachineOf config text (Ok machine) = IsMachineSo config text machine
-IsMachineOf config text (Err why) = IsRefusedSo config text why
+IsMachineOf config text (Err why) = IsQueryRefused config text why
 
 -- a query that begins at a moment
 pub record BeginsToAsk (config : Config) (moment : ℤ) (text : List ℕ) (querying : Querying) : Type 0 where

@@ -21,9 +21,9 @@ module _ (config : Config) where
     pub does : Does config from what said to
 
   -- lines, one after another
-  abbrev pub Leads : State (store_of config) → List LineForm → State (store_of config) → Type 0
-  Leads from [] to = to ≡ from
-  Leads from (what ∷ lines) to = (mid : State (store_of config)) × LeadsBy from what mid × Leads mid lines to
+  abbrev pub LinesLead : State (store_of config) → List LineForm → State (store_of config) → Type 0
+  LinesLead from [] to = to ≡ from
+  LinesLead from (what ∷ lines) to = (mid : State (store_of config)) × LeadsBy from what mid × LinesLead mid lines to
 
   -- a query that has ended with this table
   abbrev pub HasAnswered : Reader (store_of config) → Answer → Type 0

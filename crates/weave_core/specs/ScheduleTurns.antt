@@ -6,7 +6,7 @@ use Rattle.mon_value.specs.declared.refusals.Refusal.{Refusal}
 use Rattle.mon_value.specs.declared.refusals.Refusal.TheVariants as refusal
 use Rattle.weave_core.specs.ActorAgreements.{Agrees}
 use Rattle.weave_core.specs.ScheduleLines.{schedule_form}
-use Rattle.weave_core.specs.Schedules.{Does, GoesOn, Printed, RunsFrom, line_fault, said_before}
+use Rattle.weave_core.specs.Schedules.{Does, ActorGoesOn, Printed, RunsFrom, line_fault, said_before}
 use Rattle.weave_core.specs.States.{State, step_fault, store_of}
 use Rattle.weave_core.specs.declared.calls.ScheduleFault.{ScheduleFault}
 use Rattle.weave_core.specs.declared.calls.Stepped.{Stepped}
@@ -22,7 +22,7 @@ module _ (config : Config) (state : State (store_of config)) where
   pub record HasGone (k : ℕ) (goal : Option Event) (how : Stepped) (new : Weave) : Type 0 where
     pub fault : step_fault (store_of config) state k ≡ None
     pub after : State (store_of config)
-    pub goes : GoesOn (store_of config) k goal state how after
+    pub goes : ActorGoesOn (store_of config) k goal state how after
     pub agrees : Agrees config new after
 
   abbrev pub GoesSo : ℕ → Option Event → Result Stepped (Refusal WeaveFault) → Weave → Type 0
@@ -42,13 +42,13 @@ module _ (config : Config) (state : State (store_of config)) where
     pub prints : after ≡ before ++ said
 
   -- or it was refused, and printed nothing
-  pub record IsRefused (what : LineForm) (why : WeaveFault) (before after : List ℕ) : Type 0 where
+  pub record IsLineRefused (what : LineForm) (why : WeaveFault) (before after : List ℕ) : Type 0 where
     pub fault : line_fault (store_of config) state what ≡ Some why
     pub prints : after ≡ before
 
   abbrev pub FormSo : LineForm → {X : Type 0} → Result X (Refusal WeaveFault) → Weave → List ℕ → List ℕ → Type 0
   FormSo what (Ok x) new before after = IsDone what new before after
-  FormSo what (Err (refusal.Fault why)) new before after = IsRefused what why before after
+  FormSo what (Err (refusal.Fault why)) new before after = IsLineRefused what why before after
   FormSo what (Err refusal.OutOfMemory) new before after = Unit {0}
 
   -- ---- a line of bytes

@@ -6,7 +6,7 @@ use Rattle.std.specs.List.{flat_map, range_with_len}
 use Rattle.mon_config.specs.declared.config.Config.{Config}
 use Rattle.mon_script.specs.Lines.{is_remark, lines_of}
 use Rattle.mon_table.specs.Tables.{newline}
-use Rattle.mon_topo.specs.Settings.{Setting as Store}
+use Rattle.mon_topo.specs.Settings.{Setting}
 use Rattle.mon_value.specs.declared.refusals.Refusal.{Refusal}
 use Rattle.mon_value.specs.declared.refusals.Refusal.TheVariants as refusal
 use Rattle.weave_core.specs.Declarations.{Declares, Meets}
@@ -39,7 +39,7 @@ stepped_text k stepped.Went = []
 stepped_text k stepped.Waits = decimal k ++ (codes " waits" ++ newline)
 stepped_text k (stepped.Ended text) = codes "actor " ++ (decimal k ++ newline) ++ text
 
-module _ (store : Store) where
+module _ (store : Setting) where
   abbrev pub is_unfinished : State store → ℕ → Bool
   is_unfinished state k = is_declared store state k && not (has_ended store state k)
 
@@ -53,37 +53,37 @@ module _ (store : Store) where
   -- ---- events one after another
 
   -- an actor's next event is this one (where none is given, no event is)
-  abbrev pub IsNext : State store → ℕ → Option Event → Type 0
-  IsNext state k None = ⊥
-  IsNext state k (Some event) = next_event store state k ≡ Some event
+  abbrev pub IsNextEvent : State store → ℕ → Option Event → Type 0
+  IsNextEvent state k None = ⊥
+  IsNextEvent state k (Some event) = next_event store state k ≡ Some event
 
   -- from a state, so many events of an actor went, and led to another state; none of them was the one given
   abbrev pub Went : ℕ → Option Event → State store → ℕ → State store → Type 0
   Went k goal from zero state = state ≡ from
   Went k goal from (suc count) state =
-      (before : State store) × Went k goal from count before × (IsNext before k goal → ⊥)
+      (before : State store) × Went k goal from count before × (IsNextEvent before k goal → ⊥)
       × Steps store before k stepped.Went state
 
   -- the actor stops before the event that was given
-  abbrev pub StopsBefore : ℕ → Option Event → State store → Stepped → State store → Type 0
-  StopsBefore k goal state how after = IsNext state k goal × (how ≡ stepped.Went) × (after ≡ state)
+  abbrev pub StopsBeforeEvent : ℕ → Option Event → State store → Stepped → State store → Type 0
+  StopsBeforeEvent k goal state how after = IsNextEvent state k goal × (how ≡ stepped.Went) × (after ≡ state)
 
   -- it waits, or ends by its next step
   abbrev pub EndsBy : ℕ → Option Event → State store → Stepped → State store → Type 0
   EndsBy k goal state how after =
-      (IsNext state k goal → ⊥) × Steps store state k how after × (how ≡ stepped.Went → ⊥)
+      (IsNextEvent state k goal → ⊥) × Steps store state k how after × (how ≡ stepped.Went → ⊥)
 
   -- so many events went that a line does no more
   abbrev pub Rests : ℕ → State store → Stepped → State store → Type 0
   Rests count state how after = (count ≡ MOST_EVENTS) × (how ≡ stepped.Went) × (after ≡ state)
 
   -- an actor does its events until it waits or ends, or until its next event is the one given
-  pub record GoesOn (k : ℕ) (goal : Option Event) (from : State store) (how : Stepped) (after : State store) : Type 0
-    where
-      pub count : ℕ
-      pub state : State store
-      pub went : Went k goal from count state
-      pub ends : StopsBefore k goal state how after ⊎ (EndsBy k goal state how after ⊎ Rests count state how after)
+  pub record ActorGoesOn (k : ℕ) (goal : Option Event) (from : State store) (how : Stepped) (after : State store)
+      : Type 0 where
+    pub count : ℕ
+    pub state : State store
+    pub went : Went k goal from count state
+    pub ends : StopsBeforeEvent k goal state how after ⊎ (EndsBy k goal state how after ⊎ Rests count state how after)
 
   -- ---- why a line is refused
 
@@ -108,26 +108,26 @@ module _ (store : Store) where
 
 module _ (config : Config) where
   -- an actor steps, and what this prints
-  pub record StepsSo (state : State (store_of config)) (k : ℕ) (said : List ℕ) (after : State (store_of config))
+  pub record StepPrints (state : State (store_of config)) (k : ℕ) (said : List ℕ) (after : State (store_of config))
       : Type 0 where
     pub how : Stepped
     pub steps : Steps (store_of config) state k how after
     pub says : said ≡ stepped_text k how
 
   -- an actor goes on, and what this prints
-  pub record GoesSo (state : State (store_of config)) (k : ℕ) (goal : Option Event) (said : List ℕ)
+  pub record GoingPrints (state : State (store_of config)) (k : ℕ) (goal : Option Event) (said : List ℕ)
       (after : State (store_of config)) : Type 0 where
     pub how : Stepped
-    pub goes : GoesOn (store_of config) k goal state how after
+    pub goes : ActorGoesOn (store_of config) k goal state how after
     pub says : said ≡ stepped_text k how
 
   -- a line that is not refused prints this and leaves that
   abbrev pub Does : State (store_of config) → LineForm → List ℕ → State (store_of config) → Type 0
   Does state (form.Declare k call) said after = (said ≡ []) × Declares config state k call after
   Does state (form.Meet k j) said after = (said ≡ []) × Meets (store_of config) state k j after
-  Does state (form.Step k) said after = StepsSo state k said after
-  Does state (form.Until k event) said after = GoesSo state k (Some event) said after
-  Does state (form.Finish k) said after = GoesSo state k None said after
+  Does state (form.Step k) said after = StepPrints state k said after
+  Does state (form.Until k event) said after = GoingPrints state k (Some event) said after
+  Does state (form.Finish k) said after = GoingPrints state k None said after
 
 -- ---- whole schedules
 
@@ -165,16 +165,16 @@ module _ (config : Config) where
   DoneUnless number Rest state what None printed = DoneThen Rest state what printed
 
   -- a line of no form is refused
-  abbrev pub LineRuns : ℕ → Onward → State (store_of config) → Option LineForm → Printed → Type 0
-  LineRuns number Rest state None printed = printed ≡ refused_at number fault.BadLine
-  LineRuns number Rest state (Some what) printed =
+  abbrev pub ScheduleLineRuns : ℕ → Onward → State (store_of config) → Option LineForm → Printed → Type 0
+  ScheduleLineRuns number Rest state None printed = printed ≡ refused_at number fault.BadLine
+  ScheduleLineRuns number Rest state (Some what) printed =
       DoneUnless number Rest state what (line_fault (store_of config) state what) printed
 
   -- an empty line and a remark do nothing
   abbrev pub RunsUnless : ℕ → Onward → State (store_of config) → List ℕ → Bool → Printed → Type 0
   RunsUnless number Rest state line true printed = Rest state printed
   RunsUnless number Rest state line false printed =
-      LineRuns number Rest state (schedule_form config.schemas line) printed
+      ScheduleLineRuns number Rest state (schedule_form config.schemas line) printed
 
   -- a line behind the last that may be is refused, whatever it is
   abbrev pub Numbered : ℕ → Type 0 → Bool → Printed → Type 0
@@ -190,7 +190,7 @@ module _ (config : Config) where
       (nat_lt MOST_LINES number) printed
 
   -- nobody is declared, and the store has no rows
-  pub record IsFirst (state : State (store_of config)) : Type 0 where
+  pub record IsFirstState (state : State (store_of config)) : Type 0 where
     pub new : IsNewCore (store_of config) state.core
     pub seen : state.core.world.truth.seen ≡ first_histories config.topology
     pub roles : (k : ℕ) → state.roles k ≡ Undeclared
@@ -198,7 +198,7 @@ module _ (config : Config) where
   -- a schedule's text prints this, by some run of the core
   pub record IsPrinted (schedule : List ℕ) (printed : Printed) : Type 0 where
     pub first : State (store_of config)
-    pub is_first : IsFirst first
+    pub is_first : IsFirstState first
     pub runs : RunsFrom 1 (lines_of schedule) first printed
 
   -- it is printed behind what was there

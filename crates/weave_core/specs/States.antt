@@ -2,7 +2,7 @@
 use Rattle.std.specs.Prelude.{ℕ, Bool, true, false, not, is_some, List, Option, Some, None, if◌then◌else◌}
 use Rattle.leaf_store.specs.LeafBuckets.{key_buckets}
 use Rattle.mon_config.specs.declared.config.Config.{Config}
-use Rattle.mon_topo.specs.Settings.{Setting as Store}
+use Rattle.mon_topo.specs.Settings.{Setting}
 use Rattle.query_core.specs.declared.asks.Ask.{Ask}
 use Rattle.query_core.specs.declared.asks.Ask.TheVariants as ask
 use Rattle.weave_core.specs.Core.{Core, Reader, asked_now}
@@ -20,7 +20,7 @@ use Rattle.mon_value.specs.Parts.{is_any}
 
 -- ---- the store of a configuration
 
-abbrev pub store_of : Config → Store
+abbrev pub store_of : Config → Setting
 store_of config = record {
   held = config.schemas;
   zones = config.topology;
@@ -40,7 +40,7 @@ pub data Role : Type 0 where
   Asking : Role
 
 -- the core, and the role of each actor
-pub record State (store : Store) : Type 0 where
+pub record State (store : Setting) : Type 0 where
   pub core : Core store
   pub roles : ℕ → Role
 
@@ -88,7 +88,7 @@ holder_for_query world (ask.Resolve range) = world.range_holder range.0
 holder_for_query world (ask.Visit leaf) = world.leaf_holder leaf.0
 holder_for_query world ask.Finished = None
 
-module _ (store : Store) (state : State store) (k : ℕ) where
+module _ (store : Setting) (state : State store) (k : ℕ) where
   abbrev pub actor_at : Actor
   actor_at = state.core.world.actors k
 
@@ -138,16 +138,16 @@ module _ (store : Store) (state : State store) (k : ℕ) where
   abbrev pub has_begun : Bool
   has_begun = begun_in (state.roles k)
 
-  abbrev pub fault_in : Role → Option WeaveFault
-  fault_in Undeclared = Some fault.NoActor
-  fault_in (Eventless text) = None
-  fault_in Dismissed = Some fault.Finished
-  fault_in Writing = if ended_in Writing then Some fault.Finished else None
-  fault_in Asking = if ended_in Asking then Some fault.Finished else None
+  abbrev pub role_fault : Role → Option WeaveFault
+  role_fault Undeclared = Some fault.NoActor
+  role_fault (Eventless text) = None
+  role_fault Dismissed = Some fault.Finished
+  role_fault Writing = if ended_in Writing then Some fault.Finished else None
+  role_fault Asking = if ended_in Asking then Some fault.Finished else None
 
   -- why an actor has no next step: it is not declared, or it has ended
   abbrev pub step_fault : Option WeaveFault
-  step_fault = fault_in (state.roles k)
+  step_fault = role_fault (state.roles k)
 
   abbrev pub view_in : Role → View
   view_in Undeclared = view_of actor_at

@@ -1,6 +1,6 @@
 -- One step of one actor: an event of it and of no other, or nothing where another one is in its way.
 use Rattle.std.specs.Prelude.{ℕ, ◌≡◌, ◌≢◌, ◌⊎◌, List, [], Some}
-use Rattle.mon_topo.specs.Settings.{Setting as Store}
+use Rattle.mon_topo.specs.Settings.{Setting}
 use Rattle.mon_topo.specs.declared.zones.ZoneSpec.{ZoneSpec}
 use Rattle.query_core.specs.declared.asks.Told.{Told}
 use Rattle.query_core.specs.declared.stages.Stage.{Stage}
@@ -44,7 +44,7 @@ query_stepped zones (query.Ended end) = stepped.Ended (query_text zones end)
 
 -- ---- steps
 
-module _ (store : Store) where
+module _ (store : Setting) where
   abbrev pub with_role : State store → ℕ → Role → State store
   with_role state k role = record { core = state.core; roles = with_value_at state.roles k role }
 

@@ -6,7 +6,7 @@ use Rattle.mon_value.specs.declared.refusals.Refusal.TheVariants as refusal
 use Rattle.weave_core.specs.ActorAgreements.{Agrees}
 use Rattle.weave_core.specs.Declarations.{Declares, Meets}
 use Rattle.weave_core.specs.LawfulLines.{IsLawfulCall}
-use Rattle.weave_core.specs.Schedules.{IsFirst, declare_fault}
+use Rattle.weave_core.specs.Schedules.{IsFirstState, declare_fault}
 use Rattle.weave_core.specs.States.{State, step_fault, store_of}
 use Rattle.weave_core.specs.Steps.{Steps}
 use Rattle.weave_core.specs.declared.calls.Call.{Call}
@@ -28,7 +28,7 @@ IsKeptUnless (Err refusal.OutOfMemory) new = Unit {0}
 -- a new weave is as a core in which nobody is declared
 pub record BeginsSo (config : Config) (weave : Weave) : Type 0 where
   pub state : State (store_of config)
-  pub first : IsFirst config state
+  pub first : IsFirstState config state
   pub agrees : Agrees config weave state
 
 module _ (config : Config) (state : State (store_of config)) (k : ℕ) where

@@ -137,12 +137,13 @@ EntersIf leaf old new before after sight sight_after true = Enters leaf old new 
 EntersIf leaf old new before after sight sight_after false = IsHeldUp old.holder old new before after sight sight_after
 
 -- a bit was set for the leaf that it is inside of
-pub record Raises (leaf : Leaf) (old new : LeafSeat) (before after : Writing) (sight sight_after : Sight) : Type 0 where
-  pub stays : StaysThere old new sight_after
-  pub history : new.state.history ≡ old.state.history
-  pub holder : new.holder ≡ old.holder
-  pub seen : sight_after ≡ met_at_leaf leaf old.state.history sight old.sight
-  pub told_so : IsToldSo told.Done before.inside before after
+pub record RaisesBit (leaf : Leaf) (old new : LeafSeat) (before after : Writing) (sight sight_after : Sight) : Type 0
+  where
+    pub stays : StaysThere old new sight_after
+    pub history : new.state.history ≡ old.state.history
+    pub holder : new.holder ≡ old.holder
+    pub seen : sight_after ≡ met_at_leaf leaf old.state.history sight old.sight
+    pub told_so : IsToldSo told.Done before.inside before after
 
 -- its row is put, and it lets go of the leaf
 pub record Puts (slot : Slot) (leaf : Leaf) (old new : LeafSeat) (before after : Writing) (sight sight_after : Sight)

@@ -47,20 +47,20 @@ ended_write i writing verdict view =
     record { pass = i; row = writing.row; range = writing.range; stage = Ended verdict; view = view }
 
 module _ (config : Config) (world : World) (i : ℕ) where
-  abbrev pub world_then : WriteTold → World
-  world_then answer = step (store_of config) world i answer
+  abbrev pub world_after_step : WriteTold → World
+  world_after_step answer = step (store_of config) world i answer
 
   -- its event came with this answer, and the store is as it is then
   pub record HasCome (store : Store) (answer : WriteTold) : Type 0 where
     pub can : CanCome (store_of config) world i answer
-    pub shared : AreShared config (world_then answer) store
+    pub shared : AreShared config (world_after_step answer) store
 
   -- and the write goes on
   pub record WriteWent (store : Store) (writing next : Writing) (sight : Sight) : Type 0 where
     pub answer : WriteTold
     pub came : HasCome store answer
     pub stage : next.machine.stage ≡ after writing.machine.stage answer
-    pub writer : IsWriterSo config.buckets i ((world_then answer).actors i) next sight
+    pub writer : IsWriterSo config.buckets i ((world_after_step answer).actors i) next sight
     pub goes_on : ask_of next.machine.stage ≢ Finished
 
   -- or it has ended
@@ -69,9 +69,9 @@ module _ (config : Config) (world : World) (i : ℕ) where
       pub answer : WriteTold
       pub came : HasCome store answer
       pub verdict : Verdict
-      pub writer : (world_then answer).actors i
-          ≡ Writes (ended_write i before verdict (view_of ((world_then answer).actors i)))
-      pub sight_is : sight ≡ sight_of (view_of ((world_then answer).actors i)).seen
+      pub writer : (world_after_step answer).actors i
+          ≡ Writes (ended_write i before verdict (view_of ((world_after_step answer).actors i)))
+      pub sight_is : sight ≡ sight_of (view_of ((world_after_step answer).actors i)).seen
       pub range_is : range ≡ before.range
       pub end_is : end ≡ end_of_verdict range verdict
 

@@ -9,7 +9,7 @@ ghost use Rattle.mon_value.specs.Histories.{leaf_history};
 ghost use Rattle.mon_topo.specs.HeldHistories.{AreHeld};
 ghost use Rattle.mon_topo.specs.RangeHistories.{IsLegal};
 ghost use Rattle.mon_topo.specs.Replicas.{HasReplicas};
-ghost use Rattle.mon_topo.specs.Settings.{Setting as Store};
+ghost use Rattle.mon_topo.specs.Settings.{Setting};
 ghost use Rattle.mon_topo.specs.Zones.{ranges_in};
 ghost use Rattle.mon_topo.specs.declared.zones.ZoneSpec.{ZoneSpec};
 ghost use Rattle.mon_value.specs.LeafHistories.{leaf_rows};
@@ -43,11 +43,11 @@ pub fn stores_begin_held()
 /// Who has seen a part of the truth, and keeps how far, sees by a meeting at a leaf or at a range just as far as what
 /// it has seen then, together with what was seen there.
 pub fn meetings_see_as_far_as_views()
-    ensures leaf { (store : Store) (world : World) (view : View) (leaf : LeafNumber) → IsKept store world
+    ensures leaf { (store : Setting) (world : World) (view : View) (leaf : LeafNumber) → IsKept store world
         → IsPart store world view
         → met_at_leaf leaf (of_leaf world.truth leaf) (sight_of view.seen) (sight_of (world.leaves leaf.0).seen)
         ≡ sight_of (joined_view view (world.leaves leaf.0)).seen }
-    ensures range { (store : Store) (world : World) (view : View) (range : RangeNumber) → IsKept store world
+    ensures range { (store : Setting) (world : World) (view : View) (range : RangeNumber) → IsKept store world
         → IsPart store world view
         → met_at_range range (of_range world.truth range) (sight_of view.seen) (sight_of (world.ranges range.0).seen)
         ≡ sight_of (joined_view view (world.ranges range.0)).seen }
@@ -56,7 +56,7 @@ pub fn meetings_see_as_far_as_views()
 /// Of a history that a range can have, what a write is told by the lock is what it may be told: that its row is old,
 /// that the range is full, or the replicas that serve, and then its row can be acknowledged next.
 pub fn locks_tell_the_truth()
-    ensures told { (store : Store) (range : RangeNumber) (history : List RangeEntry) (row : RowOf)
+    ensures told { (store : Setting) (range : RangeNumber) (history : List RangeEntry) (row : RowOf)
         → IsLegal store.held store.zones store.points range history
         → IsToldByRange store history row (lock_answer store.points history row) }
 {}

@@ -1,6 +1,6 @@
 // What holds of queries beside writes and recoveries.
 ghost use Rattle.std.specs.Prelude.{◌≡◌, ◌≤ℤ◌, ℕ, List, Ok, Err, pos};
-ghost use Rattle.mon_topo.specs.Settings.{Setting as Store};
+ghost use Rattle.mon_topo.specs.Settings.{Setting};
 ghost use Rattle.mon_value.specs.declared.positions.FoundDown.{FoundDown as Found};
 ghost use Rattle.mon_value.specs.declared.positions.Range.{Range as RangeOf};
 ghost use Rattle.query_core.specs.Answers.{IsAnsweredRightly, IsStoppedRightly};
@@ -11,7 +11,7 @@ ghost use Rattle.query_core.specs.declared.answers.Answer.{Answer as AnswerOf};
 ghost use Rattle.query_core.specs.declared.answers.RoundFault.TheVariants.{NoReplica, StepLimit};
 ghost use Rattle.query_core.specs.declared.answers.Trace.{Trace as TraceOf};
 ghost use Rattle.query_core.specs.declared.stages.Stage.TheVariants.{Ended};
-ghost use Rattle.weave_core.specs.Core.{CanGoOn, Core, CoreEvent, Reader, gone_on, query_now};
+ghost use Rattle.weave_core.specs.Core.{CanGoOn, Core, CoreEvent, Reader, core_gone_on, query_now};
 ghost use Rattle.weave_core.specs.Licensed.{IsNewCore, IsReader, IsWoven};
 ghost use Rattle.write_core.specs.World.{World};
 
@@ -21,9 +21,9 @@ use query_core::sessions_answer_rightly;
 /// stands, each query's session stays licensed, and what its caller has seen and knows stays a sound part of the
 /// truth, while the writes and recoveries keep their invariant; all this holds before any of them has begun.
 pub fn queries_are_licensed()
-    ensures begins { (store : Store) (core : Core store) → IsNewCore store core → IsWoven store core }
-    ensures stays { (store : Store) (core : Core store) (events : List (CoreEvent store)) → CanGoOn store core events
-        → IsWoven store core → IsWoven store (gone_on store core events) }
+    ensures begins { (store : Setting) (core : Core store) → IsNewCore store core → IsWoven store core }
+    ensures stays { (store : Setting) (core : Core store) (events : List (CoreEvent store)) → CanGoOn store core events
+        → IsWoven store core → IsWoven store (core_gone_on store core events) }
 {}
 
 /// So each query that is asked of the store ends rightly, whatever else goes on. Its table is what it means,
@@ -35,16 +35,17 @@ pub fn queries_are_licensed()
 /// seen as it began and those seen at its end is on a leaf of the range's zone that it found down between them, and
 /// all these are named.
 pub fn queries_answer_rightly()
-    ensures answered { (store : Store) (world : World) (reader : Reader store) (answer : AnswerOf)
+    ensures answered { (store : Setting) (world : World) (reader : Reader store) (answer : AnswerOf)
         → IsReader store world reader → reader.first ≡ new_query reader.setting → IsAskedOf store reader.setting
         → pos 0 ≤ℤ reader.moment → (query_now store reader).stage ≡ Ended (Ok answer)
         → IsAnsweredRightly store reader.setting reader.moment reader.begin.seen reader.view.seen answer }
-    ensures stopped { (store : Store) (world : World) (reader : Reader store) (limit : ℕ) (trace : TraceOf)
+    ensures stopped { (store : Setting) (world : World) (reader : Reader store) (limit : ℕ) (trace : TraceOf)
         → IsReader store world reader → reader.first ≡ new_query reader.setting → IsAskedOf store reader.setting
         → pos 0 ≤ℤ reader.moment → (query_now store reader).stage ≡ Ended (Err (StepLimit limit trace))
         → IsStoppedRightly store reader.setting reader.moment reader.begin.seen reader.view.seen limit trace }
-    ensures no_replica { (store : Store) (world : World) (reader : Reader store) (range : RangeOf) (named : List Found)
-        → IsReader store world reader → reader.first ≡ new_query reader.setting → IsAskedOf store reader.setting
+    ensures no_replica { (store : Setting) (world : World) (reader : Reader store) (range : RangeOf)
+        (named : List Found) → IsReader store world reader → reader.first ≡ new_query reader.setting
+        → IsAskedOf store reader.setting
         → pos 0 ≤ℤ reader.moment → (query_now store reader).stage ≡ Ended (Err (NoReplica range named))
         → HasNoReplica store.zones reader.begin.seen reader.view.seen range named }
 {

@@ -256,9 +256,9 @@ fn has_gone(stepped: &Stepped) -> bool
 // Whether the next event of an actor is the one given.
 fn is_next(weave: &Weave, actor: u32, goal: Option<Event>) -> bool
     ensures next { (config : ConfigOf) (state : State (store_of config)) → Agrees config weave.now state
-        → result ≡ true → spec.IsNext (store_of config) state actor goal }
+        → result ≡ true → spec.IsNextEvent (store_of config) state actor goal }
     ensures other { (config : ConfigOf) (state : State (store_of config)) → Agrees config weave.now state
-        → result ≡ false → spec.IsNext (store_of config) state actor goal → ⊥ }
+        → result ≡ false → spec.IsNextEvent (store_of config) state actor goal → ⊥ }
 {
     match goal {
         Some(event) => is_event(weave.next_event(actor), event),

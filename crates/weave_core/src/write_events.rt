@@ -5,7 +5,7 @@ ghost use Rattle.mon_topo.specs.RangeHistories.{acknowledged_rows};
 ghost use Rattle.mon_value.specs.LeafHistories.{IsWellFormed};
 ghost use Rattle.mon_value.specs.Sources.{last_end, points_of};
 ghost use Rattle.mon_topo.specs.Sights.{AreAlike};
-ghost use Rattle.weave_core.specs.WriteEvents.{AreToRaise, EntersIf, IfWritten, LetsGo, LocksIf, Puts, Raises};
+ghost use Rattle.weave_core.specs.WriteEvents.{AreToRaise, EntersIf, IfWritten, LetsGo, LocksIf, Puts, RaisesBit};
 ghost use Rattle.weave_core.specs.WriteEvents.{ReservesIf};
 
 use crate::leaves::LeafSeat;
@@ -101,7 +101,7 @@ pub(crate) fn raise(
 ) -> Result<(), OutOfMemory>
     requires alike { AreAlike sight.old seat.old.sight }
     requires there { leaf.0 < length seat.old.sight.leaves }
-    ensures raises { OnOk result (Raises leaf seat.old seat.new writing.old writing.new sight.old sight.new) }
+    ensures raises { OnOk result (RaisesBit leaf seat.old seat.new writing.old writing.new sight.old sight.new) }
 {
     writing.machine.told(WriteTold::Done)?;
     seat.meet(leaf, sight);

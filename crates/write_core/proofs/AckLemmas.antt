@@ -14,7 +14,7 @@ use Rattle.mon_value.specs.declared.positions.SlotLeaf.{SlotLeaf}
 use Rattle.mon_value.specs.Positions.{same_slot}
 use Rattle.mon_topo.specs.RangeHistories.{is_missed, times}
 use Rattle.write_core.specs.Invariant.{AreAll, is_decided}
-use Rattle.write_core.specs.Marks.{is_taken, miss_of, missed_slot, replica_of, some_took, taken_slot}
+use Rattle.write_core.specs.Marks.{has_taken, miss_of, missed_slot, replica_of, some_took, taken_slot}
 use Rattle.write_core.specs.declared.marks.Fate.{Fate}
 use Rattle.write_core.specs.declared.marks.Fate.TheVariants as fate
 use Rattle.write_core.specs.declared.marks.Mark.{Mark}
@@ -76,7 +76,7 @@ taken_at : (b : Bool) (s slot : Slot) → Contains (cond b (s ∷ []) []) slot �
 taken_at true s slot there = (refl, contains_one s slot there)
 taken_at false s slot there = absurd (omega (arith, there.1))
 
-took_of : (f : Fate) → is_taken f ≡ true → f ≡ fate.Took
+took_of : (f : Fate) → has_taken f ≡ true → f ≡ fate.Took
 took_of fate.Waiting e = absurd cc
 took_of fate.Ready e = absurd cc
 took_of fate.Took e = refl
@@ -87,7 +87,7 @@ pub taken_in : (marks : List Mark) (slot : Slot) → Contains (flat_map taken_sl
     × Contains marks mark × (mark.fate ≡ fate.Took) × (mark.slot ≡ slot)
 taken_in marks slot there =
     let found = contains_flat taken_slot marks slot there in
-    let parts = taken_at (is_taken found.0.fate) found.0.slot slot found.2 in
+    let parts = taken_at (has_taken found.0.fate) found.0.slot slot found.2 in
     (found.0, found.1, took_of found.0.fate parts.0, parts.1)
 
 missed_at : (mark : Mark) (f : Fate) (miss : Miss) → Contains (miss_of mark f) miss → (cut : ℕ)
@@ -154,7 +154,7 @@ abbrev slot_of_mark : Mark → Slot
 slot_of_mark mark = mark.slot
 
 named_at : (slot : Slot) (mark : Mark) (f : Fate) → is_decided f ≡ true
-    → times slot (cond (is_taken f) (mark.slot ∷ []) []) + times slot (map slot_of_miss (miss_of mark f)) ≡ times slot
+    → times slot (cond (has_taken f) (mark.slot ∷ []) []) + times slot (map slot_of_miss (miss_of mark f)) ≡ times slot
     (mark.slot ∷ [])
 named_at slot mark fate.Waiting h = absurd cc
 named_at slot mark fate.Ready h = absurd cc
@@ -213,17 +213,17 @@ some_taken [] h = absurd cc
 some_taken (mark ∷ marks) h =
     let sum : length (taken_slot mark ++ flat_map taken_slot marks) ≡ length (taken_slot mark) + length
     (flat_map taken_slot marks) = length-append (taken_slot mark) (flat_map taken_slot marks) in
-    elim (or_cases (is_taken mark.fate) (some_took marks) h) [
-      | inl this ↦ (let one : length (taken_slot mark) ≡ 1 = taken_length (is_taken mark.fate) mark.slot this in omega
+    elim (or_cases (has_taken mark.fate) (some_took marks) h) [
+      | inl this ↦ (let one : length (taken_slot mark) ≡ 1 = taken_length (has_taken mark.fate) mark.slot this in omega
           arith)
       | inr later ↦ (let more : 0 < length (flat_map taken_slot marks) = some_taken marks later in omega arith)
     ]
 
 -- no replica took the row where none did
 pub none_took : (marks : List Mark) (mark : Mark) → some_took marks ≡ false → Contains marks mark
-    → is_taken mark.fate ≡ false
+    → has_taken mark.fate ≡ false
 none_took [] mark h there = absurd (omega (arith, there.1))
-none_took (first ∷ marks) mark h (zero, l, same) = ap (λ (x : Mark). is_taken x.fate) (sym same)
-    ∙ (both_false (is_taken first.fate) (some_took marks) h).0
+none_took (first ∷ marks) mark h (zero, l, same) = ap (λ (x : Mark). has_taken x.fate) (sym same)
+    ∙ (both_false (has_taken first.fate) (some_took marks) h).0
 none_took (first ∷ marks) mark h (suc k, l, same) = none_took marks mark
-    (both_false (is_taken first.fate) (some_took marks) h).1 (k, omega arith, same)
+    (both_false (has_taken first.fate) (some_took marks) h).1 (k, omega arith, same)

@@ -33,8 +33,8 @@ use Rattle.write_core.specs.CopySteps.{CanAsk, CanCopyAt, IsToldAtTarget, IsTold
 use Rattle.write_core.specs.CopySteps.{after_asking, after_sources, after_carrying, copied_in, copy_at, copy_of}
 use Rattle.write_core.specs.CopySteps.{after_nearing, new_replica}
 use Rattle.write_core.specs.CopySteps.{next_slot, opening_of, told_range}
-use Rattle.write_core.specs.Invariant.{HasCopied, HasLocked, HasOpened, HasRows, IsCopyAt, IsCopying, IsFresh}
-use Rattle.write_core.specs.Invariant.{IsInside, IsKept, IsRecovery, IsSettled, IsTelling}
+use Rattle.write_core.specs.Invariant.{HasCopied, HasLocked, HasOpened, HasRows, IsCopyAt, IsCopying, IsUnopened}
+use Rattle.write_core.specs.Invariant.{IsInside, IsKept, IsRecovery, IsRangeSettled, IsTelling}
 use Rattle.write_core.specs.Recovering.{Admits, Beginning, Carrying, CopyStage, CopyTold, Copying, Denied, Gives}
 use Rattle.write_core.specs.Recovering.{HasRoom, Nearing, Over, Sources, Telling, WasDone, WasDown, Within, copying}
 use Rattle.write_core.specs.Steps.{same_view}
@@ -413,7 +413,7 @@ module _ (setting : Setting) (world : World) (i : ℕ) (who : Recovery) (is : wo
           ∙ ap (λ b. is_opened r s (of_leaf world.truth l) || (b || false)) this_slot
           ∙ or_right (is_opened r s (of_leaf world.truth l)) true refl
 
-      fresh_then : IsFresh next.truth r (suc (length (opened_slots g)))
+      fresh_then : IsUnopened next.truth r (suc (length (opened_slots g)))
       fresh_then slot leaf beyond =
           opened_elsewhere r slot (other_slot slot (λ same. omega arith)) leaf
           ∙ locked.settled.fresh slot leaf (omega arith)
@@ -551,7 +551,7 @@ module _ (setting : Setting) (world : World) (i : ℕ) (who : Recovery) (is : wo
     told_history = range_entry_same world.truth.seen r last there_truth
 
     -- the new replica serves too, and is known
-    settled_then : IsSettled told_truth r
+    settled_then : IsRangeSettled told_truth r
     settled_then = record {
       rows = subst (λ (history : List RangeEntry). (replica : SlotLeaf) → Contains (serving history) replica
           → HasRows told_truth r replica (acknowledged_rows history)) (sym told_history)
@@ -562,7 +562,7 @@ module _ (setting : Setting) (world : World) (i : ℕ) (who : Recovery) (is : wo
             | inr same ↦ subst (λ (x : SlotLeaf). HasRows told_truth r x (acknowledged_rows g)) same
                 (record { opened = h.has.opened; all = h.has.all })
           ]));
-      fresh = subst (λ (history : List RangeEntry). IsFresh told_truth r (length (opened_slots history)))
+      fresh = subst (λ (history : List RangeEntry). IsUnopened told_truth r (length (opened_slots history)))
           (sym told_history)
           (λ slot leaf beyond. h.fresh slot leaf
           (let count : length (opened_slots (g ++ last ∷ [])) ≡ length (opened_slots g) + 1 =

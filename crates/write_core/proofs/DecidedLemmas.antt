@@ -8,7 +8,7 @@ use Rattle.write_core.specs.Invariant.{AreAll, is_asked, is_decided, is_waiting}
 use Rattle.write_core.specs.Marks.{with_fate, waiting}
 use Rattle.write_core.specs.Program.{Acking, Ended, Entering, Inside, Locking, Marked, Reserving, Stage, after}
 use Rattle.write_core.specs.Program.{done_inside, entering, reserving}
-use Rattle.write_core.specs.Rounds.{Round, again, is_through, looked_at, marks_of, round_of, after_skip}
+use Rattle.write_core.specs.Rounds.{Round, again, is_through, round_with_look, round_marks, round_of, after_skip}
 use Rattle.write_core.specs.declared.asks.WriteTold.{WriteTold}
 use Rattle.write_core.specs.declared.asks.WriteTold.TheVariants as told
 use Rattle.write_core.specs.declared.marks.Fate.{Fate}
@@ -39,7 +39,7 @@ fits_entering : (round : Round) → AreAll is_decided round.done → AreAll is_a
 fits_entering round done left =
     let rest = skips round.done round.left done left in
     let next = after_skip round in
-    cond_both (is_through next) (Acking (Marked (marks_of next))) (Entering next) Fits
+    cond_both (is_through next) (Acking (Marked (round_marks next))) (Entering next) Fits
     (λ through. all_append decided next.done next.left rest.done
     (subst (λ (marks : List Mark). AreAll is_decided marks) (sym (none_left next.left through)) tt))
     (λ more. (rest.done, rest.left))
@@ -53,16 +53,17 @@ fits_reserving round done left =
     (λ more. (done, left))
 
 reserved_fits : (done left : List Mark) (f : Fate) → is_asked f ≡ true → AreAll is_asked done → AreAll is_waiting left
-    → Fits (reserving (looked_at done left f))
-reserved_fits done [] f is h k = fits_reserving (looked_at done [] f) h tt
+    → Fits (reserving (round_with_look done left f))
+reserved_fits done [] f is h k = fits_reserving (round_with_look done [] f) h tt
 reserved_fits done (mark ∷ left) f is h k =
-    fits_reserving (looked_at done (mark ∷ left) f) (all_append asked done (with_fate mark f ∷ []) h (is, tt)) k.1
+    fits_reserving (round_with_look done (mark ∷ left) f) (all_append asked done (with_fate mark f ∷ []) h (is, tt)) k.1
 
 entered_fits : (done left : List Mark) (f : Fate) → is_decided f ≡ true → AreAll is_decided done → AreAll is_asked left
-    → Fits (entering (looked_at done left f))
-entered_fits done [] f is h k = fits_entering (looked_at done [] f) h tt
+    → Fits (entering (round_with_look done left f))
+entered_fits done [] f is h k = fits_entering (round_with_look done [] f) h tt
 entered_fits done (mark ∷ left) f is h k =
-    fits_entering (looked_at done (mark ∷ left) f) (all_append decided done (with_fate mark f ∷ []) h (is, tt)) k.1
+    fits_entering (round_with_look done (mark ∷ left) f) (all_append decided done (with_fate mark f ∷ []) h (is, tt))
+    k.1
 
 inside_fits : (round : Round) (at_root in_zone : List ℕ) → AreAll is_decided round.done × AreAll is_asked round.left
     → Fits (done_inside round at_root in_zone)

@@ -18,9 +18,9 @@ use Rattle.mon_topo.proofs.HeldLemmas.{range_entry_other, range_entry_same, rang
 use Rattle.write_core.specs.Deeds.{HasDone, ack_on, acks_at, acks_by, is_ack_by, is_put_by, marks_at, put_on, puts_by}
 use Rattle.write_core.specs.Deeds.{puts_on}
 use Rattle.write_core.specs.Invariant.{AreAll, is_asked}
-use Rattle.write_core.specs.Marks.{ack_of, is_ready, is_taken, with_fate, some_took, waiting}
+use Rattle.write_core.specs.Marks.{ack_of, is_ready, has_taken, with_fate, some_took, waiting}
 use Rattle.write_core.specs.Program.{Acking, Ended, Entering, Inside, Locking, Marked, Reserving, entering, reserving}
-use Rattle.write_core.specs.Rounds.{Round, again, is_through, after_look, marks_of, skip, after_skip}
+use Rattle.write_core.specs.Rounds.{Round, again, is_through, after_look, round_marks, skip_unready, after_skip}
 use Rattle.write_core.specs.Views.{View, of_leaf, of_range, with_entry, with_range_entry}
 use Rattle.write_core.specs.World.{Writer, put_of}
 use Rattle.write_core.specs.declared.marks.Fate.{Fate}
@@ -30,28 +30,29 @@ use Rattle.write_core.proofs.StageLemmas.{untaken_ready}
 
 -- ---- where a round goes on, its marks are the same
 
-skip_marks : (done left : List Mark) → marks_of (skip done left) ≡ done ++ left
+skip_marks : (done left : List Mark) → round_marks (skip_unready done left) ≡ done ++ left
 skip_marks done [] = refl
 skip_marks done (mark ∷ left) =
-    cond_both (is_ready mark.fate) (record { done = done; left = mark ∷ left }) (skip (done ++ mark ∷ []) left)
-    (λ (round : Round). marks_of round ≡ done ++ mark ∷ left) (λ ready. refl)
+    cond_both (is_ready mark.fate) (record { done = done; left = mark ∷ left }) (skip_unready (done ++ mark ∷ []) left)
+    (λ (round : Round). round_marks round ≡ done ++ mark ∷ left) (λ ready. refl)
     (λ not_ready. skip_marks (done ++ mark ∷ []) left ∙ append_assoc done (mark ∷ []) left)
 
-marks_entering : (round : Round) → marks_at (entering round) ≡ marks_of round
+marks_entering : (round : Round) → marks_at (entering round) ≡ round_marks round
 marks_entering round =
-    cond_both (is_through (after_skip round)) (Acking (Marked (marks_of (after_skip round))))
+    cond_both (is_through (after_skip round)) (Acking (Marked (round_marks (after_skip round))))
     (Entering (after_skip round))
-    (λ stage. marks_at stage ≡ marks_of round) (λ e. skip_marks round.done round.left)
+    (λ stage. marks_at stage ≡ round_marks round) (λ e. skip_marks round.done round.left)
     (λ e. skip_marks round.done round.left)
 
-marks_reserving : (round : Round) → marks_at (reserving round) ≡ marks_of round
+marks_reserving : (round : Round) → marks_at (reserving round) ≡ round_marks round
 marks_reserving round =
-    cond_both (is_through round) (entering (again round)) (Reserving round) (λ stage. marks_at stage ≡ marks_of round)
+    cond_both (is_through round) (entering (again round)) (Reserving round)
+    (λ stage. marks_at stage ≡ round_marks round)
     (λ e. marks_entering (again round)) (λ e. refl)
 
 acks_entering : (writer : Writer) (r : Range) (round : Round) → acks_at writer r (entering round) ≡ []
 acks_entering writer r round =
-    cond_both (is_through (after_skip round)) (Acking (Marked (marks_of (after_skip round))))
+    cond_both (is_through (after_skip round)) (Acking (Marked (round_marks (after_skip round))))
     (Entering (after_skip round))
     (λ stage. acks_at writer r stage ≡ []) (λ e. refl) (λ e. refl)
 
@@ -63,7 +64,7 @@ acks_reserving writer r round =
 -- ---- puts of marks
 
 module _ (writer : Writer) (l : Leaf) where
-  untaken_nothing : (mark : Mark) → is_taken mark.fate ≡ false → put_on writer l mark ≡ []
+  untaken_nothing : (mark : Mark) → has_taken mark.fate ≡ false → put_on writer l mark ≡ []
   untaken_nothing mark e = ap (λ b. cond (b && nat_eq mark.leaf.0 l.0) (put_of writer mark ∷ []) []) e
 
   -- one mark among others
@@ -82,7 +83,7 @@ module _ (writer : Writer) (l : Leaf) where
   none_waiting [] = refl
   none_waiting (replica ∷ replicas) = none_waiting replicas
 
-  untaken_asked : (f : Fate) → is_asked f ≡ true → is_taken f ≡ false
+  untaken_asked : (f : Fate) → is_asked f ≡ true → has_taken f ≡ false
   untaken_asked fate.Waiting e = refl
   untaken_asked fate.Ready e = refl
   untaken_asked fate.Took e = absurd cc
@@ -97,7 +98,7 @@ module _ (writer : Writer) (l : Leaf) where
 
 module _ (truth : View) (writer : Writer) where
   -- the lock was taken
-  pub done_locked : (replicas : List SlotLeaf) (round : Round) → marks_of round ≡ map waiting replicas
+  pub done_locked : (replicas : List SlotLeaf) (round : Round) → round_marks round ≡ map waiting replicas
       → HasDone truth writer Locking → HasDone truth writer (reserving round)
   done_locked replicas round all h = record {
     puts = λ l. h.puts l ∙ sym (none_waiting writer l replicas) ∙ ap (puts_on writer l) (sym all)
@@ -106,8 +107,8 @@ module _ (truth : View) (writer : Writer) where
   }
 
   -- a replica that has not taken the row is looked at, and still has not
-  module _ (done left : List Mark) (mark : Mark) (f : Fate) (was : is_taken mark.fate ≡ false)
-      (is : is_taken f ≡ false) where
+  module _ (done left : List Mark) (mark : Mark) (f : Fate) (was : has_taken mark.fate ≡ false)
+      (is : has_taken f ≡ false) where
     same_puts : (l : Leaf) → puts_on writer l (done ++ mark ∷ left) ≡ puts_on writer l
         ((done ++ with_fate mark f ∷ []) ++ left)
     same_puts l =

@@ -27,7 +27,7 @@ use Rattle.write_core.specs.Rounds.{Round, after_look}
 use Rattle.mon_topo.specs.Settings.{Setting, zone_of_leaf}
 use Rattle.write_core.specs.Views.{IsViewWithin, View, joined_view, of_leaf, of_range, with_entry, with_root_bit}
 use Rattle.write_core.specs.Views.{with_zone_bit}
-use Rattle.write_core.specs.World.{World, Writer, Writes, at_leaf, gone_on, pass_of, put_of, writes_on}
+use Rattle.write_core.specs.World.{World, Writer, Writes, at_leaf, writer_at_stage, pass_of, put_of, writes_on}
 use Rattle.write_core.specs.declared.marks.Fate.TheVariants as fate
 use Rattle.write_core.specs.declared.marks.Mark.{Mark}
 use Rattle.write_core.proofs.ChangeLemmas.{entry_sound, entry_up, entry_within}
@@ -241,7 +241,7 @@ module _ (setting : Setting) (world : World) (i : ℕ) (who : Writer) (is : worl
     next = at_leaf world i who.view l (with_entry l e) None (writes_on who stage)
 
     abbrev then' : Writer
-    then' = gone_on who stage (with_entry l e met)
+    then' = writer_at_stage who stage (with_entry l e met)
 
     abbrev new : Mark
     new = with_fate mark fate.Took

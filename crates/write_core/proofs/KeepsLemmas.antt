@@ -19,17 +19,17 @@ use Rattle.mon_hints.specs.HistoryBuckets.{rows_buckets}
 use Rattle.write_core.specs.CopySteps.{MayOpen, copy_of, new_replica, next_slot}
 use Rattle.write_core.specs.Recovering.{Beginning, Carrying, CopyStage, Copying, Nearing, Over, Telling, Within}
 use Rattle.write_core.specs.Deeds.{acks_by, puts_by}
-use Rattle.write_core.specs.Invariant.{AreApart, HasCopied, HasLocked, HasMissed, HasOpened, HasRows, HasSeen}
-use Rattle.write_core.specs.Invariant.{HasTaken, IsActor, IsAcking, IsAt, IsCopyAt, IsCopying, IsEntering, IsFresh}
-use Rattle.write_core.specs.Invariant.{IsGoing, IsInFirst, IsInside, IsMark, IsRecovery, IsSettled, IsWriter}
+use Rattle.write_core.specs.Invariant.{HaveOwnPasses, HasCopied, HasLocked, HasMissed, HasOpened, HasRows, HasSeen}
+use Rattle.write_core.specs.Invariant.{HasTaken, IsActor, IsAcking, IsAt, IsCopyAt, IsCopying, IsEntering, IsUnopened}
+use Rattle.write_core.specs.Invariant.{IsGoing, IsInFirst, IsInside, IsMark, IsRecovery, IsRangeSettled, IsWriter}
 use Rattle.write_core.specs.Invariant.{rows_after}
-use Rattle.write_core.specs.Marks.{is_taken, replica_of}
+use Rattle.write_core.specs.Marks.{has_taken, replica_of}
 use Rattle.write_core.specs.Program.{Acking, Ended, Entering, Inside, Locking, Marked, Not, Reserving, Stage, Verdict}
-use Rattle.write_core.specs.Rounds.{Round, marks_of}
+use Rattle.write_core.specs.Rounds.{Round, round_marks}
 use Rattle.mon_topo.specs.Settings.{Setting}
 use Rattle.write_core.specs.Views.{IsViewWithin, View, of_leaf, of_range}
 use Rattle.write_core.specs.World.{Actor, IsPart, Recovers, Recovery, Stands, World, Writer, Writes, with_value_at}
-use Rattle.write_core.specs.World.{gone_on}
+use Rattle.write_core.specs.World.{writer_at_stage}
 use Rattle.write_core.specs.World.{pass_of, put_of}
 use Rattle.write_core.specs.declared.marks.Fate.{Fate}
 use Rattle.write_core.specs.declared.marks.Fate.TheVariants as fate
@@ -63,7 +63,7 @@ module _ (actors : ℕ → Actor) (i : ℕ) (new : Actor) (same : pass_of new �
   same_pass : (j : ℕ) → pass_of (with_value_at actors i new j) ≡ pass_of (actors j)
   same_pass = changed_by actors i new (λ j actor. pass_of actor ≡ pass_of (actors j)) same (λ j apart. refl)
 
-  pub apart_stay : AreApart actors → AreApart (with_value_at actors i new)
+  pub apart_stay : HaveOwnPasses actors → HaveOwnPasses (with_value_at actors i new)
   apart_stay apart j k e = apart j k (sym (same_pass j) ∙ e ∙ same_pass k)
 
 -- ---- entries
@@ -124,18 +124,18 @@ module _ (before after : World) (grows : IsViewWithin before.truth after.truth) 
   }
 
   pub fresh_moves : (who : Option ℕ) (r : Range) → KeepsRange before after who r → (from : ℕ)
-      → IsFresh before.truth r from → IsFresh after.truth r from
+      → IsUnopened before.truth r from → IsUnopened after.truth r from
   fresh_moves who r keeps from h slot leaf later = keeps.opened slot leaf ∙ h slot leaf later
 
-  pub settled_moves : (who : Option ℕ) (r : Range) → KeepsRange before after who r → IsSettled before.truth r
-      → IsSettled after.truth r
+  pub settled_moves : (who : Option ℕ) (r : Range) → KeepsRange before after who r → IsRangeSettled before.truth r
+      → IsRangeSettled after.truth r
   settled_moves who r keeps h = record {
     rows = λ replica there.
         let old = h.rows replica (subst (λ (g : List RangeEntry). Contains (serving g) replica) keeps.history there) in
         replica_moves who r keeps replica (acknowledged_rows (of_range before.truth r))
         (acknowledged_rows (of_range after.truth r))
         (ap acknowledged_rows (sym keeps.history)) old;
-    fresh = subst (λ (g : List RangeEntry). IsFresh after.truth r (length (opened_slots g))) (sym keeps.history)
+    fresh = subst (λ (g : List RangeEntry). IsUnopened after.truth r (length (opened_slots g))) (sym keeps.history)
         (fresh_moves who r keeps (length (opened_slots (of_range before.truth r))) h.fresh);
   }
 
@@ -144,10 +144,10 @@ module _ (before after : World) (grows : IsViewWithin before.truth after.truth) 
       (up : IsViewWithin writer.view view)
       (history : of_range after.truth writer.range ≡ of_range before.truth writer.range) where
     abbrev then' : Writer
-    then' = gone_on writer stage view
+    then' = writer_at_stage writer stage view
 
     abbrev rows_at : List RangeEntry → Fate → List Row
-    rows_at g fate = if is_taken fate then acknowledged_rows g ++ writer.row ∷ [] else acknowledged_rows g
+    rows_at g fate = if has_taken fate then acknowledged_rows g ++ writer.row ∷ [] else acknowledged_rows g
 
     missed_moves : (mark : Mark) (cut : ℕ) → HasMissed writer mark cut → HasMissed then' mark cut
     missed_moves mark cut h =
@@ -187,7 +187,7 @@ module _ (before after : World) (grows : IsViewWithin before.truth after.truth) 
     pub going_with : (marks others : List Mark) → after.range_holder writer.range.0 ≡ Some i
         → of_range view writer.range ≡ of_range after.truth writer.range
         → map replica_of others ≡ map replica_of marks → All (IsMark after then') others
-        → IsFresh after.truth writer.range (length (opened_slots (of_range before.truth writer.range)))
+        → IsUnopened after.truth writer.range (length (opened_slots (of_range before.truth writer.range)))
         → IsGoing before i setting writer marks → IsGoing after i setting then' others
     going_with marks others holder whole same each fresh h = record {
       holds = record { holder = holder; whole = whole };
@@ -195,7 +195,8 @@ module _ (before after : World) (grows : IsViewWithin before.truth after.truth) 
           h.source;
       room = subst (λ (g : List RangeEntry). length (acknowledged_rows g) < setting.points) (sym history) h.room;
       serve = same ∙ h.serve ∙ ap serving (sym history);
-      fresh = subst (λ (g : List RangeEntry). IsFresh after.truth writer.range (length (opened_slots g))) (sym history)
+      fresh = subst (λ (g : List RangeEntry). IsUnopened after.truth writer.range (length (opened_slots g)))
+          (sym history)
           fresh;
       each = each;
     }
@@ -233,7 +234,7 @@ module _ (setting : Setting) (before after : World) (i : ℕ) (writer : Writer)
 
   still_entering : (round : Round) → IsEntering before i setting writer round → IsEntering after i setting writer round
   still_entering round h = record
-      { going = still_going (marks_of round) h.going; done = h.done; left = h.left; ready = h.ready }
+      { going = still_going (round_marks round) h.going; done = h.done; left = h.left; ready = h.ready }
 
   still_in_first : (left : List Mark) (at_root in_zone : List ℕ)
       → IsInFirst setting before i writer left at_root in_zone → IsInFirst setting after i writer left at_root in_zone
@@ -254,7 +255,8 @@ module _ (setting : Setting) (before after : World) (i : ℕ) (writer : Writer)
 
   still_at : (stage : Stage) → IsAt setting before i writer stage → IsAt setting after i writer stage
   still_at Locking h = tt
-  still_at (Reserving round) h = record { going = still_going (marks_of round) h.going; done = h.done; left = h.left }
+  still_at (Reserving round) h =
+      record { going = still_going (round_marks round) h.going; done = h.done; left = h.left }
   still_at (Entering round) h = still_entering round h
   still_at (Inside round at_root in_zone) h = (still_entering round h.0, still_in_first round.left at_root in_zone h.1)
   still_at (Acking verdict) h = still_acking verdict h
@@ -317,7 +319,8 @@ module _ (setting : Setting) (before after : World) (i : ℕ) (recovery : Recove
             (λ replica there. replica_moves before after keeps.grows (Some i) recovery.range its replica
             (acknowledged_rows g)
             (acknowledged_rows g) refl (h.rows replica there));
-        fresh = with_history (λ history. IsFresh after.truth recovery.range (suc (length (opened_slots history)))) its
+        fresh = with_history (λ history. IsUnopened after.truth recovery.range (suc (length (opened_slots history))))
+            its
             (fresh_moves before after keeps.grows (Some i) recovery.range its (suc (length (opened_slots g))) h.fresh);
         may = with_history (λ history. MayOpen setting history recovery) its h.may;
         has = with_history (λ history. HasRows after.truth recovery.range (new_replica recovery history)

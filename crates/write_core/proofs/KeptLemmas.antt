@@ -4,7 +4,7 @@ use Rattle.std.specs.Prelude.{Contains}
 use Rattle.mon_value.specs.declared.histories.RangeEntry.TheVariants as range_entry
 use Rattle.write_core.specs.Deeds.{HasDone}
 use Rattle.write_core.specs.Invariant.{HasRecovered, IsAcked, IsAcking, IsAcknowledged, IsActor, IsAt, IsCopyAt}
-use Rattle.write_core.specs.Invariant.{IsEntering, IsInFirst, IsKept, IsNew, IsNewActor, IsRecovered, IsReserving}
+use Rattle.write_core.specs.Invariant.{IsEntering, IsInFirst, IsKept, IsNewWorld, IsNewActor, IsRecovered, IsReserving}
 use Rattle.write_core.specs.Marks.{ack_of, some_took}
 use Rattle.write_core.specs.Program.{Acking, Ended, Entering, Inside, Locking, Marked, Not, Reserving, Stage, Verdict}
 use Rattle.write_core.specs.Program.{after}
@@ -176,7 +176,7 @@ parts_join setting world a b h k = record {
 }
 
 -- it holds where nobody has begun
-pub new_kept : (setting : Setting) (world : World) → IsNew setting world → IsKept setting world
+pub new_kept : (setting : Setting) (world : World) → IsNewWorld setting world → IsKept setting world
 new_kept setting world new =
     record {
       truth = new.sound;

@@ -8,13 +8,13 @@ use Rattle.mon_value.specs.declared.positions.Zone.{Zone}
 use Rattle.write_core.specs.Deeds.{HasDone}
 use Rattle.write_core.specs.Invariant.{HasMissed, IsEntering, IsGoing, IsKept, IsReserving, IsWriter, is_asked}
 use Rattle.write_core.specs.Invariant.{is_decided}
-use Rattle.write_core.specs.Marks.{is_taken, with_fate}
+use Rattle.write_core.specs.Marks.{has_taken, with_fate}
 use Rattle.write_core.specs.Program.{Entering, Inside, Reserving, Stage, entering, reserving}
 use Rattle.write_core.specs.Rounds.{Round, after_look}
 use Rattle.write_core.specs.Steps.{AreUnraised, same_view}
 use Rattle.mon_topo.specs.Settings.{Setting}
 use Rattle.write_core.specs.Views.{View, joined_view, of_leaf, with_root_bit, with_zone_bit}
-use Rattle.write_core.specs.World.{World, Writer, Writes, at_leaf, gone_on, writes_on}
+use Rattle.write_core.specs.World.{World, Writer, Writes, at_leaf, writer_at_stage, writes_on}
 use Rattle.write_core.specs.declared.marks.Fate.TheVariants as fate
 use Rattle.write_core.specs.declared.marks.Mark.{Mark}
 use Rattle.write_core.proofs.ChangeLemmas.{root_bit_up, zone_bit_up}
@@ -45,7 +45,7 @@ module _ (setting : Setting) (world : World) (i : ℕ) (who : Writer) (is : worl
   -- the write goes on with its replicas as they were
   module _ (holder : Option ℕ) (stage : Stage) (marks : List Mark) (going : IsGoing world i setting who marks) where
     pub quiet_going : IsGoing (at_leaf world i who.view l same_view holder (writes_on who stage)) i setting
-        (gone_on who stage met) marks
+        (writer_at_stage who stage met) marks
     quiet_going =
         going_moves world (at_leaf world i who.view l same_view holder (writes_on who stage))
         (within_itself world.truth) i setting who
@@ -55,7 +55,7 @@ module _ (setting : Setting) (world : World) (i : ℕ) (who : Writer) (is : worl
 
     pub root_going : (zone : Zone) (bucket : ℕ)
         → IsGoing (at_leaf world i who.view l (with_root_bit zone bucket) holder (writes_on who stage)) i setting
-        (gone_on who stage (with_root_bit zone bucket met)) marks
+        (writer_at_stage who stage (with_root_bit zone bucket met)) marks
     root_going zone bucket =
         going_moves world (at_leaf world i who.view l (with_root_bit zone bucket) holder (writes_on who stage))
         (root_bit_up bucket zone world.truth) i setting who stage (with_root_bit zone bucket met)
@@ -66,7 +66,7 @@ module _ (setting : Setting) (world : World) (i : ℕ) (who : Writer) (is : worl
 
     pub zone_going : (bucket : ℕ) → IsGoing (at_leaf world i who.view l (with_zone_bit l bucket) holder
         (writes_on who stage)) i setting
-        (gone_on who stage (with_zone_bit l bucket met)) marks
+        (writer_at_stage who stage (with_zone_bit l bucket met)) marks
     zone_going bucket =
         going_moves world (at_leaf world i who.view l (with_zone_bit l bucket) holder (writes_on who stage))
         (zone_bit_up bucket l world.truth)
@@ -78,9 +78,9 @@ module _ (setting : Setting) (world : World) (i : ℕ) (who : Writer) (is : worl
 
   -- a leaf that is down was so at its whole length, which the write has then seen
   pub has_missed : (stage : Stage) (mark : Mark) (cut : ℕ) → mark.leaf ≡ l → is_down (of_leaf world.truth l) ≡ true
-      → cut ≡ length (of_leaf world.truth l) → HasMissed (gone_on who stage met) mark cut
+      → cut ≡ length (of_leaf world.truth l) → HasMissed (writer_at_stage who stage met) mark cut
   has_missed stage mark cut here down whole =
-      subst (λ (o : Leaf). HasMissed (gone_on who stage met)
+      subst (λ (o : Leaf). HasMissed (writer_at_stage who stage met)
       (record { slot = mark.slot; leaf = o; fate = mark.fate }) cut) (sym here)
       (let count : length (of_leaf met l) ≡ length (of_leaf world.truth l) =
       ap length (base_whole setting world i kept who.view own.part l) in
@@ -105,7 +105,7 @@ module _ (setting : Setting) (world : World) (i : ℕ) (who : Writer) (is : worl
   -- ---- asking for room
 
   module _ (at : IsReserving world i setting who round) (deeds : HasDone world.truth who (Reserving round)) where
-    untaken : is_taken mark.fate ≡ false
+    untaken : has_taken mark.fate ≡ false
     untaken = untaken_waiting mark.fate at.left.0
 
     pub reserve_up : IsStep setting world (at_leaf world i who.view mark.leaf same_view None
@@ -113,7 +113,7 @@ module _ (setting : Setting) (world : World) (i : ℕ) (who : Writer) (is : worl
     reserve_up =
         let stage = reserving (after_look round fate.Ready) in
         let next = at_leaf world i who.view mark.leaf same_view None (writes_on who stage) in
-        let then' = gone_on who stage known in
+        let then' = writer_at_stage who stage known in
         let going = quiet_going setting world i who is kept mark.leaf None stage (done ++ mark ∷ left) at.going in
         write_at_leaf setting world i who is kept mark.leaf same_view None stage
         (quiet setting world i kept who.view mine.part mark.leaf) (inl free)
@@ -132,7 +132,7 @@ module _ (setting : Setting) (world : World) (i : ℕ) (who : Writer) (is : worl
     reserve_down cut down whole =
         let stage = reserving (after_look round (fate.Missed cut)) in
         let next = at_leaf world i who.view mark.leaf same_view None (writes_on who stage) in
-        let then' = gone_on who stage known in
+        let then' = writer_at_stage who stage known in
         let going = quiet_going setting world i who is kept mark.leaf None stage (done ++ mark ∷ left) at.going in
         write_at_leaf setting world i who is kept mark.leaf same_view None stage
         (quiet setting world i kept who.view mine.part mark.leaf) (inl free)
@@ -156,7 +156,7 @@ module _ (setting : Setting) (world : World) (i : ℕ) (who : Writer) (is : worl
     enter_down cut down whole =
         let stage = entering (after_look round (fate.Missed cut)) in
         let next = at_leaf world i who.view mark.leaf same_view None (writes_on who stage) in
-        let then' = gone_on who stage known in
+        let then' = writer_at_stage who stage known in
         let going = quiet_going setting world i who is kept mark.leaf None stage (done ++ mark ∷ left) at.going in
         write_at_leaf setting world i who is kept mark.leaf same_view None stage
         (quiet setting world i kept who.view mine.part mark.leaf) (inl free)

@@ -19,15 +19,15 @@ use Rattle.mon_topo.specs.HeldHistories.{BeginsWith, IsBorneOut, IsMissed, IsTak
 use Rattle.mon_topo.specs.RangeHistories as range_spec
 use Rattle.mon_topo.specs.RangeHistories.{acknowledged_rows, is_missed, opened_slots, serving}
 use Rattle.write_core.specs.Deeds.{HasDone}
-use Rattle.write_core.specs.Invariant.{HasMissed, HasRows, HasSeen, HasTaken, IsDecided, IsFresh, IsKept, IsMark}
-use Rattle.write_core.specs.Invariant.{IsRefused, IsSettled, IsWriter, is_decided, is_waiting, rows_after}
-use Rattle.write_core.specs.Marks.{ack_of, is_taken, replica_of, some_took, waiting}
+use Rattle.write_core.specs.Invariant.{HasMissed, HasRows, HasSeen, HasTaken, IsDecided, IsUnopened, IsKept, IsMark}
+use Rattle.write_core.specs.Invariant.{IsRefused, IsRangeSettled, IsWriter, is_decided, is_waiting, rows_after}
+use Rattle.write_core.specs.Marks.{ack_of, has_taken, replica_of, some_took, waiting}
 use Rattle.write_core.specs.Program.{Acking, Ended, Locking, Marked, Not, Stage, reserving}
 use Rattle.write_core.specs.Rounds.{round_of}
 use Rattle.write_core.specs.Steps.{with_acknowledgement, same_view}
 use Rattle.mon_topo.specs.Settings.{Setting}
 use Rattle.write_core.specs.Views.{IsSound, IsViewWithin, View, joined_view, of_leaf, of_range, with_range_entry}
-use Rattle.write_core.specs.World.{World, Writer, Writes, at_range, gone_on, pass_of, writes_on}
+use Rattle.write_core.specs.World.{World, Writer, Writes, at_range, writer_at_stage, pass_of, writes_on}
 use Rattle.write_core.specs.declared.marks.Fate.{Fate}
 use Rattle.write_core.specs.declared.marks.Fate.TheVariants as fate
 use Rattle.write_core.specs.declared.marks.Mark.{Mark}
@@ -93,7 +93,7 @@ module _ (setting : Setting) (world : World) (i : ℕ) (who : Writer) (is : worl
     lock_slots replicas serve source room =
         let stage = reserving (round_of (map waiting replicas)) in
         let next = at_range world i who.view r same_view (Some i) (writes_on who stage) in
-        let then' = gone_on who stage met in
+        let then' = writer_at_stage who stage met in
         write_at_range setting world i who is kept r same_view (Some i) stage quiet_range (inl free)
         (λ e. absurd (some_is_not_none i e))
         (at_reserving setting next i then' (round_of (map waiting replicas))
@@ -154,7 +154,7 @@ module _ (setting : Setting) (world : World) (i : ℕ) (who : Writer) (is : worl
         (subst (λ (xs : List SlotLeaf). Contains xs replica) (sym at.going.serve) there)
 
     -- where no replica took the row, nothing is appended
-    settled_none : some_took marks ≡ false → IsSettled world.truth r
+    settled_none : some_took marks ≡ false → IsRangeSettled world.truth r
     settled_none none = record {
       rows = λ replica there.
           let found = serving_mark replica there in
@@ -216,7 +216,7 @@ module _ (setting : Setting) (world : World) (i : ℕ) (who : Writer) (is : worl
       module _ (view : View) (sound : IsSound setting view) (up : IsViewWithin who.view view)
           (whole : of_range view r ≡ g) where
         abbrev seer : Writer
-        seer = gone_on who stage view
+        seer = writer_at_stage who stage view
 
         seen : (mark : Mark) → Contains marks mark → HasSeen world seer mark mark.fate
         seen mark there = seen_moves world world (within_itself world.truth) i setting who stage view up refl mark
@@ -323,7 +323,7 @@ module _ (setting : Setting) (world : World) (i : ℕ) (who : Writer) (is : worl
       }
 
       -- whoever serves then has the row too
-      settled_then : IsSettled (with_range_entry r e world.truth) r
+      settled_then : IsRangeSettled (with_range_entry r e world.truth) r
       settled_then = record {
         rows = λ replica there.
             let found = still_serving replica
@@ -334,11 +334,11 @@ module _ (setting : Setting) (world : World) (i : ℕ) (who : Writer) (is : worl
             (acknowledged_rows (of_range (with_range_entry r e world.truth) r))) found.2
             (record {
               opened = has.opened;
-              all = has.all ∙ ap (λ f. cond (is_taken f) (rows_after world who) (acknowledged_rows g)) found.3
+              all = has.all ∙ ap (λ f. cond (has_taken f) (rows_after world who) (acknowledged_rows g)) found.3
                   ∙ sym (acknowledged_rows-push g who.pass who.row ack)
                   ∙ ap acknowledged_rows (sym (range_entry_same world.truth.seen r e there_truth));
             });
-        fresh = subst (λ (n : ℕ). IsFresh (with_range_entry r e world.truth) r n)
+        fresh = subst (λ (n : ℕ). IsUnopened (with_range_entry r e world.truth) r n)
             (sym (ap length (opened-acked g who.pass who.row ack))
             ∙ ap (λ h. length (opened_slots h)) (sym (range_entry_same world.truth.seen r e there_truth)))
             at.going.fresh;

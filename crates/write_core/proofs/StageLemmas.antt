@@ -6,9 +6,9 @@ use Rattle.std.proofs.lemmas.List.{map-append}
 use Rattle.mon_topo.specs.RangeHistories.{acknowledged_rows}
 use Rattle.write_core.specs.Invariant.{AreAll, HasSeen, IsAt, IsAtReady, IsGoing, IsMark, is_asked, is_decided}
 use Rattle.write_core.specs.Invariant.{is_waiting, rows_after}
-use Rattle.write_core.specs.Marks.{is_ready, is_taken, with_fate, replica_of}
+use Rattle.write_core.specs.Marks.{is_ready, has_taken, with_fate, replica_of}
 use Rattle.write_core.specs.Program.{Acking, Entering, Marked, Reserving, entering, reserving}
-use Rattle.write_core.specs.Rounds.{Round, again, is_none_left, is_through, marks_of, skip, after_skip}
+use Rattle.write_core.specs.Rounds.{Round, again, is_no_mark_left, is_through, round_marks, skip_unready, after_skip}
 use Rattle.mon_topo.specs.Settings.{Setting}
 use Rattle.write_core.specs.Views.{of_range}
 use Rattle.write_core.specs.World.{World, Writer}
@@ -25,13 +25,13 @@ decided_from fate.Ready h k = absurd cc
 decided_from fate.Took h k = refl
 decided_from (fate.Missed cut) h k = refl
 
-pub untaken_waiting : (f : Fate) → is_waiting f ≡ true → is_taken f ≡ false
+pub untaken_waiting : (f : Fate) → is_waiting f ≡ true → has_taken f ≡ false
 untaken_waiting fate.Waiting h = refl
 untaken_waiting fate.Ready h = refl
 untaken_waiting fate.Took h = absurd cc
 untaken_waiting (fate.Missed cut) h = refl
 
-pub untaken_ready : (f : Fate) → is_ready f ≡ true → is_taken f ≡ false
+pub untaken_ready : (f : Fate) → is_ready f ≡ true → has_taken f ≡ false
 untaken_ready fate.Waiting h = refl
 untaken_ready fate.Ready h = refl
 untaken_ready fate.Took h = absurd cc
@@ -39,7 +39,7 @@ untaken_ready (fate.Missed cut) h = refl
 
 -- ---- rounds
 
-pub none_left : (left : List Mark) → is_none_left left ≡ true → left ≡ []
+pub none_left : (left : List Mark) → is_no_mark_left left ≡ true → left ≡ []
 none_left [] h = refl
 none_left (mark ∷ left) h = absurd cc
 
@@ -48,13 +48,13 @@ pub record HasSkipped (marks : List Mark) (round : Round) : Type 0 where
   pub done : AreAll is_decided round.done
   pub left : AreAll is_asked round.left
   pub ready : IsAtReady round.left
-  pub all : marks_of round ≡ marks
+  pub all : round_marks round ≡ marks
 
 pub skips : (done left : List Mark) → AreAll is_decided done → AreAll is_asked left
-    → HasSkipped (done ++ left) (skip done left)
+    → HasSkipped (done ++ left) (skip_unready done left)
 skips done [] h k = record { done = h; left = tt; ready = tt; all = refl }
 skips done (mark ∷ left) h k =
-    cond_both (is_ready mark.fate) (record { done = done; left = mark ∷ left }) (skip (done ++ mark ∷ []) left)
+    cond_both (is_ready mark.fate) (record { done = done; left = mark ∷ left }) (skip_unready (done ++ mark ∷ []) left)
     (HasSkipped (done ++ mark ∷ left))
     (λ ready. record { done = h; left = k; ready = ready; all = refl })
     (λ not_ready.
@@ -71,15 +71,15 @@ skips done (mark ∷ left) h k =
 
 module _ (setting : Setting) (world : World) (i : ℕ) (writer : Writer) where
   -- it goes on at the next replica that is ready, and else to the acknowledgement
-  pub at_entering : (round : Round) → IsGoing world i setting writer (marks_of round) → AreAll is_decided round.done
+  pub at_entering : (round : Round) → IsGoing world i setting writer (round_marks round) → AreAll is_decided round.done
       → AreAll is_asked round.left
       → IsAt setting world i writer (entering round)
   at_entering round going done left =
       let rest = skips round.done round.left done left in
       let next = after_skip round in
-      let still : IsGoing world i setting writer (marks_of next) = subst
+      let still : IsGoing world i setting writer (round_marks next) = subst
       (λ (marks : List Mark). IsGoing world i setting writer marks) (sym rest.all) going in
-      cond_both (is_through next) (Acking (Marked (marks_of next))) (Entering next) (IsAt setting world i writer)
+      cond_both (is_through next) (Acking (Marked (round_marks next))) (Entering next) (IsAt setting world i writer)
       (λ through. record {
         going = still;
         decided = all_append (λ m. is_decided m.fate ≡ true) next.done next.left rest.done
@@ -88,7 +88,7 @@ module _ (setting : Setting) (world : World) (i : ℕ) (writer : Writer) where
       (λ more. record { going = still; done = rest.done; left = rest.left; ready = rest.ready })
 
   -- it goes on at the next replica, and else to the leaves
-  pub at_reserving : (round : Round) → IsGoing world i setting writer (marks_of round) → AreAll is_asked round.done
+  pub at_reserving : (round : Round) → IsGoing world i setting writer (round_marks round) → AreAll is_asked round.done
       → AreAll is_waiting round.left
       → IsAt setting world i writer (reserving round)
   at_reserving round going done left =
@@ -99,7 +99,7 @@ module _ (setting : Setting) (world : World) (i : ℕ) (writer : Writer) where
       (λ more. record { going = going; done = done; left = left })
 
   -- more is known of a replica that took no row
-  pub remark : (mark : Mark) (f : Fate) → IsMark world writer mark → is_taken mark.fate ≡ false → is_taken f ≡ false
+  pub remark : (mark : Mark) (f : Fate) → IsMark world writer mark → has_taken mark.fate ≡ false → has_taken f ≡ false
       → HasSeen world writer (with_fate mark f) f → IsMark world writer (with_fate mark f)
   remark mark f h was now seen = record {
     has = record {

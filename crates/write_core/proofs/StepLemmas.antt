@@ -6,13 +6,14 @@ use Rattle.mon_value.specs.declared.positions.Range.{Range}
 use Rattle.mon_value.specs.declared.positions.Slot.{Slot}
 use Rattle.mon_value.specs.Positions.{leaf_numbered, range_numbered}
 use Rattle.write_core.specs.Deeds.{HasDone, acks_by, puts_by}
-use Rattle.write_core.specs.Invariant.{IsActor, IsAimed, IsAt, IsCopyAt, IsKept, IsRecovery, IsSettled, IsWriter}
+use Rattle.write_core.specs.Invariant.{IsActor, IsAimed, IsAt, IsCopyAt, IsKept, IsRecovery, IsRangeSettled, IsWriter}
 use Rattle.write_core.specs.Recovering.{CopyStage}
 use Rattle.write_core.specs.Program.{Stage}
 use Rattle.mon_topo.specs.Settings.{Setting}
 use Rattle.write_core.specs.Views.{IsSound, IsViewWithin, View, of_leaf, of_range}
 use Rattle.write_core.specs.World.{Actor, IsPart, Recovers, Recovery, World, Writer, Writes, at_leaf, at_range}
-use Rattle.write_core.specs.World.{copied_on, gone_on, met_at_leaf, met_at_range, pass_of, recovers_on, writes_on}
+use Rattle.write_core.specs.World.{copied_on, writer_at_stage, met_at_leaf, met_at_range, pass_of, recovers_on}
+use Rattle.write_core.specs.World.{writes_on}
 use Rattle.write_core.proofs.KeepsLemmas.{Keeps, actor_stays, apart_stay, changed_by, changed_other, part_moves}
 use Rattle.write_core.proofs.KeepsLemmas.{settled_moves}
 
@@ -170,7 +171,7 @@ module _ (setting : Setting) (world : World) (i : ℕ) (view : View) (r : Range)
   }
 
   settled_elsewhere : (n : ℕ) → n ≢ r.0 → world.range_holder n ≡ None
-      → IsSettled (change world.truth) (range_numbered n)
+      → IsRangeSettled (change world.truth) (range_numbered n)
   settled_elsewhere n apart none =
       settled_moves world after_range changes.grows None (range_numbered n)
       (record {
@@ -182,7 +183,7 @@ module _ (setting : Setting) (world : World) (i : ℕ) (view : View) (r : Range)
       })
       (kept.settled (range_numbered n) none)
 
-  pub range_step : (holder ≡ None → IsSettled (change world.truth) r)
+  pub range_step : (holder ≡ None → IsRangeSettled (change world.truth) r)
       → pass_of (next met_range) ≡ pass_of (world.actors i)
       → IsActor setting after_range i (next met_range) → IsStep setting world after_range
   range_step settles same own = record {
@@ -199,7 +200,7 @@ module _ (setting : Setting) (world : World) (i : ℕ) (view : View) (r : Range)
           changes.whole
           (λ n apart. kept.whole_ranges (range_numbered n) ∙ sym (changes.others (range_numbered n) apart)) o.0;
       settled = λ o. changed_by world.range_holder r.0 holder
-          (λ n who. who ≡ None → IsSettled (change world.truth) (range_numbered n))
+          (λ n who. who ≡ None → IsRangeSettled (change world.truth) (range_numbered n))
           settles settled_elsewhere o.0;
       actors = changed_by world.actors i (next met_range) (λ j actor. IsActor setting after_range j actor) own
           (λ j apart. actor_stays setting world after_range j (world.actors j) (keeps_range j apart)
@@ -226,8 +227,8 @@ module _ (setting : Setting) (world : World) (i : ℕ) (who : Writer) (is : worl
   -- a write is as far as it should be, where all else of it stays
   gone_so : (after : World) (stage : Stage) (view : View) → IsPart setting after view
       → length after.truth.seen.ranges ≡ length world.truth.seen.ranges
-      → IsAt setting after i (gone_on who stage view) stage → HasDone after.truth who stage
-      → IsWriter setting after i (gone_on who stage view)
+      → IsAt setting after i (writer_at_stage who stage view) stage → HasDone after.truth who stage
+      → IsWriter setting after i (writer_at_stage who stage view)
   gone_so after stage view part count at deeds =
       let own = writer_of setting world i who kept is in
       record {
@@ -243,7 +244,7 @@ module _ (setting : Setting) (world : World) (i : ℕ) (who : Writer) (is : worl
   pub write_at_leaf : (l : Leaf) (change : View → View) (holder : Option ℕ) (stage : Stage)
       → ChangesLeaf setting world i who.view l change → IsLeftTo i (world.leaf_holder l.0)
       → IsAt setting (at_leaf world i who.view l change holder (writes_on who stage)) i
-      (gone_on who stage (met_at_leaf world who.view l change)) stage
+      (writer_at_stage who stage (met_at_leaf world who.view l change)) stage
       → HasDone (change world.truth) who stage
       → IsStep setting world (at_leaf world i who.view l change holder (writes_on who stage))
   write_at_leaf l change holder stage changes left at deeds =
@@ -255,9 +256,9 @@ module _ (setting : Setting) (world : World) (i : ℕ) (who : Writer) (is : worl
 
   pub write_at_range : (r : Range) (change : View → View) (holder : Option ℕ) (stage : Stage)
       → ChangesRange setting world i who.view r change → IsLeftTo i (world.range_holder r.0)
-      → (holder ≡ None → IsSettled (change world.truth) r)
+      → (holder ≡ None → IsRangeSettled (change world.truth) r)
       → IsAt setting (at_range world i who.view r change holder (writes_on who stage)) i
-      (gone_on who stage (met_at_range world who.view r change)) stage
+      (writer_at_stage who stage (met_at_range world who.view r change)) stage
       → HasDone (change world.truth) who stage
       → IsStep setting world (at_range world i who.view r change holder (writes_on who stage))
   write_at_range r change holder stage changes left settles at deeds =
@@ -292,7 +293,7 @@ module _ (setting : Setting) (world : World) (i : ℕ) (who : Recovery) (is : wo
 
   pub recover_at_range : (r : Range) (change : View → View) (holder : Option ℕ) (stage : CopyStage)
       → ChangesRange setting world i who.view r change → IsLeftTo i (world.range_holder r.0)
-      → (holder ≡ None → IsSettled (change world.truth) r)
+      → (holder ≡ None → IsRangeSettled (change world.truth) r)
       → IsCopyAt setting (at_range world i who.view r change holder (recovers_on who stage)) i
       (copied_on who stage (met_at_range world who.view r change)) stage
       → IsStep setting world (at_range world i who.view r change holder (recovers_on who stage))

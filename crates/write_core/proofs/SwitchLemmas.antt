@@ -23,7 +23,8 @@ use Rattle.write_core.specs.Events.{after_resolving, after_switch}
 use Rattle.write_core.specs.Events.{after_visit}
 use Rattle.mon_topo.specs.Settings.{Setting, zone_of_leaf}
 use Rattle.write_core.specs.Views.{IsSound, IsViewWithin, View, joined_view, of_leaf, of_range, with_entry}
-use Rattle.write_core.specs.World.{Actor, IsPart, Recovers, Stands, World, Writes, copied_on, gone_on, pass_of, wiser}
+use Rattle.write_core.specs.World.{Actor, IsPart, Recovers, Stands, World, Writes, copied_on, writer_at_stage, pass_of}
+use Rattle.write_core.specs.World.{wiser}
 use Rattle.write_core.proofs.ChangeLemmas.{entry_sound, entry_up, entry_within}
 use Rattle.write_core.proofs.DeedLemmas.{puts_stay, switch_is_no_put}
 use Rattle.write_core.proofs.KeepsLemmas.{Keeps, actor_stays, apart_stay, changed_by, opened_with, part_moves}
@@ -201,7 +202,8 @@ module _ (setting : Setting) (world : World) (kept : IsKept setting world) where
       part = both writer.view h.part;
       lawful = record { at_home = h.lawful.at_home; there = h.lawful.there };
       at = subst
-          (λ (stage : Stage). IsAt setting after i (gone_on writer writer.stage (joined_view writer.view view)) stage)
+          (λ (stage : Stage). IsAt setting after i (writer_at_stage writer writer.stage (joined_view writer.view view))
+          stage)
           (sym locking) tt;
       deeds = record { puts = h.deeds.puts; acks = h.deeds.acks };
     }

@@ -7,9 +7,9 @@ use Rattle.mon_value.specs.declared.histories.RangeEntry.{RangeEntry}
 use Rattle.mon_value.specs.declared.histories.RangeEntry.TheVariants as range_entry
 use Rattle.mon_value.specs.declared.positions.Leaf.{Leaf}
 use Rattle.mon_value.specs.declared.positions.Range.{Range}
-use Rattle.write_core.specs.Marks.{ack_of, is_taken, some_took}
+use Rattle.write_core.specs.Marks.{ack_of, has_taken, some_took}
 use Rattle.write_core.specs.Program.{Acking, Ended, Entering, Inside, Locking, Marked, Not, Reserving, Stage, Verdict}
-use Rattle.write_core.specs.Rounds.{marks_of}
+use Rattle.write_core.specs.Rounds.{round_marks}
 use Rattle.write_core.specs.Views.{View, of_leaf, of_range}
 use Rattle.write_core.specs.World.{Writer, put_of}
 use Rattle.write_core.specs.declared.marks.Mark.{Mark}
@@ -43,16 +43,16 @@ marks_decided (Marked marks) = marks
 
 abbrev pub marks_at : Stage → List Mark
 marks_at Locking = []
-marks_at (Reserving round) = marks_of round
-marks_at (Entering round) = marks_of round
-marks_at (Inside round at_root in_zone) = marks_of round
+marks_at (Reserving round) = round_marks round
+marks_at (Entering round) = round_marks round
+marks_at (Inside round at_root in_zone) = round_marks round
 marks_at (Acking verdict) = marks_decided verdict
 marks_at (Ended verdict) = marks_decided verdict
 
 -- its put to a replica on the leaf, if that replica took the row
 abbrev pub put_on : Writer → Leaf → Mark → List Entry
 put_on writer leaf mark =
-    if is_taken mark.fate && nat_eq mark.leaf.0 leaf.0 then put_of writer mark ∷ [] else []
+    if has_taken mark.fate && nat_eq mark.leaf.0 leaf.0 then put_of writer mark ∷ [] else []
 
 -- its puts on the leaf: one for each replica there that took the row, in slot order
 abbrev pub puts_on : Writer → Leaf → List Mark → List Entry

@@ -17,9 +17,9 @@ use Rattle.mon_topo.specs.Zones.{leaves_in, ranges_in}
 use Rattle.mon_hints.specs.HistoryBuckets.{rows_buckets}
 use Rattle.write_core.specs.CopySteps.{MayOpen, copy_of, new_replica, next_slot}
 use Rattle.write_core.specs.Recovering.{Beginning, Carrying, CopyStage, Copying, Nearing, Over, Telling, Within}
-use Rattle.write_core.specs.Marks.{ack_of, is_ready, is_taken, replica_of, some_took}
+use Rattle.write_core.specs.Marks.{ack_of, is_ready, has_taken, replica_of, some_took}
 use Rattle.write_core.specs.Program.{Acking, Ended, Entering, Inside, Locking, Marked, Not, Reserving, Stage, Verdict}
-use Rattle.write_core.specs.Rounds.{Round, marks_of}
+use Rattle.write_core.specs.Rounds.{Round, round_marks}
 use Rattle.write_core.specs.Deeds.{HasDone, IsUnused}
 use Rattle.mon_topo.specs.Settings.{Setting, zone_of_leaf}
 use Rattle.write_core.specs.Views.{IsSound, View, of_leaf, of_range}
@@ -68,15 +68,15 @@ pub record HasRows (view : View) (range : Range) (replica : SlotLeaf) (rows : Li
   pub all : replica_rows range replica.slot (of_leaf view replica.leaf) ≡ rows
 
 -- no leaf has a replica of the range from this slot on
-abbrev pub IsFresh : View → Range → ℕ → Type 0
-IsFresh view range from =
+abbrev pub IsUnopened : View → Range → ℕ → Type 0
+IsUnopened view range from =
     (slot : Slot) (leaf : Leaf) → from ≤ slot.0 → is_opened range slot (of_leaf view leaf) ≡ false
 
 -- the replicas that serve have just the acknowledged rows, and no replica was opened that the range does not know
-pub record IsSettled (view : View) (range : Range) : Type 0 where
+pub record IsRangeSettled (view : View) (range : Range) : Type 0 where
   pub rows : (replica : SlotLeaf) → Contains (serving (of_range view range)) replica
       → HasRows view range replica (acknowledged_rows (of_range view range))
-  pub fresh : IsFresh view range (length (opened_slots (of_range view range)))
+  pub fresh : IsUnopened view range (length (opened_slots (of_range view range)))
 
 -- ---- a write
 
@@ -86,7 +86,7 @@ pub record IsWriteLawful (setting : Setting) (world : World) (writer : Writer) :
   pub there : writer.range.0 < length world.truth.seen.ranges
 
 -- it holds its range, and has seen all of its history
-pub record Holds (world : World) (i : ℕ) (writer : Writer) : Type 0 where
+pub record HasRangeLock (world : World) (i : ℕ) (writer : Writer) : Type 0 where
   pub holder : world.range_holder writer.range.0 ≡ Some i
   pub whole : of_range writer.view writer.range ≡ of_range world.truth writer.range
 
@@ -112,7 +112,7 @@ HasSeen world writer mark (fate.Missed cut) = HasMissed writer mark cut
 
 -- the rows that a replica has
 abbrev pub rows_of_mark : World → Writer → Fate → List Row
-rows_of_mark world writer fate = if is_taken fate then rows_after world writer else acknowledged_rows
+rows_of_mark world writer fate = if has_taken fate then rows_after world writer else acknowledged_rows
     (of_range world.truth writer.range)
 
 pub record IsMark (world : World) (writer : Writer) (mark : Mark) : Type 0 where
@@ -121,11 +121,11 @@ pub record IsMark (world : World) (writer : Writer) (mark : Mark) : Type 0 where
 
 -- its row can be acknowledged, and it knows what became of each replica that serves
 pub record IsGoing (world : World) (i : ℕ) (setting : Setting) (writer : Writer) (marks : List Mark) : Type 0 where
-  pub holds : Holds world i writer
+  pub holds : HasRangeLock world i writer
   pub source : IsSource (rows_after world writer)
   pub room : length (acknowledged_rows (of_range world.truth writer.range)) < setting.points
   pub serve : map replica_of marks ≡ serving (of_range world.truth writer.range)
-  pub fresh : IsFresh world.truth writer.range (length (opened_slots (of_range world.truth writer.range)))
+  pub fresh : IsUnopened world.truth writer.range (length (opened_slots (of_range world.truth writer.range)))
   pub each : AllByRecursion (IsMark world writer) marks
 
 -- inside a leaf: someone who knows so much holds the leaf, which is up, has seen all of its history, and each bucket
@@ -147,21 +147,21 @@ IsInFirst setting world i writer (mark ∷ left) at_root in_zone =
 
 -- a round over leaves to enter
 pub record IsEntering (world : World) (i : ℕ) (setting : Setting) (writer : Writer) (round : Round) : Type 0 where
-  pub going : IsGoing world i setting writer (marks_of round)
+  pub going : IsGoing world i setting writer (round_marks round)
   pub done : AreAll is_decided round.done
   pub left : AreAll is_asked round.left
   pub ready : IsAtReady round.left
 
 -- a round over leaves to ask for room
 pub record IsReserving (world : World) (i : ℕ) (setting : Setting) (writer : Writer) (round : Round) : Type 0 where
-  pub going : IsGoing world i setting writer (marks_of round)
+  pub going : IsGoing world i setting writer (round_marks round)
   pub done : AreAll is_asked round.done
   pub left : AreAll is_waiting round.left
 
 -- what is decided, before it is told to the range
 pub record IsRefused (world : World) (i : ℕ) (writer : Writer) : Type 0 where
-  pub holds : Holds world i writer
-  pub settled : IsSettled world.truth writer.range
+  pub holds : HasRangeLock world i writer
+  pub settled : IsRangeSettled world.truth writer.range
 
 pub record IsDecided (world : World) (i : ℕ) (setting : Setting) (writer : Writer) (marks : List Mark) : Type 0 where
   pub going : IsGoing world i setting writer marks
@@ -206,7 +206,7 @@ pub record IsAimed (setting : Setting) (recovery : Recovery) : Type 0 where
 pub record HasLocked (world : World) (i : ℕ) (recovery : Recovery) : Type 0 where
   pub holder : world.range_holder recovery.range.0 ≡ Some i
   pub whole : of_range recovery.view recovery.range ≡ of_range world.truth recovery.range
-  pub settled : IsSettled world.truth recovery.range
+  pub settled : IsRangeSettled world.truth recovery.range
 
 -- and one more replica may be opened
 pub record IsCopying (setting : Setting) (world : World) (i : ℕ) (recovery : Recovery) : Type 0 where
@@ -225,7 +225,7 @@ pub record HasOpened (setting : Setting) (world : World) (i : ℕ) (recovery : R
   pub whole : of_range recovery.view recovery.range ≡ of_range world.truth recovery.range
   pub rows : (replica : SlotLeaf) → Contains (serving (of_range world.truth recovery.range)) replica
       → HasRows world.truth recovery.range replica (acknowledged_rows (of_range world.truth recovery.range))
-  pub fresh : IsFresh world.truth recovery.range (suc (length (opened_slots (of_range world.truth recovery.range))))
+  pub fresh : IsUnopened world.truth recovery.range (suc (length (opened_slots (of_range world.truth recovery.range))))
   pub may : MayOpen setting (of_range world.truth recovery.range) recovery
   pub has : HasRows world.truth recovery.range (new_replica recovery (of_range world.truth recovery.range))
       (acknowledged_rows (of_range world.truth recovery.range))
@@ -244,9 +244,9 @@ abbrev pub IsTelling : Setting → World → ℕ → Recovery → Bool → Type 
 IsTelling setting world i recovery true = HasOpened setting world i recovery
 IsTelling setting world i recovery false = HasLocked world i recovery
 
-abbrev pub IsOver : Recovery → Bool → Type 0
-IsOver recovery true = HasRecovered recovery
-IsOver recovery false = Unit {0}
+abbrev pub IsRecoveryOver : Recovery → Bool → Type 0
+IsRecoveryOver recovery true = HasRecovered recovery
+IsRecoveryOver recovery false = Unit {0}
 
 -- what holds of a recovery that is so far
 abbrev pub IsCopyAt : Setting → World → ℕ → Recovery → CopyStage → Type 0
@@ -260,7 +260,7 @@ IsCopyAt setting world i recovery (Within rows at_root in_zone) =
     HasCopied setting world i recovery rows
     × IsInside setting world i recovery.view recovery.leaf (rows_buckets setting.buckets_of rows) at_root in_zone
 IsCopyAt setting world i recovery (Telling is_open) = IsTelling setting world i recovery is_open
-IsCopyAt setting world i recovery (Over is_open) = IsOver recovery is_open
+IsCopyAt setting world i recovery (Over is_open) = IsRecoveryOver recovery is_open
 
 pub record IsRecovery (setting : Setting) (world : World) (i : ℕ) (recovery : Recovery) : Type 0 where
   pub part : IsPart setting world recovery.view
@@ -282,8 +282,8 @@ IsActor setting world i (Recovers recovery) = IsRecovery setting world i recover
 IsActor setting world i (Stands stander) = IsStander setting world stander
 
 -- each actor has a pass of its own
-abbrev pub AreApart : (ℕ → Actor) → Type 0
-AreApart actors = (i j : ℕ) → pass_of (actors i) ≡ pass_of (actors j) → i ≡ j
+abbrev pub HaveOwnPasses : (ℕ → Actor) → Type 0
+HaveOwnPasses actors = (i j : ℕ) → pass_of (actors i) ≡ pass_of (actors j) → i ≡ j
 
 -- the histories are well formed, legal and held, and all is led to; so is what each leaf, each range and each actor
 -- has seen; a leaf and a range have seen all of their own history; a range that nobody holds has its replicas
@@ -294,9 +294,9 @@ pub record IsKept (setting : Setting) (world : World) : Type 0 where
   pub ranges : (range : Range) → IsPart setting world (world.ranges range.0)
   pub whole_leaves : (leaf : Leaf) → of_leaf (world.leaves leaf.0) leaf ≡ of_leaf world.truth leaf
   pub whole_ranges : (range : Range) → of_range (world.ranges range.0) range ≡ of_range world.truth range
-  pub settled : (range : Range) → world.range_holder range.0 ≡ None → IsSettled world.truth range
+  pub settled : (range : Range) → world.range_holder range.0 ≡ None → IsRangeSettled world.truth range
   pub actors : (i : ℕ) → IsActor setting world i (world.actors i)
-  pub passes : AreApart world.actors
+  pub passes : HaveOwnPasses world.actors
 
 -- ---- the beginning and the end
 
@@ -324,13 +324,13 @@ IsNewActor setting world (Recovers recovery) = IsNewRecovery setting world recov
 IsNewActor setting world (Stands stander) = IsNewStander world stander
 
 -- nobody has begun, and everyone has seen all that there is; each actor has a pass of its own
-pub record IsNew (setting : Setting) (world : World) : Type 0 where
+pub record IsNewWorld (setting : Setting) (world : World) : Type 0 where
   pub sound : IsSound setting world.truth
-  pub settled : (range : Range) → IsSettled world.truth range
+  pub settled : (range : Range) → IsRangeSettled world.truth range
   pub leaves : (leaf : Leaf) → world.leaves leaf.0 ≡ world.truth
   pub ranges : (range : Range) → world.ranges range.0 ≡ world.truth
   pub actors : (i : ℕ) → IsNewActor setting world (world.actors i)
-  pub passes : AreApart world.actors
+  pub passes : HaveOwnPasses world.actors
 
 -- a write has seen its acknowledgement in its range's history, which is legal; and the leaves' histories bear it out:
 -- the leaf of each replica that took the row has it, and that of each one that missed it was down

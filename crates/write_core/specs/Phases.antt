@@ -4,11 +4,11 @@ use Rattle.write_core.specs.declared.machine.Phase.{Phase}
 use Rattle.write_core.specs.declared.machine.Phase.TheVariants as phase
 use Rattle.write_core.specs.declared.marks.Refused.{Refused}
 use Rattle.write_core.specs.Program.{Acking, Ended, Entering, Inside, Locking, Marked, Not, Reserving, Stage, Verdict}
-use Rattle.write_core.specs.Rounds.{Round, marks_of}
+use Rattle.write_core.specs.Rounds.{Round, round_marks}
 
 abbrev pub verdict_of : Option Refused → Round → Verdict
 verdict_of (Some why) round = Not why
-verdict_of None round = Marked (marks_of round)
+verdict_of None round = Marked (round_marks round)
 
 -- by its phase, its round, and the buckets of the leaf that it is in, of which so many were raised
 abbrev pub stage_of : Phase → Round → List ℕ → ℕ → ℕ → Stage

@@ -13,7 +13,7 @@ use Rattle.write_core.specs.declared.marks.Mark.{Mark}
 use Rattle.write_core.specs.declared.marks.Refused.{Refused}
 use Rattle.write_core.specs.declared.marks.Refused.TheVariants as refused
 use Rattle.write_core.specs.Marks.{end_of, waiting}
-use Rattle.write_core.specs.Rounds.{Round, again, is_through, after_look, marks_of, round_of, after_skip}
+use Rattle.write_core.specs.Rounds.{Round, again, is_through, after_look, round_marks, round_of, after_skip}
 
 -- what was decided: the range does not take the row, or each replica took it or missed it
 pub data Verdict : Type 0 where
@@ -71,7 +71,8 @@ ask_of (Ended verdict) = ask.Finished
 -- at the next replica whose leaf has room, and else at the acknowledgement
 abbrev pub entering : Round → Stage
 entering round =
-    if is_through (after_skip round) then Acking (Marked (marks_of (after_skip round))) else Entering (after_skip round)
+    if is_through (after_skip round) then Acking (Marked (round_marks (after_skip round)))
+    else Entering (after_skip round)
 
 -- at the next replica; the leaves are entered once all were asked for room
 abbrev pub reserving : Round → Stage

@@ -50,8 +50,8 @@ view_of (Recovers recovery) = recovery.view
 view_of (Stands stander) = stander.view
 
 -- a write, further on
-abbrev pub gone_on : Writer → Stage → View → Writer
-gone_on writer stage view =
+abbrev pub writer_at_stage : Writer → Stage → View → Writer
+writer_at_stage writer stage view =
     record { pass = writer.pass; row = writer.row; range = writer.range; stage = stage; view = view }
 
 -- a recovery, further on
@@ -65,7 +65,7 @@ copied_on recovery stage view = record {
 }
 
 abbrev pub writes_on : Writer → Stage → View → Actor
-writes_on writer stage view = Writes (gone_on writer stage view)
+writes_on writer stage view = Writes (writer_at_stage writer stage view)
 
 abbrev pub recovers_on : Recovery → CopyStage → View → Actor
 recovers_on recovery stage view = Recovers (copied_on recovery stage view)

@@ -2,7 +2,7 @@
 ghost use Rattle.std.specs.Prelude.{◌≡◌, ◌+◌, ◌≤◌, ◌++◌, [], length, vec_len, vec_capacity};
 ghost use Rattle.std.specs.List.{flat_map};
 ghost use Rattle.write_core.specs.Marks as spec;
-ghost use Rattle.write_core.specs.Marks.{found_down, missed_slot, taken_slot};
+ghost use Rattle.write_core.specs.Marks.{found_in_mark, missed_slot, taken_slot};
 
 use crate::marks::{Fate, Mark};
 use mon_value::{FoundDown, Founds, Miss, Misses, Slot, Slots};
@@ -59,7 +59,7 @@ fn push_miss(misses: &mut Vec<Miss>, mark: &Mark)
 pub(crate) fn founds(mut room: Vec<FoundDown>, marks: &[Mark]) -> Founds
     requires empty { room.items ≡ [] }
     requires room { vec_len room + length marks.now ≤ vec_capacity room }
-    ensures founds { result ≡ flat_map found_down marks.now }
+    ensures founds { result ≡ flat_map found_in_mark marks.now }
 {
     for mark in marks {
         push_found(&mut room, mark);
@@ -69,7 +69,7 @@ pub(crate) fn founds(mut room: Vec<FoundDown>, marks: &[Mark]) -> Founds
 
 fn push_found(founds: &mut Vec<FoundDown>, mark: &Mark)
     requires { vec_len founds.old + 1 ≤ vec_capacity founds.old }
-    ensures added { founds.new.items ≡ founds.old.items ++ found_down mark.now }
+    ensures added { founds.new.items ≡ founds.old.items ++ found_in_mark mark.now }
     ensures count { vec_len founds.new ≤ vec_len founds.old + 1 }
     ensures room { vec_capacity founds.new ≡ vec_capacity founds.old }
 {
@@ -87,7 +87,7 @@ pub(crate) fn some_took(marks: &[Mark]) -> bool
 }
 
 fn is_taken(mark: &Mark) -> bool
-    ensures taken { result ≡ spec.is_taken mark.now.fate }
+    ensures taken { result ≡ spec.has_taken mark.now.fate }
 {
     match mark.fate {
         Fate::Took => true,

@@ -2,7 +2,7 @@
 ghost use Rattle.std.specs.Prelude.{◌≡◌, ℕ, true, List};
 ghost use Rattle.write_core.specs.Deeds.{HasDone};
 ghost use Rattle.write_core.specs.Courses.{EndsDecided, Leg, RunsItsCourse, after_all};
-ghost use Rattle.write_core.specs.Invariant.{IsAcknowledged, IsKept, IsNew, IsRecovered};
+ghost use Rattle.write_core.specs.Invariant.{IsAcknowledged, IsKept, IsNewWorld, IsRecovered};
 ghost use Rattle.write_core.specs.Marks.{some_took};
 ghost use Rattle.write_core.specs.Program.{Ended, Locking, Marked};
 ghost use Rattle.write_core.specs.Events.{CanRun, Event, after_events};
@@ -32,7 +32,7 @@ pub fn writes_run_their_course()
 /// recovery that opened its replica has that in a legal history, and the replica's leaf took over the rows that were
 /// acknowledged before.
 pub fn writes_keep_the_invariant()
-    ensures begins { (setting : Setting) (world : World) → IsNew setting world → IsKept setting world }
+    ensures begins { (setting : Setting) (world : World) → IsNewWorld setting world → IsKept setting world }
     ensures stays { (setting : Setting) (world : World) (events : List Event) → CanRun setting world events
         → IsKept setting world → IsKept setting (after_events setting world events) }
     ensures parts { (setting : Setting) (world : World) (events : List Event) (view : View)

@@ -3,7 +3,7 @@ ghost use Rattle.std.specs.Prelude.{◌≡◌, ℕ, List, drop, length, OnErr, O
 ghost use Rattle.write_core.specs.Phases.{stage_of};
 ghost use Rattle.write_core.specs.Program as spec;
 ghost use Rattle.write_core.specs.Program.{after, ask_of, EndsSo, Locking};
-ghost use Rattle.write_core.specs.Rounds.{marks_of};
+ghost use Rattle.write_core.specs.Rounds.{round_marks};
 ghost use Rattle.write_core.specs.declared.asks.WriteAsk.TheVariants.{Finished};
 
 use crate::asks::{WriteAsk, WriteEnd, WriteTold};
@@ -46,7 +46,7 @@ impl Model for WriteMachine {
     ghost use Rattle.std.specs.Prelude.{◌≡◌, ◌+◌, ◌≤◌, [], length, vec_len, vec_capacity};
     ghost use Rattle.write_core.specs.Phases.{stage_of};
     ghost use Rattle.write_core.specs.Program.{Write};
-    ghost use Rattle.write_core.specs.Rounds.{marks_of};
+    ghost use Rattle.write_core.specs.Rounds.{round_marks};
 
     ghost Value = { Write };
 
@@ -59,9 +59,9 @@ impl Model for WriteMachine {
       no_slot : machine.took.items ≡ [];
       no_miss : machine.missed.items ≡ [];
       no_found : machine.founds.items ≡ [];
-      slots : vec_len machine.took + length (marks_of machine.round) ≤ vec_capacity machine.took;
-      misses : vec_len machine.missed + length (marks_of machine.round) ≤ vec_capacity machine.missed;
-      founds : vec_len machine.founds + length (marks_of machine.round) ≤ vec_capacity machine.founds;
+      slots : vec_len machine.took + length (round_marks machine.round) ≤ vec_capacity machine.took;
+      misses : vec_len machine.missed + length (round_marks machine.round) ≤ vec_capacity machine.missed;
+      founds : vec_len machine.founds + length (round_marks machine.round) ≤ vec_capacity machine.founds;
     } };
 }
 
@@ -265,7 +265,7 @@ impl WriteMachine {
 fn next_to_reserve(round: &mut Round) -> Phase
     ensures stage { (buckets : List ℕ) (at_root in_zone : ℕ)
         → stage_of result round.new buckets at_root in_zone ≡ spec.reserving round.old }
-    ensures count { length (marks_of round.new) ≡ length (marks_of round.old) }
+    ensures count { length (round_marks round.new) ≡ length (round_marks round.old) }
 {
     if round.is_through() {
         round.begin_again();
@@ -297,7 +297,7 @@ fn ask_inside(round: &Round, buckets: &[u32], at_root: usize, in_zone: usize) ->
 fn next_to_enter(round: &mut Round) -> Phase
     ensures stage { (buckets : List ℕ) (at_root in_zone : ℕ)
         → stage_of result round.new buckets at_root in_zone ≡ spec.entering round.old }
-    ensures count { length (marks_of round.new) ≡ length (marks_of round.old) }
+    ensures count { length (round_marks round.new) ≡ length (round_marks round.old) }
 {
     round.skip();
     if round.is_through() {

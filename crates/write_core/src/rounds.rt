@@ -1,7 +1,8 @@
 // A round over a write's replicas.
 ghost use Rattle.std.specs.Prelude.{◌≡◌, ◌++◌, [], take, drop};
 ghost use Rattle.std.specs.Option.{option_copied};
-ghost use Rattle.write_core.specs.Rounds.{again, first_left, is_through, after_look, round_of, skip, after_skip};
+ghost use Rattle.write_core.specs.Rounds.{again, first_left, is_through, after_look, round_of, skip_unready};
+ghost use Rattle.write_core.specs.Rounds.{after_skip};
 
 use crate::marks::{Fate, Mark};
 use std::alloc::Global;
@@ -97,7 +98,7 @@ impl Round {
 /// The place of the next replica, from one on, whose leaf has room for the row; behind all where there is none.
 #[tactic(auto, using(crate::proofs::RoundLemmas::rounds))]
 fn next_ready(marks: &[Mark], from: usize) -> usize
-    ensures skipped { skip (take from marks.now) (drop from marks.now)
+    ensures skipped { skip_unready (take from marks.now) (drop from marks.now)
         ≡ record { done = take result marks.now; left = drop result marks.now } }
 {
     for i in from..marks.len() {

@@ -14,12 +14,12 @@ use Rattle.leaf_store.specs.LeafBuckets.{key_buckets}
 use Rattle.leaf_store.specs.within.Replicas.{HasSeries, Replicas, rows_held}
 
 -- some buckets came to a set
-abbrev pub Adds : (ℕ → Bool) → (ℕ → Bool) → List ℕ → Type 0
-Adds old new buckets = (bucket : ℕ) → new bucket ≡ (old bucket || is_among bucket buckets)
+abbrev pub AddsBuckets : (ℕ → Bool) → (ℕ → Bool) → List ℕ → Type 0
+AddsBuckets old new buckets = (bucket : ℕ) → new bucket ≡ (old bucket || is_among bucket buckets)
 
 -- the buckets of the rows that an entry brings came to a set
 abbrev pub AddsEntry : ℕ → SchemaLists → Entry → (ℕ → Bool) → (ℕ → Bool) → Type 0
-AddsEntry buckets schemas e old new = Adds old new (rows_buckets (key_buckets buckets schemas) (brought_rows e))
+AddsEntry buckets schemas e old new = AddsBuckets old new (rows_buckets (key_buckets buckets schemas) (brought_rows e))
 
 -- whether a bucket of a list is not in a set
 abbrev pub is_left : (ℕ → Bool) → List ℕ → ℕ → Bool

@@ -27,9 +27,9 @@ abbrev pub rows_held : Replicas → Range → Slot → Option (List Row)
 rows_held replicas range slot = lookup (λ replica. same_replica range slot replica.range replica.slot) replicas
 
 -- the rows of a replica, none where it isn't kept
-abbrev pub all_rows : Option (List Row) → List Row
-all_rows None = []
-all_rows (Some rows) = rows
+abbrev pub rows_if_kept : Option (List Row) → List Row
+rows_if_kept None = []
+rows_if_kept (Some rows) = rows
 
 -- the rows of a replica that is a certain one
 abbrev pub rows_if : Range → Slot → Option (Replica × List Row) → Option (List Row)
@@ -102,11 +102,11 @@ pub record IsPut (old new : Replicas) (replica : Replica) (row : Row) (number pl
   pub grown : new ≡ set_value_at old number (rows ++ row ∷ [])
 
 -- no replica of this range and slot is kept
-abbrev pub IsNew : Replicas → Replica → Type 0
-IsNew replicas replica = rows_held replicas replica.range replica.slot ≡ None
+abbrev pub IsNewReplica : Replicas → Replica → Type 0
+IsNewReplica replicas replica = rows_held replicas replica.range replica.slot ≡ None
 
 -- a replica more, with its rows
-pub record IsOpened (old new : Replicas) (replica : Replica) (rows : List Row) (number count : ℕ) : Type 0 where
+pub record IsReplicaAdded (old new : Replicas) (replica : Replica) (rows : List Row) (number count : ℕ) : Type 0 where
   pub number_is : number ≡ length old
   pub count_is : count ≡ length rows
   pub grown : new ≡ old ++ (replica, rows) ∷ []
@@ -119,7 +119,7 @@ pub record CanSettle (replicas : Replicas) (last : Entry) : Type 0 where
   pub follows : MayFollow history last
 
 -- each entry that was kept is kept, and so is one more, whose rows are with the replicas too
-pub record Settles (old new : Replicas) (last : Entry) (own : Kept) : Type 0 where
+pub record SettlesEntry (old new : Replicas) (last : Entry) (own : Kept) : Type 0 where
   pub keeps : (k : Kept) (e : Entry) → entry_of old k ≡ Some e → entry_of new k ≡ Some e
   pub own_is : entry_of new own ≡ Some last
   pub holds : (history : List Entry) → IsWellFormed history → MayFollow history last → HoldsHistory old history
@@ -127,7 +127,7 @@ pub record Settles (old new : Replicas) (last : Entry) (own : Kept) : Type 0 whe
 
 -- ---- a history in two parts: what is kept, and what is left
 
-pub record Holds (replicas : Replicas) (ks : List Kept) (left : List Entry) : Type 0 where
+pub record IsInTwoParts (replicas : Replicas) (ks : List Kept) (left : List Entry) : Type 0 where
   pub there : AllHaveRows replicas ks
   pub formed : IsWellFormed (shown_entries replicas ks ++ left)
   pub holds : HoldsHistory replicas (shown_entries replicas ks)

@@ -10,20 +10,20 @@ use Rattle.mon_hints.specs.HistoryBuckets.{history_buckets}
 use Rattle.leaf_store.specs.LeafBuckets.{key_buckets}
 use Rattle.leaf_store.specs.LeafStates.{LeafView}
 use Rattle.leaf_store.specs.declared.leaf_state.LeafState.TheInside.{Inside}
-use Rattle.leaf_store.specs.within.Replicas.{Holds, shown_entries}
+use Rattle.leaf_store.specs.within.Replicas.{IsInTwoParts, shown_entries}
 
 -- the entries that are left, whose rows aren't with the replicas yet
 abbrev pub left_of : Inside → List Entry
 left_of leaf = drop leaf.moved leaf.fresh.items
 
-abbrev pub history_of : Inside → List Entry
-history_of leaf = shown_entries leaf.replicas.entries leaf.kept.items ++ left_of leaf
+abbrev pub history_inside : Inside → List Entry
+history_inside leaf = shown_entries leaf.replicas.entries leaf.kept.items ++ left_of leaf
 
 abbrev pub leaf_view : Inside → LeafView
 leaf_view leaf = record {
   schemas = leaf.schemas;
   buckets = leaf.buckets;
-  history = history_of leaf;
+  history = history_inside leaf;
   promised = leaf.promised;
   settled = leaf.settled;
 }
@@ -37,11 +37,11 @@ AllSwitches entries = AllByRecursion (λ entry. is_switch entry ≡ true) entrie
 -- for what is promised and for the switches to come
 pub record IsLeafKept (leaf : Inside) : Type 0 where
   pub within : leaf.moved ≤ length leaf.fresh.items
-  pub holds : Holds leaf.replicas.entries leaf.kept.items (left_of leaf)
+  pub holds : IsInTwoParts leaf.replicas.entries leaf.kept.items (left_of leaf)
   pub raised : (bucket : ℕ) → is_set leaf.raised.words bucket
-      ≡ is_among bucket (history_buckets (key_buckets leaf.buckets leaf.schemas) (history_of leaf))
-  pub down : leaf.down ≡ is_down (history_of leaf)
-  pub switches : count_by is_switch (history_of leaf) + leaf.switches_left ≡ MOST_SWITCHES
+      ≡ is_among bucket (history_buckets (key_buckets leaf.buckets leaf.schemas) (history_inside leaf))
+  pub down : leaf.down ≡ is_down (history_inside leaf)
+  pub switches : count_by is_switch (history_inside leaf) + leaf.switches_left ≡ MOST_SWITCHES
   pub waits : leaf.settled ≡ true → AllSwitches (left_of leaf)
   pub room : length leaf.fresh.items + (leaf.promised + leaf.switches_left) ≤ vec_capacity leaf.fresh
   pub some : 0 < leaf.buckets

@@ -24,16 +24,16 @@ pub record FetchView : Type 0 where
   pub of_series : List BoundPredicate
   pub of_points : List BoundPredicate
 
-abbrev pub all_hold : List BoundPredicate → List Value → Bool
-all_hold filters cells = list_all (λ by. bound_truth by cells) filters
+abbrev pub all_filters_hold : List BoundPredicate → List Value → Bool
+all_filters_hold filters cells = list_all (λ by. bound_truth by cells) filters
 
 -- whether a series is fetched, and each filter of series holds of it
 abbrev pub is_fetch_met : FetchView → SeriesKey → Bool
-is_fetch_met fetch key = is_fetched fetch.schema fetch.metric key && all_hold fetch.of_series (series_cells key)
+is_fetch_met fetch key = is_fetched fetch.schema fetch.metric key && all_filters_hold fetch.of_series (series_cells key)
 
 -- whether each filter of points holds of a point with a value
 abbrev pub keeps : FetchView → SeriesKey → Value → Bool
-keeps fetch key value = all_hold fetch.of_points (cells_of key value)
+keeps fetch key value = all_filters_hold fetch.of_points (cells_of key value)
 
 -- the points of a series that are kept
 abbrev pub points_kept : FetchView → SeriesGroup → List Point
@@ -49,9 +49,9 @@ pub record IsFetchOf (input : NodeTree) (fetch : FetchView) : Type 0 where
   pub met : (key : SeriesKey) → is_fetch_met fetch key ≡ meets input key
   pub flowing : (key : SeriesKey) (value : Value)
       → (is_fetched fetch.schema fetch.metric key
-      && (all_hold fetch.of_series (cells_of key value) && keeps fetch key value)) ≡ flows input key value
+      && (all_filters_hold fetch.of_series (cells_of key value) && keeps fetch key value)) ≡ flows input key value
   pub decided : (key : SeriesKey) (value : Value) → KeysDecide input key
-      → all_hold fetch.of_series (cells_of key value) ≡ all_hold fetch.of_series (series_cells key)
+      → all_filters_hold fetch.of_series (cells_of key value) ≡ all_filters_hold fetch.of_series (series_cells key)
 
 -- a part from which no points flow
 pub record FetchesNothing (input : NodeTree) : Type 0 where

@@ -102,7 +102,7 @@ abbrev pub with_promise : LeafView → LeafView
 with_promise leaf = with_promised leaf (leaf.promised + 1)
 
 -- what an entry must be to come to a leaf
-pub record MayCome (entry : Entry) (leaf : LeafView) : Type 0 where
+pub record MayComeToLeaf (entry : Entry) (leaf : LeafView) : Type 0 where
   pub formed : IsWellFormed (leaf.history ++ entry ∷ [])
   pub promised : is_switch entry ≡ false → 1 ≤ leaf.promised
 
@@ -125,8 +125,8 @@ nowhere range slot = None
 abbrev pub is_slot_before : ℕ → ℕ → Range → Slot → Bool
 is_slot_before range place other slot = nat_lt other.0 range || (nat_eq other.0 range && nat_lt slot.0 place)
 
-abbrev pub opened_before : List ZoneSpec → ℕ → ℕ → Range → Slot → Option Leaf
-opened_before zones range place other slot = if is_slot_before range place other slot then leaf_of zones other slot
+abbrev pub opened_slot_before : List ZoneSpec → ℕ → ℕ → Range → Slot → Option Leaf
+opened_slot_before zones range place other slot = if is_slot_before range place other slot then leaf_of zones other slot
     else None
 
 -- the rows of ranges, with a row more of one range in each slot from a place on

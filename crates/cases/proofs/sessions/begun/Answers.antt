@@ -1,6 +1,6 @@
 use Rattle.std.proofs.Common.{[], refl, subst, sym}
 use Rattle.query_core.specs.Machine.{Query}
-use Rattle.cases.specs.Sessions.{IsGoing}
+use Rattle.cases.specs.Sessions.{IsQueryGoing}
 use Rattle.cases.proofs.SessionLemmas.{goes_at_first}
 use Rattle.cases.proofs.sessions.begun.Goals as goal
 
@@ -10,6 +10,6 @@ returns c =
     let held = c.args.setting.now.schemas in
     let asked = c.args.asked in
     record {
-      going = subst (λ (machine : Query). IsGoing held asked [] machine) (sym c.in_ok-new.ensures.new)
+      going = subst (λ (machine : Query). IsQueryGoing held asked [] machine) (sym c.in_ok-new.ensures.new)
           (goes_at_first held asked _ c.requires.bounds refl c.in_ok-plan.ensures.asked);
     }

@@ -2,7 +2,7 @@ use Rattle.std.proofs.Common.{◌≡◌, ◌∙◌, ◌+◌, ◌++◌, ◌∷◌
 use Rattle.std.proofs.lemmas.List.{drop_more}
 use Rattle.mon_value.specs.declared.histories.Entry.{Entry}
 use Rattle.leaf_store.specs.declared.kept.Kept.{Kept}
-use Rattle.leaf_store.specs.within.Replicas.{Holds, shown_entries}
+use Rattle.leaf_store.specs.within.Replicas.{IsInTwoParts, shown_entries}
 use Rattle.leaf_store.proofs.StepLemmas.{can_settle, settled}
 use Rattle.leaf_store.proofs.replays.settle_entries.Goals as goal
 
@@ -17,7 +17,10 @@ settle_entry-requires c =
     (sym c.index-fresh-moved.is) in
     let replicas = c.loop-moved.replicas.entries in
     let ks = c.loop-moved.kept.items in
-    record { settles = can_settle replicas ks e rest (subst (Holds replicas ks) next c.loop-moved.invariant.holds) }
+    record {
+      settles = can_settle replicas ks e rest
+          (subst (IsInTwoParts replicas ks) next c.loop-moved.invariant.holds);
+    }
 
 pub loop-moved-preserved : goal.loop-moved-preserved
 loop-moved-preserved c =
@@ -32,13 +35,13 @@ loop-moved-preserved c =
     let new = c.settle_entry.new.replicas.entries in
     let ks = c.loop-moved.kept.items in
     let own = c.in_ok-own.own in
-    let step = settled old new ks own e rest (subst (Holds old ks) next c.loop-moved.invariant.holds)
+    let step = settled old new ks own e rest (subst (IsInTwoParts old ks) next c.loop-moved.invariant.holds)
     c.in_ok-own.ensures.settled in
     let items = c.push.ensures.added ∙ ap (λ (all : List Kept). all ++ own ∷ []) c.in_ok-reserve_one.ensures.kept in
     record {
       within = omega (arith, c.loop-moved-test.true);
       onward = omega (arith, c.loop-moved.invariant.onward);
-      holds = subst (λ (all : List Kept). Holds new all rest) (sym items) step.0;
+      holds = subst (λ (all : List Kept). IsInTwoParts new all rest) (sym items) step.0;
       same = ap (λ (all : List Kept). shown_entries new all ++ rest) items ∙ step.1
           ∙ ap (λ (left : List Entry). shown_entries old ks ++ left) (sym next) ∙ c.loop-moved.invariant.same;
     }

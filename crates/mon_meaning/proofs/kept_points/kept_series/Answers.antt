@@ -2,7 +2,7 @@ use Rattle.std.proofs.Common.{◌≡◌, ◌∙◌, ◌++◌, ◌∷◌, [], ◌
 use Rattle.mon_value.specs.Sources.{last_end}
 use Rattle.mon_value.specs.declared.rows.Point.{Point}
 use Rattle.mon_value.specs.declared.values.Value.{Value}
-use Rattle.mon_meaning.specs.within.FetchViews.{all_hold, keeps, points_kept}
+use Rattle.mon_meaning.specs.within.FetchViews.{all_filters_hold, keeps, points_kept}
 use Rattle.mon_meaning.proofs.KeptLemmas.{kept_more}
 use Rattle.mon_meaning.proofs.WindowLemmas.{rises_on}
 use Rattle.mon_meaning.proofs.kept_points.kept_series.Goals as goal
@@ -28,8 +28,9 @@ loop-point-preserved c =
     let i = c.loop-point.point-index in
     let decided : c.in_ok-keeps.keeps ≡ keeps fetch key p.value =
     c.in_ok-keeps.ensures.kept
-    ∙ ap (λ (v : Value). all_hold fetch.of_points (c.loop-point.cells ++ v ∷ [])) c.in_ok-value.ensures.value
-    ∙ ap (λ (cells : List Value). all_hold fetch.of_points (cells ++ p.value ∷ [])) c.loop-point.invariant.cells in
+    ∙ ap (λ (v : Value). all_filters_hold fetch.of_points (c.loop-point.cells ++ v ∷ [])) c.in_ok-value.ensures.value
+    ∙ ap (λ (cells : List Value). all_filters_hold fetch.of_points (cells ++ p.value ∷ []))
+    c.loop-point.invariant.cells in
     let cells = c.in_ok-keeps.ensures.cells ∙ c.loop-point.invariant.cells in
     elim c.if-keeps.branch [
       | then-keeps+in_ok-reserve+in_ok-copy w ↦ record {

@@ -22,5 +22,5 @@ loop-key-preserved c =
     one_numbered l.index.entries c.make_room.new.index.entries c.add_number.new.index.entries l.number _ l.key-iterator
     c.next.new.self
     c.args.series.now.entries c.in-Some.key.now c.in-Some.field-0-1.now l.invariant c.in-Some.ensures.steps
-    c.in_ok-at.ensures.same
+    c.in_ok-at.ensures.numbers
     (c.add_number.ensures.added c.in-Some.key.now.metric room) refl

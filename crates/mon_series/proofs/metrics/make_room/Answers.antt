@@ -5,8 +5,8 @@ use Rattle.mon_series.proofs.FirstLemmas.{first_position}
 use Rattle.mon_series.proofs.MetricLemmas.{place_first, place_kept, room_found, same_set}
 use Rattle.mon_series.proofs.metrics.make_room.Goals as goal
 
-pub returns-in-Some-clause-same : goal.returns-in-Some-clause-same
-returns-in-Some-clause-same c =
+pub returns-in-Some-clause-numbers : goal.returns-in-Some-clause-numbers
+returns-in-Some-clause-numbers c =
     let more = c.more_room.ensures.more in
     λ metric. ap (λ (index : Index). numbers_held index metric) more.1 ∙ same_set c.args.index.now.entries c.in-Some.at
     more.0 more.2 metric

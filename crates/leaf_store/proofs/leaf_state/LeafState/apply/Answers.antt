@@ -10,8 +10,8 @@ use Rattle.mon_value.specs.declared.histories.Entry.{Entry}
 use Rattle.mon_hints.specs.HistoryBuckets.{history_buckets}
 use Rattle.leaf_store.specs.LeafBuckets.{key_buckets}
 use Rattle.leaf_store.specs.LeafStates.{LeafView}
-use Rattle.leaf_store.specs.within.Replicas.{Holds, shown_entries}
-use Rattle.leaf_store.specs.within.States.{AllSwitches, history_of, left_of}
+use Rattle.leaf_store.specs.within.Replicas.{IsInTwoParts, shown_entries}
+use Rattle.leaf_store.specs.within.States.{AllSwitches, history_inside, left_of}
 use Rattle.leaf_store.proofs.KnownLemmas.{holds_buckets}
 use Rattle.leaf_store.proofs.StateLemmas.{count_plain, count_switch, down_plain, down_switch, history_push, holds_push}
 use Rattle.leaf_store.proofs.StateLemmas.{raised_push, raised_switch, switch_room, waits_push}
@@ -20,23 +20,23 @@ use Rattle.leaf_store.proofs.leaf_state.LeafState.apply.Goals as goal
 pub overflow_sub-self : goal.overflow_sub-self
 overflow_sub-self c =
     let leaf = c.self.inside in
-    let formed : IsWellFormed (history_of leaf ++ c.args.entry ∷ []) =
+    let formed : IsWellFormed (history_inside leaf ++ c.args.entry ∷ []) =
     subst (λ (v : LeafView). IsWellFormed (v.history ++ c.args.entry ∷ [])) (sym c.self.view_is) c.requires.follows in
     omega (
       arith,
-      switch_room (history_of leaf) c.args.entry (sym c.in-Some.ensures.switch) formed,
+      switch_room (history_inside leaf) c.args.entry (sym c.in-Some.ensures.switch) formed,
       c.self.invariant.switches,
     )
 
 pub push_reserved-requires : goal.push_reserved-requires
 push_reserved-requires c =
     let leaf = c.self.inside in
-    let formed : IsWellFormed (history_of leaf ++ c.args.entry ∷ []) =
+    let formed : IsWellFormed (history_inside leaf ++ c.args.entry ∷ []) =
     subst (λ (v : LeafView). IsWellFormed (v.history ++ c.args.entry ∷ [])) (sym c.self.view_is) c.requires.follows in
     let some : 1 ≤ leaf.switches_left =
     omega (
       arith,
-      switch_room (history_of leaf) c.args.entry (sym c.in-Some.ensures.switch) formed,
+      switch_room (history_inside leaf) c.args.entry (sym c.in-Some.ensures.switch) formed,
       c.self.invariant.switches,
     ) in
     let len : vec_len leaf.fresh ≡ length leaf.fresh.items = search rules in
@@ -49,7 +49,7 @@ invariant_of-self c =
     let fresh = leaf.fresh.items in
     let moved = leaf.moved in
     let first = shown_entries leaf.replicas.entries leaf.kept.items in
-    let history = history_of leaf in
+    let history = history_inside leaf in
     let is : is_switch e ≡ true = sym c.in-Some.ensures.switch in
     let formed : IsWellFormed (history ++ e ∷ []) = subst (λ (v : LeafView). IsWellFormed (v.history ++ e ∷ []))
     (sym c.self.view_is) c.requires.follows in
@@ -60,7 +60,8 @@ invariant_of-self c =
     let more = ap length items ∙ length-append fresh (e ∷ []) in
     record {
       within = omega (arith, more, c.self.invariant.within);
-      holds = subst (λ (es : List Entry). Holds leaf.replicas.entries leaf.kept.items (drop moved es)) (sym items)
+      holds = subst (λ (es : List Entry). IsInTwoParts leaf.replicas.entries leaf.kept.items (drop moved es))
+          (sym items)
           (holds_push leaf.replicas.entries leaf.kept.items fresh moved e c.self.invariant.within
           c.self.invariant.holds formed);
       raised = λ bucket. raised_switch (is_set leaf.raised.words) leaf.buckets leaf.schemas history e is
@@ -85,7 +86,7 @@ invariant_of-self-in-None c =
     let fresh = leaf.fresh.items in
     let moved = leaf.moved in
     let first = shown_entries leaf.replicas.entries leaf.kept.items in
-    let history = history_of leaf in
+    let history = history_inside leaf in
     let is : is_switch e ≡ false = sym c.in-None.ensures.switch in
     let formed : IsWellFormed (history ++ e ∷ []) = subst (λ (v : LeafView). IsWellFormed (v.history ++ e ∷ []))
     (sym c.self.view_is) c.requires.follows in
@@ -97,7 +98,8 @@ invariant_of-self-in-None c =
     let more = ap length items ∙ length-append fresh (e ∷ []) in
     record {
       within = omega (arith, more, c.self.invariant.within);
-      holds = subst (λ (es : List Entry). Holds leaf.replicas.entries leaf.kept.items (drop moved es)) (sym items)
+      holds = subst (λ (es : List Entry). IsInTwoParts leaf.replicas.entries leaf.kept.items (drop moved es))
+          (sym items)
           (holds_push leaf.replicas.entries leaf.kept.items fresh moved e c.self.invariant.within
           c.self.invariant.holds formed);
       raised = λ bucket. raised_push (is_set leaf.raised.words) (is_set c.raise.new.raised.words) leaf.buckets

@@ -3,8 +3,8 @@ use Rattle.mon_value.specs.LeafHistories.{replica_rows}
 use Rattle.mon_value.specs.declared.histories.Entry.{Entry}
 use Rattle.mon_value.specs.declared.rows.Row.{Row}
 use Rattle.leaf_store.specs.LeafStates.{LeafView}
-use Rattle.leaf_store.specs.within.Replicas.{all_rows, rows_held}
-use Rattle.leaf_store.specs.within.States.{history_of, left_of}
+use Rattle.leaf_store.specs.within.Replicas.{rows_if_kept, rows_held}
+use Rattle.leaf_store.specs.within.States.{history_inside, left_of}
 use Rattle.leaf_store.proofs.StepLemmas.{cut_left, rows_early, rows_late}
 use Rattle.leaf_store.proofs.leaf_state.LeafState.rows_at.Goals as goal
 
@@ -17,7 +17,8 @@ in_front-requires c =
     let len : c.len-2.result ≡ length ks = search rules in
     let left : c.behind-left.result.now ≡ left_of leaf = c.behind-left.ensures.behind ∙ ap (drop leaf.moved)
     c.as_slice.ensures.value in
-    let within : cut ≤ length (history_of leaf) = subst (λ (v : LeafView). cut ≤ length v.history) (sym c.self.view_is)
+    let within : cut ≤ length (history_inside leaf) = subst (λ (v : LeafView). cut ≤ length v.history)
+    (sym c.self.view_is)
     c.requires.within in
     let fits = cut_left leaf.replicas.entries ks (left_of leaf) cut c.self.invariant.holds.there within more in
     record {
@@ -54,7 +55,7 @@ returns c =
     let left : c.behind-left.result.now ≡ left_of leaf = c.behind-left.ensures.behind ∙ ap (drop leaf.moved)
     c.as_slice.ensures.value in
     let held = c.in_ok-push_held.ensures.added ∙ (λ i. c.new-rows.ensures.empty i
-    ++ all_rows (rows_held replicas range slot)) in
+    ++ rows_if_kept (rows_held replicas range slot)) in
     let brought : c.in_front.result.now ≡ take (cut - length ks) (left_of leaf) = c.in_front.ensures.front
     ∙ (λ i. take (cut - len i) (left i)) in
     record {

@@ -14,11 +14,12 @@ push_first-requires c = record {
 }
 
 pub invariant_of-self : goal.invariant_of-self
-invariant_of-self c = stays_kept c.self.invariant c.in_default.ensures.same refl refl
+invariant_of-self c = stays_kept c.self.invariant c.in_default.ensures.numbers refl refl
 
 pub invariant_of-self-in_err-push_first : goal.invariant_of-self-in_err-push_first
 invariant_of-self-in_err-push_first c =
-    stays_kept c.self.invariant c.in-Ok.ensures.same c.in_err-push_first.ensures.kept c.in_err-push_first.ensures.order
+    stays_kept c.self.invariant c.in-Ok.ensures.numbers c.in_err-push_first.ensures.kept
+    c.in_err-push_first.ensures.order
 
 pub invariant_of-self-2 : goal.invariant_of-self-2
 invariant_of-self-2 c =
@@ -33,7 +34,7 @@ invariant_of-self-2 c =
     let pushed = c.in_ok-push_first.ensures in
     (first_kept row c.make_room.new.index.entries c.add_number.new.index.entries c.series-number.result
     (length entries) c.self.invariant
-    c.self.view_is c.requires.first c.series-number.ensures.count c.in-Ok.ensures.same more count pushed.grown
+    c.self.view_is c.requires.first c.series-number.ensures.count c.in-Ok.ensures.numbers more count pushed.grown
     pushed.placed pushed.few).0
 
 pub returns-clause-pushed : goal.returns-clause-pushed
@@ -49,5 +50,5 @@ returns-clause-pushed c =
     let pushed = c.in_ok-push_first.ensures in
     (first_kept row c.make_room.new.index.entries c.add_number.new.index.entries c.series-number.result
     (length entries) c.self.invariant
-    c.self.view_is c.requires.first c.series-number.ensures.count c.in-Ok.ensures.same more count pushed.grown
+    c.self.view_is c.requires.first c.series-number.ensures.count c.in-Ok.ensures.numbers more count pushed.grown
     pushed.placed pushed.few).1

@@ -3,7 +3,7 @@ use Rattle.std.proofs.lemmas.Option.{slice_get_within}
 use Rattle.mon_value.specs.Sources.{IsSource}
 use Rattle.mon_value.specs.declared.histories.Entry.TheVariants as entry
 use Rattle.mon_topo.specs.Zones.{first_replicas}
-use Rattle.mon_store.specs.within.Leaves.{AllKeep, HasEntry, MayCome, first_replica_rows, histories, leaf_of}
+use Rattle.mon_store.specs.within.Leaves.{AllKeep, HasEntry, MayComeToLeaf, first_replica_rows, histories, leaf_of}
 use Rattle.mon_store.specs.within.Leaves.{with_row_from}
 use Rattle.mon_store.proofs.OpenLemmas.{histories_more, promise_keeps, replica_there}
 use Rattle.mon_store.proofs.PutLemmas.{alike_kept, apart_later, is_there, may_put, put_more, put_none, untouched_first}
@@ -101,7 +101,7 @@ apply-requires-clause-may t c =
     let keep = subst (λ h. AllKeep (leaf_of zones) (with_row_from (first_replica_rows h) c.args.range (c.args.slot + 1)
     c.args.row.now) (histories new)) same c.in_ok-put.ensures.put in
     subst (λ row. IfSome (slice_get new c.in-Some.leaf.0)
-    (MayCome (entry.Put 0 c.args.range (record { 0 = c.args.slot }) row))) (sym c.in_ok-own.ensures.equal)
+    (MayComeToLeaf (entry.Put 0 c.args.range (record { 0 = c.args.slot }) row))) (sym c.in_ok-own.ensures.equal)
     (may_put zones (first_replica_rows (histories old))
     old mid new c.args.range c.args.slot c.in-Some.leaf c.args.row.now keep
     at c.requires.source c.in_ok-reserve.ensures.promised

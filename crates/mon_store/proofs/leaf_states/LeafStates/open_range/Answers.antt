@@ -1,6 +1,6 @@
 use Rattle.std.proofs.Common.{◌≡◌, ◌∙◌, ◌+◌, [], refl, Some, get_or, length, sym, ap, subst, arith, rules}
 use Rattle.mon_value.specs.declared.histories.Entry.TheVariants as entry
-use Rattle.mon_store.specs.within.Leaves.{AreLeavesOpened, HasEntry, histories, leaf_of, opened_before}
+use Rattle.mon_store.specs.within.Leaves.{AreLeavesOpened, HasEntry, histories, leaf_of, opened_slot_before}
 use Rattle.mon_store.proofs.OpenLemmas.{may_open, opened_more, opened_range, replica_at, replica_there}
 use Rattle.mon_store.proofs.leaf_states.LeafStates.open_range.Goals as goal
 
@@ -23,7 +23,7 @@ pub open_replica-requires-clause-may : goal.open_replica-requires-clause-may
 open_replica-requires-clause-may c =
     let leaf = get_or c.as_slice-leaf-items.result.now c.loop-leaf.leaf-index (record { 0 = 0 }) in
     let fact = may_open c.args.topology.now c.loop-leaf.self.states.items c.args.range c.loop-leaf.slot leaf
-    (subst (λ n. AreLeavesOpened (opened_before c.args.topology.now c.args.range.0 n) c.args.topology.now
+    (subst (λ n. AreLeavesOpened (opened_slot_before c.args.topology.now c.args.range.0 n) c.args.topology.now
     c.loop-leaf.self.states.items) (sym c.loop-leaf.invariant.slot) c.loop-leaf.invariant.opened) in fact
 
 pub overflow_add-slot : goal.overflow_add-slot

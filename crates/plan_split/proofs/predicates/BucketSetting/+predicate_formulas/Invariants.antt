@@ -5,7 +5,7 @@ use Rattle.mql_ast.specs.PredicateParts.{nodes}
 use Rattle.mql_ast.specs.Trees.{predicate_tree}
 use Rattle.plan_split.specs.FormulaLinks.{link_nodes, linked_formula, linked_nodes}
 use Rattle.plan_split.specs.PredicateFormulas.{predicate_formula}
-use Rattle.plan_split.proofs.predicates.Setting.+predicate_formulas.Given as goal
+use Rattle.plan_split.proofs.predicates.BucketSetting.+predicate_formulas.Given as goal
 
 abbrev pub decreases-joined : goal.decreases-joined
 decreases-joined l = 2 * link_nodes l.link

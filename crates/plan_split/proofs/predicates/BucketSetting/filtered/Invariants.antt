@@ -2,7 +2,7 @@
 use Rattle.std.proofs.Common.{◌≡◌, length}
 use Rattle.mon_hints.specs.Formulas.{formula_tree}
 use Rattle.plan_split.specs.FormulaLinks.{filtered_formula}
-use Rattle.plan_split.proofs.predicates.Setting.filtered.Given as goal
+use Rattle.plan_split.proofs.predicates.BucketSetting.filtered.Given as goal
 
 abbrev pub invariant-loop-by : goal.invariant-loop-by
 invariant-loop-by l =

@@ -2,7 +2,7 @@
 use Rattle.std.proofs.Common.{◌≡◌, ◌++◌, drop, map}
 use Rattle.mon_hints.specs.Formulas.{formula_tree}
 use Rattle.plan_split.specs.PredicateFormulas.{bucket_formula}
-use Rattle.plan_split.proofs.predicates.Setting.all_excerpts.Given as goal
+use Rattle.plan_split.proofs.predicates.BucketSetting.all_excerpts.Given as goal
 
 abbrev pub invariant-loop-excerpt : goal.invariant-loop-excerpt
 invariant-loop-excerpt l =
