@@ -338,19 +338,19 @@ class Query:
             self.take()
         return folds
 
-    def read_or(self):
-        test = self.read_and()
-        while self.sees("||"):
+    def read_chain(self, sign, read_next):
+        """Tests that a sign joins, the first of them deepest."""
+        test = read_next()
+        while self.sees(sign):
             self.take()
-            test = ("||", test, self.read_and())
+            test = (sign, test, read_next())
         return test
 
+    def read_or(self):
+        return self.read_chain("||", self.read_and)
+
     def read_and(self):
-        test = self.read_not()
-        while self.sees("&&"):
-            self.take()
-            test = ("&&", test, self.read_not())
-        return test
+        return self.read_chain("&&", self.read_not)
 
     def read_not(self):
         if self.sees("!"):

@@ -8,7 +8,7 @@ use Rattle.mon_value.specs.declared.rows.SeriesKey.{SeriesKey}
 use Rattle.mon_series.specs.SeriesMaps.{series_held}
 use Rattle.mon_series.specs.declared.placing.Place.{Place}
 use Rattle.mon_series.specs.within.KeptRows.{AreRowsKept}
-use Rattle.mon_series.specs.within.Metrics.{HasNumbers, Index, NumbersKeys, SameNumbers, TakesNumber}
+use Rattle.mon_series.specs.within.Metrics.{HasSeriesNumbers, Index, NumbersKeys, SameNumbers, TakesNumber}
 use Rattle.mon_series.specs.within.Places.{Group, place_at, rows_at_places}
 use Rattle.mon_series.proofs.GroupLemmas.{keys_by_series}
 use Rattle.mon_series.proofs.HeldLemmas.{Entries}
@@ -16,8 +16,9 @@ use Rattle.mon_series.proofs.KeptLemmas.{IsPushed, new_pushed, unchanged}
 use Rattle.mon_series.proofs.MetricLemmas.{numbers_known, numbers_new}
 use Rattle.mon_series.proofs.PlaceLemmas.{keys_in}
 
-numbered_by : (index : Index) (rows rows' : List Row) → rows' ≡ rows → HasNumbers index rows → HasNumbers index rows'
-numbered_by index rows rows' same has = subst (HasNumbers index) (sym same) has
+numbered_by : (index : Index) (rows rows' : List Row) → rows' ≡ rows → HasSeriesNumbers index rows
+    → HasSeriesNumbers index rows'
+numbered_by index rows rows' same has = subst (HasSeriesNumbers index) (sym same) has
 
 -- nothing came, and there may be room for a number more
 pub stays_kept : {groups groups' : List Group} {places places' : List Place} {index room : Index}
@@ -68,7 +69,7 @@ first_kept {groups} {groups'} {places} {places'} {index} {rows} row room new num
     (placed ∙ ap (λ n. places ++ place_at n 0 ∷ []) count_is) (subst (λ (n : ℕ). n + 1 < 2 ^ 32) count_is few) tt tt in
     let all : rows_at_places groups' places' ≡ rows ++ row ∷ [] = pushed.rows
     ∙ ap (λ (rs : List Row). rs ++ row ∷ []) seen in
-    let has : HasNumbers room rows =
+    let has : HasSeriesNumbers room rows =
     λ metric. stays metric ∙ numbered_by index (rows_at_places groups places) rows (sym seen) kept.numbered metric in (
       record {
         placed = pushed.kept;

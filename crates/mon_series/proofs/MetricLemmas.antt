@@ -16,7 +16,8 @@ use Rattle.mon_value.specs.declared.rows.Row.{Row}
 use Rattle.mon_value.specs.declared.rows.SeriesKey.{SeriesKey}
 use Rattle.mon_series.specs.MetricNumbers.{numbers_from}
 use Rattle.mon_series.specs.SeriesPoints.{SeriesPoints}
-use Rattle.mon_series.specs.within.Metrics.{HasNumbers, HasRoom, Index, IsPlace, NumbersKeys, SameNumbers, TakesNumber}
+use Rattle.mon_series.specs.within.Metrics.{HasRoom, HasSeriesNumbers, Index, IsPlace, NumbersKeys, SameNumbers}
+use Rattle.mon_series.specs.within.Metrics.{TakesNumber}
 use Rattle.mon_series.specs.within.Metrics.{listed_numbers}
 use Rattle.mon_series.proofs.FirstLemmas.{IsFirst}
 
@@ -262,7 +263,7 @@ number_within index number left rest all key series so_far is =
 
 -- a row of a series that is there
 pub numbers_known : (index : Index) (rows : List Row) (row : Row) (at : ℕ) → slice_get (series_of rows) at
-    ≡ Some row.key → HasNumbers index rows → HasNumbers index (rows ++ row ∷ [])
+    ≡ Some row.key → HasSeriesNumbers index rows → HasSeriesNumbers index (rows ++ row ∷ [])
 numbers_known index rows row at there has metric =
     has metric
     ∙ sym (ap (numbers_from 0 metric) (series_push rows row
@@ -271,8 +272,8 @@ numbers_known index rows row at there has metric =
 
 -- the first row of a series
 pub numbers_new : (index new : Index) (rows : List Row) (row : Row) (number : ℕ) → points_of row.key rows ≡ [] → number
-    ≡ length (series_of rows)
-    → HasNumbers index rows → TakesNumber index new row.key.metric number → HasNumbers new (rows ++ row ∷ [])
+    ≡ length (series_of rows) → HasSeriesNumbers index rows → TakesNumber index new row.key.metric number
+    → HasSeriesNumbers new (rows ++ row ∷ [])
 numbers_new index new rows row number none count has more metric =
     let fresh = has_none row.key rows (has_series row.key (series_of rows)) refl none in
     let keys = series_of rows in

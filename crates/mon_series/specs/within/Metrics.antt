@@ -30,8 +30,8 @@ abbrev pub NumbersKeys : Index → List SeriesKey → Type 0
 NumbersKeys index keys = (metric : List ℕ) → numbers_held index metric ≡ numbers_from 0 metric keys
 
 -- each metric has the numbers of its series
-abbrev pub HasNumbers : Index → List Row → Type 0
-HasNumbers index rows = NumbersKeys index (series_of rows)
+abbrev pub HasSeriesNumbers : Index → List Row → Type 0
+HasSeriesNumbers index rows = NumbersKeys index (series_of rows)
 
 -- a place is the first of a metric
 abbrev pub IsPlace : List ℕ → Index → ℕ → Type 0
