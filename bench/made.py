@@ -6,12 +6,14 @@
 The input is four files of 50,000 points of a delta, 100 points of each of 500 series a file, made by a linear
 congruential generator (Knuth's multiplier); half of it is two of the files. It prints the time and the peak memory of
 each run, and how much longer the whole takes than the half. Where another program is named, it runs that one on the
-same input too, and prints the ratios of time and of peak memory. The zone is one, with all locations.
+same input in turn with this one, and prints the ratios of time and of peak memory. The zone is one, with all
+locations.
 """
 
 import json
 import os
 import pathlib
+import statistics
 import subprocess
 import sys
 import tempfile
@@ -22,7 +24,7 @@ PROGRAM = ROOT / "crates/program/out/program"
 FILES = 4
 ROWS = 50000
 TASKS = 500
-ROUNDS = 3
+ROUNDS = 15
 
 CONFIG = {
     "targets": [
@@ -95,16 +97,30 @@ def run(program, folder, count):
     return taken, peak, printed
 
 
-def measure(name, program, folder):
-    """The least time and the greatest peak of several runs over all files, and what was printed."""
-    times = {}
+def measure(programs, folder):
+    """Runs the programs in turn over half of the files and over all, several times, and prints the least time and the
+    greatest peak of each. Gives the times, the peak and the text of each over all files."""
+    measured = {}
     for count in (FILES // 2, FILES):
-        runs = [run(program, folder, count) for _ in range(ROUNDS)]
-        times[count] = min(taken for taken, _, _ in runs)
-        peak = max(peak for _, peak, _ in runs)
-        print(f"{name}: {count * ROWS} points: {times[count]:.3f} s, peak {peak:.1f} MiB")
-    print(f"{name}: whole to half: {times[FILES] / times[FILES // 2]:.2f}")
-    return times[FILES], peak, runs[-1][2]
+        rounds = [[run(program, folder, count) for program in programs.values()] for _ in range(ROUNDS)]
+        for place, name in enumerate(programs):
+            times = [runs[place][0] for runs in rounds]
+            peak = max(runs[place][1] for runs in rounds)
+            print(f"{name}: {count * ROWS} points: {min(times):.3f} s, peak {peak:.1f} MiB")
+            if count == FILES:
+                print(f"{name}: whole to half: {min(times) / min(measured[name][0]):.2f}")
+            measured[name] = times, peak, rounds[-1][place][2]
+    return measured
+
+
+def compare(one, other):
+    """Prints the ratios of time and of peak memory. That of time is the median of the ratios of the runs of one round,
+    since the speed of a processor changes from one moment to the next."""
+    if one[2] != other[2]:
+        sys.exit("the two programs print different texts")
+    ratio = statistics.median(own / others for own, others in zip(one[0], other[0]))
+    print(f"time to the other's: {ratio:.3f}")
+    print(f"peak to the other's: {one[1] / other[1]:.3f}")
 
 
 def main():
@@ -112,16 +128,15 @@ def main():
         sys.exit(__doc__)
     # Builds the program where it isn't built.
     subprocess.run([ROOT / "mon", "run", "config.json", "script.txt"], cwd=ROOT / "examples/first", check=True)
+    programs = {"this program": PROGRAM}
+    if len(sys.argv) == 2:
+        programs["the other"] = pathlib.Path(sys.argv[1]).resolve()
     with tempfile.TemporaryDirectory() as name:
         folder = pathlib.Path(name)
         write_input(folder)
-        taken, peak, printed = measure("this program", PROGRAM, folder)
-        if len(sys.argv) == 2:
-            before = measure("the other", pathlib.Path(sys.argv[1]).resolve(), folder)
-            if before[2] != printed:
-                sys.exit("the two programs print different texts")
-            print(f"time to the other's: {taken / before[0]:.3f}")
-            print(f"peak to the other's: {peak / before[1]:.3f}")
+        measured = list(measure(programs, folder).values())
+    if len(measured) == 2:
+        compare(*measured)
 
 
 if __name__ == "__main__":

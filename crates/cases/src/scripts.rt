@@ -21,7 +21,7 @@ pub(crate) fn write_answer(text: &mut String, alloc: Global, given: &str) -> Don
 }
 
 fn write_lines(text: &mut String, script: &Script) -> Done {
-    for line in script.as_slice() {
+    for line in script {
         put_between(text, " | ")?;
         let number = line.number;
         write!(text, "{number} ")?;

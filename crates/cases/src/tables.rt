@@ -61,7 +61,7 @@ fn write_printed(text: &mut String, alloc: Global, table: &Table) -> Done {
 
 /// Writes the rows of a table in the order in which they stand.
 pub(crate) fn write_rows(text: &mut String, alloc: Global, table: &Table) -> Done {
-    for row in table.rows.as_slice() {
+    for row in &table.rows {
         write_row(text, alloc, row)?;
     }
     Ok(())
@@ -70,7 +70,7 @@ pub(crate) fn write_rows(text: &mut String, alloc: Global, table: &Table) -> Don
 fn write_row(text: &mut String, alloc: Global, row: &TimedRow) -> Done {
     let time = row.time;
     write!(text, "{time}")?;
-    for cell in row.cells.as_slice() {
+    for cell in &row.cells {
         put(text, "|")?;
         put(text, write_text(alloc, cell)?.as_str())?;
     }

@@ -1,6 +1,6 @@
 -- A series that a replica has brings no bucket more.
 use Rattle.std.proofs.Common.{◌≡◌, ◌∙◌, ℕ, Bool, true, false, cond, ◌||◌, ◌==◌, Some, None, List, [], ◌∷◌, ◌++◌, map}
-use Rattle.std.proofs.Common.{refl, sym, ap, subst, inl, inr}
+use Rattle.std.proofs.Common.{Option, refl, sym, ap, subst, inl, inr}
 use Rattle.std.specs.Prelude.{is_some}
 use Rattle.std.proofs.lemmas.Bool.{or_left, or_right, or_cases}
 use Rattle.std.proofs.lemmas.List.Concat.{flat_map-append}
@@ -18,11 +18,23 @@ use Rattle.mon_value.specs.declared.positions.Range.{Range}
 use Rattle.mon_value.specs.declared.positions.Slot.{Slot}
 use Rattle.mon_value.specs.declared.rows.Row.{Row}
 use Rattle.mon_value.specs.declared.rows.SeriesKey.{SeriesKey}
+use Rattle.leaf_store.specs.declared.replicas.Replica.{Replica}
 use Rattle.leaf_store.specs.within.Raises.{AddsBuckets, HoldsBuckets, IsKnown}
-use Rattle.leaf_store.specs.within.Replicas.{HoldsHistory, Replicas}
+use Rattle.leaf_store.specs.within.Replicas.{CanPut, HasSeries, HoldsHistory, Replicas, has_row_of, rows_held}
+use Rattle.leaf_store.specs.within.Replicas.{rows_if_kept}
 
 among_both : (bucket : ℕ) (xs ys : List ℕ) → is_among bucket (xs ++ ys) ≡ (is_among bucket xs || is_among bucket ys)
 among_both bucket xs ys = list_any-append (λ other. bucket == other) xs ys
+
+-- a replica that takes a row has its series where it is told as known
+pub put_series : (replicas : Replicas) (replica : Replica) (row : Row) (known : Bool) → CanPut replicas replica row
+    → known ≡ has_row_of row.key (rows_if_kept (rows_held replicas replica.range replica.slot)) → known ≡ true
+    → HasSeries replicas replica row.key
+put_series replicas replica row known can is told = (
+  can.0,
+  can.1,
+  sym (ap (λ (held : Option (List Row)). has_row_of row.key (rows_if_kept held)) can.1) ∙ sym is ∙ told,
+)
 
 module _ (buckets_of : SeriesKey → List ℕ) where
   rows_both : (xs ys : List Row) → rows_buckets buckets_of (xs ++ ys) ≡ rows_buckets buckets_of xs

@@ -1,6 +1,8 @@
+mod BehindLemmas
 pub mod BucketLemmas
 mod EntryLemmas
 pub mod FollowLemmas
+mod GuessLemmas
 mod KeptEntryLemmas
 mod KnownLemmas
 mod ReplicaLemmas

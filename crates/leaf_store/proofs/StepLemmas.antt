@@ -25,6 +25,14 @@ use Rattle.leaf_store.proofs.EntryLemmas.{shown_count, shown_kept, shown_push, s
 use Rattle.mon_value.proofs.LeafHistoryLemmas.{follows, front, no_rows, replica_rows-push}
 use Rattle.leaf_store.proofs.ReplicaLemmas.{switch_rows}
 
+-- the rows that are kept for a replica that was opened are those that the history brought to it
+pub rows_there : (range : Range) (slot : Slot) (replicas : Replicas) (history : List Entry)
+    → rows_held replicas range slot ≡ opened_rows range slot history → is_opened range slot history ≡ true
+    → rows_if_kept (rows_held replicas range slot) ≡ replica_rows range slot history
+rows_there range slot replicas history held opened =
+    ap rows_if_kept held
+    ∙ ap (λ b. rows_if_kept (cond b (Some (replica_rows range slot history)) None)) opened
+
 -- ---- one entry
 
 pub can_settle : (replicas : Replicas) (ks : List Kept) (e : Entry) (rest : List Entry)

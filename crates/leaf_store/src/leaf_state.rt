@@ -8,21 +8,22 @@ ghost use Rattle.mon_hints.specs.BucketSets.{HasNone, IsNext};
 ghost use Rattle.mon_hints.specs.Listings.{is_among};
 ghost use Rattle.mon_value.specs.LeafHistories.{IsWellFormed, MayFollow, brought_rows, is_down, is_down_after};
 ghost use Rattle.mon_value.specs.LeafHistories.{is_opened, is_switch, replica_rows};
-ghost use Rattle.mon_value.specs.Sources.{IsSource};
+ghost use Rattle.mon_value.specs.Sources.{IsSource, last_end, points_of};
 ghost use Rattle.mon_hints.specs.HistoryBuckets.{history_buckets};
 ghost use Rattle.leaf_store.specs.LeafBuckets.{key_buckets, is_unraised};
-ghost use Rattle.leaf_store.specs.LeafStates.{new_leaf, opened_rows, leaf_with_entry, with_promised, with_settled};
+ghost use Rattle.leaf_store.specs.LeafStates.{new_leaf, opened_rows, leaf_with_entry, leaf_with_put, with_promised};
+ghost use Rattle.leaf_store.specs.LeafStates.{with_settled};
 ghost use Rattle.leaf_store.specs.within.Follows.{CanTakeRow};
 
-use crate::kept::KeptEntries;
+use crate::kept::{Kept, KeptEntries};
 use crate::raised::{Raised, raise};
 use crate::replays::{push_all_brought, push_held, rows_kept, settle_entries};
-use crate::replicas::{Replica, Replicas, is_new, rows_of, takes};
+use crate::replicas::{Replica, Replicas, find_series, is_new, put, rows_of, takes};
 use crate::slot_rows::SlotRows;
 use mon_schema::Schemas;
 use mon_value::{
-    Entry, Leaf, MOST_BUCKETS, MOST_SWITCHES, OutOfMemory, Range, Row, RowList, SeriesKey, Slot,
-    TryCopy,
+    Entry, Leaf, MOST_BUCKETS, MOST_SWITCHES, OutOfMemory, Range, Row, RowList, SeriesKey, Shared,
+    Slot, TryCopy,
 };
 use std::alloc::Global;
 use std::marker::Model;
@@ -43,6 +44,10 @@ pub struct LeafState {
     down: bool,
     switches_left: usize,
     promised: usize,
+    // The number that the series of the last row has in its replica, and the one that would come next if numbers go on
+    // as they did. They count only where they are the series, so what is told does not depend on them.
+    guess: u32,
+    next: u32,
 }
 
 impl Model for LeafState {
@@ -83,6 +88,8 @@ impl LeafState {
             down: false,
             switches_left: MOST_SWITCHES as usize,
             promised: 0,
+            guess: 0,
+            next: 0,
         })
     }
 
@@ -150,6 +157,25 @@ impl LeafState {
         ensures rows { option_copied result ≡ opened_rows range slot self.now.history }
     {
         rows_of(&self.replicas, Replica { range, slot })
+    }
+
+    /// The end of the last point that a replica has of a series. A row of that series that comes next finds it without
+    /// looking it up.
+    pub fn last_end(&mut self, range: Range, slot: Slot, key: &Shared<SeriesKey>) -> Option<i64>
+        requires settled { IsTrue self.old.settled }
+        requires opened { is_opened range slot self.old.history ≡ true }
+        ensures last { result ≡ last_end (points_of key.now (replica_rows range slot self.old.history)) }
+        ensures kept { self.new ≡ self.old }
+    {
+        let replica = Replica { range, slot };
+        let Some(found) = find_series(&self.replicas, replica, key, self.next) else {
+            return None;
+        };
+        self.next = found
+            .number
+            .wrapping_add(found.number.wrapping_sub(self.guess));
+        self.guess = found.number;
+        Some(found.last)
     }
 
     /// Whether an entry may come next, whose rows are in the order of their series' points.
@@ -244,12 +270,42 @@ impl LeafState {
                     &self.schemas,
                     self.buckets,
                     &entry,
+                    &mut self.guess,
                 );
                 self.promised -= 1;
                 self.settled = false;
                 self.fresh.push_reserved(entry);
             }
         }
+    }
+
+    /// Puts a row to a replica, and with it all that is left into the series of their replicas. Where memory runs out
+    /// nothing changes.
+    pub fn put(&mut self, pass: u64, range: Range, slot: Slot, row: &Row) -> Result<(), OutOfMemory>
+        requires follows { IsWellFormed (self.old.history ++ Entry.Put pass range slot row.now ∷ []) }
+        ensures put { OnOk result (self.new ≡ leaf_with_put self.old (Entry.Put pass range slot row.now)) }
+        ensures kept { OnErr result (self.new ≡ self.old) }
+    {
+        settle_entries(
+            self.alloc,
+            &mut self.replicas,
+            &mut self.kept,
+            self.fresh.as_slice(),
+            &mut self.moved,
+            self.guess,
+        )?;
+        self.kept.reserve_one()?;
+        let replica = Replica { range, slot };
+        let put = put(self.alloc, &mut self.replicas, replica, row, self.guess)?;
+        self.raised
+            .add_row(&self.schemas, self.buckets, row, put.known);
+        self.kept.push(Kept::Put {
+            pass,
+            replica: put.replica,
+            row: put.row,
+        });
+        self.settled = true;
+        Ok(())
     }
 
     /// Moves the rows of every entry that was applied into the series of their replicas. Where memory runs out the
@@ -264,6 +320,7 @@ impl LeafState {
             &mut self.kept,
             self.fresh.as_slice(),
             &mut self.moved,
+            self.guess,
         )?;
         clear(&mut self.fresh, self.promised + self.switches_left);
         self.moved = 0;

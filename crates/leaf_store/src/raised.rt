@@ -1,5 +1,5 @@
 // The buckets that a leaf's series have.
-ghost use Rattle.std.specs.Prelude.{◌≡◌, ◌<◌, ◌≤◌, IfSome, IfNone, IsTrue};
+ghost use Rattle.std.specs.Prelude.{◌≡◌, ◌<◌, ◌≤◌, ◌∷◌, [], false, IfSome, IfNone, IsTrue};
 ghost use Rattle.mon_hints.specs.BucketSets.{HasNone, IsNext, is_set, no_bucket, with_bucket};
 ghost use Rattle.mon_hints.specs.Hints.{series_buckets};
 ghost use Rattle.mon_hints.specs.Listings.{is_among};
@@ -7,9 +7,10 @@ ghost use Rattle.mon_hints.specs.HistoryBuckets.{rows_buckets};
 ghost use Rattle.leaf_store.specs.LeafBuckets.{key_buckets};
 ghost use Rattle.leaf_store.specs.within.Raises.{AddsBuckets, AddsEntry, HoldsBuckets, IsKnown, is_left};
 
-use crate::replicas::{Replica, Replicas, has_series};
+use crate::replicas::{Replica, Replicas, find_series};
 use mon_hints::next_bucket;
 use mon_schema::Schemas;
+use mon_series::KeptSeries;
 use mon_value::{Entry, MOST_BUCKETS, MetricSchema, Row, SeriesKey, TargetSchema};
 
 // How many words have a bit for each bucket.
@@ -55,6 +56,19 @@ impl Raised {
             Entry::Opened { rows, .. } => self.add_rows(schemas, buckets, rows.as_slice()),
             Entry::Put { row, .. } => self.add_key(schemas, buckets, &row.key),
             Entry::Down { .. } | Entry::Up { .. } => {}
+        }
+    }
+
+    /// Adds the buckets of a row's series, unless it is known.
+    pub(crate) fn add_row(&mut self, schemas: &Schemas, buckets: u32, row: &Row, known: bool)
+        requires some { 0 < buckets }
+        requires most { buckets ≤ MOST_BUCKETS }
+        ensures added { known ≡ false → AddsBuckets (is_set self.old.words) (is_set self.new.words)
+            (rows_buckets (key_buckets buckets schemas.now) (row.now ∷ [])) }
+        ensures kept { IsTrue known → is_set self.new.words ≡ is_set self.old.words }
+    {
+        if !known {
+            self.add_key(schemas, buckets, &row.key);
         }
     }
 
@@ -133,28 +147,30 @@ impl Raised {
     }
 }
 
-/// Adds the buckets of the series that an entry brings, unless its replica has that series.
+/// Adds the buckets of the series that an entry brings, unless its replica has that series; then it is found by the
+/// number that was guessed, and its own number is the next guess.
 pub(crate) fn raise(
     raised: &mut Raised,
     replicas: &Replicas,
     schemas: &Schemas,
     buckets: u32,
     entry: &Entry,
+    guess: &mut u32,
 )
     requires some { 0 < buckets }
     requires most { buckets ≤ MOST_BUCKETS }
     requires held { HoldsBuckets replicas.now.entries (key_buckets buckets schemas.now) (is_set raised.old.words) }
     ensures added { AddsEntry buckets schemas.now entry.now (is_set raised.old.words) (is_set raised.new.words) }
 {
-    if is_known(replicas, entry) {
-        return;
+    match known_series(replicas, entry, *guess) {
+        Some(found) => *guess = found.number,
+        None => raised.add_entry(schemas, buckets, entry),
     }
-    raised.add_entry(schemas, buckets, entry);
 }
 
-// Whether an entry's row is of a series that its replica has.
-fn is_known(replicas: &Replicas, entry: &Entry) -> bool
-    ensures known { IsTrue result → IsKnown replicas.now.entries entry.now }
+// The series of an entry's row, if its replica has that series.
+fn known_series(replicas: &Replicas, entry: &Entry, guess: u32) -> Option<KeptSeries>
+    ensures known { IfSome result (λ found. IsKnown replicas.now.entries entry.now) }
 {
     match entry {
         Entry::Put {
@@ -162,15 +178,16 @@ fn is_known(replicas: &Replicas, entry: &Entry) -> bool
             slot,
             row,
             ..
-        } => has_series(
+        } => find_series(
             replicas,
             Replica {
                 range: *range,
                 slot: *slot,
             },
             &row.key,
+            guess,
         ),
-        _ => false,
+        _ => None,
     }
 }
 

@@ -12,13 +12,14 @@ use mon_value::{Entry, OutOfMemory, Row, RowList, TryCopy};
 use std::alloc::Global;
 
 /// Brings the rows of the entries from `moved` on to their replicas, and counts on. Where memory runs out, those that
-/// were brought stay there.
+/// were brought stay there. The number of each row's series is guessed first.
 pub(crate) fn settle_entries(
     alloc: Global,
     replicas: &mut Replicas,
     kept: &mut KeptEntries,
     fresh: &[Entry],
     moved: &mut usize,
+    guess: u32,
 ) -> Result<(), OutOfMemory>
     requires within { moved.old ≤ length fresh.now }
     requires holds { IsInTwoParts replicas.old.entries kept.old.items (drop moved.old fresh.now) }
@@ -31,7 +32,7 @@ pub(crate) fn settle_entries(
 {
     while *moved < fresh.len() {
         kept.reserve_one()?;
-        let own = settle_entry(alloc, replicas, &fresh[*moved])?;
+        let own = settle_entry(alloc, replicas, &fresh[*moved], guess)?;
         kept.push(own);
         *moved += 1;
     }

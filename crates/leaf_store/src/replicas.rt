@@ -1,16 +1,16 @@
 // The replicas that a leaf keeps, and entries whose rows go to them.
-ghost use Rattle.std.specs.Prelude.{◌≡◌, ◌++◌, ◌∷◌, [], true, false, is_some, length, slice_get, IfOk, IsTrue, OnErr};
-ghost use Rattle.std.specs.Prelude.{OnOk};
+ghost use Rattle.std.specs.Prelude.{◌≡◌, ◌++◌, ◌∷◌, [], true, false, length, slice_get, option_map, IfOk, IfSome};
+ghost use Rattle.std.specs.Prelude.{IsTrue, OnErr, OnOk};
 ghost use Rattle.std.specs.Option.{option_copied};
 ghost use Rattle.mon_value.specs.LeafHistories.{same_replica};
 ghost use Rattle.mon_value.specs.Sources.{IsSource, last_end, points_of};
 ghost use Rattle.leaf_store.specs.within.Replicas.{CanPut, CanSettle, HasSeries, IsLater, IsNewReplica, IsReplicaAdded};
-ghost use Rattle.leaf_store.specs.within.Replicas.{IsPut};
-ghost use Rattle.leaf_store.specs.within.Replicas.{SettlesEntry, rows_held, rows_if};
+ghost use Rattle.leaf_store.specs.within.Replicas.{IsPut, SettlesEntry, has_row_of, rows_held, rows_if, rows_if_kept};
 
 use crate::kept::Kept;
 use crate::slot_rows::SlotRows;
 use indexmap::IndexMap;
+use mon_series::KeptSeries;
 use mon_value::{Entry, OutOfMemory, Range, Row, SeriesKey, Shared, Slot, TryCopy};
 use std::alloc::{AllocError, Global};
 
@@ -68,21 +68,22 @@ fn ends_later(slot: &SlotRows, row: &Row) -> bool
     }
 }
 
-/// Whether a replica has a row of a series.
-pub(crate) fn has_series(replicas: &Replicas, replica: Replica, key: &Shared<SeriesKey>) -> bool
-    ensures has { IsTrue result → HasSeries replicas.now.entries replica key.now }
+/// The series of a key in a replica, if it has a row there. Only where it isn't the series whose number is guessed is
+/// it looked up.
+pub(crate) fn find_series(
+    replicas: &Replicas,
+    replica: Replica,
+    key: &Shared<SeriesKey>,
+    guess: u32,
+) -> Option<KeptSeries>
+    ensures has { IfSome result (λ found. HasSeries replicas.now.entries replica key.now) }
+    ensures last { option_map (λ found. found.last) result ≡ last_end
+        (points_of key.now (rows_if_kept (rows_held replicas.now.entries replica.range replica.slot))) }
 {
     match rows_of(replicas, replica) {
-        Some(slot) => is_in(slot, key),
-        None => false,
+        Some(slot) => slot.find(key, guess),
+        None => None,
     }
-}
-
-// Whether a series has a row.
-fn is_in(slot: &SlotRows, key: &Shared<SeriesKey>) -> bool
-    ensures has { IsTrue result → is_some (last_end (points_of key.now slot.now)) ≡ true }
-{
-    slot.rows().find(key).is_some()
 }
 
 /// The rows of the replica of a number, where it is a certain one.
@@ -97,11 +98,12 @@ pub(crate) fn own_rows(replicas: &Replicas, number: u32, replica: Replica) -> Op
 }
 
 /// Brings copies of an entry's rows to its replica, and gives the entry as it is kept then. Where memory runs out the
-/// replicas stay.
+/// replicas stay. The number of a row's series is guessed first.
 pub(crate) fn settle_entry(
     alloc: Global,
     replicas: &mut Replicas,
     entry: &Entry,
+    guess: u32,
 ) -> Result<Kept, OutOfMemory>
     requires settles { CanSettle replicas.old.entries entry.now }
     ensures settled { IfOk result (λ kept. SettlesEntry replicas.old.entries replicas.new.entries entry.now kept) }
@@ -135,11 +137,11 @@ pub(crate) fn settle_entry(
                 range: *range,
                 slot: *slot,
             };
-            let (number, place) = put(alloc, replicas, replica, row)?;
+            let put = put(alloc, replicas, replica, row, guess)?;
             Ok(Kept::Put {
                 pass: *pass,
-                replica: number,
-                row: place,
+                replica: put.replica,
+                row: put.row,
             })
         }
         Entry::Down { pass } => Ok(Kept::Down { pass: *pass }),
@@ -171,15 +173,28 @@ fn open(
     Ok((number, count))
 }
 
-// Adds a copy of a row to a replica's rows, and gives the replica's number and the row's.
-fn put(
+/// Where a row was put: the number of its replica and its own, and whether its series had a row there before.
+#[derive(Clone, Copy)]
+pub(crate) struct RowPut {
+    pub(crate) replica: u32,
+    pub(crate) row: u32,
+    pub(crate) known: bool,
+}
+
+/// Adds a copy of a row to a replica's rows. The number of its series is guessed first. Where memory runs out the
+/// replicas stay.
+pub(crate) fn put(
     alloc: Global,
     replicas: &mut Replicas,
     replica: Replica,
     row: &Row,
-) -> Result<(u32, u32), OutOfMemory>
+    guess: u32,
+) -> Result<RowPut, OutOfMemory>
     requires later { CanPut replicas.old.entries replica row.now }
-    ensures put { IfOk result (λ at. IsPut replicas.old.entries replicas.new.entries replica row.now at.0 at.1) }
+    ensures put { IfOk result (λ put.
+        IsPut replicas.old.entries replicas.new.entries replica row.now put.replica put.row) }
+    ensures known { IfOk result (λ put. put.known ≡ has_row_of row.now.key
+        (rows_if_kept (rows_held replicas.old.entries replica.range replica.slot))) }
     ensures stayed { OnErr result (replicas.new.entries ≡ replicas.old.entries) }
 {
     let Some(at) = replicas.get_index_of(&replica) else {
@@ -191,20 +206,30 @@ fn put(
     let Some(slot) = replicas.get_index_mut(at) else {
         unreachable!();
     };
-    let place = put_in(alloc, slot, row)?;
-    Ok((number, place))
+    let (place, known) = put_in(alloc, slot, row, guess)?;
+    Ok(RowPut {
+        replica: number,
+        row: place,
+        known,
+    })
 }
 
-// Adds a copy of a row to the rows of a replica, and gives its number.
-fn put_in(alloc: Global, slot: &mut SlotRows, row: &Row) -> Result<u32, OutOfMemory>
+// Adds a copy of a row to the rows of a replica, and gives its number and whether its series had a row there.
+fn put_in(
+    alloc: Global,
+    slot: &mut SlotRows,
+    row: &Row,
+    guess: u32,
+) -> Result<(u32, bool), OutOfMemory>
     requires later { IsLater row.now slot.old }
-    ensures place { IfOk result (λ place. place ≡ length slot.old) }
+    ensures place { IfOk result (λ at. at.0 ≡ length slot.old) }
+    ensures known { IfOk result (λ at. at.1 ≡ has_row_of row.now.key slot.old) }
     ensures pushed { OnOk result (slot.new ≡ slot.old ++ row.now ∷ []) }
     ensures kept { OnErr result (slot.new ≡ slot.old) }
 {
     let Ok(place) = u32::try_from(slot.rows().len()) else {
         return Err(AllocError);
     };
-    slot.push(row.copy(alloc)?)?;
-    Ok(place)
+    let known = slot.push(row.copy(alloc)?, guess)?;
+    Ok((place, known))
 }

@@ -1,9 +1,11 @@
 // The rows of a replica.
-ghost use Rattle.std.specs.Prelude.{◌≡◌, ◌++◌, ◌∷◌, ◌<◌, ◌<ℤ◌, [], length, slice_get, Some, IfOk, IfSome, OnErr, OnOk};
+ghost use Rattle.std.specs.Prelude.{◌≡◌, ◌++◌, ◌∷◌, ◌<◌, ◌<ℤ◌, [], length, slice_get, option_map, Some, IfNone, IfOk};
+ghost use Rattle.std.specs.Prelude.{IfSome, OnErr, OnOk};
 ghost use Rattle.mon_value.specs.Sources.{IsSource, last_end, points_of, series_of};
+ghost use Rattle.leaf_store.specs.within.Replicas.{has_row_of};
 
-use mon_series::{KeptRows, Series};
-use mon_value::{OutOfMemory, Row, SeriesKey};
+use mon_series::{KeptRows, KeptSeries, Series};
+use mon_value::{OutOfMemory, Row, SeriesKey, Shared};
 use std::alloc::Global;
 use std::marker::Model;
 
@@ -34,14 +36,54 @@ impl SlotRows {
         })
     }
 
-    /// Adds a row at the end, whose point ends later than those of its series. Where memory runs out the rows stay.
-    pub(crate) fn push(&mut self, row: Row) -> Result<(), OutOfMemory>
+    /// Adds a row at the end, whose point ends later than those of its series, which is found by a guess as by `find`,
+    /// and tells whether the series had a row before. Where memory runs out the rows stay.
+    pub(crate) fn push(&mut self, row: Row, guess: u32) -> Result<bool, OutOfMemory>
         requires later { IfSome (last_end (points_of row.key self.old)) (λ last. last <ℤ row.point.end) }
+        ensures known { IfOk result (λ known. known ≡ has_row_of row.key self.old) }
         ensures pushed { OnOk result (self.new ≡ self.old ++ row ∷ []) }
         ensures kept { OnErr result (self.new ≡ self.old) }
     {
-        self.rows.push(row)?;
-        Ok(())
+        match self.find(&row.key, guess) {
+            Some(found) => {
+                self.rows.push_to(found.number, row)?;
+                Ok(true)
+            }
+            None => {
+                self.rows.push_first(row)?;
+                Ok(false)
+            }
+        }
+    }
+
+    /// The series of a key, if it has a row. Only where it isn't the series whose number is guessed is it looked up.
+    pub(crate) fn find(&self, key: &Shared<SeriesKey>, guess: u32) -> Option<KeptSeries>
+        ensures number { IfSome result (λ found. slice_get (series_of self.now) found.number ≡ Some key.now) }
+        ensures last { option_map (λ found. found.last) result ≡ last_end (points_of key.now self.now) }
+        ensures none { IfNone result (points_of key.now self.now ≡ []) }
+    {
+        match self.guessed(key, guess) {
+            Some(last) => Some(KeptSeries {
+                number: guess,
+                last,
+            }),
+            None => self.rows.find(key),
+        }
+    }
+
+    // The end of the last point of the series of a number, if that is the series of a key.
+    fn guessed(&self, key: &Shared<SeriesKey>, number: u32) -> Option<i64>
+        ensures number { IfSome result (λ last. slice_get (series_of self.now) number ≡ Some key.now) }
+        ensures last { IfSome result (λ last. Some last ≡ last_end (points_of key.now self.now)) }
+    {
+        if number >= self.rows.series() {
+            return None;
+        }
+        let (own, series) = self.rows.entry(number);
+        if own != key {
+            return None;
+        }
+        series.last()
     }
 
     /// A copy of the row of a number.

@@ -1,5 +1,5 @@
 // The series of a record, whose key the rows of one series share.
-ghost use Rattle.std.specs.Prelude.{◌≡◌, ◌+◌, ◌-◌, ◌<◌, ◌≤◌, ◌^◌, length, drop};
+ghost use Rattle.std.specs.Prelude.{◌≡◌, ◌+◌, ◌-◌, ◌<◌, ◌≤◌, ◌^◌, length, drop, IfOk, IfSome, Ok};
 ghost use Rattle.csv.specs.Records.{fields_of};
 ghost use Rattle.mon_value.specs.Answers.{Gives};
 ghost use Rattle.mon_points.specs.Records.{fields_read, key_read};
@@ -20,10 +20,14 @@ pub(crate) const LEADING: usize = 5;
 
 /// The keys of series that were read before, so that a record of a known series makes none. They are
 /// guesses: a key counts for a record only where the record's cells spell it, so what is read does not
-/// depend on them.
+/// depend on them. Files list their series in the same order again and again, so the key that is tried first is the
+/// one that comes next if the places of keys go on as from the last one but one to the last.
 #[derive(Drop)]
 pub struct KeyCache {
     keys: IndexMap<Vec<u8>, Shared<SeriesKey>>,
+    // The place of the last record's key, and the place that would come next.
+    last: usize,
+    next: usize,
     // The cells of the record at hand that name its series.
     cells: Vec<u8>,
 }
@@ -33,6 +37,8 @@ impl KeyCache {
     pub fn new(alloc: Global) -> KeyCache {
         KeyCache {
             keys: IndexMap::new(alloc),
+            last: 0,
+            next: 0,
             cells: Vec::new(alloc),
         }
     }
@@ -49,16 +55,51 @@ impl KeyCache {
         requires small { length (fields_of cells.now) < 2 ^ 64 }
         ensures key { Gives result (key_read target.now metric.now (drop 5 (fields_of cells.now))) }
     {
+        if let Some(key) = self.spelled_at(alloc, self.next, target, metric, cells)? {
+            self.go_to(self.next);
+            return Ok(key);
+        }
         self.take_cells(cells)?;
-        if let Some(key) = self.keys.get(self.cells.as_slice())
-            && spells_key(target, metric, cells, key)
+        if let Some(place) = self.keys.get_index_of(self.cells.as_slice())
+            && let Some(key) = self.spelled_at(alloc, place, target, metric, cells)?
         {
-            return Ok(key.copy(alloc)?);
+            self.go_to(place);
+            return Ok(key);
         }
         let key = Shared::new(alloc, read_key(alloc, target, metric, cells)?)?;
         let name = Vec::from_slice(alloc, self.cells.as_slice())?;
+        let place = self.keys.len();
         self.keys.insert(name, key.copy(alloc)?)?;
+        self.go_to(place);
         Ok(key)
+    }
+
+    // The key at a place, if the cells of a record spell it.
+    fn spelled_at(
+        &self,
+        alloc: Global,
+        place: usize,
+        target: &TargetSchema,
+        metric: &MetricSchema,
+        cells: &StringRecord,
+    ) -> Result<Option<Shared<SeriesKey>>, OutOfMemory>
+        requires counted { length (fields_of cells.now) ≡ 5 + length target.now.fields + length metric.now.fields }
+        requires small { length (fields_of cells.now) < 2 ^ 64 }
+        ensures key { IfOk result (λ found. IfSome found (λ key.
+            key_read target.now metric.now (drop 5 (fields_of cells.now)) ≡ Ok key)) }
+    {
+        match self.keys.get_index(place) {
+            Some((_, key)) if spells_key(target, metric, cells, key) => {
+                Ok(Some(key.copy(alloc)?))
+            }
+            _ => Ok(None),
+        }
+    }
+
+    // Notes the place of a record's key.
+    fn go_to(&mut self, place: usize) {
+        self.next = place.wrapping_add(place.wrapping_sub(self.last));
+        self.last = place;
     }
 
     // Takes the cells of a record that name its series.

@@ -11,7 +11,7 @@ fn the_lines_of_a_script(rt: HostRuntime) -> Result<(), Fail> {
         b"# one\r\n\nfeed p.csv\r\nquery 10 fetch T::/m | filter u == \"a\"",
     )?;
     let script = script.copy(alloc)?;
-    let mut lines = script.as_slice().iter();
+    let mut lines = script.iter();
     let feed = lines.next().ok_or("no feed")?;
     assert_eq!(rt; feed.number, 3);
     assert!(rt; matches!(&feed.what, LineForm::Feed(name) if name.as_str() == "p.csv"));

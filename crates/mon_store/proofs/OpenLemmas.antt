@@ -19,7 +19,7 @@ use Rattle.mon_topo.specs.Replicas.{HasReplicas}
 use Rattle.mon_topo.specs.declared.zones.RangeSpec.{RangeSpec}
 use Rattle.mon_topo.specs.declared.zones.ZoneSpec.{ZoneSpec}
 use Rattle.mon_topo.specs.Zones.{first_replicas, leaves_in, leaves_named, no_range, ranges_in}
-use Rattle.leaf_store.specs.LeafStates.{LeafView, leaf_with_entry}
+use Rattle.leaf_store.specs.LeafStates.{LeafView, leaf_with_entry, leaf_with_put}
 use Rattle.mon_store.proofs.KeepLemmas.{all_open, with_replica}
 use Rattle.leaf_store.specs.LeafLists.{IsChanged}
 use Rattle.mon_store.specs.within.Leaves.{AllKeep, AreLeavesOpened, HasEntry, Keeps, MayComeToLeaf, histories}
@@ -80,6 +80,26 @@ histories_more leaf last old new changed n =
     history_at new n
     ∙ ap (λ o. option_map (λ (state : LeafView). state.history) o) (changed n)
     ∙ entry_by last (nat_eq leaf.0 n) (slice_get old n)
+    ∙ (λ i. cond (nat_eq leaf.0 n) (option_map (λ (h : List Entry). h ++ last ∷ []) (sym (history_at old n) i))
+    (sym (history_at old n) i))
+
+put_by : (last : Entry) (b : Bool) (o : Option LeafView)
+    → option_map (λ (leaf : LeafView). leaf.history)
+    (cond b (option_map (λ (state : LeafView). leaf_with_put state last) o) o)
+    ≡ cond b (option_map (λ (h : List Entry). h ++ last ∷ []) (option_map (λ (leaf : LeafView). leaf.history) o))
+    (option_map (λ (leaf : LeafView). leaf.history) o)
+put_by last true None = refl
+put_by last true (Some leaf) = refl
+put_by last false o = refl
+
+-- an entry that comes to a leaf with its row
+pub histories_put : (leaf : Leaf) (last : Entry) (old new : List LeafView)
+    → IsChanged leaf (λ state. leaf_with_put state last) old new
+    → HasEntry leaf last (histories old) (histories new)
+histories_put leaf last old new changed n =
+    history_at new n
+    ∙ ap (λ o. option_map (λ (state : LeafView). state.history) o) (changed n)
+    ∙ put_by last (nat_eq leaf.0 n) (slice_get old n)
     ∙ (λ i. cond (nat_eq leaf.0 n) (option_map (λ (h : List Entry). h ++ last ∷ []) (sym (history_at old n) i))
     (sym (history_at old n) i))
 

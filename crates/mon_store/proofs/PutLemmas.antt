@@ -1,13 +1,14 @@
 -- A row that is put to the first replicas of its range, from the last one back.
 use Rattle.std.proofs.Common.{◌≡◌, ◌∙◌, ◌≤◌, ◌+◌, ℕ, suc, zero, ◌||◌, ◌&&◌, Bool, true, false, cond, Option, Some}
-use Rattle.std.proofs.Common.{None, Result, Ok, Err, OnErr, IfSome, List, [], ◌∷◌, ◌++◌, nat_eq, nat_le, slice_get}
+use Rattle.std.specs.Prelude.{is_some}
+use Rattle.std.proofs.Common.{None, Result, Ok, Err, OnErr, OnOk, IfSome, List, [], ◌∷◌, ◌++◌, nat_eq, nat_le, slice_get}
 use Rattle.std.proofs.Common.{length, drop, refl, sym, ap, subst, append-nil, arith, option_map}
 use Rattle.std.specs.List.{AllByRecursion, IsDistinct, list_any}
 use Rattle.std.proofs.lemmas.Bool.Decides.{nat_tests}
 use Rattle.std.proofs.lemmas.Option.{slice_get-map, slice_get_within}
 use Rattle.std.proofs.lemmas.Map.Keys.{IsDistinct-head, IsDistinct-tail}
 use Rattle.mon_value.proofs.LeafHistoryLemmas.{IsWellFormed-push}
-use Rattle.mon_value.specs.LeafHistories.{is_opened}
+use Rattle.mon_value.specs.LeafHistories.{IsWellFormed, is_opened}
 use Rattle.mon_value.specs.Sources.{IsSource}
 use Rattle.mon_value.specs.declared.histories.Entry.{Entry}
 use Rattle.mon_value.specs.declared.histories.Entry.TheVariants as entry
@@ -204,6 +205,26 @@ may_put zones rows old reserved mid range place leaf row keep at source changed 
           (slice_get old leaf.0)) (eq_itself leaf.0)) ∙ sym same ∙ there);
     })
 
+-- ---- the last replica
+
+-- a row may come to each replica of its range
+pub may_follow : (zones : List ZoneSpec) (rows : Range → List Row) (leaves : List LeafView) (range : Range)
+    (place : ℕ) (leaf : Leaf) (row : Row)
+    → AllKeep (leaf_of zones) (λ other slot. rows other) (histories leaves) → leaf_of zones range (slot_at place)
+    ≡ Some leaf
+    → IsSource (rows range ++ row ∷ [])
+    → IfSome (slice_get leaves leaf.0)
+    (λ state. IsWellFormed (state.history ++ entry.Put 0 range (slot_at place) row ∷ []))
+may_follow zones rows leaves range place leaf row keep at source =
+    each (slice_get leaves leaf.0) (λ state there.
+    let keeps = keep leaf.0 state.history (history_at leaves leaf.0 state there) in
+    let on = ap (is_on_leaf leaf.0) at ∙ eq_itself leaf.0 in
+    IsWellFormed-push state.history (entry.Put 0 range (slot_at place) row) keeps.formed (
+      keeps.up,
+      (keeps.opened range (slot_at place) ∙ on),
+      subst (λ (r : List Row). IsSource (r ++ row ∷ [])) (sym (keeps.held range (slot_at place) on)) source,
+    ))
+
 -- ---- leaves without a replica of the range
 
 drop_at : (xs : List Leaf) (n : ℕ) (leaf : Leaf) → slice_get xs n ≡ Some leaf → drop n xs ≡ leaf ∷ drop (n + 1) xs
@@ -249,3 +270,16 @@ alike_kept zones old new alike many same = record {
 pub whatever_fails : {T E : Type 0} (result : Result T E) (P : Type 0) → P → OnErr result P
 whatever_fails (Ok value) P holds = tt
 whatever_fails (Err error) P holds = holds
+
+pub where_ok : {T E : Type 0} (result : Result T E) (P Q : Type 0) → (P → Q) → OnOk result P → OnOk result Q
+where_ok (Ok value) P Q from holds = from holds
+where_ok (Err error) P Q from holds = tt
+
+pub either_way : {T E : Type 0} (result : Result T E) (P Q R : Type 0) → (P → R) → (Q → R) → OnOk result P
+    → OnErr result Q → R
+either_way (Ok value) P Q R from_ok from_err ok err = from_ok ok
+either_way (Err error) P Q R from_ok from_err ok err = from_err err
+
+pub none_there : (o : Option Leaf) → is_some o ≡ false → o ≡ None
+none_there None e = refl
+none_there (Some leaf) e = absurd cc

@@ -2,11 +2,12 @@
 ghost use Rattle.std.specs.Prelude.{◌≡◌, ◌<◌, ◌≤◌, ◌++◌, ◌+◌, ◌∷◌, [], ℕ, true, drop, length, slice_get, Some, IfOk};
 ghost use Rattle.std.specs.Prelude.{IfSome, OnErr, OnOk};
 ghost use Rattle.mon_value.specs.LeafHistories.{IsWellFormed, is_opened, replica_rows};
-ghost use Rattle.mon_value.specs.Sources.{IsSource};
+ghost use Rattle.mon_value.specs.Sources.{IsSource, last_end, points_of};
 ghost use Rattle.mon_topo.specs.Replicas.{HasReplicas};
 ghost use Rattle.mon_value.specs.Positions.{leaf_numbered};
 ghost use Rattle.mon_topo.specs.Zones.{first_replicas, ranges_in};
 ghost use Rattle.std.specs.List.{AllByRecursion};
+ghost use Rattle.std.specs.Option.{option_or};
 ghost use Rattle.mon_store.specs.Writes as writes;
 ghost use Rattle.mon_store.specs.Writes.{fault_behind};
 ghost use Rattle.mon_store.specs.within.Leaves as spec;
@@ -15,14 +16,15 @@ ghost use Rattle.mon_store.specs.within.Leaves.{AllKeep, AreReplicasAlike, AreLe
 ghost use Rattle.mon_store.specs.within.Leaves.{AreSettled, MayComeToLeaf, first_replica_rows, first_slot, histories};
 ghost use Rattle.mon_store.specs.within.Leaves.{leaf_of};
 ghost use Rattle.mon_store.specs.within.Leaves.{with_row_from};
-ghost use Rattle.leaf_store.specs.LeafStates.{leaf_with_entry, with_settled};
+ghost use Rattle.leaf_store.specs.LeafStates.{leaf_with_entry, leaf_with_put, with_settled};
 
 use crate::faults::WriteFault;
 use leaf_store::{Entry, LeafState};
 use mon_config::Config;
-use mon_series::KeptRows;
 use mon_topo::{Topology, ranges_have_replicas};
-use mon_value::{Leaf, MOST_BUCKETS, OutOfMemory, Range, Row, RowList, Slot, TryCopy};
+use mon_value::{
+    Leaf, MOST_BUCKETS, OutOfMemory, Range, Row, RowList, SeriesKey, Shared, Slot, TryCopy,
+};
 use std::alloc::Global;
 
 /// A state for each leaf, in the order of their numbers.
@@ -155,6 +157,9 @@ impl LeafStates {
         let Some(leaf) = leaf_at(topology, range, slot) else {
             return Ok(());
         };
+        if leaf_at(topology, range, slot + 1).is_none() {
+            return self.put_last(leaf, range, Slot(slot), row);
+        }
         self.reserve(leaf, range, Slot(slot), row)?;
         let own = row.copy(self.alloc)?;
         self.put(topology, range, slot + 1, row)?;
@@ -168,6 +173,25 @@ impl LeafStates {
             },
         );
         Ok(())
+    }
+
+    // Puts a copy of a row to a replica on a leaf, at once into its series. Where memory runs out no history changes.
+    fn put_last(
+        &mut self,
+        leaf: Leaf,
+        range: Range,
+        slot: Slot,
+        row: &Row,
+    ) -> Result<(), OutOfMemory>
+        requires there { leaf.0 < length self.old.states.items }
+        requires follows { IfSome (slice_get self.old.states.items leaf.0)
+            (λ state. IsWellFormed (state.history ++ Entry.Put 0 range slot row.now ∷ [])) }
+        ensures count { length self.new.states.items ≡ length self.old.states.items }
+        ensures put { OnOk result (IsChanged leaf (λ state. leaf_with_put state (Entry.Put 0 range slot row.now))
+            self.old.states.items self.new.states.items) }
+        ensures kept { OnErr result (self.new.states.items ≡ self.old.states.items) }
+    {
+        self.states[leaf.0 as usize].put(0, range, slot, row)
     }
 
     // Appends an entry to the history of a leaf.
@@ -234,23 +258,38 @@ impl LeafStates {
 
     /// Why a row of a range is refused, by the range's replica on a leaf and how many rows a range holds at most.
     pub(crate) fn fault_of(
-        &self,
+        &mut self,
         leaf: Leaf,
         range: Range,
         row: &Row,
         limit: u64,
     ) -> Option<WriteFault>
-        requires there { leaf.0 < length self.now.states.items }
-        requires settled { IsSettled leaf self.now.states.items }
-        requires opened { IfSome (slice_get self.now.states.items leaf.0)
+        requires there { leaf.0 < length self.old.states.items }
+        requires settled { IsSettled leaf self.old.states.items }
+        requires opened { IfSome (slice_get self.old.states.items leaf.0)
             (λ state. is_opened range first_slot state.history ≡ true) }
-        ensures fault { IfSome (slice_get self.now.states.items leaf.0) (λ state.
+        ensures fault { IfSome (slice_get self.old.states.items leaf.0) (λ state.
             result ≡ fault_behind (replica_rows range first_slot state.history) row.now limit) }
+        ensures kept { self.new.states.items ≡ self.old.states.items }
     {
+        let last = self.last_end(leaf, range, &row.key);
         let Some(slot) = self.states[leaf.0 as usize].slot(range, Slot(0)) else {
             unreachable!();
         };
-        fault_among(slot.rows(), row, limit)
+        fault_at(last, slot.rows().len() as u64, row, limit)
+    }
+
+    // The end of the last point that a range's replica on a leaf has of a series.
+    fn last_end(&mut self, leaf: Leaf, range: Range, key: &Shared<SeriesKey>) -> Option<i64>
+        requires there { leaf.0 < length self.old.states.items }
+        requires settled { IsSettled leaf self.old.states.items }
+        requires opened { IfSome (slice_get self.old.states.items leaf.0)
+            (λ state. is_opened range first_slot state.history ≡ true) }
+        ensures last { IfSome (slice_get self.old.states.items leaf.0) (λ state.
+            result ≡ last_end (points_of key.now (replica_rows range first_slot state.history))) }
+        ensures kept { self.new.states.items ≡ self.old.states.items }
+    {
+        self.states[leaf.0 as usize].last_end(range, Slot(0), key)
     }
 
     // Moves the rows of a leaf's entries to their replicas.
@@ -287,13 +326,13 @@ fn leaf_at(topology: &Topology, range: Range, slot: u32) -> Option<Leaf>
         .copied()
 }
 
-// Why a row is refused behind the rows of its range.
-fn fault_among(rows: &KeptRows, row: &Row, limit: u64) -> Option<WriteFault>
-    ensures fault { result ≡ fault_behind rows.now row.now limit }
+// Why a row is refused, by the end of its series' last point and how many rows its range holds.
+fn fault_at(last: Option<i64>, held: u64, row: &Row, limit: u64) -> Option<WriteFault>
+    ensures fault { result ≡ option_or (writes.old_fault last row.now.point) (writes.full_fault limit held) }
 {
-    match rows.find(&row.key) {
-        Some(found) if row.point.end <= found.last => Some(WriteFault::OldPoint(found.last)),
-        _ => full_fault(limit, rows.len() as u64),
+    match last {
+        Some(last) if row.point.end <= last => Some(WriteFault::OldPoint(last)),
+        _ => full_fault(limit, held),
     }
 }
 

@@ -111,6 +111,8 @@ impl Course {
     pub(crate) fn into_trace(self, alloc: Global) -> Result<Trace, OutOfMemory>
         ensures trace { IfOk result (λ trace. trace ≡ spec.trace_of self) }
     {
+        drop(self.answers);
+        drop(self.entered);
         let mut resolved = self.resolved;
         let mut looks = self.looks;
         let firsts = self.seen.firsts;

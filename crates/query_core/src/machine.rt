@@ -134,7 +134,8 @@ impl QueryMachine {
     {
         let alloc = self.setting.alloc();
         self.avoided = Leaves::new(alloc);
-        self.stage = Stage::Rooting(Loading::none(alloc));
+        let not_begun = Stage::Rooting(Loading::none(alloc));
+        drop(mem::replace(&mut self.stage, not_begun));
     }
 
     /// How it ended.
@@ -172,7 +173,8 @@ fn advance(setting: &QuerySetting, stage: &mut Stage, told: Told) -> Result<(), 
 {
     let not_begun = Stage::Rooting(Loading::none(setting.alloc()));
     let so_far = mem::replace(stage, not_begun);
-    *stage = told_so(setting, so_far, told)?;
+    let next = told_so(setting, so_far, told)?;
+    drop(mem::replace(stage, next));
     Ok(())
 }
 

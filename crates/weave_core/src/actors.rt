@@ -42,8 +42,8 @@ impl Actor {
         requires served { IsServed store.now.config }
         ensures new { IfOk result (IsDeclaredActor store.now.config number call store.now.first_sight) }
     {
-        let course = course_of(store, number, call)?;
         let sight = store.first_sight.copy(store.alloc)?;
+        let course = course_of(store, number, call)?;
         Ok(Actor {
             course,
             sight,

@@ -48,9 +48,13 @@ impl Store {
             → IsAsking config core k self.old querying sight.old
             → IfOk result (QueriesSo config core k querying self.new sight.old sight.new) }
     {
-        match self.answer(&querying, sight)? {
-            Some(told) => told_on(querying, told),
-            None => Ok(QueryTurn::Waits(querying)),
+        match self.answer(&querying, sight) {
+            Ok(Some(told)) => told_on(querying, told),
+            Ok(None) => Ok(QueryTurn::Waits(querying)),
+            Err(fault) => {
+                drop(querying);
+                Err(fault)
+            }
         }
     }
 
@@ -123,8 +127,13 @@ fn told_on(querying: Querying, told: Told) -> Result<QueryTurn, OutOfMemory>
     ensures turns { IfOk result (TurnsBy querying told) }
 {
     let mut querying = querying;
-    querying.machine.told(told)?;
-    Ok(turn_of(querying))
+    match querying.machine.told(told) {
+        Ok(()) => Ok(turn_of(querying)),
+        Err(fault) => {
+            drop(querying);
+            Err(fault)
+        }
+    }
 }
 
 // Whether a query goes on, or how it has ended.

@@ -31,7 +31,9 @@ pub fn run_schedule(
     ensures printed { spec.Prints config text.now result (string_bytes out.old) (string_bytes out.new) }
 {
     let mut weave = Weave::new(alloc, config)?;
-    run_lines(alloc, &mut weave, text, out)
+    let ran = run_lines(alloc, &mut weave, text, out);
+    drop(weave);
+    ran
 }
 
 // Runs the lines of a schedule, and names who has not ended then.

@@ -1,7 +1,7 @@
 -- How replicas are kept: each under its range and slot, with the rows that it has; and entries whose rows are with
 -- them.
 use Rattle.std.specs.Prelude.{◌≡◌, ◌<ℤ◌, ℕ, true, List, [], ◌∷◌, ◌++◌, length, take, nat_lt, is_some, slice_get, Option}
-use Rattle.std.specs.Prelude.{Some, None, option_map, IfSome, if◌then◌else◌}
+use Rattle.std.specs.Prelude.{Bool, Some, None, option_map, IfSome, if◌then◌else◌}
 use Rattle.std.specs.List.{AllByRecursion}
 use Rattle.std.specs.Map.{lookup}
 use Rattle.indexmap.specs.Layout.{set_value_at}
@@ -86,10 +86,14 @@ abbrev pub CanPut : Replicas → Replica → Row → Type 0
 CanPut replicas replica row =
     (rows : List Row) × (rows_held replicas replica.range replica.slot ≡ Some rows) × IsLater row rows
 
+-- whether some row is of a series
+abbrev pub has_row_of : SeriesKey → List Row → Bool
+has_row_of key rows = is_some (last_end (points_of key rows))
+
 -- a replica has a row of a series
 abbrev pub HasSeries : Replicas → Replica → SeriesKey → Type 0
 HasSeries replicas replica key = (rows : List Row) × (rows_held replicas replica.range replica.slot ≡ Some rows)
-    × (is_some (last_end (points_of key rows)) ≡ true)
+    × (has_row_of key rows ≡ true)
 
 -- the replica of a number has a row more, which has its number too
 pub record IsPut (old new : Replicas) (replica : Replica) (row : Row) (number place : ℕ) : Type 0 where

@@ -31,14 +31,14 @@ returns-in_ok-number-in-Opened-clause-settled c =
     subst (λ (e : Entry). SettlesEntry old new e (kept.Opened c.in-Opened.pass at.number at.count)) (sym c.in-Opened.is)
     (opened_settles old new c.in-Opened.pass replica c.in-Opened.rows at.number at.count fresh opened)
 
-pub returns-in_ok-number-in-Put-clause-settled : goal.returns-in_ok-number-in-Put-clause-settled
-returns-in_ok-number-in-Put-clause-settled c =
+pub returns-in_ok-put-in-Put-clause-settled : goal.returns-in_ok-put-in-Put-clause-settled
+returns-in_ok-put-in-Put-clause-settled c =
     let replica : Replica = record { range = c.in-Put.range; slot = c.in-Put.slot } in
     let old = c.args.replicas.now.entries in
     let new = c.put.new.replicas.entries in
-    let at = c.in_ok-number-in-Put in
-    subst (λ (e : Entry). SettlesEntry old new e (kept.Put c.in-Put.pass at.number at.place)) (sym c.in-Put.is)
-    (put_settles old new c.in-Put.pass replica c.in-Put.row at.number at.place at.ensures.put)
+    let at = c.in_ok-put-in-Put.put in
+    subst (λ (e : Entry). SettlesEntry old new e (kept.Put c.in-Put.pass at.replica at.row)) (sym c.in-Put.is)
+    (put_settles old new c.in-Put.pass replica c.in-Put.row at.replica at.row c.in_ok-put-in-Put.ensures.put)
 
 pub returns-in-Down-clause-settled : goal.returns-in-Down-clause-settled
 returns-in-Down-clause-settled c =

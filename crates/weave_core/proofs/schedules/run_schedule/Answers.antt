@@ -7,6 +7,6 @@ returns c =
     let begins = c.in_ok-weave.ensures.begins in
     record {
       printed = printed_by Unit c.args.config begins.state c.args.text.now (string_bytes c.args.out.now)
-          (string_bytes c.run_lines.new.out)
-          c.run_lines.result begins.first (c.run_lines.ensures.ran c.args.config begins.state begins.agrees);
+          (string_bytes c.run_lines-ran.new.out)
+          c.run_lines-ran.result begins.first (c.run_lines-ran.ensures.ran c.args.config begins.state begins.agrees);
     }

@@ -1,13 +1,14 @@
-use Rattle.std.proofs.Common.{◌∙◌, ◌++◌, ◌+◌, ◌∷◌, [], slice_get, sym, subst, arith, rules, IfSome}
+use Rattle.std.proofs.Common.{◌≡◌, ◌∙◌, ◌++◌, ◌+◌, ◌∷◌, [], List, None, slice_get, sym, ap, subst, arith, rules, IfSome}
 use Rattle.std.proofs.lemmas.Option.{slice_get_within}
 use Rattle.mon_value.specs.Sources.{IsSource}
 use Rattle.mon_value.specs.declared.histories.Entry.TheVariants as entry
 use Rattle.mon_topo.specs.Zones.{first_replicas}
 use Rattle.mon_store.specs.within.Leaves.{AllKeep, HasEntry, MayComeToLeaf, first_replica_rows, histories, leaf_of}
 use Rattle.mon_store.specs.within.Leaves.{with_row_from}
-use Rattle.mon_store.proofs.OpenLemmas.{histories_more, promise_keeps, replica_there}
+use Rattle.mon_store.proofs.OpenLemmas.{histories_more, histories_put, promise_keeps, replica_there}
 use Rattle.mon_store.proofs.PutLemmas.{alike_kept, apart_later, is_there, may_put, put_more, put_none, untouched_first}
-use Rattle.mon_store.proofs.PutLemmas.{untouched_rest, whatever_fails}
+use Rattle.mon_store.proofs.PutLemmas.{either_way, may_follow, none_there, untouched_rest, whatever_fails, where_ok}
+use Rattle.leaf_store.specs.LeafStates.{LeafView}
 use Rattle.mon_store.proofs.leaf_states.LeafStates.+put.Goals as goal
 
 pub returns-in_default-clause-put : goal.returns-in_default-clause-put
@@ -136,3 +137,48 @@ returns-clause-others t c = λ n none.
     at (c.put.ensures.others n) none
     ∙ untouched_first replicas c.args.slot n c.in-Some.leaf _ c.args.self.now.states.items
     c.reserve.new.self.states.items at c.in_ok-reserve.ensures.promised none
+
+-- ---- the last replica
+
+pub overflow_add-slot-2 : goal.overflow_add-slot-2
+overflow_add-slot-2 t c =
+    let few = c.requires.replicas.few in
+    let within = slice_get_within (first_replicas c.args.topology.now c.args.range.0) c.args.slot c.in-Some.leaf
+    (sym c.leaf_at.ensures.leaf ∙ c.in-Some.is) in
+    search rules
+
+pub put_last-requires-clause-there : goal.put_last-requires-clause-there
+put_last-requires-clause-there t c =
+    let there = replica_there c.args.topology.now c.args.range c.args.slot c.in-Some.leaf c.requires.replicas
+    (sym c.leaf_at.ensures.leaf ∙ c.in-Some.is) in
+    let many = c.requires.alike.count in omega arith
+
+pub put_last-requires-clause-follows : goal.put_last-requires-clause-follows
+put_last-requires-clause-follows t c =
+    may_follow c.args.topology.now (first_replica_rows (histories c.args.self.now.states.items))
+    c.args.self.now.states.items c.args.range c.args.slot c.in-Some.leaf c.args.row.now c.requires.alike.keep
+    (sym c.leaf_at.ensures.leaf ∙ c.in-Some.is) c.requires.source
+
+pub returns-then-is_none-clause-put : goal.returns-then-is_none-clause-put
+returns-then-is_none-clause-put t c =
+    let zones = c.args.topology.now in
+    let old = c.args.self.now.states.items in
+    let new = c.put_last.new.self.states.items in
+    let none : slice_get (first_replicas zones c.args.range.0) (c.args.slot + 1) ≡ None =
+    sym c.leaf_at-2.ensures.leaf ∙ none_there c.leaf_at-2.result c.if-is_none.ensures in
+    let keep = put_none zones (first_replica_rows (histories old)) (histories old) c.args.range (c.args.slot + 1)
+    c.args.row.now c.requires.alike.keep none in
+    where_ok c.put_last.result _ _
+    (λ changed. put_more zones (first_replica_rows (histories old)) (histories old) (histories new)
+    c.args.range c.args.slot c.in-Some.leaf c.args.row.now keep (sym c.leaf_at.ensures.leaf ∙ c.in-Some.is)
+    c.requires.source (histories_put c.in-Some.leaf _ old new changed)) c.put_last.ensures.put
+
+pub returns-then-is_none-clause-others : goal.returns-then-is_none-clause-others
+returns-then-is_none-clause-others t c = λ n none.
+    let old = c.args.self.now.states.items in
+    let new = c.put_last.new.self.states.items in
+    either_way c.put_last.result _ (new ≡ old) (slice_get new n ≡ slice_get old n)
+    (λ changed. untouched_first (first_replicas c.args.topology.now c.args.range.0) c.args.slot n c.in-Some.leaf
+    _ old new (sym c.leaf_at.ensures.leaf ∙ c.in-Some.is) changed none)
+    (λ kept. ap (λ (states : List LeafView). slice_get states n) kept)
+    c.put_last.ensures.put c.put_last.ensures.kept

@@ -1,4 +1,6 @@
-use Rattle.std.proofs.Common.{◌≡◌, ◌∙◌, ◌++◌, ◌∷◌, [], length, ap, arith}
+use Rattle.std.proofs.Common.{◌≡◌, ◌∙◌, List, ◌++◌, ◌∷◌, [], length, sym, ap, subst, arith}
+use Rattle.leaf_store.specs.LeafStates.{LeafView}
+use Rattle.mon_value.specs.Sources.{IsSource}
 use Rattle.mon_topo.specs.Zones.{first_replicas}
 use Rattle.mon_store.specs.Writes.{fault_behind}
 use Rattle.mon_store.specs.within.Leaves.{first_replica_rows, histories}
@@ -71,9 +73,10 @@ returns-in-Some-clause-kept c =
     let replicas : c.as_slice-leaves.result.now ≡ first_replicas zones c.args.range.0 = c.as_slice-leaves.ensures.items
     ∙ c.first_replicas.ensures.replicas in
     let old = c.args.self.now.leaves.states.items in
-    let mid = c.settle_each.new.self.states.items in
-    let kept = kept_same config old mid c.args.self.now.order.items c.requires.kept.rows c.settle_each.ensures.count
-    c.settle_each.ensures.kept in
+    let mid = c.fault_of.new.self.states.items in
+    let same : histories mid ≡ histories old = ap histories c.fault_of.ensures.kept ∙ c.settle_each.ensures.kept in
+    let kept = kept_same config old mid c.args.self.now.order.items c.requires.kept.rows
+    (ap length c.fault_of.ensures.kept ∙ c.settle_each.ensures.count) same in
     record { limited = c.requires.kept.limited; rows = kept; firsts = c.requires.kept.firsts }
 
 pub returns-in-Some-clause-refused : goal.returns-in-Some-clause-refused
@@ -102,9 +105,10 @@ append-requires-clause-kept c =
     let replicas : c.as_slice-leaves.result.now ≡ first_replicas zones c.args.range.0 = c.as_slice-leaves.ensures.items
     ∙ c.first_replicas.ensures.replicas in
     let old = c.args.self.now.leaves.states.items in
-    let mid = c.settle_each.new.self.states.items in
-    let kept = kept_same config old mid c.args.self.now.order.items c.requires.kept.rows c.settle_each.ensures.count
-    c.settle_each.ensures.kept in
+    let mid = c.fault_of.new.self.states.items in
+    let same : histories mid ≡ histories old = ap histories c.fault_of.ensures.kept ∙ c.settle_each.ensures.kept in
+    let kept = kept_same config old mid c.args.self.now.order.items c.requires.kept.rows
+    (ap length c.fault_of.ensures.kept ∙ c.settle_each.ensures.count) same in
     record { limited = c.requires.kept.limited; rows = kept; firsts = c.requires.kept.firsts }
 
 pub append-requires-clause-source : goal.append-requires-clause-source
@@ -122,8 +126,10 @@ append-requires-clause-source c =
     config.range_points =
     fault_known zones has c.args.range c.requires.there c.as_slice-leaves.result.now replicas mid (record { 0 = 0 })
     c.args.row.now config.range_points c.fault_of.result kept.alike c.fault_of.ensures.fault in
-    row_goes_on zones has c.args.range c.requires.there c.as_slice-leaves.result.now replicas mid (record { 0 = 0 })
-    c.args.row.now config.range_points c.fault_of.result kept.alike fault c.in-None.is
+    subst (λ (states : List LeafView).
+    IsSource (first_replica_rows (histories states) c.args.range ++ c.args.row.now ∷ [])) (sym c.fault_of.ensures.kept)
+    (row_goes_on zones has c.args.range c.requires.there c.as_slice-leaves.result.now replicas mid (record { 0 = 0 })
+    c.args.row.now config.range_points c.fault_of.result kept.alike fault c.in-None.is)
 
 pub returns-in_ok-append-in-None-clause-refused : goal.returns-in_ok-append-in-None-clause-refused
 returns-in_ok-append-in-None-clause-refused c =
@@ -146,4 +152,5 @@ returns-in_ok-append-in-None-clause-refused c =
 pub returns-in_ok-append-in-None-clause-written : goal.returns-in_ok-append-in-None-clause-written
 returns-in_ok-append-in-None-clause-written c = c.in_ok-append-in-None.ensures.written
     ∙ ap (λ rows. rows ++ c.args.row.now ∷ []) (rows_same c.args.self.now.leaves.states.items
-    c.settle_each.new.self.states.items c.args.self.now.order.items c.settle_each.ensures.kept)
+    c.fault_of.new.self.states.items c.args.self.now.order.items
+    (ap histories c.fault_of.ensures.kept ∙ c.settle_each.ensures.kept))
