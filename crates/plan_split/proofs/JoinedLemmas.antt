@@ -1,5 +1,5 @@
 -- What joined formulas hold of, and how their lists lie in memory.
-use Rattle.std.proofs.Common.{◌≡◌, ◌∙◌, ℕ, Bool, true, false, ◌&&◌, ◌||◌, List, [], ◌∷◌, ◌++◌, cond, map, refl, ap, sym}
+use Rattle.std.proofs.Common.{◌≡◌, ◌∙◌, ℕ, Bool, true, false, ◌&&◌, ◌||◌, List, [], ◌∷◌, ◌++◌, map, refl, ap, sym}
 use Rattle.std.specs.List.{list_all, list_any}
 use Rattle.std.specs.declared.alloc.Global.{Global}
 use Rattle.std.specs.declared.vec.Vec.{Vec}
@@ -10,7 +10,7 @@ use Rattle.mon_hints.specs.Formulas.{FormulaTree, All, Bucket, And, Or, FormulaT
 use Rattle.mon_hints.specs.Formulas.{any_holds, formulas, formula_tree, holds}
 use Rattle.mon_hints.specs.declared.formulas.Formula.{Formula}
 use Rattle.mon_hints.specs.declared.formulas.Formula.TheVariants as formula
-use Rattle.plan_split.specs.JoinedFormulas.{all_of, both, choices, is_all, formula_list, one_of, wanted_formulas}
+use Rattle.plan_split.specs.JoinedFormulas.{all_of, both, choices, formula_list, one_of, wanted_formulas}
 
 pub formula_list-formulas : (trees : List FormulaTree) → formula_list (formulas trees) ≡ trees
 formula_list-formulas [] = refl
@@ -31,10 +31,6 @@ and_true false = refl
 or_false : (b : Bool) → (b || false) ≡ b
 or_false true = refl
 or_false false = refl
-
-or_true : (b : Bool) → (b || true) ≡ true
-or_true true = refl
-or_true false = refl
 
 each_listed : (buckets : List ℕ) (trees : FormulaTrees) → each_holds buckets (formula_list trees)
     ≡ all_hold trees buckets
@@ -81,29 +77,13 @@ holds-both buckets left right =
     ∙ ap (λ b. b && each_holds buckets (wanted_formulas right)) (holds-wanted buckets left)
     ∙ ap (λ b. holds left buckets && b) (holds-wanted buckets right)
 
-chosen : (buckets : List ℕ) (left right : FormulaTree)
-    → holds (Or (formulas (choices left ++ choices right))) buckets ≡ (holds left buckets || holds right buckets)
-chosen buckets left right =
+pub holds-one_of : (buckets : List ℕ) (left right : FormulaTree)
+    → holds (one_of left right) buckets ≡ (holds left buckets || holds right buckets)
+holds-one_of buckets left right =
     any_holds-formulas buckets (choices left ++ choices right)
     ∙ list_any-append (λ tree. holds tree buckets) (choices left) (choices right)
     ∙ ap (λ b. b || some_holds buckets (choices right)) (holds-choices buckets left)
     ∙ ap (λ b. holds left buckets || b) (holds-choices buckets right)
-
-pub holds-one_of : (buckets : List ℕ) (left right : FormulaTree)
-    → holds (one_of left right) buckets ≡ (holds left buckets || holds right buckets)
-holds-one_of buckets All right = refl
-holds-one_of buckets (Bucket bucket) All = sym (or_true (holds (Bucket bucket) buckets))
-holds-one_of buckets (Bucket bucket) (Bucket other) = chosen buckets (Bucket bucket) (Bucket other)
-holds-one_of buckets (Bucket bucket) (And all) = chosen buckets (Bucket bucket) (And all)
-holds-one_of buckets (Bucket bucket) (Or any) = chosen buckets (Bucket bucket) (Or any)
-holds-one_of buckets (And all) All = sym (or_true (holds (And all) buckets))
-holds-one_of buckets (And all) (Bucket other) = chosen buckets (And all) (Bucket other)
-holds-one_of buckets (And all) (And others) = chosen buckets (And all) (And others)
-holds-one_of buckets (And all) (Or any) = chosen buckets (And all) (Or any)
-holds-one_of buckets (Or any) All = sym (or_true (holds (Or any) buckets))
-holds-one_of buckets (Or any) (Bucket other) = chosen buckets (Or any) (Bucket other)
-holds-one_of buckets (Or any) (And all) = chosen buckets (Or any) (And all)
-holds-one_of buckets (Or any) (Or others) = chosen buckets (Or any) (Or others)
 
 -- ---- in memory
 
@@ -119,18 +99,12 @@ pub and-all_of : (all : List Formula) → (all ≡ [] → ⊥)
 and-all_of [] some = absurd (some refl)
 and-all_of (first ∷ all) some = refl
 
-neither : (a b : Bool) (tree : FormulaTree) → a ≡ false → b ≡ false → cond (a || b) All tree ≡ tree
-neither true b tree e f = cc
-neither false true tree e f = cc
-neither false false tree e f = refl
-
 pub or-one_of : (any some more : Vec Formula Global) (left right : FormulaTree) → any.items ≡ some.items ++ more.items
     → map formula_tree some.items ≡ choices left → map formula_tree more.items ≡ choices right
-    → is_all left ≡ false → is_all right ≡ false → formula_tree (formula.Or any) ≡ one_of left right
-or-one_of any some more left right all of_left of_right e f =
+    → formula_tree (formula.Or any) ≡ one_of left right
+or-one_of any some more left right all of_left of_right =
     or_tree any
     ∙ ap (λ items. Or (formulas (map formula_tree items))) all
     ∙ ap (λ trees. Or (formulas trees)) (map-append formula_tree some.items more.items)
     ∙ ap (λ trees. Or (formulas (trees ++ map formula_tree more.items))) of_left
     ∙ ap (λ trees. Or (formulas (choices left ++ trees))) of_right
-    ∙ sym (neither (is_all left) (is_all right) (Or (formulas (choices left ++ choices right))) e f)

@@ -1,5 +1,5 @@
 -- Formulas joined to one: what joins them stands in one list, so that a long chain is no deeper than its parts.
-use Rattle.std.specs.Prelude.{Bool, true, false, ◌||◌, List, [], ◌∷◌, ◌++◌, if◌then◌else◌}
+use Rattle.std.specs.Prelude.{List, [], ◌∷◌, ◌++◌}
 use Rattle.mon_hints.specs.Formulas.{FormulaTree, All, Bucket, And, Or, FormulaTrees, NoFormula, Then, formulas}
 
 abbrev pub formula_list : FormulaTrees → List FormulaTree
@@ -25,17 +25,10 @@ choices (Bucket bucket) = Bucket bucket ∷ []
 choices (And all) = And all ∷ []
 choices (Or any) = formula_list any
 
-abbrev pub is_all : FormulaTree → Bool
-is_all All = true
-is_all (Bucket bucket) = false
-is_all (And all) = false
-is_all (Or any) = false
-
 -- both of two formulas
 abbrev pub both : FormulaTree → FormulaTree → FormulaTree
 both left right = all_of (wanted_formulas left ++ wanted_formulas right)
 
--- one of two formulas at least; `All` where one of them is
+-- one of two formulas at least; it names the buckets of both, also where one of them wants none
 abbrev pub one_of : FormulaTree → FormulaTree → FormulaTree
-one_of left right =
-    if is_all left || is_all right then All else Or (formulas (choices left ++ choices right))
+one_of left right = Or (formulas (choices left ++ choices right))

@@ -26,13 +26,10 @@ pub(crate) fn both(alloc: Global, left: Formula, right: Formula) -> Result<Formu
     Ok(all_of(all))
 }
 
-/// One of two formulas at least; `All` where one of them is.
+/// One of two formulas at least. It names the buckets of both, also where one of them is `All`.
 pub(crate) fn one_of(alloc: Global, left: Formula, right: Formula) -> Result<Formula, OutOfMemory>
     ensures tree { IfOk result (λ joined. formula_tree joined ≡ spec.one_of (formula_tree left) (formula_tree right)) }
 {
-    if is_all(&left) || is_all(&right) {
-        return Ok(Formula::All);
-    }
     let any = appended(choices(alloc, left)?, choices(alloc, right)?)?;
     Ok(Formula::Or(any))
 }
@@ -79,10 +76,4 @@ fn alone(alloc: Global, formula: Formula) -> Result<Vec<Formula>, OutOfMemory>
     let mut list = Vec::new(alloc);
     list.push(formula)?;
     Ok(list)
-}
-
-fn is_all(formula: &Formula) -> bool
-    ensures all { result ≡ spec.is_all (formula_tree formula.now) }
-{
-    matches!(formula, Formula::All)
 }

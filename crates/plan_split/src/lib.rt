@@ -10,6 +10,3 @@ mod splitting;
 pub use laws::series_that_fit_have_fields;
 pub use predicates::formula_of;
 pub use splitting::split;
-
-#[cfg(test)]
-mod tests;
