@@ -154,6 +154,7 @@ module _ (leaves ranges : ℕ) (whole : Histories) (words : List ℕ) (seats : L
     mine = was.mine;
     theirs = was.theirs;
     own = was.own;
+    kept = λ r g l o. filter_later (is_about r) g (no_holder at u r apart there o) ∙ was.kept r g l o;
     lent = λ r g l o. filter_later (is_about r) g (no_holder at u r apart there o) ∙ was.lent r g l o;
   }
 

@@ -81,6 +81,18 @@ pub lent_is_held : (range : Range) (v u : SeatView) → 0 < times_range range (g
 lent_is_held range v u lent = let a = guest_ranges range u.purse in let b = ranges_both range v.purse u.purse in
     omega arith
 
+-- so is what it held itself
+pub first_held : (range : Range) (v : SeatView) → 0 < times_range range v.held
+    → 0 < times_range range (v.held ++ (guest_purse v.purse).holds)
+first_held range v mine =
+    let both : times_range range (v.held ++ (guest_purse v.purse).holds) ≡ times_range range v.held + times_range range
+    (guest_purse v.purse).holds =
+    sum_by-append (λ other. cond (same_range range other) 1 0) v.held (guest_purse v.purse).holds in
+    omega arith
+
+pub mine_is_held : (range : Range) (v u : SeatView) → 0 < times_range range v.held → 0 < hold_count range (meeting v u)
+mine_is_held range v u mine = omega arith
+
 abbrev number_in : History → ℕ → ℕ
 number_in (of.Leaf leaf) d = leaf.0
 number_in (of.Range range) d = d

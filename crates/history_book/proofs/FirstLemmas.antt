@@ -105,7 +105,7 @@ zeros_read zero i = refl
 zeros_read (suc n) zero = refl
 zeros_read (suc n) (suc i) = zeros_read n i
 
-first_numbers : (n leaves ranges : ℕ) → has_number n (first_view leaves ranges) ≡ times_among n
+pub first_numbers : (n leaves ranges : ℕ) → has_number n (first_view leaves ranges) ≡ times_among n
     (numbers_between 0 NUMBER_END)
 first_numbers n leaves ranges =
     let all = cut_among n 0 1 NUMBER_END

@@ -13,7 +13,7 @@ use Rattle.std.proofs.Math.Decide.{dec_lt}
 use Rattle.std.proofs.lemmas.Bool.Decides.{nat_tests}
 use Rattle.std.proofs.lemmas.List.Elements.{Contains-append_cases, Contains-append_left, Contains-append_right}
 use Rattle.std.proofs.lemmas.List.Elements.{Contains-push_cases}
-use Rattle.std.proofs.lemmas.List.Sums.{sum_by-take-drop}
+use Rattle.std.proofs.lemmas.List.Sums.{sum_by-append, sum_by-take-drop}
 use Rattle.mon_value.specs.declared.positions.Leaf.{Leaf}
 use Rattle.mon_value.specs.declared.positions.Range.{Range}
 use Rattle.history_book.specs.declared.numbers.TheConstants.{NUMBER_END}
@@ -68,6 +68,7 @@ joined_still whole v w (Some j) seen own held is = record {
   mine = λ h. subst (λ s. IsPrefix (entries j.mine h) (entries s h)) (sym seen) (is.mine h);
   theirs = λ h. subst (λ s. IsPrefix (entries j.theirs h) (entries s h)) (sym seen) (is.theirs h);
   own = λ h o. is.own h (own h o) ∙ ap (λ s. entries s h) (sym seen);
+  kept = λ r h l o. is.kept r h l (held r o);
   lent = λ r h l o. is.lent r h l (held r o);
 }
 
@@ -377,6 +378,12 @@ module _ (leaves ranges : ℕ) (whole : Histories) (words : List ℕ) (seats : L
               mine = mine;
               theirs = others;
               own = own;
+              kept = λ r h l o. was_true.held r h
+                  (let e = guest_ranges r v.purse in
+                  let both' : times_range r (v.held ++ (guest_purse v.purse).holds)
+                  ≡ times_range r v.held + times_range r (guest_purse v.purse).holds
+                  = sum_by-append (λ other. cond (same_range r other) 1 0) v.held (guest_purse v.purse).holds in
+                  omega arith);
               lent = λ r h l o. theirs.held r h (let e = guest_ranges r u.purse in let b = hands r in omega arith);
             };
           };

@@ -10,4 +10,4 @@ pub mod PlayLemmas
 pub mod FirstLemmas
 pub mod DealLemmas
 pub mod CallLemmas
-mod TestLemmas
+mod CountLemmas

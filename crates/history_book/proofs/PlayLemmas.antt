@@ -35,7 +35,7 @@ use Rattle.history_book.specs.Steps.{Appends, CanGiveBack, Confirms, IsPromised,
 use Rattle.history_book.specs.Steps.{after_handed_number, after_part, view_after_append, dealt, handed_number}
 use Rattle.history_book.specs.Steps.{word_history}
 use Rattle.history_book.specs.Steps.{view_after_learning, meeting, part, spent_view, split_off}
-use Rattle.history_book.proofs.ListLemmas.{prefix_contains, prefix_filter, prefix_length}
+use Rattle.history_book.proofs.ListLemmas.{filter_between, prefix_contains, prefix_filter, prefix_length}
 use Rattle.history_book.proofs.HistoryLemmas.{fronts, same_history_refl}
 use Rattle.history_book.proofs.SumLemmas.{part_of_sum, parts_of_sum}
 use Rattle.history_book.proofs.PurseLemmas.{kept_counts, sum_one}
@@ -113,7 +113,10 @@ module _ (leaves ranges : ℕ) (whole : Histories) (words : List ℕ) (seats : L
       mine = fronts j.mine v.seen was.mine;
       theirs = fronts j.theirs v.seen was.theirs;
       own = was.own;
-      lent = λ r h o l held. ap (filter (is_about r)) (true_v.own h o) ∙ was.lent r h l held;
+      kept = λ r h l held. sym (filter_between (is_about r) (entries j.mine h) (entries v.seen h) (entries whole h)
+          (was.mine h) (true_v.seen h) (was.kept r h l held)) ∙ was.kept r h l held;
+      lent = λ r h l held. sym (filter_between (is_about r) (entries j.theirs h) (entries v.seen h) (entries whole h)
+          (was.theirs h) (true_v.seen h) (was.lent r h l held)) ∙ was.lent r h l held;
     }
 
     joined_told : (j : Option Joined) → IfSome j (IsJoined whole v) → IfSome j (IsUnited v)

@@ -163,7 +163,7 @@ kept_both None m = refl
 kept_both (Some p) None = sym (append-nil (kept_in p))
 kept_both (Some p) (Some q) = kept_met p q
 
-number_met : (n : ℕ) (p q : Purse) → times_number n (met_purse p q) ≡ times_number n p + times_number n q
+pub number_met : (n : ℕ) (p q : Purse) → times_number n (met_purse p q) ≡ times_number n p + times_number n q
 number_met n p q =
     let a : times_kept n (kept_in (met_purse p q)) ≡ times_kept n (kept_in p) + times_kept n (kept_in q) = ap
     (times_kept n) (kept_met p q) ∙ sum_by-append (λ k. one_if_same k.number n) (kept_in p) (kept_in q) in

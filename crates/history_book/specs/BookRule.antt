@@ -52,11 +52,13 @@ kept_in_purse (Some purse) = kept_in purse
 -- ---- what holds of one seat, where the whole histories are known
 
 -- What two seats had seen is seen by the one that they became. Of its own history that is what it had seen before;
--- and of the ranges that the second brought, it had seen every entry
+-- and of the ranges that either held, it had seen every entry
 pub record IsJoined (whole : Histories) (seat : SeatView) (joined : Joined) : Type 0 where
   pub mine : (history : History) → IsPrefix (entries joined.mine history) (entries seat.seen history)
   pub theirs : (history : History) → IsPrefix (entries joined.theirs history) (entries seat.seen history)
   pub own : (history : History) → 0 < owns history seat → entries joined.mine history ≡ entries seat.seen history
+  pub kept : (range : Range) (history : History) → 0 < times_range range joined.kept → 0 < hold_count range seat
+      → filter (is_about range) (entries whole history) ≡ filter (is_about range) (entries joined.mine history)
   pub lent : (range : Range) (history : History) → 0 < times_range range joined.lent → 0 < hold_count range seat
       → filter (is_about range) (entries whole history) ≡ filter (is_about range) (entries joined.theirs history)
 

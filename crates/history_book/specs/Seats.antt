@@ -67,11 +67,14 @@ numbered_purse number from to =
 abbrev pub kept_in : Purse → List Kept
 kept_in purse = option_to_list purse.own ++ purse.met
 
+-- how often a number stands among the lost ones: who meets a seat without a stock has an empty one there more
+abbrev pub times_lost : ℕ → Purse → ℕ
+times_lost n purse = sum_by (times_among n) purse.lost
+
 -- how often a number stands in a purse
 abbrev pub times_number : ℕ → Purse → ℕ
 times_number n purse =
-    count_by (λ kept. nat_eq kept.number n) (kept_in purse) + times_among n purse.stock + sum_by (times_among n)
-    purse.lost
+    count_by (λ kept. nat_eq kept.number n) (kept_in purse) + times_among n purse.stock + times_lost n purse
 
 abbrev pub times_room : Leaf → List Leaf → ℕ
 times_room leaf rooms = count_by (same_leaf leaf) rooms

@@ -1,6 +1,6 @@
 -- What the kinds of step make of a seat's view, and what they tell.
-use Rattle.std.specs.Prelude.{◌≡◌, ℕ, ◌+◌, ◌-◌, ◌<◌, ◌≤◌, Bool, List, [], ◌∷◌, drop, take, length, filter, map, Option}
-use Rattle.std.specs.Prelude.{Some, None, IfSome, option_map}
+use Rattle.std.specs.Prelude.{◌≡◌, ℕ, ◌+◌, ◌-◌, ◌<◌, ◌≤◌, Bool, List, [], ◌∷◌, ◌++◌, drop, take, length, filter, map}
+use Rattle.std.specs.Prelude.{Option, Some, None, IfSome, option_map}
 use Rattle.atomic_table.specs.Table.{Me, Step}
 use Rattle.mon_value.specs.declared.positions.Leaf.{Leaf}
 use Rattle.mon_value.specs.declared.positions.Range.{Range}
@@ -152,7 +152,12 @@ both_purses (Some purse) (Some other) = Some (met_purse purse other)
 abbrev pub meeting : SeatView → SeatView → SeatView
 meeting v u = record {
   seen = joined_histories v.seen u.seen;
-  joined = Some (record { mine = v.seen; theirs = u.seen; lent = (guest_purse u.purse).holds });
+  joined = Some (record {
+    mine = v.seen;
+    theirs = u.seen;
+    kept = v.held ++ (guest_purse v.purse).holds;
+    lent = (guest_purse u.purse).holds;
+  });
   purse = both_purses v.purse u.purse;
   owns = v.owns;
   promised = v.promised;
@@ -235,8 +240,9 @@ pub record IsUnited (v : SeatView) (joined : Joined) : Type 0 where
   pub mine : AreFronts joined.mine v.seen
   pub theirs : AreFronts joined.theirs v.seen
   pub own : (history : History) → 0 < owns history v → entries joined.mine history ≡ entries v.seen history
-  pub lent : (range : Range) (history : History) → 0 < owns history v → 0 < times_range range joined.lent
-      → 0 < hold_count range v
+  pub kept : (range : Range) (history : History) → 0 < times_range range joined.kept → 0 < hold_count range v
+      → filter (is_about range) (entries v.seen history) ≡ filter (is_about range) (entries joined.mine history)
+  pub lent : (range : Range) (history : History) → 0 < times_range range joined.lent → 0 < hold_count range v
       → filter (is_about range) (entries v.seen history) ≡ filter (is_about range) (entries joined.theirs history)
 
 -- who owns a leaf's history promised as many rooms as its purse has there

@@ -6,8 +6,8 @@ ghost use Rattle.history_book.specs.Books.{HasHistory, IsShaped};
 ghost use Rattle.history_book.specs.Histories.{AreFronts, IsFor, IsOfLeaf, entries, histories_in, history_numbered};
 ghost use Rattle.history_book.specs.Histories.{is_about, history_number, book_entry_pass};
 ghost use Rattle.history_book.specs.Numbers.{is_spent};
-ghost use Rattle.history_book.specs.Seats.{HasGuestRoom, HoldsOwn, IsPurseBorneOut, after_append, after_learn};
-ghost use Rattle.history_book.specs.Seats.{after_meet};
+ghost use Rattle.history_book.specs.Seats.{HasEveryNumber, HasGuestRoom, HoldsOwn, IsPurseBorneOut, after_append};
+ghost use Rattle.history_book.specs.Seats.{after_learn, after_meet};
 ghost use Rattle.history_book.specs.Seats.{after_own_learn, after_parting, after_split_numbered, first_seat};
 ghost use Rattle.history_book.specs.Seats.{guest_purse, hand_of, new_owner, numbered_seat, guest_seat, times_range};
 ghost use Rattle.history_book.specs.Seats.{times_room};
@@ -15,6 +15,7 @@ ghost use Rattle.history_book.specs.Seats.{with_guest, without_purse};
 ghost use Rattle.history_book.specs.Steps.{CanGiveBack, IsPlainSeat, IsPromised, IsUnited, after_part, dealing};
 ghost use Rattle.history_book.specs.Steps.{meeting};
 ghost use Rattle.history_book.specs.Steps.{own_history, owner_view, part};
+ghost use Rattle.history_book.specs.declared.views.History as a_history;
 ghost use Rattle.history_book.specs.declared.views.History.TheVariants as of;
 ghost use Rattle.mon_value.specs.declared.positions.Leaf as a_leaf;
 ghost use Rattle.mon_value.specs.declared.positions.Range as a_range;
@@ -48,14 +49,16 @@ pub struct Book<N: BookName> {
 }
 
 impl<N: BookName> Book<N> {
-    /// Opens a book under a name that means it: with a seat that has the number 0 and all others to hand out, and the
-    /// owners of the histories, in order. Where memory runs out the book is gone.
+    /// Opens a book under a name that means it: with a seat that has the number 0 and all others to hand out, so that
+    /// every number stands in its purse, and the owners of the histories, in order. Where memory runs out the book is
+    /// gone.
     pub fn open(
         alloc: Global,
         blank: BookBlank,
     ) -> Result<(Book<N>, BookSeat<N>, BookOwners<N>), OutOfMemory>
         requires named { blank ≡ N.book }
         ensures seat { IfOk result (λ opened. opened.1 ≡ first_seat N.book.leaves N.book.ranges) }
+        ensures every { IfOk result (λ opened. HasEveryNumber opened.1.purse) }
         ensures owners { IfOk result (λ opened. opened.2
             ≡ map (new_owner N.book.leaves N.book.ranges) (histories_in N.book.leaves N.book.ranges)) }
     {
@@ -214,17 +217,20 @@ impl<N: BookName> Book<N> {
         self.table.shared.load::<Confirm<N>>(&mut seat.seat, 0);
     }
 
-    /// The owner takes a guest. It has seen what either had, and of its own history just what it had; every entry in
-    /// it about a range that the guest holds was seen by the guest. It promised the rooms that the guest has there.
-    /// Two steps.
+    /// The owner takes a guest. It has seen what either had, and of its own history just what it had. Of each history
+    /// every entry about a range that it holds had been seen by it, and every one about a range that the guest holds by
+    /// the guest. It promised the rooms that the guest has there. Two steps.
     pub fn meet_owner(&self, owner: &mut BookOwner<N>, other: BookSeat<N>)
         requires free { owner.old.guest ≡ None }
         ensures met { owner.new ≡ with_guest other owner.old }
         ensures whole { entries owner.new.seen owner.old.history ≡ entries owner.old.seen owner.old.history }
         ensures fronts { AreFronts owner.old.seen owner.new.seen × AreFronts other.seen owner.new.seen }
-        ensures held { (range : a_range.Range) → 0 < times_range range other.purse.holds
-            → filter (is_about range) (entries owner.new.seen owner.old.history)
-            ≡ filter (is_about range) (entries other.seen owner.old.history) }
+        ensures kept { (range : a_range.Range) (history : a_history.History) → 0 < times_range range owner.old.held
+            → filter (is_about range) (entries owner.new.seen history)
+            ≡ filter (is_about range) (entries owner.old.seen history) }
+        ensures held { (range : a_range.Range) (history : a_history.History) → 0 < times_range range other.purse.holds
+            → filter (is_about range) (entries owner.new.seen history)
+            ≡ filter (is_about range) (entries other.seen history) }
         ensures borne_out { IsPurseBorneOut owner.new.seen other.purse }
         ensures promised { (leaf : a_leaf.Leaf) → owner.old.history ≡ of.Leaf leaf
             → times_room leaf other.purse.rooms ≤ owner.new.promised }
@@ -244,6 +250,7 @@ impl<N: BookName> Book<N> {
             (record {
               mine = seat.old.me.0.seen;
               theirs = other.me.0.seen;
+              kept = seat.old.me.0.held ++ (guest_purse seat.old.me.0.purse).holds;
               lent = (guest_purse other.me.0.purse).holds;
             }) }
         ensures borne_out { IfSome (meeting seat.old.me.0 other.me.0).purse

@@ -3,6 +3,7 @@
 
 mod blanks;
 mod books;
+mod laws;
 mod names;
 mod numbers;
 mod owners;
@@ -13,12 +14,10 @@ mod views;
 
 pub use blanks::BookBlank;
 pub use books::Book;
+pub use laws::numbers_are_counted;
 pub use names::{BookName, NewEntry};
-pub use numbers::{NUMBER_END, Numbers};
+pub use numbers::{MANY, NUMBER_END, Numbers, SHARE};
 pub use owners::{BookOwner, BookOwners};
 pub use rooms::RoomMove;
 pub use seats::{BookSeat, EndedSeat};
 pub use views::{BookEntry, History, Kept, LengthNote, Purse};
-
-#[cfg(test)]
-mod tests;

@@ -12,7 +12,7 @@ pub const SHARE: u64 = 1 << 32;
 pub const NUMBER_END: u64 = 1 << 62;
 
 /// The numbers from the first one on, up to the last one, which is not among them.
-#[derive(Clone, Copy, Debug, PartialEq, Eq)]
+#[derive(Clone, Copy, PartialEq, Eq)]
 pub struct Numbers {
     pub from: u64,
     pub to: u64,
@@ -27,7 +27,7 @@ impl Numbers {
     }
 
     /// Those that are left once the first was handed out, and perhaps some of the last ones with it.
-    pub(crate) fn after_handing(self) -> Numbers
+    pub fn after_handing(self) -> Numbers
         requires { self.from < self.to }
         ensures { result ≡ after_handing self }
     {
@@ -43,7 +43,7 @@ impl Numbers {
     }
 
     /// Those that go with the first one.
-    pub(crate) fn handed(self) -> Numbers
+    pub fn handed(self) -> Numbers
         requires { self.from < self.to }
         ensures { result ≡ handed_numbers self }
     {

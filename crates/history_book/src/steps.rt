@@ -5,7 +5,7 @@ use atomic_table::{Join, Play, Split, TableRule};
 use std::marker::PhantomData;
 
 /// How many leaves and ranges have a history.
-#[derive(Clone, Copy, Debug, PartialEq, Eq)]
+#[derive(Clone, Copy, PartialEq, Eq)]
 pub struct BookSize {
     pub leaves: u32,
     pub ranges: u32,

@@ -39,10 +39,11 @@ pub struct Purse {
     pub holds: ListOf<Range>,
 }
 
-/// What two seats had seen before they became one, and the ranges that the second brought.
+/// What two seats had seen before they became one, the ranges that the first held, and those that the second brought.
 pub struct Joined {
     pub mine: Histories,
     pub theirs: Histories,
+    pub kept: ListOf<Range>,
     pub lent: ListOf<Range>,
 }
 

@@ -79,6 +79,14 @@ module _ (setting : Setting) where
       (sound_on before after seen (λ place bucket bit there.
       subst (λ (notes : List Note). list_any (note_has_bit place bucket bit) notes ≡ true) (sym e) there) h)
 
+  -- somebody met who knows what leads there
+  pub sound_met : (mine theirs both : Hints) (seen : Histories) → both ≡ met mine theirs → IsSound setting theirs seen
+      → IsSound setting both seen
+  sound_met mine theirs both seen e =
+      sound_on theirs both seen (λ place bucket bit there.
+      subst (λ (x : Hints). list_any (note_has_bit place bucket bit) x.known ≡ true) (sym e)
+      (known_in_second place bucket bit mine.known theirs.known there))
+
 -- ---- two together
 
 within : (front all : Histories) → AreFronts front all → AreWithin front all

@@ -1,4 +1,5 @@
 pub mod Endings
 pub mod Knowledge
+pub mod Lending
 pub mod Sound
 pub mod Tables

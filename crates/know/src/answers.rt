@@ -3,21 +3,21 @@ use mon_value::{RowList, TryCopy};
 use std::alloc::{AllocError, Global};
 
 /// How a leaf was found: up, or down at this length of its history.
-#[derive(Clone, Copy, Debug, PartialEq, Eq)]
+#[derive(Clone, Copy, PartialEq, Eq)]
 pub enum Found {
     Up,
     Down(u64),
 }
 
 /// The rows of a replica, or the length of its leaf's history at which the leaf was found down.
-#[derive(Debug, PartialEq, Eq, Drop)]
+#[derive(PartialEq, Eq, Drop)]
 pub enum Copied {
     Rows(RowList),
     Down(u64),
 }
 
 /// The stock of numbers is empty.
-#[derive(Clone, Copy, Debug, PartialEq, Eq)]
+#[derive(Clone, Copy, PartialEq, Eq)]
 pub struct NumbersSpent;
 
 impl TryCopy for Copied {

@@ -30,9 +30,9 @@ use std::marker::Model;
 /// seat in the book, and how many rows it was handed. What it has seen is held, and its known bits lead to all of it.
 #[derive(Drop)]
 pub struct Know<N: Names> {
-    hints: HintSeat<N>,
-    book: BookSeat<N>,
-    sight: Sight,
+    pub(crate) hints: HintSeat<N>,
+    pub(crate) book: BookSeat<N>,
+    pub(crate) sight: Sight,
     handed: u64,
 }
 
@@ -102,6 +102,7 @@ impl<N: Names> Know<N> {
         ensures noted { self.new ≡ after_load place bucket result self.old }
         ensures learned { KnowsAll self.new.hints place bucket result }
         ensures kept { KnowsAsMuch self.old.hints self.new.hints }
+        ensures sound { IsSound N.setting self.new.hints self.new.seen }
     {
         tables.raise.load(&mut self.hints, place, bucket)
     }
@@ -124,7 +125,8 @@ impl<N: Names> Know<N> {
     }
 
     /// Another one that knows and has seen as much, with the first number of the stock. It is refused exactly where the
-    /// stock is empty.
+    /// stock is empty. What comes with its seat in the book is borne out, so no entry that it has seen is under its
+    /// number.
     pub fn split_numbered(
         &mut self,
         alloc: Global,
@@ -134,12 +136,14 @@ impl<N: Names> Know<N> {
         ensures numbered { IfOk result (λ new. new ≡ numbered_knowledge self.old) }
         ensures left { OnOk result (self.new ≡ after_numbering self.old) }
         ensures kept { OnErr result (self.new ≡ self.old) }
+        ensures borne_out { IfOk result (λ new. IsPurseBorneOut new.seen new.purse) }
         ensures sound { IfOk result (λ new. IsSound N.setting new.hints new.seen) }
     {
         let sight = self.sight.copy(alloc)?;
-        let Some(book) = tables.book.split_numbered(&mut self.book) else {
+        let Some(mut book) = tables.book.split_numbered(&mut self.book) else {
             return Err(Refusal::Fault(NumbersSpent));
         };
+        tables.book.confirm(&mut book);
         Ok(Know {
             hints: tables.raise.split(&mut self.hints),
             book,

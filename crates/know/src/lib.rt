@@ -4,6 +4,7 @@
 mod answers;
 mod ends;
 mod knows;
+mod lending;
 mod names;
 mod tables;
 
@@ -12,6 +13,3 @@ pub use ends::Ended;
 pub use knows::Know;
 pub use names::Names;
 pub use tables::Tables;
-
-#[cfg(test)]
-mod tests;

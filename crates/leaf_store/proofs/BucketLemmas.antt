@@ -1,7 +1,8 @@
 -- Buckets of a series are below their number, and sets of them grow.
-use Rattle.std.proofs.Common.{◌≡◌, ◌∙◌, ℕ, ◌+◌, ◌<◌, ◌≤◌, ◌==◌, nat_lt, Bool, true, false, ◌&&◌, ◌||◌, Option, Some}
-use Rattle.std.proofs.Common.{None, IfSome, List, [], ◌∷◌, ◌++◌, map, refl, sym, ap, append-nil, arith}
+use Rattle.std.proofs.Common.{◌≡◌, ◌∙◌, ℕ, ◌+◌, ◌<◌, ◌≤◌, ◌==◌, nat_lt, Bool, true, false, not, ◌&&◌, ◌||◌, Option}
+use Rattle.std.proofs.Common.{Some, None, IfSome, List, [], ◌∷◌, ◌++◌, map, refl, sym, ap, append-nil, arith}
 use Rattle.std.specs.List.{AllByRecursion, flat_map, zip}
+use Rattle.std.proofs.lemmas.Bool.{and_parts}
 use Rattle.std.proofs.lemmas.Bool.Decides.{nat_tests}
 use Rattle.std.proofs.lemmas.List.Concat.{flat_map-append}
 use Rattle.std.proofs.lemmas.Nat.{mod_below}
@@ -11,7 +12,7 @@ use Rattle.mon_hints.specs.Fingerprints.{bucket_of, fingerprint_of}
 use Rattle.mon_hints.specs.Hints.{field_buckets, series_buckets, value_buckets}
 use Rattle.mon_hints.specs.Listings.{is_among}
 use Rattle.mon_value.specs.declared.limits.TheConstants.{MOST_BUCKETS}
-use Rattle.mon_schema.specs.SchemaLists.{SchemaLists}
+use Rattle.mon_schema.specs.SchemaLists.{SchemaLists, metric_named, target_named}
 use Rattle.mon_value.specs.declared.histories.Entry.{Entry}
 use Rattle.mon_value.specs.declared.rows.Row.{Row}
 use Rattle.mon_value.specs.declared.rows.SeriesKey.{SeriesKey}
@@ -21,7 +22,7 @@ use Rattle.mon_value.specs.declared.schemas.TargetSchema.{TargetSchema}
 use Rattle.mon_value.specs.declared.values.FieldValue.{FieldValue}
 use Rattle.mon_hints.specs.HistoryBuckets.{history_buckets, rows_buckets}
 use Rattle.mon_value.specs.LeafHistories.{brought_rows, leaf_rows}
-use Rattle.leaf_store.specs.LeafBuckets.{key_buckets}
+use Rattle.leaf_store.specs.LeafBuckets.{buckets_by, is_unraised, key_buckets}
 
 -- ---- below their number
 
@@ -71,6 +72,29 @@ pub bucket_below : (buckets bucket : ℕ) (target : TargetSchema) (metric : Metr
     is_among bucket (series_buckets buckets target metric key) ≡ true → bucket < buckets
 bucket_below buckets bucket target metric key some found = among_below buckets bucket
     (series_buckets buckets target metric key) (series_below buckets target metric key some) found
+
+module _ (buckets bucket : ℕ) (held : SchemaLists) (key : SeriesKey) (some : 0 < buckets) where
+  by_schemas : (target : Option TargetSchema) (metric : Option MetricSchema)
+      → is_among bucket (buckets_by buckets target metric key) ≡ true → bucket < buckets
+  by_schemas None metric found = absurd cc
+  by_schemas (Some target) None found = absurd cc
+  by_schemas (Some target) (Some metric) found = bucket_below buckets bucket target metric key some found
+
+  pub key_below : is_among bucket (key_buckets buckets held key) ≡ true → bucket < buckets
+  key_below = by_schemas (target_named key.target.schema held.targets) (metric_named key.metric held.metrics)
+
+  pub unraised_below : (history : List Entry) → is_unraised buckets held history key bucket ≡ true → bucket < buckets
+  unraised_below history found =
+      key_below (and_parts (is_among bucket (key_buckets buckets held key))
+      (not (is_among bucket (history_buckets (key_buckets buckets held) history))) found).0
+
+pub next_among : (found : Option ℕ) (buckets from : ℕ) (target : TargetSchema) (metric : MetricSchema)
+    (key : SeriesKey) → 0 < buckets
+    → IfSome found (λ next. IsNext (λ bucket. is_among bucket (series_buckets buckets target metric key)) from next)
+    → IfSome found (λ bucket. bucket < buckets)
+next_among None buckets from target metric key some least = tt
+next_among (Some next) buckets from target metric key some least =
+    bucket_below buckets next target metric key some least.among
 
 pub next_below : (found : Option ℕ) (buckets from : ℕ) (target : TargetSchema) (metric : MetricSchema)
     (key : SeriesKey) → 0 < buckets → buckets ≤ MOST_BUCKETS

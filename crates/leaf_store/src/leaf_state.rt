@@ -1,5 +1,5 @@
 // The state of a leaf.
-ghost use Rattle.std.specs.Prelude.{◌≡◌, ◌++◌, ◌∷◌, ◌-◌, ◌<◌, ◌≤◌, ◌+◌, Bool, is_some, [], length, take};
+ghost use Rattle.std.specs.Prelude.{◌≡◌, ◌++◌, ◌∷◌, ◌-◌, ◌<◌, ◌≤◌, ◌+◌, ◌^◌, Bool, is_some, [], length, take};
 ghost use Rattle.std.specs.Prelude.{drop, false};
 ghost use Rattle.std.specs.Prelude.{true, IfOk, IfSome, IfNone, OnOk, OnErr, IsTrue, vec_capacity};
 ghost use Rattle.std.specs.List.{count_by};
@@ -135,12 +135,13 @@ impl LeafState {
         self.down
     }
 
-    /// How many entries the history has. It is one that a leaf can have.
+    /// How many entries the history has: fewer than 2^62, as they lie in memory. It is one that a leaf can have.
     pub fn length(&self) -> u64
         ensures length { result ≡ length self.now.history }
+        ensures short { result < 2 ^ 62 }
         ensures formed { IsWellFormed self.now.history }
     {
-        (self.kept.len() + (self.fresh.len() - self.moved)) as u64
+        (self.kept.len() + (self.fresh.as_slice().len() - self.moved)) as u64
     }
 
     /// Whether a series of the history has a bucket.
@@ -236,8 +237,9 @@ impl LeafState {
         takes(&self.replicas, replica, row)
     }
 
-    // Whether the leaf is down, or up, and may be switched.
-    fn may_switch(&self, down: bool) -> bool
+    /// Whether the leaf is down, or up, as is told, and a switch may still come: so whether it may be switched from
+    /// that to the other. The state need not be settled.
+    pub fn may_switch(&self, down: bool) -> bool
         ensures formed { IsWellFormed self.now.history }
         ensures may { IsTrue result → (is_down self.now.history ≡ down)
             × (count_by is_switch self.now.history < MOST_SWITCHES) }
@@ -248,6 +250,13 @@ impl LeafState {
             return false;
         }
         0 < self.switches_left
+    }
+
+    /// How many switches may still come. The state need not be settled.
+    pub fn switches_left(&self) -> u64
+        ensures left { count_by is_switch self.now.history + result ≡ MOST_SWITCHES }
+    {
+        self.switches_left as u64
     }
 
     /// Appends an entry. One with rows takes the place that was promised; a switch has its place since `new`. No
@@ -328,12 +337,14 @@ impl LeafState {
         Ok(())
     }
 
-    /// The least bucket of a series, at or above a number, that no series of the history has. No memory is taken.
+    /// The least bucket of a series, at or above a number, that no series of the history has. It is one of the leaf's
+    /// buckets. No memory is taken.
     pub fn next_unraised(&self, key: &SeriesKey, from: u32) -> Option<u32>
         ensures least { IfSome result (λ next.
             IsNext (is_unraised self.now.buckets self.now.schemas self.now.history key.now) from next) }
         ensures none { IfNone result
             (HasNone (is_unraised self.now.buckets self.now.schemas self.now.history key.now) from) }
+        ensures below { IfSome result (λ next. next < self.now.buckets) }
     {
         let Some(target) = self.schemas.target(key.target.schema.as_bytes()) else {
             return None;

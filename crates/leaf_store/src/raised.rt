@@ -135,6 +135,7 @@ impl Raised {
             (series_buckets buckets target.now metric.now key.now)) from next) }
         ensures none { IfNone result (HasNone (is_left (is_set self.now.words)
             (series_buckets buckets target.now metric.now key.now)) from) }
+        ensures among { IfSome result (λ next. next < buckets) }
     {
         let mut place = from;
         while let Some(bucket) = next_below(key, target, metric, buckets, place) {
@@ -191,7 +192,7 @@ fn known_series(replicas: &Replicas, entry: &Entry, guess: u32) -> Option<KeptSe
     }
 }
 
-// The least bucket of a series at or above a number, which is below the number of buckets.
+// The least bucket of a series at or above a number.
 fn next_below(
     key: &SeriesKey,
     target: &TargetSchema,
@@ -202,6 +203,7 @@ fn next_below(
     requires some { 0 < buckets }
     requires most { buckets ≤ MOST_BUCKETS }
     ensures below { IfSome result (λ bucket. bucket < MOST_BUCKETS) }
+    ensures among { IfSome result (λ bucket. bucket < buckets) }
     ensures least { IfSome result (λ next. IsNext (λ bucket. is_among bucket
         (series_buckets buckets target.now metric.now key.now)) from next) }
     ensures none { IfNone result (HasNone (λ bucket. is_among bucket

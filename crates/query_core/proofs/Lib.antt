@@ -4,11 +4,15 @@ mod AreaLemmas
 mod ChosenLeaves
 mod DividedRows
 mod FindingLemmas
+mod FoundsTold
 pub mod HintFacts
 mod MixLemmas
 mod MixedParts
+mod NamedLeaves
 mod NextPlaces
 mod OpeningLemmas
+mod OrderLemmas
+mod OrderSteps
 mod PartClaims
 mod PlaceFacts
 mod ReadLeaves
@@ -18,6 +22,7 @@ mod RoundLemmas
 mod SeenSpans
 mod SegmentFacts
 mod SentRows
+mod SentSums
 mod SessionEnds
 mod SessionParts
 mod Spans

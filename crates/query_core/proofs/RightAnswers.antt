@@ -1,7 +1,7 @@
 -- What a licensed session keeps of its trace and of its leaves' answers together, and so how it ends.
-use Rattle.std.proofs.Common.{◌≡◌, ◌∙◌, ◌≤ℤ◌, ◌-◌, ◌⊎◌, inl, inr, ℕ, ℤ, pos, zero, suc, false, List, [], ◌∷◌, length}
-use Rattle.std.proofs.Common.{map, take, get_or, refl, sym, ap, subst, arith, Result, Ok, Err}
-use Rattle.std.specs.List.{AllByRecursion}
+use Rattle.std.proofs.Common.{◌≡◌, ◌∙◌, ◌≤ℤ◌, ◌-◌, ◌+◌, ◌⊎◌, inl, inr, ℕ, ℤ, pos, zero, suc, false, List, [], ◌∷◌}
+use Rattle.std.proofs.Common.{length, map, take, get_or, refl, sym, ap, subst, arith, Result, Ok, Err}
+use Rattle.std.specs.List.{AllByRecursion, sum}
 use Rattle.mon_hints.specs.Formulas.{all_named, formula_tree, formulas}
 use Rattle.mon_hints.specs.Listings.{AreAmong}
 use Rattle.mon_topo.proofs.HeldLemmas.{seen_within_itself, seen_within_through}
@@ -35,10 +35,12 @@ use Rattle.query_core.specs.Machine.{Query, avoided_after, new_query, slots_at}
 use Rattle.query_core.specs.Mixtures.{typed_of, zone_turn}
 use Rattle.query_core.specs.Program as spec
 use Rattle.query_core.specs.Rounds.{slots_on}
+use Rattle.query_core.specs.SentTold.{sent_told}
 use Rattle.query_core.specs.Sessions as session
 use Rattle.query_core.specs.Sessions.{IsSound, View}
 use Rattle.query_core.specs.Settings.{QuerySetting}
 use Rattle.query_core.specs.Traces.{IsFirstServing, is_wanted, slot_rows}
+use Rattle.query_core.proofs.SentSums.{StageSent, sent_session}
 use Rattle.query_core.proofs.SessionEnds.{sound_then, stage_last}
 use Rattle.query_core.proofs.PartClaims.{EndParts, StageParts}
 use Rattle.query_core.proofs.ReadLeaves.{cuts_of, flags_of}
@@ -230,3 +232,14 @@ module _ (store : Setting) (setting : QuerySetting) (moment : ℤ) (asked : IsAs
       ≡ at.Ended (Err (fault.NoReplica range named))
       → HasNoReplica store.zones view.seen exit.seen range named
   none_rightly range named ended = claim_at (Err (fault.NoReplica range named)) ended
+
+  -- where no leaf was found down, as much was sent as was told
+  pub sent_rightly : (answer : Answer) → last.stage ≡ at.Ended (Ok answer) → answer.trace.down ≡ []
+      → sum answer.trace.sent ≡ sent_told store setting moment events
+  sent_rightly answer ended =
+      let so = sent_session store setting moment (TellsOf setting) asked.areas
+      (AreKept store setting moment asked view.seen) (keeps store setting moment asked view.seen) events view
+      (new_query setting) 0 sound (kept_first store setting moment asked view.seen view refl sound) tt refl licensed in
+      let plain : 0 + sent_told store setting moment events ≡ sent_told store setting moment events = omega arith in
+      subst (λ (stage : Stage). StageSent (sent_told store setting moment events) stage) ended
+      (subst (λ (n : ℕ). StageSent n last.stage) plain so)

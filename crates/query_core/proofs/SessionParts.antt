@@ -126,7 +126,7 @@ module _ (store : Setting) (setting : QuerySetting) (moment : ℤ) (Tells : Hist
     })),
   )
 
-  step_parts : (now : Histories) (some : Step) (new : Stage) → StepParts store setting moment Tells now some
+  pub step_parts : (now : Histories) (some : Step) (new : Stage) → StepParts store setting moment Tells now some
       → StepTells now some → Settles setting some new → StageParts store setting moment Tells now new
   step_parts now (step.Takes turn) new so tells is = turn_parts now turn new so tells is
   step_parts now (step.Gathered course parts) new so tells is =

@@ -15,7 +15,7 @@ use Rattle.query_core.specs.Courses.{with_next_zone, is_entered, left}
 use Rattle.query_core.specs.Loadings.{no_word, with_word}
 use Rattle.query_core.specs.Mixtures.{LeadsTo, MayBeTold, MayMix, Settles}
 use Rattle.query_core.specs.declared.asks.Told.{Told}
-use Rattle.query_core.specs.Program.{after, loaded_again, next_zone, told_word}
+use Rattle.query_core.specs.Program.{after, loaded_again, next_zone}
 use Rattle.query_core.specs.Areas.{has_leaf}
 use Rattle.query_core.specs.Machine.{slots_in}
 use Rattle.query_core.specs.Rounds.{Round, round_of, slots_on}
@@ -56,15 +56,12 @@ no_leaf_left leaves i done = ap first_left (drop_all i leaves done)
 
 -- ---- a word that is loaded again
 
-pub word_again : {E : Type 0} (setting : QuerySetting) (stage : Stage) (course : Course) (round : Round)
-    (loading loaded : Loading)
-    (word : ℕ) (seen : Seen) (result : Result Step E) → stage ≡ at.Reloading course round loading
-    → loaded ≡ with_word loading word seen
+pub word_again : {E : Type 0} (setting : QuerySetting) (course : Course) (round : Round) (loading loaded : Loading)
+    (word : ℕ) (seen : Seen) (result : Result Step E) → loaded ≡ with_word loading word seen
     → IfOk result (λ step. step ≡ loaded_again setting course round loaded)
-    → IfOk result (λ step. step ≡ told_word setting stage word seen)
-word_again setting stage course round loading loaded word seen result is same given =
-    subst (λ (s : Stage). IfOk result (λ step. step ≡ told_word setting s word seen)) (sym is)
-    (subst (λ (l : Loading). IfOk result (λ step. step ≡ loaded_again setting course round l)) same given)
+    → IfOk result (λ step. step ≡ loaded_again setting course round (with_word loading word seen))
+word_again setting course round loading loaded word seen result same given =
+    subst (λ (l : Loading). IfOk result (λ step. step ≡ loaded_again setting course round l)) same given
 
 -- ---- where an answer leads
 

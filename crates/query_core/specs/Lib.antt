@@ -9,10 +9,13 @@ pub mod Looks
 pub mod Machine
 pub mod Mixtures
 pub mod Openings
+pub mod Orders
 pub mod Program
 pub mod ReadableSlots
 pub mod Rounds
+pub mod SentTold
 pub mod Sessions
 pub mod Settings
+pub mod ToldDowns
 pub mod Traces
 pub mod Visits

@@ -74,17 +74,19 @@ pub record IsZoneWord (zones : List ZoneSpec) (before : View) (zone : Zone) (buc
       → before.bits.zone leaf.0 bucket ≡ true → has_bit word (leaf.0 - first_leaf zones zone.0) ≡ true
   pub seen_so : IsSeenSo before.seen told
 
--- a range resolves so at a length that is found now
+-- a range resolves so at the length that is found now, and all of it is seen then
 pub record IsResolvedSo (before after : View) (avoided : List Leaf) (range : Range) (found_slot : Option SlotLeaf)
     : Type 0 where
   pub found : ℕ
   pub between : IsBetween (length (range_history before.seen range)) (length (range_history after.seen range)) found
   pub first : first_serving avoided (take found (range_history after.seen range)) ≡ found_slot
+  pub whole : found ≡ length (range_history after.seen range)
 
--- a leaf is found so at a length that is found now
+-- a leaf is found so at the length that is found now, and all of it is seen then
 pub record IsFoundSo (before after : View) (leaf : Leaf) (cut : ℕ) (down : Bool) : Type 0 where
   pub between : IsBetween (length (leaf_history before.seen leaf)) (length (leaf_history after.seen leaf)) cut
   pub is : is_down (take cut (leaf_history after.seen leaf)) ≡ down
+  pub whole : cut ≡ length (leaf_history after.seen leaf)
 
 module _ (store : Setting) (setting : QuerySetting) (moment : ℤ) where
   -- whether a formula holds of a leaf's buckets at a cut

@@ -6,7 +6,7 @@ use mql_types::OpLevels;
 use std::alloc::Global;
 
 /// The slot that a range resolved to, and its leaf.
-#[derive(Clone, Copy, Debug, PartialEq, Eq)]
+#[derive(Clone, Copy, PartialEq, Eq)]
 pub struct Resolved {
     pub range: Range,
     pub slot: Slot,

@@ -5,7 +5,7 @@ use mon_value::{Leaf, Range, Slot, TryCopy, Zone};
 use std::alloc::{AllocError, Global};
 
 /// The next event of a query.
-#[derive(Debug, PartialEq, Eq, Drop)]
+#[derive(PartialEq, Eq, Drop)]
 pub enum Ask {
     /// Load the root's word of a bucket.
     LoadRoot(u32),

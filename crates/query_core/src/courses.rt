@@ -14,6 +14,7 @@ use crate::settings::QuerySetting;
 use mixer::{ZoneAnswer, ZoneAnswers};
 use mon_value::{FoundDown, Founds, Leaf, OutOfMemory};
 use std::alloc::Global;
+use std::mem;
 
 /// What had been seen by the first root word, which zones the root words let in, and how many zones were begun; of the
 /// zones that are behind, what their ranges resolved to, what is known of their leaves, and their answers; and which
@@ -111,23 +112,47 @@ impl Course {
     pub(crate) fn into_trace(self, alloc: Global) -> Result<Trace, OutOfMemory>
         ensures trace { IfOk result (λ trace. trace ≡ spec.trace_of self) }
     {
-        drop(self.answers);
-        drop(self.entered);
-        let mut resolved = self.resolved;
-        let mut looks = self.looks;
-        let firsts = self.seen.firsts;
-        let cuts = self.seen.cuts;
-        let ranges = resolved.len();
-        let leaves = looks.len();
-        add_resolved(&mut resolved, from_place(firsts.as_slice(), ranges))?;
-        add_unread(&mut looks, from_place(cuts.as_slice(), leaves))?;
+        let mut course = self;
+        let trace = course.take_trace(alloc);
+        drop(course);
+        trace
+    }
+
+    // Takes what was looked at out of the course.
+    fn take_trace(&mut self, alloc: Global) -> Result<Trace, OutOfMemory>
+        ensures trace { IfOk result (λ trace. trace ≡ spec.trace_of self.old) }
+    {
+        self.pass_rest()?;
+        let looks = self.looks.as_slice();
+        let cuts = cuts_of(alloc, looks)?;
+        let read = read_of(alloc, looks)?;
+        let sent = sent_of(alloc, looks)?;
         Ok(Trace {
-            resolved,
-            cuts: cuts_of(alloc, looks.as_slice())?,
-            read: read_of(alloc, looks.as_slice())?,
-            down: self.founds,
-            sent: sent_of(alloc, looks.as_slice())?,
+            resolved: mem::replace(&mut self.resolved, Resolveds::new(alloc)),
+            cuts,
+            read,
+            down: mem::replace(&mut self.founds, Founds::new(alloc)),
+            sent,
         })
+    }
+
+    // Is through with the zones that the query did not come to: they stand as they had been seen by the first root
+    // word.
+    fn pass_rest(&mut self) -> Result<(), OutOfMemory>
+        ensures resolved { OnOk result (self.new.resolved ≡ spec.all_resolved self.old) }
+        ensures looks { OnOk result (self.new.looks ≡ spec.all_looks self.old) }
+        ensures founds { self.new.founds ≡ self.old.founds }
+    {
+        let ranges = self.resolved.len();
+        let leaves = self.looks.len();
+        add_resolved(
+            &mut self.resolved,
+            from_place(self.seen.firsts.as_slice(), ranges),
+        )?;
+        add_unread(
+            &mut self.looks,
+            from_place(self.seen.cuts.as_slice(), leaves),
+        )
     }
 }
 

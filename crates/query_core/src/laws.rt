@@ -1,5 +1,7 @@
 // What holds of every query's session.
-ghost use Rattle.std.specs.Prelude.{◌≡◌, ◌≤ℤ◌, ℕ, ℤ, pos, List, length, take, Ok, Err};
+ghost use Rattle.std.specs.Prelude.{◌≡◌, ◌<◌, ◌≤ℤ◌, ℕ, ℤ, pos, List, [], Result, Contains, length, take, Ok, Err};
+ghost use Rattle.std.specs.List.{sum};
+ghost use Rattle.std.specs.List.Sorted.{IsStrictlyIncreasing};
 ghost use Rattle.mon_value.specs.Histories.{leaf_history};
 ghost use Rattle.mon_topo.specs.Settings.{Setting};
 ghost use Rattle.mon_value.specs.declared.positions.FoundDown.{FoundDown as Found};
@@ -11,12 +13,16 @@ ghost use Rattle.query_core.specs.Askings.{IsAskedOf};
 ghost use Rattle.query_core.specs.Findings.{HasNoReplica};
 ghost use Rattle.query_core.specs.Machine.{Query, new_query, slots_at};
 ghost use Rattle.query_core.specs.Mixtures.{MayBeTold, typed_of};
+ghost use Rattle.query_core.specs.Orders.{ComeInOrder, ComeWholeInOrder, events_told, words_loaded};
 ghost use Rattle.query_core.specs.Program.{ask_of};
 ghost use Rattle.query_core.specs.ReadableSlots.{CanBeRead};
+ghost use Rattle.query_core.specs.SentTold.{sent_told};
 ghost use Rattle.query_core.specs.Sessions.{Event, IsGrown, IsLicensed, IsSound, IsTrueAnswer, View, query_after};
 ghost use Rattle.query_core.specs.Sessions.{view_after};
 ghost use Rattle.query_core.specs.Settings.{QuerySetting};
+ghost use Rattle.query_core.specs.ToldDowns.{EndNames, downs_told};
 ghost use Rattle.query_core.specs.Traces.{IsBetween};
+ghost use Rattle.query_core.specs.declared.answers.RoundFault.{RoundFault as FaultOf};
 ghost use Rattle.query_core.specs.declared.answers.Answer.{Answer as AnswerOf};
 ghost use Rattle.query_core.specs.declared.answers.RoundFault.TheVariants.{NoReplica, StepLimit};
 ghost use Rattle.query_core.specs.declared.answers.Trace.{Trace as TraceOf};
@@ -51,6 +57,46 @@ pub fn sessions_answer_rightly()
         → IsLicensed store setting moment view (new_query setting) events
         → (query_after store setting moment (new_query setting) events).stage ≡ Ended (Err (NoReplica range named))
         → HasNoReplica store.zones view.seen (view_after store setting moment view events).seen range named }
+{}
+
+/// Each leaf that the end of a licensed session's query names as down was told so in the session, with that cut.
+pub fn ends_name_what_was_told()
+    ensures named { (store : Setting) (setting : QuerySetting) (moment : ℤ) (view : View)
+        (events : List (Event store setting moment)) (end : Result AnswerOf FaultOf)
+        → IsLicensed store setting moment view (new_query setting) events
+        → (query_after store setting moment (new_query setting) events).stage ≡ Ended end
+        → EndNames (Contains (downs_told store setting moment (new_query setting) events)) end }
+{}
+
+/// Where no leaf was found down, the trace of a licensed session's table counts all that its leaves sent: as much as
+/// the session was told.
+pub fn traces_count_what_was_sent()
+    ensures sent { (store : Setting) (setting : QuerySetting) (moment : ℤ) (view : View)
+        (events : List (Event store setting moment)) (answer : AnswerOf)
+        → IsAskedOf store setting → pos 0 ≤ℤ moment → IsSound store view
+        → IsLicensed store setting moment view (new_query setting) events
+        → (query_after store setting moment (new_query setting) events).stage ≡ Ended (Ok answer)
+        → answer.trace.down ≡ [] → sum answer.trace.sent ≡ sent_told store setting moment events }
+{}
+
+/// The events of a licensed session come in one order, whatever it is told: the root's words, in ascending order of
+/// their buckets; then each zone that they let in, in the order of the zones. In a zone its words are loaded; then, in
+/// each round, each of its ranges resolves, its words are loaded again, and leaves are visited, in the zone's order. A
+/// query that ends with a table has been through all zones that the root's words let in.
+pub fn sessions_keep_the_order()
+    ensures ascending { (store : Setting) (setting : QuerySetting) → IsAskedOf store setting
+        → IsStrictlyIncreasing setting.plan.buckets }
+    ensures ordered { (store : Setting) (setting : QuerySetting) (moment : ℤ) (view : View)
+        (events : List (Event store setting moment)) → 0 < length setting.plan.buckets
+        → IsLicensed store setting moment view (new_query setting) events
+        → ComeInOrder setting (words_loaded store setting moment events)
+        (events_told store setting moment (new_query setting) events) }
+    ensures whole { (store : Setting) (setting : QuerySetting) (moment : ℤ) (view : View)
+        (events : List (Event store setting moment)) (answer : AnswerOf) → 0 < length setting.plan.buckets
+        → IsLicensed store setting moment view (new_query setting) events
+        → (query_after store setting moment (new_query setting) events).stage ≡ Ended (Ok answer)
+        → ComeWholeInOrder setting (words_loaded store setting moment events)
+        (events_told store setting moment (new_query setting) events) }
 {}
 
 /// What a licensed session of a query that is asked of a store asks next may be told truly, by what is seen and known

@@ -19,6 +19,9 @@ mod visits;
 
 pub use answers::{Answer, Cuts, Flags, Resolved, Resolveds, RoundFault, Trace};
 pub use asks::{Ask, Seen, Told};
-pub use laws::{sessions_answer_rightly, sessions_may_go_on};
+pub use laws::{
+    ends_name_what_was_told, sessions_answer_rightly, sessions_keep_the_order, sessions_may_go_on,
+    traces_count_what_was_sent,
+};
 pub use machine::QueryMachine;
 pub use openings::is_let_in;

@@ -92,6 +92,14 @@ impl QueryMachine {
         self.setting.plan()
     }
 
+    /// The limit of its load.
+    pub fn limit(&self) -> u64
+        ensures limit { result ≡ self.now.setting.limit }
+        ensures most { result ≤ 2 ^ ROW_BITS }
+    {
+        self.setting.limit()
+    }
+
     /// The leaves that were found down.
     pub fn avoided(&self) -> &Leaves
         ensures avoided { result.now ≡ self.now.avoided }

@@ -59,7 +59,10 @@ fn mixed_zone(
             turned(setting, turn)
         }
         Err(Refusal::Fault(_over)) => stopped(setting, course),
-        Err(Refusal::OutOfMemory) => Err(AllocError),
+        Err(Refusal::OutOfMemory) => {
+            drop(course);
+            Err(AllocError)
+        }
     }
 }
 
@@ -90,6 +93,9 @@ fn mixed_root(setting: &QuerySetting, course: Course) -> Result<Stage, OutOfMemo
             levels: op_levels(alloc, &setting.plan().typed)?,
         }))),
         Err(Refusal::Fault(_over)) => stopped(setting, course),
-        Err(Refusal::OutOfMemory) => Err(AllocError),
+        Err(Refusal::OutOfMemory) => {
+            drop(course);
+            Err(AllocError)
+        }
     }
 }

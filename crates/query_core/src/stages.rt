@@ -1,8 +1,11 @@
 // How far a query is, and what each answer makes of that.
-ghost use Rattle.std.specs.Prelude.{◌≡◌, drop, IfOk};
+ghost use Rattle.std.specs.Prelude.{◌≡◌, drop, IfOk, OnOk};
 ghost use Rattle.std.specs.Option.{option_copied};
-ghost use Rattle.query_core.specs.Courses.{left};
+ghost use Rattle.query_core.specs.Areas.{IsSmall};
+ghost use Rattle.query_core.specs.Courses.{left, with_found};
+ghost use Rattle.query_core.specs.Loadings.{no_word, with_word};
 ghost use Rattle.query_core.specs.Program as spec;
+ghost use Rattle.query_core.specs.Rounds.{round_of, with_slot};
 
 use crate::answers::{Answer, RoundFault};
 use crate::areas::Area;
@@ -16,6 +19,7 @@ use crate::settings::QuerySetting;
 use crate::visits::Visits;
 use mon_fold::{LeafAnswer, LeafAnswers};
 use mon_value::{Leaf, OutOfMemory, Range, Slot};
+use std::alloc::Global;
 
 /// How far a query is.
 #[derive(Drop)]
@@ -85,14 +89,17 @@ impl Stage {
         ensures step { IfOk result (λ step. step ≡ spec.told_word setting.now self word seen) }
     {
         match self {
-            Stage::Rooting(loading) => loaded_root(setting, loading.with_word(word, seen)?),
+            Stage::Rooting(loading) => load_root(setting, loading, word, seen),
             Stage::Entering(course, round, loading) => {
-                loaded_zone(setting, course, round, loading.with_word(word, seen)?)
+                load_zone(setting, course, round, loading, word, seen)
             }
             Stage::Reloading(course, round, loading) => {
-                loaded_again(setting, course, round, loading.with_word(word, seen)?)
+                load_again(setting, course, round, loading, word, seen)
             }
-            stage => Ok(going(stage)),
+            stage => {
+                drop(seen);
+                Ok(going(stage))
+            }
         }
     }
 
@@ -102,7 +109,7 @@ impl Stage {
     {
         match self {
             Stage::Resolving(course, round, range) => {
-                Ok(resolving(setting, course, round.with_slot(range, slot, leaf)?))
+                resolve(setting, course, round, range, slot, leaf)
             }
             stage => Ok(going(stage)),
         }
@@ -114,8 +121,10 @@ impl Stage {
     {
         match self {
             Stage::Resolving(course, round, range) => {
-                let founds = course.founds_in(setting.alloc(), &round.area())?;
-                Ok(refused(RoundFault::NoReplica(range, founds)))
+                let founds = course.founds_in(setting.alloc(), &round.area());
+                drop(course);
+                drop(round);
+                Ok(refused(RoundFault::NoReplica(range, founds?)))
             }
             stage => Ok(going(stage)),
         }
@@ -126,11 +135,11 @@ impl Stage {
         ensures step { IfOk result (λ step. step ≡ spec.told_down self cut) }
     {
         match self {
-            Stage::Visiting(course, round, _visits, leaf) => {
-                let mut course = course;
-                course.find(leaf, cut)?;
-                let again = Round::new(setting.alloc(), round.area())?;
-                Ok(resolving(setting, course, again))
+            Stage::Visiting(course, round, visits, leaf) => {
+                drop(visits);
+                let area = round.area();
+                drop(round);
+                begin_again(setting, course, area, leaf, cut)
             }
             stage => Ok(going(stage)),
         }
@@ -157,11 +166,20 @@ impl Stage {
         match self {
             Stage::Visiting(course, round, visits, leaf) => {
                 let mut visits = visits;
-                visits.look(leaf, Look::read(cut, answer.sent));
-                visits.keep(answer)?;
-                visiting(course, round, visits)
+                match visits.read(leaf, cut, answer) {
+                    Ok(()) => visiting(course, round, visits),
+                    Err(fault) => {
+                        drop(course);
+                        drop(round);
+                        drop(visits);
+                        Err(fault)
+                    }
+                }
             }
-            stage => Ok(going(stage)),
+            stage => {
+                drop(answer);
+                Ok(going(stage))
+            }
         }
     }
 
@@ -173,8 +191,9 @@ impl Stage {
             Stage::Visiting(course, round, visits, leaf) => {
                 let mut visits = visits;
                 visits.look(leaf, Look::unread(cut));
-                let (course, _answers) = gathered(course, round, visits)?;
-                Ok(Step::Takes(Turn::Goes(stopped(setting, course)?)))
+                let (course, answers) = gathered(course, round, visits)?;
+                drop(answers);
+                stop(setting, course)
             }
             stage => Ok(going(stage)),
         }
@@ -201,13 +220,42 @@ pub(crate) fn stopped(setting: &QuerySetting, course: Course) -> Result<Stage, O
     Ok(Stage::Ended(Err(RoundFault::StepLimit(setting.limit(), trace))))
 }
 
+// The query ends because its load is above the limit.
+fn stop(setting: &QuerySetting, course: Course) -> Result<Step, OutOfMemory>
+    ensures step { IfOk result (λ step. step ≡ spec.going (spec.stopped_stage setting.now course)) }
+{
+    let stage = stopped(setting, course)?;
+    Ok(going(stage))
+}
+
+// Goes on from a course to the next zone.
+fn go_on(setting: &QuerySetting, course: Course) -> Result<Step, OutOfMemory>
+    ensures step { IfOk result (λ step. step ≡ spec.on_from setting.now course) }
+{
+    let turn = next_zone(setting, course)?;
+    Ok(Step::Takes(turn))
+}
+
+// Loads a word of the root's.
+fn load_root(
+    setting: &QuerySetting,
+    loading: Loading,
+    word: u64,
+    seen: Seen,
+) -> Result<Step, OutOfMemory>
+    ensures step { IfOk result (λ step. step ≡ spec.loaded_root setting.now (with_word loading word seen)) }
+{
+    let loading = loading.with_word(word, seen)?;
+    loaded_root(setting, loading)
+}
+
 // A word of the root's was loaded.
 fn loaded_root(setting: &QuerySetting, loading: Loading) -> Result<Step, OutOfMemory>
     ensures step { IfOk result (λ step. step ≡ spec.loaded_root setting.now loading) }
 {
     if loading.is_whole(setting.plan()) {
         let course = Course::new(setting, loading)?;
-        Ok(Step::Takes(next_zone(setting, course)?))
+        go_on(setting, course)
     } else {
         Ok(going(Stage::Rooting(loading)))
     }
@@ -221,13 +269,55 @@ pub(crate) fn next_zone(setting: &QuerySetting, course: Course) -> Result<Turn, 
     while course.begun < setting.areas().len() {
         let area = setting.areas()[course.begun];
         if course.begin() {
-            let alloc = setting.alloc();
-            let round = Round::new(alloc, area)?;
-            return Ok(Turn::Goes(Stage::Entering(course, round, Loading::none(alloc))));
+            return entering(setting, course, area);
         }
-        course.pass(&area)?;
+        match course.pass(&area) {
+            Ok(()) => {}
+            Err(fault) => {
+                drop(course);
+                return Err(fault);
+            }
+        }
     }
     Ok(Turn::Through(course))
+}
+
+// Goes on to the words of a zone that the root's let in.
+fn entering(setting: &QuerySetting, course: Course, area: Area) -> Result<Turn, OutOfMemory>
+    requires small { IsSmall area }
+    ensures turn { IfOk result
+        (λ turn. turn ≡ Turn.Goes (Stage.Entering course (round_of area) no_word)) }
+{
+    let alloc = setting.alloc();
+    match Round::new(alloc, area) {
+        Ok(round) => Ok(Turn::Goes(Stage::Entering(course, round, Loading::none(alloc)))),
+        Err(fault) => {
+            drop(course);
+            Err(fault)
+        }
+    }
+}
+
+// Loads a zone's word for the first time.
+fn load_zone(
+    setting: &QuerySetting,
+    course: Course,
+    round: Round,
+    loading: Loading,
+    word: u64,
+    seen: Seen,
+) -> Result<Step, OutOfMemory>
+    ensures step { IfOk result
+        (λ step. step ≡ spec.loaded_zone setting.now course round (with_word loading word seen)) }
+{
+    match loading.with_word(word, seen) {
+        Ok(loading) => loaded_zone(setting, course, round, loading),
+        Err(fault) => {
+            drop(course);
+            drop(round);
+            Err(fault)
+        }
+    }
 }
 
 // A zone's word was loaded for the first time.
@@ -256,12 +346,34 @@ fn opened_zone(
     ensures step { IfOk result (λ step. step ≡ spec.opened_zone setting.now course round loading) }
 {
     let area = round.area();
-    let flags = let_in(setting.alloc(), setting.plan(), &loading.words, area.leaves)?;
-    if some_flag(flags.as_slice()) {
-        Ok(resolving(setting, course, round))
-    } else {
-        left_out(setting, course, &area, &loading.seen)
+    match lets_some_in(setting, &area, &loading) {
+        Ok(some) => {
+            if some {
+                drop(loading);
+                Ok(resolving(setting, course, round))
+            } else {
+                drop(round);
+                let left = left_out(setting, course, &area, &loading.seen);
+                drop(loading);
+                left
+            }
+        }
+        Err(fault) => {
+            drop(course);
+            drop(round);
+            drop(loading);
+            Err(fault)
+        }
     }
+}
+
+// Whether the words of a zone let some leaf of it in.
+fn lets_some_in(setting: &QuerySetting, area: &Area, loading: &Loading) -> Result<bool, OutOfMemory>
+    requires small { IsSmall area.now }
+    ensures some { IfOk result (λ some. some ≡ spec.let_some_in setting.now area.now loading.now) }
+{
+    let flags = let_in(setting.alloc(), setting.plan(), &loading.words, area.leaves)?;
+    Ok(some_flag(flags.as_slice()))
 }
 
 // Is through with a zone that its words left out.
@@ -274,8 +386,70 @@ fn left_out(
     ensures step { IfOk result (λ step. step ≡ spec.on_from setting.now (left course area.now seen.now)) }
 {
     let mut course = course;
-    course.leave(area, seen)?;
-    Ok(Step::Takes(next_zone(setting, course)?))
+    match course.leave(area, seen) {
+        Ok(()) => go_on(setting, course),
+        Err(fault) => {
+            drop(course);
+            Err(fault)
+        }
+    }
+}
+
+// A range of the zone resolved to a slot.
+fn resolve(
+    setting: &QuerySetting,
+    course: Course,
+    round: Round,
+    range: Range,
+    slot: Slot,
+    leaf: Leaf,
+) -> Result<Step, OutOfMemory>
+    ensures step { IfOk result (λ step. step ≡ spec.resolving course (with_slot round range slot leaf)) }
+{
+    match round.with_slot(range, slot, leaf) {
+        Ok(round) => Ok(resolving(setting, course, round)),
+        Err(fault) => {
+            drop(course);
+            Err(fault)
+        }
+    }
+}
+
+// A leaf of a zone was found down, and the zone begins again at its first range.
+fn begin_again(
+    setting: &QuerySetting,
+    course: Course,
+    area: Area,
+    leaf: Leaf,
+    cut: u64,
+) -> Result<Step, OutOfMemory>
+    requires small { IsSmall area }
+    ensures step { IfOk result (λ step. step ≡ spec.resolving (with_found course leaf cut) (round_of area)) }
+{
+    let mut course = course;
+    match round_without(setting.alloc(), &mut course, area, leaf, cut) {
+        Ok(round) => Ok(resolving(setting, course, round)),
+        Err(fault) => {
+            drop(course);
+            Err(fault)
+        }
+    }
+}
+
+// A new round of a zone, once it is kept that a leaf of the zone was found down.
+fn round_without(
+    alloc: Global,
+    course: &mut Course,
+    area: Area,
+    leaf: Leaf,
+    cut: u64,
+) -> Result<Round, OutOfMemory>
+    requires small { IsSmall area }
+    ensures found { OnOk result (course.new ≡ with_found course.old leaf cut) }
+    ensures round { IfOk result (λ round. round ≡ round_of area) }
+{
+    course.find(leaf, cut)?;
+    Round::new(alloc, area)
 }
 
 // Goes on to the next range of the zone, or to its words, which are loaded again.
@@ -285,6 +459,28 @@ fn resolving(setting: &QuerySetting, course: Course, round: Round) -> Step
     match round.next_range() {
         Some(range) => going(Stage::Resolving(course, round, range)),
         None => going(Stage::Reloading(course, round, Loading::none(setting.alloc()))),
+    }
+}
+
+// Loads a zone's word again.
+fn load_again(
+    setting: &QuerySetting,
+    course: Course,
+    round: Round,
+    loading: Loading,
+    word: u64,
+    seen: Seen,
+) -> Result<Step, OutOfMemory>
+    ensures step { IfOk result
+        (λ step. step ≡ spec.loaded_again setting.now course round (with_word loading word seen)) }
+{
+    match loading.with_word(word, seen) {
+        Ok(loading) => loaded_again(setting, course, round, loading),
+        Err(fault) => {
+            drop(course);
+            drop(round);
+            Err(fault)
+        }
     }
 }
 
@@ -298,8 +494,16 @@ fn loaded_again(
     ensures step { IfOk result (λ step. step ≡ spec.loaded_again setting.now course round loading) }
 {
     if loading.is_whole(setting.plan()) {
-        let visits = begin_visits(setting, &round, &loading)?;
-        visiting(course, round, visits)
+        let begun = begin_visits(setting, &round, &loading);
+        drop(loading);
+        match begun {
+            Ok(visits) => visiting(course, round, visits),
+            Err(fault) => {
+                drop(course);
+                drop(round);
+                Err(fault)
+            }
+        }
     } else {
         Ok(going(Stage::Reloading(course, round, loading)))
     }
@@ -350,6 +554,14 @@ fn gathered(
 {
     let mut course = course;
     let (looks, answers) = visits.into_parts();
-    course.close(round.resolved(), &looks)?;
-    Ok((course, answers))
+    let closed = course.close(round.resolved(), &looks);
+    drop(round);
+    match closed {
+        Ok(()) => Ok((course, answers)),
+        Err(fault) => {
+            drop(course);
+            drop(answers);
+            Err(fault)
+        }
+    }
 }

@@ -1,5 +1,6 @@
 // The visits of a round.
 ghost use Rattle.std.specs.Prelude.{◌≡◌, IfOk, OnOk};
+ghost use Rattle.query_core.specs.Looks.{read_at};
 ghost use Rattle.query_core.specs.Visits as spec;
 
 use crate::looks::{Look, unread_looks};
@@ -85,6 +86,20 @@ impl Visits {
     {
         self.answers.push(answer)?;
         Ok(())
+    }
+
+    /// A leaf was read: what became of it, and its answer.
+    pub(crate) fn read(
+        &mut self,
+        leaf: Leaf,
+        cut: u64,
+        answer: LeafAnswer,
+    ) -> Result<(), OutOfMemory>
+        ensures read { OnOk result (self.new
+            ≡ spec.with_leaf_answer (spec.with_look self.old leaf (read_at cut answer.sent)) answer) }
+    {
+        self.look(leaf, Look::read(cut, answer.sent));
+        self.keep(answer)
     }
 
     /// What is known of the zone's leaves, and the answers.

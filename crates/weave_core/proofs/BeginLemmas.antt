@@ -342,7 +342,17 @@ module _ (config : Config) (served : IsServed config) where
   }
 
   is_first : IsFirstState config first_state
-  is_first = record { new = new_core; seen = refl; roles = λ k. refl }
+  is_first = record {
+    new = new_core;
+    seen = refl;
+    no_root_bit = λ zone bucket. refl;
+    no_zone_bit = λ leaf bucket. refl;
+    no_leaf_held = λ leaf. refl;
+    no_range_held = λ range. refl;
+    stand = λ k. refl;
+    no_note = λ k. refl;
+    roles = λ k. refl;
+  }
 
 -- ---- actors
 

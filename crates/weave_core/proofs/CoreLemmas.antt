@@ -193,6 +193,7 @@ module _ (store : Setting) (setting : QuerySetting) (moment : ℤ) (world : Worl
             to = omega arith;
           };
           first = ap (first_serving avoided) (take_whole (of_range after_range range) ∙ whole_range) ∙ e;
+          whole = refl;
         }
 
   -- ---- leaves
@@ -220,6 +221,7 @@ module _ (store : Setting) (setting : QuerySetting) (moment : ℤ) (world : Worl
         record {
           between = record { from = omega (arith, least, cut_is); to = omega (arith, cut_is) };
           is = ap is_down all_looked ∙ looked.is;
+          whole = cut_is;
         }
 
     met_so : (b : Bool) → is_plan_met setting.plan (history_buckets store.buckets_of (of_leaf world.truth leaf)) ≡ b

@@ -87,6 +87,7 @@ pub holders_changed : (world : World) (i : ℕ) (new : Actor) → AreHolders wor
       leaf_holder = world.leaf_holder;
       range_holder = world.range_holder;
       actors = with_value_at world.actors i new;
+      notes = world.notes;
     })
 holders_changed world i new h ranges leaves =
     record { range = range_kept world i h new ranges; leaf = leaf_kept world i h new leaves }

@@ -55,7 +55,7 @@ module _ (store : Setting) (history : List RangeEntry) (row : Row) (source : IsS
       → IsToldByRange store history row (cond b (told.Full store.points) (told.Slots (serving history)))
   by_count true full later =
       let most : store.points ≤ length (acknowledged_rows history) = grind (arith, nat_tests) in
-      (refl, omega (arith, most, few))
+      (refl, omega (arith, most, few), later)
   by_count false room later =
       let less : length (acknowledged_rows history) < store.points = grind (arith, nat_tests) in
       (refl, source_more (acknowledged_rows history) row source later, less)

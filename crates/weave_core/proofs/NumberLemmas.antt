@@ -40,6 +40,7 @@ with_actors world actors = record {
   leaf_holder = world.leaf_holder;
   range_holder = world.range_holder;
   actors = actors;
+  notes = world.notes;
 }
 
 pub shared_beside : (config : Config) (world : World) (actors : ℕ → Doer) (store : Store) → AreShared config world store

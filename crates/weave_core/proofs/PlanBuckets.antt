@@ -1,5 +1,5 @@
 -- The buckets that a query's formulas name are below their number.
-use Rattle.std.proofs.Common.{◌≡◌, ◌∙◌, ◌<◌, ◌||◌, ℕ, zero, suc, Bool, true, false, cond, eqb, List, [], ◌∷◌, ◌++◌}
+use Rattle.std.proofs.Common.{◌≡◌, ◌∙◌, ◌<◌, ℕ, zero, suc, Bool, true, false, cond, eqb, List, [], ◌∷◌, ◌++◌}
 use Rattle.std.proofs.Common.{length, map, get_or, inl, inr, sym, subst, arith}
 use Rattle.std.specs.List.{AllByRecursion as All}
 use Rattle.std.proofs.lemmas.Bool.{eqb-true, or_cases}
@@ -20,7 +20,7 @@ use Rattle.mql_types.specs.Nodes as node
 use Rattle.mql_types.specs.Nodes.{NodeTree}
 use Rattle.mql_types.specs.Plans.{fetches}
 use Rattle.plan_split.specs.FetchFormulas.{fetch_formula, plan_formulas, schema_fetched}
-use Rattle.plan_split.specs.JoinedFormulas.{all_of, both, choices, is_all, formula_list, wanted_formulas}
+use Rattle.plan_split.specs.JoinedFormulas.{all_of, both, choices, formula_list, one_of, wanted_formulas}
 use Rattle.plan_split.specs.PredicateFormulas.{bucket_formula, comparison_formula, predicate_formula}
 
 module _ (count : ℕ) (some : 0 < count) where
@@ -80,10 +80,8 @@ module _ (count : ℕ) (some : 0 < count) where
       (all_append IsBelow (wanted_formulas left) (wanted_formulas right) (wanted_below left first)
       (wanted_below right second))
 
-  one_by : (left right : FormulaTree) (b : Bool) → IsBelow left → IsBelow right
-      → IsBelow (cond b Always (Or (formulas (choices left ++ choices right))))
-  one_by left right true first second = tt
-  one_by left right false first second =
+  one_of_below : (left right : FormulaTree) → IsBelow left → IsBelow right → IsBelow (one_of left right)
+  one_of_below left right first second =
       named_below (choices left ++ choices right)
       (all_append IsBelow (choices left) (choices right) (choices_below left first) (choices_below right second))
 
@@ -115,9 +113,7 @@ module _ (count : ℕ) (some : 0 < count) where
       both_below (predicate_formula count schema p) (predicate_formula count schema q) (predicate_below schema p)
       (predicate_below schema q)
   predicate_below schema (tree.Or p q) =
-      one_by (predicate_formula count schema p) (predicate_formula count schema q)
-      (is_all (predicate_formula count schema p) || is_all (predicate_formula count schema q))
-      (predicate_below schema p)
+      one_of_below (predicate_formula count schema p) (predicate_formula count schema q) (predicate_below schema p)
       (predicate_below schema q)
 
   filter_by : (input : NodeTree) (by : PredicateTree) (b : Bool) → IsBelow (fetch_formula count input)

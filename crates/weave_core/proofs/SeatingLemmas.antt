@@ -1,7 +1,7 @@
 -- A new store has what actors share in the first world.
 use Rattle.std.proofs.Common.{◌≡◌, ◌∙◌, ◌<◌, ◌≤◌, ◌+◌, ◌*◌, ◌-◌, ◌==◌, ℕ, suc, zero, false, Some, List, [], ◌∷◌, ◌++◌}
 use Rattle.std.proofs.Common.{append-nil, append_assoc, get_or, length, map, replicate, take, refl, sym, ap, subst}
-use Rattle.std.proofs.Common.{arith, slice_get, slice_index_or}
+use Rattle.std.proofs.Common.{arith, slice_get, slice_index_or, Result, Ok, Err, IfOk}
 use Rattle.std.proofs.lemmas.List.{get_or-map, length-append, length-map, length-replicate, take_all, take_more}
 use Rattle.std.proofs.lemmas.Nat.Bits.{bit_at-zero}
 use Rattle.std.proofs.lemmas.List.FromFn.{fill_by_all, length-map-range_with_len}
@@ -21,6 +21,7 @@ use Rattle.weave_core.proofs.FirstLemmas.{leaf_is}
 use Rattle.weave_core.specs.Agreements.{AreLeaves, AreRanges, AreShared, AreWords, IsLeafSo, IsRangeSo, IsServed}
 use Rattle.weave_core.specs.Agreements.{first_view, place_of_leaf}
 use Rattle.weave_core.specs.FirstHistories.{first_histories, first_leaf_history, first_range_history}
+use Rattle.weave_core.specs.FirstSeats.{AreFirstSeats}
 use Rattle.weave_core.specs.HintWords.{HintTable, index_of, no_words, hint_word_at}
 use Rattle.weave_core.specs.Openings.{AreOpenedSo, IsOpenedSo, first_range_histories, first_world, leaf_seat}
 use Rattle.weave_core.specs.Openings.{leaf_seats, range_seat, sight_of_states}
@@ -28,6 +29,7 @@ use Rattle.mon_topo.specs.Sights.{range_sight, sight_of}
 use Rattle.weave_core.specs.declared.leaves.LeafSeat.{LeafSeat}
 use Rattle.weave_core.specs.declared.ranges.RangeSeat.{RangeSeat}
 use Rattle.mon_topo.specs.declared.sights.Sight.{Sight}
+use Rattle.weave_core.specs.declared.store.Seats.{Seats}
 use Rattle.weave_core.specs.declared.store.Store.{Store}
 use Rattle.weave_core.specs.declared.words.Place.{Place}
 use Rattle.weave_core.specs.declared.words.Place.TheVariants as at
@@ -269,3 +271,24 @@ shared config store states ranges sight served opened histories seen config_is w
       ranges = ranges_are config sight store.ranges.items whole (seats ∙ ap (map (range_seat sight)) histories);
       first = first ∙ whole;
     }
+
+-- ---- seats that nobody holds, and of which all is seen
+
+pub first_seats : {E : Type 0} (config : Config) (states : List LeafView) (ranges : List (List RangeEntry))
+    (sight : Sight) (result : Result Seats E)
+    → AreOpenedSo config (first_leaf_history config.topology) states → ranges ≡ first_range_histories config.topology
+    → sight ≡ sight_of_states states ranges
+    → IfOk result (λ (seats : Seats). seats.words ≡ no_words (length config.topology) config.buckets)
+    → IfOk result (λ (seats : Seats). seats.leaves.items ≡ leaf_seats config.topology sight 0 states)
+    → IfOk result (λ (seats : Seats). seats.ranges.items ≡ map (range_seat sight) ranges)
+    → IfOk result (λ (seats : Seats). seats.first_sight ≡ sight)
+    → IfOk result (AreFirstSeats config)
+first_seats config states ranges sight (Ok seats) opened histories seen words leaves seats_of_ranges first = record {
+  states = states;
+  opened = opened;
+  sight = first ∙ seen ∙ ap (λ (r : List (List RangeEntry)). sight_of_states states r) histories;
+  words = words;
+  leaves = leaves ∙ ap (λ (s : Sight). leaf_seats config.topology s 0 states) (sym first);
+  ranges = seats_of_ranges ∙ (λ i. map (range_seat (sym first i)) (histories i));
+}
+first_seats config states ranges sight (Err why) opened histories seen words leaves seats_of_ranges first = record {}

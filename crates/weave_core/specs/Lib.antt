@@ -7,6 +7,7 @@ pub mod Declarations
 pub mod EndTexts
 pub mod EventNames
 pub mod FirstHistories
+pub mod FirstSeats
 pub mod HintWords
 pub mod Holders
 pub mod LawfulLines

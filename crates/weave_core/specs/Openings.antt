@@ -89,4 +89,5 @@ first_world config = record {
   leaf_holder = λ n. None;
   range_holder = λ n. None;
   actors = λ i. Stands (record { pass = i; view = first_view config });
+  notes = λ i. [];
 }

@@ -1,7 +1,12 @@
 -- What lines of a schedule lead to, and what holds of a query there.
 use Rattle.std.specs.Prelude.{ℕ, ◌≡◌, List, [], ◌∷◌, None, Ok, Err}
 use Rattle.mon_config.specs.declared.config.Config.{Config}
+use Rattle.mon_value.specs.declared.positions.FoundDown.{FoundDown}
+use Rattle.mon_value.specs.declared.positions.Range.{Range}
 use Rattle.query_core.specs.Answers.{IsAnsweredRightly, IsStoppedRightly}
+use Rattle.query_core.specs.Findings.{HasNoReplica}
+use Rattle.query_core.specs.Machine.{new_query}
+use Rattle.query_core.specs.ToldDowns.{downs_told}
 use Rattle.query_core.specs.declared.answers.Answer.{Answer}
 use Rattle.query_core.specs.declared.answers.RoundFault.TheVariants as fault
 use Rattle.query_core.specs.declared.answers.Trace.{Trace}
@@ -42,3 +47,16 @@ module _ (config : Config) where
   abbrev pub StoppedRightly : Reader (store_of config) → ℕ → Trace → Type 0
   StoppedRightly reader limit trace =
       IsStoppedRightly (store_of config) reader.setting reader.moment reader.begin.seen reader.view.seen limit trace
+
+  -- and one that has ended because a range has no replica
+  abbrev pub HasFoundNone : Reader (store_of config) → Range → List FoundDown → Type 0
+  HasFoundNone reader range named =
+      (query_now (store_of config) reader).stage ≡ at.Ended (Err (fault.NoReplica range named))
+
+  abbrev pub FoundNoneRightly : Reader (store_of config) → Range → List FoundDown → Type 0
+  FoundNoneRightly reader range named = HasNoReplica config.topology reader.begin.seen reader.view.seen range named
+
+  -- the leaves that a query was told are down, with their cuts
+  abbrev pub downs_heard : Reader (store_of config) → List FoundDown
+  downs_heard reader =
+      downs_told (store_of config) reader.setting reader.moment (new_query reader.setting) reader.session

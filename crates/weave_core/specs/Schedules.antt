@@ -25,6 +25,7 @@ use Rattle.weave_core.specs.declared.events.Event.{Event}
 use Rattle.weave_core.specs.declared.limits.TheConstants.{LAST_ACTOR, MOST_EVENTS, MOST_LINES}
 use Rattle.weave_core.specs.declared.lines.LineForm.{LineForm}
 use Rattle.weave_core.specs.declared.lines.LineForm.TheVariants as form
+use Rattle.write_core.specs.World.{Stands}
 
 -- ---- texts
 
@@ -189,10 +190,17 @@ module _ (config : Config) where
       Numbered number (RunsUnless number (RunsFrom (number + 1) lines) state line (is_remark line) printed)
       (nat_lt MOST_LINES number) printed
 
-  -- nobody is declared, and the store has no rows
+  -- nobody is declared, nobody holds anything, no bit is set, and the store has no rows; each actor has the pass of
+  -- its number
   pub record IsFirstState (state : State (store_of config)) : Type 0 where
     pub new : IsNewCore (store_of config) state.core
     pub seen : state.core.world.truth.seen ≡ first_histories config.topology
+    pub no_root_bit : (zone bucket : ℕ) → state.core.world.truth.bits.root zone bucket ≡ false
+    pub no_zone_bit : (leaf bucket : ℕ) → state.core.world.truth.bits.zone leaf bucket ≡ false
+    pub no_leaf_held : (leaf : ℕ) → state.core.world.leaf_holder leaf ≡ None
+    pub no_range_held : (range : ℕ) → state.core.world.range_holder range ≡ None
+    pub stand : (k : ℕ) → state.core.world.actors k ≡ Stands (record { pass = k; view = state.core.world.truth })
+    pub no_note : (k : ℕ) → state.core.world.notes k ≡ []
     pub roles : (k : ℕ) → state.roles k ≡ Undeclared
 
   -- a schedule's text prints this, by some run of the core

@@ -6,7 +6,7 @@ use mon_value::{Row, Text, TryCopy};
 use std::alloc::{AllocError, Global};
 
 /// What an actor is to do.
-#[derive(Debug, Drop)]
+#[derive(Drop)]
 pub enum Call {
     /// Write a row.
     Write(Row),
@@ -15,7 +15,7 @@ pub enum Call {
 }
 
 /// How a step went.
-#[derive(Debug, PartialEq, Eq, Drop)]
+#[derive(PartialEq, Eq, Drop)]
 pub enum Stepped {
     /// The actor did its next event, and has more of them.
     Went,
@@ -26,7 +26,7 @@ pub enum Stepped {
 }
 
 /// Why a step, or a line of a schedule, is refused.
-#[derive(Clone, Copy, Debug, PartialEq, Eq)]
+#[derive(Clone, Copy, PartialEq, Eq)]
 pub enum WeaveFault {
     /// The actor is not declared.
     NoActor,
@@ -50,7 +50,7 @@ impl WeaveFault {
 }
 
 /// The first line of a schedule that is refused. Lines are numbered from 1.
-#[derive(Clone, Copy, Debug, PartialEq, Eq)]
+#[derive(Clone, Copy, PartialEq, Eq)]
 pub struct ScheduleFault {
     pub line: u32,
     pub fault: WeaveFault,

@@ -6,7 +6,7 @@ use query_core::Ask;
 use write_core::WriteAsk;
 
 /// What an actor does in one step.
-#[derive(Clone, Copy, Debug, PartialEq, Eq)]
+#[derive(Clone, Copy, PartialEq, Eq)]
 pub enum Event {
     /// A write takes its range's lock.
     Lock,

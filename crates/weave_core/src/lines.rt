@@ -17,7 +17,7 @@ use mon_value::{OutOfMemory, Row, Text, read_number};
 use std::alloc::Global;
 
 /// What a line says.
-#[derive(Debug, Drop)]
+#[derive(Drop)]
 pub(crate) enum LineForm {
     /// An actor is to do this.
     Declare(u32, Call),

@@ -1,6 +1,6 @@
 // What is kept of a range.
-ghost use Rattle.std.specs.Prelude.{◌≡◌, ◌<◌, ◌<ℤ◌, ◌++◌, ◌∷◌, [], filter, length, not, slice_get, IfOk, IfSome, OnErr};
-ghost use Rattle.std.specs.Prelude.{OnOk};
+ghost use Rattle.std.specs.Prelude.{◌≡◌, ◌<◌, ◌≤◌, ◌+◌, ◌<ℤ◌, ◌++◌, ◌∷◌, [], filter, length, not, slice_get};
+ghost use Rattle.std.specs.Prelude.{vec_capacity, vec_len, IfOk, IfSome, OnErr, OnOk};
 ghost use Rattle.std.specs.List.{list_any};
 ghost use Rattle.mon_topo.specs.RangeHistories.{acknowledged_rows, is_missed};
 ghost use Rattle.mon_value.specs.Positions.{same_leaf};
@@ -105,15 +105,19 @@ impl RangeState {
         ensures acknowledged { OnOk result (self.new ≡ self.old ++ RangeEntry.Acked pass row ack ∷ []) }
         ensures kept { OnErr result (self.new ≡ self.old) }
     {
-        let kept = row.copy(self.alloc)?;
-        self.history.reserve(1)?;
-        if self.acked.push(kept).is_err() {
-            return Err(AllocError);
+        match keep_row(self.alloc, &mut self.history, &mut self.acked, &row) {
+            Ok(()) => {
+                drop_missed(&mut self.serving, ack.missed.as_slice());
+                self.history
+                    .push_reserved(RangeEntry::Acked { pass, row, ack });
+                Ok(())
+            }
+            Err(fault) => {
+                drop(row);
+                drop(ack);
+                Err(fault)
+            }
         }
-        drop_missed(&mut self.serving, ack.missed.as_slice());
-        self.history
-            .push_reserved(RangeEntry::Acked { pass, row, ack });
-        Ok(())
     }
 
     /// What who sees all of the history sees.
@@ -153,6 +157,28 @@ impl RangeSeat {
         sight.note_range(range, self.state.sight());
         self.sight.assign(sight);
     }
+}
+
+// Keeps a copy of a row, which ends after those of its series, and makes room for one more entry of a history. Where
+// memory runs out no row is kept.
+fn keep_row(
+    alloc: Global,
+    history: &mut Vec<RangeEntry>,
+    acked: &mut KeptRows,
+    row: &Row,
+) -> Result<(), OutOfMemory>
+    requires later { IfSome (last_end (points_of row.now.key acked.old)) (λ last. last <ℤ row.now.point.end) }
+    ensures history { history.new.items ≡ history.old.items }
+    ensures room { OnOk result (vec_len history.new + 1 ≤ vec_capacity history.new) }
+    ensures row { OnOk result (acked.new ≡ acked.old ++ row.now ∷ []) }
+    ensures kept { OnErr result (acked.new ≡ acked.old) }
+{
+    history.reserve(1)?;
+    let kept = row.copy(alloc)?;
+    if acked.push(kept).is_err() {
+        return Err(AllocError);
+    }
+    Ok(())
 }
 
 // The first of these replicas that is on none of these leaves.

@@ -1,18 +1,28 @@
 // What holds of every schedule.
-ghost use Rattle.std.specs.Prelude.{◌≡◌, ℕ, List};
+ghost use Rattle.std.specs.Prelude.{◌≡◌, ℕ, List, Result, Contains};
 ghost use Rattle.mon_config.specs.declared.config.Config.{Config as ConfigOf};
+ghost use Rattle.mon_value.specs.declared.positions.FoundDown.{FoundDown as Found};
+ghost use Rattle.mon_value.specs.declared.positions.Range.{Range as RangeOf};
+ghost use Rattle.query_core.specs.ToldDowns.{EndNames};
 ghost use Rattle.query_core.specs.declared.answers.Answer.{Answer as AnswerOf};
+ghost use Rattle.query_core.specs.declared.answers.RoundFault.{RoundFault as FaultOf};
 ghost use Rattle.query_core.specs.declared.answers.Trace.{Trace as TraceOf};
+ghost use Rattle.query_core.specs.declared.stages.Stage.TheVariants.{Ended};
+ghost use Rattle.weave_core.specs.Core.{query_now};
 ghost use Rattle.weave_core.specs.Licensed.{IsWoven};
-ghost use Rattle.weave_core.specs.Reached.{AnsweredRightly, HasAnswered, HasStoppedSo, LinesLead, StoppedRightly};
+ghost use Rattle.weave_core.specs.Reached.{AnsweredRightly, FoundNoneRightly, HasAnswered, HasFoundNone, HasStoppedSo};
+ghost use Rattle.weave_core.specs.Reached.{LinesLead, StoppedRightly, downs_heard};
 ghost use Rattle.weave_core.specs.Schedules.{IsFirstState};
 ghost use Rattle.weave_core.specs.States.{Asking, State, store_of};
 ghost use Rattle.weave_core.specs.declared.lines.LineForm.{LineForm as Form};
 
 use crate::laws::queries_answer_rightly;
+use query_core::ends_name_what_was_told;
 
 /// Wherever the lines of a schedule lead to, the histories are held, what each actor knows leads to all that it has
-/// seen, and each query's session is licensed. So each query that ended has answered rightly.
+/// seen, and each query's session is licensed. So each query that ended has answered rightly, or stopped for its load
+/// rightly, or found that a range has no replica; and each leaf that its end names as down it was told so at a visit,
+/// with that cut.
 pub fn schedules_answer_rightly()
     ensures woven { (config : ConfigOf) (first state : State (store_of config)) (lines : List Form)
         → IsFirstState config first → LinesLead config first lines state → IsWoven (store_of config) state.core }
@@ -23,6 +33,15 @@ pub fn schedules_answer_rightly()
         (trace : TraceOf) → IsFirstState config first → LinesLead config first lines state → state.roles k ≡ Asking
         → HasStoppedSo config (state.core.readers k) limit trace
         → StoppedRightly config (state.core.readers k) limit trace }
+    ensures no_replica { (config : ConfigOf) (first state : State (store_of config)) (lines : List Form) (k : ℕ)
+        (range : RangeOf) (named : List Found) → IsFirstState config first → LinesLead config first lines state
+        → state.roles k ≡ Asking → HasFoundNone config (state.core.readers k) range named
+        → FoundNoneRightly config (state.core.readers k) range named }
+    ensures named { (config : ConfigOf) (first state : State (store_of config)) (lines : List Form) (k : ℕ)
+        (end : Result AnswerOf FaultOf) → IsFirstState config first → LinesLead config first lines state
+        → state.roles k ≡ Asking → (query_now (store_of config) (state.core.readers k)).stage ≡ Ended end
+        → EndNames (Contains (downs_heard config (state.core.readers k))) end }
 {
     queries_answer_rightly();
+    ends_name_what_was_told();
 }

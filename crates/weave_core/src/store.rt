@@ -11,6 +11,8 @@ ghost use Rattle.mon_value.specs.LeafHistories.{IsWellFormed};
 ghost use Rattle.mon_config.specs.Configs.{IsLimited};
 ghost use Rattle.weave_core.specs.Agreements.{AreShared, IsServed};
 ghost use Rattle.weave_core.specs.FirstHistories.{first_leaf_history, first_range_history};
+ghost use Rattle.weave_core.specs.FirstSeats.{AreFirstSeats};
+ghost use Rattle.weave_core.specs.HintWords.{no_words};
 ghost use Rattle.weave_core.specs.Openings as spec;
 ghost use Rattle.leaf_store.specs.LeafLists.{IsChanged};
 ghost use Rattle.weave_core.specs.Openings.{AreOpenedSo, first_range_histories, first_world, opened_before};
@@ -37,42 +39,36 @@ pub(crate) struct Store {
     pub first_sight: Sight,
 }
 
+// What a store has beside its configuration.
+#[derive(Drop)]
+struct Seats {
+    words: HintWords,
+    leaves: Vec<LeafSeat>,
+    ranges: Vec<RangeSeat>,
+    first_sight: Sight,
+}
+
 impl Store {
     /// The leaves and ranges of a configuration, without rows.
     pub(crate) fn new(alloc: Global, config: Config) -> Result<Store, OutOfMemory>
         requires limited { IsLimited config }
         ensures shared { IfOk result (AreShared config (first_world config)) }
     {
-        let mut leaves = new_states(alloc, &config)?;
-        let ranges = open_ranges(alloc, &config, &mut leaves)?;
-        Store::seated(alloc, config, leaves, ranges)
-    }
-
-    // A store of these leaves and ranges, which nobody holds.
-    fn seated(
-        alloc: Global,
-        config: Config,
-        leaf_states: Vec<LeafState>,
-        range_states: Vec<RangeState>,
-    ) -> Result<Store, OutOfMemory>
-        requires limited { IsLimited config }
-        requires opened { AreOpenedSo config (first_leaf_history config.topology) leaf_states.items }
-        requires histories { range_states.items ≡ first_range_histories config.topology }
-        ensures shared { IfOk result (AreShared config (first_world config)) }
-    {
         note_served(&config);
-        let first_sight = first_sight(alloc, leaf_states.as_slice(), range_states.as_slice())?;
-        let words = HintWords::new(alloc, config.topology.zones(), config.buckets)?;
-        let leaves = leaf_seats(alloc, &config.topology, leaf_states, &first_sight)?;
-        let ranges = range_seats(alloc, range_states, &first_sight)?;
-        Ok(Store {
-            alloc,
-            config,
-            words,
-            leaves,
-            ranges,
-            first_sight,
-        })
+        match first_seats(alloc, &config) {
+            Ok(seats) => Ok(Store {
+                alloc,
+                config,
+                words: seats.words,
+                leaves: seats.leaves,
+                ranges: seats.ranges,
+                first_sight: seats.first_sight,
+            }),
+            Err(fault) => {
+                drop(config);
+                Err(fault)
+            }
+        }
     }
 
     /// The range that a series' target lies in, where a zone lists its location.
@@ -95,6 +91,119 @@ fn note_served(config: &Config)
     config.schemas.targets_tell_locations();
     ranges_have_replicas(&config.topology);
     let _zones = config.topology.zones();
+}
+
+// The seats that the store of a configuration begins with.
+fn first_seats(alloc: Global, config: &Config) -> Result<Seats, OutOfMemory>
+    requires limited { IsLimited config.now }
+    ensures seats { IfOk result (AreFirstSeats config.now) }
+{
+    let mut leaves = new_states(alloc, config)?;
+    match open_ranges(alloc, config, &mut leaves) {
+        Ok(ranges) => seated(alloc, config, leaves, ranges),
+        Err(fault) => {
+            drop(leaves);
+            Err(fault)
+        }
+    }
+}
+
+// The seats of leaves and ranges whose first replicas are opened.
+fn seated(
+    alloc: Global,
+    config: &Config,
+    leaf_states: Vec<LeafState>,
+    range_states: Vec<RangeState>,
+) -> Result<Seats, OutOfMemory>
+    requires opened { AreOpenedSo config.now (first_leaf_history config.now.topology) leaf_states.items }
+    requires histories { range_states.items ≡ first_range_histories config.now.topology }
+    ensures seats { IfOk result (AreFirstSeats config.now) }
+{
+    match first_sight(alloc, leaf_states.as_slice(), range_states.as_slice()) {
+        Ok(sight) => seats_of(alloc, config, leaf_states, range_states, sight),
+        Err(fault) => {
+            drop(leaf_states);
+            drop(range_states);
+            Err(fault)
+        }
+    }
+}
+
+// The seats of leaves and ranges that nobody holds, and of which all have seen so much.
+fn seats_of(
+    alloc: Global,
+    config: &Config,
+    leaf_states: Vec<LeafState>,
+    range_states: Vec<RangeState>,
+    sight: Sight,
+) -> Result<Seats, OutOfMemory>
+    requires count { length leaf_states.items ≡ length (leaves_in config.now.topology) }
+    ensures words { IfOk result (λ seats. seats.words ≡ no_words (length config.now.topology) config.now.buckets) }
+    ensures leaves { IfOk result (λ seats. seats.leaves.items
+        ≡ spec.leaf_seats config.now.topology sight 0 leaf_states.items) }
+    ensures ranges { IfOk result (λ seats. seats.ranges.items ≡ map (spec.range_seat sight) range_states.items) }
+    ensures sight { IfOk result (λ seats. seats.first_sight ≡ sight) }
+{
+    match leaf_seats(alloc, &config.topology, leaf_states, &sight) {
+        Ok(leaves) => seats_beside(alloc, config, leaves, range_states, sight),
+        Err(fault) => {
+            drop(range_states);
+            drop(sight);
+            Err(fault)
+        }
+    }
+}
+
+// The seats of ranges that nobody holds, beside those of leaves.
+fn seats_beside(
+    alloc: Global,
+    config: &Config,
+    leaves: Vec<LeafSeat>,
+    range_states: Vec<RangeState>,
+    sight: Sight,
+) -> Result<Seats, OutOfMemory>
+    ensures words { IfOk result (λ seats. seats.words ≡ no_words (length config.now.topology) config.now.buckets) }
+    ensures leaves { IfOk result (λ seats. seats.leaves.items ≡ leaves.items) }
+    ensures ranges { IfOk result (λ seats. seats.ranges.items ≡ map (spec.range_seat sight) range_states.items) }
+    ensures sight { IfOk result (λ seats. seats.first_sight ≡ sight) }
+{
+    match range_seats(alloc, range_states, &sight) {
+        Ok(ranges) => seats_with_words(alloc, config, leaves, ranges, sight),
+        Err(fault) => {
+            drop(leaves);
+            drop(sight);
+            Err(fault)
+        }
+    }
+}
+
+// Seats, with hint words in which no bit is set.
+fn seats_with_words(
+    alloc: Global,
+    config: &Config,
+    leaves: Vec<LeafSeat>,
+    ranges: Vec<RangeSeat>,
+    first_sight: Sight,
+) -> Result<Seats, OutOfMemory>
+    ensures words { IfOk result (λ seats. seats.words ≡ no_words (length config.now.topology) config.now.buckets) }
+    ensures leaves { IfOk result (λ seats. seats.leaves.items ≡ leaves.items) }
+    ensures ranges { IfOk result (λ seats. seats.ranges.items ≡ ranges.items) }
+    ensures sight { IfOk result (λ seats. seats.first_sight ≡ first_sight) }
+{
+    match HintWords::new(alloc, config.topology.zones(), config.buckets) {
+        Ok(words) => Ok(Seats {
+            words,
+            leaves,
+            ranges,
+            first_sight,
+        }),
+        Err(fault) => {
+            drop(leaves);
+            drop(ranges);
+            drop(first_sight);
+            Err(fault)
+        }
+    }
 }
 
 // The states of a configuration's leaves, which have no history.
@@ -144,13 +253,38 @@ fn open_range(
     ensures history { IfOk result (λ state. state ≡ first_range_history config.now.topology range.0) }
 {
     let mut state = RangeState::new(alloc);
+    match open_replicas(alloc, config, leaves, range, &mut state) {
+        Ok(()) => Ok(state),
+        Err(fault) => {
+            drop(state);
+            Err(fault)
+        }
+    }
+}
+
+// Opens the first replicas of a range that has none so far.
+fn open_replicas(
+    alloc: Global,
+    config: &Config,
+    leaves: &mut Vec<LeafState>,
+    range: Range,
+    state: &mut RangeState,
+) -> Result<(), OutOfMemory>
+    requires there { range.0 < length (ranges_in config.now.topology) }
+    requires replicas { HasReplicas config.now.topology range }
+    requires before { AreOpenedSo config.now (opened_before config.now.topology range.0) leaves.old.items }
+    requires none { state.old ≡ [] }
+    ensures opened { OnOk result
+        (AreOpenedSo config.now (opened_before config.now.topology (range.0 + 1)) leaves.new.items) }
+    ensures history { OnOk result (state.new ≡ first_range_history config.now.topology range.0) }
+{
     let mut number = 0;
     for leaf in config.topology.first_replicas(range).as_slice() {
         open_replica(alloc, leaves, *leaf, range, Slot(number))?;
         state.open(0, Slot(number), *leaf)?;
         number += 1;
     }
-    Ok(state)
+    Ok(())
 }
 
 // Opens a replica without rows on a leaf.

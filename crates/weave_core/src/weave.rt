@@ -41,8 +41,13 @@ impl Weave {
         ensures begins { IfOk result (BeginsSo config) }
     {
         let store = Store::new(alloc, config)?;
-        let actors = no_actors(alloc)?;
-        Ok(Weave { store, actors })
+        match no_actors(alloc) {
+            Ok(actors) => Ok(Weave { store, actors }),
+            Err(fault) => {
+                drop(store);
+                Err(fault)
+            }
+        }
     }
 
     /// Says what the actor of a number, which is not declared yet, is to do.

@@ -185,11 +185,24 @@ impl Store {
             ..
         } = writing;
         let mut machine = machine;
-        machine.told(WriteTold::Done)?;
-        let end = machine.finish();
-        let seat = &mut self.ranges[range.0 as usize];
-        let_go(self.alloc, seat, number, row, range, &end, sight)?;
-        Ok(WriteTurn::Ended(range, end))
+        match machine.told(WriteTold::Done) {
+            Ok(()) => {
+                let end = machine.finish();
+                let seat = &mut self.ranges[range.0 as usize];
+                match let_go(self.alloc, seat, number, row, range, &end, sight) {
+                    Ok(()) => Ok(WriteTurn::Ended(range, end)),
+                    Err(fault) => {
+                        drop(end);
+                        Err(fault)
+                    }
+                }
+            }
+            Err(fault) => {
+                drop(row);
+                drop(machine);
+                Err(fault)
+            }
+        }
     }
 }
 

@@ -1,18 +1,20 @@
 -- The events of a recovery.
-use Rattle.std.proofs.Common.{◌≡◌, ◌≢◌, ℕ, suc, ◌+◌, ◌<◌, ◌≤◌, Bool, true, false, ◌||◌, cond, Some, None, Option, List}
+use Rattle.std.proofs.Common.{◌≡◌, ◌≢◌, ℕ, suc, ◌+◌, ◌<◌, ◌≤◌, true, false, ◌||◌, cond, Some, None, Option, List}
 use Rattle.std.proofs.Common.{[], ◌∷◌, ◌++◌, length, refl, sym, ap, ap₂, subst, ◌∙◌, append-nil, length-append, arith}
-use Rattle.std.proofs.Common.{inl, inr}
+use Rattle.std.proofs.Common.{inl, inr, append_assoc}
 use Rattle.std.specs.Prelude.{nat_eq, Contains}
 use Rattle.std.specs.List.{AllByRecursion as All}
 use Rattle.std.proofs.lemmas.Bool.{and_from, and_left, and_right, eq-eqb, ne_eqb, or_right}
-use Rattle.std.proofs.lemmas.List.{length-set, take_at}
-use Rattle.std.proofs.lemmas.List.Elements.{Contains-push, Contains-push_cases}
+use Rattle.std.proofs.lemmas.List.{length-set, map-append, take_all, take_at}
+use Rattle.std.proofs.lemmas.List.Elements.{Contains-append_left, Contains-push, Contains-push_cases}
 use Rattle.mon_hints.specs.Listings.{is_among}
 use Rattle.mon_value.specs.LeafHistories as leaf_spec
-use Rattle.mon_value.specs.LeafHistories.{entry_rows, is_opened, replica_rows}
+use Rattle.mon_value.specs.LeafHistories.{IsDownAt, entry_rows, is_down, is_opened, replica_rows}
 use Rattle.mon_value.specs.Sources.{IsSource}
 use Rattle.mon_value.specs.declared.histories.Entry.{Entry}
 use Rattle.mon_value.specs.declared.histories.RangeEntry.{RangeEntry}
+use Rattle.mon_value.specs.declared.histories.RangeEntry.TheVariants as range_entry
+use Rattle.mon_value.specs.declared.positions.FoundDown.{FoundDown}
 use Rattle.mon_value.specs.declared.positions.Leaf.{Leaf}
 use Rattle.mon_value.specs.declared.positions.Range.{Range}
 use Rattle.mon_value.specs.declared.positions.Slot.{Slot}
@@ -24,19 +26,21 @@ use Rattle.mon_topo.specs.RangeHistories as range_spec
 use Rattle.mon_topo.specs.RangeHistories.{acknowledged_rows, opened_slots, serving}
 use Rattle.mon_topo.specs.Settings.{Setting, zone_of_leaf}
 use Rattle.mon_topo.proofs.FrontLemmas.{begins-flat_map, begins_same, begins_through, contains_on}
-use Rattle.mon_topo.proofs.HeldLemmas.{leaf_entry_by, leaf_entry_other, leaf_entry_same, range_entry_other}
+use Rattle.mon_topo.proofs.HeldLemmas.{down_on, leaf_entry_by, leaf_entry_other, leaf_entry_same, range_entry_other}
 use Rattle.mon_topo.proofs.HeldLemmas.{range_entry_same}
-use Rattle.mon_topo.proofs.RangeHistoryLemmas.{all_at, all_from, numbered, slot_below}
+use Rattle.mon_topo.proofs.RangeHistoryLemmas.{all_append, all_at, numbered, slot_below}
 use Rattle.mon_hints.specs.Covers.{StaysSet, Bits, Covers}
 use Rattle.mon_hints.specs.HistoryBuckets.{history_buckets, rows_buckets}
-use Rattle.write_core.specs.CopySteps.{CanAsk, CanCopyAt, IsToldAtTarget, IsToldByTarget, IsToldOfRange, MayOpen}
-use Rattle.write_core.specs.CopySteps.{after_asking, after_sources, after_carrying, copied_in, copy_at, copy_of}
-use Rattle.write_core.specs.CopySteps.{after_nearing, new_replica}
+use Rattle.write_core.specs.CopySteps.{CanAsk, CanCopyAt, IsDeniedFor, IsToldAtTarget, IsToldByTarget, IsToldDown}
+use Rattle.write_core.specs.CopySteps.{IsToldOfRange, IsToldWithin, MayOpen, copied_in, copy_at, copy_of, new_replica}
 use Rattle.write_core.specs.CopySteps.{next_slot, opening_of, told_range}
-use Rattle.write_core.specs.Invariant.{HasCopied, HasLocked, HasOpened, HasRows, IsCopyAt, IsCopying, IsUnopened}
-use Rattle.write_core.specs.Invariant.{IsInside, IsKept, IsRecovery, IsRangeSettled, IsTelling}
-use Rattle.write_core.specs.Recovering.{Admits, Beginning, Carrying, CopyStage, CopyTold, Copying, Denied, Gives}
-use Rattle.write_core.specs.Recovering.{HasRoom, Nearing, Over, Sources, Telling, WasDone, WasDown, Within, copying}
+use Rattle.write_core.specs.Invariant.{HasCause, HasCopied, HasLocked, HasOpened, HasRows, HaveFound, IsAskingSources}
+use Rattle.write_core.specs.Invariant.{IsCopyAt, IsCopying, IsInside, IsKept, IsRecovery, IsRangeSettled, IsTelling}
+use Rattle.write_core.specs.Invariant.{IsUnopened}
+use Rattle.write_core.specs.Recovering.{Admits, Beginning, Carrying, CopyStage, CopyTold, Copying, Denial, Denied}
+use Rattle.write_core.specs.Recovering.{Denies, Gives, HasRoom, Nearing, NoSource, NoTarget, Opens, Outcome, Over}
+use Rattle.write_core.specs.Recovering.{Sources, Telling, WasDone, WasDown, WasOpened, Within, copying}
+use Rattle.write_core.specs.Recovering.{found_on}
 use Rattle.write_core.specs.Steps.{same_view}
 use Rattle.write_core.specs.Views.{IsSound, IsViewWithin, View, joined_view, of_leaf, of_range, with_entry}
 use Rattle.write_core.specs.Views.{with_range_entry}
@@ -57,12 +61,42 @@ use Rattle.write_core.proofs.ViewLemmas.{within_itself}
 some_is_not_none : (i : ℕ) → Some i ≡ None → ⊥
 some_is_not_none i e = cc
 
--- it asks the next replica, or gives up
-at_copying : (setting : Setting) (world : World) (i : ℕ) (who : Recovery) (sources : List SlotLeaf)
-    → IsCopying setting world i who → All (Contains (serving (of_range world.truth who.range))) sources
-    → IsCopyAt setting world i who (copying sources)
-at_copying setting world i who [] h k = h.locked
-at_copying setting world i who (source ∷ left) h k = (h, k)
+-- ---- what was found down
+
+down_moves : (view more : View) → IsViewWithin view more → (leaf : Leaf) (cut : ℕ) → IsDownAt (of_leaf view leaf) cut
+    → IsDownAt (of_leaf more leaf) cut
+down_moves view more up leaf cut = down_on (of_leaf more leaf) (of_leaf view leaf) cut (up.seen.leaves leaf)
+
+all_down_move : (view more : View) → IsViewWithin view more → (founds : List FoundDown)
+    → All (λ found. IsDownAt (of_leaf view found.leaf) found.cut) founds
+    → All (λ found. IsDownAt (of_leaf more found.leaf) found.cut) founds
+all_down_move view more up [] h = tt
+all_down_move view more up (found ∷ founds) h =
+    (down_moves view more up found.leaf found.cut h.0, all_down_move view more up founds h.1)
+
+found_moves : (view more : View) → IsViewWithin view more → (replicas : List SlotLeaf) (founds : List FoundDown)
+    → HaveFound view replicas founds → HaveFound more replicas founds
+found_moves view more up replicas founds h =
+    record { leaves = h.leaves; down = all_down_move view more up founds h.down }
+
+-- one more
+found_push : (view : View) (replicas : List SlotLeaf) (founds : List FoundDown) (replica : SlotLeaf) (cut : ℕ)
+    → HaveFound view replicas founds → IsDownAt (of_leaf view replica.leaf) cut
+    → HaveFound view (replicas ++ replica ∷ []) (founds ++ found_on replica cut ∷ [])
+found_push view replicas founds replica cut h down = record {
+  leaves = map-append (λ (found : FoundDown). found.leaf) founds (found_on replica cut ∷ [])
+      ∙ ap (λ leaves. leaves ++ replica.leaf ∷ []) h.leaves
+      ∙ sym (map-append (λ (one : SlotLeaf). one.leaf) replicas (replica ∷ []));
+  down = all_append (λ (found : FoundDown). IsDownAt (of_leaf view found.leaf) found.cut) founds
+      (found_on replica cut ∷ []) h.down (down, tt);
+}
+
+-- a leaf that is down is so at the whole of its history
+down_whole : (history : List Entry) (cut : ℕ) → IsToldDown history cut → IsDownAt history cut
+down_whole history cut h = record {
+  seen_by_then = omega arith;
+  down = ap is_down (take_all cut history (omega arith)) ∙ h.0;
+}
 
 module _ (setting : Setting) (world : World) (i : ℕ) (who : Recovery) (is : world.actors i ≡ Recovers who)
     (kept : IsKept setting world) where
@@ -125,22 +159,30 @@ module _ (setting : Setting) (world : World) (i : ℕ) (who : Recovery) (is : wo
         (meet.quiet_range setting world i kept who.view own.part r) (inl free)
         (λ e. absurd (some_is_not_none i e)) at
 
-    all_themselves : (xs : List SlotLeaf) → All (Contains xs) xs
-    all_themselves xs = all_from (Contains xs) xs (λ x there. there)
-
+    -- it asks the next replica, or gives up
     begin_sources : (replicas : List SlotLeaf) → replicas ≡ serving g → MayOpen setting g who
-        → IsStep setting world (after_sources world i who (Sources replicas))
-    begin_sources replicas all may =
-        let stage = copying replicas in
-        let next = at_range world i who.view r same_view (Some i) (recovers_on who stage) in
-        begin_at stage
-        (at_copying setting next i (copied_on who stage (joined_view who.view (world.ranges r.0))) replicas
-        (record { locked = begun_locked stage; may = may })
-        (subst (λ (xs : List SlotLeaf). All (Contains xs) replicas) all (all_themselves replicas)))
+        → IsStep setting world (at_range world i who.view r same_view (Some i) (recovers_on who (copying [] replicas)))
+    begin_sources [] all may = begin_at (Telling (NoSource [])) (
+      begun_locked (Telling (NoSource [])),
+      subst (λ (history : List RangeEntry). HaveFound (joined_view who.view (world.ranges r.0)) (serving history) [])
+          (sym (meet.met_whole setting world i kept who.view own.part r))
+          (subst (λ (some : List SlotLeaf). HaveFound (joined_view who.view (world.ranges r.0)) some []) all
+          (record { leaves = refl; down = tt })),
+    )
+    begin_sources (source ∷ left) all may =
+        let stage = Copying [] (source ∷ left) in
+        begin_at stage (
+          record { locked = begun_locked stage; may = may },
+          record { asked = []; all = all; found = record { leaves = refl; down = tt } },
+        )
 
-    begin_denied : IsStep setting world
-        (at_range world i who.view r same_view (Some i) (recovers_on who (Telling false)))
-    begin_denied = begin_at (Telling false) (begun_locked (Telling false))
+    begin_denied : (why : Denial) → IsDeniedFor g l why
+        → IsStep setting world (at_range world i who.view r same_view (Some i) (recovers_on who (Telling (Denied why))))
+    begin_denied why cause = begin_at (Telling (Denied why)) (
+      begun_locked (Telling (Denied why)),
+      subst (λ (history : List RangeEntry). IsDeniedFor history l why)
+          (sym (meet.met_whole setting world i kept who.view own.part r)) cause,
+    )
 
   -- ---- at leaves
 
@@ -178,9 +220,36 @@ module _ (setting : Setting) (world : World) (i : ℕ) (who : Recovery) (is : wo
       recover_at_leaf setting world i who is kept o same_view holder stage
       (quiet setting world i kept who.view own.part o) (inl free) at
 
-  give_up : (o : Leaf) → world.leaf_holder o.0 ≡ None → HasLocked world i who
-      → IsStep setting world (at_leaf world i who.view o same_view None (recovers_on who (Telling false)))
-  give_up o free locked = quiet_step o None (Telling false) free (quiet_locked o None (Telling false) locked)
+  -- a leaf was found down: so far, all of it has been seen
+  seen_down : (o : Leaf) (cut : ℕ) → IsToldDown (of_leaf world.truth o) cut
+      → IsDownAt (of_leaf (joined_view who.view (world.leaves o.0)) o) cut
+  seen_down o cut told =
+      subst (λ (history : List Entry). IsDownAt history cut) (sym (base_whole setting world i kept who.view own.part o))
+      (down_whole (of_leaf world.truth o) cut told)
+
+  -- its own leaf is down
+  give_up : (cut : ℕ) → world.leaf_holder l.0 ≡ None → HasLocked world i who → IsToldDown (of_leaf world.truth l) cut
+      → IsStep setting world (at_leaf world i who.view l same_view None (recovers_on who (Telling (NoTarget cut))))
+  give_up cut free locked told =
+      quiet_step l None (Telling (NoTarget cut)) free
+      (quiet_locked l None (Telling (NoTarget cut)) locked, seen_down l cut told)
+
+  -- the next replica is asked, or none is left
+  ask_on : (o : Leaf) (asked left : List SlotLeaf) (founds : List FoundDown) → world.leaf_holder o.0 ≡ None
+      → IsCopying setting world i who → asked ++ left ≡ serving g
+      → HaveFound (joined_view who.view (world.leaves o.0)) asked founds
+      → IsStep setting world (at_leaf world i who.view o same_view None (recovers_on who (copying founds left)))
+  ask_on o asked [] founds free at all found =
+      let stage = Telling (NoSource founds) in
+      quiet_step o None stage free (
+        quiet_locked o None stage at.locked,
+        subst (λ (some : List SlotLeaf). HaveFound (joined_view who.view (world.leaves o.0)) some founds)
+            (sym (append-nil asked) ∙ all ∙ ap serving (sym (quiet_whole o None stage at.locked))) found,
+      )
+  ask_on o asked (source ∷ left) founds free at all found =
+      let stage = Copying founds (source ∷ left) in
+      quiet_step o None stage free
+      (quiet_copying o None stage at.locked at, record { asked = asked; all = all; found = found })
 
   -- the rows of a replica that serves are the acknowledged ones, and at home
   has_copied : (source : SlotLeaf) (rows : List Row) → IsCopying setting world i who → Contains (serving g) source
@@ -192,38 +261,51 @@ module _ (setting : Setting) (world : World) (i : ℕ) (who : Recovery) (is : wo
         (kept.truth.held.at_home source.leaf) row (subst (λ (xs : List Row). Contains xs row) same among);
   }
 
-  ask_kept : (sources : List SlotLeaf) (told : CopyTold) → IsCopyAt setting world i who (Copying sources)
-      → CanAsk world who sources told → IsStep setting world (after_asking world i who sources told)
-  ask_kept [] told at can = absurd can
-  ask_kept (source ∷ left) (Gives rows) at can =
+  source_serves : (founds : List FoundDown) (source : SlotLeaf) (left : List SlotLeaf)
+      → IsAskingSources world who founds (source ∷ left) → Contains (serving g) source
+  source_serves founds source left h =
+      subst (λ (some : List SlotLeaf). Contains some source)
+      (append_assoc h.asked (source ∷ []) left ∙ h.all)
+      (Contains-append_left (h.asked ++ source ∷ []) left source (Contains-push h.asked source))
+
+  ask_kept : (founds : List FoundDown) (sources : List SlotLeaf) (told : CopyTold)
+      → IsCopyAt setting world i who (Copying founds sources) → CanAsk world who sources told
+      → IsStep setting world (copy_at setting world i who (Copying founds sources) told)
+  ask_kept founds [] told at can = absurd can
+  ask_kept founds (source ∷ left) (Gives rows) at can =
       quiet_step source.leaf None (Carrying rows) can.0
-      (quiet_copied source.leaf None (Carrying rows) at.0.locked rows (has_copied source rows at.0 at.1.0 can.1.1))
-  ask_kept (source ∷ left) WasDown at can =
-      quiet_step source.leaf None (copying left) can.0
-      (at_copying setting (quietly source.leaf None (copying left) at.0.locked) i
-      (wiser_then source.leaf None (copying left) at.0.locked) left
-      (quiet_copying source.leaf None (copying left) at.0.locked at.0) at.1.1)
-  ask_kept (source ∷ left) (Sources replicas) at can = absurd can.1
-  ask_kept (source ∷ left) Denied at can = absurd can.1
-  ask_kept (source ∷ left) HasRoom at can = absurd can.1
-  ask_kept (source ∷ left) (Admits buckets) at can = absurd can.1
-  ask_kept (source ∷ left) WasDone at can = absurd can.1
+      (quiet_copied source.leaf None (Carrying rows) at.0.locked rows
+      (has_copied source rows at.0 (source_serves founds source left at.1) can.1.1))
+  ask_kept founds (source ∷ left) (WasDown cut) at can =
+      ask_on source.leaf (at.1.asked ++ source ∷ []) left (founds ++ found_on source cut ∷ []) can.0 at.0
+      (append_assoc at.1.asked (source ∷ []) left ∙ at.1.all)
+      (found_push (joined_view who.view (world.leaves source.leaf.0)) at.1.asked founds source cut
+      (found_moves who.view (joined_view who.view (world.leaves source.leaf.0))
+      (base_up setting world i kept who.view own.part source.leaf) at.1.asked founds at.1.found)
+      (seen_down source.leaf cut can.1))
+  ask_kept founds (source ∷ left) (Sources replicas) at can = absurd can.1
+  ask_kept founds (source ∷ left) (Denies why) at can = absurd can.1
+  ask_kept founds (source ∷ left) HasRoom at can = absurd can.1
+  ask_kept founds (source ∷ left) (Admits buckets) at can = absurd can.1
+  ask_kept founds (source ∷ left) (WasOpened slot) at can = absurd can.1
+  ask_kept founds (source ∷ left) WasDone at can = absurd can.1
 
   carry_kept : (rows : List Row) (told : CopyTold) → HasCopied setting world i who rows
       → world.leaf_holder l.0 ≡ None → IsToldByTarget (of_leaf world.truth l) told
-      → IsStep setting world (after_carrying world i who rows told)
+      → IsStep setting world (copy_at setting world i who (Carrying rows) told)
   carry_kept rows HasRoom at free can =
       quiet_step l None (Nearing rows) free (quiet_copied l None (Nearing rows) at.copying.locked rows at)
-  carry_kept rows WasDown at free can = give_up l free at.copying.locked
+  carry_kept rows (WasDown cut) at free can = give_up cut free at.copying.locked can
   carry_kept rows (Sources replicas) at free can = absurd can
-  carry_kept rows Denied at free can = absurd can
+  carry_kept rows (Denies why) at free can = absurd can
   carry_kept rows (Gives more) at free can = absurd can
   carry_kept rows (Admits buckets) at free can = absurd can
+  carry_kept rows (WasOpened slot) at free can = absurd can
   carry_kept rows WasDone at free can = absurd can
 
   near_kept : (rows : List Row) (told : CopyTold) → HasCopied setting world i who rows
       → world.leaf_holder l.0 ≡ None → IsToldAtTarget setting (of_leaf world.truth l) rows told
-      → IsStep setting world (after_nearing world i who rows told)
+      → IsStep setting world (copy_at setting world i who (Nearing rows) told)
   near_kept rows (Admits buckets) at free can =
       let stage = Within rows buckets buckets in
       quiet_step l (Some i) stage free (
@@ -232,11 +314,12 @@ module _ (setting : Setting) (world : World) (i : ℕ) (who : Recovery) (is : wo
             (rows_buckets setting.buckets_of rows) buckets (changed_same world.leaf_holder l.0 (Some i)) refl can.0
             can.1,
       )
-  near_kept rows WasDown at free can = give_up l free at.copying.locked
+  near_kept rows (WasDown cut) at free can = give_up cut free at.copying.locked can
   near_kept rows (Sources replicas) at free can = absurd can
-  near_kept rows Denied at free can = absurd can
+  near_kept rows (Denies why) at free can = absurd can
   near_kept rows (Gives more) at free can = absurd can
   near_kept rows HasRoom at free can = absurd can
+  near_kept rows (WasOpened slot) at free can = absurd can
   near_kept rows WasDone at free can = absurd can
 
   -- ---- inside its leaf
@@ -247,7 +330,8 @@ module _ (setting : Setting) (world : World) (i : ℕ) (who : Recovery) (is : wo
 
     copy_root : (bucket : ℕ) (at_root in_zone : List ℕ)
         → IsInside setting world i who.view l needed (bucket ∷ at_root) in_zone
-        → IsStep setting world (copied_in setting world i who rows (bucket ∷ at_root) in_zone)
+        → IsStep setting world
+        (copied_in setting world i who rows (bucket ∷ at_root) in_zone (Within rows at_root in_zone))
     copy_root bucket at_root in_zone inside =
         let zone = zone_of_leaf setting l in
         let stage = Within rows at_root in_zone in
@@ -263,7 +347,7 @@ module _ (setting : Setting) (world : World) (i : ℕ) (who : Recovery) (is : wo
         )
 
     copy_zone : (bucket : ℕ) (in_zone : List ℕ) → IsInside setting world i who.view l needed [] (bucket ∷ in_zone)
-        → IsStep setting world (copied_in setting world i who rows [] (bucket ∷ in_zone))
+        → IsStep setting world (copied_in setting world i who rows [] (bucket ∷ in_zone) (Within rows [] in_zone))
     copy_zone bucket in_zone inside =
         let stage = Within rows [] in_zone in
         let next = at_leaf world i who.view l (with_zone_bit l bucket) (Some i) (recovers_on who stage) in
@@ -383,7 +467,7 @@ module _ (setting : Setting) (world : World) (i : ℕ) (who : Recovery) (is : wo
       }
 
       abbrev next : World
-      next = at_leaf world i who.view l (with_entry l e) None (recovers_on who (Telling true))
+      next = at_leaf world i who.view l (with_entry l e) None (recovers_on who (Telling (Opens s)))
 
       -- the replicas that serve are as they were
       still_serve : (replica : SlotLeaf) → Contains (serving g) replica
@@ -420,35 +504,56 @@ module _ (setting : Setting) (world : World) (i : ℕ) (who : Recovery) (is : wo
 
       pub open_replica : IsStep setting world next
       open_replica =
-          recover_at_leaf setting world i who is kept l (with_entry l e) None (Telling true) changes
-          (inr inside.holder)
-          (record {
-            holder = locked.holder;
-            whole = base_range setting world i kept who.view own.part l r locked.whole;
-            rows = still_serve;
-            fresh = fresh_then;
-            may = at.copying.may;
-            has = record { opened = open_then; all = rows_then };
-            seen = begins_same (replica_rows r s (of_leaf (with_entry l e met) l)) (acknowledged_rows g)
-                (ap (replica_rows r s) changes.whole ∙ rows_then);
-            entered = subst (λ (xs : List Row). Contains (of_leaf (with_entry l e met) l) (copy_of who g xs)) at.all
-                (subst (λ (history : List Entry). Contains history e) (sym (leaf_entry_same met.seen l e in_met))
-                (Contains-push (of_leaf met l) e));
-          })
+          recover_at_leaf setting world i who is kept l (with_entry l e) None (Telling (Opens s)) changes
+          (inr inside.holder) (
+            record {
+              holder = locked.holder;
+              whole = base_range setting world i kept who.view own.part l r locked.whole;
+              rows = still_serve;
+              fresh = fresh_then;
+              may = at.copying.may;
+              has = record { opened = open_then; all = rows_then };
+              seen = begins_same (replica_rows r s (of_leaf (with_entry l e met) l)) (acknowledged_rows g)
+                  (ap (replica_rows r s) changes.whole ∙ rows_then);
+              entered = subst (λ (xs : List Row). Contains (of_leaf (with_entry l e met) l) (copy_of who g xs)) at.all
+                  (subst (λ (history : List Entry). Contains history e) (sym (leaf_entry_same met.seen l e in_met))
+                  (Contains-push (of_leaf met l) e));
+            },
+            refl,
+          )
 
-    inside_kept : (at_root in_zone : List ℕ) → IsInside setting world i who.view l needed at_root in_zone
-        → IsStep setting world (copied_in setting world i who rows at_root in_zone)
-    inside_kept (bucket ∷ at_root) in_zone inside = copy_root bucket at_root in_zone inside
-    inside_kept [] (bucket ∷ in_zone) inside = copy_zone bucket in_zone inside
-    inside_kept [] [] inside = open_replica inside
+    inside_kept : (at_root in_zone : List ℕ) (told : CopyTold)
+        → IsInside setting world i who.view l needed at_root in_zone → IsToldWithin g at_root in_zone told
+        → IsStep setting world (copy_at setting world i who (Within rows at_root in_zone) told)
+    inside_kept (bucket ∷ at_root) in_zone told inside can =
+        subst
+        (λ (x : CopyTold). IsStep setting world
+        (copy_at setting world i who (Within rows (bucket ∷ at_root) in_zone) x))
+        (sym can) (copy_root bucket at_root in_zone inside)
+    inside_kept [] (bucket ∷ in_zone) told inside can =
+        subst
+        (λ (x : CopyTold). IsStep setting world (copy_at setting world i who (Within rows [] (bucket ∷ in_zone)) x))
+        (sym can) (copy_zone bucket in_zone inside)
+    inside_kept [] [] told inside can =
+        subst (λ (x : CopyTold). IsStep setting world (copy_at setting world i who (Within rows [] []) x)) (sym can)
+        (open_replica inside)
 
   -- ---- it tells its range
 
-  tell_nothing : HasLocked world i who
-      → IsStep setting world (at_range world i who.view r same_view None (recovers_on who (Over false)))
-  tell_nothing h =
-      recover_at_range setting world i who is kept r same_view None (Over false)
-      (meet.quiet_range setting world i kept who.view own.part r) (inr h.holder) (λ x. h.settled) tt
+  -- nothing, where it opened none; what was in its way has been seen
+  tell_nothing : (outcome : Outcome) → HasLocked world i who
+      → HasCause (copied_on who (Over outcome) (joined_view who.view (world.ranges r.0))) outcome
+      → IsStep setting world (at_range world i who.view r same_view None (recovers_on who (Over outcome)))
+  tell_nothing outcome h cause =
+      recover_at_range setting world i who is kept r same_view None (Over outcome)
+      (meet.quiet_range setting world i kept who.view own.part r) (inr h.holder) (λ x. h.settled) cause
+
+  -- it has seen then of its range what it had seen
+  same_range : HasLocked world i who → of_range who.view r ≡ of_range (joined_view who.view (world.ranges r.0)) r
+  same_range h = h.whole ∙ sym (meet.met_whole setting world i kept who.view own.part r)
+
+  range_up : IsViewWithin who.view (joined_view who.view (world.ranges r.0))
+  range_up = meet.met_up setting world i kept who.view own.part r
 
   module _ (h : HasOpened setting world i who) where
     abbrev last : RangeEntry
@@ -571,40 +676,53 @@ module _ (setting : Setting) (world : World) (i : ℕ) (who : Recovery) (is : wo
           omega arith));
     }
 
-    tell_opened : IsStep setting world
-        (at_range world i who.view r (with_range_entry r last) None (recovers_on who (Over true)))
-    tell_opened =
-        recover_at_range setting world i who is kept r (with_range_entry r last) None (Over true) range_changes
+    tell_opened : (slot : Slot) → slot ≡ next_slot g → IsStep setting world
+        (at_range world i who.view r (with_range_entry r last) None (recovers_on who (Over (Opens slot))))
+    tell_opened slot same =
+        recover_at_range setting world i who is kept r (with_range_entry r last) None (Over (Opens slot)) range_changes
         (inr h.holder) (λ x. settled_then)
-        (record {
-          slot = next_slot g;
-          told = subst (λ (history : List RangeEntry). Contains history last)
-              (sym (range_entry_same met_range.seen r last there_met)) (Contains-push (of_range met_range r) last);
-        })
+        (subst (λ (history : List RangeEntry). Contains history (range_entry.Opened who.pass slot l))
+        (sym (range_entry_same met_range.seen r last there_met))
+        (subst (λ (one : Slot). Contains (of_range met_range r ++ last ∷ []) (range_entry.Opened who.pass one l))
+        (sym same) (Contains-push (of_range met_range r) last)))
 
-  tell_kept : (is_open : Bool) → IsTelling setting world i who is_open
-      → IsStep setting world (at_range world i who.view r (told_range who g is_open) None
-      (recovers_on who (Over is_open)))
-  tell_kept true h = tell_opened h
-  tell_kept false h = tell_nothing h
+  tell_kept : (outcome : Outcome) → IsTelling setting world i who outcome
+      → IsStep setting world (at_range world i who.view r (told_range who g outcome) None
+      (recovers_on who (Over outcome)))
+  tell_kept (Opens slot) h = tell_opened h.0 slot h.1
+  tell_kept (Denied why) h =
+      tell_nothing (Denied why) h.0
+      (subst (λ (history : List RangeEntry). IsDeniedFor history l why) (same_range h.0) h.1)
+  tell_kept (NoSource founds) h =
+      tell_nothing (NoSource founds) h.0
+      (subst (λ (history : List RangeEntry). HaveFound (joined_view who.view (world.ranges r.0)) (serving history)
+      founds) (same_range h.0)
+      (found_moves who.view (joined_view who.view (world.ranges r.0)) range_up (serving (of_range who.view r)) founds
+      h.1))
+  tell_kept (NoTarget cut) h =
+      tell_nothing (NoTarget cut) h.0
+      (down_moves who.view (joined_view who.view (world.ranges r.0)) range_up l cut h.1)
 
   begin_kept : (told : CopyTold) → world.range_holder r.0 ≡ None → IsToldOfRange setting g who told
-      → IsStep setting world (after_sources world i who told)
+      → IsStep setting world (copy_at setting world i who Beginning told)
   begin_kept (Sources replicas) free can = begin_sources free replicas can.0 can.1
-  begin_kept Denied free can = begin_denied free
+  begin_kept (Denies why) free can = begin_denied free why can
   begin_kept (Gives rows) free can = absurd can
   begin_kept HasRoom free can = absurd can
   begin_kept (Admits buckets) free can = absurd can
-  begin_kept WasDown free can = absurd can
+  begin_kept (WasDown cut) free can = absurd can
+  begin_kept (WasOpened slot) free can = absurd can
   begin_kept WasDone free can = absurd can
 
   -- whatever a recovery is told, the invariant stays
   pub recovery_kept : (stage : CopyStage) (told : CopyTold) → IsCopyAt setting world i who stage
       → CanCopyAt setting world who stage told → IsStep setting world (copy_at setting world i who stage told)
   recovery_kept Beginning told at can = begin_kept told can.0 can.1
-  recovery_kept (Copying sources) told at can = ask_kept sources told at can
+  recovery_kept (Copying founds sources) told at can = ask_kept founds sources told at can
   recovery_kept (Carrying rows) told at can = carry_kept rows told at can.0 can.1
   recovery_kept (Nearing rows) told at can = near_kept rows told at can.0 can.1
-  recovery_kept (Within rows at_root in_zone) told at can = inside_kept rows at.0 at_root in_zone at.1
-  recovery_kept (Telling is_open) told at can = tell_kept is_open at
-  recovery_kept (Over is_open) told at can = absurd can
+  recovery_kept (Within rows at_root in_zone) told at can = inside_kept rows at.0 at_root in_zone told at.1 can
+  recovery_kept (Telling outcome) told at can =
+      subst (λ (x : CopyTold). IsStep setting world (copy_at setting world i who (Telling outcome) x)) (sym can)
+      (tell_kept outcome at)
+  recovery_kept (Over outcome) told at can = absurd can

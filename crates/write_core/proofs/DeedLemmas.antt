@@ -37,14 +37,14 @@ skip_marks done (mark ∷ left) =
     (λ (round : Round). round_marks round ≡ done ++ mark ∷ left) (λ ready. refl)
     (λ not_ready. skip_marks (done ++ mark ∷ []) left ∙ append_assoc done (mark ∷ []) left)
 
-marks_entering : (round : Round) → marks_at (entering round) ≡ round_marks round
+pub marks_entering : (round : Round) → marks_at (entering round) ≡ round_marks round
 marks_entering round =
     cond_both (is_through (after_skip round)) (Acking (Marked (round_marks (after_skip round))))
     (Entering (after_skip round))
     (λ stage. marks_at stage ≡ round_marks round) (λ e. skip_marks round.done round.left)
     (λ e. skip_marks round.done round.left)
 
-marks_reserving : (round : Round) → marks_at (reserving round) ≡ round_marks round
+pub marks_reserving : (round : Round) → marks_at (reserving round) ≡ round_marks round
 marks_reserving round =
     cond_both (is_through round) (entering (again round)) (Reserving round)
     (λ stage. marks_at stage ≡ round_marks round)

@@ -17,7 +17,8 @@ use Rattle.mon_topo.specs.HeldHistories.{BeginsWith}
 use Rattle.mon_topo.specs.RangeHistories.{acknowledged_rows, opened_slots, serving}
 use Rattle.mon_hints.specs.HistoryBuckets.{rows_buckets}
 use Rattle.write_core.specs.CopySteps.{MayOpen, copy_of, new_replica, next_slot}
-use Rattle.write_core.specs.Recovering.{Beginning, Carrying, CopyStage, Copying, Nearing, Over, Telling, Within}
+use Rattle.write_core.specs.Recovering.{Beginning, Carrying, CopyStage, Copying, Denied, Nearing, NoSource, NoTarget}
+use Rattle.write_core.specs.Recovering.{Opens, Over, Telling, Within}
 use Rattle.write_core.specs.Deeds.{acks_by, puts_by}
 use Rattle.write_core.specs.Invariant.{HaveOwnPasses, HasCopied, HasLocked, HasMissed, HasOpened, HasRows, HasSeen}
 use Rattle.write_core.specs.Invariant.{HasTaken, IsActor, IsAcking, IsAt, IsCopyAt, IsCopying, IsEntering, IsUnopened}
@@ -337,10 +338,14 @@ module _ (setting : Setting) (before after : World) (i : ℕ) (recovery : Recove
   still_copy_at : (stage : CopyStage) → IsCopyAt setting before i recovery stage
       → IsCopyAt setting after i recovery stage
   still_copy_at Beginning h = tt
-  still_copy_at (Copying sources) h = (
+  still_copy_at (Copying founds sources) h = (
     still_copying h.0,
-    with_history (λ history. All (Contains (serving history)) sources)
-        (keeps.ranges recovery.range h.0.locked.holder) h.1,
+    record {
+      asked = h.1.asked;
+      all = with_history (λ history. h.1.asked ++ sources ≡ serving history)
+          (keeps.ranges recovery.range h.0.locked.holder) h.1.all;
+      found = h.1.found;
+    },
   )
   still_copy_at (Carrying rows) h = still_copied rows h
   still_copy_at (Nearing rows) h = still_copied rows h
@@ -349,9 +354,14 @@ module _ (setting : Setting) (before after : World) (i : ℕ) (recovery : Recove
     still_inside setting before after i recovery.view recovery.leaf
         (rows_buckets setting.buckets_of rows) at_root in_zone (keeps.leaves recovery.leaf h.1.holder) h.1,
   )
-  still_copy_at (Telling true) h = still_opened h
-  still_copy_at (Telling false) h = still_locked h
-  still_copy_at (Over is_open) h = h
+  still_copy_at (Telling (Opens slot)) h = (
+    still_opened h.0,
+    with_history (λ history. slot ≡ next_slot history) (keeps.ranges recovery.range h.0.holder) h.1,
+  )
+  still_copy_at (Telling (Denied why)) h = (still_locked h.0, h.1)
+  still_copy_at (Telling (NoSource founds)) h = (still_locked h.0, h.1)
+  still_copy_at (Telling (NoTarget cut)) h = (still_locked h.0, h.1)
+  still_copy_at (Over outcome) h = h
 
   -- a recovery whose range and leaf are left to it stays as it was
   pub recovery_stays : IsRecovery setting before i recovery → IsRecovery setting after i recovery

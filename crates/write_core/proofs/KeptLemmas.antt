@@ -2,8 +2,9 @@
 use Rattle.std.proofs.Common.{◌≡◌, ◌<◌, ℕ, true, Some, None, List, [], ◌∷◌, refl, sym, ap, subst, ◌∙◌}
 use Rattle.std.specs.Prelude.{Contains}
 use Rattle.mon_value.specs.declared.histories.RangeEntry.TheVariants as range_entry
+use Rattle.mon_value.specs.declared.positions.Slot.{Slot}
 use Rattle.write_core.specs.Deeds.{HasDone}
-use Rattle.write_core.specs.Invariant.{HasRecovered, IsAcked, IsAcking, IsAcknowledged, IsActor, IsAt, IsCopyAt}
+use Rattle.write_core.specs.Invariant.{ComesOut, HasCause, IsAcked, IsAcking, IsAcknowledged, IsActor, IsAt, IsCopyAt}
 use Rattle.write_core.specs.Invariant.{IsEntering, IsInFirst, IsKept, IsNewWorld, IsNewActor, IsRecovered, IsReserving}
 use Rattle.write_core.specs.Marks.{ack_of, some_took}
 use Rattle.write_core.specs.Program.{Acking, Ended, Entering, Inside, Locking, Marked, Not, Reserving, Stage, Verdict}
@@ -12,9 +13,9 @@ use Rattle.write_core.specs.Steps.{CanComeAt, CanEnter, CanGo, CanReserve, IsTol
 use Rattle.write_core.specs.Steps.{after_entering}
 use Rattle.write_core.specs.Steps.{gone_on_inside, after_reserving, step_at, after_answer, same_view}
 use Rattle.write_core.specs.CopySteps.{CanRecover, after_copy_event}
-use Rattle.write_core.specs.Events.{Begins, CanHappen, CanRun, Copies, Event, Goes, Learns, Resolves, Switches, Visits}
-use Rattle.write_core.specs.Events.{after_event, after_events}
-use Rattle.write_core.specs.Recovering.{CopyStage, CopyTold, Over}
+use Rattle.write_core.specs.Events.{Aims, Begins, CanHappen, CanRun, Copies, Event, Goes, Learns, Resolves, Switches}
+use Rattle.write_core.specs.Events.{Visits, after_event, after_events}
+use Rattle.write_core.specs.Recovering.{CopyStage, CopyTold, Denied, NoSource, NoTarget, Opens, Outcome, Over}
 use Rattle.mon_topo.specs.Settings.{Setting}
 use Rattle.write_core.specs.Views.{View, of_leaf, of_range, joined_view}
 use Rattle.write_core.specs.World.{Actor, IsPart, Recovers, Recovery, Stands, World, Writer, Writes, at_range}
@@ -27,7 +28,7 @@ use Rattle.write_core.proofs.InsideLemmas.{put_row, raise_root, raise_zone}
 use Rattle.write_core.proofs.LeafEventLemmas.{enter_down, enter_up, reserve_down, reserve_up}
 use Rattle.write_core.proofs.RangeEventLemmas.{ack_marked, ack_refused, lock_refused, lock_slots}
 use Rattle.mon_topo.proofs.RangeHistoryLemmas.{get_there}
-use Rattle.write_core.proofs.SwitchLemmas.{begin_kept, learn_kept, resolve_kept, switch_kept, visit_kept}
+use Rattle.write_core.proofs.SwitchLemmas.{aim_kept, begin_kept, learn_kept, resolve_kept, switch_kept, visit_kept}
 use Rattle.write_core.proofs.ViewLemmas.{joined_sound, joined_within, within_itself}
 use Rattle.write_core.proofs.KeepsLemmas.{part_moves}
 use Rattle.write_core.proofs.StepLemmas.{IsStep, recovery_of, writer_of}
@@ -145,9 +146,11 @@ happened_kept : (setting : Setting) (world : World) (event : Event) → CanHappe
 happened_kept setting world (Goes i answer) can kept =
     step_kept setting world i (world.actors i) refl kept answer can
 happened_kept setting world (Copies i told) can kept = copy_kept setting world i (world.actors i) refl kept told can
-happened_kept setting world (Switches leaf entry view) can kept = switch_kept setting world kept leaf entry view can
+happened_kept setting world (Switches i leaf down told) can kept =
+    switch_kept setting world kept i (world.actors i) refl leaf down told can
 happened_kept setting world (Learns i view) can kept = learn_kept setting world kept i view can.1 can.0
 happened_kept setting world (Begins i row range) can kept = begin_kept setting world kept i row range can
+happened_kept setting world (Aims i range leaf) can kept = aim_kept setting world kept i range leaf can
 happened_kept setting world (Visits leaf view) can kept = visit_kept setting world kept leaf view can.1
 happened_kept setting world (Resolves range view) can kept = resolve_kept setting world kept range view can.1
 
@@ -236,21 +239,30 @@ module _ (setting : Setting) (world : World) (i : ℕ) (writer : Writer) (kept :
   pub has_done : HasDone world.truth writer writer.stage
   has_done = (writer_of setting world i writer kept is).deeds
 
--- a recovery that has opened its replica is borne out
-pub over_recovered : (setting : Setting) (world : World) (i : ℕ) (recovery : Recovery) → IsKept setting world
-    → world.actors i ≡ Recovers recovery → recovery.stage ≡ Over true → IsRecovered setting recovery
-over_recovered setting world i recovery kept is over =
-    let own = recovery_of setting world i recovery kept is in
-    let held = own.part.sound.held in
-    let at : HasRecovered recovery = subst (λ (stage : CopyStage). IsCopyAt setting world i recovery stage) over
-    own.at in
-    let entry = range_entry.Opened recovery.pass at.slot recovery.leaf in
-    let here = get_there (of_range recovery.view recovery.range) at.told.0 entry at.told.1 at.told.2 in
-    let there = subst (λ (n : ℕ). recovery.range.0 < n) (sym held.all_ranges) own.aimed.range_there in
-    record {
-      legal = held.legal recovery.range there;
-      slot = at.slot;
-      place = at.told.0;
-      there = here;
-      borne_out = (held.borne_out recovery.range there).borne_out at.told.0 entry here;
-    }
+-- a recovery that has opened its replica is borne out; any other has seen what was in its way
+module _ (setting : Setting) (world : World) (i : ℕ) (recovery : Recovery) (kept : IsKept setting world)
+    (is : world.actors i ≡ Recovers recovery) where
+  opened_recovered : (slot : Slot) → HasCause recovery (Opens slot) → IsRecovered setting recovery slot
+  opened_recovered slot told =
+      let own = recovery_of setting world i recovery kept is in
+      let held = own.part.sound.held in
+      let entry = range_entry.Opened recovery.pass slot recovery.leaf in
+      let here = get_there (of_range recovery.view recovery.range) told.0 entry told.1 told.2 in
+      let there = subst (λ (n : ℕ). recovery.range.0 < n) (sym held.all_ranges) own.aimed.range_there in
+      record {
+        legal = held.legal recovery.range there;
+        place = told.0;
+        there = here;
+        borne_out = (held.borne_out recovery.range there).borne_out told.0 entry here;
+      }
+
+  comes_out : (outcome : Outcome) → HasCause recovery outcome → ComesOut setting recovery outcome
+  comes_out (Opens slot) h = opened_recovered slot h
+  comes_out (Denied why) h = h
+  comes_out (NoSource founds) h = h
+  comes_out (NoTarget cut) h = h
+
+  pub over_comes_out : (outcome : Outcome) → recovery.stage ≡ Over outcome → ComesOut setting recovery outcome
+  over_comes_out outcome over =
+      comes_out outcome (subst (λ (stage : CopyStage). IsCopyAt setting world i recovery stage) over
+      (recovery_of setting world i recovery kept is).at)

@@ -1,7 +1,9 @@
 pub mod AckLemmas
 pub mod BucketLemmas
 pub mod ChangeLemmas
+mod CopyAnswers
 pub mod CopyLemmas
+pub mod CopyPlaces
 pub mod CourseLemmas
 pub mod DecidedLemmas
 pub mod DeedLemmas
@@ -10,6 +12,7 @@ pub mod KeepsLemmas
 pub mod KeptLemmas
 pub mod LeafEventLemmas
 pub mod MeetLemmas
+mod NotedLemmas
 pub mod OpeningLemmas
 pub mod RangeEventLemmas
 pub mod RoundLemmas

@@ -275,7 +275,8 @@ module _ (setting : Setting) (world : World) (i : ℕ) (who : Recovery) (is : wo
   aimed_so : (stage : CopyStage) (view : View) → IsAimed setting (copied_on who stage view)
   aimed_so stage view =
       let own = recovery_of setting world i who kept is in
-      record { range_there = own.aimed.range_there; leaf_there = own.aimed.leaf_there }
+      record
+      { range_there = own.aimed.range_there; leaf_there = own.aimed.leaf_there; zoned = own.aimed.zoned }
 
   pub recover_at_leaf : (l : Leaf) (change : View → View) (holder : Option ℕ) (stage : CopyStage)
       → ChangesLeaf setting world i who.view l change → IsLeftTo i (world.leaf_holder l.0)

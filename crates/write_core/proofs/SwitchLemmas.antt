@@ -1,6 +1,6 @@
 -- Leaves that go down and come up, and a write that learns what someone has seen.
-use Rattle.std.proofs.Common.{◌≡◌, ◌≢◌, ℕ, ◌<◌, true, false, Some, None, Option, List, [], ◌∷◌, ◌++◌, length, refl}
-use Rattle.std.proofs.Common.{sym, ap, subst, ◌∙◌, append-nil}
+use Rattle.std.proofs.Common.{◌≡◌, ℕ, ◌<◌, true, false, Some, None, Option, List, [], ◌∷◌, ◌++◌, length, refl}
+use Rattle.std.proofs.Common.{sym, ap, subst, ◌∙◌, append-nil, Bool, inl}
 use Rattle.mon_value.specs.LeafHistories as leaf_spec
 use Rattle.mon_value.specs.LeafHistories.{entry_rows, is_opened, is_switch, replica_rows}
 use Rattle.mon_value.specs.declared.histories.Entry.{Entry}
@@ -15,22 +15,25 @@ use Rattle.mon_topo.proofs.HeldLemmas.{leaf_entry_by, leaf_entry_other, leaf_ent
 use Rattle.mon_value.specs.Positions.{leaf_numbered, range_numbered}
 use Rattle.mon_hints.specs.Covers.{Bits, Covers}
 use Rattle.mon_hints.specs.HistoryBuckets.{history_buckets}
-use Rattle.write_core.specs.Invariant.{IsActor, IsAt, IsCopyAt, IsKept, IsWriter}
+use Rattle.write_core.specs.Deeds.{acks_by, puts_by}
+use Rattle.write_core.specs.Invariant.{IsActor, IsAt, IsCopyAt, IsKept, IsRecovery, IsStander, IsWriter}
 use Rattle.write_core.specs.Recovering.{CopyStage}
 use Rattle.write_core.specs.Program.{Stage}
-use Rattle.write_core.specs.Events.{CanBegin, CanSwitch, HasNotBegun, after_beginning, after_learning, new_writer}
-use Rattle.write_core.specs.Events.{after_resolving, after_switch}
+use Rattle.write_core.specs.Events.{CanAim, CanBegin, CanSwitch, HasNotBegun, MaySwitch, SwitchTold, SwitchesSpent}
+use Rattle.write_core.specs.Events.{WasDownAlready, WasSwitched, WasUpAlready, after_aiming, after_beginning}
+use Rattle.write_core.specs.Events.{after_learning, after_resolving, new_recovery, new_writer, switched, switches_with}
 use Rattle.write_core.specs.Events.{after_visit}
 use Rattle.mon_topo.specs.Settings.{Setting, zone_of_leaf}
-use Rattle.write_core.specs.Views.{IsSound, IsViewWithin, View, joined_view, of_leaf, of_range, with_entry}
-use Rattle.write_core.specs.World.{Actor, IsPart, Recovers, Stands, World, Writes, copied_on, writer_at_stage, pass_of}
-use Rattle.write_core.specs.World.{wiser}
+use Rattle.write_core.specs.Views.{IsSound, View, joined_view, of_leaf, of_range, with_entry}
+use Rattle.write_core.specs.Steps.{same_view}
+use Rattle.write_core.specs.World.{Actor, IsPart, Recovers, Stander, Stands, World, Writes, at_leaf, copied_on}
+use Rattle.write_core.specs.World.{pass_of, stands_on, wiser, writer_at_stage}
 use Rattle.write_core.proofs.ChangeLemmas.{entry_sound, entry_up, entry_within}
 use Rattle.write_core.proofs.DeedLemmas.{puts_stay, switch_is_no_put}
-use Rattle.write_core.proofs.KeepsLemmas.{Keeps, actor_stays, apart_stay, changed_by, opened_with, part_moves}
-use Rattle.write_core.proofs.KeepsLemmas.{settled_moves}
+use Rattle.write_core.proofs.KeepsLemmas.{Keeps, actor_stays, apart_stay, changed_by, opened_with}
 use Rattle.mon_value.proofs.LeafHistoryLemmas.{replica_rows-push}
-use Rattle.write_core.proofs.StepLemmas.{IsStep}
+use Rattle.write_core.proofs.MeetLemmas.{base_sound, base_whole, base_within, quiet}
+use Rattle.write_core.proofs.StepLemmas.{ChangesLeaf, IsStep, leaf_step}
 use Rattle.write_core.proofs.ViewLemmas.{joined_sound, joined_whole_leaf, joined_whole_range, joined_within}
 use Rattle.write_core.proofs.ViewLemmas.{within_itself}
 
@@ -65,108 +68,105 @@ nobody : (i : ℕ) (holder : Option ℕ) → holder ≡ None → holder ≡ Some
 nobody i holder e f = absurd cc
 
 module _ (setting : Setting) (world : World) (kept : IsKept setting world) where
-  module _ (l : Leaf) (e : Entry) (view : View) (can : CanSwitch setting world l e view) where
+  -- someone who has seen so much switches a leaf
+  module _ (i : ℕ) (view : View) (part : IsPart setting world view) (l : Leaf) (e : Entry) (switch : is_switch e ≡ true)
+      (there : l.0 < length world.truth.seen.leaves) (may : leaf_spec.MayFollow (of_leaf world.truth l) e) where
     abbrev base : View
     base = joined_view view (world.leaves l.0)
 
-    base_sound : IsSound setting base
-    base_sound =
-        joined_sound view (world.leaves l.0) world.truth can.part.within (kept.leaves l).within setting can.part.sound
-        (kept.leaves l).sound
+    sound : IsSound setting base
+    sound = base_sound setting world i kept view part l
 
-    base_within : IsViewWithin base world.truth
-    base_within = joined_within view (world.leaves l.0) world.truth can.part.within (kept.leaves l).within
-
-    base_whole : of_leaf base l ≡ of_leaf world.truth l
-    base_whole =
-        joined_whole_leaf view (world.leaves l.0) world.truth can.part.within (kept.leaves l).within l
-        (kept.whole_leaves l)
+    whole : of_leaf base l ≡ of_leaf world.truth l
+    whole = base_whole setting world i kept view part l
 
     in_base : l.0 < length base.seen.leaves
-    in_base =
-        subst (λ (n : ℕ). l.0 < n) (kept.truth.held.all_leaves ∙ sym base_sound.held.all_leaves) can.there
+    in_base = subst (λ (n : ℕ). l.0 < n) (kept.truth.held.all_leaves ∙ sym sound.held.all_leaves) there
 
-    may_base : leaf_spec.MayFollow (of_leaf base l) e
-    may_base = subst (λ (history : List Entry). leaf_spec.MayFollow history e) (sym base_whole) can.may
-
-    abbrev next : World
-    next = after_switch world l e view
-
-    abbrev met : View
-    met = with_entry l e base
-
-    met_part : IsPart setting next met
-    met_part = record {
-      sound = entry_sound base l e in_base setting base_sound may_base (at_home setting e can.switch)
-          (no_buckets setting base.bits (zone_of_leaf setting l) l e can.switch);
-      within = entry_within l e base world.truth in_base can.there base_whole base_within;
-    }
-
-    grows : IsViewWithin world.truth next.truth
-    grows = entry_up world.truth l e can.there
+    after_entry : View
+    after_entry = with_entry l e world.truth
 
     rows_stay : (r : Range) (s : Slot) (o : Leaf)
-        → replica_rows r s (of_leaf next.truth o) ≡ replica_rows r s (of_leaf world.truth o)
+        → replica_rows r s (of_leaf (with_entry l e world.truth) o) ≡ replica_rows r s (of_leaf world.truth o)
     rows_stay r s o =
-        leaf_entry_by world.truth.seen l e can.there
+        leaf_entry_by world.truth.seen l e there
         (λ x history. replica_rows r s history ≡ replica_rows r s (of_leaf world.truth x)) o
         (replica_rows-push r s (of_leaf world.truth l) e
-        ∙ ap (λ rows. replica_rows r s (of_leaf world.truth l) ++ rows) (no_rows r s e can.switch)
+        ∙ ap (λ rows. replica_rows r s (of_leaf world.truth l) ++ rows) (no_rows r s e switch)
         ∙ append-nil (replica_rows r s (of_leaf world.truth l)))
         refl
 
     opened_stay : (r : Range) (s : Slot) (o : Leaf)
-        → is_opened r s (of_leaf next.truth o) ≡ is_opened r s (of_leaf world.truth o)
+        → is_opened r s (of_leaf (with_entry l e world.truth) o) ≡ is_opened r s (of_leaf world.truth o)
     opened_stay r s o =
-        leaf_entry_by world.truth.seen l e can.there
+        leaf_entry_by world.truth.seen l e there
         (λ x history. is_opened r s history ≡ is_opened r s (of_leaf world.truth x)) o
-        (opened_with r s (of_leaf world.truth l) e (opens_none r s e can.switch)) refl
+        (opened_with r s (of_leaf world.truth l) e (opens_none r s e switch)) refl
 
-    away : (j : ℕ) (o : Leaf) → world.leaf_holder o.0 ≡ Some j → o.0 ≢ l.0
-    away j o held same = nobody j (world.leaf_holder l.0) can.free (ap world.leaf_holder (sym same) ∙ held)
-
-    keeps : (j : ℕ) → Keeps world next j (pass_of (world.actors j))
-    keeps j = record {
-      grows = grows;
+    switches : ChangesLeaf setting world i view l (with_entry l e)
+    switches = record {
+      truth = entry_sound world.truth l e there setting kept.truth may (at_home setting e switch)
+          (no_buckets setting world.truth.bits (zone_of_leaf setting l) l e switch);
+      met = entry_sound base l e in_base setting sound
+          (subst (λ (history : List Entry). leaf_spec.MayFollow history e) (sym whole) may) (at_home setting e switch)
+          (no_buckets setting base.bits (zone_of_leaf setting l) l e switch);
+      within = entry_within l e base world.truth in_base there whole (base_within setting world i kept view part l);
+      grows = entry_up world.truth l e there;
       count = refl;
-      ranges = λ r held. record { holder = held; history = refl; rows = rows_stay r; opened = opened_stay r };
-      leaves = λ o held. record { holder = held; history = leaf_entry_other world.truth.seen l e o (away j o held) };
-      puts = puts_stay (pass_of (world.actors j)) world.truth l e can.there
-          (switch_is_no_put (pass_of (world.actors j)) e can.switch);
-      acks = λ r. refl;
+      whole = leaf_entry_same base.seen l e in_base ∙ ap (λ history. history ++ e ∷ []) whole
+          ∙ sym (leaf_entry_same world.truth.seen l e there);
+      others = leaf_entry_other world.truth.seen l e;
+      ranges = λ r. refl;
+      rows = λ r free. rows_stay r;
+      opened = λ r free. opened_stay r;
+      puts = λ pass apart. puts_stay pass world.truth l e there (switch_is_no_put pass e switch);
     }
 
-    -- a leaf that no write holds may be switched
-    pub switch_kept : IsStep setting world next
-    switch_kept = record {
-      kept = record {
-        truth = entry_sound world.truth l e can.there setting kept.truth can.may (at_home setting e can.switch)
-            (no_buckets setting world.truth.bits (zone_of_leaf setting l) l e can.switch);
-        leaves = λ o. changed_by world.leaves l.0 met (λ n x. IsPart setting next x) met_part
-            (λ n apart. part_moves setting world next (world.leaves n) grows (kept.leaves (leaf_numbered n))) o.0;
-        ranges = λ r. part_moves setting world next (world.ranges r.0) grows (kept.ranges r);
-        whole_leaves = λ o.
-            changed_by world.leaves l.0 met
-            (λ n x. of_leaf x (leaf_numbered n) ≡ of_leaf next.truth (leaf_numbered n))
-            (leaf_entry_same base.seen l e in_base ∙ ap (λ history. history ++ e ∷ []) base_whole
-            ∙ sym (leaf_entry_same world.truth.seen l e can.there))
-            (λ n apart. kept.whole_leaves (leaf_numbered n)
-            ∙ sym (leaf_entry_other world.truth.seen l e (leaf_numbered n) apart)) o.0;
-        whole_ranges = kept.whole_ranges;
-        settled = λ r free.
-            settled_moves world next grows None r (record {
-              holder = free;
-              history = refl;
-              rows = rows_stay r;
-              opened =
-                  opened_stay r;
-            })
-            (kept.settled r free);
-        actors = λ j. actor_stays setting world next j (world.actors j) (keeps j) (kept.actors j);
-        passes = kept.passes;
-      };
-      grows = grows;
-    }
+  module _ (i : ℕ) (who : Stander) (is : world.actors i ≡ Stands who) (l : Leaf) where
+    own : IsStander setting world who
+    own = subst (λ (actor : Actor). IsActor setting world i actor) is (kept.actors i)
+
+    stands_kept : (change : View → View) → world.leaf_holder l.0 ≡ None → ChangesLeaf setting world i who.view l change
+        → ((o : Leaf) → puts_by who.pass (of_leaf (change world.truth) o) ≡ puts_by who.pass (of_leaf world.truth o))
+        → IsStep setting world (at_leaf world i who.view l change None (stands_on who))
+    stands_kept change free changes none =
+        leaf_step setting world i who.view l change None (stands_on who) kept changes (inl free) (ap pass_of (sym is))
+        (record {
+          part = record { sound = changes.met; within = changes.within };
+          unused = record {
+            puts = λ o. none o ∙ own.unused.puts o;
+            acks = λ r. ap (acks_by who.pass) (changes.ranges r) ∙ own.unused.acks r;
+          };
+        })
+
+    looks_kept : world.leaf_holder l.0 ≡ None
+        → IsStep setting world (at_leaf world i who.view l same_view None (stands_on who))
+    looks_kept free = stands_kept same_view free (quiet setting world i kept who.view own.part l) (λ o. refl)
+
+    entry_kept : (e : Entry) → is_switch e ≡ true → world.leaf_holder l.0 ≡ None
+        → l.0 < length world.truth.seen.leaves → leaf_spec.MayFollow (of_leaf world.truth l) e
+        → IsStep setting world (at_leaf world i who.view l (with_entry l e) None (stands_on who))
+    entry_kept e switch free there may =
+        stands_kept (with_entry l e) free (switches i who.view own.part l e switch there may)
+        (puts_stay who.pass world.truth l e there (switch_is_no_put who.pass e switch))
+
+    stander_switches : (down : Bool) (told : SwitchTold) → CanSwitch world who l down told
+        → IsStep setting world
+        (at_leaf world i who.view l (switches_with l down who.pass told) None (stands_on who))
+    stander_switches true (WasSwitched cut) can =
+        entry_kept (entry.Down who.pass) refl can.free can.there (can.tells.0, can.tells.1)
+    stander_switches false (WasSwitched cut) can =
+        entry_kept (entry.Up who.pass) refl can.free can.there (can.tells.0, can.tells.1)
+    stander_switches down (WasDownAlready cut) can = looks_kept can.free
+    stander_switches down (WasUpAlready cut) can = looks_kept can.free
+    stander_switches down (SwitchesSpent count) can = looks_kept can.free
+
+  -- whoever stands by may switch a leaf that nobody holds
+  pub switch_kept : (i : ℕ) (actor : Actor) → world.actors i ≡ actor → (l : Leaf) (down : Bool) (told : SwitchTold)
+      → MaySwitch world actor l down told → IsStep setting world (switched world i actor l down told)
+  switch_kept i (Writes writer) is l down told can = absurd can
+  switch_kept i (Recovers recovery) is l down told can = absurd can
+  switch_kept i (Stands who) is l down told can = stander_switches i who is l down told can
 
   module _ (i : ℕ) (view : View) (part : IsPart setting world view) where
     abbrev after : World
@@ -209,7 +209,8 @@ module _ (setting : Setting) (world : World) (kept : IsKept setting world) where
     }
     wiser_kept (Recovers recovery) beginning h = record {
       part = both recovery.view h.part;
-      aimed = record { range_there = h.aimed.range_there; leaf_there = h.aimed.leaf_there };
+      aimed = record
+          { range_there = h.aimed.range_there; leaf_there = h.aimed.leaf_there; zoned = h.aimed.zoned };
       at = subst (λ (stage : CopyStage). IsCopyAt setting after i
           (copied_on recovery recovery.stage (joined_view recovery.view view)) stage) (sym beginning) tt;
     }
@@ -280,6 +281,49 @@ module _ (setting : Setting) (world : World) (kept : IsKept setting world) where
             (λ j actor. IsActor setting with_writer j actor) (begins_kept (world.actors i) can (kept.actors i))
             (λ j apart. actor_stays setting world with_writer j (world.actors j) (keeps_begun j) (kept.actors j));
         passes = apart_stay world.actors i (Writes (new_writer row range (world.actors i))) refl kept.passes;
+      };
+      grows = within_itself world.truth;
+    }
+
+  -- ---- recoveries that begin
+
+  module _ (i : ℕ) (range : Range) (leaf : Leaf) where
+    abbrev with_recovery : World
+    with_recovery = after_aiming world i range leaf
+
+    stays_aimed : (x : View) → IsPart setting world x → IsPart setting with_recovery x
+    stays_aimed x h = record { sound = h.sound; within = h.within }
+
+    keeps_aimed : (j : ℕ) → Keeps world with_recovery j (pass_of (world.actors j))
+    keeps_aimed j = record {
+      grows = within_itself world.truth;
+      count = refl;
+      ranges = λ r held. record { holder = held; history = refl; rows = λ s o. refl; opened = λ s o. refl };
+      leaves = λ o held. record { holder = held; history = refl };
+      puts = λ l. refl;
+      acks = λ r. refl;
+    }
+
+    aims_kept : (actor : Actor) → CanAim setting range leaf actor → IsActor setting world i actor
+        → IsRecovery setting with_recovery i (new_recovery range leaf actor)
+    aims_kept (Writes writer) can h = absurd can
+    aims_kept (Recovers recovery) can h = absurd can
+    aims_kept (Stands stander) can h = record { part = stays_aimed stander.view h.part; aimed = can; at = tt }
+
+    -- someone who stands by begins a recovery
+    pub aim_kept : CanAim setting range leaf (world.actors i) → IsStep setting world with_recovery
+    aim_kept can = record {
+      kept = record {
+        truth = kept.truth;
+        leaves = λ l. stays_aimed (world.leaves l.0) (kept.leaves l);
+        ranges = λ r. stays_aimed (world.ranges r.0) (kept.ranges r);
+        whole_leaves = kept.whole_leaves;
+        whole_ranges = kept.whole_ranges;
+        settled = kept.settled;
+        actors = changed_by world.actors i (Recovers (new_recovery range leaf (world.actors i)))
+            (λ j actor. IsActor setting with_recovery j actor) (aims_kept (world.actors i) can (kept.actors i))
+            (λ j apart. actor_stays setting world with_recovery j (world.actors j) (keeps_aimed j) (kept.actors j));
+        passes = apart_stay world.actors i (Recovers (new_recovery range leaf (world.actors i))) refl kept.passes;
       };
       grows = within_itself world.truth;
     }

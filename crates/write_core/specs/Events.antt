@@ -1,39 +1,71 @@
 -- What can happen: events of writes and of recoveries, and what else there is, one after another.
-use Rattle.std.specs.Prelude.{ℕ, ◌≡◌, ◌<◌, true, List, [], ◌∷◌, length, None}
-use Rattle.mon_value.specs.LeafHistories.{MayFollow, is_switch}
+use Rattle.std.specs.Prelude.{ℕ, ◌≡◌, ◌<◌, ◌+◌, Bool, true, false, not, List, [], ◌∷◌, length, None}
+use Rattle.std.specs.List.{count_by}
+use Rattle.mon_value.specs.LeafHistories.{is_down, is_switch}
+use Rattle.mon_value.specs.declared.limits.TheConstants.{MOST_SWITCHES}
 use Rattle.mon_value.specs.declared.histories.Entry.{Entry}
+use Rattle.mon_value.specs.declared.histories.Entry.TheVariants as entry
 use Rattle.mon_value.specs.declared.positions.Leaf.{Leaf}
 use Rattle.mon_value.specs.declared.positions.Range.{Range}
 use Rattle.mon_value.specs.declared.rows.Row.{Row}
 use Rattle.mon_topo.specs.HeldHistories.{IsAtHome}
 use Rattle.mon_topo.specs.Settings.{Setting}
 use Rattle.write_core.specs.CopySteps.{CanCopy, copy_step}
+use Rattle.write_core.specs.Invariant.{IsAimed}
 use Rattle.write_core.specs.Program.{Locking}
 use Rattle.write_core.specs.Recovering.{Beginning, CopyTold}
-use Rattle.write_core.specs.Steps.{CanCome, step}
+use Rattle.write_core.specs.Steps.{CanCome, same_view, step}
 use Rattle.write_core.specs.Views.{View, joined_view, of_leaf, with_entry}
-use Rattle.write_core.specs.World.{Actor, IsPart, Recovers, Stands, World, Writer, Writes, with_value_at, pass_of}
-use Rattle.write_core.specs.World.{view_of}
-use Rattle.write_core.specs.World.{wiser}
+use Rattle.write_core.specs.World.{Actor, IsPart, Recovers, Recovery, Stander, Stands, World, Writer, Writes, at_leaf}
+use Rattle.write_core.specs.World.{pass_of, stands_on, view_of, wiser, with_value_at}
 use Rattle.write_core.specs.declared.asks.WriteTold.{WriteTold}
 
--- a leaf goes down or comes up, while nobody holds it, by someone who has seen so much
-pub record CanSwitch (setting : Setting) (world : World) (leaf : Leaf) (entry : Entry) (view : View) : Type 0 where
-  pub switch : is_switch entry ≡ true
+-- what someone who switches a leaf is told: it is done, and the leaf's history has so many entries then; the leaf was
+-- down, or up, already, with so many; or it was switched so often that it may not be again
+pub data SwitchTold : Type 0 where
+  WasSwitched : ℕ → SwitchTold
+  WasDownAlready : ℕ → SwitchTold
+  WasUpAlready : ℕ → SwitchTold
+  SwitchesSpent : ℕ → SwitchTold
+
+-- a leaf is to be down, or up
+abbrev pub switch_of : Bool → ℕ → Entry
+switch_of true pass = entry.Down pass
+switch_of false pass = entry.Up pass
+
+abbrev pub IsToldOfSwitch : List Entry → Bool → SwitchTold → Type 0
+IsToldOfSwitch history down (WasSwitched cut) =
+    (is_down history ≡ not down) × (count_by is_switch history < MOST_SWITCHES) × (cut ≡ length history + 1)
+IsToldOfSwitch history down (WasDownAlready cut) = (down ≡ true) × (is_down history ≡ true) × (cut ≡ length history)
+IsToldOfSwitch history down (WasUpAlready cut) = (down ≡ false) × (is_down history ≡ false) × (cut ≡ length history)
+IsToldOfSwitch history down (SwitchesSpent count) =
+    (is_down history ≡ not down) × (count_by is_switch history ≡ count) × (count ≡ MOST_SWITCHES)
+
+abbrev pub switches_with : Leaf → Bool → ℕ → SwitchTold → View → View
+switches_with leaf down pass (WasSwitched cut) = with_entry leaf (switch_of down pass)
+switches_with leaf down pass (WasDownAlready cut) = same_view
+switches_with leaf down pass (WasUpAlready cut) = same_view
+switches_with leaf down pass (SwitchesSpent count) = same_view
+
+-- someone who stands by switches a leaf that nobody holds, and is told so
+pub record CanSwitch (world : World) (stander : Stander) (leaf : Leaf) (down : Bool) (told : SwitchTold) : Type 0 where
   pub there : leaf.0 < length world.truth.seen.leaves
   pub free : world.leaf_holder leaf.0 ≡ None
-  pub may : MayFollow (of_leaf world.truth leaf) entry
-  pub part : IsPart setting world view
+  pub tells : IsToldOfSwitch (of_leaf world.truth leaf) down told
 
-abbrev pub after_switch : World → Leaf → Entry → View → World
-after_switch world leaf entry view = record {
-  truth = with_entry leaf entry world.truth;
-  leaves = with_value_at world.leaves leaf.0 (with_entry leaf entry (joined_view view (world.leaves leaf.0)));
-  ranges = world.ranges;
-  leaf_holder = world.leaf_holder;
-  range_holder = world.range_holder;
-  actors = world.actors;
-}
+abbrev pub MaySwitch : World → Actor → Leaf → Bool → SwitchTold → Type 0
+MaySwitch world (Writes writer) leaf down told = ⊥
+MaySwitch world (Recovers recovery) leaf down told = ⊥
+MaySwitch world (Stands stander) leaf down told = CanSwitch world stander leaf down told
+
+abbrev pub switched : World → ℕ → Actor → Leaf → Bool → SwitchTold → World
+switched world i (Writes writer) leaf down told = world
+switched world i (Recovers recovery) leaf down told = world
+switched world i (Stands stander) leaf down told =
+    at_leaf world i stander.view leaf (switches_with leaf down stander.pass told) None (stands_on stander)
+
+abbrev pub after_switch : World → ℕ → Leaf → Bool → SwitchTold → World
+after_switch world i leaf down told = switched world i (world.actors i) leaf down told
 
 -- an actor that has not begun to write or to recover
 abbrev pub HasNotBegun : Actor → Type 0
@@ -50,6 +82,7 @@ after_learning world i view = record {
   leaf_holder = world.leaf_holder;
   range_holder = world.range_holder;
   actors = with_value_at world.actors i (wiser (world.actors i) view);
+  notes = world.notes;
 }
 
 -- someone who stands by is to write a row, which lies in a range that there is
@@ -71,6 +104,33 @@ after_beginning world i row range = record {
   leaf_holder = world.leaf_holder;
   range_holder = world.range_holder;
   actors = with_value_at world.actors i (Writes (new_writer row range (world.actors i)));
+  notes = world.notes;
+}
+
+-- someone who stands by is to recover a range onto a leaf of its zone
+abbrev pub new_recovery : Range → Leaf → Actor → Recovery
+new_recovery range leaf actor = record {
+  pass = pass_of actor;
+  range = range;
+  leaf = leaf;
+  stage = Beginning;
+  view = view_of actor;
+}
+
+abbrev pub CanAim : Setting → Range → Leaf → Actor → Type 0
+CanAim setting range leaf (Stands stander) = IsAimed setting (new_recovery range leaf (Stands stander))
+CanAim setting range leaf (Writes writer) = ⊥
+CanAim setting range leaf (Recovers recovery) = ⊥
+
+abbrev pub after_aiming : World → ℕ → Range → Leaf → World
+after_aiming world i range leaf = record {
+  truth = world.truth;
+  leaves = world.leaves;
+  ranges = world.ranges;
+  leaf_holder = world.leaf_holder;
+  range_holder = world.range_holder;
+  actors = with_value_at world.actors i (Recovers (new_recovery range leaf (world.actors i)));
+  notes = world.notes;
 }
 
 -- someone who has seen so much looks at a leaf: both have then seen what either had
@@ -82,6 +142,7 @@ after_visit world leaf view = record {
   leaf_holder = world.leaf_holder;
   range_holder = world.range_holder;
   actors = world.actors;
+  notes = world.notes;
 }
 
 -- or at a range
@@ -93,36 +154,41 @@ after_resolving world range view = record {
   leaf_holder = world.leaf_holder;
   range_holder = world.range_holder;
   actors = world.actors;
+  notes = world.notes;
 }
 
 -- ---- events, one after another
 
--- a write, or a recovery, does its next event and is told so; a leaf is switched; an actor that has not begun learns
--- something; someone who stands by begins a write; someone looks at a leaf or at a range that nobody holds
+-- a write, or a recovery, does its next event and is told so; someone who stands by switches a leaf and is told so; an
+-- actor that has not begun learns something; someone who stands by begins a write, or a recovery; someone looks at a
+-- leaf or at a range that nobody holds
 pub data Event : Type 0 where
   Goes : ℕ → WriteTold → Event
   Copies : ℕ → CopyTold → Event
-  Switches : Leaf → Entry → View → Event
+  Switches : ℕ → Leaf → Bool → SwitchTold → Event
   Learns : ℕ → View → Event
   Begins : ℕ → Row → Range → Event
+  Aims : ℕ → Range → Leaf → Event
   Visits : Leaf → View → Event
   Resolves : Range → View → Event
 
 abbrev pub CanHappen : Setting → World → Event → Type 0
 CanHappen setting world (Goes i answer) = CanCome setting world i answer
 CanHappen setting world (Copies i told) = CanCopy setting world i told
-CanHappen setting world (Switches leaf entry view) = CanSwitch setting world leaf entry view
+CanHappen setting world (Switches i leaf down told) = MaySwitch world (world.actors i) leaf down told
 CanHappen setting world (Learns i view) = HasNotBegun (world.actors i) × IsPart setting world view
 CanHappen setting world (Begins i row range) = CanBegin setting world row range (world.actors i)
+CanHappen setting world (Aims i range leaf) = CanAim setting range leaf (world.actors i)
 CanHappen setting world (Visits leaf view) = (world.leaf_holder leaf.0 ≡ None) × IsPart setting world view
 CanHappen setting world (Resolves range view) = (world.range_holder range.0 ≡ None) × IsPart setting world view
 
 abbrev pub after_event : Setting → World → Event → World
 after_event setting world (Goes i answer) = step setting world i answer
 after_event setting world (Copies i told) = copy_step setting world i told
-after_event setting world (Switches leaf entry view) = after_switch world leaf entry view
+after_event setting world (Switches i leaf down told) = after_switch world i leaf down told
 after_event setting world (Learns i view) = after_learning world i view
 after_event setting world (Begins i row range) = after_beginning world i row range
+after_event setting world (Aims i range leaf) = after_aiming world i range leaf
 after_event setting world (Visits leaf view) = after_visit world leaf view
 after_event setting world (Resolves range view) = after_resolving world range view
 

@@ -6,17 +6,19 @@ use Rattle.mon_hints.specs.Listings.{is_among}
 use Rattle.mon_value.specs.LeafHistories.{IsDownAt, is_down, is_opened, replica_rows}
 use Rattle.mon_value.specs.Sources.{IsSource}
 use Rattle.mon_value.specs.declared.histories.RangeEntry.TheVariants as range_entry
+use Rattle.mon_value.specs.declared.positions.FoundDown.{FoundDown}
 use Rattle.mon_value.specs.declared.positions.Leaf.{Leaf}
 use Rattle.mon_value.specs.declared.positions.Range.{Range}
 use Rattle.mon_value.specs.declared.positions.Slot.{Slot}
 use Rattle.mon_value.specs.declared.positions.SlotLeaf.{SlotLeaf}
 use Rattle.mon_value.specs.declared.rows.Row.{Row}
 use Rattle.mon_topo.specs.HeldHistories.{BeginsWith, IsAtHome, IsBorneOut}
-use Rattle.mon_topo.specs.RangeHistories.{IsLegal, acknowledged_rows, opened_slots, serving}
+use Rattle.mon_topo.specs.RangeHistories.{IsInZoneOf, IsLegal, acknowledged_rows, opened_slots, serving}
 use Rattle.mon_topo.specs.Zones.{leaves_in, ranges_in}
 use Rattle.mon_hints.specs.HistoryBuckets.{rows_buckets}
-use Rattle.write_core.specs.CopySteps.{MayOpen, copy_of, new_replica, next_slot}
-use Rattle.write_core.specs.Recovering.{Beginning, Carrying, CopyStage, Copying, Nearing, Over, Telling, Within}
+use Rattle.write_core.specs.CopySteps.{IsDeniedFor, MayOpen, copy_of, new_replica, next_slot}
+use Rattle.write_core.specs.Recovering.{Beginning, Carrying, CopyStage, Copying, Denied, Nearing, NoSource, NoTarget}
+use Rattle.write_core.specs.Recovering.{Opens, Outcome, Over, Telling, Within}
 use Rattle.write_core.specs.Marks.{ack_of, is_ready, has_taken, replica_of, some_took}
 use Rattle.write_core.specs.Program.{Acking, Ended, Entering, Inside, Locking, Marked, Not, Reserving, Stage, Verdict}
 use Rattle.write_core.specs.Rounds.{Round, round_marks}
@@ -197,10 +199,11 @@ pub record IsWriter (setting : Setting) (world : World) (i : ℕ) (writer : Writ
 
 -- ---- a recovery
 
--- its range and its leaf are there
+-- its range and its leaf are there, in one zone
 pub record IsAimed (setting : Setting) (recovery : Recovery) : Type 0 where
   pub range_there : recovery.range.0 < length (ranges_in setting.zones)
   pub leaf_there : recovery.leaf.0 < length (leaves_in setting.zones)
+  pub zoned : IsInZoneOf setting.zones recovery.range recovery.leaf
 
 -- it holds its range, whose replicas are settled, and has seen all of its history
 pub record HasLocked (world : World) (i : ℕ) (recovery : Recovery) : Type 0 where
@@ -234,33 +237,47 @@ pub record HasOpened (setting : Setting) (world : World) (i : ℕ) (recovery : R
   pub entered : Contains (of_leaf recovery.view recovery.leaf)
       (copy_of recovery (of_range world.truth recovery.range) (acknowledged_rows (of_range world.truth recovery.range)))
 
--- a recovery that opened a replica has seen that in its range's history
-pub record HasRecovered (recovery : Recovery) : Type 0 where
-  pub slot : Slot
-  pub told : Contains (of_range recovery.view recovery.range)
-      (range_entry.Opened recovery.pass slot recovery.leaf)
+-- the leaves of these replicas were found down, in their order
+pub record HaveFound (view : View) (replicas : List SlotLeaf) (founds : List FoundDown) : Type 0 where
+  pub leaves : map (λ found. found.leaf) founds ≡ map (λ replica. replica.leaf) replicas
+  pub down : AllByRecursion (λ found. IsDownAt (of_leaf view found.leaf) found.cut) founds
 
-abbrev pub IsTelling : Setting → World → ℕ → Recovery → Bool → Type 0
-IsTelling setting world i recovery true = HasOpened setting world i recovery
-IsTelling setting world i recovery false = HasLocked world i recovery
+-- of the replicas that serve it has asked some, whose leaves were down, and is to ask the others
+pub record IsAskingSources (world : World) (recovery : Recovery) (founds : List FoundDown) (sources : List SlotLeaf)
+    : Type 0 where
+  pub asked : List SlotLeaf
+  pub all : asked ++ sources ≡ serving (of_range world.truth recovery.range)
+  pub found : HaveFound recovery.view asked founds
 
-abbrev pub IsRecoveryOver : Recovery → Bool → Type 0
-IsRecoveryOver recovery true = HasRecovered recovery
-IsRecoveryOver recovery false = Unit {0}
+-- it has seen why it comes out so: that its replica was opened, or what was in its way
+abbrev pub HasCause : Recovery → Outcome → Type 0
+HasCause recovery (Opens slot) =
+    Contains (of_range recovery.view recovery.range) (range_entry.Opened recovery.pass slot recovery.leaf)
+HasCause recovery (Denied why) = IsDeniedFor (of_range recovery.view recovery.range) recovery.leaf why
+HasCause recovery (NoSource founds) =
+    HaveFound recovery.view (serving (of_range recovery.view recovery.range)) founds
+HasCause recovery (NoTarget cut) = IsDownAt (of_leaf recovery.view recovery.leaf) cut
+
+abbrev pub IsTelling : Setting → World → ℕ → Recovery → Outcome → Type 0
+IsTelling setting world i recovery (Opens slot) =
+    HasOpened setting world i recovery × (slot ≡ next_slot (of_range world.truth recovery.range))
+IsTelling setting world i recovery (Denied why) = HasLocked world i recovery × HasCause recovery (Denied why)
+IsTelling setting world i recovery (NoSource founds) =
+    HasLocked world i recovery × HasCause recovery (NoSource founds)
+IsTelling setting world i recovery (NoTarget cut) = HasLocked world i recovery × HasCause recovery (NoTarget cut)
 
 -- what holds of a recovery that is so far
 abbrev pub IsCopyAt : Setting → World → ℕ → Recovery → CopyStage → Type 0
 IsCopyAt setting world i recovery Beginning = Unit {0}
-IsCopyAt setting world i recovery (Copying sources) =
-    IsCopying setting world i recovery
-    × AllByRecursion (Contains (serving (of_range world.truth recovery.range))) sources
+IsCopyAt setting world i recovery (Copying founds sources) =
+    IsCopying setting world i recovery × IsAskingSources world recovery founds sources
 IsCopyAt setting world i recovery (Carrying rows) = HasCopied setting world i recovery rows
 IsCopyAt setting world i recovery (Nearing rows) = HasCopied setting world i recovery rows
 IsCopyAt setting world i recovery (Within rows at_root in_zone) =
     HasCopied setting world i recovery rows
     × IsInside setting world i recovery.view recovery.leaf (rows_buckets setting.buckets_of rows) at_root in_zone
-IsCopyAt setting world i recovery (Telling is_open) = IsTelling setting world i recovery is_open
-IsCopyAt setting world i recovery (Over is_open) = IsRecoveryOver recovery is_open
+IsCopyAt setting world i recovery (Telling outcome) = IsTelling setting world i recovery outcome
+IsCopyAt setting world i recovery (Over outcome) = HasCause recovery outcome
 
 pub record IsRecovery (setting : Setting) (world : World) (i : ℕ) (recovery : Recovery) : Type 0 where
   pub part : IsPart setting world recovery.view
@@ -344,12 +361,18 @@ pub record IsAcknowledged (setting : Setting) (writer : Writer) (marks : List Ma
 
 -- a recovery has seen the opening of its replica in its range's history, which is legal; and its leaf's history bears
 -- it out: the leaf took over the rows that were acknowledged before
-pub record IsRecovered (setting : Setting) (recovery : Recovery) : Type 0 where
+pub record IsRecovered (setting : Setting) (recovery : Recovery) (slot : Slot) : Type 0 where
   pub legal : IsLegal setting.held setting.zones setting.points recovery.range
       (of_range recovery.view recovery.range)
-  pub slot : Slot
   pub place : ℕ
   pub there : slice_get (of_range recovery.view recovery.range) place
       ≡ Some (range_entry.Opened recovery.pass slot recovery.leaf)
   pub borne_out : IsBorneOut recovery.view.seen recovery.range (of_range recovery.view recovery.range) place
       (range_entry.Opened recovery.pass slot recovery.leaf)
+
+-- a recovery has come out so
+abbrev pub ComesOut : Setting → Recovery → Outcome → Type 0
+ComesOut setting recovery (Opens slot) = IsRecovered setting recovery slot
+ComesOut setting recovery (Denied why) = HasCause recovery (Denied why)
+ComesOut setting recovery (NoSource founds) = HasCause recovery (NoSource founds)
+ComesOut setting recovery (NoTarget cut) = HasCause recovery (NoTarget cut)

@@ -1,9 +1,12 @@
+pub mod CopyPhases
 pub mod CopySteps
 pub mod Courses
 pub mod Deeds
 pub mod Events
+pub mod Going
 pub mod Invariant
 pub mod Marks
+pub mod Noted
 pub mod Phases
 pub mod Program
 pub mod Recovering

@@ -1,6 +1,6 @@
 -- The events of writes: when each can come and with what answer, and what it makes of the world.
-use Rattle.std.specs.Prelude.{ℕ, ◌≡◌, ◌<◌, ◌≤ℤ◌, ◌&&◌, true, false, not, List, [], ◌∷◌, ◌++◌, length, Option, Some}
-use Rattle.std.specs.Prelude.{None, if◌then◌else◌}
+use Rattle.std.specs.Prelude.{ℕ, ◌≡◌, ◌<◌, ◌≤ℤ◌, ◌<ℤ◌, ◌&&◌, true, false, not, List, [], ◌∷◌, ◌++◌, length, Option}
+use Rattle.std.specs.Prelude.{Some, None, IfSome, if◌then◌else◌}
 use Rattle.std.specs.List.Sorted.{IsStrictlyIncreasing}
 use Rattle.mon_hints.specs.Listings.{is_among}
 use Rattle.mon_value.specs.LeafHistories.{is_down}
@@ -23,15 +23,17 @@ use Rattle.write_core.specs.declared.marks.Mark.{Mark}
 
 -- ---- answers
 
--- a range whose history is this one takes a row, or tells why not
+-- a range whose history is this one takes a row, or tells why not: that the row is old, and, of one that is not, that
+-- no more go in
 abbrev pub IsToldByRange : Setting → List RangeEntry → Row → WriteTold → Type 0
 IsToldByRange setting history row (told.Slots replicas) =
     (replicas ≡ serving history) × IsSource (acknowledged_rows history ++ row ∷ [])
     × (length (acknowledged_rows history) < setting.points)
 IsToldByRange setting history row (told.Old last) =
     (last_end (points_of row.key (acknowledged_rows history)) ≡ Some last) × (row.point.end ≤ℤ last)
-IsToldByRange setting history row (told.Full count) = (count ≡ setting.points)
-    × (length (acknowledged_rows history) ≡ count)
+IsToldByRange setting history row (told.Full count) =
+    (count ≡ setting.points) × (length (acknowledged_rows history) ≡ count)
+    × IfSome (last_end (points_of row.key (acknowledged_rows history))) (λ last. last <ℤ row.point.end)
 IsToldByRange setting history row answer = ⊥
 
 -- a leaf whose history is this one makes room, or is down

@@ -1,5 +1,5 @@
 -- Everything that actors share, and what is each one's own: how far it is, and what it has seen and knows.
-use Rattle.std.specs.Prelude.{ℕ, nat_eq, Option, if◌then◌else◌}
+use Rattle.std.specs.Prelude.{ℕ, nat_eq, List, [], ◌∷◌, ◌++◌, length, Option, if◌then◌else◌}
 use Rattle.mon_value.specs.declared.histories.Entry.{Entry}
 use Rattle.mon_value.specs.declared.histories.Entry.TheVariants as entry
 use Rattle.mon_value.specs.declared.positions.Leaf.{Leaf}
@@ -8,7 +8,7 @@ use Rattle.mon_value.specs.declared.rows.Row.{Row}
 use Rattle.mon_topo.specs.Settings.{Setting}
 use Rattle.write_core.specs.Program.{Stage}
 use Rattle.write_core.specs.Recovering.{CopyStage}
-use Rattle.write_core.specs.Views.{IsSound, IsViewWithin, View, joined_view}
+use Rattle.write_core.specs.Views.{IsSound, IsViewWithin, View, joined_view, of_leaf, of_range}
 use Rattle.write_core.specs.declared.marks.Mark.{Mark}
 
 -- ---- actors
@@ -83,10 +83,17 @@ wiser (Stands stander) view = stands_on stander (joined_view stander.view view)
 abbrev pub put_of : Writer → Mark → Entry
 put_of writer mark = entry.Put writer.pass writer.range mark.slot writer.row
 
+-- ---- notes
+
+-- how long an actor found a leaf's history, or a range's, by an event of its own
+pub data LengthNote : Type 0 where
+  OfLeaf : Leaf → ℕ → LengthNote
+  OfRange : Range → ℕ → LengthNote
+
 -- ---- the world
 
 -- the whole histories and the words themselves; what each leaf and each range has seen and knows; who holds which
--- leaf and which range; and the actors
+-- leaf and which range; the actors, and what each has noted
 pub record World : Type 0 where
   pub truth : View
   pub leaves : ℕ → View
@@ -94,6 +101,7 @@ pub record World : Type 0 where
   pub leaf_holder : ℕ → Option ℕ
   pub range_holder : ℕ → Option ℕ
   pub actors : ℕ → Actor
+  pub notes : ℕ → List LengthNote
 
 -- what someone has seen and knows: a part of the truth, which is sound in itself
 pub record IsPart (setting : Setting) (world : World) (view : View) : Type 0 where
@@ -120,6 +128,8 @@ at_leaf world i view leaf change holder next = record {
   leaf_holder = with_value_at world.leaf_holder leaf.0 holder;
   range_holder = world.range_holder;
   actors = with_value_at world.actors i (next (met_at_leaf world view leaf change));
+  notes = with_value_at world.notes i
+      (world.notes i ++ OfLeaf leaf (length (of_leaf (change world.truth) leaf)) ∷ []);
 }
 
 abbrev pub met_at_range : World → View → Range → (View → View) → View
@@ -134,4 +144,6 @@ at_range world i view range change holder next = record {
   leaf_holder = world.leaf_holder;
   range_holder = with_value_at world.range_holder range.0 holder;
   actors = with_value_at world.actors i (next (met_at_range world view range change));
+  notes = with_value_at world.notes i
+      (world.notes i ++ OfRange range (length (of_range (change world.truth) range)) ∷ []);
 }

@@ -4,7 +4,7 @@ use mon_value::{Ack, Founds, Leaf, Slot, SlotLeaves, TryCopy};
 use std::alloc::{AllocError, Global};
 
 /// The next event of a write.
-#[derive(Debug, PartialEq, Eq, Drop)]
+#[derive(PartialEq, Eq, Drop)]
 pub enum WriteAsk {
     /// Take the range's lock.
     Lock,
@@ -26,7 +26,7 @@ pub enum WriteAsk {
 }
 
 /// What a write is told of its last event.
-#[derive(Debug, PartialEq, Eq, Drop)]
+#[derive(PartialEq, Eq, Drop)]
 pub enum WriteTold {
     /// The range can take the row: the replicas that serve, in slot order.
     Slots(SlotLeaves),
@@ -43,7 +43,7 @@ pub enum WriteTold {
 }
 
 /// How a write ends.
-#[derive(Debug, PartialEq, Eq, Drop)]
+#[derive(PartialEq, Eq, Drop)]
 pub enum WriteEnd {
     /// Some replica took the row, and it is acknowledged.
     Written(Ack),

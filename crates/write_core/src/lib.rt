@@ -1,8 +1,9 @@
-//! The core of a write: what a write does one step after another, whatever it is told, and what every
-//! interleaving of writes keeps.
+//! The core of writes and of recoveries: what each does one step after another, whatever it is told, and what every
+//! interleaving of them keeps.
 #![tactic(auto)]
 
 mod asks;
+mod copies;
 mod ends;
 mod laws;
 mod machine;
@@ -10,6 +11,10 @@ mod marks;
 mod rounds;
 
 pub use asks::{WriteAsk, WriteEnd, WriteTold};
-pub use laws::{writes_keep_the_invariant, writes_run_their_course};
+pub use copies::{CopyAsk, CopyMachine, CopyTold, Denial, Outcome};
+pub use laws::{
+    ranges_open_or_deny, what_is_said_was_noted, writes_keep_the_invariant, writes_run_their_course,
+};
 pub use machine::WriteMachine;
+pub use marks::{Fate, Mark};
 pub use mon_value::{Ack, Miss, Misses};

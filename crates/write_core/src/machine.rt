@@ -1,5 +1,6 @@
 // The machine of a write.
 ghost use Rattle.std.specs.Prelude.{◌≡◌, ℕ, List, drop, length, OnErr, OnOk};
+ghost use Rattle.write_core.specs.Going.{going_marks};
 ghost use Rattle.write_core.specs.Phases.{stage_of};
 ghost use Rattle.write_core.specs.Program as spec;
 ghost use Rattle.write_core.specs.Program.{after, ask_of, EndsSo, Locking};
@@ -8,7 +9,7 @@ ghost use Rattle.write_core.specs.declared.asks.WriteAsk.TheVariants.{Finished};
 
 use crate::asks::{WriteAsk, WriteEnd, WriteTold};
 use crate::ends::{founds, misses, some_took, taken_slots};
-use crate::marks::{Fate, Refused, all_waiting};
+use crate::marks::{Fate, Mark, Refused, all_waiting};
 use crate::rounds::Round;
 use mon_hints::Buckets;
 use mon_value::{Ack, FoundDown, Miss, OutOfMemory, Range, Slot, SlotLeaf};
@@ -16,7 +17,7 @@ use std::alloc::Global;
 use std::marker::Model;
 
 /// What a write does next.
-#[derive(Clone, Copy, Debug, PartialEq, Eq)]
+#[derive(Clone, Copy, PartialEq, Eq)]
 enum Phase {
     Locking,
     Reserving,
@@ -28,7 +29,7 @@ enum Phase {
 
 /// A write of a row to a range. It says what is done next, is told how that went, and takes memory at
 /// the range's lock alone.
-#[derive(Debug, Drop)]
+#[derive(Drop)]
 pub struct WriteMachine {
     alloc: Global,
     range: Range,
@@ -141,6 +142,17 @@ impl WriteMachine {
                 self.told_done();
                 Ok(())
             }
+        }
+    }
+
+    /// Its replicas, with what became of each so far, until all of them are decided. Those that are ready have room at
+    /// their leaves, which is to be given back where the write goes no further.
+    pub fn marks(&self) -> &[Mark]
+        ensures marks { result.now ≡ going_marks self.now.stage }
+    {
+        match self.phase {
+            Phase::Reserving | Phase::Entering | Phase::Inside => self.round.marks(),
+            Phase::Locking | Phase::Acking(_) | Phase::Ended(_) => &[],
         }
     }
 

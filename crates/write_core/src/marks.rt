@@ -9,7 +9,7 @@ use mon_value::{FoundDown, Leaf, Miss, OutOfMemory, Slot, SlotLeaf};
 use std::alloc::Global;
 
 /// What became of a replica so far.
-#[derive(Clone, Copy, Debug, PartialEq, Eq)]
+#[derive(Clone, Copy, PartialEq, Eq)]
 pub enum Fate {
     /// It was not looked at yet.
     Waiting,
@@ -22,15 +22,18 @@ pub enum Fate {
 }
 
 /// A replica, and what became of it.
-#[derive(Clone, Copy, Debug, PartialEq, Eq)]
+#[derive(Clone, Copy, PartialEq, Eq)]
 pub struct Mark {
+    /// The replica's slot.
     pub slot: Slot,
+    /// The leaf that it lies on.
     pub leaf: Leaf,
+    /// What became of it.
     pub fate: Fate,
 }
 
 /// Why a range does not take a row.
-#[derive(Clone, Copy, Debug, PartialEq, Eq)]
+#[derive(Clone, Copy, PartialEq, Eq)]
 pub enum Refused {
     /// The series has an acknowledged row that ends there, which is not before the row's end.
     Old(i64),
@@ -83,7 +86,7 @@ impl Mark {
     }
 
     /// Whether its leaf has room for the row, and is still to be entered.
-    pub(crate) fn is_ready(&self) -> bool
+    pub fn is_ready(&self) -> bool
         ensures ready { result ≡ spec.is_ready self.now.fate }
     {
         match self.fate {

@@ -9,7 +9,7 @@ use std::alloc::Global;
 use std::marker::Model;
 
 /// A write's replicas in slot order, and the place of the one that it looks at.
-#[derive(Debug, Drop)]
+#[derive(Drop)]
 pub(crate) struct Round {
     marks: Vec<Mark>,
     place: usize,

@@ -1,4 +1,7 @@
+use Rattle.query_core.specs.declared.stages.Stage.TheVariants.{Ended}
 use Rattle.weave_core.proofs.ReachedLemmas.{reached}
+use Rattle.weave_core.proofs.ReaderLemmas.{as_new, stage_is}
+use Rattle.weave_core.specs.Core.{seen_by}
 use Rattle.weave_core.specs.States.{store_of}
 use Rattle.weave_core.proofs.schedule_laws.schedules_answer_rightly.Goals as goal
 
@@ -17,4 +20,17 @@ returns c =
           let own = h.asked k is in
           law.stopped (store_of config) state.core.world (state.core.readers k) limit trace (h.woven.readers k)
           own.first own.asked own.moment ended;
+      no_replica = λ config first state lines k range named new leads is ended.
+          let h = reached config first state lines new leads in
+          let own = h.asked k is in
+          law.no_replica (store_of config) state.core.world (state.core.readers k) range named (h.woven.readers k)
+          own.first own.asked own.moment ended;
+      named = λ config first state lines k end new leads is ended.
+          let h = reached config first state lines new leads in
+          let reader = state.core.readers k in
+          let own = h.woven.readers k in
+          let fresh = (h.asked k is).first in
+          c.ends_name_what_was_told.ensures.named (store_of config) reader.setting reader.moment
+          (seen_by reader.begin) reader.session end (as_new (store_of config) state.core.world reader own fresh)
+          (stage_is (store_of config) state.core.world reader own fresh (Ended end) ended);
     }

@@ -1,4 +1,4 @@
-use Rattle.write_core.proofs.KeptLemmas.{ended_acknowledged, has_done, new_kept, over_recovered, part_stays}
+use Rattle.write_core.proofs.KeptLemmas.{ended_acknowledged, has_done, new_kept, over_comes_out, part_stays}
 use Rattle.write_core.proofs.KeptLemmas.{parts_join, run_kept}
 use Rattle.write_core.proofs.laws.writes_keep_the_invariant.Goals as goal
 
@@ -10,5 +10,5 @@ returns c = record {
   meets = parts_join;
   ended = ended_acknowledged;
   deeds = has_done;
-  recovered = over_recovered;
+  recovered = over_comes_out;
 }

@@ -24,20 +24,20 @@ let_go-requires-clause-later c =
     c.index_mut-seat.ensures.value in
     acking_later c.args.self.now c.args.writing c.args.sight.now c.requires.at_work c.requires.asks
     c.told.new.self.range
-    c.told.new.self.stage c.finish-end.result c.in_ok-told.ensures.range c.in_ok-told.ensures.after
+    c.told.new.self.stage c.finish-end.result c.in-Ok.ensures.range c.in-Ok.ensures.after
     c.finish-end.ensures.end
     c.index_mut-seat.result.now got
 
-pub returns : goal.returns
-returns c =
+pub returns-in-Ok-let_go : goal.returns-in-Ok-let_go
+returns-in-Ok-let_go c =
     let got : slice_get c.args.self.now.ranges.items c.args.writing.range.0 ≡ Some c.index_mut-seat.result.now
     = range_read c.args.self.now c.args.writing c.args.sight.now c.requires.at_work c.index_mut-seat.result.now
     c.index_mut-seat.ensures.value in
     record {
       turn = λ config world i work. acknowledge_returns config world i c.args.self.now c.args.writing c.args.sight.now
           work
-          c.requires.asks c.told.new.self.range c.told.new.self.stage c.finish-end.result c.in_ok-told.ensures.range
-          c.in_ok-told.ensures.after c.finish-end.ensures.end c.index_mut-seat.result.now got (record {
+          c.requires.asks c.told.new.self.range c.told.new.self.stage c.finish-end.result c.in-Ok.ensures.range
+          c.in-Ok.ensures.after c.finish-end.ensures.end c.index_mut-seat.result.now got (record {
             alloc = c.args.self.now.alloc;
             config = c.args.self.now.config;
             words = c.args.self.now.words;
@@ -46,5 +46,5 @@ returns c =
             first_sight = c.args.self.now.first_sight;
           }) c.let_go.new.seat c.let_go.new.sight
           (record { config = refl; words = refl; leaves = refl; ranges = refl; first = refl })
-          c.in_ok-let_go.ensures.lets_go;
+          c.in-Ok-let_go.ensures.lets_go;
     }

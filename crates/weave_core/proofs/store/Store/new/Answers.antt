@@ -1,8 +1,13 @@
-use Rattle.weave_core.proofs.OpeningLemmas.{new_opened}
+use Rattle.std.proofs.Common.{refl}
+use Rattle.weave_core.specs.Openings.{first_range_histories}
+use Rattle.weave_core.proofs.SeatingLemmas.{shared}
 use Rattle.weave_core.proofs.store.Store.new.Goals as goal
 
-pub open_ranges-requires : goal.open_ranges-requires
-open_ranges-requires c = record {
-  none = new_opened c.args.config c.in_ok-leaves.leaves.items
-      c.in_ok-leaves.ensures.new;
-}
+pub returns-in-Ok : goal.returns-in-Ok
+returns-in-Ok c =
+    let first = c.in-Ok.ensures.seats in
+    record {
+      shared = shared c.args.config _ first.states (first_range_histories c.args.config.topology)
+          c.in-Ok.seats.first_sight c.note_served.ensures.served first.opened refl first.sight refl first.words
+          first.leaves first.ranges refl;
+    }

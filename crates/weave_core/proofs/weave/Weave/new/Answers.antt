@@ -1,5 +1,7 @@
 use Rattle.weave_core.proofs.BeginLemmas.{begins}
 use Rattle.weave_core.proofs.weave.Weave.new.Goals as goal
 
-pub returns : goal.returns
-returns c = record { begins = begins c.args.config _ c.in_ok-store.ensures.shared c.in_ok-actors.ensures.none }
+pub returns-in-Ok : goal.returns-in-Ok
+returns-in-Ok c = record {
+  begins = begins c.args.config _ c.in_ok-store.ensures.shared c.in-Ok.ensures.none;
+}

@@ -1,0 +1,90 @@
+-- Whatever is so of each leaf that a session was told is down is so of each leaf that its end names.
+use Rattle.std.proofs.Common.{◌≡◌, ℕ, ℤ, List, [], ◌∷◌, ◌++◌, Result, Ok, Err, subst}
+use Rattle.std.specs.List.{AllByRecursion as All}
+use Rattle.mon_topo.specs.Settings.{Setting}
+use Rattle.mon_value.specs.declared.positions.FoundDown.{FoundDown}
+use Rattle.mon_value.specs.declared.positions.Leaf.{Leaf}
+use Rattle.std.specs.Prelude.{Contains}
+use Rattle.mon_topo.proofs.RangeHistoryLemmas.{all_from}
+use Rattle.query_core.specs.Courses.{found_down}
+use Rattle.query_core.specs.declared.answers.RoundFault.TheVariants as fault
+use Rattle.query_core.proofs.FoundsTold.{EndDown, StageDown, ToldDown, settles_down, told_down}
+use Rattle.query_core.specs.Machine.{Query, new_query, slots_at}
+use Rattle.query_core.specs.Program.{after}
+use Rattle.query_core.specs.Sessions as session
+use Rattle.query_core.specs.Sessions.{View}
+use Rattle.query_core.specs.Settings.{QuerySetting}
+use Rattle.query_core.specs.ToldDowns.{EndNames, down_told, downs_told}
+use Rattle.query_core.specs.declared.answers.Answer.{Answer}
+use Rattle.query_core.specs.declared.answers.RoundFault.{RoundFault}
+use Rattle.query_core.specs.declared.asks.Told.{Told}
+use Rattle.query_core.specs.declared.asks.Told.TheVariants as told
+use Rattle.query_core.specs.declared.stages.Stage.{Stage}
+use Rattle.query_core.specs.declared.stages.Stage.TheVariants as at
+
+all_front : {X : Type 0} (P : X → Type 0) (xs ys : List X) → All P (xs ++ ys) → All P xs
+all_front P [] ys h = tt
+all_front P (x ∷ xs) ys h = (h.0, all_front P xs ys h.1)
+
+all_back : {X : Type 0} (P : X → Type 0) (xs ys : List X) → All P (xs ++ ys) → All P ys
+all_back P [] ys h = h
+all_back P (x ∷ xs) ys h = all_back P xs ys h.1
+
+module _ (Is : FoundDown → Type 0) where
+  abbrev Down : Leaf → ℕ → Type 0
+  Down leaf cut = Is (found_down leaf cut)
+
+  told_one : (stage : Stage) (answer : Told) → All Is (down_told stage answer) → ToldDown Down stage answer
+  told_one (at.Visiting course round visits leaf) (told.Down cut) h = h.0
+  told_one (at.Visiting course round visits leaf) (told.Word word seen) h = tt
+  told_one (at.Visiting course round visits leaf) (told.Slot slot other) h = tt
+  told_one (at.Visiting course round visits leaf) told.NoSlot h = tt
+  told_one (at.Visiting course round visits leaf) (told.Unread cut) h = tt
+  told_one (at.Visiting course round visits leaf) (told.Read cut answer) h = tt
+  told_one (at.Visiting course round visits leaf) (told.Over load cut) h = tt
+  told_one (at.Rooting loading) answer h = tt
+  told_one (at.Entering course round loading) answer h = tt
+  told_one (at.Resolving course round range) answer h = tt
+  told_one (at.Reloading course round loading) answer h = tt
+  told_one (at.Ended end) answer h = tt
+
+  module _ (store : Setting) (setting : QuerySetting) (moment : ℤ) where
+    session_down : (events : List (session.Event store setting moment)) (before : View) (query : Query)
+        → StageDown Down query.stage → All Is (downs_told store setting moment query events)
+        → session.IsLicensed store setting moment before query events
+        → StageDown Down (session.query_after store setting moment query events).stage
+    session_down [] before query h all licensed = h
+    session_down (event ∷ events) before query h all licensed =
+        let next = session.told_then store setting moment query event in
+        let first = down_told query.stage event.answer in
+        let rest = downs_told store setting moment next events in
+        session_down events event.view next
+        (settles_down Down setting (after setting query.stage event.answer) event.stage
+        (told_down Down store setting moment before event.view query.avoided (slots_at query) query.stage event.answer h
+        (told_one query.stage event.answer (all_front Is first rest all)) licensed.0.true_then)
+        licensed.0.goes_on)
+        (all_back Is first rest all) licensed.1
+
+    end_names : (end : Result Answer RoundFault) → EndDown Down end → EndNames Is end
+    end_names (Ok answer) h = h
+    end_names (Err (fault.NoReplica range named)) h = h
+    end_names (Err (fault.StepLimit limit trace)) h = h
+
+    pub named_told : (events : List (session.Event store setting moment)) (before : View)
+        (end : Result Answer RoundFault) → All Is (downs_told store setting moment (new_query setting) events)
+        → session.IsLicensed store setting moment before (new_query setting) events
+        → (session.query_after store setting moment (new_query setting) events).stage ≡ at.Ended end → EndNames Is end
+    named_told events before end all licensed ended =
+        end_names end
+        (subst (StageDown Down) ended (session_down events before (new_query setting) tt all licensed))
+
+-- each of them was told
+pub named_among : (store : Setting) (setting : QuerySetting) (moment : ℤ) (before : View)
+    (events : List (session.Event store setting moment)) (end : Result Answer RoundFault)
+    → session.IsLicensed store setting moment before (new_query setting) events
+    → (session.query_after store setting moment (new_query setting) events).stage ≡ at.Ended end
+    → EndNames (Contains (downs_told store setting moment (new_query setting) events)) end
+named_among store setting moment before events end licensed ended =
+    let all = downs_told store setting moment (new_query setting) events in
+    named_told (Contains all) store setting moment events before end (all_from (Contains all) all (λ x there. there))
+    licensed ended

@@ -1,0 +1,34 @@
+-- The leaves that a query is told are down, one after another, and those that its end names.
+use Rattle.std.specs.Prelude.{ℤ, List, [], ◌∷◌, ◌++◌, Result, Ok, Err}
+use Rattle.std.specs.List.{AllByRecursion}
+use Rattle.mon_topo.specs.Settings.{Setting}
+use Rattle.mon_value.specs.declared.positions.FoundDown.{FoundDown}
+use Rattle.query_core.specs.Courses.{found_down}
+use Rattle.query_core.specs.Machine.{Query}
+use Rattle.query_core.specs.Sessions.{Event, told_then}
+use Rattle.query_core.specs.Settings.{QuerySetting}
+use Rattle.query_core.specs.declared.answers.Answer.{Answer}
+use Rattle.query_core.specs.declared.answers.RoundFault.{RoundFault}
+use Rattle.query_core.specs.declared.answers.RoundFault.TheVariants as fault
+use Rattle.query_core.specs.declared.asks.Told.{Told}
+use Rattle.query_core.specs.declared.asks.Told.TheVariants as told
+use Rattle.query_core.specs.declared.stages.Stage.{Stage}
+use Rattle.query_core.specs.declared.stages.Stage.TheVariants as at
+
+-- the leaf that a query visited, with its cut, if it was told that it is down
+abbrev pub down_told : Stage → Told → List FoundDown
+down_told (at.Visiting course round visits leaf) (told.Down cut) = found_down leaf cut ∷ []
+down_told stage answer = []
+
+module _ (store : Setting) (setting : QuerySetting) (moment : ℤ) where
+  -- all of a session, in the order in which they were told
+  abbrev pub downs_told : Query → List (Event store setting moment) → List FoundDown
+  downs_told query [] = []
+  downs_told query (event ∷ events) =
+      down_told query.stage event.answer ++ downs_told (told_then store setting moment query event) events
+
+-- this is so of each leaf that an end names as down
+abbrev pub EndNames : (FoundDown → Type 0) → Result Answer RoundFault → Type 0
+EndNames Is (Ok answer) = AllByRecursion Is answer.trace.down
+EndNames Is (Err (fault.NoReplica range named)) = AllByRecursion Is named
+EndNames Is (Err (fault.StepLimit limit trace)) = AllByRecursion Is trace.down
