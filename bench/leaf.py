@@ -5,7 +5,7 @@
 
 A leaf takes puts of whole numbers to 2,000 series in turn, each settled before the next; then a window of each series
 is asked for. It prints the processor time of each run, how much longer the whole takes than the half, and by how many
-bytes for each put the resident memory of the whole is greater than that of a tenth. The program of `crates/cases` does
+bytes for each put the resident memory of the whole is greater than that of a tenth. The program of `crates/leaf_cases` does
 the puts, by the call of its table `leaf_growth.txt`.
 """
 
@@ -16,8 +16,8 @@ import sys
 import tempfile
 
 ROOT = pathlib.Path(__file__).resolve().parent.parent
-CASES = ROOT / "crates/cases"
-PROGRAM = CASES / "out/cases"
+CASES = ROOT / "crates/leaf_cases"
+PROGRAM = CASES / "out/leaf_cases"
 PUTS = 200000
 SERIES = 2000
 SECONDS = 10

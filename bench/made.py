@@ -20,34 +20,23 @@ import tempfile
 import time
 
 ROOT = pathlib.Path(__file__).resolve().parent.parent
+sys.path.append(str(ROOT / "tests"))
+
+from sql import SCHEMAS
+
 PROGRAM = ROOT / "crates/program/out/program"
 FILES = 4
 ROWS = 50000
 TASKS = 500
 ROUNDS = 15
 
-CONFIG = {
-    "targets": [
-        {
-            "name": "Task",
-            "fields": [
-                {"name": "user", "type": "text"},
-                {"name": "job", "type": "text"},
-                {"name": "cluster", "type": "text", "location": True},
-                {"name": "task", "type": "int"},
-            ],
-        }
-    ],
-    "metrics": [{"name": "/work", "kind": "delta", "type": "int", "column": "work"}],
-    "zones": [
-        {
-            "name": "all",
-            "locations": ["c0", "c1", "c2", "c3"],
-            "leaves": ["leaf"],
-            "ranges": [{"from": [], "leaves": ["leaf"]}],
-        }
-    ],
+ZONE = {
+    "name": "all",
+    "locations": ["c0", "c1", "c2", "c3"],
+    "leaves": ["leaf"],
+    "ranges": [{"from": [], "leaves": ["leaf"]}],
 }
+CONFIG = {**SCHEMAS, "zones": [ZONE]}
 
 
 def made_values():

@@ -21,45 +21,11 @@ import tempfile
 import time
 
 from made import FILES, PROGRAM, ROOT, ROWS, timed_run, write_input
+from sql import MOMENT, QUERIES, add_records, make_table
 
 ROUNDS = 5
 # How often a query is asked in a run, so that its time stands out from that of the feeds.
 REPEATS = 20
-ALL = "fetch Task::/work | align delta(1000s)"
-SERIES = (
-    "SELECT user, job, cluster, task, SUM(work) AS work FROM points WHERE end > 0 AND end <= 1000"
-    " GROUP BY user, job, cluster, task"
-)
-LATER = SERIES.replace("end > 0", "end > 500 AND user = 'u1'")
-
-# Each query, and the same in SQL.
-QUERIES = [
-    (ALL, SERIES),
-    (f"{ALL} | group_by [], sum(work)", f"SELECT SUM(work) FROM ({SERIES})"),
-    (
-        f"{ALL} | group_by [cluster], sum(work)",
-        f"SELECT cluster, SUM(work) FROM ({SERIES}) GROUP BY cluster",
-    ),
-    (
-        f"{ALL} | group_by [job], mean(work)",
-        f"SELECT job, SUM(work) / COUNT(*) FROM ({SERIES}) GROUP BY job",
-    ),
-    (
-        f"{ALL} | top 10, work",
-        f"SELECT * FROM ({SERIES}) ORDER BY work DESC, user, job, cluster, task LIMIT 10",
-    ),
-    ('fetch Task::/work | filter user=="u1" | align delta(500s)', LATER),
-    (
-        'fetch Task::/work | filter job=~".*ob7" | align delta(1000s) | group_by [user, job], max(work)',
-        f"SELECT user, job, MAX(work) FROM ({SERIES.replace('end > 0', 'end > 0 AND job GLOB ' + repr('*ob7'))})"
-        " GROUP BY user, job",
-    ),
-    (
-        f"{{{ALL};{ALL}}}|join|group_by [], count()",
-        f"WITH sums AS MATERIALIZED ({SERIES})"
-        " SELECT COUNT(*) FROM sums JOIN sums AS others USING (user, job, cluster, task, work)",
-    ),
-]
 
 
 def run(folder, name):
@@ -78,7 +44,7 @@ def measure(folder, name):
 
 def write_script(folder, name, count, queries):
     lines = [f"feed p{number}.csv\n" for number in range(count)]
-    (folder / name).write_text("".join(lines) + "".join(f"query 1000 {query}\n" for query in queries))
+    (folder / name).write_text("".join(lines) + "".join(f"query {MOMENT} {query}\n" for query in queries))
 
 
 def answer(folder, count):
@@ -104,17 +70,10 @@ def in_sqlite(folder, count):
 def sqlite_process(count):
     start = time.perf_counter()
     base = sqlite3.connect(":memory:")
-    base.execute(
-        "CREATE TABLE points (start INTEGER, end INTEGER, work INTEGER,"
-        " user TEXT, job TEXT, cluster TEXT, task INTEGER)"
-    )
+    make_table(base)
     for number in range(count):
         with open(f"p{number}.csv", newline="", encoding="utf-8") as source:
-            rows = (
-                (int(row[2]), int(row[3]), int(row[4]), row[5], row[6], row[7], int(row[8]))
-                for row in csv.reader(source)
-            )
-            base.executemany("INSERT INTO points VALUES (?, ?, ?, ?, ?, ?, ?)", rows)
+            add_records(base, csv.reader(source))
     base.execute("CREATE INDEX by_series ON points (user, job, cluster, task, end)")
     base.execute("ANALYZE")
     load = time.perf_counter() - start

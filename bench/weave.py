@@ -5,7 +5,7 @@
 
 The schedule has 64 actors over four zones with eight leaves each. In each zone eight writes of long texts, which raise some
 400 bits on each of three leaves, go beside one another, an event a line; then eight queries for these texts. It is cut at
-25,000, 50,000 and 100,000 lines. What each prints is compared with bench/weaving.py. It prints the time and the peak memory
+25,000, 50,000 and 100,000 lines. What each prints is compared with tests/weaving.py. It prints the time and the peak memory
 of each run, and how much longer twice as many lines take.
 """
 
@@ -15,8 +15,8 @@ import random
 import sys
 import tempfile
 
-import weaving
 from made import PROGRAM, timed_run
+import weaving
 
 SIZES = [25_000, 50_000, 100_000]
 ROUNDS = 5

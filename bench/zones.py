@@ -19,24 +19,14 @@ import sys
 import tempfile
 
 from made import CONFIG, FILES, PROGRAM, ROOT, ROWS, TASKS, timed_run, write_points
-from queries import QUERIES, REPEATS, answer, in_sqlite, write_script
+from queries import REPEATS, answer, in_sqlite, write_script
+from sql import QUERIES, zone
 
 TIMES = (1, 2, 4)
 REPLICAS = 2
 ROUNDS = 5
 # Above the load of each query at four times the points.
 LIMIT = 1 << 24
-
-
-def zone(number):
-    """A zone of one location, with two leaves and two ranges that both hold."""
-    first, second = f"z{number}a", f"z{number}b"
-    return {
-        "name": f"z{number}",
-        "locations": [f"c{number}"],
-        "leaves": [first, second],
-        "ranges": [{"from": [], "leaves": [first, second]}, {"from": ["Task", "u2"], "leaves": [second, first]}],
-    }
 
 
 def write_config(folder):

@@ -5,7 +5,7 @@ use std::alloc::Global;
 
 /// What a zone answers: the pieces of the parts that zones evaluate with their leaves, in the order of the query, and
 /// the load that the zone and its leaves took.
-#[derive(Debug, Drop)]
+#[derive(Drop)]
 pub struct ZoneAnswer {
     pub pieces: Pieces,
     pub load: u64,

@@ -6,7 +6,7 @@ use std::alloc::{AllocError, Global};
 use std::fmt;
 
 /// Why a text is no configuration. A path begins with `$` and goes by `.key` and `[index]`.
-#[derive(Debug, PartialEq, Eq, Drop)]
+#[derive(PartialEq, Eq, Drop)]
 pub enum ConfigFault {
     /// The text has more than 1,048,576 bytes.
     TooLong,

@@ -17,7 +17,7 @@ use serde_json::Value;
 use std::alloc::Global;
 
 /// What a configuration's text spells, before its schemas are held.
-#[derive(Debug, Drop)]
+#[derive(Drop)]
 pub struct Parts {
     pub buckets: u32,
     pub limit: u64,

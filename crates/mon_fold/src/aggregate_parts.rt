@@ -14,7 +14,7 @@ use mon_value::{Aggregate, AggregateKind, Counts, ListOf, OutOfMemory, TimedRow,
 use std::alloc::Global;
 
 /// What an aggregate of a group has come to so far. Distributions merge into the first of them.
-#[derive(Debug, Drop)]
+#[derive(Drop)]
 pub enum AggregatePart {
     Sum(SumPart),
     Count(CountPart),

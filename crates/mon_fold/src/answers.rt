@@ -5,7 +5,7 @@ use std::alloc::Global;
 
 /// What a part of a query has come to in one place: the rows of a table, or rows that are to be grouped, in
 /// partial groups.
-#[derive(Debug, Drop)]
+#[derive(Drop)]
 pub enum Piece {
     Table(Table),
     Groups(Parts),
@@ -16,7 +16,7 @@ pub type Pieces = ListOf<Piece>;
 
 /// What a leaf answers: the pieces of the parts that leaves evaluate, in the order of the query; the load
 /// that they took; and how many rows or groups are sent.
-#[derive(Debug, Drop)]
+#[derive(Drop)]
 pub struct LeafAnswer {
     pub pieces: Pieces,
     pub load: u64,

@@ -11,21 +11,21 @@ use mon_value::{OutOfMemory, TryCopy};
 use std::alloc::Global;
 
 /// The least of numbers.
-#[derive(Clone, Copy, Debug)]
+#[derive(Clone, Copy)]
 pub struct MinFold;
 
 /// The least number so far, where one was added.
-#[derive(Clone, Copy, Debug, PartialEq, Eq)]
+#[derive(Clone, Copy, PartialEq, Eq)]
 pub struct LeastPart {
     pub least: Option<i128>,
 }
 
 /// The greatest of numbers.
-#[derive(Clone, Copy, Debug)]
+#[derive(Clone, Copy)]
 pub struct MaxFold;
 
 /// The greatest number so far, where one was added.
-#[derive(Clone, Copy, Debug, PartialEq, Eq)]
+#[derive(Clone, Copy, PartialEq, Eq)]
 pub struct GreatestPart {
     pub greatest: Option<i128>,
 }

@@ -12,7 +12,7 @@ use mon_value::{Aggregate, Cells, OutOfMemory, Table, TimedRow, TryCopy, Value};
 use std::alloc::Global;
 
 /// What tells the group of a row, borrowed from it: its time and its grouping cells.
-#[derive(Debug, PartialEq, Eq, Hash, Drop)]
+#[derive(PartialEq, Eq, Hash, Drop)]
 pub(crate) struct GroupKey<'a> {
     time: i64,
     cells: Vec<&'a Value>,

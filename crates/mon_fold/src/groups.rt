@@ -24,7 +24,7 @@ use std::marker::Model;
 /// Groups of rows whose aggregates are kept as parts, so that groups from several places can be merged
 /// before they are finished. Each group has the time and the grouping cells of its rows. Groups stand in
 /// the order of their first rows.
-#[derive(Debug, Drop)]
+#[derive(Drop)]
 pub struct Parts {
     columns: Columns,
     kinds: ListOf<AggregateKind>,

@@ -14,11 +14,11 @@ use std::alloc::Global;
 
 /// The mean of numbers, rounded down. Means alone can't be merged, since they may stand for unlike
 /// numbers of items: a part keeps its sum and its number until the end.
-#[derive(Clone, Copy, Debug)]
+#[derive(Clone, Copy)]
 pub struct MeanFold;
 
 /// The sum and the number of the items so far.
-#[derive(Clone, Copy, Debug, PartialEq, Eq)]
+#[derive(Clone, Copy, PartialEq, Eq)]
 pub struct MeanPart {
     pub sum: i128,
     pub number: i128,

@@ -15,14 +15,14 @@ use std::marker::Model;
 
 /// Distributions of one number of buckets, merged into one. `zero` has that number of buckets, and
 /// nothing in them.
-#[derive(Debug, Drop)]
+#[derive(Drop)]
 pub struct MergeFold {
     pub zero: Counts,
     ghost zeros: { IsZero zero },
 }
 
 /// The counts of the distributions so far, and whether there was one.
-#[derive(Debug, Drop)]
+#[derive(Drop)]
 pub struct MergePart {
     counts: Counts,
     any: bool,

@@ -11,11 +11,11 @@ use mon_value::{OutOfMemory, TryCopy};
 use std::alloc::Global;
 
 /// The number of items.
-#[derive(Clone, Copy, Debug)]
+#[derive(Clone, Copy)]
 pub struct CountFold;
 
 /// The number of items so far.
-#[derive(Clone, Copy, Debug, PartialEq, Eq)]
+#[derive(Clone, Copy, PartialEq, Eq)]
 pub struct CountPart {
     pub number: i128,
 }

@@ -15,7 +15,7 @@ use std::alloc::Global;
 
 /// Points that follow one another, by the place of the first and that behind the last, and what they
 /// add up to.
-#[derive(Debug, Drop)]
+#[derive(Drop)]
 pub(crate) struct Window {
     start: usize,
     end: usize,

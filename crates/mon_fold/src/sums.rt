@@ -11,11 +11,11 @@ use mon_value::{OutOfMemory, TryCopy};
 use std::alloc::Global;
 
 /// The sum of numbers.
-#[derive(Clone, Copy, Debug)]
+#[derive(Clone, Copy)]
 pub struct SumFold;
 
 /// The sum so far, where a number was added.
-#[derive(Clone, Copy, Debug, PartialEq, Eq)]
+#[derive(Clone, Copy, PartialEq, Eq)]
 pub struct SumPart {
     pub sum: Option<i128>,
 }

@@ -17,6 +17,3 @@ pub use formulas::{Formula, buckets_of_all};
 pub use hints::{hints_of, next_bucket};
 pub use laws::{formulas_stay_true, patterns_are_in_texts};
 pub use masks::{Words, mask};
-
-#[cfg(test)]
-mod tests;

@@ -20,6 +20,7 @@ mod ReachLemmas
 mod ReadyLemmas
 pub mod SeriesOrderLemmas
 mod SeriesOrders
+mod SideLemmas
 pub mod StandingPieces
 mod TopLemmas
 mod WalkLemmas

@@ -1,13 +1,13 @@
 -- Parts to come: one that is put at the end comes first.
-use Rattle.std.proofs.Common.{◌≡◌, ◌∙◌, ◌+◌, Bool, true, false, List, [], ◌∷◌, ◌++◌, ap, sym, refl, append_assoc}
-use Rattle.std.proofs.Common.{append-nil, arith}
+use Rattle.std.proofs.Common.{◌≡◌, ◌∙◌, ◌<◌, ◌+◌, ℕ, Bool, true, false, List, [], ◌∷◌, ◌++◌, Result, OnOk, ap, sym}
+use Rattle.std.proofs.Common.{refl, append-nil, append_assoc, arith}
+use Rattle.std.proofs.lemmas.Result.{on_ok_weaker}
 use Rattle.std.proofs.lemmas.List.{map-append}
 use Rattle.mql_types.specs.Nodes as node
 use Rattle.mql_types.specs.Nodes.{NodeTree, level_of}
 use Rattle.mql_types.specs.Pieces as spec
 use Rattle.mql_types.specs.Pieces.{part_or, top_parts}
 use Rattle.mql_types.specs.declared.levels.Level.{Level}
-use Rattle.mql_types.specs.declared.nodes.NodeInfo.{NodeInfo}
 use Rattle.mon_meaning.specs.declared.parts_up.TopPart.{TopPart}
 use Rattle.mon_meaning.specs.within.PartsToCome.{as_rows, nodes_left, part_nodes, part_seen, parts_left, parts_of_part}
 
@@ -50,22 +50,34 @@ higher : (b : Bool) (use_of : spec.PartUse) (part : NodeTree) (below : List spec
     → part_or b use_of part below ≡ below
 higher b use_of part below e = ap (λ c. part_or c use_of part below) e
 
--- the parts of a join or a union that is done higher up are those of its sides
-pub join_below : (here : Level → Bool) (tree : NodeTree) (info : NodeInfo) (left right : NodeTree) → tree
-    ≡ node.Join info left right
-    → here (level_of tree) ≡ false → top_parts here tree ≡ top_parts here left ++ top_parts here right
-join_below here tree info left right is e =
-    ap (top_parts here) is
-    ∙ higher (here info.level) spec.AsRows (node.Join info left right) (top_parts here left ++ top_parts here right)
-    (ap (λ t. here (level_of t)) (sym is) ∙ e)
+-- the parts of a node that is done higher up are those of what flows into it
+pub below : (here : Level → Bool) (tree made : NodeTree) (own : List spec.TopPart) → tree ≡ made
+    → here (level_of tree) ≡ false
+    → top_parts here made ≡ part_or (here (level_of made)) spec.AsRows made own
+    → top_parts here tree ≡ own
+below here tree made own is e whole =
+    ap (top_parts here) is ∙ whole
+    ∙ higher (here (level_of made)) spec.AsRows made own (ap (λ t. here (level_of t)) (sym is) ∙ e)
 
-pub union_below : (here : Level → Bool) (tree : NodeTree) (info : NodeInfo) (left right : NodeTree) → tree
-    ≡ node.Union info left right
-    → here (level_of tree) ≡ false → top_parts here tree ≡ top_parts here left ++ top_parts here right
-union_below here tree info left right is e =
-    ap (top_parts here) is
-    ∙ higher (here info.level) spec.AsRows (node.Union info left right) (top_parts here left ++ top_parts here right)
-    (ap (λ t. here (level_of t)) (sym is) ∙ e)
+-- what is put in front of the parts to come stands behind the parts so far
+pub put_first : {T E : Type 0} (r : Result T E) (so_far own all rest more : List spec.TopPart) → own ≡ all
+    → OnOk r (more ≡ own ++ rest) → OnOk r (so_far ++ more ≡ so_far ++ (all ++ rest))
+put_first r so_far own all rest more is =
+    on_ok_weaker r (λ (e : more ≡ own ++ rest). ap (λ ps. so_far ++ ps) (e ∙ ap (λ ps. ps ++ rest) is))
+
+-- fewer nodes are left
+pub fewer : {T E : Type 0} (r : Result T E) (own all rest more : ℕ) → own < all → OnOk r (more ≡ own + rest)
+    → OnOk r (more < rest + all)
+fewer r own all rest more few = on_ok_weaker r (λ (e : more ≡ own + rest). omega (arith, e, few))
+
+-- a source is one of the parts so far
+pub one_source : {T E : Type 0} (r : Result T E) (so_far more rest : List spec.TopPart) (here : Level → Bool)
+    (tree : NodeTree)
+    → top_parts here tree ≡ as_rows tree ∷ [] → OnOk r (more ≡ so_far ++ as_rows tree ∷ [])
+    → OnOk r (more ++ rest ≡ so_far ++ (top_parts here tree ++ rest))
+one_source r so_far more rest here tree is =
+    on_ok_weaker r (λ (e : more ≡ so_far ++ as_rows tree ∷ []). ap (λ ps. ps ++ rest) e
+    ∙ append_assoc so_far (as_rows tree ∷ []) rest ∙ ap (λ ps. so_far ++ (ps ++ rest)) (sym is))
 
 -- two parts more, the second of which comes first
 pub two_left : (here : Level → Bool) (rest : List TopPart) (l r : TopPart) (left right : NodeTree) → part_seen l

@@ -8,4 +8,5 @@ pub mod Paths
 pub mod Readiness
 pub mod Reach
 pub mod SeriesMeaning
+pub mod Sides
 pub mod Times

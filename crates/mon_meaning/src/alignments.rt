@@ -9,6 +9,7 @@ ghost use Rattle.mon_value.specs.Sources.{points_by_series};
 ghost use Rattle.mql_types.specs.Nodes.{node_tree};
 ghost use Rattle.mon_meaning.specs.Central.{all_held};
 ghost use Rattle.mon_meaning.specs.Counts.{TellsOver};
+ghost use Rattle.mon_meaning.specs.within.FetchViews as views;
 ghost use Rattle.mon_meaning.specs.within.FetchViews.{met_rows, points_kept};
 ghost use Rattle.mon_meaning.specs.within.MetSeries.{CanAlignMet, is_counted, met_count, series_met};
 ghost use Rattle.mon_meaning.specs.within.Readiness.{AreAlignable};
@@ -21,8 +22,8 @@ use crate::meter::{Meter, OverLimit};
 use mon_fold::align;
 use mon_series::{KeptRows, Series};
 use mon_value::{
-    Aligner, Cells, OutOfMemory, Refusal, SeriesKey, Shared, TimedRow, TimedRows, TimedValues,
-    TryCopy,
+    Aligner, Cells, OutOfMemory, Refusal, SeriesKey, Shared, TimedRow, TimedRows, TimedValue,
+    TimedValues, TryCopy,
 };
 use mql_types::Node;
 use std::alloc::Global;
@@ -150,12 +151,65 @@ fn rows_of_series(
         + length (flat_map (met_rows setting.now.grid by fetch.now) (series_met met.entry.items)))) }
 {
     let mut rows = TimedRows::new(setting.alloc);
-    for one in met {
-        let values = series_values(setting, by, fetch, &one)?;
-        meter.add(values.len())?;
-        add_rows(setting.alloc, one.key, values, &mut rows)?;
+    match add_all_met(setting, by, fetch, met, &mut rows, meter) {
+        Ok(()) => Ok(rows),
+        Err(refusal) => {
+            drop(rows);
+            Err(refusal)
+        }
     }
-    Ok(rows)
+}
+
+// Adds the rows of series that meet a fetch.
+fn add_all_met(
+    setting: &EvaluationSetting<'_>,
+    by: Aligner,
+    fetch: &Fetch<'_>,
+    met: Vec<Met<'_>>,
+    rows: &mut TimedRows,
+    meter: &mut Meter,
+) -> Result<(), Refusal<OverLimit>>
+    requires can { AllByRecursion (CanAlignMet setting.now.grid by fetch.now) (series_met met.items) }
+    ensures rows { OnOk result (rows.new
+        ≡ rows.old ++ flat_map (met_rows setting.now.grid by fetch.now) (series_met met.entry.items)) }
+    ensures limit { meter.new.limit ≡ meter.old.limit }
+    ensures counted { OnOk result (meter.new.load ≡ meter.old.load
+        + length (flat_map (met_rows setting.now.grid by fetch.now) (series_met met.entry.items))) }
+    ensures over { IfErr result (TellsOver meter.old.limit (meter.old.load
+        + length (flat_map (met_rows setting.now.grid by fetch.now) (series_met met.entry.items)))) }
+{
+    for one in met {
+        add_rows_met(setting, by, fetch, &one, rows, meter)?;
+    }
+    Ok(())
+}
+
+// Adds the rows of one of them.
+fn add_rows_met(
+    setting: &EvaluationSetting<'_>,
+    by: Aligner,
+    fetch: &Fetch<'_>,
+    one: &Met<'_>,
+    rows: &mut TimedRows,
+    meter: &mut Meter,
+) -> Result<(), Refusal<OverLimit>>
+    requires can { CanAlignMet setting.now.grid by fetch.now (one.now.key.now, one.now.series.now.points) }
+    ensures rows { OnOk result (rows.new ≡ rows.old
+        ++ met_rows setting.now.grid by fetch.now (one.now.key.now, one.now.series.now.points)) }
+    ensures limit { meter.new.limit ≡ meter.old.limit }
+    ensures counted { OnOk result (meter.new.load ≡ meter.old.load
+        + length (met_rows setting.now.grid by fetch.now (one.now.key.now, one.now.series.now.points))) }
+    ensures over { IfErr result (TellsOver meter.old.limit (meter.old.load
+        + length (met_rows setting.now.grid by fetch.now (one.now.key.now, one.now.series.now.points)))) }
+{
+    let values = series_values(setting, by, fetch, one)?;
+    match meter.add(values.len()) {
+        Ok(()) => Ok(add_rows(setting.alloc, one.key, values, rows)?),
+        Err(refusal) => {
+            drop(values);
+            Err(refusal)
+        }
+    }
 }
 
 // The values of a series at the times of the grid.
@@ -186,14 +240,41 @@ fn add_rows(
 ) -> Result<(), OutOfMemory>
     ensures added { OnOk result (rows.new ≡ rows.old ++ map (row_of key.now) values) }
 {
-    let cells = series_cells(alloc, key)?;
+    match series_cells(alloc, key) {
+        Ok(cells) => {
+            let added = add_rows_behind(alloc, &cells, values, rows);
+            drop(cells);
+            added
+        }
+        Err(fault) => {
+            drop(values);
+            Err(fault)
+        }
+    }
+}
+
+// Adds a row for each value, behind the cells of its series.
+fn add_rows_behind(
+    alloc: Global,
+    cells: &Cells,
+    values: TimedValues,
+    rows: &mut TimedRows,
+) -> Result<(), OutOfMemory>
+    ensures added { OnOk result (rows.new ≡ rows.old ++ map (views.row_behind cells.now) values) }
+{
     for aligned in values {
-        let mut own: Cells = cells.copy(alloc)?;
-        own.push(aligned.value)?;
-        rows.push(TimedRow {
-            time: aligned.time,
-            cells: own,
-        })?;
+        let row = row_behind(alloc, cells, aligned)?;
+        rows.push(row)?;
     }
     Ok(())
+}
+
+// The row of a value, behind the cells of its series.
+fn row_behind(alloc: Global, cells: &Cells, aligned: TimedValue) -> Result<TimedRow, OutOfMemory>
+    ensures row { IfOk result (λ row. row ≡ views.row_behind cells.now aligned) }
+{
+    let TimedValue { time, value } = aligned;
+    let mut own: Cells = cells.copy(alloc)?;
+    own.push(value)?;
+    Ok(TimedRow { time, cells: own })
 }

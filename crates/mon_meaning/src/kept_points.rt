@@ -1,7 +1,8 @@
 // The points of a series that an alignment may see.
-ghost use Rattle.std.specs.Prelude.{◌≡◌, IfOk};
+ghost use Rattle.std.specs.Prelude.{◌≡◌, ◌<ℤ◌, ◌++◌, ◌∷◌, [], cond, IfOk, IfSome, OnOk};
 ghost use Rattle.mon_value.specs.Alignments as alignment;
 ghost use Rattle.mon_value.specs.Grids as grids;
+ghost use Rattle.mon_value.specs.Sources.{last_end};
 ghost use Rattle.mon_value.specs.Windows.{EndsRise};
 ghost use Rattle.mon_meaning.specs.within.FetchViews.{points_kept};
 ghost use Rattle.mon_meaning.specs.within.Reach.{points_within_reach};
@@ -71,15 +72,50 @@ pub(crate) fn kept_series(
     ensures kept { IfOk result (λ kept. kept.points ≡ points_kept fetch.now (key.now, reached.now)) }
 {
     let mut kept = Series::new(alloc);
+    match keep_points(alloc, fetch, key, reached, &mut kept) {
+        Ok(()) => Ok(kept),
+        Err(fault) => {
+            drop(kept);
+            Err(fault)
+        }
+    }
+}
+
+// Adds those points of which all filters hold to a series without points.
+fn keep_points(
+    alloc: Global,
+    fetch: &Fetch<'_>,
+    key: &SeriesKey,
+    reached: &[KeptPoint],
+    kept: &mut Series,
+) -> Result<(), OutOfMemory>
+    requires none { kept.old.points ≡ [] }
+    requires rises { EndsRise reached.now }
+    ensures kept { OnOk result (kept.new.points ≡ points_kept fetch.now (key.now, reached.now)) }
+{
     let mut cells = series_cells(alloc, key)?;
     for point in reached {
         let value = point.value(alloc)?;
         let (keeps, again) = fetch.keeps(alloc, cells, value)?;
         cells = again;
-        if keeps {
-            kept.reserve()?;
-            kept.push(point.copy(alloc)?);
-        }
+        add_point(alloc, keeps, point, kept)?;
     }
-    Ok(kept)
+    Ok(())
+}
+
+// Adds a copy of a point, if the point is to be kept.
+fn add_point(
+    alloc: Global,
+    keeps: bool,
+    point: &KeptPoint,
+    kept: &mut Series,
+) -> Result<(), OutOfMemory>
+    requires rises { IfSome (last_end kept.old.points) (λ last. last <ℤ point.now.end) }
+    ensures added { OnOk result (kept.new.points ≡ kept.old.points ++ cond keeps (point.now ∷ []) []) }
+{
+    if keeps {
+        kept.reserve()?;
+        kept.push(point.copy(alloc)?);
+    }
+    Ok(())
 }

@@ -7,7 +7,7 @@ use mon_value::{Refusal, TryCopy};
 use std::alloc::{AllocError, Global};
 
 /// The load of a query is above the limit.
-#[derive(Debug, PartialEq, Eq, Drop)]
+#[derive(PartialEq, Eq, Drop)]
 pub struct OverLimit {
     /// What was counted when the limit was passed: above the limit, and at most the load.
     pub load: u64,
@@ -20,7 +20,7 @@ impl TryCopy for OverLimit {
 }
 
 /// The load so far, which is within its limit.
-#[derive(Debug, Drop)]
+#[derive(Drop)]
 pub struct Meter {
     limit: u64,
     load: u64,

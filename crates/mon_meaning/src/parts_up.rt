@@ -1,5 +1,5 @@
 // The parts of a tree of which pieces go up.
-ghost use Rattle.std.specs.Prelude.{◌≡◌, ◌<◌, ◌+◌, ◌++◌, false, IfOk, OnOk};
+ghost use Rattle.std.specs.Prelude.{◌≡◌, ◌<◌, ◌+◌, ◌++◌, ◌∷◌, [], Bool, false, IfOk, OnOk};
 ghost use Rattle.mql_types.specs.Nodes.{level_of, node_tree};
 ghost use Rattle.mql_types.specs.Pieces as spec;
 ghost use Rattle.mon_meaning.specs.TopParts.{parts_seen, up_to};
@@ -80,7 +80,6 @@ fn add_part<'a>(
 }
 
 // Puts what flows into a node among the parts to come, the first of it last. A source is a part in any case.
-#[tactic(auto, using(crate::proofs::PartsToComeLemmas::parts_pushed))]
 fn add_below<'a>(
     parts: &mut Vec<TopPart<'a>>,
     rest: &mut Vec<TopPart<'a>>,
@@ -95,33 +94,74 @@ fn add_below<'a>(
         < nodes_left rest.old.items + nodes (node_tree node.now)) }
 {
     match node {
-        Node::Fetch { .. } | Node::Align { .. } => parts.push(TopPart::of_rows(node))?,
+        Node::Fetch { .. } | Node::Align { .. } => add_source(parts, node),
         Node::Filter { input, .. } | Node::Value { input, .. } => {
-            rest.push(TopPart::of_rows(input))?
+            put_part(rest, TopPart::of_rows(input))
         }
         Node::GroupBy {
+            info: _,
             by,
             with,
             input,
-            ..
-        } => rest.push(TopPart {
-            part: input,
-            goes_up: GoesUp::ToGroup(by, with),
-        })?,
+        } => put_part(
+            rest,
+            TopPart {
+                part: input,
+                goes_up: GoesUp::ToGroup(by, with),
+            },
+        ),
         Node::Top {
+            info: _,
             most,
             column,
             input,
-            ..
-        } => rest.push(TopPart {
-            part: input,
-            goes_up: GoesUp::ToCut(*most, *column),
-        })?,
+        } => put_part(
+            rest,
+            TopPart {
+                part: input,
+                goes_up: GoesUp::ToCut(*most, *column),
+            },
+        ),
         Node::Join { left, right, .. } | Node::Union { left, right, .. } => {
-            rest.push(TopPart::of_rows(right))?;
-            rest.push(TopPart::of_rows(left))?;
+            put_sides(rest, left, right)
         }
     }
+}
+
+// Adds a source to the parts.
+fn add_source<'a>(parts: &mut Vec<TopPart<'a>>, source: &'a Node) -> Result<(), OutOfMemory>
+    ensures added { OnOk result
+        (parts_seen parts.new.items ≡ parts_seen parts.old.items ++ come.as_rows (node_tree source.now) ∷ []) }
+{
+    parts.push(TopPart::of_rows(source))?;
+    Ok(())
+}
+
+// Puts a part among the parts to come, as the next of them.
+#[tactic(auto, using(crate::proofs::PartsToComeLemmas::parts_pushed))]
+fn put_part<'a>(rest: &mut Vec<TopPart<'a>>, part: TopPart<'a>) -> Result<(), OutOfMemory>
+    ensures left { (here : Level → Bool) → OnOk result (parts_left here rest.new.items
+        ≡ come.parts_of_part here (come.part_seen part.entry) ++ parts_left here rest.old.items) }
+    ensures nodes { OnOk result (nodes_left rest.new.items ≡ part_nodes part.entry + nodes_left rest.old.items) }
+{
+    rest.push(part)?;
+    Ok(())
+}
+
+// Puts both sides of an operation among the parts to come, the left one first.
+fn put_sides<'a>(
+    rest: &mut Vec<TopPart<'a>>,
+    left: &'a Node,
+    right: &'a Node,
+) -> Result<(), OutOfMemory>
+    ensures left { (here : Level → Bool) → OnOk result (parts_left here rest.new.items
+        ≡ spec.top_parts here (node_tree left.now) ++ spec.top_parts here (node_tree right.now)
+        ++ parts_left here rest.old.items) }
+    ensures nodes { OnOk result (nodes_left rest.new.items
+        ≡ nodes (node_tree left.now) + nodes (node_tree right.now) + nodes_left rest.old.items) }
+{
+    rest.push(TopPart::of_rows(right))?;
+    rest.push(TopPart::of_rows(left))?;
     Ok(())
 }
 

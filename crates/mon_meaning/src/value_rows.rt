@@ -1,5 +1,5 @@
 // Rows of computed items.
-ghost use Rattle.std.specs.Prelude.{◌≡◌, ◌++◌, ◌∷◌, [], cond, map, IfOk, OnOk};
+ghost use Rattle.std.specs.Prelude.{◌≡◌, ◌++◌, ◌∷◌, [], cond, if◌then◌else◌, map, IfOk, OnOk};
 ghost use Rattle.std.specs.List.{AllByRecursion, filter_map};
 ghost use Rattle.mon_expr.specs.BoundSums.{CanEvaluate};
 ghost use Rattle.mql_ast.specs.SumWidths.{CanCompute, HasShares, IsTypedSum};
@@ -108,13 +108,46 @@ fn item_values(
     ensures values { IfOk result (λ values. values ≡ all_values items.now cells.now) }
 {
     let mut values = Cells::new(alloc);
+    match add_values(alloc, items, cells, &mut values) {
+        Ok(are_all) => Ok(all_or_none(are_all, values)),
+        Err(fault) => {
+            drop(values);
+            Err(fault)
+        }
+    }
+}
+
+// Adds what items come to in a row to a list without values, up to the first that comes to none. Gives whether all came
+// to one.
+fn add_values(
+    alloc: Global,
+    items: &[BoundExpr],
+    cells: &Cells,
+    values: &mut Cells,
+) -> Result<bool, OutOfMemory>
+    requires none { values.old ≡ [] }
+    requires can { AllByRecursion (λ (item : BoundExpr). CanEvaluate item cells.now) items.now }
+    ensures values { IfOk result (λ are_all.
+        (if are_all then Some values.new else None) ≡ all_values items.now cells.now) }
+{
     for item in items {
         let Some(value) = item.value_of(alloc, cells)? else {
-            return Ok(None);
+            return Ok(false);
         };
         values.push(value)?;
     }
-    Ok(Some(values))
+    Ok(true)
+}
+
+// Values, if they are all.
+fn all_or_none(are_all: bool, values: Cells) -> Option<Cells>
+    ensures values { result ≡ (if are_all then Some values else None) }
+{
+    if are_all {
+        return Some(values);
+    }
+    drop(values);
+    None
 }
 
 // The cells in the columns that are keys, and then the values. All cells move.

@@ -4,7 +4,7 @@ use std::alloc::{AllocError, Global};
 use std::fmt;
 
 /// The fault of a record of points.
-#[derive(Clone, Copy, Debug, PartialEq, Eq)]
+#[derive(Clone, Copy, PartialEq, Eq)]
 pub enum RowFault {
     /// The record has fewer than five cells, or another number than its schemas' fields ask for.
     Fields,

@@ -55,23 +55,88 @@ impl KeyCache {
         requires small { length (fields_of cells.now) < 2 ^ 64 }
         ensures key { Gives result (key_read target.now metric.now (drop 5 (fields_of cells.now))) }
     {
-        if let Some(key) = self.spelled_at(alloc, self.next, target, metric, cells)? {
-            self.go_to(self.next);
-            return Ok(key);
+        match self.known_key(alloc, target, metric, cells)? {
+            Some(key) => Ok(key),
+            None => self.new_key(alloc, target, metric, cells),
+        }
+    }
+
+    // The key of a series that was read before. Where it is none that comes next, the cells of the record that name
+    // its series are taken.
+    fn known_key(
+        &mut self,
+        alloc: Global,
+        target: &TargetSchema,
+        metric: &MetricSchema,
+        cells: &StringRecord,
+    ) -> Result<Option<Shared<SeriesKey>>, OutOfMemory>
+        requires counted { length (fields_of cells.now) ≡ 5 + length target.now.fields + length metric.now.fields }
+        requires small { length (fields_of cells.now) < 2 ^ 64 }
+        ensures key { IfOk result (λ found. IfSome found (λ key.
+            key_read target.now metric.now (drop 5 (fields_of cells.now)) ≡ Ok key)) }
+    {
+        if let Some(key) = self.key_at(alloc, self.next, target, metric, cells)? {
+            return Ok(Some(key));
         }
         self.take_cells(cells)?;
-        if let Some(place) = self.keys.get_index_of(self.cells.as_slice())
-            && let Some(key) = self.spelled_at(alloc, place, target, metric, cells)?
-        {
-            self.go_to(place);
-            return Ok(key);
+        match self.keys.get_index_of(self.cells.as_slice()) {
+            Some(place) => self.key_at(alloc, place, target, metric, cells),
+            None => Ok(None),
         }
+    }
+
+    // The key at a place, if the cells of a record spell it. The place is then that of the last record's key.
+    fn key_at(
+        &mut self,
+        alloc: Global,
+        place: usize,
+        target: &TargetSchema,
+        metric: &MetricSchema,
+        cells: &StringRecord,
+    ) -> Result<Option<Shared<SeriesKey>>, OutOfMemory>
+        requires counted { length (fields_of cells.now) ≡ 5 + length target.now.fields + length metric.now.fields }
+        requires small { length (fields_of cells.now) < 2 ^ 64 }
+        ensures key { IfOk result (λ found. IfSome found (λ key.
+            key_read target.now metric.now (drop 5 (fields_of cells.now)) ≡ Ok key)) }
+    {
+        match self.spelled_at(alloc, place, target, metric, cells)? {
+            Some(key) => {
+                self.go_to(place);
+                Ok(Some(key))
+            }
+            None => Ok(None),
+        }
+    }
+
+    // Reads the key of a series that is new, and keeps it under the cells that name the series.
+    fn new_key(
+        &mut self,
+        alloc: Global,
+        target: &TargetSchema,
+        metric: &MetricSchema,
+        cells: &StringRecord,
+    ) -> Result<Shared<SeriesKey>, Refusal<RowFault>>
+        requires counted { length (fields_of cells.now) ≡ 5 + length target.now.fields + length metric.now.fields }
+        requires small { length (fields_of cells.now) < 2 ^ 64 }
+        ensures key { Gives result (key_read target.now metric.now (drop 5 (fields_of cells.now))) }
+    {
         let key = Shared::new(alloc, read_key(alloc, target, metric, cells)?)?;
-        let name = Vec::from_slice(alloc, self.cells.as_slice())?;
+        match self.keep(alloc, &key) {
+            Ok(()) => Ok(key),
+            Err(_) => {
+                drop(key);
+                Err(Refusal::OutOfMemory)
+            }
+        }
+    }
+
+    // Keeps a key under the cells that name its series.
+    fn keep(&mut self, alloc: Global, key: &Shared<SeriesKey>) -> Result<(), OutOfMemory> {
         let place = self.keys.len();
+        let name = Vec::from_slice(alloc, self.cells.as_slice())?;
         self.keys.insert(name, key.copy(alloc)?)?;
         self.go_to(place);
-        Ok(key)
+        Ok(())
     }
 
     // The key at a place, if the cells of a record spell it.

@@ -1,5 +1,5 @@
 // The records of a points file.
-ghost use Rattle.std.specs.Prelude.{◌≡◌, ◌<◌, ◌≤◌, length, drop, IfOk, MatchOption};
+ghost use Rattle.std.specs.Prelude.{◌≡◌, ◌<◌, ◌≤◌, ◌++◌, ◌∷◌, [], length, drop, IfOk, OnOk, MatchOption};
 ghost use Rattle.std.specs.List.{AllByRecursion};
 ghost use Rattle.csv.specs.Records.{fields_of};
 ghost use Rattle.mon_value.specs.Answers.{Gives};
@@ -17,7 +17,7 @@ use std::alloc::{AllocError, Global};
 use std::mem;
 
 /// What a record reads as.
-#[derive(Debug, PartialEq, Eq, Drop)]
+#[derive(PartialEq, Eq, Drop)]
 pub enum RowRead {
     /// A row.
     Row(Row),
@@ -69,22 +69,81 @@ pub fn read_rows_with(
     ensures fit { IfOk result (λ reads. AllByRecursion (ReadFits schemas.now) reads) }
     ensures few { IfOk result (λ reads. length reads ≤ length bytes.now) }
 {
+    let mut reads = RowReads::new(alloc);
+    match read_all(alloc, bytes, schemas, keys, &mut reads) {
+        Ok(()) => Ok(reads),
+        Err(fault) => {
+            drop(reads);
+            Err(fault)
+        }
+    }
+}
+
+// Reads all records, where none was read yet.
+fn read_all(
+    alloc: Global,
+    bytes: &[u8],
+    schemas: &Schemas,
+    keys: &mut KeyCache,
+    reads: &mut RowReads,
+) -> Result<(), OutOfMemory>
+    requires empty { reads.old ≡ [] }
+    ensures exact { OnOk result (reads.new ≡ reads_of schemas.now bytes.now) }
+{
+    let mut record = ByteRecord::new(alloc);
+    let read = read_all_by(alloc, &mut record, bytes, schemas, keys, reads);
+    drop(record);
+    read
+}
+
+// Reads all records by way of one that has the cells of each in turn.
+fn read_all_by(
+    alloc: Global,
+    record: &mut ByteRecord,
+    bytes: &[u8],
+    schemas: &Schemas,
+    keys: &mut KeyCache,
+    reads: &mut RowReads,
+) -> Result<(), OutOfMemory>
+    requires empty { reads.old ≡ [] }
+    ensures exact { OnOk result (reads.new ≡ reads_of schemas.now bytes.now) }
+{
     let mut reader = ReaderBuilder::new()
         .has_headers(false)
         .flexible(true)
         .from_reader(alloc, bytes);
-    let mut record = ByteRecord::new(alloc);
-    let mut reads = RowReads::new(alloc);
     'records: loop {
         // Bytes in memory are always read, and records may differ in length: only memory is wanting.
-        let Ok(found) = reader.read_byte_record(&mut record) else {
+        let Ok(found) = reader.read_byte_record(record) else {
+            drop(reader);
             return Err(AllocError);
         };
         if !found {
-            return Ok(reads);
+            drop(reader);
+            return Ok(());
         }
-        reads.push(read_record(alloc, &mut record, schemas, keys)?)?;
+        match add_record(alloc, record, schemas, keys, reads) {
+            Ok(()) => {}
+            Err(fault) => {
+                drop(reader);
+                return Err(fault);
+            }
+        }
     }
+}
+
+// Adds what a record reads as.
+fn add_record(
+    alloc: Global,
+    record: &mut ByteRecord,
+    schemas: &Schemas,
+    keys: &mut KeyCache,
+    reads: &mut RowReads,
+) -> Result<(), OutOfMemory>
+    ensures added { OnOk result (reads.new ≡ reads.old ++ record_read schemas.now (fields_of record.old) ∷ []) }
+{
+    let read = read_record(alloc, record, schemas, keys)?;
+    reads.push(read)
 }
 
 // What a record reads as. The record keeps its memory for the next one.

@@ -8,7 +8,7 @@ use mql_types::TypeFault;
 use std::alloc::{AllocError, Global};
 
 /// Why a record was refused.
-#[derive(Clone, Copy, Debug, PartialEq, Eq)]
+#[derive(Clone, Copy, PartialEq, Eq)]
 pub enum RowRefused {
     /// It is no row.
     Read(RowFault),
@@ -17,7 +17,7 @@ pub enum RowRefused {
 }
 
 /// A record that was refused. Records are numbered from 1.
-#[derive(Clone, Copy, Debug, PartialEq, Eq)]
+#[derive(Clone, Copy, PartialEq, Eq)]
 pub struct RowRefusal {
     pub number: u32,
     pub fault: RowRefused,
@@ -27,7 +27,7 @@ pub struct RowRefusal {
 pub type RowRefusals = ListOf<RowRefusal>;
 
 /// Why a line was refused.
-#[derive(Clone, Copy, Debug, PartialEq, Eq)]
+#[derive(Clone, Copy, PartialEq, Eq)]
 pub enum LineFault {
     /// The text of the query has no tree.
     Parse(ParseFault),
@@ -38,7 +38,7 @@ pub enum LineFault {
 }
 
 /// How a line of a script ended.
-#[derive(Debug, Drop)]
+#[derive(Drop)]
 pub enum LineEnd {
     /// A feed, with how many rows it accepted and the records that it refused. Its rows are the next
     /// ones of the outcome.

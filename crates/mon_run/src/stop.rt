@@ -6,7 +6,7 @@ use std::alloc::AllocError;
 use weave_core::ScheduleFault;
 
 /// Why a run stops.
-#[derive(Debug, Drop)]
+#[derive(Drop)]
 pub(crate) enum Stop {
     /// The words are no command.
     Usage,

@@ -97,21 +97,33 @@ module _ {S : Type 0} where
   lookup_named key (e ∷ es) = ap (cond (same_text key.items e.0.items) (Some e.1)) (lookup_named key es)
 
   module _ {H : Type 0} (m : IndexMap (Vec ℕ Global) S H) where
-    -- the entries of a map, copied one by one into another
-    pub copy_put : (name key : Vec ℕ Global) (made schema : S) (rest all new : List (Entry S))
-        → name.items ≡ key.items → made ≡ schema → new ≡ insert_entry same_key m.entries name made
+    -- nothing stands under the name of an entry that is still to be copied
+    pub copy_absent : (key : Vec ℕ Global) (schema : S) (rest all : List (Entry S))
         → named_entries m.entries ++ named_entries ((key, schema) ∷ rest) ≡ named_entries all
-        → IsDistinct same_key (keys_of all) → named_entries new ++ named_entries rest ≡ named_entries all
-    copy_put name key made schema rest all new names mades is whole distinct =
-        let done = named_entries m.entries in
-        let unlike : IsDistinct same_text (keys_of (done ++ (key.items, schema) ∷ named_entries rest)) =
+        → IsDistinct same_key (keys_of all) → lookup (same_text key.items) (named_entries m.entries) ≡ None
+    copy_absent key schema rest all whole distinct =
+        let unlike : IsDistinct same_text (keys_of (named_entries m.entries ++ (key.items, schema) ∷ named_entries rest)) =
         subst (λ entries. IsDistinct same_text (keys_of entries)) (sym whole) (distinct_named all distinct) in
+        absent_so_far (named_entries m.entries) (key.items, schema) (named_entries rest) unlike
+
+    -- an entry under a name that is new goes to the end
+    pub copy_put : (name : Vec ℕ Global) (text : List ℕ) (made schema : S) (new : List (Entry S))
+        → name.items ≡ text → made ≡ schema → new ≡ insert_entry same_key m.entries name made
+        → lookup (same_text text) (named_entries m.entries) ≡ None
+        → named_entries new ≡ named_entries m.entries ++ (text, schema) ∷ []
+    copy_put name text made schema new names mades is absent =
+        let done = named_entries m.entries in
         let none : get same_key m name ≡ None =
-        lookup_named name m.entries ∙ ap (λ text. lookup (same_text text) done) names
-        ∙ absent_so_far done (key.items, schema) (named_entries rest) unlike in
-        let put : named_entries new ≡ done ++ (key.items, schema) ∷ [] =
+        lookup_named name m.entries ∙ ap (λ text. lookup (same_text text) done) names ∙ absent in
         ap named_entries (is ∙ insert_entry-new same_key m name made none)
         ∙ named_entries-append m.entries ((name, made) ∷ [])
-        ∙ (λ i. done ++ (names i, mades i) ∷ []) in
-        ap (λ entries. entries ++ named_entries rest) put
-        ∙ append_assoc done ((key.items, schema) ∷ []) (named_entries rest) ∙ whole
+        ∙ (λ i. done ++ (names i, mades i) ∷ [])
+
+  -- what was copied and what is still to be copied are all entries, before a copy and after it
+  pub copied_more : (done new : List (Entry S)) (key : Vec ℕ Global) (schema : S) (rest all : List (Entry S))
+      → named_entries new ≡ named_entries done ++ (key.items, schema) ∷ []
+      → named_entries done ++ named_entries ((key, schema) ∷ rest) ≡ named_entries all
+      → named_entries new ++ named_entries rest ≡ named_entries all
+  copied_more done new key schema rest all put whole =
+      ap (λ entries. entries ++ named_entries rest) put
+      ∙ append_assoc (named_entries done) ((key.items, schema) ∷ []) (named_entries rest) ∙ whole

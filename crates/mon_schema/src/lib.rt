@@ -21,6 +21,3 @@ pub use mon_value::{
 pub use names::is_name;
 pub use rows::{counts_fit, text_fits, times_fit};
 pub use table::Schemas;
-
-#[cfg(test)]
-mod tests;

@@ -1,9 +1,11 @@
 // The schemas that are held.
 ghost use Rattle.std.specs.Prelude.{◌≡◌, ◌++◌, ◌∷◌, [], None, IfOk, IsNone, OnOk, OnErr, nat_eq};
 ghost use Rattle.std.specs.Cmp.Lexicographic.{pointwise};
+ghost use Rattle.std.specs.Map.{lookup};
 ghost use Rattle.std.specs.Option.{option_copied};
 ghost use Rattle.indexmap.specs.IndexMap.{get};
 ghost use Rattle.mon_value.specs.Answers.{AnswersBy};
+ghost use Rattle.mon_value.specs.Same.{same_text};
 ghost use Rattle.mon_schema.specs.Held.{named_entries};
 
 use crate::faults::SchemaFault;
@@ -14,7 +16,7 @@ use crate::names::{is_column_name, is_metric_name, is_name};
 use crate::rows::row_fits;
 use indexmap::IndexMap;
 use mon_value::{MetricSchema, Refusal, Row, TargetSchema, TryCopy};
-use std::alloc::{AllocError, AllocFailed, Global};
+use std::alloc::{AllocError, Global};
 use std::marker::Model;
 
 /// The schemas of targets and metrics, found by name. Contracts see both lists in the order of adding.
@@ -77,11 +79,16 @@ impl Schemas {
         ensures kept { OnErr result (self.new ≡ self.old) }
     {
         if let Some(fault) = self.fault_of_target(&schema) {
+            drop(schema);
             return Err(Refusal::Fault(fault));
         }
-        let name = Vec::from_slice(self.alloc, schema.name.as_bytes())?;
-        add_new(&mut self.targets, name, schema)?;
-        Ok(())
+        match Vec::from_slice(self.alloc, schema.name.as_bytes()) {
+            Ok(name) => Ok(add_new(&mut self.targets, name, schema)?),
+            Err(_) => {
+                drop(schema);
+                Err(Refusal::OutOfMemory)
+            }
+        }
     }
 
     /// Adds a metric. A fault leaves the schemas as they were.
@@ -91,11 +98,16 @@ impl Schemas {
         ensures kept { OnErr result (self.new ≡ self.old) }
     {
         if let Some(fault) = self.fault_of_metric(&metric) {
+            drop(metric);
             return Err(Refusal::Fault(fault));
         }
-        let name = Vec::from_slice(self.alloc, metric.name.as_bytes())?;
-        add_new(&mut self.metrics, name, metric)?;
-        Ok(())
+        match Vec::from_slice(self.alloc, metric.name.as_bytes()) {
+            Ok(name) => Ok(add_new(&mut self.metrics, name, metric)?),
+            Err(_) => {
+                drop(metric);
+                Err(Refusal::OutOfMemory)
+            }
+        }
     }
 
     /// Whether a row is of schemas that are held: it has their fields in number and type, times of the
@@ -196,11 +208,44 @@ fn copied_schemas<V: TryCopy + Drop>(
     ensures entries { IfOk result (λ copied. named_entries copied.entries ≡ named_entries map.now.entries) }
 {
     let mut copied = IndexMap::with_capacity(alloc, map.len())?;
-    for (name, schema) in map.iter() {
-        let name = Vec::from_slice(alloc, name.as_slice())?;
-        copied.insert(name, schema.copy(alloc)?)?;
+    match add_copies(alloc, &mut copied, map) {
+        Ok(()) => Ok(copied),
+        Err(fault) => {
+            drop(copied);
+            Err(fault)
+        }
     }
-    Ok(copied)
+}
+
+// Adds copies of schemas to a map without any.
+fn add_copies<V: TryCopy + Drop>(
+    alloc: Global,
+    copied: &mut IndexMap<Vec<u8>, V>,
+    map: &IndexMap<Vec<u8>, V>,
+) -> Result<(), AllocError>
+    requires empty { copied.old.entries ≡ [] }
+    ensures entries { OnOk result (named_entries copied.new.entries ≡ named_entries map.now.entries) }
+{
+    for (name, schema) in map.iter() {
+        add_copy(alloc, copied, name.as_slice(), schema)?;
+    }
+    Ok(())
+}
+
+// Adds a copy of a schema under a name that is new.
+fn add_copy<V: TryCopy + Drop>(
+    alloc: Global,
+    copied: &mut IndexMap<Vec<u8>, V>,
+    name: &[u8],
+    schema: &V,
+) -> Result<(), AllocError>
+    requires new { lookup (same_text name.now) (named_entries copied.old.entries) ≡ None }
+    ensures added { OnOk result (named_entries copied.new.entries
+        ≡ named_entries copied.old.entries ++ (name.now, schema.now) ∷ []) }
+{
+    let name = Vec::from_slice(alloc, name)?;
+    copied.insert(name, schema.copy(alloc)?)?;
+    Ok(())
 }
 
 // Adds what is new under its name.
@@ -208,7 +253,7 @@ fn add_new<V: Drop>(
     map: &mut IndexMap<Vec<u8>, V>,
     name: Vec<u8>,
     value: V,
-) -> Result<(), AllocFailed<(Vec<u8>, V)>>
+) -> Result<(), AllocError>
     requires { get (λ a b. pointwise nat_eq a.items b.items) map.old name ≡ None }
     ensures added { OnOk result (map.new.entries ≡ map.old.entries ++ (name, value) ∷ []) }
     ensures kept { OnErr result (map.new.entries ≡ map.old.entries) }

@@ -8,6 +8,3 @@ mod script;
 pub use forms::moment_of;
 pub use lines::{cut_at, is_remark, next_line};
 pub use script::{LineForm, Script, ScriptFault, ScriptKind, ScriptLine, read_script};
-
-#[cfg(test)]
-mod tests;

@@ -11,7 +11,7 @@ use mon_value::{LONGEST_FILE, ListOf, Refusal, Text, TryCopy};
 use std::alloc::{AllocError, Global};
 
 /// What a line of a script says.
-#[derive(Debug, Drop)]
+#[derive(Drop)]
 pub enum LineForm {
     /// Feed the records of a file.
     Feed(Text),
@@ -20,7 +20,7 @@ pub enum LineForm {
 }
 
 /// A line that does something. Lines are numbered from 1.
-#[derive(Debug, Drop)]
+#[derive(Drop)]
 pub struct ScriptLine {
     pub number: u32,
     pub what: LineForm,
@@ -30,14 +30,14 @@ pub struct ScriptLine {
 pub type Script = ListOf<ScriptLine>;
 
 /// Why a line is refused.
-#[derive(Clone, Copy, Debug, PartialEq, Eq)]
+#[derive(Clone, Copy, PartialEq, Eq)]
 pub enum ScriptKind {
     /// The line is of a form that is not read so far.
     NotBuilt,
 }
 
 /// The first line of a script that is refused.
-#[derive(Clone, Copy, Debug, PartialEq, Eq)]
+#[derive(Clone, Copy, PartialEq, Eq)]
 pub struct ScriptFault {
     pub line: u32,
     pub kind: ScriptKind,

@@ -11,7 +11,7 @@ use std::mem::size_of;
 
 /// A point of a series, in 24 bytes. Contracts see the point. A number of 64 bits and a truth value stand in these
 /// bytes, where the point speaks of less than 2^32 seconds; any other point has memory of its own.
-#[derive(Debug, Drop)]
+#[derive(Drop)]
 pub struct KeptPoint {
     form: Form,
 }
@@ -19,7 +19,7 @@ pub struct KeptPoint {
 const _: () = prove!(size_of::<KeptPoint>() == 24);
 
 /// How a point is kept. `seconds` is the time from its start to its end.
-#[derive(Debug, Drop)]
+#[derive(Drop)]
 pub(crate) enum Form {
     Number { seconds: u32, end: i64, number: i64 },
     Truth { seconds: u32, end: i64, truth: bool },

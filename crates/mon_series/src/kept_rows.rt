@@ -19,7 +19,7 @@ use std::marker::Model;
 pub type SeriesMap = IndexMap<Shared<SeriesKey>, Series>;
 
 /// A series that has rows: its number in the order of the first rows, and the end of its last point.
-#[derive(Clone, Copy, Debug, PartialEq, Eq)]
+#[derive(Clone, Copy, PartialEq, Eq)]
 pub struct KeptSeries {
     pub number: u32,
     pub last: i64,

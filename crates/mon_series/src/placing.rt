@@ -14,7 +14,7 @@ use mon_value::{OutOfMemory, RoomListOf, Row, SeriesKey, Shared, TryCopy};
 use std::alloc::{AllocError, AllocFailed, Global};
 
 /// The place of a point: the number of its series, and its own number in that series.
-#[derive(Debug, Drop)]
+#[derive(Drop)]
 pub(crate) struct Place {
     pub(crate) series: u32,
     pub(crate) point: u32,

@@ -13,7 +13,7 @@ use std::marker::Model;
 
 /// The points of one series. Their ends rise strictly. Contracts see the points in order, and for
 /// how many more room was made.
-#[derive(Debug, Drop)]
+#[derive(Drop)]
 pub struct Series {
     points: RoomListOf<KeptPoint>,
 }

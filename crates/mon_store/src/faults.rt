@@ -3,7 +3,7 @@ use mon_value::TryCopy;
 use std::alloc::{AllocError, Global};
 
 /// Why a row is not written.
-#[derive(Clone, Copy, Debug, PartialEq, Eq)]
+#[derive(Clone, Copy, PartialEq, Eq)]
 pub enum WriteFault {
     /// No zone lists its location.
     NoZone,

@@ -9,7 +9,7 @@ use mon_value::{OutOfMemory, TimedRow, Value};
 use std::alloc::Global;
 
 /// The time of a row, and its cells in the columns that both tables of a join have.
-#[derive(Debug, PartialEq, Eq, Hash, Drop)]
+#[derive(PartialEq, Eq, Hash, Drop)]
 pub(crate) struct JoinKey<'a> {
     pub(crate) time: i64,
     pub(crate) cells: Vec<&'a Value>,

@@ -3,7 +3,7 @@ ghost use Rattle.std.specs.Prelude.{◌≡◌, ◌+◌, ◌++◌, length, map, I
 ghost use Rattle.std.specs.List.{flat_map};
 ghost use Rattle.mon_table.specs.JoinRoom.{over_room, rows_within_room, table_within_room};
 ghost use Rattle.mon_table.specs.References.{rows_behind};
-ghost use Rattle.mon_table.specs.RightSides.{left_pairs, pair_row};
+ghost use Rattle.mon_table.specs.RightSides.{left_pairs, pair_row, side_at};
 ghost use Rattle.mon_value.specs.Answers.{AnswersBy, Gives};
 ghost use Rattle.mon_value.specs.Columns.{IsWhole};
 ghost use Rattle.mon_value.specs.Groups.{cells_at};
@@ -16,7 +16,7 @@ use mon_value::{Cells, OutOfMemory, Refusal, Table, TimedRow, TimedRows, TryCopy
 use std::alloc::{AllocError, Global};
 
 /// A join has more rows than there is room for.
-#[derive(Debug, PartialEq, Eq, Drop)]
+#[derive(PartialEq, Eq, Drop)]
 pub struct OverRoom {
     /// The most rows that there is room for.
     pub room: u64,
@@ -54,10 +54,39 @@ fn joined_rows(
     ensures rows { Gives result (rows_within_room room (join_of a.now b.now).rows) }
 {
     let places = Places::new(alloc, a.columns.as_slice(), b.columns.as_slice())?;
-    let right_rows = RightRows::new(alloc, b.rows.as_slice(), &places)?;
-    let lefts = a.rows.as_slice();
-    test_room(alloc, lefts, &right_rows, room)?;
-    Ok(pairs(alloc, lefts, &right_rows)?)
+    let rows = rows_at(alloc, a.rows.as_slice(), b.rows.as_slice(), &places, room);
+    drop(places);
+    rows
+}
+
+// The rows of a join whose columns stand at these places.
+fn rows_at(
+    alloc: Global,
+    lefts: &[TimedRow],
+    rights: &[TimedRow],
+    places: &Places,
+    room: u64,
+) -> Result<TimedRows, Refusal<OverRoom>>
+    ensures rows { Gives result
+        (rows_within_room room (flat_map (left_pairs (side_at places.now rights.now)) lefts.now)) }
+{
+    let right_rows = RightRows::new(alloc, rights, places)?;
+    let rows = pairs_within(alloc, lefts, &right_rows, room);
+    drop(right_rows);
+    rows
+}
+
+// The pairs of all rows of the left, if there is room for them.
+fn pairs_within<'a>(
+    alloc: Global,
+    lefts: &'a [TimedRow],
+    right_rows: &RightRows<'a>,
+    room: u64,
+) -> Result<TimedRows, Refusal<OverRoom>>
+    ensures rows { Gives result (rows_within_room room (flat_map (left_pairs right_rows.now) lefts.now)) }
+{
+    test_room(alloc, lefts, right_rows, room)?;
+    Ok(pairs(alloc, lefts, right_rows)?)
 }
 
 // Whether there is room for the pairs of all rows of the left, before one of them is made.

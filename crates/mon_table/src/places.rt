@@ -8,7 +8,7 @@ use std::alloc::Global;
 
 /// Where the columns of a join's tables stand: of each two of one name the place in the left table and in the
 /// right one, and of the right's columns whose names are not of the left's.
-#[derive(Debug, Drop)]
+#[derive(Drop)]
 pub(crate) struct Places {
     pub(crate) lefts: Vec<usize>,
     pub(crate) rights: Vec<usize>,

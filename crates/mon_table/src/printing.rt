@@ -53,14 +53,55 @@ fn lines_of(alloc: Global, columns: &Columns, rows: &[&TimedRow]) -> Result<Stri
         ≡ spec.lines_of_rows (column_names columns.now) (rows_behind rows.now)) }
 {
     let mut writer = line_writer(alloc);
-    let mut cells = ByteRecord::new(alloc);
-    name_columns(&mut cells, columns)?;
-    put_line(&mut writer, &cells)?;
-    for row in rows {
-        fill(alloc, &mut cells, row)?;
-        put_line(&mut writer, &cells)?;
+    match write_lines(alloc, &mut writer, columns, rows) {
+        Ok(()) => into_text(writer),
+        Err(fault) => {
+            drop(writer);
+            Err(fault)
+        }
     }
-    into_text(writer)
+}
+
+// Writes the lines of a table, where nothing was written yet.
+fn write_lines(
+    alloc: Global,
+    writer: &mut Writer<Vec<u8>>,
+    columns: &Columns,
+    rows: &[&TimedRow],
+) -> Result<(), OutOfMemory>
+    requires empty { lines_in writer.old ≡ [] }
+    requires between { IsBetweenLines writer.old }
+    ensures text { OnOk result (lines_in writer.new
+        ≡ spec.lines_of_rows (column_names columns.now) (rows_behind rows.now)) }
+    ensures written { OnOk result (IsUtf8 (lines_in writer.new)) }
+{
+    let mut cells = ByteRecord::new(alloc);
+    let written = write_lines_by(alloc, writer, &mut cells, columns, rows);
+    drop(cells);
+    written
+}
+
+// Writes the lines of a table by way of a record, which has the cells of one line after another.
+fn write_lines_by(
+    alloc: Global,
+    writer: &mut Writer<Vec<u8>>,
+    cells: &mut ByteRecord,
+    columns: &Columns,
+    rows: &[&TimedRow],
+) -> Result<(), OutOfMemory>
+    requires empty { lines_in writer.old ≡ [] }
+    requires between { IsBetweenLines writer.old }
+    ensures text { OnOk result (lines_in writer.new
+        ≡ spec.lines_of_rows (column_names columns.now) (rows_behind rows.now)) }
+    ensures written { OnOk result (IsUtf8 (lines_in writer.new)) }
+{
+    name_columns(cells, columns)?;
+    put_line(writer, cells)?;
+    for row in rows {
+        fill(alloc, cells, row)?;
+        put_line(writer, cells)?;
+    }
+    Ok(())
 }
 
 // A writer of lines.

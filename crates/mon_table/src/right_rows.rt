@@ -1,7 +1,8 @@
 // The right rows of a join by their keys.
-ghost use Rattle.std.specs.Prelude.{◌≡◌, IfOk, OnOk};
+ghost use Rattle.std.specs.Prelude.{◌≡◌, ◌∷◌, [], IfOk, OnOk};
 ghost use Rattle.std.specs.Option.{option_copied};
 ghost use Rattle.mon_table.specs.JoinKeys.{AddsUnderKey, KeepsByKey, rows_under_key, key_row};
+ghost use Rattle.mon_table.specs.References.{rows_behind};
 ghost use Rattle.mon_table.specs.RightSides.{side_at};
 ghost use Rattle.mon_value.specs.Groups.{rows_in};
 
@@ -81,10 +82,29 @@ fn rows_by_key<'a>(
     ensures entries { IfOk result (KeepsByKey places.now rows.now) }
 {
     let mut by_key = IndexMap::new(alloc);
-    for row in rows {
-        add_row(alloc, &mut by_key, join_key(alloc, row, places)?, row)?;
+    match add_rows(alloc, &mut by_key, rows, places) {
+        Ok(()) => Ok(by_key),
+        Err(fault) => {
+            drop(by_key);
+            Err(fault)
+        }
     }
-    Ok(by_key)
+}
+
+// Adds rows by their keys to a map without any.
+fn add_rows<'a>(
+    alloc: Global,
+    by_key: &mut IndexMap<JoinKey<'a>, Vec<&'a TimedRow>>,
+    rows: &'a [TimedRow],
+    places: &[usize],
+) -> Result<(), OutOfMemory>
+    requires empty { KeepsByKey places.now [] by_key.old }
+    ensures entries { OnOk result (KeepsByKey places.now rows.now by_key.new) }
+{
+    for row in rows {
+        add_row(alloc, by_key, join_key(alloc, row, places)?, row)?;
+    }
+    Ok(())
 }
 
 // Adds a row to those of its key, or under a new key.
@@ -98,14 +118,27 @@ fn add_row<'a>(
 {
     match by_key.get_mut(&key) {
         Some(rows) => {
-            rows.push(row)?;
-            Ok(())
+            drop(key);
+            Ok(rows.push(row)?)
         }
-        None => {
-            let mut rows = Vec::new(alloc);
-            rows.push(row)?;
-            by_key.insert(key, rows)?;
-            Ok(())
-        }
+        None => match row_alone(alloc, row) {
+            Ok(rows) => {
+                by_key.insert(key, rows)?;
+                Ok(())
+            }
+            Err(fault) => {
+                drop(key);
+                Err(fault)
+            }
+        },
     }
+}
+
+// A row that is the only one of its key.
+fn row_alone(alloc: Global, row: &TimedRow) -> Result<Vec<&TimedRow>, OutOfMemory>
+    ensures alone { IfOk result (λ rows. rows_behind rows.items ≡ row.now ∷ []) }
+{
+    let mut rows = Vec::new(alloc);
+    rows.push(row)?;
+    Ok(rows)
 }

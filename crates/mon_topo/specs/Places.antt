@@ -20,6 +20,19 @@ place_path (place.Replica i j k) =
     codes "$.zones[" ++ (decimal i
     ++ (codes "].ranges[" ++ (decimal j ++ (codes "].leaves[" ++ (decimal k ++ codes "]")))))
 
+-- the path to what a zone has under a key
+abbrev pub path_in_zone : ℕ → List ℕ → List ℕ
+path_in_zone i key = codes "$.zones[" ++ (decimal i ++ (codes "]." ++ key))
+
+-- the path to an element of what a zone has under a key
+abbrev pub path_of_element : ℕ → List ℕ → ℕ → List ℕ
+path_of_element i key j = codes "$.zones["
+    ++ (decimal i ++ (codes "]." ++ (key ++ (codes "[" ++ (decimal j ++ codes "]")))))
+
+-- the path to what a range of a zone has under a key
+abbrev pub path_in_range : ℕ → ℕ → List ℕ → List ℕ
+path_in_range i j key = codes "$.zones[" ++ (decimal i ++ (codes "].ranges[" ++ (decimal j ++ (codes "]." ++ key))))
+
 -- the place, unless it is as it must be
 abbrev pub place_unless : Bool → Place → Option Place
 place_unless good place = if good then None else Some place

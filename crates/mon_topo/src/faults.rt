@@ -8,7 +8,7 @@ use std::alloc::{AllocError, Global};
 use std::fmt;
 
 /// What is wrong about zones. A kind is tested over all zones before the next one.
-#[derive(Clone, Copy, Debug, PartialEq, Eq)]
+#[derive(Clone, Copy, PartialEq, Eq)]
 pub enum TopoKind {
     /// There are too many zones, leaves or ranges.
     TooMany,
@@ -28,7 +28,7 @@ pub enum TopoKind {
 
 /// Why zones are no topology, and the path to what is at fault. A path begins with `$` and goes by
 /// `.key` and `[index]`.
-#[derive(Debug, PartialEq, Eq, Drop)]
+#[derive(PartialEq, Eq, Drop)]
 pub struct TopoFault {
     pub kind: TopoKind,
     pub path: Text,

@@ -1,5 +1,6 @@
 // The places of zones at which a fault may stand.
 ghost use Rattle.std.specs.Prelude.{◌≡◌, IfOk};
+ghost use Rattle.mon_topo.specs.Places as spec;
 ghost use Rattle.mon_topo.specs.Places.{place_path};
 
 use mon_value::{OutOfMemory, Text};
@@ -7,7 +8,7 @@ use std::alloc::Global;
 
 /// A place in the zones of a configuration. Zones, their locations, leaves and ranges, and the leaves of
 /// a range are numbered from 0.
-#[derive(Clone, Copy, Debug, PartialEq, Eq)]
+#[derive(Clone, Copy, PartialEq, Eq)]
 pub enum Place {
     /// The list of zones.
     Zones,
@@ -33,16 +34,43 @@ pub enum Place {
 pub(crate) fn path_to(alloc: Global, place: Place) -> Result<Text, OutOfMemory>
     ensures path { IfOk result (λ path. path ≡ place_path place) }
 {
-    let path = match place {
-        Place::Zones => format!(in alloc; "$.zones")?,
-        Place::ZoneName(i) => format!(in alloc; "$.zones[{i}].name")?,
-        Place::Location(i, j) => format!(in alloc; "$.zones[{i}].locations[{j}]")?,
-        Place::Leaves(i) => format!(in alloc; "$.zones[{i}].leaves")?,
-        Place::Leaf(i, j) => format!(in alloc; "$.zones[{i}].leaves[{j}]")?,
-        Place::Ranges(i) => format!(in alloc; "$.zones[{i}].ranges")?,
-        Place::Bound(i, j) => format!(in alloc; "$.zones[{i}].ranges[{j}].from")?,
-        Place::Replicas(i, j) => format!(in alloc; "$.zones[{i}].ranges[{j}].leaves")?,
-        Place::Replica(i, j, k) => format!(in alloc; "$.zones[{i}].ranges[{j}].leaves[{k}]")?,
-    };
-    Ok(Text::from_string(path))
+    match place {
+        Place::Zones => Text::from_str(alloc, "$.zones"),
+        Place::ZoneName(i) => path_in_zone(alloc, i, "name"),
+        Place::Location(i, j) => path_of_element(alloc, i, "locations", j),
+        Place::Leaves(i) => path_in_zone(alloc, i, "leaves"),
+        Place::Leaf(i, j) => path_of_element(alloc, i, "leaves", j),
+        Place::Ranges(i) => path_in_zone(alloc, i, "ranges"),
+        Place::Bound(i, j) => path_in_range(alloc, i, j, "from"),
+        Place::Replicas(i, j) => path_in_range(alloc, i, j, "leaves"),
+        Place::Replica(i, j, k) => path_of_replica(alloc, i, j, k),
+    }
+}
+
+// The path to what a zone has under a key.
+fn path_in_zone(alloc: Global, i: usize, key: &str) -> Result<Text, OutOfMemory>
+    ensures path { IfOk result (λ path. path ≡ spec.path_in_zone i key.now) }
+{
+    Ok(Text::from_string(format!(in alloc; "$.zones[{i}].{key}")?))
+}
+
+// The path to an element of what a zone has under a key.
+fn path_of_element(alloc: Global, i: usize, key: &str, j: usize) -> Result<Text, OutOfMemory>
+    ensures path { IfOk result (λ path. path ≡ spec.path_of_element i key.now j) }
+{
+    Ok(Text::from_string(format!(in alloc; "$.zones[{i}].{key}[{j}]")?))
+}
+
+// The path to what a range of a zone has under a key.
+fn path_in_range(alloc: Global, i: usize, j: usize, key: &str) -> Result<Text, OutOfMemory>
+    ensures path { IfOk result (λ path. path ≡ spec.path_in_range i j key.now) }
+{
+    Ok(Text::from_string(format!(in alloc; "$.zones[{i}].ranges[{j}].{key}")?))
+}
+
+// The path to a leaf of a range.
+fn path_of_replica(alloc: Global, i: usize, j: usize, k: usize) -> Result<Text, OutOfMemory>
+    ensures path { IfOk result (λ path. path ≡ place_path (Place.Replica i j k)) }
+{
+    Ok(Text::from_string(format!(in alloc; "$.zones[{i}].ranges[{j}].leaves[{k}]")?))
 }

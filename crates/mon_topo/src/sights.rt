@@ -8,14 +8,14 @@ use mon_value::{Leaf, ListOf, OutOfMemory, Range, SlotLeaf, TryCopy};
 use std::alloc::{AllocError, Global};
 
 /// How far a range's history was seen, and the first replica that serves then, if one does.
-#[derive(Clone, Copy, Debug, PartialEq, Eq)]
+#[derive(Clone, Copy, PartialEq, Eq)]
 pub struct RangeSight {
     pub length: u64,
     pub first: Option<SlotLeaf>,
 }
 
 /// How far someone has seen each leaf's history and each range's.
-#[derive(Debug, PartialEq, Eq, Drop)]
+#[derive(PartialEq, Eq, Drop)]
 pub struct Sight {
     pub leaves: ListOf<u64>,
     pub ranges: ListOf<RangeSight>,

@@ -8,7 +8,7 @@ use mon_value::OutOfMemory;
 use std::alloc::Global;
 
 /// The numbers of a zone's leaves and ranges: the first, and how many there are.
-#[derive(Clone, Copy, Debug)]
+#[derive(Clone, Copy)]
 pub struct ZoneSpan {
     pub first_leaf: u32,
     pub leaves: u32,

@@ -1,5 +1,6 @@
 // The topology of a store.
-ghost use Rattle.std.specs.Prelude.{◌≡◌, ◌<◌, Some, None, length, slice_get, IfOk, IfSome, OnOk};
+ghost use Rattle.std.specs.Prelude.{◌≡◌, ◌<◌, Some, None, length, map, slice_get, IfOk, IfSome, OnOk};
+ghost use Rattle.std.specs.Option.{option_or};
 ghost use Rattle.mon_value.specs.Answers.{AnswersBy};
 ghost use Rattle.mon_topo.specs.Bounds.{range_of};
 ghost use Rattle.mon_topo.specs.Faults as spec_faults;
@@ -209,14 +210,48 @@ fn lawful_names(
     ensures names { IfOk result (λ names. names ≡ kept.names_of_zones zones.now) }
     ensures lawful { OnOk result (AreLawfulZones zones.now) }
 {
-    refused_at(alloc, TopoKind::TooMany, too_many(zones))?;
-    refused_at(alloc, TopoKind::BadName, bad_name(zones))?;
+    test_sizes_and_names(alloc, zones)?;
     let names = names_apart(alloc, zones)?;
+    match test_ranges(alloc, zones, schemas) {
+        Ok(()) => Ok(names),
+        Err(refusal) => {
+            drop(names);
+            Err(refusal)
+        }
+    }
+}
+
+// Whether there are too many zones, leaves or ranges, or a name is not lawful.
+fn test_sizes_and_names(alloc: Global, zones: &[ZoneSpec]) -> Result<(), Refusal<TopoFault>>
+    ensures answer { AnswersBy result (option_or
+        (spec_faults.fault_at TopoKind.TooMany (spec_faults.too_many zones.now))
+        (spec_faults.fault_at TopoKind.BadName (spec_faults.bad_name zones.now))) }
+    ensures few { OnOk result (spec_faults.too_many zones.now ≡ None) }
+    ensures named { OnOk result (spec_faults.bad_name zones.now ≡ None) }
+{
+    refused_at(alloc, TopoKind::TooMany, too_many(zones))?;
+    refused_at(alloc, TopoKind::BadName, bad_name(zones))
+}
+
+// Whether something is wrong about the leaves, the bounds or the order of ranges.
+fn test_ranges(
+    alloc: Global,
+    zones: &[ZoneSpec],
+    schemas: &Schemas,
+) -> Result<(), Refusal<TopoFault>>
+    ensures answer { AnswersBy result (option_or
+        (spec_faults.fault_at TopoKind.NoLeaf (spec_faults.no_leaf zones.now))
+        (option_or (spec_faults.fault_at TopoKind.Replicas (spec_faults.bad_replicas zones.now))
+        (option_or (spec_faults.fault_at TopoKind.BadBound (spec_faults.bad_bound schemas.now zones.now))
+        (spec_faults.fault_at TopoKind.RangeOrder (spec_faults.disorder zones.now))))) }
+    ensures known { OnOk result (spec_faults.no_leaf zones.now ≡ None) }
+    ensures replicated { OnOk result (spec_faults.bad_replicas zones.now ≡ None) }
+    ensures ordered { OnOk result (spec_faults.disorder zones.now ≡ None) }
+{
     refused_at(alloc, TopoKind::NoLeaf, no_leaf(zones))?;
     refused_at(alloc, TopoKind::Replicas, bad_replicas(zones))?;
     refused_at(alloc, TopoKind::BadBound, bad_bound(schemas, zones))?;
-    refused_at(alloc, TopoKind::RangeOrder, disorder(zones))?;
-    Ok(names)
+    refused_at(alloc, TopoKind::RangeOrder, disorder(zones))
 }
 
 // The names of zones, or the first that stood earlier.
@@ -241,17 +276,50 @@ fn topology_of(alloc: Global, zones: ZoneSpecs, names: Names) -> Result<Topology
     requires names { names ≡ kept.names_of_zones zones }
     ensures zones { IfOk result (λ topology. topology ≡ zones) }
 {
-    let spans = spans_of(alloc, zones.as_slice())?;
-    let leaf_names = leaf_names_of(alloc, zones.as_slice())?;
-    let replicas = replicas_of(alloc, zones.as_slice(), &names.leaves)?;
-    let ranges = range_names_of(alloc, zones.as_slice())?;
-    Ok(Topology {
-        zones,
+    match parts_of(alloc, zones.as_slice(), &names.leaves) {
+        Ok(parts) => Ok(Topology {
+            zones,
+            spans: parts.spans,
+            leaf_names: parts.leaf_names,
+            replicas: parts.replicas,
+            locations: names.locations,
+            leaves: names.leaves,
+            ranges: parts.ranges,
+        }),
+        Err(fault) => {
+            drop(zones);
+            drop(names);
+            Err(fault)
+        }
+    }
+}
+
+// What a topology keeps beside its zones and the names that were tested.
+#[derive(Drop)]
+struct Parts {
+    spans: Vec<ZoneSpan>,
+    leaf_names: Texts,
+    replicas: Vec<Leaves>,
+    ranges: NameMap,
+}
+
+// The parts of a topology that are made of its zones and of the names of their leaves.
+fn parts_of(alloc: Global, zones: &[ZoneSpec], leaves: &NameMap) -> Result<Parts, OutOfMemory>
+    requires few { spec_faults.too_many zones.now ≡ None }
+    ensures spans { IfOk result (λ parts. parts.spans.items ≡ kept.spans_from 0 0 zones.now) }
+    ensures leaf_names { IfOk result (λ parts. parts.leaf_names ≡ spec.leaves_in zones.now) }
+    ensures replicas { IfOk result (λ parts. parts.replicas.items
+        ≡ map (λ range. kept.leaves_found leaves.now range.leaves) (spec.ranges_in zones.now)) }
+    ensures ranges { IfOk result (λ parts. kept.FindsPlaces parts.ranges (spec.range_names zones.now)) }
+{
+    let spans = spans_of(alloc, zones)?;
+    let leaf_names = leaf_names_of(alloc, zones)?;
+    let replicas = replicas_of(alloc, zones, leaves)?;
+    let ranges = range_names_of(alloc, zones)?;
+    Ok(Parts {
         spans,
         leaf_names,
         replicas,
-        locations: names.locations,
-        leaves: names.leaves,
         ranges,
     })
 }

@@ -4,7 +4,7 @@ use std::alloc::{AllocError, Global};
 
 /// A range of a zone's targets: from its bound on, up to the next range's. The bound is a schema's
 /// name and leading fields, or empty. The leaves are those that hold the range at first.
-#[derive(Debug, PartialEq, Eq, Drop)]
+#[derive(PartialEq, Eq, Drop)]
 pub struct RangeSpec {
     pub from: FieldValues,
     pub leaves: Texts,
@@ -14,7 +14,7 @@ pub struct RangeSpec {
 pub type RangeSpecs = ListOf<RangeSpec>;
 
 /// A zone: the locations whose targets it holds, its leaves, and which of them hold each range.
-#[derive(Debug, PartialEq, Eq, Drop)]
+#[derive(PartialEq, Eq, Drop)]
 pub struct ZoneSpec {
     pub name: Text,
     pub locations: Texts,

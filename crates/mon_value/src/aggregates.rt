@@ -5,7 +5,7 @@ use std::alloc::{AllocError, Global};
 
 /// What an aggregate makes of a group's values. A mean is rounded down. Distributions merge bucket by
 /// bucket.
-#[derive(Clone, Copy, Debug, PartialEq, Eq)]
+#[derive(Clone, Copy, PartialEq, Eq)]
 pub enum AggregateKind {
     Sum,
     Count,
@@ -16,7 +16,7 @@ pub enum AggregateKind {
 }
 
 /// An aggregate over a column of the grouped table, which is counted from 0. A count looks at no column.
-#[derive(Clone, Copy, Debug, PartialEq, Eq)]
+#[derive(Clone, Copy, PartialEq, Eq)]
 pub struct Aggregate {
     pub what: AggregateKind,
     pub column: u32,

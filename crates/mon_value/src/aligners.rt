@@ -4,7 +4,7 @@ use std::alloc::{AllocError, Global};
 
 /// What a series has at a time: the sum of its points that end in the seconds before it, or the newest
 /// of them. The number is how many seconds are looked back.
-#[derive(Clone, Copy, Debug, PartialEq, Eq)]
+#[derive(Clone, Copy, PartialEq, Eq)]
 pub enum Aligner {
     Delta(i64),
     NextOlder(i64),

@@ -8,7 +8,7 @@ use std::alloc::{AllocError, Global};
 /// Where the cells of a column come from, through all operations that kept them: one field of the
 /// targets of one schema, counted from 0, or the location of targets of several schemas. It says which
 /// rows may stand on one leaf or in one zone alone.
-#[derive(Debug, PartialEq, Eq, Drop)]
+#[derive(PartialEq, Eq, Drop)]
 pub enum Anchor {
     Field { schema: Text, field: u32 },
     Location,
@@ -20,7 +20,7 @@ pub enum Anchor {
 /// distribution counts by its total: each cell is at most 2 to the power of `cell_bits` in magnitude,
 /// and the magnitudes of all rows sum to at most 2 to the power of `total_bits`. For other columns they
 /// say nothing.
-#[derive(Debug, PartialEq, Eq, Drop)]
+#[derive(PartialEq, Eq, Drop)]
 pub struct Column {
     pub name: Text,
     pub of: ValueType,

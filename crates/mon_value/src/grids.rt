@@ -10,7 +10,7 @@ use std::alloc::{AllocError, Global};
 
 /// The times that a query gives rows for: its moment, and back from it every `every` seconds while they
 /// are less than `within` seconds before it. All three are in seconds, the moment from the epoch.
-#[derive(Clone, Copy, Debug, PartialEq, Eq)]
+#[derive(Clone, Copy, PartialEq, Eq)]
 pub struct Grid {
     pub moment: i64,
     pub every: i64,
@@ -18,7 +18,7 @@ pub struct Grid {
 }
 
 /// What a series has at a time of the grid, in seconds from the epoch.
-#[derive(Debug, PartialEq, Eq, Drop)]
+#[derive(PartialEq, Eq, Drop)]
 pub struct TimedValue {
     pub time: i64,
     pub value: Value,

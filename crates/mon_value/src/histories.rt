@@ -7,7 +7,7 @@ use crate::rows::{Row, RowList};
 use std::alloc::{AllocError, Global};
 
 /// An entry of a leaf's history.
-#[derive(Debug, PartialEq, Eq, Drop)]
+#[derive(PartialEq, Eq, Drop)]
 pub enum Entry {
     /// A replica of a range begins on the leaf with the rows that it takes over.
     Opened {
@@ -38,7 +38,7 @@ pub type Entries = ListOf<Entry>;
 
 /// A replica that a write passed over, its leaf, and the length of the leaf's history at which the leaf
 /// was down.
-#[derive(Clone, Copy, Debug, PartialEq, Eq)]
+#[derive(Clone, Copy, PartialEq, Eq)]
 pub struct Miss {
     pub slot: Slot,
     pub leaf: Leaf,
@@ -49,7 +49,7 @@ pub struct Miss {
 pub type Misses = ListOf<Miss>;
 
 /// Where an acknowledged row went: its range, the replicas that took it and those that missed it.
-#[derive(Debug, PartialEq, Eq, Drop)]
+#[derive(PartialEq, Eq, Drop)]
 pub struct Ack {
     pub range: Range,
     pub took: Slots,
@@ -57,7 +57,7 @@ pub struct Ack {
 }
 
 /// An entry of a range's history.
-#[derive(Debug, PartialEq, Eq, Drop)]
+#[derive(PartialEq, Eq, Drop)]
 pub enum RangeEntry {
     /// The range has one replica more, on a leaf.
     Opened { pass: u64, slot: Slot, leaf: Leaf },

@@ -14,7 +14,7 @@ use std::slice::Iter;
 use std::vec::IntoIter;
 
 /// A list that grows at its end. Contracts see the plain list of its items.
-#[derive(Debug, Drop)]
+#[derive(Drop)]
 pub struct ListOf<T> {
     pub(crate) items: Vec<T>,
 }

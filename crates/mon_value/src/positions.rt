@@ -4,20 +4,20 @@ use crate::lists::ListOf;
 use std::alloc::{AllocError, Global};
 
 /// A zone, by its place among the zones of the configuration, from 0.
-#[derive(Clone, Copy, Debug, PartialEq, Eq, PartialOrd, Ord, Hash)]
+#[derive(Clone, Copy, PartialEq, Eq, PartialOrd, Ord, Hash)]
 pub struct Zone(pub u32);
 
 /// A leaf, by its place among the leaves of all zones in the order of the configuration, from 0.
-#[derive(Clone, Copy, Debug, PartialEq, Eq, PartialOrd, Ord, Hash)]
+#[derive(Clone, Copy, PartialEq, Eq, PartialOrd, Ord, Hash)]
 pub struct Leaf(pub u32);
 
 /// A range of targets, by its place among the ranges of all zones in the order of the configuration,
 /// from 0.
-#[derive(Clone, Copy, Debug, PartialEq, Eq, PartialOrd, Ord, Hash)]
+#[derive(Clone, Copy, PartialEq, Eq, PartialOrd, Ord, Hash)]
 pub struct Range(pub u32);
 
 /// A replica of a range, by its place among the replicas that the range ever had, from 0.
-#[derive(Clone, Copy, Debug, PartialEq, Eq, PartialOrd, Ord, Hash)]
+#[derive(Clone, Copy, PartialEq, Eq, PartialOrd, Ord, Hash)]
 pub struct Slot(pub u32);
 
 /// Leaves in an order that the call tells.
@@ -30,7 +30,7 @@ pub type Slots = ListOf<Slot>;
 pub type LeafCounts = ListOf<u32>;
 
 /// A replica of a range.
-#[derive(Clone, Copy, Debug, PartialEq, Eq)]
+#[derive(Clone, Copy, PartialEq, Eq)]
 pub struct RangeSlot {
     pub range: Range,
     pub slot: Slot,
@@ -40,7 +40,7 @@ pub struct RangeSlot {
 pub type RangeSlots = ListOf<RangeSlot>;
 
 /// A replica of a range that is known, and the leaf that it is on.
-#[derive(Clone, Copy, Debug, PartialEq, Eq)]
+#[derive(Clone, Copy, PartialEq, Eq)]
 pub struct SlotLeaf {
     pub slot: Slot,
     pub leaf: Leaf,
@@ -50,7 +50,7 @@ pub struct SlotLeaf {
 pub type SlotLeaves = ListOf<SlotLeaf>;
 
 /// A leaf that was found down, and the length that its history had then.
-#[derive(Clone, Copy, Debug, PartialEq, Eq)]
+#[derive(Clone, Copy, PartialEq, Eq)]
 pub struct FoundDown {
     pub leaf: Leaf,
     pub cut: u64,

@@ -5,7 +5,7 @@ use std::alloc::{AllocError, AllocFailed};
 pub type OutOfMemory = AllocError;
 
 /// Why a call was refused: a fault of what it was given, or want of memory.
-#[derive(Debug, PartialEq, Eq, Drop)]
+#[derive(PartialEq, Eq, Drop)]
 pub enum Refusal<F> {
     Fault(F),
     OutOfMemory,

@@ -7,7 +7,7 @@ use std::marker::Model;
 
 /// A list that keeps room for items to come. Contracts see its items and the number of items that
 /// go in without memory.
-#[derive(Debug, Drop)]
+#[derive(Drop)]
 pub struct RoomListOf<T> {
     items: Vec<T>,
 }

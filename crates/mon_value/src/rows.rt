@@ -7,14 +7,14 @@ use crate::values::{FieldValues, Value};
 use std::alloc::{AllocError, Global};
 
 /// A monitored thing: the name of its schema and its fields in the schema's order.
-#[derive(Debug, PartialEq, Eq, PartialOrd, Ord, Hash, Drop)]
+#[derive(PartialEq, Eq, PartialOrd, Ord, Hash, Drop)]
 pub struct Target {
     pub schema: Text,
     pub fields: FieldValues,
 }
 
 /// What tells a series from every other: its target, its metric's name and the metric's fields.
-#[derive(Debug, PartialEq, Eq, Hash, Drop)]
+#[derive(PartialEq, Eq, Hash, Drop)]
 pub struct SeriesKey {
     pub target: Target,
     pub metric: Text,
@@ -23,7 +23,7 @@ pub struct SeriesKey {
 
 /// One measurement. `start` and `end` are whole seconds from the epoch. A gauge's point has its end
 /// as its start; a delta's speaks of the time after `start` up to `end`.
-#[derive(Debug, PartialEq, Eq, Drop)]
+#[derive(PartialEq, Eq, Drop)]
 pub struct Point {
     pub start: i64,
     pub end: i64,
@@ -31,7 +31,7 @@ pub struct Point {
 }
 
 /// A point of a series. Rows of one series share its key.
-#[derive(Debug, PartialEq, Eq, Drop)]
+#[derive(PartialEq, Eq, Drop)]
 pub struct Row {
     pub key: Shared<SeriesKey>,
     pub point: Point,

@@ -7,7 +7,7 @@ use std::alloc::{AllocError, Global};
 
 /// A field of a target or of a metric. Where `location` is set, the field says which zone the target
 /// belongs to.
-#[derive(Debug, PartialEq, Eq, Drop)]
+#[derive(PartialEq, Eq, Drop)]
 pub struct Field {
     pub name: Text,
     pub of: FieldType,
@@ -18,7 +18,7 @@ pub struct Field {
 pub type Fields = ListOf<Field>;
 
 /// What a kind of target is told apart by.
-#[derive(Debug, PartialEq, Eq, Drop)]
+#[derive(PartialEq, Eq, Drop)]
 pub struct TargetSchema {
     pub name: Text,
     pub fields: Fields,
@@ -29,7 +29,7 @@ pub type TargetSchemas = ListOf<TargetSchema>;
 
 /// How the points of a metric relate to time: a gauge's holds at its end, a delta's speaks of the
 /// time from its start to its end.
-#[derive(Clone, Copy, Debug, PartialEq, Eq)]
+#[derive(Clone, Copy, PartialEq, Eq)]
 pub enum Kind {
     Gauge,
     Delta,
@@ -37,7 +37,7 @@ pub enum Kind {
 
 /// A metric: the type of its points' values, the column that they make, and the fields that tell its
 /// series apart beside their targets.
-#[derive(Debug, PartialEq, Eq, Drop)]
+#[derive(PartialEq, Eq, Drop)]
 pub struct MetricSchema {
     pub name: Text,
     pub kind: Kind,

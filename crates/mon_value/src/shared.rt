@@ -10,7 +10,7 @@ use std::sync::Arc;
 
 /// A value with several owners, which is freed with the last of them. A copy is one owner more and
 /// copies nothing. Contracts see the value itself, so it never shows who shares it.
-#[derive(Debug, Drop)]
+#[derive(Drop)]
 pub struct Shared<T> {
     owner: Arc<T>,
 }

@@ -9,7 +9,7 @@ use std::alloc::{AllocError, Global};
 pub type Cells = ListOf<Value>;
 
 /// A row of a table at a time, in seconds from the epoch. Rows are ordered by time, and then column by column.
-#[derive(Debug, PartialEq, Eq, PartialOrd, Ord, Hash, Drop)]
+#[derive(PartialEq, Eq, PartialOrd, Ord, Hash, Drop)]
 pub struct TimedRow {
     pub time: i64,
     pub cells: Cells,
@@ -19,7 +19,7 @@ pub struct TimedRow {
 pub type TimedRows = ListOf<TimedRow>;
 
 /// A table: its columns, and rows with one cell for each of them.
-#[derive(Debug, PartialEq, Eq, Drop)]
+#[derive(PartialEq, Eq, Drop)]
 pub struct Table {
     pub columns: Columns,
     pub rows: TimedRows,

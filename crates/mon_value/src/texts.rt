@@ -11,7 +11,7 @@ use std::marker::Model;
 use std::str;
 
 /// A UTF-8 text. Contracts see the list of its bytes.
-#[derive(Debug, Drop)]
+#[derive(Drop)]
 pub struct Text {
     content: String,
 }

@@ -9,7 +9,7 @@ use std::alloc::{AllocError, Global};
 
 /// The value of a target's or a metric's field. Fields of unlike types stand in the order of the
 /// variants, and those of one type by value.
-#[derive(Debug, PartialEq, Eq, PartialOrd, Ord, Hash, Drop)]
+#[derive(PartialEq, Eq, PartialOrd, Ord, Hash, Drop)]
 pub enum FieldValue {
     Int(i64),
     Bool(bool),
@@ -20,7 +20,7 @@ pub enum FieldValue {
 pub type FieldValues = ListOf<FieldValue>;
 
 /// The type of a field.
-#[derive(Clone, Copy, Debug, PartialEq, Eq)]
+#[derive(Clone, Copy, PartialEq, Eq)]
 pub enum FieldType {
     Text,
     Int,
@@ -36,7 +36,7 @@ pub type Bounds = ListOf<i64>;
 
 /// The value of a point, or of a cell of a table. Values of unlike kinds stand in the order of the
 /// variants, and those of one kind by value.
-#[derive(Debug, PartialEq, Eq, PartialOrd, Ord, Hash, Drop)]
+#[derive(PartialEq, Eq, PartialOrd, Ord, Hash, Drop)]
 pub enum Value {
     Int(i128),
     Bool(bool),
@@ -45,7 +45,7 @@ pub enum Value {
 }
 
 /// The type of a metric's values.
-#[derive(Debug, PartialEq, Eq, Drop)]
+#[derive(PartialEq, Eq, Drop)]
 pub enum ValueType {
     Int,
     Bool,

@@ -4,14 +4,14 @@ ghost use Rattle.mql_parse.specs.FaultWords.{what_word};
 
 /// The place of a fault, and what it is. The place is the length of the longest front of the text that
 /// begins some query.
-#[derive(Clone, Copy, Debug, PartialEq, Eq)]
+#[derive(Clone, Copy, PartialEq, Eq)]
 pub struct ParseFault {
     pub at: u32,
     pub kind: ParseKind,
 }
 
 /// What a fault is.
-#[derive(Clone, Copy, Debug, PartialEq, Eq)]
+#[derive(Clone, Copy, PartialEq, Eq)]
 pub enum ParseKind {
     /// The byte stands outside the alphabet, or can't stand in a text in quotes.
     BadToken,
@@ -28,7 +28,7 @@ pub enum ParseKind {
 }
 
 /// What might have come, in the order in which one of several is named.
-#[derive(Clone, Copy, Debug, PartialEq, Eq)]
+#[derive(Clone, Copy, PartialEq, Eq)]
 pub enum What {
     Fetch,
     Name,

@@ -1,15 +1,23 @@
 -- What a query without a fault gives.
-use Rattle.std.proofs.Common.{◌≡◌, ◌∙◌, ℤ, false, Option, None, Ok, ap, sym}
+use Rattle.std.proofs.Common.{◌≡◌, ◌∙◌, ℕ, ℤ, false, Option, None, Ok, ap, refl, sym}
 use Rattle.mon_schema.specs.SchemaLists.{SchemaLists}
 use Rattle.mql_ast.specs.Trees.{PipeTree}
+use Rattle.mql_ast.specs.declared.pipes.How.{How}
+use Rattle.mql_ast.specs.declared.pipes.How.TheVariants as how
 use Rattle.mql_types.specs.declared.faults.TypeFault.{TypeFault}
 use Rattle.mql_types.specs.declared.times.Times.{Times}
 use Rattle.mql_types.specs.Faults.{first_fault, first_with}
 use Rattle.mql_types.specs.Nodes.{NodeTree, TypedTree}
 use Rattle.mql_types.specs.Times.{every_said, pipe_order_faults, query_times, times_faults, within_said}
-use Rattle.mql_types.specs.Typing.{aligned_tree, pipe_faults, pipe_part, query_faults, typed_query, typing}
-use Rattle.mql_types.specs.Typing.{tree_or_fault}
+use Rattle.mql_types.specs.Typing.{aligned_tree, branch_info, branch_node, joint_node, pipe_faults, pipe_part}
+use Rattle.mql_types.specs.Typing.{query_faults, tree_or_fault, typed_query, typing}
 use Rattle.mql_types.proofs.FaultLemmas.{first_with-three}
+
+-- two tables are brought together by what is told of them
+pub branch_made : (held : SchemaLists) (by : How) (at : ℕ) (left right : NodeTree)
+    → joint_node by (branch_info held by at left right) left right ≡ branch_node held by at left right
+branch_made held how.Join at left right = refl
+branch_made held how.Union at left right = refl
 
 -- the order of `every` and `within`, the times and the parts are looked through one after another
 pub no_fault : (held : SchemaLists) (query : PipeTree) (times : Times) (every : ℤ)

@@ -154,6 +154,14 @@ union_info held at left right =
     info (Some at) (union_columns held (columns_of left) (columns_of right))
     (higher_level (level_of left) (level_of right))
 
+abbrev pub branch_info : SchemaLists → How → ℕ → NodeTree → NodeTree → NodeInfo
+branch_info held how.Join at left right = join_info held at left right
+branch_info held how.Union at left right = union_info held at left right
+
+abbrev pub joint_node : How → NodeInfo → NodeTree → NodeTree → NodeTree
+joint_node how.Join info left right = node.Join info left right
+joint_node how.Union info left right = node.Union info left right
+
 -- two tables brought together; the pairs of a join are found where rows that agree in the common columns meet
 abbrev pub branch_node : SchemaLists → How → ℕ → NodeTree → NodeTree → NodeTree
 branch_node held how.Join at left right = node.Join (join_info held at left right) left right

@@ -25,7 +25,6 @@ pub(crate) struct Joined {
 
 impl Joined {
     /// The columns of the join of two tables. Tells tables that have no common column, and common columns of two types.
-    #[tactic(auto, using(crate::proofs::FaultLemmas::faults))]
     pub(crate) fn new(
         setting: TypingSetting<'_>,
         at: u32,
@@ -41,9 +40,38 @@ impl Joined {
             ≡ first_with found.old.first (spec.pair_faults at lefts.now rights.now)) }
     {
         let left_names = NamedColumns::new(setting.alloc, lefts)?;
-        let right_names = NamedColumns::new(setting.alloc, rights)?;
+        match NamedColumns::new(setting.alloc, rights) {
+            Ok(right_names) => {
+                let made = Joined::over(setting, at, &left_names, &right_names, found);
+                drop(right_names);
+                drop(left_names);
+                made
+            }
+            Err(stop) => {
+                drop(left_names);
+                Err(stop)
+            }
+        }
+    }
+
+    // The columns of the join of two tables, whose columns are found by their names.
+    #[tactic(auto, using(crate::proofs::FaultLemmas::faults))]
+    fn over(
+        setting: TypingSetting<'_>,
+        at: u32,
+        lefts: &NamedColumns<'_>,
+        rights: &NamedColumns<'_>,
+        found: &mut Faults,
+    ) -> Result<Joined, AllocError>
+        ensures columns { IfOk result (λ made. made.columns
+            ≡ spec.join_columns setting.entry.schemas.now lefts.now rights.now) }
+        ensures common { IfOk result (λ made. made.common
+            ≡ spec.common_columns setting.entry.schemas.now lefts.now rights.now) }
+        ensures faults { OnOk result (found.new.first
+            ≡ first_with found.old.first (spec.pair_faults at lefts.now rights.now)) }
+    {
         found.tell_where(
-            !have_common(lefts, &right_names),
+            !have_common(lefts.columns(), rights),
             at,
             TypeKind::BranchColumns,
         );
@@ -51,9 +79,33 @@ impl Joined {
             columns: Columns::new(setting.alloc),
             common: Columns::new(setting.alloc),
         };
-        joined.push_lefts(setting, at, lefts, &right_names, found)?;
-        push_rights(setting.alloc, &left_names, rights, &mut joined.columns)?;
-        Ok(joined)
+        match joined.push_both(setting, at, lefts, rights, found) {
+            Ok(()) => Ok(joined),
+            Err(stop) => {
+                drop(joined);
+                Err(stop)
+            }
+        }
+    }
+
+    // Adds the columns of both tables.
+    fn push_both(
+        &mut self,
+        setting: TypingSetting<'_>,
+        at: u32,
+        lefts: &NamedColumns<'_>,
+        rights: &NamedColumns<'_>,
+        found: &mut Faults,
+    ) -> Result<(), AllocError>
+        ensures columns { OnOk result (self.new.columns
+            ≡ self.old.columns ++ spec.join_columns setting.entry.schemas.now lefts.now rights.now) }
+        ensures common { OnOk result (self.new.common
+            ≡ self.old.common ++ spec.common_columns setting.entry.schemas.now lefts.now rights.now) }
+        ensures faults { OnOk result (found.new.first ≡ first_with found.old.first (flat_map
+            (λ column. spec.mismatch_faults at column (named.column_named column.name rights.now)) lefts.now)) }
+    {
+        self.push_lefts(setting, at, lefts.columns(), rights, found)?;
+        push_rights(setting.alloc, lefts, rights.columns(), &mut self.columns)
     }
 
     // Adds the left columns.

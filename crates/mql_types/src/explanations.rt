@@ -10,7 +10,7 @@ use mon_value::{ListOf, OutOfMemory};
 use std::alloc::Global;
 
 /// The word of a source or an operation.
-#[derive(Clone, Copy, Debug, PartialEq, Eq)]
+#[derive(Clone, Copy, PartialEq, Eq)]
 pub enum OpWord {
     Fetch,
     Filter,
@@ -23,7 +23,7 @@ pub enum OpWord {
 }
 
 /// A source or an operation, and the level at which it is done.
-#[derive(Clone, Copy, Debug, PartialEq, Eq)]
+#[derive(Clone, Copy, PartialEq, Eq)]
 pub struct OpLevel {
     pub word: OpWord,
     pub level: Level,

@@ -5,14 +5,14 @@ ghost use Rattle.mql_types.specs.Faults as spec;
 use mon_value::ValueType;
 
 /// Why a query has no type, with the place in its text.
-#[derive(Clone, Copy, Debug, PartialEq, Eq)]
+#[derive(Clone, Copy, PartialEq, Eq)]
 pub struct TypeFault {
     pub at: u32,
     pub kind: TypeKind,
 }
 
 /// The kinds of faults, in the order in which those at one place are told.
-#[derive(Clone, Copy, Debug, PartialEq, Eq)]
+#[derive(Clone, Copy, PartialEq, Eq)]
 pub enum TypeKind {
     /// No target schema has the name.
     UnknownSchema,
@@ -39,7 +39,7 @@ pub enum TypeKind {
 }
 
 /// A type as a fault names it.
-#[derive(Clone, Copy, Debug, PartialEq, Eq)]
+#[derive(Clone, Copy, PartialEq, Eq)]
 pub enum TypeWord {
     Int,
     Bool,

@@ -13,9 +13,7 @@ use mon_value::{Column, FieldValue, ValueType};
 use mql_ast::{Comparison, Name, Predicate};
 use std::alloc::{AllocError, Global};
 
-/// Tells each condition that its column doesn't meet. What is still to be looked at is kept in a list, since a chain
-/// may have many thousand conditions.
-#[tactic(auto, using(crate::proofs::PredicateLemmas::parts_pushed))]
+/// Tells each condition that its column doesn't meet.
 pub(crate) fn tell_predicate(
     alloc: Global,
     columns: &[Column],
@@ -26,10 +24,27 @@ pub(crate) fn tell_predicate(
         ≡ first_with found.old.first (spec.predicate_faults columns.now (predicate_tree predicate.now))) }
 {
     let columns = NamedColumns::new(alloc, columns)?;
+    let told = tell_parts(alloc, &columns, predicate, found);
+    drop(columns);
+    told
+}
+
+// Tells each condition that its column doesn't meet. What is still to be looked at is kept in a list, since a chain may
+// have many thousand conditions.
+#[tactic(auto, using(crate::proofs::PredicateLemmas::parts_pushed))]
+fn tell_parts(
+    alloc: Global,
+    columns: &NamedColumns<'_>,
+    predicate: &Predicate,
+    found: &mut Faults,
+) -> Result<(), AllocError>
+    ensures faults { OnOk result (found.new.first
+        ≡ first_with found.old.first (spec.predicate_faults columns.now (predicate_tree predicate.now))) }
+{
     let mut parts = Vec::new(alloc);
     parts.push(predicate)?;
     while let Some(part) = parts.pop() {
-        tell_part(&columns, &mut parts, part, found)?;
+        tell_part(columns, &mut parts, part, found)?;
     }
     Ok(())
 }

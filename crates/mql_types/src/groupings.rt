@@ -1,5 +1,5 @@
 // What `group_by` gives: the columns that it lists, as keys, and its aggregates.
-ghost use Rattle.std.specs.Prelude.{◌≡◌, ◌++◌, IfOk, OnOk, map, option_to_list};
+ghost use Rattle.std.specs.Prelude.{◌≡◌, ◌++◌, [], IfOk, None, OnOk, Some, map, option_to_list};
 ghost use Rattle.mql_types.specs.Faults.{first_with};
 ghost use Rattle.mql_types.specs.Groupings as spec;
 ghost use Rattle.mql_types.specs.Items.{is_taken, name_texts, reserved_names, taken_faults, with_name, with_names};
@@ -36,7 +36,6 @@ pub(crate) struct Grouping {
 
 impl Grouping {
     /// The grouping of a table by the names, as far as they are known. Tells what is wrong in it.
-    #[tactic(auto, using(crate::proofs::TakenLemmas::taken_names))]
     pub(crate) fn new(
         setting: TypingSetting<'_>,
         input: &Node,
@@ -55,21 +54,117 @@ impl Grouping {
         ensures faults { OnOk result (found.new.first ≡ first_with found.old.first
             (spec.group_faults (columns_of (node_tree input.now)) names.now aggregates.now)) }
     {
-        let alloc = setting.alloc;
-        let all = NamedColumns::new(alloc, input.columns())?;
-        let mut taken = Taken::new(alloc)?;
-        let places = listed_places(alloc, &all, names, &mut taken, found)?;
-        tell_names(aggregates, &mut taken, found)?;
-        tell_listed(&all, names, found);
-        let mut columns = key_columns_at(alloc, input.columns(), places.as_slice())?;
-        let level = meeting_level(setting.schemas, input.info().level, columns.as_slice());
-        let aggregates = push_folds(alloc, &all, aggregates, &mut columns, found)?;
-        Ok(Grouping {
-            places,
-            aggregates,
-            columns,
-            level,
-        })
+        let all = NamedColumns::new(setting.alloc, input.columns())?;
+        let made = Grouping::over(setting, input.info().level, &all, names, aggregates, found);
+        drop(all);
+        made
+    }
+
+    // The grouping of a table of a level, whose columns are found by their names.
+    #[tactic(auto, using(crate::proofs::FaultLemmas::faults))]
+    fn over(
+        setting: TypingSetting<'_>,
+        level: Level,
+        all: &NamedColumns<'_>,
+        names: &[Name],
+        aggregates: &[mql_ast::Aggregate],
+        found: &mut Faults,
+    ) -> Result<Grouping, AllocError>
+        ensures places { IfOk result (λ made. made.places
+            ≡ spec.listed_places all.now reserved_names names.now) }
+        ensures aggregates { IfOk result (λ made. made.aggregates ≡ spec.aggregates_over all.now aggregates.now) }
+        ensures columns { IfOk result (λ made. made.columns
+            ≡ spec.group_columns all.now names.now aggregates.now) }
+        ensures level { IfOk result (λ made. made.level
+            ≡ meeting_level setting.entry.schemas.now level (spec.listed_columns all.now names.now)) }
+        ensures faults { OnOk result (found.new.first
+            ≡ first_with found.old.first (spec.group_faults all.now names.now aggregates.now)) }
+    {
+        let places = named_places(setting.alloc, all, names, aggregates, found)?;
+        tell_listed(all, names, found);
+        match key_columns_at(setting.alloc, all.columns(), places.as_slice()) {
+            Ok(keys) => Grouping::of_keys(setting, level, all, places, keys, aggregates, found),
+            Err(stop) => {
+                drop(places);
+                Err(stop)
+            }
+        }
+    }
+
+    // The grouping by keys, which stand at some places of a table.
+    fn of_keys(
+        setting: TypingSetting<'_>,
+        level: Level,
+        all: &NamedColumns<'_>,
+        places: Positions,
+        keys: Columns,
+        aggregates: &[mql_ast::Aggregate],
+        found: &mut Faults,
+    ) -> Result<Grouping, AllocError>
+        ensures places { IfOk result (λ made. made.places ≡ places) }
+        ensures aggregates { IfOk result (λ made. made.aggregates ≡ spec.aggregates_over all.now aggregates.now) }
+        ensures columns { IfOk result (λ made. made.columns ≡ keys ++ spec.aggregate_columns all.now aggregates.now) }
+        ensures level { IfOk result (λ made. made.level ≡ meeting_level setting.entry.schemas.now level keys) }
+        ensures faults { OnOk result (found.new.first ≡ first_with found.old.first
+            (flat_map (spec.aggregate_faults all.now) aggregates.now)) }
+    {
+        let level = meeting_level(setting.schemas, level, keys.as_slice());
+        let mut columns = keys;
+        match push_folds(setting.alloc, all, aggregates, &mut columns, found) {
+            Ok(aggregates) => Ok(Grouping {
+                places,
+                aggregates,
+                columns,
+                level,
+            }),
+            Err(stop) => {
+                drop(columns);
+                drop(places);
+                Err(stop)
+            }
+        }
+    }
+}
+
+// The places of the listed columns, each once. Tells the names that columns are given twice.
+fn named_places(
+    alloc: Global,
+    columns: &NamedColumns<'_>,
+    names: &[Name],
+    aggregates: &[mql_ast::Aggregate],
+    found: &mut Faults,
+) -> Result<Positions, AllocError>
+    ensures places { IfOk result (λ places. places ≡ spec.listed_places columns.now reserved_names names.now) }
+    ensures faults { OnOk result (found.new.first ≡ first_with found.old.first
+        (taken_faults reserved_names (names.now ++ map spec.aggregate_name aggregates.now))) }
+{
+    let mut taken = Taken::new(alloc)?;
+    let places = taken_places(alloc, columns, names, aggregates, &mut taken, found);
+    drop(taken);
+    places
+}
+
+// The places of the listed columns, each once. Takes the names that columns are given, and tells those that were taken.
+#[tactic(auto, using(crate::proofs::TakenLemmas::taken_names))]
+fn taken_places<'a>(
+    alloc: Global,
+    columns: &NamedColumns<'_>,
+    names: &'a [Name],
+    aggregates: &'a [mql_ast::Aggregate],
+    taken: &mut Taken<'a>,
+    found: &mut Faults,
+) -> Result<Positions, AllocError>
+    ensures places { IfOk result (λ places. places ≡ spec.listed_places columns.now taken.old names.now) }
+    ensures faults { OnOk result (found.new.first ≡ first_with found.old.first
+        (taken_faults taken.old (names.now ++ map spec.aggregate_name aggregates.now))) }
+{
+    let places = listed_places(alloc, columns, names, taken, found)?;
+    match tell_names(aggregates, taken, found) {
+        Ok(()) => Ok(places),
+        Err(stop) => {
+            drop(places);
+            Err(stop)
+        }
     }
 }
 
@@ -206,14 +301,49 @@ fn push_fold(
     ensures faults { OnOk result (found.new.first
         ≡ first_with found.old.first (spec.aggregate_faults columns.now aggregate.now)) }
 {
-    let name = label_of(aggregate).text;
-    let Some(source) = &aggregate.column else {
-        made.push(Aggregate {
-            what: AggregateKind::Count,
-            column: 0,
-        })?;
-        return given.push(plain_column(alloc, name, ValueType::Int, OF_COUNT)?);
-    };
+    match &aggregate.column {
+        Some(source) => push_known(alloc, columns, aggregate, source, made, given, found),
+        None => push_count(alloc, label_of(aggregate).text, made, given),
+    }
+}
+
+// Adds a count and its column.
+fn push_count(
+    alloc: Global,
+    name: &str,
+    made: &mut Aggregates,
+    given: &mut Columns,
+) -> Result<(), AllocError>
+    ensures made { OnOk result (made.new
+        ≡ made.old ++ option_to_list (spec.aggregate_over [] FoldWord.Count None)) }
+    ensures given { OnOk result (given.new
+        ≡ given.old ++ option_to_list (spec.aggregate_column [] name.now FoldWord.Count None)) }
+{
+    made.push(Aggregate {
+        what: AggregateKind::Count,
+        column: 0,
+    })?;
+    given.push(plain_column(alloc, name, ValueType::Int, OF_COUNT)?)
+}
+
+// Adds what an aggregate makes of the column of a name and the column that it gives, where the name is known. Tells a
+// name of no column, or of one that the aggregate doesn't take.
+fn push_known(
+    alloc: Global,
+    columns: &NamedColumns<'_>,
+    aggregate: &mql_ast::Aggregate,
+    source: &Name,
+    made: &mut Aggregates,
+    given: &mut Columns,
+    found: &mut Faults,
+) -> Result<(), AllocError>
+    ensures made { OnOk result (made.new
+        ≡ made.old ++ option_to_list (spec.aggregate_over columns.now aggregate.now.fold (Some source.now))) }
+    ensures given { OnOk result (given.new ≡ given.old ++ option_to_list
+        (spec.aggregate_column columns.now (spec.aggregate_name aggregate.now).text aggregate.now.fold (Some source.now))) }
+    ensures faults { OnOk result (found.new.first
+        ≡ first_with found.old.first (spec.folded_faults columns.now aggregate.now.fold (Some source.now))) }
+{
     let Some(column) = columns.known(source, found) else {
         return Ok(());
     };
@@ -227,8 +357,20 @@ fn push_fold(
         what: fold_kind(fold, &column.of),
         column: column_number(place)?,
     })?;
+    given.push(folded_column(alloc, label_of(aggregate).text, fold, column)?)
+}
+
+// The column that an aggregate gives of a column.
+fn folded_column(
+    alloc: Global,
+    name: &str,
+    fold: FoldWord,
+    column: &Column,
+) -> Result<Column, AllocError>
+    ensures folded { IfOk result (λ folded. folded ≡ spec.folded_column name.now fold column.now) }
+{
     let width = fold_width(fold, Width::of(column));
-    given.push(plain_column(alloc, name, column.of.copy(alloc)?, width)?)
+    plain_column(alloc, name, column.of.copy(alloc)?, width)
 }
 
 // The name of the column that an aggregate gives, and where it stands.

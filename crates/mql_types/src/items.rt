@@ -18,7 +18,6 @@ use std::alloc::{AllocError, Global};
 
 /// The columns that `value` gives: the keys, and a column for each item of which the type is known. Tells what is
 /// wrong in the items.
-#[tactic(auto, using(crate::proofs::FaultLemmas::faults))]
 pub(crate) fn value_columns(
     alloc: Global,
     columns: &[Column],
@@ -29,11 +28,67 @@ pub(crate) fn value_columns(
     ensures faults { OnOk result (found.new.first
         ≡ first_with found.old.first (spec.value_faults columns.now (map item_tree items.now))) }
 {
-    let mut taken = Taken::new(alloc)?;
-    let keys = keys(alloc, columns, &mut taken)?;
-    tell_names(items, &mut taken, found)?;
     let columns = NamedColumns::new(alloc, columns)?;
-    item_columns(alloc, &columns, items, keys, found)
+    let made = value_columns_over(alloc, &columns, items, found);
+    drop(columns);
+    made
+}
+
+// The columns that `value` gives of a table, whose columns are found by their names.
+#[tactic(auto, using(crate::proofs::FaultLemmas::faults))]
+fn value_columns_over(
+    alloc: Global,
+    columns: &NamedColumns<'_>,
+    items: &[Item],
+    found: &mut Faults,
+) -> Result<Columns, AllocError>
+    ensures columns { IfOk result (λ made. made ≡ spec.value_columns columns.now (map item_tree items.now)) }
+    ensures faults { OnOk result (found.new.first
+        ≡ first_with found.old.first (spec.value_faults columns.now (map item_tree items.now))) }
+{
+    let keys = named_keys(alloc, columns.columns(), items, found)?;
+    item_columns(alloc, columns, items, keys, found)
+}
+
+// The keys. Tells the names that columns are given twice.
+fn named_keys(
+    alloc: Global,
+    columns: &[Column],
+    items: &[Item],
+    found: &mut Faults,
+) -> Result<Columns, AllocError>
+    ensures keys { IfOk result (λ keys. keys ≡ spec.key_columns columns.now) }
+    ensures faults { OnOk result (found.new.first ≡ first_with found.old.first (spec.taken_faults
+        (spec.with_names spec.reserved_names (column_names (spec.key_columns columns.now)))
+        (map spec.item_name (map item_tree items.now)))) }
+{
+    let mut taken = Taken::new(alloc)?;
+    let keys = taken_keys(alloc, columns, items, &mut taken, found);
+    drop(taken);
+    keys
+}
+
+// The keys. Takes the names that columns are given, and tells those that were taken.
+fn taken_keys<'a>(
+    alloc: Global,
+    columns: &'a [Column],
+    items: &'a [Item],
+    taken: &mut Taken<'a>,
+    found: &mut Faults,
+) -> Result<Columns, AllocError>
+    ensures keys { IfOk result (λ keys. keys ≡ spec.key_columns columns.now) }
+    ensures faults { OnOk result (found.new.first ≡ first_with found.old.first (spec.taken_faults
+        (spec.with_names taken.old (column_names (spec.key_columns columns.now)))
+        (map spec.item_name (map item_tree items.now)))) }
+{
+    let keys = keys(alloc, columns, taken)?;
+    match tell_names(items, taken, found) {
+        Ok(()) => Ok(keys),
+        Err(stop) => {
+            drop(keys);
+            Err(stop)
+        }
+    }
 }
 
 // The keys, whose names are taken.

@@ -1,5 +1,5 @@
 // Where an operation is done.
-ghost use Rattle.std.specs.Prelude.{◌≡◌, IfOk};
+ghost use Rattle.std.specs.Prelude.{◌≡◌, ◌&&◌, IfOk, Some};
 ghost use Rattle.std.specs.List.{list_any};
 ghost use Rattle.mon_value.specs.declared.columns.Anchor.TheVariants as anchor;
 ghost use Rattle.mql_types.specs.Levels as spec;
@@ -11,7 +11,7 @@ use std::alloc::AllocError;
 
 /// How high an operation is done: each leaf does it for its own rows, each zone for those of its leaves,
 /// or the root for all.
-#[derive(Clone, Copy, Debug, PartialEq, Eq)]
+#[derive(Clone, Copy, PartialEq, Eq)]
 pub enum Level {
     Leaf,
     Zone,
@@ -155,20 +155,40 @@ pub(crate) fn common_anchor(
     ensures anchor { IfOk result (λ common. common
         ≡ spec.common_anchor setting.entry.schemas.now one.now other.now) }
 {
-    let schemas = setting.schemas;
-    let Some(one) = one else {
-        return Ok(None);
-    };
-    let Some(other) = other else {
-        return Ok(None);
-    };
+    match one {
+        Some(one) => match other {
+            Some(other) => anchor_of_both(setting, one, other),
+            None => Ok(None),
+        },
+        None => Ok(None),
+    }
+}
+
+// What is the same as two anchors: either of them, or that both are locations.
+fn anchor_of_both(
+    setting: TypingSetting<'_>,
+    one: &Anchor,
+    other: &Anchor,
+) -> Result<Option<Anchor>, AllocError>
+    ensures anchor { IfOk result (λ common. common
+        ≡ spec.common_anchor setting.entry.schemas.now (Some one.now) (Some other.now)) }
+{
     if same_anchor(one, other) {
-        return Ok(Some(one.copy(setting.alloc)?));
+        let anchor = one.copy(setting.alloc)?;
+        Ok(Some(anchor))
+    } else if are_locations(setting.schemas, one, other) {
+        Ok(Some(Anchor::Location))
+    } else {
+        Ok(None)
     }
-    if is_location_anchor(schemas, one) && is_location_anchor(schemas, other) {
-        return Ok(Some(Anchor::Location));
-    }
-    Ok(None)
+}
+
+// Whether both anchors say where a target is.
+fn are_locations(schemas: &Schemas, one: &Anchor, other: &Anchor) -> bool
+    ensures locations { result
+        ≡ (spec.is_location_anchor schemas.now one.now && spec.is_location_anchor schemas.now other.now) }
+{
+    is_location_anchor(schemas, one) && is_location_anchor(schemas, other)
 }
 
 // Whether two anchors are the same.

@@ -95,17 +95,66 @@ fn filter_part(
     ensures faults { OnOk result (found.new.first ≡ first_with found.old.first
         (predicate_faults (columns_of (node_tree part.node)) (predicate_tree predicate.now))) }
 {
-    tell_predicate(alloc, part.node.columns(), predicate, found)?;
-    let info = NodeInfo {
+    match told_filter(alloc, part.node.columns(), predicate, found) {
+        Ok(by) => filtered_part(alloc, part, at, by),
+        Err(stop) => {
+            drop(part);
+            Err(stop)
+        }
+    }
+}
+
+// A copy of a filter. Tells each of its conditions that its column doesn't meet.
+fn told_filter(
+    alloc: Global,
+    columns: &[Column],
+    predicate: &Predicate,
+    found: &mut Faults,
+) -> Result<Predicate, AllocError>
+    ensures copied { IfOk result (λ copied. predicate_tree copied ≡ predicate_tree predicate.now) }
+    ensures faults { OnOk result (found.new.first
+        ≡ first_with found.old.first (predicate_faults columns.now (predicate_tree predicate.now))) }
+{
+    tell_predicate(alloc, columns, predicate, found)?;
+    predicate.copy(alloc)
+}
+
+// A part behind a filter.
+fn filtered_part(alloc: Global, part: Part, at: u32, by: Predicate) -> Result<Part, AllocError>
+    ensures part { IfOk result (λ made. part_view made
+        ≡ spec.filter_part at (predicate_tree by) (part_view part)) }
+{
+    match info_at(alloc, at, part.node.info(), part.node.info().level) {
+        Ok(info) => {
+            let points = part.points;
+            match Box::new(alloc, part.node) {
+                Ok(input) => Ok(Part {
+                    node: Node::Filter { info, by, input },
+                    points,
+                }),
+                Err(stop) => {
+                    drop(by);
+                    drop(info);
+                    Err(stop.into())
+                }
+            }
+        }
+        Err(stop) => {
+            drop(by);
+            drop(part);
+            Err(stop)
+        }
+    }
+}
+
+// What is told of a node at a place, with the columns of another.
+fn info_at(alloc: Global, at: u32, other: &NodeInfo, level: Level) -> Result<NodeInfo, AllocError>
+    ensures info { IfOk result (λ made. made ≡ spec.info (Some at) other.now.columns level) }
+{
+    Ok(NodeInfo {
         at: Some(at),
-        columns: part.node.info().columns.copy(alloc)?,
-        level: part.node.info().level,
-    };
-    let by = predicate.copy(alloc)?;
-    let input = Box::new(alloc, part.node)?;
-    Ok(Part {
-        node: Node::Filter { info, by, input },
-        points: part.points,
+        columns: other.columns.copy(alloc)?,
+        level,
     })
 }
 
@@ -167,11 +216,7 @@ fn top_node(
         (condition_faults (columns_of (node_tree input)) column.now is_number_type word.Int)) }
 {
     let place = ranked_place(alloc, input.columns(), column, found)?;
-    let info = NodeInfo {
-        at: Some(at),
-        columns: input.info().columns.copy(alloc)?,
-        level: Level::Root,
-    };
+    let info = info_at(alloc, at, input.info(), Level::Root)?;
     Ok(Node::Top {
         info,
         most,

@@ -1,9 +1,13 @@
 // The parts of a query, typed from the left.
-ghost use Rattle.std.specs.Prelude.{◌≡◌, IfOk, OnOk, map};
+ghost use Rattle.std.specs.Prelude.{◌≡◌, IfOk, OnOk, map, Some};
+ghost use Rattle.std.specs.Option.{option_copied};
+ghost use Rattle.mon_schema.specs.Faults.{texts_repeat};
+ghost use Rattle.mon_value.specs.Columns.{column_names};
 ghost use Rattle.mql_ast.specs.Trees.{branches, pipe_tree, source_tree};
-ghost use Rattle.mql_types.specs.Faults.{first_with};
+ghost use Rattle.mql_types.specs.Faults.{fault_where, first_with};
 ghost use Rattle.mql_types.specs.Branches as branch;
 ghost use Rattle.mql_types.specs.Fetches as fetch;
+ghost use Rattle.mql_types.specs.Nodes as tree;
 ghost use Rattle.mql_types.specs.Nodes.{columns_of, node_tree};
 ghost use Rattle.mql_types.specs.PartViews.{part_view};
 ghost use Rattle.mql_types.specs.Typing as spec;
@@ -17,7 +21,7 @@ use crate::nodes::{Node, NodeInfo};
 use crate::operations::ops_part;
 use crate::widths::tell_wide_columns;
 use mon_schema::Schemas;
-use mon_value::{Columns, Kind, Text, TryCopy};
+use mon_value::{Columns, Kind, MetricSchema, TargetSchema, Text, TryCopy};
 use mql_ast::{How, Name, Pipe, Source};
 use std::alloc::{AllocError, Global};
 
@@ -142,6 +146,7 @@ pub(crate) struct Joint {
 }
 
 // Two tables brought together.
+#[tactic(auto, using(crate::proofs::TypingLemmas::branch_made))]
 fn branch_node(
     setting: TypingSetting<'_>,
     how: Joint,
@@ -155,19 +160,62 @@ fn branch_node(
         (spec.branch_faults setting.entry.schemas.now how.how how.at
         (columns_of (node_tree left)) (columns_of (node_tree right)))) }
 {
+    match branch_info(setting, how, &left, &right, found) {
+        Ok(info) => joint_node(setting.alloc, how.how, info, left, right),
+        Err(stop) => {
+            drop(right);
+            drop(left);
+            Err(stop)
+        }
+    }
+}
+
+// The node of a join or a union.
+fn joint_node(
+    alloc: Global,
+    how: How,
+    info: NodeInfo,
+    left: Node,
+    right: Node,
+) -> Result<Node, AllocError>
+    ensures node { IfOk result (λ made. node_tree made ≡ spec.joint_node how info (node_tree left) (node_tree right)) }
+{
+    match Box::new(alloc, left) {
+        Ok(left) => match Box::new(alloc, right) {
+            Ok(right) => match how {
+                How::Join => Ok(Node::Join { info, left, right }),
+                How::Union => Ok(Node::Union { info, left, right }),
+            },
+            Err(stop) => {
+                drop(left);
+                drop(info);
+                Err(stop.into())
+            }
+        },
+        Err(stop) => {
+            drop(right);
+            drop(info);
+            Err(stop.into())
+        }
+    }
+}
+
+// What is told of a join or a union.
+fn branch_info(
+    setting: TypingSetting<'_>,
+    how: Joint,
+    left: &Node,
+    right: &Node,
+    found: &mut Faults,
+) -> Result<NodeInfo, AllocError>
+    ensures info { IfOk result (λ made. made
+        ≡ spec.branch_info setting.entry.schemas.now how.how how.at (node_tree left.now) (node_tree right.now)) }
+    ensures faults { OnOk result (found.new.first ≡ first_with found.old.first (spec.branch_faults
+        setting.entry.schemas.now how.how how.at (columns_of (node_tree left.now)) (columns_of (node_tree right.now)))) }
+{
     match how.how {
-        How::Join => {
-            let info = join_info(setting, how.at, &left, &right, found)?;
-            let left = Box::new(setting.alloc, left)?;
-            let right = Box::new(setting.alloc, right)?;
-            Ok(Node::Join { info, left, right })
-        }
-        How::Union => {
-            let info = union_info(setting, how.at, &left, &right, found)?;
-            let left = Box::new(setting.alloc, left)?;
-            let right = Box::new(setting.alloc, right)?;
-            Ok(Node::Union { info, left, right })
-        }
+        How::Join => join_info(setting, how.at, left, right, found),
+        How::Union => union_info(setting, how.at, left, right, found),
     }
 }
 
@@ -235,18 +283,72 @@ fn fetch_part(
     let measured = setting.schemas.metric(metric.text.as_bytes());
     found.tell_where(target.is_none(), schema.at, TypeKind::UnknownSchema);
     found.tell_where(measured.is_none(), metric.at, TypeKind::UnknownMetric);
-    let columns = fetch_columns(setting.alloc, target, measured)?;
-    let repeat = names_repeat(setting.alloc, columns.as_slice())?;
-    found.tell_where(repeat, at, TypeKind::DuplicateColumn);
-    let node = Node::Fetch {
-        info: NodeInfo::new(setting.alloc, Some(at), columns, Level::Leaf)?,
-        schema: schema.text.copy(setting.alloc)?,
-        metric: metric.text.copy(setting.alloc)?,
-    };
+    let columns = told_columns(setting.alloc, target, measured, at, found)?;
     Ok(Part {
-        node,
+        node: fetch_node(setting.alloc, at, columns, schema, metric)?,
         points: Some(kind_of(measured)),
     })
+}
+
+// The columns of a fetch. Tells two of one name.
+fn told_columns(
+    alloc: Global,
+    target: Option<&TargetSchema>,
+    metric: Option<&MetricSchema>,
+    at: u32,
+    found: &mut Faults,
+) -> Result<Columns, AllocError>
+    ensures columns { IfOk result (λ columns. columns
+        ≡ fetch.fetch_columns (option_copied target.entry) (option_copied metric.entry)) }
+    ensures faults { OnOk result (found.new.first ≡ first_with found.old.first (fault_where (texts_repeat (column_names
+        (fetch.fetch_columns (option_copied target.entry) (option_copied metric.entry)))) at TypeKind.DuplicateColumn)) }
+{
+    let columns = fetch_columns(alloc, target, metric)?;
+    match names_repeat(alloc, columns.as_slice()) {
+        Ok(repeat) => {
+            found.tell_where(repeat, at, TypeKind::DuplicateColumn);
+            Ok(columns)
+        }
+        Err(stop) => {
+            drop(columns);
+            Err(stop)
+        }
+    }
+}
+
+// The node of a fetch that gives some columns.
+fn fetch_node(
+    alloc: Global,
+    at: u32,
+    columns: Columns,
+    schema: &Name,
+    metric: &Name,
+) -> Result<Node, AllocError>
+    ensures node { IfOk result (λ node. node_tree node
+        ≡ tree.Fetch (spec.info (Some at) columns Level.Leaf) schema.now.text metric.now.text) }
+{
+    let info = NodeInfo::new(alloc, Some(at), columns, Level::Leaf)?;
+    match fetched_names(alloc, schema, metric) {
+        Ok((schema, metric)) => Ok(Node::Fetch {
+            info,
+            schema,
+            metric,
+        }),
+        Err(stop) => {
+            drop(info);
+            Err(stop)
+        }
+    }
+}
+
+// Copies of what a fetch names.
+fn fetched_names(alloc: Global, schema: &Name, metric: &Name) -> Result<(Text, Text), AllocError>
+    ensures schema { IfOk result (λ names. names.0 ≡ schema.now.text) }
+    ensures metric { IfOk result (λ names. names.1 ≡ metric.now.text) }
+{
+    let schema = schema.text.copy(alloc)?;
+    let metric = metric.text.copy(alloc)?;
+    Ok((schema, metric))
 }
 
 // What stands for branches where there is none, as in no text.

@@ -49,6 +49,13 @@ impl<'a> NamedColumns<'a> {
         Ok(NamedColumns { columns, places })
     }
 
+    /// All columns, in their order.
+    pub(crate) fn columns(&self) -> &'a [Column]
+        ensures columns { result.now ≡ self.now }
+    {
+        self.columns
+    }
+
     /// Where the first column of a name stands.
     pub(crate) fn place(&self, name: &Text) -> Option<usize>
         ensures place { result ≡ place_found name.now self.now }

@@ -15,7 +15,7 @@ use mql_ast::{Expr, Name};
 use std::alloc::{AllocError, Global};
 
 /// A sum or one of its operands: where it begins, and the width of the numbers that it comes to, if to numbers.
-#[derive(Clone, Copy, Debug)]
+#[derive(Clone, Copy)]
 pub(crate) struct Operand {
     pub(crate) at: u32,
     pub(crate) width: Option<Width>,

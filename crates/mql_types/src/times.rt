@@ -12,7 +12,7 @@ use std::cmp::max;
 
 /// What a query says of its times, in seconds: its first `every`, its first `within`, its longest alignment, and the
 /// place of its first `every` or `within`.
-#[derive(Clone, Copy, Debug)]
+#[derive(Clone, Copy)]
 pub(crate) struct Times {
     pub(crate) every: Option<i64>,
     pub(crate) within: Option<i64>,

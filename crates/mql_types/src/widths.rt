@@ -9,7 +9,7 @@ use std::cmp::{max, min};
 
 /// Two bounds in bits, of what a column holds at one time: each magnitude is at most 2 to the power of `cell`,
 /// and the magnitudes sum to at most 2 to the power of `total`.
-#[derive(Clone, Copy, Debug)]
+#[derive(Clone, Copy)]
 pub(crate) struct Width {
     pub(crate) cell: u32,
     pub(crate) total: u32,

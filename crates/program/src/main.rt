@@ -1,9 +1,6 @@
 //! The program `mon`: runs the command that its words say over real files and the standard output.
 #![tactic(auto)]
 
-#[cfg(test)]
-mod tests;
-
 use mon_run::{FileFolder, OutSink, run};
 use std::io::ErrorKind;
 use std::process::ExitCode;

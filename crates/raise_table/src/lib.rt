@@ -13,6 +13,3 @@ pub use places::{Place, ZoneLeaf, leaves_stand_once};
 pub use seats::{HintSeat, OwnerSeat, OwnerSeats};
 pub use tables::{RaiseBlank, RaiseTable};
 pub use views::{Hints, Note, Raised};
-
-#[cfg(test)]
-mod tests;

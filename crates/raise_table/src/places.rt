@@ -8,14 +8,14 @@ use mon_value::{LeafCounts, ListOf, MOST_BUCKETS, OutOfMemory, Zone};
 use std::alloc::Global;
 
 /// Where a word stands: at the root, or at a zone.
-#[derive(Clone, Copy, Debug, PartialEq, Eq)]
+#[derive(Clone, Copy, PartialEq, Eq)]
 pub enum Place {
     Root,
     Zone(Zone),
 }
 
 /// A leaf, by its zone and its place among the leaves of its zone.
-#[derive(Clone, Copy, Debug, PartialEq, Eq)]
+#[derive(Clone, Copy, PartialEq, Eq)]
 pub struct ZoneLeaf {
     pub zone: Zone,
     pub child: u32,

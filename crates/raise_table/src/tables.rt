@@ -1,9 +1,10 @@
 // The table of the words.
 ghost use Rattle.std.specs.Prelude.{◌≡◌, ◌≤◌, ◌<◌, [], ◌∷◌, drop, map, IfOk};
 ghost use Rattle.std.specs.List.{Contains};
-ghost use Rattle.raise_table.specs.Places.{bit_of, leaves_in};
+ghost use Rattle.raise_table.specs.Places.{bit_of, leaves_in, word_count};
 ghost use Rattle.raise_table.specs.Seats.{HasKnown, Knows, KnowsAll, KnowsAsMuch, MayRaise, after_load, after_meet};
 ghost use Rattle.raise_table.specs.Seats.{after_raise, met, new_owner, no_hints, without_notes};
+ghost use Rattle.raise_table.specs.Steps.{first_seat};
 ghost use Rattle.raise_table.specs.Tables.{AreFew, HasWord, IsShaped};
 
 use crate::names::RaiseName;
@@ -51,15 +52,33 @@ impl RaiseBlank {
         ensures shape { IfOk result (λ blank. (blank.zones ≡ zones.now) × (blank.buckets ≡ buckets)) }
     {
         let leaves = leaves_of_all(alloc, zones)?;
-        let words = vec![in alloc; 0; (zones.len() + 1) * MOST_BUCKETS as usize]?;
-        let (table, first) = Table::of_words(alloc, words.as_slice(), zones)?;
-        Ok(RaiseBlank {
-            table,
-            first,
-            leaves,
-            buckets,
-        })
+        match words_of(alloc, zones) {
+            Ok((table, first)) => Ok(RaiseBlank {
+                table,
+                first,
+                leaves,
+                buckets,
+            }),
+            Err(fault) => {
+                drop(leaves);
+                Err(fault)
+            }
+        }
     }
+}
+
+// The words of zones that have so many leaves each, all 0, with the seat that has the owners' parts.
+fn words_of(alloc: Global, zones: &LeafCounts) -> Result<(Words, Seat<(), SeatView>), OutOfMemory>
+    requires few { AreFew zones.now }
+    ensures words { IfOk result (λ made. made.0.shared.table_id.words ≡ word_count zones.now) }
+    ensures key { IfOk result (λ made. made.0.shared.key ≡ zones.now) }
+    ensures first { IfOk result (λ made.
+        (made.1.table_id ≡ made.0.shared.table_id) × (made.1.me ≡ (first_seat zones.now, []))) }
+{
+    let words = vec![in alloc; 0; (zones.len() + 1) * MOST_BUCKETS as usize]?;
+    let made = Table::of_words(alloc, words.as_slice(), zones);
+    drop(words);
+    made
 }
 
 /// The words that threads share. A step on them takes no lock.

@@ -1,5 +1,5 @@
 -- A fetch with its filters, as contracts see it.
-use Rattle.std.specs.Prelude.{◌≡◌, ℕ, ◌&&◌, Bool, false, List, map, filter, Option, Some, None}
+use Rattle.std.specs.Prelude.{◌≡◌, ℕ, ◌&&◌, Bool, false, List, [], ◌∷◌, ◌++◌, map, filter, Option, Some, None}
 use Rattle.std.specs.List.{list_all}
 use Rattle.mon_expr.specs.BoundPredicates.{bound_truth}
 use Rattle.mon_expr.specs.declared.condition_lists.BoundPredicate.{BoundPredicate}
@@ -7,6 +7,7 @@ use Rattle.mon_value.specs.Alignments.{aligned_values}
 use Rattle.mon_value.specs.SeriesRows.{cells_of, row_of}
 use Rattle.mon_value.specs.declared.aligners.Aligner.{Aligner}
 use Rattle.mon_value.specs.declared.grids.Grid.{Grid}
+use Rattle.mon_value.specs.declared.grids.TimedValue.{TimedValue}
 use Rattle.mon_value.specs.declared.rows.Point.{Point}
 use Rattle.mon_value.specs.declared.rows.SeriesKey.{SeriesKey}
 use Rattle.mon_value.specs.declared.tables.TimedRow.{TimedRow}
@@ -38,6 +39,10 @@ keeps fetch key value = all_filters_hold fetch.of_points (cells_of key value)
 -- the points of a series that are kept
 abbrev pub points_kept : FetchView → SeriesGroup → List Point
 points_kept fetch series = filter (λ point. keeps fetch series.0 point.value) series.1
+
+-- the row of a value, behind the cells of its series
+abbrev pub row_behind : List Value → TimedValue → TimedRow
+row_behind cells timed = record { time = timed.time; cells = cells ++ timed.value ∷ [] }
 
 -- the rows of a series that is met
 abbrev pub met_rows : Grid → Aligner → FetchView → SeriesGroup → List TimedRow

@@ -7,7 +7,7 @@ use mon_value::{RoomListOf, Text, TryCopy};
 use std::alloc::{AllocError, Global};
 
 /// Why a file was not read.
-#[derive(Clone, Copy, Debug, PartialEq, Eq)]
+#[derive(Clone, Copy, PartialEq, Eq)]
 pub enum FolderFault {
     /// The folder could not read it.
     Failed,
@@ -49,7 +49,7 @@ pub trait Folder {
 }
 
 /// A read that a folder was asked for.
-#[derive(Debug, Drop)]
+#[derive(Drop)]
 pub struct Asked {
     /// The name of the file.
     pub name: Text,

@@ -7,7 +7,7 @@ use mon_value::{ListOf, Text, TryCopy};
 use std::alloc::{AllocError, Global};
 
 /// A file in memory.
-#[derive(Debug, Drop)]
+#[derive(Drop)]
 pub struct MemoryFile {
     pub name: Text,
     pub content: Vec<u8>,
@@ -57,7 +57,7 @@ pub(crate) fn read_bounded(alloc: Global, content: &[u8], most: u64) -> Result<V
 
 /// A folder in memory that tells its files. The reads whose numbers are listed fail, where the first
 /// read has the number 1, and so does the read of a name that it doesn't hold.
-#[derive(Debug, Drop)]
+#[derive(Drop)]
 pub struct MemoryFolder {
     files: MemoryFiles,
     failing: Vec<u64>,
@@ -121,7 +121,7 @@ impl Folder for MemoryFolder {
 
 /// A folder in memory that tells its files and never fails: a name that it doesn't hold reads as an
 /// empty file.
-#[derive(Debug, Drop)]
+#[derive(Drop)]
 pub struct CalmFolder {
     files: MemoryFiles,
     reads: Reads,

@@ -4,7 +4,7 @@ ghost use Rattle.mon_run.specs.Faults.{Rose};
 ghost use Rattle.mon_run.specs.Sinks.{SinkState, Takes, TakesFront};
 
 /// A sink did not take what it was given.
-#[derive(Clone, Copy, Debug, PartialEq, Eq)]
+#[derive(Clone, Copy, PartialEq, Eq)]
 pub struct Failed;
 
 /// What takes text. Contracts see the bytes that were written, where it tells them, and a count of its

@@ -8,7 +8,7 @@ use std::io::Print;
 
 /// A sink in memory that tells what was written. It has room for a number of bytes, and fails from
 /// then on.
-#[derive(Debug, Drop)]
+#[derive(Drop)]
 pub struct MemorySink {
     written: Vec<u8>,
     room: usize,

@@ -1,8 +1,11 @@
 // Copies of operations.
 ghost use Rattle.std.specs.Prelude.{◌≡◌, IfOk, map};
-ghost use Rattle.mql_ast.specs.Trees.{deed_tree, item_tree, op_tree};
+ghost use Rattle.mql_ast.specs.Trees as Deed;
+ghost use Rattle.mql_ast.specs.Trees.{deed_tree, item_tree, op_tree, predicate_tree};
 
-use crate::operations::{Item, Op, OpKind};
+use crate::names::{Name, Names};
+use crate::operations::{Aggregates, Item, Op, OpKind};
+use crate::predicates::Predicate;
 use mon_value::{ListOf, TryCopy};
 use std::alloc::{AllocError, Global};
 
@@ -24,22 +27,53 @@ impl OpKind {
         ensures tree { IfOk result (λ copied. deed_tree copied ≡ deed_tree self.now) }
     {
         match self {
-            OpKind::Filter(predicate) => Ok(OpKind::Filter(predicate.copy(alloc)?)),
+            OpKind::Filter(predicate) => copied_filter(alloc, predicate),
             OpKind::Align(by) => Ok(OpKind::Align(*by)),
-            OpKind::GroupBy(names, aggregates) => {
-                let names = names.copy(alloc)?;
-                let aggregates = aggregates.copy(alloc)?;
-                Ok(OpKind::GroupBy(names, aggregates))
-            }
-            OpKind::Value(items) => {
-                let items = copied_items(alloc, items.as_slice())?;
-                Ok(OpKind::Value(ListOf::from_vec(items)))
-            }
-            OpKind::Top(n, column) => Ok(OpKind::Top(*n, column.copy(alloc)?)),
+            OpKind::GroupBy(names, aggregates) => copied_group_by(alloc, names, aggregates),
+            OpKind::Value(items) => copied_value(alloc, items.as_slice()),
+            OpKind::Top(n, column) => copied_top(alloc, *n, column),
             OpKind::Every(seconds) => Ok(OpKind::Every(*seconds)),
             OpKind::Within(seconds) => Ok(OpKind::Within(*seconds)),
         }
     }
+}
+
+fn copied_filter(alloc: Global, predicate: &Predicate) -> Result<OpKind, AllocError>
+    ensures tree { IfOk result (λ copied. deed_tree copied ≡ Deed.Filter (predicate_tree predicate.now)) }
+{
+    let predicate = predicate.copy(alloc)?;
+    Ok(OpKind::Filter(predicate))
+}
+
+fn copied_group_by(
+    alloc: Global,
+    names: &Names,
+    aggregates: &Aggregates,
+) -> Result<OpKind, AllocError>
+    ensures tree { IfOk result (λ copied. deed_tree copied ≡ Deed.GroupBy names.now aggregates.now) }
+{
+    let names = names.copy(alloc)?;
+    match aggregates.copy(alloc) {
+        Ok(aggregates) => Ok(OpKind::GroupBy(names, aggregates)),
+        Err(stop) => {
+            drop(names);
+            Err(stop)
+        }
+    }
+}
+
+fn copied_value(alloc: Global, items: &[Item]) -> Result<OpKind, AllocError>
+    ensures tree { IfOk result (λ copied. deed_tree copied ≡ Deed.Value (map item_tree items.now)) }
+{
+    let items = copied_items(alloc, items)?;
+    Ok(OpKind::Value(ListOf::from_vec(items)))
+}
+
+fn copied_top(alloc: Global, n: u32, column: &Name) -> Result<OpKind, AllocError>
+    ensures tree { IfOk result (λ copied. deed_tree copied ≡ Deed.Top n column.now) }
+{
+    let column = column.copy(alloc)?;
+    Ok(OpKind::Top(n, column))
 }
 
 impl Item {

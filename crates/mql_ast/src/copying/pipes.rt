@@ -1,8 +1,10 @@
 // Copies of pipes.
 ghost use Rattle.std.specs.Prelude.{◌≡◌, IfOk, map};
+ghost use Rattle.mql_ast.specs.Trees as Tree;
 ghost use Rattle.mql_ast.specs.Trees.{pipe_tree, query_tree, source_tree};
 
 use crate::copying::operations::copied_ops;
+use crate::names::Name;
 use crate::pipes::{Pipe, Query, Source};
 use mon_value::{ListOf, TryCopy};
 use std::alloc::{AllocError, Global};
@@ -40,11 +42,7 @@ impl Source {
         ensures tree { IfOk result (λ copied. source_tree copied ≡ source_tree self.now) }
     {
         match self {
-            Source::Fetch { at, schema, metric } => Ok(Source::Fetch {
-                at: *at,
-                schema: schema.copy(alloc)?,
-                metric: metric.copy(alloc)?,
-            }),
+            Source::Fetch { at, schema, metric } => copied_fetch(alloc, *at, schema, metric),
             Source::Branches {
                 at,
                 pipes,
@@ -56,6 +54,19 @@ impl Source {
                 how: *how,
                 how_at: *how_at,
             }),
+        }
+    }
+}
+
+fn copied_fetch(alloc: Global, at: u32, schema: &Name, metric: &Name) -> Result<Source, AllocError>
+    ensures tree { IfOk result (λ copied. source_tree copied ≡ Tree.Fetch at schema.now metric.now) }
+{
+    let schema = schema.copy(alloc)?;
+    match metric.copy(alloc) {
+        Ok(metric) => Ok(Source::Fetch { at, schema, metric }),
+        Err(stop) => {
+            drop(schema);
+            Err(stop)
         }
     }
 }

@@ -1,10 +1,12 @@
 // Copies of predicates.
 ghost use Rattle.std.specs.Prelude.{◌≡◌, ◌+◌, IfOk};
+ghost use Rattle.mql_ast.specs.Trees as Tree;
 ghost use Rattle.mql_ast.specs.Trees.{predicate_tree};
 ghost use Rattle.mql_ast.specs.PredicateParts.{nodes};
 ghost use Rattle.mql_ast.specs.PredicateLinks.{link_tree, linked_tree, linked_nodes};
 
-use crate::predicates::Predicate;
+use crate::names::Name;
+use crate::predicates::{Comparison, Literal, Pattern, Predicate};
 use mon_value::TryCopy;
 use std::alloc::{AllocError, Global};
 
@@ -61,15 +63,40 @@ fn copied_first<'a>(
                 first = left;
             }
             Predicate::Compare(column, how, literal) => {
-                let column = column.copy(alloc)?;
-                let literal = literal.copy(alloc)?;
-                return Ok(Predicate::Compare(column, *how, literal));
+                return copied_condition(alloc, column, *how, literal);
             }
-            Predicate::Like(column, pattern) => {
-                let column = column.copy(alloc)?;
-                let pattern = pattern.copy(alloc)?;
-                return Ok(Predicate::Like(column, pattern));
-            }
+            Predicate::Like(column, pattern) => return copied_likeness(alloc, column, pattern),
+        }
+    }
+}
+
+fn copied_condition(
+    alloc: Global,
+    column: &Name,
+    how: Comparison,
+    literal: &Literal,
+) -> Result<Predicate, AllocError>
+    ensures condition { IfOk result (λ copied. copied ≡ Predicate.Compare column.now how literal.now) }
+{
+    let column = column.copy(alloc)?;
+    match literal.copy(alloc) {
+        Ok(literal) => Ok(Predicate::Compare(column, how, literal)),
+        Err(stop) => {
+            drop(column);
+            Err(stop)
+        }
+    }
+}
+
+fn copied_likeness(alloc: Global, column: &Name, pattern: &Pattern) -> Result<Predicate, AllocError>
+    ensures likeness { IfOk result (λ copied. copied ≡ Predicate.Like column.now pattern.now) }
+{
+    let column = column.copy(alloc)?;
+    match pattern.copy(alloc) {
+        Ok(pattern) => Ok(Predicate::Like(column, pattern)),
+        Err(stop) => {
+            drop(column);
+            Err(stop)
         }
     }
 }
@@ -80,14 +107,63 @@ fn gone_on(alloc: Global, left: Predicate, link: PredicateLink<'_>) -> Result<Pr
     ensures tree { IfOk result (λ copied. predicate_tree copied ≡ link_tree link.entry (predicate_tree left)) }
 {
     match link {
-        PredicateLink::Not => Ok(Predicate::Not(Box::new(alloc, left)?)),
-        PredicateLink::And(right) => {
-            let right = right.copy(alloc)?;
-            Ok(Predicate::And(Box::new(alloc, left)?, Box::new(alloc, right)?))
+        PredicateLink::Not => opposite(alloc, left),
+        PredicateLink::And(right) => match right.copy(alloc) {
+            Ok(right) => conjunction(alloc, left, right),
+            Err(stop) => {
+                drop(left);
+                Err(stop)
+            }
+        },
+        PredicateLink::Or(right) => match right.copy(alloc) {
+            Ok(right) => disjunction(alloc, left, right),
+            Err(stop) => {
+                drop(left);
+                Err(stop)
+            }
+        },
+    }
+}
+
+fn opposite(alloc: Global, inner: Predicate) -> Result<Predicate, AllocError>
+    ensures tree { IfOk result (λ made. predicate_tree made ≡ Tree.Not (predicate_tree inner)) }
+{
+    let inner = Box::new(alloc, inner)?;
+    Ok(Predicate::Not(inner))
+}
+
+fn conjunction(alloc: Global, left: Predicate, right: Predicate) -> Result<Predicate, AllocError>
+    ensures tree { IfOk result (λ made. predicate_tree made ≡ Tree.And (predicate_tree left) (predicate_tree right)) }
+{
+    match Box::new(alloc, left) {
+        Ok(left) => match Box::new(alloc, right) {
+            Ok(right) => Ok(Predicate::And(left, right)),
+            Err(stop) => {
+                drop(left);
+                Err(stop.into())
+            }
+        },
+        Err(stop) => {
+            drop(right);
+            Err(stop.into())
         }
-        PredicateLink::Or(right) => {
-            let right = right.copy(alloc)?;
-            Ok(Predicate::Or(Box::new(alloc, left)?, Box::new(alloc, right)?))
+    }
+}
+
+fn disjunction(alloc: Global, left: Predicate, right: Predicate) -> Result<Predicate, AllocError>
+    ensures tree { IfOk result (λ made. predicate_tree made ≡ Tree.Or (predicate_tree left) (predicate_tree right)) }
+{
+    match Box::new(alloc, left) {
+        Ok(left) => match Box::new(alloc, right) {
+            Ok(right) => Ok(Predicate::Or(left, right)),
+            Err(stop) => {
+                drop(left);
+                Err(stop.into())
+            }
+        },
+        Err(stop) => {
+            drop(right);
+            Err(stop.into())
         }
     }
 }

@@ -1,10 +1,12 @@
 // Copies of sums.
 ghost use Rattle.std.specs.Prelude.{◌≡◌, ◌+◌, IfOk};
+ghost use Rattle.mql_ast.specs.Trees as Tree;
 ghost use Rattle.mql_ast.specs.Trees.{sum_tree};
 ghost use Rattle.mql_ast.specs.SumParts.{nodes};
 ghost use Rattle.mql_ast.specs.SumLinks.{link_tree, linked_tree, linked_nodes};
 
 use crate::expressions::Expr;
+use crate::names::Name;
 use mon_value::TryCopy;
 use std::alloc::{AllocError, Global};
 
@@ -54,7 +56,7 @@ fn copied_first<'a>(
                 links.push(SumLink::Minus(right))?;
                 first = left;
             }
-            Expr::Column(column) => return Ok(Expr::Column(column.copy(alloc)?)),
+            Expr::Column(column) => return copied_column(alloc, column),
             Expr::Number { at, value } => {
                 return Ok(Expr::Number {
                     at: *at,
@@ -62,14 +64,24 @@ fn copied_first<'a>(
                 });
             }
             Expr::Percentile { at, column, p } => {
-                return Ok(Expr::Percentile {
-                    at: *at,
-                    column: column.copy(alloc)?,
-                    p: *p,
-                });
+                return copied_percentile(alloc, *at, column, *p);
             }
         }
     }
+}
+
+fn copied_column(alloc: Global, column: &Name) -> Result<Expr, AllocError>
+    ensures column { IfOk result (λ copied. copied ≡ Expr.Column column.now) }
+{
+    let column = column.copy(alloc)?;
+    Ok(Expr::Column(column))
+}
+
+fn copied_percentile(alloc: Global, at: u32, column: &Name, p: u8) -> Result<Expr, AllocError>
+    ensures percentile { IfOk result (λ copied. copied ≡ Expr.Percentile at column.now p) }
+{
+    let column = column.copy(alloc)?;
+    Ok(Expr::Percentile { at, column, p })
 }
 
 // The sum on the left, gone on with a copy of what stands on the right.
@@ -78,13 +90,55 @@ fn gone_on(alloc: Global, left: Expr, link: SumLink<'_>) -> Result<Expr, AllocEr
     ensures tree { IfOk result (λ copied. sum_tree copied ≡ link_tree link.entry (sum_tree left)) }
 {
     match link {
-        SumLink::Plus(right) => {
-            let right = right.copy(alloc)?;
-            Ok(Expr::Plus(Box::new(alloc, left)?, Box::new(alloc, right)?))
+        SumLink::Plus(right) => match right.copy(alloc) {
+            Ok(right) => plus(alloc, left, right),
+            Err(stop) => {
+                drop(left);
+                Err(stop)
+            }
+        },
+        SumLink::Minus(right) => match right.copy(alloc) {
+            Ok(right) => minus(alloc, left, right),
+            Err(stop) => {
+                drop(left);
+                Err(stop)
+            }
+        },
+    }
+}
+
+fn plus(alloc: Global, left: Expr, right: Expr) -> Result<Expr, AllocError>
+    ensures tree { IfOk result (λ made. sum_tree made ≡ Tree.Plus (sum_tree left) (sum_tree right)) }
+{
+    match Box::new(alloc, left) {
+        Ok(left) => match Box::new(alloc, right) {
+            Ok(right) => Ok(Expr::Plus(left, right)),
+            Err(stop) => {
+                drop(left);
+                Err(stop.into())
+            }
+        },
+        Err(stop) => {
+            drop(right);
+            Err(stop.into())
         }
-        SumLink::Minus(right) => {
-            let right = right.copy(alloc)?;
-            Ok(Expr::Minus(Box::new(alloc, left)?, Box::new(alloc, right)?))
+    }
+}
+
+fn minus(alloc: Global, left: Expr, right: Expr) -> Result<Expr, AllocError>
+    ensures tree { IfOk result (λ made. sum_tree made ≡ Tree.Minus (sum_tree left) (sum_tree right)) }
+{
+    match Box::new(alloc, left) {
+        Ok(left) => match Box::new(alloc, right) {
+            Ok(right) => Ok(Expr::Minus(left, right)),
+            Err(stop) => {
+                drop(left);
+                Err(stop.into())
+            }
+        },
+        Err(stop) => {
+            drop(right);
+            Err(stop.into())
         }
     }
 }

@@ -1,7 +1,8 @@
 // Predicates.
-ghost use Rattle.std.specs.Prelude.{◌≡◌, ◌+◌, ◌<◌, ◌++◌, ◌∷◌, [], OnOk, string_bytes, if◌then◌else◌};
+ghost use Rattle.std.specs.Prelude.{◌≡◌, ◌==◌, ◌||◌, ◌+◌, ◌<◌, ◌++◌, ◌∷◌, [], OnOk, codes, string_bytes};
+ghost use Rattle.std.specs.Prelude.{if◌then◌else◌};
 ghost use Rattle.mql_ast.specs.Trees.{predicate_tree};
-ghost use Rattle.mql_ast.specs.Printed.{predicate_text, condition_text, likeness_text};
+ghost use Rattle.mql_ast.specs.Printed.{condition_text, in_parentheses, likeness_text, predicate_text};
 ghost use Rattle.mql_ast.specs.PredicateParts.{remaining_text, part_weight, remaining_weight};
 
 use crate::names::Name;
@@ -54,20 +55,60 @@ fn print_part<'a>(
     match predicate {
         Predicate::Compare(column, how, literal) => print_condition(out, column, *how, literal),
         Predicate::Like(column, pattern) => print_likeness(out, column, pattern),
-        Predicate::Not(inner) => {
-            out.push_str("!")?;
-            parts.push(PredicatePart::Predicate(inner, 2))?;
-            Ok(())
-        }
+        Predicate::Not(inner) => print_opposite(out, parts, inner),
         Predicate::And(left, right) => {
-            open(out, parts, level == 2)?;
-            push_operands(parts, (left, 1), " && ", (right, 2))
+            print_operands(out, parts, level == 2, (left, 1), " && ", (right, 2))
         }
         Predicate::Or(left, right) => {
-            open(out, parts, level == 1 || level == 2)?;
-            push_operands(parts, (left, 0), " || ", (right, 1))
+            print_operands(out, parts, binds(level), (left, 0), " || ", (right, 1))
         }
     }
+}
+
+// Whether an operator beside a predicate binds closer than `||`.
+fn binds(level: u8) -> bool
+    ensures binds { result ≡ (level == 1 || level == 2) }
+{
+    level == 1 || level == 2
+}
+
+// Prints the sign of an opposite, with what it is the opposite of to come.
+#[tactic(auto, using(crate::proofs::PredicatePartLemmas::text_push, crate::proofs::PredicatePartLemmas::weight_push))]
+fn print_opposite<'a>(
+    out: &mut String,
+    parts: &mut Vec<PredicatePart<'a>>,
+    inner: &'a Predicate,
+) -> Result<(), AllocError>
+    ensures text { OnOk result (string_bytes out.new ++ remaining_text parts.new.items
+        ≡ string_bytes out.old ++ ((codes "!" ++ predicate_text 2 (predicate_tree inner.now))
+        ++ remaining_text parts.old.items)) }
+    ensures weight { OnOk result (remaining_weight parts.new.items
+        ≡ part_weight (PredicatePart.Predicate inner.entry 2) + remaining_weight parts.old.items) }
+{
+    out.push_str("!")?;
+    parts.push(PredicatePart::Predicate(inner, 2))?;
+    Ok(())
+}
+
+// Two operands with their sign to come, and the first parenthesis, where there are any.
+fn print_operands<'a>(
+    out: &mut String,
+    parts: &mut Vec<PredicatePart<'a>>,
+    parentheses: bool,
+    left: (&'a Predicate, u8),
+    sign: &'static str,
+    right: (&'a Predicate, u8),
+) -> Result<(), AllocError>
+    ensures text { OnOk result (string_bytes out.new ++ remaining_text parts.new.items
+        ≡ string_bytes out.old ++ (in_parentheses parentheses (predicate_text left.entry.1
+        (predicate_tree left.entry.0.now) ++ (sign.now ++ predicate_text right.entry.1
+        (predicate_tree right.entry.0.now))) ++ remaining_text parts.old.items)) }
+    ensures less { OnOk result (remaining_weight parts.new.items
+        < part_weight (PredicatePart.Predicate left.entry.0 left.entry.1)
+        + (part_weight (PredicatePart.Predicate right.entry.0 right.entry.1) + (3 + remaining_weight parts.old.items))) }
+{
+    open(out, parts, parentheses)?;
+    push_operands(parts, left, sign, right)
 }
 
 // The first parenthesis, where there are any, with the last to come.

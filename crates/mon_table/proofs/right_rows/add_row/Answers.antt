@@ -25,21 +25,19 @@ returns-in_ok-push-in-Some c =
           (c.args.row ∷ []) ∙ ap (λ r. rows_under_key r ++ c.args.row.now ∷ []) there');
     }
 
-pub returns-in_ok-insert-in-None : goal.returns-in_ok-insert-in-None
-returns-in_ok-insert-in-None c =
+pub returns-in_ok-insert-in-Ok : goal.returns-in_ok-insert-in-Ok
+returns-in_ok-insert-in-Ok c =
     let m = c.args.by_key.now in
     let key = c.args.key in
-    let w = c.push-in-None.new.self in
+    let w = c.in-Ok.rows in
     let n = c.insert.new.self in
     let none : None ≡ get derived.eq-value.it m key = c.in-None.ensures.value in
     let updates = subst (λ old. UpdatesBy derived.eq-value.it (derived.eq-value.it key) old n (Some w))
-    c.get_mut.follows.holds-at-none c.in_ok-insert-in-None.ensures.updates in
+    c.get_mut.follows.holds-at-none c.in_ok-insert-in-Ok.ensures.updates in
     let updates' = subst (λ (eq : JoinKey → JoinKey → Bool). UpdatesBy eq (eq key) m n (Some w)) eq-same_join_key
     updates in
     let none' = none ∙ ap (λ (eq : JoinKey → JoinKey → Bool). get eq m key) eq-same_join_key in
-    let alone = ap rows_behind (c.in_ok-push-in-None.ensures.items ∙ ap (λ items. items ++ c.args.row ∷ [])
-    c.new-rows.ensures.items) in
     record {
       added = entry_rows-added m n key c.args.row.now w updates'
-          (alone ∙ ap (λ r. rows_under_key r ++ c.args.row.now ∷ []) none');
+          (c.in-Ok.ensures.alone ∙ ap (λ r. rows_under_key r ++ c.args.row.now ∷ []) none');
     }

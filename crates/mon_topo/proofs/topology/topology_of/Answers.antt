@@ -25,13 +25,13 @@ invariant_of-result c =
     λ i. map (λ (range : RangeSpec). filter_map (λ (name : List ℕ). option_map leaf_numbered (of_leaf name i))
     range.leaves) (ranges_in zones) in (
       c.requires.lawful,
-      c.in_ok-spans.ensures.spans ∙ ap (spans_from 0 0) c.as_slice.ensures.items,
-      c.in_ok-leaf_names.ensures.names ∙ ap leaves_in c.as_slice-2.ensures.items,
-      c.in_ok-replicas.ensures.replicas
+      c.in-Ok.ensures.spans ∙ ap (spans_from 0 0) c.as_slice.ensures.items,
+      c.in-Ok.ensures.leaf_names ∙ ap leaves_in c.as_slice.ensures.items,
+      c.in-Ok.ensures.replicas
           ∙ ap (λ (all : List ZoneSpec). map (λ (range : RangeSpec). leaves_found c.args.names.leaves range.leaves)
-          (ranges_in all)) c.as_slice-3.ensures.items ∙ found,
+          (ranges_in all)) c.as_slice.ensures.items ∙ found,
       of_location,
       of_leaf,
-      subst (λ (all : List ZoneSpec). FindsPlaces c.in_ok-ranges.ranges (range_names all)) c.as_slice-4.ensures.items
-          c.in_ok-ranges.ensures.found,
+      subst (λ (all : List ZoneSpec). FindsPlaces c.in-Ok.parts.ranges (range_names all)) c.as_slice.ensures.items
+          c.in-Ok.ensures.ranges,
     )

@@ -9,10 +9,10 @@ use Rattle.mon_schema.proofs.table.Schemas.add_metric.Goals as goal
 pub add_new-requires : goal.add_new-requires
 add_new-requires c =
     let held = c.args.self.now in
-    let name = c.in_ok-name.name.items in
+    let name = c.in-Ok.name.items in
     let free : metric_named c.args.metric.name held.metrics ≡ None = metric_named-free held c.args.metric cc in
     lookup-first_named (λ (schema : MetricSchema). schema.name) name c.self.inside.metrics.entries
     c.self.invariant.metrics
     ∙ ap (λ lists. metric_named name lists.metrics) c.self.view_is
-    ∙ ap (λ text. metric_named text held.metrics) (c.in_ok-name.ensures.items ∙ c.as_bytes.ensures.bytes)
+    ∙ ap (λ text. metric_named text held.metrics) (c.in-Ok.ensures.items ∙ c.as_bytes.ensures.bytes)
     ∙ free

@@ -1,5 +1,0 @@
-mod AmongLemmas
-mod CaseConditions
-mod PlaceLemmas
-mod ReadingLemmas
-mod SessionLemmas

@@ -1,0 +1,6 @@
+mod AmongLemmas
+mod DivisionLemmas
+mod PartLemmas
+mod PlaceLemmas
+mod ReadingLemmas
+mod SessionLemmas

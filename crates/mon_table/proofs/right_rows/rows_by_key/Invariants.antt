@@ -1,7 +1,0 @@
--- each entry has the rows of its key so far
-use Rattle.std.proofs.Common.{take}
-use Rattle.mon_table.specs.JoinKeys.{KeepsByKey}
-use Rattle.mon_table.proofs.right_rows.rows_by_key.Given as goal
-
-abbrev pub invariant-loop-row : goal.invariant-loop-row
-invariant-loop-row l = KeepsByKey l.places (take l.row-index l.rows) l.by_key

@@ -1,0 +1,2 @@
+mod CallerLemmas
+mod HistoryLemmas
