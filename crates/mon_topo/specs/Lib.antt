@@ -11,4 +11,5 @@ pub mod Replicas
 pub mod SeenHistories
 pub mod Settings
 pub mod Sights
+pub mod Views
 pub mod Zones

@@ -37,7 +37,7 @@ use Rattle.query_core.specs.Program as spec
 use Rattle.query_core.specs.Rounds.{slots_on}
 use Rattle.query_core.specs.SentTold.{sent_told}
 use Rattle.query_core.specs.Sessions as session
-use Rattle.query_core.specs.Sessions.{IsSound, View}
+use Rattle.mon_topo.specs.Views.{IsSound, View}
 use Rattle.query_core.specs.Settings.{QuerySetting}
 use Rattle.query_core.specs.Traces.{IsFirstServing, is_wanted, slot_rows}
 use Rattle.query_core.proofs.SentSums.{StageSent, sent_session}

@@ -43,7 +43,7 @@ use Rattle.query_core.specs.Looks.{unread_look}
 use Rattle.query_core.specs.Mixtures.{typed_of}
 use Rattle.query_core.specs.Openings.{is_plan_met}
 use Rattle.query_core.specs.Rounds.{slots_on}
-use Rattle.query_core.specs.Sessions.{View}
+use Rattle.mon_topo.specs.Views.{View}
 use Rattle.query_core.specs.Settings.{QuerySetting}
 use Rattle.query_core.specs.Traces.{IsFirstServing, IsFresh, IsReadRightly, IsTraceOf, cut_of, is_wanted, looked_at}
 use Rattle.query_core.specs.Traces.{resolved_rows}

@@ -17,7 +17,8 @@ ghost use Rattle.query_core.specs.Orders.{ComeInOrder, ComeWholeInOrder, events_
 ghost use Rattle.query_core.specs.Program.{ask_of};
 ghost use Rattle.query_core.specs.ReadableSlots.{CanBeRead};
 ghost use Rattle.query_core.specs.SentTold.{sent_told};
-ghost use Rattle.query_core.specs.Sessions.{Event, IsGrown, IsLicensed, IsSound, IsTrueAnswer, View, query_after};
+ghost use Rattle.query_core.specs.Sessions.{Event, IsLicensed, IsTrueAnswer, query_after};
+ghost use Rattle.mon_topo.specs.Views.{IsSound, IsViewWithin, View};
 ghost use Rattle.query_core.specs.Sessions.{view_after};
 ghost use Rattle.query_core.specs.Settings.{QuerySetting};
 ghost use Rattle.query_core.specs.ToldDowns.{EndNames, downs_told};
@@ -108,7 +109,7 @@ pub fn sessions_may_go_on()
         (events : List (Event store setting moment)) (later : View) (answer : ToldOf)
         → IsAskedOf store setting → pos 0 ≤ℤ moment → IsSound store view
         → IsLicensed store setting moment view (new_query setting) events
-        → IsGrown (view_after store setting moment view events) later → IsSound store later
+        → IsViewWithin (view_after store setting moment view events) later → IsSound store later
         → let query : Query = query_after store setting moment (new_query setting) events in
         IsTrueAnswer store setting moment (view_after store setting moment view events) later query.avoided
         (slots_at query) (ask_of setting query.stage) answer
@@ -117,7 +118,7 @@ pub fn sessions_may_go_on()
         (events : List (Event store setting moment)) (later : View) (leaf : LeafOf) (cut : ℕ)
         → IsAskedOf store setting → pos 0 ≤ℤ moment → IsSound store view
         → IsLicensed store setting moment view (new_query setting) events
-        → IsGrown (view_after store setting moment view events) later → IsSound store later
+        → IsViewWithin (view_after store setting moment view events) later → IsSound store later
         → IsBetween (length (leaf_history (view_after store setting moment view events).seen leaf))
         (length (leaf_history later.seen leaf)) cut
         → let query : Query = query_after store setting moment (new_query setting) events in

@@ -39,7 +39,7 @@ use Rattle.write_core.specs.Invariant.{IsAcking, IsAt}
 use Rattle.write_core.specs.Marks.{ack_of, found_in_mark, some_took}
 use Rattle.write_core.specs.Program.{Acking, Ended, Marked, Not, Stage, Verdict, end_of_verdict}
 use Rattle.write_core.specs.Steps.{with_acknowledgement, step}
-use Rattle.write_core.specs.Views.{View, joined_view, of_leaf, of_range, with_range_entry}
+use Rattle.mon_topo.specs.Views.{View, joined_view, of_leaf, of_range, with_range_entry}
 use Rattle.write_core.specs.World.{World, Writer, Writes, at_range, view_of, writes_on}
 use Rattle.write_core.specs.declared.asks.WriteEnd.{WriteEnd}
 use Rattle.write_core.specs.declared.asks.WriteEnd.TheVariants as end

@@ -46,7 +46,7 @@ use Rattle.weave_core.specs.declared.queries.Querying.{Querying}
 use Rattle.mon_topo.specs.declared.sights.Sight.{Sight}
 use Rattle.weave_core.specs.declared.store.Store.{Store}
 use Rattle.write_core.proofs.KeepsLemmas.{changed_same}
-use Rattle.write_core.specs.Views.{View, joined_view, of_leaf}
+use Rattle.mon_topo.specs.Views.{View, joined_view, of_leaf}
 use Rattle.write_core.specs.World.{World}
 use Rattle.weave_core.proofs.AskingLemmas.{answered, asked_of, asks_then, from, not_mine, some_holder, there_at, waits}
 

@@ -33,7 +33,7 @@ use Rattle.write_core.proofs.KeepsLemmas.{changed_same}
 use Rattle.write_core.specs.Program.{Entering, Reserving, Stage, after, ask_of}
 use Rattle.write_core.specs.Rounds.{Round, after_look}
 use Rattle.write_core.specs.Steps.{AreUnraised, IsToldAtEntry, IsToldByLeaf, entrant, same_view}
-use Rattle.write_core.specs.Views.{View, joined_view, of_leaf}
+use Rattle.mon_topo.specs.Views.{View, joined_view, of_leaf}
 use Rattle.write_core.specs.World.{Actor, World, Writer, at_leaf, view_of, writes_on}
 use Rattle.write_core.specs.declared.asks.WriteTold.{WriteTold}
 use Rattle.write_core.specs.declared.asks.WriteTold.TheVariants as told

@@ -26,7 +26,7 @@ use Rattle.weave_core.specs.declared.writes.Writing.{Writing}
 use Rattle.write_core.proofs.KeepsLemmas.{changed_same}
 use Rattle.write_core.specs.Program.{Locking, Stage, after, ask_of}
 use Rattle.write_core.specs.Steps.{IsToldByRange, same_view}
-use Rattle.write_core.specs.Views.{View, joined_view, of_range}
+use Rattle.mon_topo.specs.Views.{View, joined_view, of_range}
 use Rattle.write_core.specs.World.{Actor, World, Writer, Writes, at_range, view_of, writes_on}
 use Rattle.write_core.specs.declared.asks.WriteAsk.TheVariants as ask
 use Rattle.write_core.specs.declared.asks.WriteTold.{WriteTold}

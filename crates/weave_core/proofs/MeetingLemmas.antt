@@ -14,7 +14,7 @@ use Rattle.mon_value.specs.declared.positions.Leaf.{Leaf}
 use Rattle.mon_value.specs.declared.positions.Range.{Range}
 use Rattle.write_core.proofs.ViewLemmas.{joined_whole_leaf, joined_whole_range}
 use Rattle.write_core.specs.Invariant.{IsKept}
-use Rattle.write_core.specs.Views.{View, joined_view, of_leaf, of_range}
+use Rattle.mon_topo.specs.Views.{View, joined_view, of_leaf, of_range}
 use Rattle.write_core.specs.World.{IsPart, World}
 
 -- a history that was seen whole is seen so far

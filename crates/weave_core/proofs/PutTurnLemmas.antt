@@ -36,7 +36,7 @@ use Rattle.write_core.specs.Invariant.{IsAt, IsEntering, IsKept}
 use Rattle.write_core.specs.Program.{Inside, Stage, after, entering}
 use Rattle.write_core.specs.Rounds.{Round, after_look}
 use Rattle.write_core.specs.Steps.{step}
-use Rattle.write_core.specs.Views.{View, joined_view, of_leaf, with_entry}
+use Rattle.mon_topo.specs.Views.{View, joined_view, of_leaf, with_entry}
 use Rattle.write_core.specs.World.{World, Writer, at_leaf, put_of, view_of, writes_on}
 use Rattle.write_core.specs.declared.asks.WriteTold.TheVariants as told
 use Rattle.write_core.specs.declared.marks.Fate.TheVariants as fate

@@ -28,7 +28,7 @@ use Rattle.weave_core.specs.declared.ranges.RangeSeat.{RangeSeat}
 use Rattle.mon_topo.specs.declared.sights.Sight.{Sight}
 use Rattle.weave_core.specs.declared.store.Store.{Store}
 use Rattle.write_core.proofs.KeepsLemmas.{changed_same}
-use Rattle.write_core.specs.Views.{View, joined_view, of_range}
+use Rattle.mon_topo.specs.Views.{View, joined_view, of_range}
 use Rattle.write_core.specs.World.{World}
 use Rattle.weave_core.proofs.AskingLemmas.{answered, not_mine, some_holder, there_at, waits}
 

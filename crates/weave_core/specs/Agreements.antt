@@ -18,8 +18,8 @@ use Rattle.weave_core.specs.States.{store_of}
 use Rattle.weave_core.specs.declared.leaves.LeafSeat.{LeafSeat}
 use Rattle.weave_core.specs.declared.ranges.RangeSeat.{RangeSeat}
 use Rattle.weave_core.specs.declared.store.Store.{Store}
-use Rattle.weave_core.specs.declared.words.Place.TheVariants as at
-use Rattle.write_core.specs.Views.{View, of_leaf, of_range}
+use Rattle.mon_hints.specs.declared.places.Place.TheVariants as at
+use Rattle.mon_topo.specs.Views.{View, of_leaf, of_range}
 use Rattle.write_core.specs.World.{World}
 use Rattle.mon_config.specs.Configs.{IsLimited}
 

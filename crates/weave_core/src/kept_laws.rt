@@ -2,7 +2,7 @@
 ghost use Rattle.std.specs.Prelude.{◌≡◌, ◌<◌, [], ℕ, List, length};
 ghost use Rattle.weave_core.specs.FirstHistories.{first_histories};
 ghost use Rattle.weave_core.specs.HintWords.{HasWord, HintTable, RaisesOne};
-ghost use Rattle.weave_core.specs.declared.words.Place.{Place as WordPlace};
+ghost use Rattle.mon_hints.specs.declared.places.Place.{Place as WordPlace};
 ghost use Rattle.mon_topo.specs.Sights.{sight_of};
 ghost use Rattle.mon_schema.specs.SchemaLists.{SchemaLists};
 ghost use Rattle.mon_value.specs.Histories.{leaf_history};
@@ -19,7 +19,7 @@ ghost use Rattle.mon_value.specs.declared.positions.Range.{Range as RangeNumber}
 ghost use Rattle.mon_value.specs.declared.rows.Row.{Row as RowOf};
 ghost use Rattle.write_core.specs.Invariant.{IsKept};
 ghost use Rattle.write_core.specs.Steps.{IsToldByRange};
-ghost use Rattle.write_core.specs.Views.{View, joined_view, of_leaf, of_range};
+ghost use Rattle.mon_topo.specs.Views.{View, joined_view, of_leaf, of_range};
 ghost use Rattle.write_core.specs.World.{IsPart, World};
 ghost use Rattle.weave_core.specs.Meetings.{met_at_leaf, met_at_range};
 ghost use Rattle.weave_core.specs.RangeAnswers.{lock_answer};
