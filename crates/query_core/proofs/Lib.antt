@@ -33,6 +33,7 @@ pub mod ToldAnswers
 mod TraceAnswers
 mod TraceClaims
 mod TraceEnds
+mod TraceGrowth
 mod TraceLooks
 mod TraceRows
 mod TraceSession
