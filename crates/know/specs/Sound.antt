@@ -46,8 +46,8 @@ known_bits setting hints = record {
 -- ---- the whole
 
 -- what was seen and is known, as one view
-abbrev pub view_of : Setting → Hints → Histories → View
-view_of setting hints seen = record { seen = seen; bits = known_bits setting hints }
+abbrev pub known_view : Setting → Hints → Histories → View
+known_view setting hints seen = record { seen = seen; bits = known_bits setting hints }
 
 abbrev pub IsSound : Setting → Hints → Histories → Type 0
-IsSound setting hints seen = views.IsSound setting (view_of setting hints seen)
+IsSound setting hints seen = views.IsSound setting (known_view setting hints seen)

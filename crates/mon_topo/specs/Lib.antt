@@ -11,5 +11,6 @@ pub mod Replicas
 pub mod SeenHistories
 pub mod Settings
 pub mod Sights
+pub mod Sizes
 pub mod Views
 pub mod Zones

@@ -63,15 +63,15 @@ pub record IsSoonerThan (sooner than : Lengths) : Type 0 where
   pub ranges : (range : Range) → sooner.ranges range ≤ than.ranges range
 
 -- all that there was at a moment was seen
-abbrev pub IsWithin : Lengths → Histories → Type 0
-IsWithin moment seen = IsSoonerThan moment (lengths_of seen)
+abbrev pub WasSeen : Lengths → Histories → Type 0
+WasSeen moment seen = IsSoonerThan moment (lengths_of seen)
 
 -- two moments lie within two others, and histories have grown since they were seen
 pub record AreWider (from to earlier later : Lengths) (seen more : Histories) : Type 0 where
   pub sooner : IsSoonerThan earlier from
   pub later : IsSoonerThan to later
-  pub begun : IsWithin from seen
-  pub within : IsWithin to seen
+  pub begun : WasSeen from seen
+  pub within : WasSeen to seen
   pub grown : AreWithin seen more
   pub leaves : length more.leaves ≡ length seen.leaves
   pub ranges : length more.ranges ≡ length seen.ranges
