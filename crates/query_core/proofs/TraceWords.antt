@@ -38,7 +38,7 @@ use Rattle.query_core.specs.Areas.{area_of}
 use Rattle.query_core.specs.Courses.{cuts_seen, firsts_seen}
 use Rattle.query_core.specs.Loadings.{seen_first}
 use Rattle.query_core.specs.Looks.{unread_look}
-use Rattle.query_core.specs.Openings.{flag_at, let_in, lets_child_in}
+use Rattle.plan_split.specs.Meeting.{flag_at, let_in, lets_child_in}
 use Rattle.query_core.specs.Sessions.{IsGrown, IsSeenSo, IsSound, View}
 use Rattle.query_core.specs.Settings.{QuerySetting}
 use Rattle.query_core.specs.declared.answers.Resolved.{Resolved}

@@ -12,7 +12,8 @@ use Rattle.mon_value.specs.declared.positions.FoundDown.{FoundDown}
 use Rattle.mon_value.specs.declared.positions.Range.{Range}
 use Rattle.query_core.specs.Areas.{area_of}
 use Rattle.query_core.specs.Courses.{founds_of_zone}
-use Rattle.query_core.specs.Traces.{IsBetween, found_leaves, is_avoided}
+use Rattle.query_core.specs.Traces.{IsBetween, found_leaves}
+use Rattle.mon_topo.specs.Serving.{is_avoided}
 
 -- a leaf was found down between two moments, at a length of its history that was found then
 pub record IsFoundThen (at_entry at_exit : Histories) (found : FoundDown) : Type 0 where

@@ -15,7 +15,7 @@ ghost use Rattle.query_core.specs.Machine.{Query, new_query, slots_at};
 ghost use Rattle.query_core.specs.Mixtures.{MayBeTold, typed_of};
 ghost use Rattle.query_core.specs.Orders.{ComeInOrder, ComeWholeInOrder, events_told, words_loaded};
 ghost use Rattle.query_core.specs.Program.{ask_of};
-ghost use Rattle.query_core.specs.ReadableSlots.{CanBeRead};
+ghost use Rattle.mon_meaning.specs.ReadableSlots.{CanBeRead};
 ghost use Rattle.query_core.specs.SentTold.{sent_told};
 ghost use Rattle.query_core.specs.Sessions.{Event, IsGrown, IsLicensed, IsSound, IsTrueAnswer, View, query_after};
 ghost use Rattle.query_core.specs.Sessions.{view_after};
