@@ -29,7 +29,8 @@ use Rattle.mql_types.specs.Soundness.{IsQueryType, IsTyped}
 use Rattle.mon_meaning.proofs.FilterLemmas.{all-filter}
 use Rattle.mon_meaning.specs.Central.{IsAnswer}
 use Rattle.mon_meaning.specs.declared.meter.OverLimit.{OverLimit}
-use Rattle.mixer.specs.Divisions.{AreApart, IsDivided, ShareNoLocation, ShareNoTarget, all_rows, has_location, together}
+use Rattle.mixer.specs.Divisions.{IsDivided, ShareNoLocation, all_rows, has_location, together}
+use Rattle.mon_meaning.specs.ApartTargets.{AreApart, ShareNoTarget}
 use Rattle.leaf_store.specs.LeafStates.{LeafView}
 use Rattle.mon_config.specs.KeyRanges.{range_of_key}
 use Rattle.mon_store.specs.Writes.{is_range}

@@ -1,6 +1,7 @@
 pub mod Bounds
 pub mod FaultTexts
 pub mod Faults
+pub mod FirstHistories
 pub mod HeldHistories
 pub mod Indexed
 pub mod Kept
@@ -9,6 +10,7 @@ pub mod Places
 pub mod RangeHistories
 pub mod Replicas
 pub mod SeenHistories
+pub mod Serving
 pub mod Settings
 pub mod Sights
 pub mod Sizes

@@ -31,7 +31,7 @@ use Rattle.query_core.specs.Rounds.{Round, round_of, slots_on}
 use Rattle.query_core.specs.Sessions as session
 use Rattle.mon_topo.specs.Views.{IsSound, View}
 use Rattle.query_core.specs.Settings.{QuerySetting}
-use Rattle.query_core.specs.Traces.{slot_rows}
+use Rattle.mon_meaning.specs.ReadableSlots.{slot_rows}
 use Rattle.query_core.specs.Visits as visit
 use Rattle.query_core.specs.Visits.{Visits, with_look}
 use Rattle.query_core.proofs.RoundLemmas.{has_at}

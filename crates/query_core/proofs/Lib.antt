@@ -5,12 +5,11 @@ mod ChosenLeaves
 mod DividedRows
 mod FindingLemmas
 mod FoundsTold
-pub mod HintFacts
+mod HintFacts
 mod MixLemmas
 mod MixedParts
 mod NamedLeaves
 mod NextPlaces
-mod OpeningLemmas
 mod OrderLemmas
 mod OrderSteps
 mod PartClaims

@@ -39,7 +39,8 @@ use Rattle.query_core.specs.SentTold.{sent_told}
 use Rattle.query_core.specs.Sessions as session
 use Rattle.mon_topo.specs.Views.{IsSound, View}
 use Rattle.query_core.specs.Settings.{QuerySetting}
-use Rattle.query_core.specs.Traces.{IsFirstServing, is_wanted, slot_rows}
+use Rattle.query_core.specs.Traces.{IsFirstServing, is_wanted}
+use Rattle.mon_meaning.specs.ReadableSlots.{slot_rows}
 use Rattle.query_core.proofs.SentSums.{StageSent, sent_session}
 use Rattle.query_core.proofs.SessionEnds.{seen_since, sound_then, stage_last}
 use Rattle.query_core.proofs.PartClaims.{EndParts, StageParts}

@@ -23,7 +23,7 @@ use Rattle.query_core.specs.Machine.{Query, avoided_after, new_query, slots_at, 
 use Rattle.query_core.specs.Mixtures.{HasParts, MayBeTold, MayMix, MayMixRoot, typed_of}
 use Rattle.query_core.specs.Program as spec
 use Rattle.query_core.specs.Program.{ask_of}
-use Rattle.query_core.specs.ReadableSlots.{CanBeRead}
+use Rattle.mon_meaning.specs.ReadableSlots.{CanBeRead}
 use Rattle.query_core.specs.Rounds.{Round}
 use Rattle.query_core.specs.Sessions as session
 use Rattle.mon_topo.specs.Views.{IsSound, IsViewWithin, View}

@@ -43,13 +43,14 @@ use Rattle.query_core.specs.Askings.{IsAskedOf}
 use Rattle.query_core.specs.Findings.{IsFoundThen}
 use Rattle.query_core.specs.Looks.{unread_look}
 use Rattle.query_core.specs.Mixtures.{typed_of}
-use Rattle.query_core.specs.Openings.{is_plan_met}
+use Rattle.plan_split.specs.Meeting.{is_plan_met}
 use Rattle.query_core.specs.Rounds.{slots_on}
 use Rattle.mon_topo.specs.Views.{View}
 use Rattle.query_core.specs.Settings.{QuerySetting}
 use Rattle.query_core.specs.Traces.{IsFirstServing, IsFresh, IsReadRightly, IsTraceOf, cut_of, is_wanted, looked_at}
 use Rattle.query_core.specs.Traces.{resolved_rows}
-use Rattle.query_core.specs.Traces.{rows_on, sent_by, sent_if, slot_rows, source_of, was_read}
+use Rattle.query_core.specs.Traces.{rows_on, sent_by, sent_if, source_of, was_read}
+use Rattle.mon_meaning.specs.ReadableSlots.{slot_rows}
 use Rattle.query_core.specs.declared.answers.Resolved.{Resolved}
 use Rattle.query_core.specs.declared.answers.Trace.{Trace}
 use Rattle.query_core.specs.declared.looks.Look.{Look}

@@ -23,7 +23,7 @@ use Rattle.query_core.proofs.Spans.{ResolvedSo, SpanSo, StandsIn, range_of, reso
 use Rattle.query_core.specs.Areas.{area_of, range_at}
 use Rattle.query_core.specs.Findings.{HasNoReplica}
 use Rattle.query_core.specs.Mixtures.{typed_of}
-use Rattle.query_core.specs.Openings.{flag_at, is_plan_met}
+use Rattle.plan_split.specs.Meeting.{flag_at, is_plan_met}
 use Rattle.query_core.specs.Rounds.{Round}
 use Rattle.query_core.specs.Sessions.{IsSeenSo}
 use Rattle.mon_topo.specs.Views.{IsSound, IsViewWithin, View}

@@ -1,6 +1,6 @@
 -- What is said of a trace between two moments stays as histories grow, and between an earlier moment and a later one.
 use Rattle.std.proofs.Common.{◌≡◌, ◌∙◌, ℕ, ℤ, ◌<◌, ◌≤◌, Bool, true, false, nat_lt, List, [], ◌∷◌, ◌++◌, length, take, drop}
-use Rattle.std.proofs.Common.{get_or, Contains, refl, sym, ap, subst, arith}
+use Rattle.std.proofs.Common.{Contains, refl, sym, ap, subst, arith}
 use Rattle.std.specs.List.{AllByRecursion as All, flat_map}
 use Rattle.std.proofs.lemmas.Bool.Decides.{nat_tests}
 use Rattle.std.proofs.lemmas.List.{get_or_past, take-append-drop, take-take}
@@ -17,18 +17,17 @@ use Rattle.mon_value.specs.declared.histories.Histories.{Histories}
 use Rattle.mon_value.specs.declared.histories.RangeEntry.{RangeEntry}
 use Rattle.mon_value.specs.declared.positions.FoundDown.{FoundDown}
 use Rattle.mon_value.specs.declared.positions.Leaf.{Leaf}
-use Rattle.mon_value.specs.declared.positions.Range.{Range}
 use Rattle.mon_value.specs.declared.rows.Row.{Row}
 use Rattle.mon_value.specs.declared.rows.SeriesKey.{SeriesKey}
 use Rattle.mql_types.specs.Nodes.{TypedTree}
 use Rattle.mql_types.specs.Pieces.{sent_amount}
 use Rattle.mql_types.specs.declared.plans.Plan.{Plan}
 use Rattle.query_core.specs.Findings.{IsFoundBetween}
-use Rattle.query_core.specs.Openings.{is_plan_met}
+use Rattle.plan_split.specs.Meeting.{is_plan_met}
 use Rattle.query_core.specs.Rounds.{slots_on}
 use Rattle.query_core.specs.Traces.{IsFirstServingBetween, IsFreshSince, IsReadRightly, IsTraceBetween, Lengths, cut_of}
-use Rattle.query_core.specs.Traces.{first_serving, found_leaves, is_wanted, looked_at, replica_of, resolved_rows, rows_on}
-use Rattle.query_core.specs.Traces.{AreWider, IsOfRanges, sent_by, sent_if, slot_rows, source_of, was_read}
+use Rattle.query_core.specs.Traces.{first_serving, found_leaves, is_wanted, looked_at, resolved_rows, rows_on}
+use Rattle.query_core.specs.Traces.{AreWider, IsOfRanges, sent_if, slot_rows, source_of, was_read}
 use Rattle.query_core.specs.declared.answers.Resolved.{Resolved}
 use Rattle.query_core.specs.declared.answers.Trace.{Trace}
 

@@ -48,7 +48,7 @@ use Rattle.query_core.specs.Loadings.{is_whole, with_word}
 use Rattle.query_core.specs.Looks.{read_at, unread_look}
 use Rattle.query_core.specs.Machine.{Query, avoided_after, new_query, slots_at}
 use Rattle.query_core.specs.Mixtures.{Settles, TurnSettles, root_stage, zone_turn}
-use Rattle.query_core.specs.Openings.{flag_at, let_in}
+use Rattle.plan_split.specs.Meeting.{flag_at, let_in}
 use Rattle.query_core.specs.Program as spec
 use Rattle.query_core.specs.Program.{ask_of, begin_visits, let_some_in, next_zone, resolving, visiting, with_zone}
 use Rattle.query_core.specs.Rounds.{Round, slots_on}

@@ -38,9 +38,9 @@ use Rattle.query_core.specs.Areas.{area_of}
 use Rattle.query_core.specs.Courses.{cuts_seen, firsts_seen}
 use Rattle.query_core.specs.Loadings.{seen_first}
 use Rattle.query_core.specs.Looks.{unread_look}
-use Rattle.query_core.specs.Openings.{flag_at, let_in, lets_child_in}
 use Rattle.query_core.specs.Sessions.{IsSeenSo}
 use Rattle.mon_topo.specs.Views.{IsSound, IsViewWithin, View}
+use Rattle.plan_split.specs.Meeting.{flag_at, let_in, lets_child_in}
 use Rattle.query_core.specs.Settings.{QuerySetting}
 use Rattle.query_core.specs.declared.answers.Resolved.{Resolved}
 use Rattle.query_core.specs.declared.asks.Seen.{Seen}

@@ -12,7 +12,8 @@ use Rattle.mon_value.specs.declared.positions.FoundDown.{FoundDown}
 use Rattle.mon_value.specs.declared.positions.Range.{Range}
 use Rattle.query_core.specs.Areas.{area_of}
 use Rattle.query_core.specs.Courses.{founds_of_zone}
-use Rattle.query_core.specs.Traces.{IsBetween, Lengths, found_leaves, is_avoided, lengths_of}
+use Rattle.query_core.specs.Traces.{IsBetween, Lengths, found_leaves, lengths_of}
+use Rattle.mon_topo.specs.Serving.{is_avoided}
 
 -- a leaf was found down between two moments, at a length of its history that it had between them
 pub record IsFoundBetween (from to : Lengths) (seen : Histories) (found : FoundDown) : Type 0 where

@@ -28,10 +28,12 @@ use Rattle.query_core.specs.declared.asks.Told.TheVariants as told
 use Rattle.query_core.specs.declared.stages.Stage.{Stage}
 use Rattle.query_core.specs.Machine.{Query, avoided_after, slots_at}
 use Rattle.query_core.specs.Mixtures.{Settles, typed_of}
-use Rattle.query_core.specs.Openings.{is_plan_met}
+use Rattle.plan_split.specs.Meeting.{is_plan_met}
 use Rattle.query_core.specs.Program.{after, ask_of}
 use Rattle.query_core.specs.Settings.{QuerySetting}
-use Rattle.query_core.specs.Traces.{IsBetween, first_serving, replica_of, slot_rows}
+use Rattle.query_core.specs.Traces.{IsBetween, replica_of}
+use Rattle.mon_meaning.specs.ReadableSlots.{slot_rows}
+use Rattle.mon_topo.specs.Serving.{first_serving}
 
 -- ---- answers that are true
 

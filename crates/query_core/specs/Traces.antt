@@ -1,20 +1,19 @@
 -- What a query looked at, against the histories of leaves and ranges that were seen.
-use Rattle.std.specs.Prelude.{◌≡◌, ◌≤◌, ◌<◌, ℕ, ℤ, Bool, true, false, not, List, length, map, filter, take, get_or}
-use Rattle.std.specs.Prelude.{slice_get, Option, Some, Contains, if◌then◌else◌}
+use Rattle.std.specs.Prelude.{◌≡◌, ◌≤◌, ◌<◌, ℕ, ℤ, Bool, true, false, List, length, map, take, get_or}
+use Rattle.std.specs.Prelude.{Some, Contains, if◌then◌else◌}
 use Rattle.std.specs.List.{AllByRecursion, flat_map, list_any, range_with_len}
 use Rattle.mon_hints.specs.HistoryBuckets.{history_buckets}
 use Rattle.mon_value.specs.Histories.{leaf_history, range_history}
 use Rattle.mon_value.specs.declared.histories.Histories.{Histories}
-use Rattle.mon_topo.specs.RangeHistories.{acknowledged_rows, serving}
+use Rattle.mon_topo.specs.RangeHistories.{acknowledged_rows}
 use Rattle.mon_topo.specs.SeenHistories.{AreWithin}
-use Rattle.mon_value.specs.Positions.{range_numbered, same_leaf}
+use Rattle.mon_value.specs.Positions.{range_numbered}
+use Rattle.mon_topo.specs.Serving.{first_serving}
 use Rattle.mon_value.specs.LeafHistories.{IsDownAt, is_opened, replica_rows}
 use Rattle.mon_value.specs.declared.histories.Entry.{Entry}
-use Rattle.mon_value.specs.declared.histories.RangeEntry.{RangeEntry}
 use Rattle.mon_value.specs.declared.positions.FoundDown.{FoundDown}
 use Rattle.mon_value.specs.declared.positions.Leaf.{Leaf}
 use Rattle.mon_value.specs.declared.positions.Range.{Range}
-use Rattle.mon_value.specs.declared.positions.RangeSlot.{RangeSlot}
 use Rattle.mon_value.specs.declared.positions.SlotLeaf.{SlotLeaf}
 use Rattle.mon_value.specs.declared.rows.Row.{Row}
 use Rattle.mon_value.specs.declared.rows.SeriesKey.{SeriesKey}
@@ -23,19 +22,13 @@ use Rattle.mql_types.specs.Nodes.{TypedTree}
 use Rattle.mql_types.specs.Pieces.{sent_amount}
 use Rattle.mql_types.specs.Plans.{fetches}
 use Rattle.mql_types.specs.declared.plans.Plan.{Plan}
+use Rattle.mon_meaning.specs.ReadableSlots.{slot_rows}
 use Rattle.query_core.specs.declared.answers.Resolved.{Resolved}
 use Rattle.query_core.specs.declared.answers.Trace.{Trace}
-use Rattle.query_core.specs.Openings.{is_plan_met}
+use Rattle.plan_split.specs.Meeting.{is_plan_met}
 use Rattle.query_core.specs.Rounds.{slots_on}
 
 -- ---- slots
-
-abbrev pub is_avoided : List Leaf → SlotLeaf → Bool
-is_avoided avoided replica = list_any (same_leaf replica.leaf) avoided
-
--- the first replica that serves and is not on one of these leaves
-abbrev pub first_serving : List Leaf → List RangeEntry → Option SlotLeaf
-first_serving avoided history = slice_get (filter (λ replica. not (is_avoided avoided replica)) (serving history)) 0
 
 abbrev pub replica_of : Resolved → SlotLeaf
 replica_of one = record { slot = one.slot; leaf = one.leaf }
@@ -111,11 +104,7 @@ resolved_rows seen trace one = replica_rows one.range one.slot (looked_at seen t
 abbrev pub source_of : Histories → Trace → List Row
 source_of seen trace = flat_map (resolved_rows seen trace) trace.resolved
 
--- the rows of some slots of a leaf
-abbrev pub slot_rows : List Entry → List RangeSlot → List Row
-slot_rows history slots = flat_map (λ (one : RangeSlot). replica_rows one.range one.slot history) slots
-
--- those of them that lie on a leaf
+-- the rows of the slots that resolved to a leaf
 abbrev pub rows_on : Histories → Trace → Leaf → List Row
 rows_on seen trace leaf = slot_rows (looked_at seen trace leaf) (slots_on leaf trace.resolved)
 

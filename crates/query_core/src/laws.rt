@@ -19,7 +19,7 @@ ghost use Rattle.query_core.specs.Machine.{Query, new_query, slots_at};
 ghost use Rattle.query_core.specs.Mixtures.{MayBeTold, typed_of};
 ghost use Rattle.query_core.specs.Orders.{ComeInOrder, ComeWholeInOrder, events_told, words_loaded};
 ghost use Rattle.query_core.specs.Program.{ask_of};
-ghost use Rattle.query_core.specs.ReadableSlots.{CanBeRead};
+ghost use Rattle.mon_meaning.specs.ReadableSlots.{CanBeRead};
 ghost use Rattle.query_core.specs.SentTold.{sent_told};
 ghost use Rattle.query_core.specs.Sessions.{Event, IsLicensed, IsTrueAnswer, query_after};
 ghost use Rattle.mon_topo.specs.Views.{IsSound, IsViewWithin, View};

@@ -5,12 +5,12 @@ mod answers;
 mod areas;
 mod asks;
 mod courses;
+mod flags;
 mod laws;
 mod loadings;
 mod looks;
 mod machine;
 mod mixing;
-mod openings;
 mod rounds;
 mod segments;
 mod settings;
@@ -24,4 +24,3 @@ pub use laws::{
     traces_count_what_was_sent,
 };
 pub use machine::QueryMachine;
-pub use openings::is_let_in;

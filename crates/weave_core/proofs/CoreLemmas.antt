@@ -18,11 +18,12 @@ use Rattle.mon_value.specs.declared.positions.RangeSlot.{RangeSlot}
 use Rattle.mon_value.specs.declared.positions.SlotLeaf.{SlotLeaf}
 use Rattle.query_core.specs.Machine.{Query, slots_at}
 use Rattle.query_core.specs.Mixtures.{typed_of}
-use Rattle.query_core.specs.Openings.{is_plan_met}
+use Rattle.plan_split.specs.Meeting.{is_plan_met}
 use Rattle.query_core.specs.Sessions as session
 use Rattle.query_core.specs.Sessions.{IsFoundSo, IsLicensed, IsLicensedEvent, IsTrueAnswer, query_after, view_after}
 use Rattle.query_core.specs.Settings.{QuerySetting}
-use Rattle.query_core.specs.Traces.{first_serving, slot_rows}
+use Rattle.mon_meaning.specs.ReadableSlots.{slot_rows}
+use Rattle.mon_topo.specs.Serving.{first_serving}
 use Rattle.query_core.specs.declared.asks.Ask.{Ask}
 use Rattle.query_core.specs.declared.asks.Ask.TheVariants as ask
 use Rattle.query_core.specs.declared.asks.Told.{Told}

@@ -28,7 +28,7 @@ use Rattle.weave_core.specs.Agreements.{AreShared, IsServed, first_view}
 use Rattle.weave_core.specs.Core.{CanCome, Happens, Reader}
 use Rattle.weave_core.specs.Declarations.{Declares, QueryBegins, WriteBegins, new_reader, with_reader}
 use Rattle.weave_core.specs.EndTexts.{no_zone_text}
-use Rattle.weave_core.specs.FirstHistories.{first_histories}
+use Rattle.mon_topo.specs.FirstHistories.{first_histories}
 use Rattle.weave_core.specs.Holders.{AreHolders, HoldsLeaf, HoldsRange}
 use Rattle.weave_core.specs.LawfulLines.{IsLawfulCall}
 use Rattle.weave_core.specs.Licensed.{IsReader}

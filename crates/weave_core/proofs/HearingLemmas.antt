@@ -27,7 +27,7 @@ use Rattle.weave_core.specs.Agreements.{AreShared}
 use Rattle.weave_core.specs.Core.{CanCome, Happens, Hears, Reader, begun_with}
 use Rattle.weave_core.specs.Courses.{is_over}
 use Rattle.weave_core.specs.Declarations.{hearing, hearing_in}
-use Rattle.weave_core.specs.FirstHistories.{first_histories}
+use Rattle.mon_topo.specs.FirstHistories.{first_histories}
 use Rattle.weave_core.specs.Holders.{HoldsLeaf, HoldsRange}
 use Rattle.weave_core.specs.Licensed.{IsWoven}
 use Rattle.weave_core.specs.NewActors.{hearing_of}

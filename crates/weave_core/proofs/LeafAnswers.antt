@@ -17,11 +17,10 @@ use Rattle.mql_types.specs.Nodes.{typed_tree}
 use Rattle.mql_types.specs.declared.plans.Plan.{Plan}
 use Rattle.query_core.specs.Machine.{Query, slots_at, slots_of, slots_visited}
 use Rattle.query_core.specs.Mixtures.{typed_of}
-use Rattle.query_core.specs.Openings.{is_plan_met}
+use Rattle.plan_split.specs.Meeting.{is_plan_met}
 use Rattle.query_core.specs.Program.{ask_of}
-use Rattle.query_core.specs.ReadableSlots.{CanBeRead}
+use Rattle.mon_meaning.specs.ReadableSlots.{CanBeRead, slot_rows}
 use Rattle.query_core.specs.Settings.{QuerySetting}
-use Rattle.query_core.specs.Traces.{slot_rows}
 use Rattle.query_core.specs.declared.asks.Ask.{Ask}
 use Rattle.query_core.specs.declared.asks.Ask.TheVariants as ask
 use Rattle.query_core.specs.declared.asks.Told.{Told}

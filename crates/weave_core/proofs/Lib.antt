@@ -6,7 +6,6 @@ pub mod CoreLemmas
 pub mod CourseLemmas
 pub mod DeclareLemmas
 pub mod EndTextLemmas
-pub mod FirstLemmas
 pub mod HearingLemmas
 pub mod HolderLemmas
 pub mod LeafAnswers
@@ -37,7 +36,6 @@ pub mod ReaderAnswers
 pub mod ReaderLemmas
 pub mod SeatLemmas
 pub mod SeenLemmas
-pub mod ServingLemmas
 pub mod StepLemmas
 pub mod TurnLemmas
 pub mod WeaveLemmas

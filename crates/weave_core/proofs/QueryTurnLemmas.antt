@@ -20,7 +20,7 @@ use Rattle.query_core.specs.declared.stages.Stage.TheVariants as at
 use Rattle.weave_core.proofs.CoreLemmas.{goes}
 use Rattle.weave_core.specs.ActorAgreements.{IsReaderSo}
 use Rattle.weave_core.specs.Core.{Core, Reader, Tells, asked_now, came, query_now, told_on, view_told}
-use Rattle.weave_core.specs.FirstHistories.{first_histories}
+use Rattle.mon_topo.specs.FirstHistories.{first_histories}
 use Rattle.weave_core.specs.QueryTurns.{AnswersSo, IsAnswered, IsAsking, IsToldLast, IsToldOn, QueriesSo, QueryEnded}
 use Rattle.weave_core.specs.QueryTurns.{QueryWent, TurnsBy}
 use Rattle.mon_topo.specs.Sights.{sight_of}

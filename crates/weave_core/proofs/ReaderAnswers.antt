@@ -12,7 +12,7 @@ use Rattle.query_core.specs.Askings.{IsAskedOf}
 use Rattle.query_core.specs.Machine.{Query, new_query, slots_at}
 use Rattle.query_core.specs.Mixtures.{MayBeTold, typed_of}
 use Rattle.query_core.specs.Program.{ask_of}
-use Rattle.query_core.specs.ReadableSlots.{CanBeRead}
+use Rattle.mon_meaning.specs.ReadableSlots.{CanBeRead}
 use Rattle.query_core.specs.Sessions as session
 use Rattle.query_core.specs.Traces.{IsBetween}
 use Rattle.query_core.specs.Sessions.{IsLicensed, IsTrueAnswer, query_after, view_after}

@@ -15,9 +15,9 @@ use Rattle.mon_value.specs.declared.rows.Row.{Row}
 use Rattle.mql_types.specs.Nodes.{TypedTree, typed_tree}
 use Rattle.mql_types.specs.declared.plans.Plan.{Plan}
 use Rattle.query_core.specs.Machine.{slots_of}
-use Rattle.query_core.specs.Openings.{is_plan_met}
-use Rattle.query_core.specs.ReadableSlots.{CanBeRead}
-use Rattle.query_core.specs.Traces.{first_serving, slot_rows}
+use Rattle.plan_split.specs.Meeting.{is_plan_met}
+use Rattle.mon_meaning.specs.ReadableSlots.{CanBeRead, slot_rows}
+use Rattle.mon_topo.specs.Serving.{first_serving}
 use Rattle.query_core.specs.declared.answers.Resolved.{Resolved}
 use Rattle.query_core.specs.declared.asks.Seen.{Seen}
 use Rattle.query_core.specs.declared.asks.Told.{Told}

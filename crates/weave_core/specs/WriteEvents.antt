@@ -1,9 +1,7 @@
 -- What an event of a write does to the seat that it needs, to the write, and to how far this has seen.
 use Rattle.std.specs.Prelude.{ℕ, ◌≡◌, Bool, true, false, is_some, List, [], ◌∷◌, ◌++◌, length, Option, Some, None}
 use Rattle.std.specs.Prelude.{set, if◌then◌else◌}
-use Rattle.std.specs.List.Sorted.{IsStrictlyIncreasing}
-use Rattle.leaf_store.specs.LeafBuckets.{is_unraised}
-use Rattle.mon_hints.specs.Listings.{is_among}
+use Rattle.leaf_store.specs.LeafBuckets.{AreToRaise}
 use Rattle.mon_value.specs.LeafHistories.{is_down}
 use Rattle.mon_value.specs.declared.histories.Entry.{Entry}
 use Rattle.mon_value.specs.declared.histories.Entry.TheVariants as entry
@@ -13,8 +11,6 @@ use Rattle.mon_value.specs.declared.positions.Leaf.{Leaf}
 use Rattle.mon_value.specs.declared.positions.Range.{Range}
 use Rattle.mon_value.specs.declared.positions.Slot.{Slot}
 use Rattle.mon_value.specs.declared.rows.Row.{Row}
-use Rattle.mon_value.specs.declared.rows.SeriesKey.{SeriesKey}
-use Rattle.leaf_store.specs.LeafStates.{LeafView}
 use Rattle.weave_core.specs.HintWords.{with_child_bit}
 use Rattle.weave_core.specs.Meetings.{met_at_leaf, met_at_range}
 use Rattle.weave_core.specs.RangeAnswers.{lock_answer}
@@ -114,11 +110,6 @@ abbrev pub ReservesIf : Leaf → LeafSeat → LeafSeat → Writing → Writing �
 ReservesIf leaf old new before after sight sight_after true = Reserves leaf old new before after sight sight_after
 ReservesIf leaf old new before after sight sight_after false = IsHeldUp old.holder old new before after sight
     sight_after
-
--- the buckets of a series that no series of a leaf has, rising
-pub record AreToRaise (state : LeafView) (key : SeriesKey) (buckets : List ℕ) : Type 0 where
-  pub rising : IsStrictlyIncreasing buckets
-  pub same : (bucket : ℕ) → is_among bucket buckets ≡ is_unraised state.buckets state.schemas state.history key bucket
 
 -- it takes the leaf's lock where the leaf is up
 pub record Enters (leaf : Leaf) (old new : LeafSeat) (before after : Writing) (sight sight_after : Sight) : Type 0 where

@@ -1,6 +1,6 @@
 // What is kept of the core tells: of sights, bits and locks, and of what a store begins with.
 ghost use Rattle.std.specs.Prelude.{◌≡◌, ◌<◌, [], ℕ, List, length};
-ghost use Rattle.weave_core.specs.FirstHistories.{first_histories};
+ghost use Rattle.mon_topo.specs.FirstHistories.{first_histories};
 ghost use Rattle.weave_core.specs.HintWords.{HasWord, HintTable, RaisesOne};
 ghost use Rattle.mon_hints.specs.declared.places.Place.{Place as WordPlace};
 ghost use Rattle.mon_topo.specs.Sights.{sight_of};

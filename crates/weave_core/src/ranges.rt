@@ -5,7 +5,7 @@ ghost use Rattle.std.specs.List.{list_any};
 ghost use Rattle.mon_topo.specs.RangeHistories.{acknowledged_rows, is_missed};
 ghost use Rattle.mon_value.specs.Positions.{same_leaf};
 ghost use Rattle.mon_value.specs.Sources.{last_end, points_of};
-ghost use Rattle.query_core.specs.Traces.{first_serving, is_avoided};
+ghost use Rattle.mon_topo.specs.Serving.{first_serving, is_avoided};
 ghost use Rattle.weave_core.specs.Meetings.{met_at_range};
 ghost use Rattle.weave_core.specs.RangeAnswers.{lock_answer, serving_or_full};
 ghost use Rattle.mon_topo.specs.Sights.{AreAlike, range_sight};

@@ -9,12 +9,13 @@ ghost use Rattle.mon_topo.specs.Zones.{first_leaf, leaf_zones, leaves_in, ranges
 ghost use Rattle.mon_value.specs.LeafHistories.{IsWellFormed};
 ghost use Rattle.mon_config.specs.Configs.{IsLimited};
 ghost use Rattle.weave_core.specs.Agreements.{AreShared, IsServed};
-ghost use Rattle.weave_core.specs.FirstHistories.{first_leaf_history, first_range_history};
+ghost use Rattle.mon_topo.specs.FirstHistories.{first_leaf_history, first_range_history, first_range_histories};
+ghost use Rattle.mon_topo.specs.FirstHistories.{opened_before};
 ghost use Rattle.weave_core.specs.FirstSeats.{AreFirstSeats};
 ghost use Rattle.weave_core.specs.HintWords.{no_words};
 ghost use Rattle.weave_core.specs.Openings as spec;
 ghost use Rattle.leaf_store.specs.LeafLists.{IsChanged};
-ghost use Rattle.weave_core.specs.Openings.{AreOpenedSo, first_range_histories, first_world, opened_before};
+ghost use Rattle.weave_core.specs.Openings.{AreOpenedSo, first_world};
 ghost use Rattle.weave_core.specs.Openings.{sight_of_states, with_opening};
 ghost use Rattle.mon_topo.specs.Sights.{range_sight};
 
