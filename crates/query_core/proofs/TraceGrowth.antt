@@ -26,8 +26,10 @@ use Rattle.query_core.specs.Findings.{IsFoundBetween}
 use Rattle.plan_split.specs.Meeting.{is_plan_met}
 use Rattle.query_core.specs.Rounds.{slots_on}
 use Rattle.query_core.specs.Traces.{IsFirstServingBetween, IsFreshSince, IsReadRightly, IsTraceBetween, Lengths, cut_of}
-use Rattle.query_core.specs.Traces.{first_serving, found_leaves, is_wanted, looked_at, resolved_rows, rows_on}
-use Rattle.query_core.specs.Traces.{AreWider, IsOfRanges, sent_if, slot_rows, source_of, was_read}
+use Rattle.query_core.specs.Traces.{AreWider, IsOfRanges, found_leaves, is_wanted, looked_at, resolved_rows, rows_on}
+use Rattle.query_core.specs.Traces.{sent_if, source_of, was_read}
+use Rattle.mon_meaning.specs.ReadableSlots.{slot_rows}
+use Rattle.mon_topo.specs.Serving.{first_serving}
 use Rattle.query_core.specs.declared.answers.Resolved.{Resolved}
 use Rattle.query_core.specs.declared.answers.Trace.{Trace}
 
