@@ -6,6 +6,7 @@ pub mod HeldHistories
 pub mod Indexed
 pub mod Kept
 pub mod Locations
+pub mod NameTexts
 pub mod Places
 pub mod RangeHistories
 pub mod Replicas

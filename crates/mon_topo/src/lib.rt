@@ -9,6 +9,7 @@ mod lengths;
 mod limits;
 mod lists;
 mod locations;
+mod name_texts;
 mod names;
 mod naming;
 mod places;
@@ -28,6 +29,7 @@ pub use limits::{
 };
 pub use locations::location_of;
 pub use mon_value::{Leaf, LeafCounts, Leaves, Range, Slot, Zone};
+pub use name_texts::down_text;
 pub use sight_laws::{sights_grow, sights_join};
 pub use sights::{RangeSight, Sight};
 pub use topology::Topology;

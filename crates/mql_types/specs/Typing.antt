@@ -154,10 +154,12 @@ union_info held at left right =
     info (Some at) (union_columns held (columns_of left) (columns_of right))
     (higher_level (level_of left) (level_of right))
 
+-- the columns of two tables that are brought together, and the level at which they meet
 abbrev pub branch_info : SchemaLists → How → ℕ → NodeTree → NodeTree → NodeInfo
 branch_info held how.Join at left right = join_info held at left right
 branch_info held how.Union at left right = union_info held at left right
 
+-- two tables brought together, of which the columns and the level are known
 abbrev pub joint_node : How → NodeInfo → NodeTree → NodeTree → NodeTree
 joint_node how.Join info left right = node.Join info left right
 joint_node how.Union info left right = node.Union info left right

@@ -339,8 +339,8 @@ fn push_known(
 ) -> Result<(), AllocError>
     ensures made { OnOk result (made.new
         ≡ made.old ++ option_to_list (spec.aggregate_over columns.now aggregate.now.fold (Some source.now))) }
-    ensures given { OnOk result (given.new ≡ given.old ++ option_to_list
-        (spec.aggregate_column columns.now (spec.aggregate_name aggregate.now).text aggregate.now.fold (Some source.now))) }
+    ensures given { OnOk result (given.new ≡ given.old ++ option_to_list (spec.aggregate_column columns.now
+        (spec.aggregate_name aggregate.now).text aggregate.now.fold (Some source.now))) }
     ensures faults { OnOk result (found.new.first
         ≡ first_with found.old.first (spec.folded_faults columns.now aggregate.now.fold (Some source.now))) }
 {

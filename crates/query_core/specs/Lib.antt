@@ -3,6 +3,7 @@ pub mod Areas
 pub mod AskedPlaces
 pub mod Askings
 pub mod Courses
+pub mod FaultTexts
 pub mod Findings
 pub mod Loadings
 pub mod Looks

@@ -5,7 +5,6 @@ pub mod AtWorkLemmas
 pub mod CoreLemmas
 pub mod CourseLemmas
 pub mod DeclareLemmas
-pub mod EndTextLemmas
 pub mod HearingLemmas
 pub mod HolderLemmas
 pub mod LeafAnswers

@@ -1,7 +1,7 @@
 use Rattle.std.proofs.Common.{rules, ◌≡◌, ◌∙◌, ℕ, ◌-◌, ◌<◌, ◌≤◌, List, length, IfOk, string_bytes, sym, subst, arith}
 use Rattle.mon_topo.specs.Zones.{first_range, range_name, zone_at}
-use Rattle.weave_core.proofs.EndTextLemmas.{name_in_zone, no_name}
-use Rattle.weave_core.proofs.texts.range_text.Goals as goal
+use Rattle.mon_topo.proofs.NameTextLemmas.{name_in_zone, no_name}
+use Rattle.mon_topo.proofs.name_texts.range_text.Goals as goal
 
 pub returns-then-range-first : goal.returns-then-range-first
 returns-then-range-first c =
