@@ -34,7 +34,7 @@ use Rattle.weave_core.proofs.SeatLemmas.{parts_alike}
 use Rattle.weave_core.specs.Agreements.{IsLeafSo}
 use Rattle.weave_core.specs.Core.{Core, IsLookedAt, IsTold, Reader, query_now}
 use Rattle.weave_core.specs.Holders.{HoldsLeaf}
-use Rattle.weave_core.specs.Meetings.{met_at_leaf}
+use Rattle.weave_core.specs.Meetings.{sight_at_leaf}
 use Rattle.weave_core.specs.QueryLooks.{IsHeldFrom, IsSeatedForLeaf, Looks, LooksAt, TellsSo}
 use Rattle.weave_core.specs.QueryTurns.{AnswersSo, IsAnswered, IsAsking, QueryWaits}
 use Rattle.mon_topo.specs.Sights.{AreAlike, sight_of}
@@ -209,7 +209,7 @@ module _ (config : Config) (core : Core (store_of config)) (k : ℕ) (store : St
       leaf_looked answer looks =
           let seen_then : now ≡ sight_of (joined_view reader.view (world.leaves leaf.0)).seen =
           looks.seen
-          ∙ (λ i. met_at_leaf leaf (so.history i) (asking.reader.seen i) (so.sight i))
+          ∙ (λ i. sight_at_leaf leaf (so.history i) (asking.reader.seen i) (so.sight i))
           ∙ leaf_met (store_of config) world reader.view leaf asking.woven.world (asking.woven.readers k).part in
           answered config core k store querying sight asking (ask.Visit leaf) e new now answer (record {
             told = visit_told (sym so.holder ∙ looks.free) answer (tells_there answer looks.told_so);

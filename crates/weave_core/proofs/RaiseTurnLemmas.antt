@@ -22,7 +22,7 @@ use Rattle.weave_core.proofs.WordLemmas.{one_raised}
 use Rattle.weave_core.specs.Agreements.{AreWords, IsLeafSo, place_of_leaf}
 use Rattle.weave_core.specs.HintWords.{HasWord, HintTable, RaisesOne, with_child_bit, hint_word_at}
 use Rattle.weave_core.specs.Holders.{leaf_inside}
-use Rattle.weave_core.specs.Meetings.{met_at_leaf}
+use Rattle.weave_core.specs.Meetings.{sight_at_leaf}
 use Rattle.mon_topo.specs.Sights.{sight_of}
 use Rattle.weave_core.specs.States.{store_of}
 use Rattle.weave_core.specs.WriteEvents.{RaisesBit, RaisesWord}
@@ -238,7 +238,7 @@ module _ (config : Config) (world : World) (i : ℕ) (store : Store) (writing : 
     seen_is : now ≡ sight_of (change met).seen
     seen_is =
         raises.seen
-        ∙ (λ k. met_at_leaf mark.leaf (so.history k) (work.writer.seen k) (so.sight k))
+        ∙ (λ k. sight_at_leaf mark.leaf (so.history k) (work.writer.seen k) (so.sight k))
         ∙ leaf_met setting world view mark.leaf work.kept (own config world i store writing sight work).part
         ∙ ap sight_of (sym (seen_same met))
 

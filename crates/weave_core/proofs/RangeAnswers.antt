@@ -17,7 +17,7 @@ use Rattle.weave_core.proofs.SeatLemmas.{parts_alike}
 use Rattle.weave_core.specs.Agreements.{IsRangeSo}
 use Rattle.weave_core.specs.Core.{Core, IsTold, Reader, query_now}
 use Rattle.weave_core.specs.Holders.{HoldsRange}
-use Rattle.weave_core.specs.Meetings.{met_at_range}
+use Rattle.weave_core.specs.Meetings.{sight_at_range}
 use Rattle.weave_core.specs.QueryLooks.{FindsReplica, FindsAt, IsHeldFrom, IsSeatedForRange, slot_told}
 use Rattle.weave_core.specs.QueryTurns.{AnswersSo, IsAnswered, IsAsking, QueryWaits}
 use Rattle.mon_topo.specs.Sights.{AreAlike, range_sight, sight_of}
@@ -89,7 +89,7 @@ module _ (config : Config) (core : Core (store_of config)) (k : ℕ) (store : St
           let so = range_so seat was in
           let seen_then : now ≡ sight_of (joined_view reader.view (world.ranges range.0)).seen =
           finds.seen
-          ∙ (λ i. met_at_range range (so.history i) (asking.reader.seen i) (so.sight i))
+          ∙ (λ i. sight_at_range range (so.history i) (asking.reader.seen i) (so.sight i))
           ∙ range_met (store_of config) world reader.view range asking.woven.world (asking.woven.readers k).part in
           let avoided : querying.machine.avoided ≡ query.avoided = ap (λ (one : Query). one.avoided)
           (sym asking.reader.now) in

@@ -22,7 +22,7 @@ use Rattle.query_core.specs.declared.answers.Resolved.{Resolved}
 use Rattle.query_core.specs.declared.asks.Seen.{Seen}
 use Rattle.query_core.specs.declared.asks.Told.{Told}
 use Rattle.query_core.specs.declared.asks.Told.TheVariants as told
-use Rattle.weave_core.specs.Meetings.{met_at_leaf, met_at_range}
+use Rattle.weave_core.specs.Meetings.{sight_at_leaf, sight_at_range}
 use Rattle.mon_topo.specs.Sights.{AreAlike}
 use Rattle.weave_core.specs.WriteEvents.{ChangesLeaf, ChangesRange, StaysThere}
 use Rattle.weave_core.specs.declared.leaves.LeafSeat.{LeafSeat}
@@ -69,7 +69,7 @@ pub record FindsReplica (range : Range) (avoided : List Leaf) (old new : RangeSe
   pub state : new.state ≡ old.state
   pub holder : new.holder ≡ old.holder
   pub sight_there : new.sight ≡ sight_after
-  pub seen : sight_after ≡ met_at_range range old.state sight old.sight
+  pub seen : sight_after ≡ sight_at_range range old.state sight old.sight
 
 abbrev pub FindsIf : Range → List Leaf → RangeSeat → RangeSeat → Sight → Sight → Option Told → Type 0
 FindsIf range avoided old new sight sight_after (Some answer)
@@ -117,7 +117,7 @@ module _ (plan : Plan) (moment : ℤ) (limit : ℕ) (slots : List RangeSlot) (le
     pub stays : StaysThere old new sight_after
     pub history : new.state.history ≡ old.state.history
     pub holder : new.holder ≡ old.holder
-    pub seen : sight_after ≡ met_at_leaf leaf old.state.history sight old.sight
+    pub seen : sight_after ≡ sight_at_leaf leaf old.state.history sight old.sight
 
   abbrev pub LooksIf : LeafSeat → LeafSeat → Sight → Sight → Option Told → Type 0
   LooksIf old new sight sight_after (Some answer) = Looks old new sight sight_after answer

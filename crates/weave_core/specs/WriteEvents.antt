@@ -12,7 +12,7 @@ use Rattle.mon_value.specs.declared.positions.Range.{Range}
 use Rattle.mon_value.specs.declared.positions.Slot.{Slot}
 use Rattle.mon_value.specs.declared.rows.Row.{Row}
 use Rattle.weave_core.specs.HintWords.{with_child_bit}
-use Rattle.weave_core.specs.Meetings.{met_at_leaf, met_at_range}
+use Rattle.weave_core.specs.Meetings.{sight_at_leaf, sight_at_range}
 use Rattle.weave_core.specs.RangeAnswers.{lock_answer}
 use Rattle.weave_core.specs.declared.leaves.LeafSeat.{LeafSeat}
 use Rattle.weave_core.specs.declared.ranges.RangeSeat.{RangeSeat}
@@ -53,7 +53,7 @@ pub record Locks (limit : ℕ) (old new : RangeSeat) (before after : Writing) (s
   pub state : new.state ≡ old.state
   pub holder : new.holder ≡ Some before.number
   pub sight_there : new.sight ≡ sight_after
-  pub seen : sight_after ≡ met_at_range before.range old.state sight old.sight
+  pub seen : sight_after ≡ sight_at_range before.range old.state sight old.sight
   pub told_so : IsToldSo (lock_answer limit old.state before.row) before.inside before after
 
 abbrev pub LocksIf : ℕ → RangeSeat → RangeSeat → Writing → Writing → Sight → Sight → Bool → Type 0
@@ -79,7 +79,7 @@ pub record LetsGo (end : WriteEnd) (number : ℕ) (row : Row) (range : Range) (o
   pub state : new.state ≡ with_end_entry old.state number row end
   pub holder : new.holder ≡ None
   pub sight_there : new.sight ≡ sight_after
-  pub seen : sight_after ≡ met_at_range range new.state sight old.sight
+  pub seen : sight_after ≡ sight_at_range range new.state sight old.sight
 
 -- ---- at a leaf
 
@@ -103,7 +103,7 @@ pub record Reserves (leaf : Leaf) (old new : LeafSeat) (before after : Writing) 
     pub stays : StaysThere old new sight_after
     pub history : new.state.history ≡ old.state.history
     pub holder : new.holder ≡ None
-    pub seen : sight_after ≡ met_at_leaf leaf old.state.history sight old.sight
+    pub seen : sight_after ≡ sight_at_leaf leaf old.state.history sight old.sight
     pub told_so : IsToldSo (up_or_down old.state.history []) before.inside before after
 
 abbrev pub ReservesIf : Leaf → LeafSeat → LeafSeat → Writing → Writing → Sight → Sight → Bool → Type 0
@@ -116,7 +116,7 @@ pub record Enters (leaf : Leaf) (old new : LeafSeat) (before after : Writing) (s
   pub free : old.holder ≡ None
   pub stays : StaysThere old new sight_after
   pub history : new.state.history ≡ old.state.history
-  pub seen : sight_after ≡ met_at_leaf leaf old.state.history sight old.sight
+  pub seen : sight_after ≡ sight_at_leaf leaf old.state.history sight old.sight
   pub buckets : List ℕ
   pub to_raise : is_down old.state.history ≡ false → AreToRaise old.state before.row.key buckets
   pub holder : new.holder ≡ (if is_down old.state.history then None else Some before.number)
@@ -133,7 +133,7 @@ pub record RaisesBit (leaf : Leaf) (old new : LeafSeat) (before after : Writing)
     pub stays : StaysThere old new sight_after
     pub history : new.state.history ≡ old.state.history
     pub holder : new.holder ≡ old.holder
-    pub seen : sight_after ≡ met_at_leaf leaf old.state.history sight old.sight
+    pub seen : sight_after ≡ sight_at_leaf leaf old.state.history sight old.sight
     pub told_so : IsToldSo told.Done before.inside before after
 
 -- its row is put, and it lets go of the leaf
@@ -142,7 +142,7 @@ pub record Puts (slot : Slot) (leaf : Leaf) (old new : LeafSeat) (before after :
   pub stays : StaysThere old new sight_after
   pub history : new.state.history ≡ old.state.history ++ entry.Put before.number before.range slot before.row ∷ []
   pub holder : new.holder ≡ None
-  pub seen : sight_after ≡ met_at_leaf leaf new.state.history sight old.sight
+  pub seen : sight_after ≡ sight_at_leaf leaf new.state.history sight old.sight
   pub told_so : IsToldSo told.Done None before after
 
 -- ---- in a store
