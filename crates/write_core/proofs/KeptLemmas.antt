@@ -32,7 +32,7 @@ use Rattle.write_core.proofs.SwitchLemmas.{aim_kept, begin_kept, learn_kept, res
 use Rattle.write_core.proofs.ViewLemmas.{joined_sound, joined_within, within_itself}
 use Rattle.write_core.proofs.KeepsLemmas.{part_moves}
 use Rattle.write_core.proofs.StepLemmas.{IsStep, recovery_of, writer_of}
-use Rattle.write_core.proofs.CopyLemmas.{recovery_kept}
+use Rattle.write_core.proofs.CopyEnds.{recovery_kept}
 
 module _ (setting : Setting) (world : World) (i : ℕ) (who : Writer) (is : world.actors i ≡ Writes who)
     (kept : IsKept setting world) where

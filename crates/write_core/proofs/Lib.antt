@@ -2,7 +2,8 @@ pub mod AckLemmas
 pub mod BucketLemmas
 pub mod ChangeLemmas
 mod CopyAnswers
-pub mod CopyLemmas
+pub mod CopyAsking
+pub mod CopyEnds
 pub mod CopyPlaces
 pub mod CourseLemmas
 pub mod DecidedLemmas
