@@ -18,6 +18,7 @@ mod ReadLeaves
 mod ResolvedZones
 mod RightAnswers
 mod RoundLemmas
+pub mod SeenLemmas
 mod SeenSpans
 mod SegmentFacts
 mod SentRows

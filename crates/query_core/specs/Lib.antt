@@ -12,6 +12,7 @@ pub mod Mixtures
 pub mod Orders
 pub mod Program
 pub mod Rounds
+pub mod SeenSights
 pub mod SentTold
 pub mod Sessions
 pub mod Settings

@@ -15,6 +15,7 @@ mod mixing;
 mod rounds;
 mod segments;
 mod settings;
+mod sights;
 mod stages;
 mod visits;
 

@@ -33,7 +33,6 @@ pub mod ReachedLemmas
 pub mod ReaderAnswers
 pub mod ReaderLemmas
 pub mod SeatLemmas
-pub mod SeenLemmas
 pub mod StepLemmas
 pub mod TurnLemmas
 pub mod WeaveLemmas

@@ -5,7 +5,6 @@ use Rattle.leaf_store.specs.LeafBuckets.{key_buckets}
 use Rattle.leaf_store.specs.LeafStates.{LeafView}
 use Rattle.mon_hints.specs.HistoryBuckets.{history_buckets}
 use Rattle.mon_meaning.specs.LeafAnswers.{IsLeafPart, IsOverLeaf}
-use Rattle.mon_value.specs.Positions.{range_numbered}
 use Rattle.mon_value.specs.LeafHistories.{is_down}
 use Rattle.mon_value.specs.declared.positions.Leaf.{Leaf}
 use Rattle.mon_value.specs.declared.positions.Range.{Range}
@@ -15,11 +14,10 @@ use Rattle.mon_value.specs.declared.rows.Row.{Row}
 use Rattle.mql_types.specs.Nodes.{TypedTree, typed_tree}
 use Rattle.mql_types.specs.declared.plans.Plan.{Plan}
 use Rattle.query_core.specs.Machine.{slots_of}
+use Rattle.query_core.specs.SeenSights.{seen_of}
 use Rattle.plan_split.specs.Meeting.{is_plan_met}
 use Rattle.mon_meaning.specs.ReadableSlots.{CanBeRead, slot_rows}
 use Rattle.mon_topo.specs.Serving.{first_serving}
-use Rattle.query_core.specs.declared.answers.Resolved.{Resolved}
-use Rattle.query_core.specs.declared.asks.Seen.{Seen}
 use Rattle.query_core.specs.declared.asks.Told.{Told}
 use Rattle.query_core.specs.declared.asks.Told.TheVariants as told
 use Rattle.weave_core.specs.Meetings.{sight_at_leaf, sight_at_range}
@@ -28,7 +26,6 @@ use Rattle.weave_core.specs.WriteEvents.{ChangesLeaf, ChangesRange, StaysThere}
 use Rattle.weave_core.specs.declared.leaves.LeafSeat.{LeafSeat}
 use Rattle.weave_core.specs.declared.queries.Querying.{Querying}
 use Rattle.weave_core.specs.declared.ranges.RangeSeat.{RangeSeat}
-use Rattle.mon_topo.specs.declared.sights.RangeSight.{RangeSight}
 use Rattle.mon_topo.specs.declared.sights.Sight.{Sight}
 use Rattle.weave_core.specs.declared.store.Store.{Store}
 
@@ -37,22 +34,6 @@ pub record IsHeldFrom {Seat : Type 0} (holder : Option ℕ) (old new : Seat) (si
   pub held : is_some holder ≡ true
   pub seat : new ≡ old
   pub seen : sight_after ≡ sight
-
--- ---- words
-
--- the first replica of a range, where one was seen to serve
-abbrev pub with_first_replica : ℕ → Option SlotLeaf → List Resolved → List Resolved
-with_first_replica n None rest = rest
-with_first_replica n (Some replica)
-    rest = record { range = range_numbered n; slot = replica.slot; leaf = replica.leaf } ∷ rest
-
-abbrev pub firsts_from : ℕ → List RangeSight → List Resolved
-firsts_from n [] = []
-firsts_from n (one ∷ ranges) = with_first_replica n one.first (firsts_from (n + 1) ranges)
-
--- what a query is told with a word of how far its caller has seen
-abbrev pub seen_of : Sight → Seen
-seen_of sight = record { cuts = sight.leaves; firsts = firsts_from 0 sight.ranges }
 
 -- ---- at a range
 

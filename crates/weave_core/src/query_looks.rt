@@ -7,8 +7,7 @@ ghost use Rattle.mql_types.specs.Nodes.{typed_tree};
 ghost use Rattle.query_core.specs.Machine.{slots_of};
 ghost use Rattle.mon_meaning.specs.ReadableSlots.{CanBeRead, slot_rows};
 ghost use Rattle.weave_core.specs.QueryLooks as spec;
-ghost use Rattle.weave_core.specs.QueryLooks.{FindsIf, LooksIf, ReadsSo, TellsSo, with_first_replica, firsts_from};
-ghost use Rattle.weave_core.specs.QueryLooks.{seen_of};
+ghost use Rattle.weave_core.specs.QueryLooks.{FindsIf, LooksIf, ReadsSo, TellsSo};
 ghost use Rattle.mon_topo.specs.Sights.{AreAlike};
 
 use crate::leaf_looks::is_met;
@@ -17,9 +16,9 @@ use crate::queries::Querying;
 use crate::ranges::RangeSeat;
 use leaf_eval::eval_leaf;
 use leaf_store::LeafState;
-use mon_topo::{RangeSight, Sight};
-use mon_value::{Leaf, Leaves, ListOf, OutOfMemory, Range, Refusal, SlotLeaf};
-use query_core::{Resolved, Resolveds, Seen, Told};
+use mon_topo::Sight;
+use mon_value::{Leaf, Leaves, OutOfMemory, Range, Refusal, SlotLeaf};
+use query_core::Told;
 use std::alloc::{AllocError, Global};
 
 /// A query finds the first replica of a range that serves on none of these leaves, unless someone holds the range.
@@ -138,48 +137,5 @@ fn read(
         Ok(answer) => Ok(Told::Read(cut, answer)),
         Err(Refusal::Fault(over)) => Ok(Told::Over(over.load, cut)),
         Err(Refusal::OutOfMemory) => Err(AllocError),
-    }
-}
-
-/// What a query is told with a word of how far its caller has seen.
-pub(crate) fn seen_so(alloc: Global, sight: &Sight) -> Result<Seen, OutOfMemory>
-    requires few { length sight.now.ranges < 2 ^ 32 }
-    ensures seen { IfOk result (λ seen. seen ≡ seen_of sight.now) }
-{
-    let firsts = firsts_of(alloc, sight.ranges.as_slice())?;
-    let cuts = ListOf::from_vec(sight.leaves.as_slice().to_vec(alloc)?);
-    Ok(Seen { cuts, firsts })
-}
-
-// The first replica of each range, as it was seen.
-fn firsts_of(alloc: Global, ranges: &[RangeSight]) -> Result<Resolveds, OutOfMemory>
-    requires few { length ranges.now < 2 ^ 32 }
-    ensures firsts { IfOk result (λ firsts. firsts ≡ firsts_from 0 ranges.now) }
-{
-    let mut firsts = Resolveds::new(alloc);
-    for (number, range) in ranges.iter().enumerate() {
-        push_first(&mut firsts, Range(number as u32), range.first)?;
-    }
-    Ok(firsts)
-}
-
-// Adds the first replica of a range, where one was seen to serve.
-fn push_first(
-    firsts: &mut Resolveds,
-    range: Range,
-    first: Option<SlotLeaf>,
-) -> Result<(), OutOfMemory>
-    ensures pushed { OnOk result (firsts.new ≡ firsts.old ++ with_first_replica range.0 first []) }
-{
-    match first {
-        Some(replica) => {
-            firsts.push(Resolved {
-                range,
-                slot: replica.slot,
-                leaf: replica.leaf,
-            })?;
-            Ok(())
-        }
-        None => Ok(()),
     }
 }

@@ -24,7 +24,7 @@ use Rattle.mon_topo.specs.Serving.{first_serving, is_avoided}
 use Rattle.query_core.specs.declared.answers.Resolved.{Resolved}
 use Rattle.mon_topo.proofs.ServingLemmas.{HasFirst, first_serves}
 use Rattle.mon_topo.specs.FirstHistories.{first_histories, first_range_history, openings_from, slot_numbered}
-use Rattle.weave_core.specs.QueryLooks.{with_first_replica, firsts_from, seen_of}
+use Rattle.query_core.specs.SeenSights.{firsts_from, seen_of, with_first_replica}
 use Rattle.mon_topo.specs.Sights.{range_sight, sight_of}
 use Rattle.mon_topo.specs.declared.sights.RangeSight.{RangeSight}
 
