@@ -12,13 +12,13 @@ mod NamedLeaves
 mod NextPlaces
 mod OpeningLemmas
 mod OrderLemmas
-mod OrderSteps
 mod PartClaims
 mod PlaceFacts
 mod ReadLeaves
 mod ResolvedZones
 mod RightAnswers
 mod RoundLemmas
+mod RoundOrders
 mod SeenSpans
 mod SegmentFacts
 mod SentRows
@@ -45,5 +45,6 @@ mod VisitedSlots
 mod WantedRows
 mod WholeTraces
 mod ZoneFacts
+mod ZoneOrders
 mod ZoneParts
 mod ZoneRows
