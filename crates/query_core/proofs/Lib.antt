@@ -11,7 +11,6 @@ mod MixedParts
 mod NamedLeaves
 mod NextPlaces
 mod OrderLemmas
-mod OrderSteps
 mod PartClaims
 mod PlaceFacts
 mod ReadLeaves
@@ -19,6 +18,7 @@ mod ResolvedZones
 mod RightAnswers
 mod RoundLemmas
 pub mod SeenLemmas
+mod RoundOrders
 mod SeenSpans
 mod SegmentFacts
 mod SentRows
@@ -46,5 +46,6 @@ mod VisitedSlots
 mod WantedRows
 mod WholeTraces
 mod ZoneFacts
+mod ZoneOrders
 mod ZoneParts
 mod ZoneRows
