@@ -4,7 +4,7 @@ use Rattle.std.proofs.Common.{IfSome, List, [], ◌∷◌, ◌++◌, append-nil,
 use Rattle.std.proofs.Common.{map, replicate, take, refl, sym, ap, subst, arith, inl, inr, option_map}
 use Rattle.std.specs.List.{flat_map, range_with_len}
 use Rattle.std.proofs.lemmas.Bool.{cases_eq, eq-eqb, ne_eqb}
-use Rattle.std.proofs.lemmas.List.{length-replicate, length-take-le, take_all, take_more}
+use Rattle.std.proofs.lemmas.List.{length-replicate, length-take-le, map-append, take_all, take_more}
 use Rattle.std.proofs.lemmas.List.FromFn.{map-range_with_len_more}
 use Rattle.std.proofs.lemmas.Option.{get_or_from_slice_get, slice_get-get_or, slice_get_within}
 use Rattle.leaf_store.specs.LeafStates.{LeafView, new_leaf, leaf_with_entry, with_promised}
@@ -30,7 +30,8 @@ use Rattle.weave_core.proofs.FirstLemmas.{IsOpen, get_contains, next_range, one_
 use Rattle.weave_core.specs.FirstHistories.{first_leaf_history, first_range_history, opened_here, opened_of, opening}
 use Rattle.weave_core.specs.FirstHistories.{openings_from, slot_numbered}
 use Rattle.leaf_store.specs.LeafLists.{IsChanged}
-use Rattle.weave_core.specs.Openings.{AreOpenedSo, IsOpenedSo, opened_before, opened_up_to, with_opening}
+use Rattle.weave_core.specs.Openings.{AreOpenedSo, IsOpenedSo, opened_before, opened_up_to, replayed, with_opening}
+use Rattle.write_core.specs.Replays.{Replay}
 
 -- ---- one more
 
@@ -298,12 +299,14 @@ replica_there zones range place leaf has at =
     subst (λ (n : ℕ). leaf.0 < n) (length-zones_of (λ (zone : ZoneSpec). zone.leaves) 0 zones) zoned.0
 
 -- ranges one after another
-pub histories_more : (zones : List ZoneSpec) (range : ℕ) (old new : List (List RangeEntry)) (state : List RangeEntry)
-    → old ≡ map (first_range_history zones) (range_with_len 0 range) → state ≡ first_range_history zones range
-    → new ≡ old ++ state ∷ [] → new ≡ map (first_range_history zones) (range_with_len 0 (range + 1))
+pub histories_more : (zones : List ZoneSpec) (range : ℕ) (old new : List Replay) (state : Replay)
+    → replayed old ≡ map (first_range_history zones) (range_with_len 0 range)
+    → state.history ≡ first_range_history zones range
+    → new ≡ old ++ state ∷ [] → replayed new ≡ map (first_range_history zones) (range_with_len 0 (range + 1))
 histories_more zones range old new state before is added =
     let none : 0 + range ≡ range = omega arith in
-    added
+    ap replayed added
+    ∙ map-append (λ (replay : Replay). replay.history) old (state ∷ [])
     ∙ (λ i. before i ++ is i ∷ [])
     ∙ sym (map-range_with_len_more (first_range_history zones) 0 range range none)
 

@@ -17,6 +17,7 @@ use Rattle.mon_topo.specs.Sights.{range_sight}
 use Rattle.weave_core.specs.declared.leaves.LeafSeat.{LeafSeat}
 use Rattle.weave_core.specs.declared.ranges.RangeSeat.{RangeSeat}
 use Rattle.mon_topo.specs.declared.sights.Sight.{Sight}
+use Rattle.write_core.specs.Replays.{Replay}
 use Rattle.write_core.specs.World.{Stands, World}
 
 -- ---- the first replicas
@@ -50,13 +51,16 @@ with_opening range slot state = leaf_with_entry (with_promised state (state.prom
 abbrev pub first_range_histories : List ZoneSpec → List (List RangeEntry)
 first_range_histories zones = map (first_range_history zones) (range_with_len 0 (length (ranges_in zones)))
 
+abbrev pub replayed : List Replay → List (List RangeEntry)
+replayed = map (λ replay. replay.history)
+
 -- ---- seats
 
 -- how far whoever has seen all of these histories has seen them
-abbrev pub sight_of_states : List LeafView → List (List RangeEntry) → Sight
+abbrev pub sight_of_states : List LeafView → List Replay → Sight
 sight_of_states leaves ranges = record {
   leaves = map (λ state. length state.history) leaves;
-  ranges = map range_sight ranges;
+  ranges = map (λ replay. range_sight replay.history) ranges;
 }
 
 -- a leaf that nobody holds
@@ -75,7 +79,7 @@ leaf_seats zones sight n [] = []
 leaf_seats zones sight n (state ∷ states) = leaf_seat zones sight n state ∷ leaf_seats zones sight (n + 1) states
 
 -- a range that nobody holds
-abbrev pub range_seat : Sight → List RangeEntry → RangeSeat
+abbrev pub range_seat : Sight → Replay → RangeSeat
 range_seat sight state = record { state = state; holder = None; sight = sight }
 
 -- ---- the world
