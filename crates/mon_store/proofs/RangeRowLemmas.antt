@@ -13,7 +13,8 @@ use Rattle.mon_value.specs.declared.rows.Point.{Point}
 use Rattle.mon_value.specs.declared.rows.Row.{Row}
 use Rattle.mon_value.specs.declared.rows.SeriesKey.{SeriesKey}
 use Rattle.mon_config.specs.declared.config.Config.{Config}
-use Rattle.mon_store.specs.Writes.{as_fault, fault_behind, is_range, range_fault, range_of_key, write_fault}
+use Rattle.mon_config.specs.KeyRanges.{range_of_key}
+use Rattle.mon_store.specs.Writes.{as_fault, fault_behind, is_range, range_fault, write_fault}
 use Rattle.mon_store.specs.declared.faults.WriteFault.{WriteFault}
 use Rattle.mon_store.specs.Stores.{range_rows}
 use Rattle.write_core.proofs.LockLemmas.{ends_later}

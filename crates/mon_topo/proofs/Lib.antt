@@ -3,6 +3,7 @@ mod FindsLemmas
 mod KeptLemmas
 pub mod LawfulLemmas
 mod LeadingLemmas
+mod NameTextLemmas
 mod NumberedLemmas
 mod PlaceLemmas
 pub mod RangeNameLemmas
@@ -10,11 +11,14 @@ mod RepeatLemmas
 mod ReplicaLemmas
 pub mod SizeLemmas
 mod SpanLemmas
+pub mod FirstLemmas
+pub mod FirstOpenings
 pub mod FrontLemmas
 pub mod HeldLemmas
 pub mod NameMapLemmas
 pub mod PartLemmas
 pub mod PositionLemmas
 pub mod RangeHistoryLemmas
+pub mod ServingLemmas
 pub mod SightLemmas
 pub mod PlacedRangeLemmas

@@ -3,15 +3,14 @@ pub mod Areas
 pub mod AskedPlaces
 pub mod Askings
 pub mod Courses
+pub mod FaultTexts
 pub mod Findings
 pub mod Loadings
 pub mod Looks
 pub mod Machine
 pub mod Mixtures
-pub mod Openings
 pub mod Orders
 pub mod Program
-pub mod ReadableSlots
 pub mod Rounds
 pub mod SentTold
 pub mod Sessions

@@ -5,12 +5,13 @@ mod answers;
 mod areas;
 mod asks;
 mod courses;
+mod fault_texts;
+mod flags;
 mod laws;
 mod loadings;
 mod looks;
 mod machine;
 mod mixing;
-mod openings;
 mod rounds;
 mod segments;
 mod settings;
@@ -19,9 +20,9 @@ mod visits;
 
 pub use answers::{Answer, Cuts, Flags, Resolved, Resolveds, RoundFault, Trace};
 pub use asks::{Ask, Seen, Told};
+pub use fault_texts::fault_text;
 pub use laws::{
     ends_name_what_was_told, sessions_answer_rightly, sessions_keep_the_order, sessions_may_go_on,
-    traces_count_what_was_sent,
+    traces_count_what_was_sent, traces_stay,
 };
 pub use machine::QueryMachine;
-pub use openings::is_let_in;

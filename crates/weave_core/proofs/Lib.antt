@@ -5,8 +5,6 @@ pub mod AtWorkLemmas
 pub mod CoreLemmas
 pub mod CourseLemmas
 pub mod DeclareLemmas
-pub mod EndTextLemmas
-pub mod FirstLemmas
 pub mod HearingLemmas
 pub mod HolderLemmas
 pub mod LeafAnswers
@@ -22,7 +20,6 @@ pub mod OpeningLemmas
 pub mod SeatingLemmas
 pub mod BeginLemmas
 pub mod PlaceLemmas
-pub mod PlanBuckets
 pub mod PutTurnLemmas
 pub mod QueryPlanLemmas
 pub mod QuerySeats
@@ -36,7 +33,6 @@ pub mod ReaderAnswers
 pub mod ReaderLemmas
 pub mod SeatLemmas
 pub mod SeenLemmas
-pub mod ServingLemmas
 pub mod StepLemmas
 pub mod TurnLemmas
 pub mod WeaveLemmas

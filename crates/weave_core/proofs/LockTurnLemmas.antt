@@ -13,7 +13,7 @@ use Rattle.weave_core.proofs.WriteTurnLemmas.{can_come, not_mine_range, step_is,
 use Rattle.weave_core.specs.Writers.{writer_of}
 use Rattle.weave_core.specs.Agreements.{IsRangeSo}
 use Rattle.weave_core.specs.Holders.{HoldsRange, IsHolding, leaf_inside}
-use Rattle.weave_core.specs.Meetings.{met_at_range}
+use Rattle.weave_core.specs.Meetings.{sight_at_range}
 use Rattle.mon_topo.specs.Sights.{sight_of}
 use Rattle.weave_core.specs.States.{holder_for_actor, holder_for_write, store_of}
 use Rattle.weave_core.specs.WriteEvents.{ChangesRange, IsHeldUp, Locks, LocksIf}
@@ -25,9 +25,9 @@ use Rattle.weave_core.specs.declared.writes.Writing.{Writing}
 use Rattle.write_core.proofs.KeepsLemmas.{changed_same}
 use Rattle.write_core.specs.Program.{Locking, Stage, after, ask_of}
 use Rattle.write_core.specs.RangeAnswers.{lock_answer}
-use Rattle.write_core.specs.Replays.{HasRoom}
+use Rattle.write_core.specs.Replays.{HasAckRoom}
 use Rattle.write_core.specs.Steps.{IsToldByRange, same_view}
-use Rattle.write_core.specs.Views.{View, joined_view, of_range}
+use Rattle.mon_topo.specs.Views.{View, joined_view, of_range}
 use Rattle.write_core.specs.World.{Actor, World, Writer, Writes, at_range, view_of, writes_on}
 use Rattle.write_core.specs.declared.asks.WriteAsk.TheVariants as ask
 use Rattle.write_core.specs.declared.asks.WriteTold.{WriteTold}
@@ -68,7 +68,7 @@ module _ (config : Config) (world : World) (i : ℕ) (store : Store) (writing : 
     seen_is : now ≡ sight_of (joined_view view (world.ranges range.0)).seen
     seen_is =
         locks.seen
-        ∙ (λ k. met_at_range range (so.history k) (work.writer.seen k) (so.sight k))
+        ∙ (λ k. sight_at_range range (so.history k) (work.writer.seen k) (so.sight k))
         ∙ range_met setting world view range work.kept (own config world i store writing sight work).part
 
     holder_is : taken.holder ≡ Some i
@@ -115,7 +115,7 @@ module _ (config : Config) (world : World) (i : ℕ) (store : Store) (writing : 
           history = ap (λ (s : RangeSeat). s.state.history) held.seat ∙ so.history;
           holder = ap (λ (s : RangeSeat). s.holder) held.seat ∙ so.holder;
           sight = ap (λ (s : RangeSeat). s.sight) held.seat ∙ so.sight;
-          room = subst (λ (s : RangeSeat). is_some s.holder ≡ true → HasRoom s.state) (sym held.seat) so.room;
+          room = subst (λ (s : RangeSeat). is_some s.holder ≡ true → HasAckRoom s.state) (sym held.seat) so.room;
         }))
         held.writing held.seen
 

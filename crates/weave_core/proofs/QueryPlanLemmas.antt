@@ -23,7 +23,7 @@ use Rattle.plan_split.specs.Promises.{AllHoldWhereMet}
 use Rattle.query_core.specs.Areas.{areas_of}
 use Rattle.query_core.specs.Machine.{Query, new_query}
 use Rattle.query_core.specs.Settings.{QuerySetting}
-use Rattle.weave_core.proofs.PlanBuckets.{plan_below}
+use Rattle.plan_split.proofs.PlanBuckets.{plan_below}
 use Rattle.weave_core.specs.Agreements.{IsServed}
 use Rattle.weave_core.specs.Declarations.{printed_fault, query_typed}
 use Rattle.weave_core.specs.QueryPlans.{IsMachineSo, IsTypeOfQuery}

@@ -19,14 +19,14 @@ use Rattle.weave_core.specs.declared.leaves.LeafSeat.{LeafSeat}
 use Rattle.weave_core.specs.declared.ranges.RangeSeat.{RangeSeat}
 use Rattle.mon_topo.specs.declared.sights.Sight.{Sight}
 use Rattle.weave_core.specs.declared.store.Store.{Store}
-use Rattle.weave_core.specs.declared.words.Place.TheVariants as at
+use Rattle.mon_hints.specs.declared.places.Place.TheVariants as at
 use Rattle.mon_hints.specs.Covers.{Bits}
 use Rattle.mon_hints.specs.Words.{has_bit}
 use Rattle.mon_topo.specs.Settings.{zone_of_leaf}
 use Rattle.weave_core.specs.Agreements.{place_of_leaf}
 use Rattle.write_core.proofs.KeepsLemmas.{changed_other, changed_same}
-use Rattle.write_core.specs.Replays.{HasRoom}
-use Rattle.write_core.specs.Views.{View, of_leaf, of_range}
+use Rattle.write_core.specs.Replays.{HasAckRoom}
+use Rattle.mon_topo.specs.Views.{View, of_leaf, of_range}
 use Rattle.write_core.specs.World.{Actor, IsPart, World, at_leaf, at_range, met_at_leaf, met_at_range}
 
 -- ---- lists with one item changed
@@ -126,7 +126,7 @@ module _ (config : Config) (world : World) (i : ℕ) (view : View) (range : Rang
       → ChangesRange range seat old new → seat.state.history ≡ of_range (change world.truth) range
       → seat.holder ≡ holder
       → seat.sight ≡ sight_of (met_at_range world view range change).seen
-      → (is_some holder ≡ true → HasRoom seat.state)
+      → (is_some holder ≡ true → HasAckRoom seat.state)
       → AreShared config (at_range world i view range change holder f) new
   shared_at_range holder f old new seat shared changes state holds sight room =
       let next : World = at_range world i view range change holder f in

@@ -1,10 +1,9 @@
 -- What the calls of a store for a write's events ask for, and what they come to, by what the events do to the seats.
-use Rattle.std.proofs.Common.{◌≡◌, ℕ, ◌<◌, ◌≤◌, Bool, true, false, List, [], ◌∷◌, ◌++◌, Some, length, get_or}
+use Rattle.std.proofs.Common.{◌≡◌, ℕ, ◌<◌, Bool, true, false, List, [], ◌∷◌, ◌++◌, Some, length, get_or}
 use Rattle.std.proofs.Common.{refl, sym, ap, subst, ◌∙◌}
 use Rattle.std.specs.Prelude.{slice_get}
 use Rattle.std.proofs.lemmas.Option.{same_Some, slice_get_read}
 use Rattle.mon_config.specs.declared.config.Config.{Config}
-use Rattle.mon_value.specs.declared.limits.TheConstants.{MOST_BUCKETS}
 use Rattle.mon_topo.specs.Settings.{zone_of_leaf}
 use Rattle.mon_value.specs.LeafHistories.{IsWellFormed}
 use Rattle.mon_value.specs.declared.histories.Entry.TheVariants as entry
@@ -34,13 +33,13 @@ use Rattle.weave_core.specs.declared.leaves.LeafSeat.{LeafSeat}
 use Rattle.weave_core.specs.declared.ranges.RangeSeat.{RangeSeat}
 use Rattle.mon_topo.specs.declared.sights.Sight.{Sight}
 use Rattle.weave_core.specs.declared.store.Store.{Store}
-use Rattle.weave_core.specs.declared.words.Place.TheVariants as word
+use Rattle.mon_hints.specs.declared.places.Place.TheVariants as word
 use Rattle.weave_core.specs.declared.writes.WriteTurn.{WriteTurn}
 use Rattle.weave_core.specs.declared.writes.Writing.{Writing}
 use Rattle.write_core.specs.Invariant.{IsAt}
 use Rattle.write_core.specs.Program.{Acking, Ended, Entering, Inside, Reserving, Stage, Verdict, after, ask_of}
 use Rattle.write_core.specs.Program.{end_of_verdict, EndsSo}
-use Rattle.write_core.specs.Replays.{HasRoom}
+use Rattle.write_core.specs.Replays.{HasAckRoom}
 use Rattle.write_core.specs.World.{World, view_of}
 use Rattle.write_core.specs.declared.asks.WriteAsk.{WriteAsk}
 use Rattle.write_core.specs.declared.asks.WriteAsk.TheVariants as ask
@@ -178,7 +177,7 @@ module _ (config : Config) (world : World) (i : ℕ) (store : Store) (writing : 
       (end_so at.0 at.1 range stage end ranges stages ends) new other now changes goes
 
   pub room_so : ask_of writing.machine.stage ≡ ask.Ack → (seat : RangeSeat)
-      → slice_get store.ranges.items writing.range.0 ≡ Some seat → HasRoom seat.state
+      → slice_get store.ranges.items writing.range.0 ≡ Some seat → HasAckRoom seat.state
   room_so e seat got =
       let at : (verdict : Verdict) × (writing.machine.stage ≡ Acking verdict) = at_ask ask.Ack e in
       has_room config world i store writing sight work at.0 at.1 seat (range_so seat got)
@@ -334,17 +333,6 @@ module _ (store : Store) (writing : Writing) (sight : Sight) (some : IsInSomeWor
     seat_in_sight seat got = leaf_in_sight some.config some.world some.i store writing sight some.at_work leaf here seat
         (leaf_so some.config some.world some.i store writing sight some.at_work leaf seat got)
 
-    pub seat_some : (seat : LeafSeat) → slice_get store.leaves.items leaf.0 ≡ Some seat → 0 < seat.state.buckets
-    seat_some seat got = subst (λ (n : ℕ). 0 < n)
-        (sym (leaf_so some.config some.world some.i store writing sight some.at_work leaf seat got).buckets)
-        some.at_work.shared.served.limited.some
-
-    pub seat_most : (seat : LeafSeat) → slice_get store.leaves.items leaf.0 ≡ Some seat → seat.state.buckets
-        ≤ MOST_BUCKETS
-    seat_most seat got = subst (λ (n : ℕ). n ≤ MOST_BUCKETS)
-        (sym (leaf_so some.config some.world some.i store writing sight some.at_work leaf seat got).buckets)
-        some.at_work.shared.served.limited.most
-
   pub reserving_leaf : (slot : Slot) (leaf : Leaf) → ask_of writing.machine.stage ≡ ask.Reserve slot leaf
       → leaf.0 < length some.world.truth.seen.leaves
   reserving_leaf slot leaf e = reserve_leaf some.config some.world some.i store writing sight some.at_work slot leaf e
@@ -365,7 +353,7 @@ module _ (store : Store) (writing : Writing) (sight : Sight) (some : IsInSomeWor
       put_follows_so some.config some.world some.i store writing sight some.at_work slot leaf e seat got
 
   pub acking_room : ask_of writing.machine.stage ≡ ask.Ack → (seat : RangeSeat)
-      → slice_get store.ranges.items writing.range.0 ≡ Some seat → HasRoom seat.state
+      → slice_get store.ranges.items writing.range.0 ≡ Some seat → HasAckRoom seat.state
   acking_room = room_so some.config some.world some.i store writing sight some.at_work
 
   pub own_key : writing.key ≡ writing.row.key

@@ -38,4 +38,4 @@ pub use refusals::{limit_refusal, parse_refusal, typing_refusal};
 pub use schedule_laws::schedules_answer_rightly;
 pub use schedules::run_schedule;
 pub use weave::Weave;
-pub use words::{HintWords, Place};
+pub use words::HintWords;

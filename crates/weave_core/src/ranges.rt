@@ -1,7 +1,7 @@
 // What is kept of a range.
 ghost use Rattle.std.specs.Prelude.{◌≡◌, ◌<◌, length};
 ghost use Rattle.mon_topo.specs.Sights.{AreAlike};
-ghost use Rattle.weave_core.specs.Meetings.{met_at_range};
+ghost use Rattle.weave_core.specs.Meetings.{sight_at_range};
 
 use mon_topo::Sight;
 use mon_value::Range;
@@ -21,7 +21,7 @@ impl RangeSeat {
     pub fn meet(&mut self, range: Range, sight: &mut Sight)
         requires alike { AreAlike sight.old self.old.sight }
         requires there { range.0 < length self.old.sight.ranges }
-        ensures sight { sight.new ≡ met_at_range range self.old.state.history sight.old self.old.sight }
+        ensures sight { sight.new ≡ sight_at_range range self.old.state.history sight.old self.old.sight }
         ensures seat { self.new.sight ≡ sight.new }
         ensures state { self.new.state ≡ self.old.state }
         ensures holder { self.new.holder ≡ self.old.holder }

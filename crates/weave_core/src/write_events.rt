@@ -1,15 +1,13 @@
 // The events of a write, each at the seat that it needs.
-ghost use Rattle.std.specs.Prelude.{◌≡◌, ◌≤◌, ◌<◌, ◌++◌, ◌∷◌, [], length, IfOk, OnOk};
-ghost use Rattle.mon_value.specs.declared.limits.TheConstants.{MOST_BUCKETS as MOST};
+ghost use Rattle.std.specs.Prelude.{◌≡◌, ◌<◌, ◌++◌, ◌∷◌, [], length, IfOk, OnOk};
 ghost use Rattle.mon_value.specs.LeafHistories.{IsWellFormed};
 ghost use Rattle.mon_topo.specs.Sights.{AreAlike};
-ghost use Rattle.weave_core.specs.WriteEvents.{AreToRaise, EntersIf, LetsGo, LocksIf, Puts, RaisesBit, ReservesIf};
-ghost use Rattle.write_core.specs.Replays.{HasRoom};
+ghost use Rattle.weave_core.specs.WriteEvents.{EntersIf, LetsGo, LocksIf, Puts, RaisesBit, ReservesIf};
+ghost use Rattle.write_core.specs.Replays.{HasAckRoom};
 
 use crate::leaves::LeafSeat;
 use crate::ranges::RangeSeat;
 use crate::writes::Writing;
-use leaf_store::LeafState;
 use mon_hints::Buckets;
 use mon_topo::Sight;
 use mon_value::{Entry, Leaf, OutOfMemory, Range, Row, SeriesKey, Shared, Slot, TryCopy};
@@ -73,8 +71,6 @@ pub(crate) fn enter(
 ) -> Result<bool, OutOfMemory>
     requires alike { AreAlike sight.old seat.old.sight }
     requires there { leaf.0 < length seat.old.sight.leaves }
-    requires some { 0 < seat.old.state.buckets }
-    requires most { seat.old.state.buckets ≤ MOST }
     ensures enters { IfOk result (EntersIf leaf seat.old seat.new writing.old writing.new sight.old sight.new) }
 {
     if seat.holder.is_some() {
@@ -83,7 +79,7 @@ pub(crate) fn enter(
     if seat.state.down() {
         writing.machine.told(WriteTold::Down(seat.state.length()))?;
     } else {
-        let buckets = unraised(alloc, &seat.state, &writing.row.key)?;
+        let buckets = seat.state.unraised(alloc, &writing.row.key)?;
         writing.machine.told(WriteTold::Up(buckets))?;
         writing.inside = Some(leaf);
         seat.holder = Some(writing.number);
@@ -150,7 +146,7 @@ pub(crate) fn let_go(
 ) -> Result<(), OutOfMemory>
     requires alike { AreAlike sight.old seat.old.sight }
     requires there { range.0 < length seat.old.sight.ranges }
-    requires room { HasRoom seat.old.state }
+    requires room { HasAckRoom seat.old.state }
     requires key { key ≡ row.key }
     ensures lets_go { OnOk result (LetsGo end.now number row range seat.old seat.new sight.old sight.new) }
 {
@@ -161,19 +157,4 @@ pub(crate) fn let_go(
     seat.holder = None;
     seat.meet(range, sight);
     Ok(())
-}
-
-// The buckets of a series that no series of the leaf has, rising.
-fn unraised(alloc: Global, state: &LeafState, key: &SeriesKey) -> Result<Buckets, OutOfMemory>
-    requires some { 0 < state.now.buckets }
-    requires most { state.now.buckets ≤ MOST }
-    ensures unraised { IfOk result (AreToRaise state.now key.now) }
-{
-    let mut buckets = Buckets::new(alloc);
-    let mut from = 0;
-    while let Some(bucket) = state.next_unraised(key, from) {
-        buckets.push(bucket)?;
-        from = bucket + 1;
-    }
-    Ok(buckets)
 }

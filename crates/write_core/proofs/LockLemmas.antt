@@ -45,7 +45,7 @@ not_full limit held none = by (nat_le limit held) refl none
     by true full none = absurd cc
     by false more none = grind (arith, nat_tests)
 
-pub finds_room : (last : Option ℤ) (limit held : ℕ) (point : Point) → range_refusal last limit held point ≡ None
+finds_room : (last : Option ℤ) (limit held : ℕ) (point : Point) → range_refusal last limit held point ≡ None
     → held < limit
 finds_room None limit held point none = not_full limit held none
 finds_room (Some last) limit held point none = by (int_le point.end last) none
@@ -66,7 +66,7 @@ fills limit held count full = by (nat_le limit held) refl full
     by true most full = (cc, grind (arith, nat_tests))
     by false more full = absurd cc
 
-pub is_full : (last : Option ℤ) (limit held count : ℕ) (point : Point)
+is_full : (last : Option ℤ) (limit held count : ℕ) (point : Point)
     → range_refusal last limit held point ≡ Some (refused.RangeFull count) → (count ≡ limit) × (limit ≤ held)
 is_full None limit held count point full = fills limit held count full
 is_full (Some last) limit held count point full = by (int_le point.end last) full

@@ -14,7 +14,5 @@ pub mod Recovering
 pub mod Refusals
 pub mod Replays
 pub mod Rounds
-pub mod Serving
 pub mod Steps
-pub mod Views
 pub mod World

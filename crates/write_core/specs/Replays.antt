@@ -14,7 +14,7 @@ pub record Replay : Type 0 where
   pub series_room : ℕ
 
 -- the next acknowledgement takes no memory
-pub record HasRoom (replay : Replay) : Type 0 where
+pub record HasAckRoom (replay : Replay) : Type 0 where
   pub entry : 0 < replay.entry_room
   pub series : 0 < replay.series_room
 

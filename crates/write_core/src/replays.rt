@@ -9,8 +9,8 @@ ghost use Rattle.mon_value.specs.Positions.{same_leaf};
 ghost use Rattle.mon_value.specs.Sources.{last_end, points_of};
 ghost use Rattle.mon_value.specs.declared.rows.Row as a_row;
 ghost use Rattle.write_core.specs.RangeAnswers.{lock_answer};
-ghost use Rattle.write_core.specs.Replays.{HasRoom, TellsLasts};
-ghost use Rattle.write_core.specs.Serving.{first_serving, is_avoided};
+ghost use Rattle.write_core.specs.Replays.{HasAckRoom, TellsLasts};
+ghost use Rattle.mon_topo.specs.Serving.{first_serving, is_avoided};
 
 use crate::asks::WriteTold;
 use crate::refusals::Refused;
@@ -99,7 +99,7 @@ impl RangeReplay {
     /// Makes room for an acknowledgement, whatever its row.
     pub fn reserve(&mut self) -> Result<(), OutOfMemory>
         ensures history { self.new.history ≡ self.old.history }
-        ensures room { OnOk result (HasRoom self.new) }
+        ensures room { OnOk result (HasAckRoom self.new) }
     {
         self.history.reserve_one()?;
         self.lasts.reserve(1)?;
@@ -109,7 +109,7 @@ impl RangeReplay {
     /// A row is acknowledged, in room that was made before. The replicas that missed it serve no more.
     pub fn acknowledge(&mut self, key: Shared<SeriesKey>, pass: u64, row: Row, ack: Ack)
         requires key { key ≡ row.key }
-        requires room { HasRoom self.old }
+        requires room { HasAckRoom self.old }
         ensures acknowledged { self.new.history ≡ self.old.history ++ RangeEntry.Acked pass row ack ∷ [] }
     {
         note_last(&mut self.lasts, key, row.point.end);
