@@ -21,7 +21,6 @@ pub mod OpeningLemmas
 pub mod SeatingLemmas
 pub mod BeginLemmas
 pub mod PlaceLemmas
-pub mod PlanBuckets
 pub mod PutTurnLemmas
 pub mod QueryPlanLemmas
 pub mod QuerySeats

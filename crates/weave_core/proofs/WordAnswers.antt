@@ -18,7 +18,7 @@ use Rattle.query_core.specs.declared.asks.Ask.TheVariants as ask
 use Rattle.query_core.specs.declared.stages.Stage.{Stage}
 use Rattle.query_core.specs.declared.stages.Stage.TheVariants as at
 use Rattle.weave_core.proofs.PlaceLemmas.{zone_word_there}
-use Rattle.weave_core.proofs.PlanBuckets.{next_below}
+use Rattle.query_texts.proofs.PlanBuckets.{next_below}
 use Rattle.weave_core.specs.Core.{Core}
 use Rattle.weave_core.specs.HintWords.{HasWord, hint_word_at}
 use Rattle.weave_core.specs.QueryLooks.{word_told}

@@ -21,7 +21,6 @@ pub mod QueryPlans
 pub mod QueryTurns
 pub mod RangeAnswers
 pub mod Reached
-pub mod Refusals
 pub mod ScheduleLines
 pub mod ScheduleTurns
 pub mod Schedules

@@ -9,12 +9,12 @@ use Rattle.mon_hints.specs.Excerpts.{pattern_excerpts, value_excerpts}
 use Rattle.mon_hints.specs.Formulas.{All as Always, And, Bucket, FormulaTree, FormulaTrees, NoFormula, Or, Then}
 use Rattle.mon_hints.specs.Formulas.{all_named, formulas, named_buckets}
 use Rattle.mon_hints.specs.Listings.{IsListing, is_among}
-use Rattle.mon_topo.proofs.RangeHistoryLemmas.{all_append}
 use Rattle.mon_value.specs.declared.values.FieldValue.{FieldValue}
 use Rattle.mql_ast.specs.Trees as tree
 use Rattle.mql_ast.specs.Trees.{PredicateTree}
 use Rattle.mql_ast.specs.declared.predicates.Comparison.{Comparison}
 use Rattle.mql_ast.specs.declared.predicates.Comparison.TheVariants as comparison
+use Rattle.mql_types.proofs.DurationLemmas.{all_append}
 use Rattle.mql_types.specs.Loads.{names_keys}
 use Rattle.mql_types.specs.Nodes as node
 use Rattle.mql_types.specs.Nodes.{NodeTree}

@@ -1,0 +1,3 @@
+pub mod PlanBuckets
+mod PlanLemmas
+mod TextTreeLemmas
