@@ -1,7 +1,8 @@
 -- The answers of leaves and zones whose rows are divided can be mixed.
 use Rattle.std.proofs.Common.{◌≡◌, ◌≤ℤ◌, ℕ, ℤ, pos, true, List, [], ◌∷◌, map, Result, Ok, Err, IfOk}
 use Rattle.std.specs.List.{AllByRecursion}
-use Rattle.mixer.specs.Divisions.{AreApart, IsDivided, ShareNoLocation, ShareNoTarget, all_rows, together}
+use Rattle.mixer.specs.Divisions.{IsDivided, ShareNoLocation, all_rows, together}
+use Rattle.mon_meaning.specs.ApartTargets.{AreApart, ShareNoTarget}
 use Rattle.mixer.specs.ZoneAnswers.{AllLeafParts, AllZoneParts, AreLeafParts, HasLeafParts, HasZoneParts, IsZoneAnswer}
 use Rattle.mixer.specs.ZoneAnswers.{IsZonePart}
 use Rattle.mixer.specs.declared.zone_answers.ZoneAnswer.{ZoneAnswer}

@@ -1,7 +1,8 @@
 -- Rows that are divided into zones and leaves: the leaves of a zone share no target, and no two zones a location.
 use Rattle.std.specs.Prelude.{List, [], ◌∷◌}
 use Rattle.std.specs.List.{AllByRecursion}
-use Rattle.mixer.specs.Divisions.{AreApart, ShareNoLocation, ShareNoTarget}
+use Rattle.mixer.specs.Divisions.{ShareNoLocation}
+use Rattle.mon_meaning.specs.ApartTargets.{AreApart, ShareNoTarget}
 use Rattle.mon_schema.specs.SchemaLists.{SchemaLists}
 use Rattle.mon_value.specs.declared.rows.Row.{Row}
 use Rattle.leaf_cases.specs.Readings.{IsReading}

@@ -2,7 +2,8 @@
 use Rattle.std.specs.Prelude.{◌≡◌, ◌≤◌, ◌≤ℤ◌, ◌^◌, pos, false, true, List, [], ◌∷◌, ◌++◌}
 use Rattle.std.specs.List.{AllByRecursion}
 use Rattle.std.specs.Option.{option_map_or}
-use Rattle.mixer.specs.Divisions.{AreApart, has_location}
+use Rattle.mixer.specs.Divisions.{has_location}
+use Rattle.mon_meaning.specs.ApartTargets.{AreApart}
 use Rattle.mon_schema.specs.Fits.{fits}
 use Rattle.mon_schema.specs.SchemaLists.{SchemaLists}
 use Rattle.mon_topo.specs.Locations.{location_of}

@@ -13,7 +13,8 @@ use Rattle.mon_value.specs.declared.rows.Row.{Row}
 use Rattle.mon_value.specs.declared.rows.SeriesKey.{SeriesKey}
 use Rattle.mon_meaning.specs.Central.{all_held}
 use Rattle.mon_meaning.proofs.ApartSeries.{series-apart}
-use Rattle.leaf_eval.specs.Replicas.{AreReplicasApart, ShareNoSeries, has_series, replica_rows_of, replicas_rows}
+use Rattle.leaf_eval.specs.Replicas.{AreReplicasApart, ShareNoSeries, has_series, replica_rows_of}
+use Rattle.mon_meaning.specs.ReadableSlots.{slot_rows}
 
 abbrev SeriesGroup : Type 0
 SeriesGroup = SeriesKey × List Point
@@ -72,20 +73,20 @@ none_of_both (row ∷ rows) others more none left = (
 module _ (history : List Entry) where
   none_of_all : (rows : List Row) (replicas : List RangeSlot)
       → AllByRecursion (λ other. ShareNoSeries rows (replica_rows_of history other)) replicas
-      → ShareNoSeries rows (replicas_rows history replicas)
+      → ShareNoSeries rows (slot_rows history replicas)
   none_of_all rows [] all = none_of_none rows
   none_of_all rows (other ∷ replicas) all =
-      none_of_both rows (replica_rows_of history other) (replicas_rows history replicas) all.0
+      none_of_both rows (replica_rows_of history other) (slot_rows history replicas) all.0
       (none_of_all rows replicas all.1)
 
   by_replicas : (replicas : List RangeSlot) → AreReplicasApart history replicas
       → flat_map points_by_series (map (replica_rows_of history) replicas) ≡ points_by_series
-      (replicas_rows history replicas)
+      (slot_rows history replicas)
   by_replicas [] apart = refl
   by_replicas (own ∷ replicas) apart =
       ap (λ (rest : List SeriesGroup). points_by_series (replica_rows_of history own) ++ rest)
       (by_replicas replicas apart.1)
-      ∙ sym (two_apart (replica_rows_of history own) (replicas_rows history replicas)
+      ∙ sym (two_apart (replica_rows_of history own) (slot_rows history replicas)
       (none_of_all (replica_rows_of history own) replicas apart.0))
 
   held_by : (kept : List (Bor (List Row))) → all_held kept ≡ flat_map points_by_series (map (λ rows. rows.now) kept)
@@ -95,6 +96,6 @@ module _ (history : List Entry) where
   -- the series that are kept for replicas are those of all their rows
   pub replicas_held : (kept : List (Bor (List Row))) (replicas : List RangeSlot) → AreReplicasApart history replicas
       → map (λ rows. rows.now) kept ≡ map (replica_rows_of history) replicas → all_held kept ≡ points_by_series
-      (replicas_rows history replicas)
+      (slot_rows history replicas)
   replicas_held kept replicas apart same = held_by kept ∙ ap (flat_map points_by_series) same ∙ by_replicas replicas
       apart

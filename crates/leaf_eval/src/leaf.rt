@@ -4,7 +4,8 @@ ghost use Rattle.mon_value.specs.declared.limits.TheConstants.{ROW_BITS};
 ghost use Rattle.mql_types.specs.Nodes.{typed_tree};
 ghost use Rattle.mql_types.specs.Soundness.{IsTyped};
 ghost use Rattle.mon_meaning.specs.LeafAnswers.{IsLeafAnswer};
-ghost use Rattle.leaf_eval.specs.Replicas.{AreReplicasApart, AreOpened, replica_rows_of, replicas_rows};
+ghost use Rattle.leaf_eval.specs.Replicas.{AreReplicasApart, replica_rows_of};
+ghost use Rattle.mon_meaning.specs.ReadableSlots.{AreOpened, slot_rows};
 
 use crate::answers::answer_by_series;
 use leaf_store::LeafState;
@@ -29,10 +30,10 @@ pub fn eval_leaf(
     requires settled { IsTrue leaf.now.settled }
     requires opened { AreOpened leaf.now.history slots.now }
     requires apart { AreReplicasApart leaf.now.history slots.now }
-    requires typed { IsTyped (typed_tree plan.now.typed) (replicas_rows leaf.now.history slots.now) }
+    requires typed { IsTyped (typed_tree plan.now.typed) (slot_rows leaf.now.history slots.now) }
     requires moment { pos 0 ≤ℤ moment }
     requires limit { limit ≤ 2 ^ ROW_BITS }
-    ensures answer { IsLeafAnswer (typed_tree plan.now.typed) (replicas_rows leaf.now.history slots.now) moment limit
+    ensures answer { IsLeafAnswer (typed_tree plan.now.typed) (slot_rows leaf.now.history slots.now) moment limit
         result }
 {
     let kept = kept_rows(alloc, leaf, slots.as_slice())?;

@@ -1,5 +1,7 @@
 -- The buckets of a leaf's series by the schemas that it holds, and those that its history doesn't have.
-use Rattle.std.specs.Prelude.{ℕ, Bool, not, ◌&&◌, List, [], Option, Some, None}
+use Rattle.std.specs.Prelude.{◌≡◌, ℕ, Bool, not, ◌&&◌, List, [], Option, Some, None}
+use Rattle.std.specs.List.Sorted.{IsStrictlyIncreasing}
+use Rattle.leaf_store.specs.LeafStates.{LeafView}
 use Rattle.mon_hints.specs.Hints.{series_buckets}
 use Rattle.mon_hints.specs.HistoryBuckets.{history_buckets}
 use Rattle.mon_hints.specs.Listings.{is_among}
@@ -25,3 +27,8 @@ abbrev pub is_unraised : ℕ → SchemaLists → List Entry → SeriesKey → �
 is_unraised buckets held history key bucket =
     is_among bucket (key_buckets buckets held key)
     && not (is_among bucket (history_buckets (key_buckets buckets held) history))
+
+-- the buckets of a series that no series of a leaf has, rising
+pub record AreToRaise (state : LeafView) (key : SeriesKey) (buckets : List ℕ) : Type 0 where
+  pub rising : IsStrictlyIncreasing buckets
+  pub same : (bucket : ℕ) → is_among bucket buckets ≡ is_unraised state.buckets state.schemas state.history key bucket

@@ -10,7 +10,7 @@ ghost use Rattle.mon_value.specs.LeafHistories.{IsWellFormed, MayFollow, brought
 ghost use Rattle.mon_value.specs.LeafHistories.{is_opened, is_switch, replica_rows};
 ghost use Rattle.mon_value.specs.Sources.{IsSource, last_end, points_of};
 ghost use Rattle.mon_hints.specs.HistoryBuckets.{history_buckets};
-ghost use Rattle.leaf_store.specs.LeafBuckets.{key_buckets, is_unraised};
+ghost use Rattle.leaf_store.specs.LeafBuckets.{AreToRaise, key_buckets, is_unraised};
 ghost use Rattle.leaf_store.specs.LeafStates.{new_leaf, opened_rows, leaf_with_entry, leaf_with_put, with_promised};
 ghost use Rattle.leaf_store.specs.LeafStates.{with_settled};
 ghost use Rattle.leaf_store.specs.within.Follows.{CanTakeRow};
@@ -20,6 +20,7 @@ use crate::raised::{Raised, raise};
 use crate::replays::{push_all_brought, push_held, rows_kept, settle_entries};
 use crate::replicas::{Replica, Replicas, find_series, is_new, put, rows_of, takes};
 use crate::slot_rows::SlotRows;
+use mon_hints::Buckets;
 use mon_schema::Schemas;
 use mon_value::{
     Entry, Leaf, MOST_BUCKETS, MOST_SWITCHES, OutOfMemory, Range, Row, RowList, SeriesKey, Shared,
@@ -345,6 +346,7 @@ impl LeafState {
         ensures none { IfNone result
             (HasNone (is_unraised self.now.buckets self.now.schemas self.now.history key.now) from) }
         ensures below { IfSome result (λ next. next < self.now.buckets) }
+        ensures small { IfSome result (λ next. next < MOST_BUCKETS) }
     {
         let Some(target) = self.schemas.target(key.target.schema.as_bytes()) else {
             return None;
@@ -354,6 +356,19 @@ impl LeafState {
         };
         self.raised
             .next_left(key, target, metric, self.buckets, from)
+    }
+
+    /// The buckets of a series that no series of the history has.
+    pub fn unraised(&self, alloc: Global, key: &SeriesKey) -> Result<Buckets, OutOfMemory>
+        ensures unraised { IfOk result (AreToRaise self.now key.now) }
+    {
+        let mut buckets = Buckets::new(alloc);
+        let mut from = 0;
+        while let Some(bucket) = self.next_unraised(key, from) {
+            buckets.push(bucket)?;
+            from = bucket + 1;
+        }
+        Ok(buckets)
     }
 
     /// The rows of a replica in the first so many entries.

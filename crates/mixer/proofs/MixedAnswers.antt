@@ -26,7 +26,8 @@ use Rattle.mon_meaning.specs.Central.{IsMeant, IsRefusedBy}
 use Rattle.mon_meaning.specs.Counts.{TellsOver}
 use Rattle.mon_meaning.specs.LeafAnswers.{load_in_leaf, parts_load}
 use Rattle.mon_meaning.specs.declared.meter.OverLimit.{OverLimit}
-use Rattle.mixer.specs.Divisions.{ShareNoLocation, ShareNoTarget, all_rows, together}
+use Rattle.mixer.specs.Divisions.{ShareNoLocation, all_rows, together}
+use Rattle.mon_meaning.specs.ApartTargets.{ShareNoTarget}
 use Rattle.mixer.specs.ZoneAnswers.{AllLeafParts, AllZoneParts, AreLeafParts, AreZoneParts, IsRefusedByZone}
 use Rattle.mixer.specs.ZoneAnswers.{IsZonePart, load_in_zone}
 use Rattle.mixer.specs.declared.zone_answers.ZoneAnswer.{ZoneAnswer}

@@ -20,7 +20,8 @@ use Rattle.mql_types.proofs.FetchedTrees.{AllFit}
 use Rattle.mql_types.proofs.JoinedRows.{all-front}
 use Rattle.mql_types.proofs.TypedGridLemmas.{typed_grid}
 use Rattle.mql_types.proofs.TypedQueries.{query_ruled}
-use Rattle.mixer.specs.Divisions.{AreApart, IsDivided, ShareNoLocation, ShareNoTarget, all_rows, together}
+use Rattle.mixer.specs.Divisions.{IsDivided, ShareNoLocation, all_rows, together}
+use Rattle.mon_meaning.specs.ApartTargets.{AreApart, ShareNoTarget}
 use Rattle.mon_schema.specs.HeldTargets.{TellsLocation}
 use Rattle.mixer.specs.Mixing.{SamePieces, joined_pieces, joins_mixed, mixed_load, mixed_table, parts_mixed, piece_rows}
 use Rattle.mixer.specs.Mixing.{pieces_together, root_joins, rows_mixed, zone_answer, zone_joins, zone_mixed}

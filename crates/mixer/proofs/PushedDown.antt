@@ -13,7 +13,8 @@ use Rattle.mql_types.specs.declared.levels.Level.{Level}
 use Rattle.mql_types.specs.declared.levels.Level.TheVariants as level
 use Rattle.mql_types.proofs.FetchedTrees.{AllFit}
 use Rattle.mql_types.proofs.TypedTrees.{AreRows}
-use Rattle.mixer.specs.Divisions.{ShareNoLocation, ShareNoTarget}
+use Rattle.mixer.specs.Divisions.{ShareNoLocation}
+use Rattle.mon_meaning.specs.ApartTargets.{ShareNoTarget}
 use Rattle.mon_schema.specs.HeldTargets.{TellsLocation}
 use Rattle.mixer.specs.Mixing.{SamePieces, joined_pieces}
 use Rattle.mixer.proofs.ApartLoads.{loads-apart}

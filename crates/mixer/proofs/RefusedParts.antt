@@ -13,7 +13,8 @@ use Rattle.mon_fold.specs.declared.answers.LeafAnswer.{LeafAnswer}
 use Rattle.mon_meaning.specs.Central.{IsRefusedBy}
 use Rattle.mon_meaning.specs.LeafAnswers.{IsRefusedByLeaf, load_in_leaf}
 use Rattle.mon_meaning.specs.declared.meter.OverLimit.{OverLimit}
-use Rattle.mixer.specs.Divisions.{AreApart, IsDivided, ShareNoTarget, all_rows, together}
+use Rattle.mixer.specs.Divisions.{IsDivided, all_rows, together}
+use Rattle.mon_meaning.specs.ApartTargets.{AreApart, ShareNoTarget}
 use Rattle.mixer.specs.ZoneAnswers.{AllLeafParts, AreLeafParts, IsRefusedByZone, load_in_zone}
 use Rattle.mixer.proofs.MixedAnswers.{typed_over}
 use Rattle.mixer.proofs.MixedDivisions.{leaf_load_of_parts, loads_mixed}

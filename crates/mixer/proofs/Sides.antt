@@ -16,7 +16,8 @@ use Rattle.mon_topo.specs.Locations.{location_of}
 use Rattle.mql_types.proofs.FetchedPoints.{row_of_schemas}
 use Rattle.mql_types.proofs.FetchedTrees.{AllFit}
 use Rattle.mql_types.proofs.JoinedRows.{all-both, all-map}
-use Rattle.mixer.specs.Divisions.{ShareNoLocation, ShareNoTarget, has_location, has_target, lies_at, together}
+use Rattle.mixer.specs.Divisions.{ShareNoLocation, has_location, lies_at, together}
+use Rattle.mon_meaning.specs.ApartTargets.{ShareNoTarget, has_target}
 use Rattle.mon_schema.specs.HeldTargets.{TellsLocation}
 use Rattle.mixer.proofs.LeafHomes.{IsItself, TargetSays, target_field}
 use Rattle.mixer.proofs.StemmingTrees.{HasHome}

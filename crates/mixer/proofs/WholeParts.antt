@@ -21,7 +21,8 @@ use Rattle.mql_types.proofs.RowCounts.{rows_within_load}
 use Rattle.mon_fold.specs.declared.answers.Piece.{Piece}
 use Rattle.mon_meaning.specs.LeafAnswers.{parts_load}
 use Rattle.mon_meaning.proofs.StandingPieces.{up-permutation}
-use Rattle.mixer.specs.Divisions.{AreApart, together}
+use Rattle.mixer.specs.Divisions.{together}
+use Rattle.mon_meaning.specs.ApartTargets.{AreApart}
 use Rattle.mixer.specs.Mixing.{SamePieces, joined_pieces}
 use Rattle.mixer.specs.within.Joined.{AllStandEmpty, AreTogether, CanBeEmpty, CanJoinAll}
 use Rattle.mixer.proofs.ApartPieces.{no_rows}

@@ -2,22 +2,14 @@
 use Rattle.std.specs.Prelude.{◌≡◌, ℕ, Bool, false, List, [], ◌∷◌, ◌++◌, map}
 use Rattle.std.specs.List.{AllByRecursion, list_any}
 use Rattle.std.specs.Option.{option_map_or}
-use Rattle.mon_value.specs.Same.{same_target, same_text}
+use Rattle.mon_value.specs.Same.{same_text}
+use Rattle.mon_meaning.specs.ApartTargets.{AreApart, ShareNoTarget}
 use Rattle.mon_value.specs.declared.rows.Row.{Row}
-use Rattle.mon_value.specs.declared.rows.Target.{Target}
 use Rattle.mon_schema.specs.HeldTargets.{TellsLocation}
 use Rattle.mon_schema.specs.SchemaLists.{SchemaLists}
 use Rattle.mon_topo.specs.Locations.{location_of}
 use Rattle.mql_types.specs.Nodes.{TypedTree}
 use Rattle.mql_types.specs.Soundness.{IsTyped}
-
--- whether a target has a row
-abbrev pub has_target : List Row → Target → Bool
-has_target rows target = list_any (λ row. same_target row.key.target target) rows
-
--- no target has rows on both sides
-abbrev pub ShareNoTarget : List Row → List Row → Type 0
-ShareNoTarget rows others = AllByRecursion (λ row. has_target others row.key.target ≡ false) rows
 
 abbrev pub lies_at : SchemaLists → List ℕ → Row → Bool
 lies_at held location row = option_map_or (same_text location) (location_of held row.key.target) false
@@ -31,11 +23,6 @@ abbrev pub ShareNoLocation : SchemaLists → List Row → List Row → Type 0
 ShareNoLocation held rows others =
     AllByRecursion (λ row. option_map_or (has_location held others) (location_of held row.key.target) false ≡ false)
     rows
-
--- each two of some children share nothing
-abbrev pub AreApart : (List Row → List Row → Type 0) → List (List Row) → Type 0
-AreApart Apart [] = Unit {0}
-AreApart Apart (child ∷ children) = AllByRecursion (Apart child) children × AreApart Apart children
 
 -- the rows of all children
 abbrev pub together : List (List Row) → List Row

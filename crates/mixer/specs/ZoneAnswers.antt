@@ -12,7 +12,8 @@ use Rattle.mon_fold.specs.declared.answers.LeafAnswer.{LeafAnswer}
 use Rattle.mon_meaning.specs.LeafAnswers.{IsLeafPart}
 use Rattle.mon_meaning.specs.Standing.{AllStandFor}
 use Rattle.mon_meaning.specs.declared.meter.OverLimit.{OverLimit}
-use Rattle.mixer.specs.Divisions.{AreApart, IsDivided, ShareNoTarget, together}
+use Rattle.mixer.specs.Divisions.{IsDivided, together}
+use Rattle.mon_meaning.specs.ApartTargets.{AreApart, ShareNoTarget}
 use Rattle.mixer.specs.declared.zone_answers.ZoneAnswer.{ZoneAnswer}
 
 -- how much a zone and its leaves do of a query that is asked at a moment, over the leaves' rows

@@ -15,7 +15,8 @@ ghost use Rattle.mon_fold.specs.declared.answers.LeafAnswer.{LeafAnswer};
 ghost use Rattle.mon_meaning.specs.Central.{IsRefusedBy};
 ghost use Rattle.mon_meaning.specs.LeafAnswers.{IsRefusedByLeaf};
 ghost use Rattle.mon_meaning.specs.declared.meter.OverLimit.{OverLimit};
-ghost use Rattle.mixer.specs.Divisions.{AreApart, IsDivided, ShareNoTarget, all_rows, together};
+ghost use Rattle.mixer.specs.Divisions.{IsDivided, all_rows, together};
+ghost use Rattle.mon_meaning.specs.ApartTargets.{AreApart, ShareNoTarget};
 ghost use Rattle.mixer.specs.Mixing.{SamePieces, mixed_load, mixed_table, root_joins, zone_answer, zone_joins};
 ghost use Rattle.mixer.specs.ZoneAnswers.{AllLeafParts, AreLeafParts, IsRefusedByZone};
 

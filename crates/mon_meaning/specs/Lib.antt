@@ -1,8 +1,10 @@
+pub mod ApartTargets
 pub mod Central
 pub mod Counts
 pub mod LeafAnswers
 pub mod GoingUp
 pub mod Operations
+pub mod ReadableSlots
 pub mod Standing
 pub mod TopParts
 pub mod within

@@ -20,11 +20,12 @@ use Rattle.mon_topo.specs.Zones.{ranges_in}
 use Rattle.mon_topo.specs.declared.zones.ZoneSpec.{ZoneSpec}
 use Rattle.mon_config.specs.declared.config.Config.{Config}
 use Rattle.leaf_store.specs.LeafStates.{LeafView}
-use Rattle.leaf_eval.specs.Replicas.{AreReplicasApart, AreOpened, ShareNoSeries, has_series, replica_rows_of}
-use Rattle.leaf_eval.specs.Replicas.{replicas_rows}
+use Rattle.leaf_eval.specs.Replicas.{AreReplicasApart, ShareNoSeries, has_series, replica_rows_of}
+use Rattle.mon_meaning.specs.ReadableSlots.{AreOpened, slot_rows}
 use Rattle.mixer.proofs.ApartTargets as apart_targets
-use Rattle.mixer.specs.Divisions.{ShareNoTarget}
-use Rattle.mon_store.specs.Writes.{is_range, range_of_key}
+use Rattle.mon_config.specs.KeyRanges.{range_of_key}
+use Rattle.mon_store.specs.Writes.{is_range}
+use Rattle.mon_meaning.specs.ApartTargets.{ShareNoTarget}
 use Rattle.mon_store.specs.within.Divisions.{divided_leaf_rows}
 use Rattle.mon_store.specs.Stores.{AreReplicasKept, range_rows, rows_kept}
 use Rattle.mon_store.specs.within.Leaves.{Keeps, first_replica_rows, first_slot, first_slots, histories, is_on_leaf}
@@ -191,9 +192,9 @@ module _ (config : Config) (leaves : List LeafView) (order : List Range)
       pub leaf_apart : AreReplicasApart state.history slots
       leaf_apart = subst (AreReplicasApart state.history) (sym are) (apart_below most)
 
-      pub leaf_source : replicas_rows state.history slots ≡ divided_leaf_rows config rows n
+      pub leaf_source : slot_rows state.history slots ≡ divided_leaf_rows config rows n
       leaf_source =
-          ap (replicas_rows state.history) are
+          ap (slot_rows state.history) are
           ∙ flat_alike (λ (own : RangeSlot). replica_rows own.range own.slot state.history)
           (λ (own : RangeSlot). range_rows config own.range rows) (first_slots config.topology n most)
           (all_weaker (IsFirstOn config.topology n most) _ (own_rows most) (first_slots config.topology n most)

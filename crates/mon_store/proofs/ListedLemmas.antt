@@ -5,7 +5,7 @@ use Rattle.std.specs.List.{AllByRecursion, flat_map}
 use Rattle.std.proofs.lemmas.Bool.{cases_lt}
 use Rattle.std.proofs.lemmas.List.{map-append}
 use Rattle.mon_value.specs.declared.rows.Row.{Row}
-use Rattle.mixer.specs.Divisions.{AreApart}
+use Rattle.mon_meaning.specs.ApartTargets.{AreApart}
 use Rattle.mon_store.specs.within.Divisions.{values_below}
 
 -- ---- what holds of each item

@@ -14,7 +14,8 @@ use Rattle.mon_value.specs.declared.rows.Point.{Point}
 use Rattle.mon_value.specs.declared.rows.Row.{Row}
 use Rattle.mon_value.specs.declared.rows.SeriesKey.{SeriesKey}
 use Rattle.mon_config.specs.declared.config.Config.{Config}
-use Rattle.mon_store.specs.Writes.{fault_behind, full_fault, is_range, old_fault, range_fault, range_of_key}
+use Rattle.mon_config.specs.KeyRanges.{range_of_key}
+use Rattle.mon_store.specs.Writes.{fault_behind, full_fault, is_range, old_fault, range_fault}
 use Rattle.mon_store.specs.Writes.{write_fault}
 use Rattle.mon_store.specs.declared.faults.WriteFault.{WriteFault}
 use Rattle.mon_store.specs.declared.faults.WriteFault.TheVariants as fault

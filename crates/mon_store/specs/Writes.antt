@@ -7,15 +7,10 @@ use Rattle.mon_value.specs.Sources.{last_end, points_of}
 use Rattle.mon_value.specs.declared.positions.Range.{Range}
 use Rattle.mon_value.specs.declared.rows.Point.{Point}
 use Rattle.mon_value.specs.declared.rows.Row.{Row}
-use Rattle.mon_value.specs.declared.rows.SeriesKey.{SeriesKey}
-use Rattle.mon_topo.specs.Locations.{range_for}
+use Rattle.mon_config.specs.KeyRanges.{range_of_key}
 use Rattle.mon_config.specs.declared.config.Config.{Config}
 use Rattle.mon_store.specs.declared.faults.WriteFault.{WriteFault}
 use Rattle.mon_store.specs.declared.faults.WriteFault.TheVariants as fault
-
--- the range that a series' target lies in; there is none where no zone lists its location
-abbrev pub range_of_key : Config → SeriesKey → Option Range
-range_of_key config key = range_for config.schemas config.topology key.target
 
 abbrev pub is_range : Range → Option Range → Bool
 is_range range None = false

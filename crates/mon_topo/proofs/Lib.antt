@@ -11,11 +11,14 @@ mod RepeatLemmas
 mod ReplicaLemmas
 pub mod SizeLemmas
 mod SpanLemmas
+pub mod FirstLemmas
+pub mod FirstOpenings
 pub mod FrontLemmas
 pub mod HeldLemmas
 pub mod NameMapLemmas
 pub mod PartLemmas
 pub mod PositionLemmas
 pub mod RangeHistoryLemmas
+pub mod ServingLemmas
 pub mod SightLemmas
 pub mod PlacedRangeLemmas

@@ -1,6 +1,7 @@
 pub mod Bounds
 pub mod FaultTexts
 pub mod Faults
+pub mod FirstHistories
 pub mod HeldHistories
 pub mod Indexed
 pub mod Kept
@@ -10,6 +11,9 @@ pub mod Places
 pub mod RangeHistories
 pub mod Replicas
 pub mod SeenHistories
+pub mod Serving
 pub mod Settings
 pub mod Sights
+pub mod Sizes
+pub mod Views
 pub mod Zones

@@ -23,7 +23,7 @@ mod topology;
 mod zones;
 
 pub use faults::{TopoFault, TopoKind};
-pub use laws::{ranges_have_replicas, targets_have_one_range};
+pub use laws::{ranges_have_replicas, targets_have_one_range, zones_are_few};
 pub use limits::{
     MOST_LEAVES, MOST_LEAVES_OF_ZONE, MOST_RANGES, MOST_REPLICAS, MOST_SLOTS, MOST_ZONES,
 };

@@ -24,7 +24,7 @@ use Rattle.mql_types.specs.Branches.{common_columns, join_columns, join_faults, 
 use Rattle.mql_types.specs.Faults.{fault_at, first_fault}
 use Rattle.mql_types.specs.Fetches.{fetch_columns, fetch_faults, kind_of}
 use Rattle.mql_types.specs.Filters.{condition_faults, predicate_faults}
-use Rattle.mql_types.specs.Groupings.{aggregates_over, group_columns, group_faults, listed_columns, listed_places}
+use Rattle.mql_types.specs.Groupings.{aggregates_over, grouped_columns, group_faults, listed_columns, listed_places}
 use Rattle.mql_types.specs.Groupings.{place_found}
 use Rattle.mql_types.specs.Items.{is_number_type, reserved_names, value_columns, value_faults}
 use Rattle.mql_types.specs.Levels.{higher_level, meeting_level}
@@ -98,7 +98,7 @@ abbrev pub group_node : SchemaLists → ℕ → List Name → List Aggregate →
 group_node held at names aggregates input =
     let columns = columns_of input in
     node.GroupBy
-    (info (Some at) (group_columns columns names aggregates)
+    (info (Some at) (grouped_columns columns names aggregates)
     (meeting_level held (level_of input) (listed_columns columns names)))
     (listed_places columns reserved_names names) (aggregates_over columns aggregates) input
 

@@ -26,7 +26,8 @@ use Rattle.mon_value.specs.Positions.{same_leaf, zone_numbered}
 use Rattle.mon_topo.specs.Zones.{leaf_zones, zone_of}
 use Rattle.mon_topo.specs.declared.zones.ZoneSpec.{ZoneSpec}
 use Rattle.mixer.proofs.ApartTargets as apart_targets
-use Rattle.mixer.specs.Divisions.{AreApart, ShareNoLocation, ShareNoTarget, all_rows, has_location}
+use Rattle.mixer.specs.Divisions.{ShareNoLocation, all_rows, has_location}
+use Rattle.mon_meaning.specs.ApartTargets.{AreApart, ShareNoTarget}
 use Rattle.mixer.specs.Divisions.{together}
 use Rattle.mql_types.proofs.JoinedRows.{all-map}
 use Rattle.mql_types.proofs.KeptRows.{all-append, all-filter}

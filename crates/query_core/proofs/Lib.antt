@@ -5,12 +5,11 @@ mod ChosenLeaves
 mod DividedRows
 mod FindingLemmas
 mod FoundsTold
-pub mod HintFacts
+mod HintFacts
 mod MixLemmas
 mod MixedParts
 mod NamedLeaves
 mod NextPlaces
-mod OpeningLemmas
 mod OrderLemmas
 mod OrderSteps
 mod PartClaims
@@ -33,6 +32,7 @@ pub mod ToldAnswers
 mod TraceAnswers
 mod TraceClaims
 mod TraceEnds
+mod TraceGrowth
 mod TraceLooks
 mod TraceRows
 mod TraceSession

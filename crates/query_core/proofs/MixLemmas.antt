@@ -3,7 +3,8 @@
 use Rattle.std.proofs.Common.{◌≡◌, ℕ, ℤ, Bool, true, false, List, [], ◌∷◌, ◌++◌, cond, drop, sym, ap, ◌∙◌, subst}
 use Rattle.std.proofs.Common.{Result, Ok, Err, IfOk}
 use Rattle.std.specs.List.{AllByRecursion}
-use Rattle.mixer.specs.Divisions.{AreApart, ShareNoTarget, all_rows, together}
+use Rattle.mixer.specs.Divisions.{all_rows, together}
+use Rattle.mon_meaning.specs.ApartTargets.{AreApart, ShareNoTarget}
 use Rattle.mixer.specs.ZoneAnswers.{AllZoneParts, AreLeafParts, AreZoneParts, HasLeafParts, HasZoneParts, IsZoneAnswer}
 use Rattle.mixer.specs.ZoneAnswers.{IsZonePart}
 use Rattle.mixer.specs.declared.zone_answers.ZoneAnswer.{ZoneAnswer}

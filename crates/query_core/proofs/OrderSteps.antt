@@ -23,7 +23,7 @@ use Rattle.query_core.specs.Loadings.{is_whole, next_bucket, no_word, with_word}
 use Rattle.query_core.specs.Looks.{read_at, unread_look}
 use Rattle.query_core.specs.Machine.{Query, new_query, slots_at}
 use Rattle.query_core.specs.Mixtures.{Settles, TurnSettles, root_stage, zone_turn}
-use Rattle.query_core.specs.Openings.{let_in}
+use Rattle.plan_split.specs.Meeting.{let_in}
 use Rattle.query_core.specs.Orders.{ComeInOrder, ComeWholeInOrder, IsRoundInOrder, IsZoneInOrder, ZoneCourse}
 use Rattle.query_core.specs.Orders.{areas_of_zones, chosen_areas, entered_areas, events_told, query_events}
 use Rattle.query_core.specs.Orders.{resolve_events, answer_words, words_loaded}
@@ -31,7 +31,7 @@ use Rattle.query_core.specs.Program as spec
 use Rattle.query_core.specs.Program.{ask_of, let_some_in, next_zone}
 use Rattle.query_core.specs.Rounds.{Round, is_to_visit, resolution, round_of, with_slot}
 use Rattle.query_core.specs.Sessions as session
-use Rattle.query_core.specs.Sessions.{View}
+use Rattle.mon_topo.specs.Views.{View}
 use Rattle.query_core.specs.Settings.{QuerySetting}
 use Rattle.query_core.specs.Visits as visit
 use Rattle.query_core.specs.Visits.{Visits, first_left, with_look}

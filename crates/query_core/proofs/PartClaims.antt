@@ -34,7 +34,7 @@ use Rattle.query_core.specs.Courses.{with_zone_behind, trace_of}
 use Rattle.query_core.specs.Mixtures.{typed_of}
 use Rattle.query_core.specs.Rounds.{Round, slots_on}
 use Rattle.query_core.specs.Settings.{QuerySetting}
-use Rattle.query_core.specs.Traces.{slot_rows}
+use Rattle.mon_meaning.specs.ReadableSlots.{slot_rows}
 use Rattle.query_core.specs.Visits.{Visits}
 use Rattle.query_core.proofs.ReadLeaves.{IsUnread}
 use Rattle.query_core.proofs.SegmentFacts.{Behind, IsWhole, PartsSo, RangesFrom, Segment, SeenSo}

@@ -17,7 +17,8 @@ use Rattle.mon_value.specs.declared.positions.SlotLeaf.{SlotLeaf}
 use Rattle.mql_types.proofs.JoinedRows.{all-map, column_of_all}
 use Rattle.mql_types.proofs.KeptRows.{all-filter}
 use Rattle.query_core.specs.declared.answers.Resolved.{Resolved}
-use Rattle.query_core.specs.Traces.{IsFirstServing, first_serving, is_avoided, replica_of}
+use Rattle.query_core.specs.Traces.{IsFirstServing, replica_of}
+use Rattle.mon_topo.specs.Serving.{first_serving, is_avoided}
 use Rattle.query_core.proofs.AckedRows.{HasRows, serve_at}
 
 nothing_past : {X : Type 0} (lists : List (List X)) (n : ℕ) → length lists ≤ n → get_or lists n [] ≡ []

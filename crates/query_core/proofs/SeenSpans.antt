@@ -40,7 +40,9 @@ use Rattle.query_core.proofs.ZoneFacts.{leaf_zoned, leaves_next, ranges_next}
 use Rattle.query_core.specs.Areas.{area_of}
 use Rattle.query_core.specs.Looks.{unread_look}
 use Rattle.query_core.specs.Rounds.{slots_on}
-use Rattle.query_core.specs.Traces.{IsFirstServing, first_serving, is_avoided, replica_of, slot_rows}
+use Rattle.query_core.specs.Traces.{IsFirstServing, replica_of}
+use Rattle.mon_meaning.specs.ReadableSlots.{slot_rows}
+use Rattle.mon_topo.specs.Serving.{first_serving, is_avoided}
 use Rattle.query_core.specs.declared.answers.Resolved.{Resolved}
 use Rattle.query_core.specs.declared.looks.Look.{Look}
 

@@ -29,7 +29,9 @@ use Rattle.mon_value.specs.declared.rows.Row.{Row}
 use Rattle.mon_value.specs.declared.rows.SeriesKey.{SeriesKey}
 use Rattle.query_core.specs.Looks.{unread_look}
 use Rattle.query_core.specs.Rounds.{slot_of, slots_on}
-use Rattle.query_core.specs.Traces.{IsBetween, IsFirstServing, first_serving, is_avoided, slot_rows}
+use Rattle.query_core.specs.Traces.{IsBetween, IsFirstServing}
+use Rattle.mon_meaning.specs.ReadableSlots.{slot_rows}
+use Rattle.mon_topo.specs.Serving.{first_serving, is_avoided}
 use Rattle.query_core.specs.declared.answers.Resolved.{Resolved}
 use Rattle.query_core.specs.declared.looks.Look.{Look}
 

@@ -35,7 +35,8 @@ use Rattle.query_core.specs.Looks.{unread_look}
 use Rattle.query_core.specs.Mixtures.{typed_of}
 use Rattle.query_core.specs.Rounds.{slots_on}
 use Rattle.query_core.specs.Settings.{QuerySetting}
-use Rattle.query_core.specs.Traces.{slot_rows, source_of}
+use Rattle.query_core.specs.Traces.{source_of}
+use Rattle.mon_meaning.specs.ReadableSlots.{slot_rows}
 use Rattle.query_core.proofs.ChosenLeaves.{ChosenAscend, among_append, among_behind, among_zones, front_among}
 use Rattle.query_core.proofs.ChosenLeaves.{chosen_append, chosen_leaves, chosen_once, zone_ascends, zones_ascend}
 use Rattle.query_core.proofs.ChosenLeaves.{zones_from}

@@ -46,7 +46,8 @@ use Rattle.query_core.specs.Mixtures.{typed_of}
 use Rattle.query_core.specs.Rounds.{slot_of, slots_on}
 use Rattle.query_core.specs.Settings.{QuerySetting}
 use Rattle.query_core.specs.Traces as trace
-use Rattle.query_core.specs.Traces.{is_wanted, looked_at, rows_on, slot_rows, source_of}
+use Rattle.query_core.specs.Traces.{is_wanted, looked_at, rows_on, source_of}
+use Rattle.mon_meaning.specs.ReadableSlots.{slot_rows}
 use Rattle.query_core.proofs.DividedRows.{AreLeavesOf, AreOtherLeaves, AreOthers, AreResolvedIn, IsOther, SomeLeaves}
 use Rattle.query_core.proofs.DividedRows.{all_flat, all_leaves, all_leaves_apart, divided_points, divided_rows}
 use Rattle.query_core.proofs.DividedRows.{fit_in_all, rows_at, zones_apart}

@@ -22,7 +22,8 @@ use Rattle.query_core.specs.Looks.{unread_look}
 use Rattle.query_core.specs.Mixtures.{typed_of}
 use Rattle.query_core.specs.Rounds.{slots_on}
 use Rattle.query_core.specs.Settings.{QuerySetting}
-use Rattle.query_core.specs.Traces.{cut_of, is_wanted, slot_rows}
+use Rattle.query_core.specs.Traces.{cut_of, is_wanted}
+use Rattle.mon_meaning.specs.ReadableSlots.{slot_rows}
 use Rattle.query_core.proofs.DividedRows.{SomeLeaves, all_both, all_leaves, rows_at}
 use Rattle.query_core.proofs.ReadLeaves.{cuts_of, flags_of}
 use Rattle.query_core.proofs.TraceRows.{IsLeftOut, on_leaf, own_rows}

@@ -25,12 +25,12 @@ use Rattle.query_core.specs.Courses.{cuts_seen}
 use Rattle.query_core.specs.Looks.{read_at, unread_look}
 use Rattle.query_core.specs.Machine.{slots_in}
 use Rattle.query_core.specs.Mixtures.{typed_of}
-use Rattle.query_core.specs.Openings.{let_in}
+use Rattle.plan_split.specs.Meeting.{let_in}
 use Rattle.query_core.specs.Program as spec
 use Rattle.query_core.specs.Program.{begin_visits, visiting}
 use Rattle.query_core.specs.Rounds.{Round, is_to_visit, slots_on}
 use Rattle.query_core.specs.Settings.{QuerySetting}
-use Rattle.query_core.specs.Traces.{slot_rows}
+use Rattle.mon_meaning.specs.ReadableSlots.{slot_rows}
 use Rattle.query_core.specs.Visits as visit
 use Rattle.query_core.specs.Visits.{Visits, with_look}
 use Rattle.query_core.proofs.ReadLeaves.{IsUnread, LeafRead, SendsNothing, all_set, behind_set, fewer_unread}

@@ -20,7 +20,8 @@ use Rattle.query_core.specs.declared.looks.Look.{Look}
 use Rattle.query_core.specs.Areas.{area_of}
 use Rattle.query_core.specs.Rounds.{slot_of, slots_on}
 use Rattle.query_core.specs.Settings.{QuerySetting}
-use Rattle.query_core.specs.Traces.{rows_on, cut_of, slot_rows}
+use Rattle.query_core.specs.Traces.{rows_on, cut_of}
+use Rattle.mon_meaning.specs.ReadableSlots.{slot_rows}
 use Rattle.query_core.proofs.ChosenLeaves.{leaf_before, leaf_behind}
 use Rattle.query_core.proofs.DividedRows.{rows_at}
 use Rattle.query_core.proofs.ReadLeaves.{Ascend, IsTold, LeafRead, ascend_within, cuts_of, leaves_read, reads_append}

@@ -12,7 +12,7 @@ use Rattle.query_core.specs.declared.loadings.Loading.{Loading}
 use Rattle.query_core.specs.declared.looks.Look.{Look}
 use Rattle.query_core.specs.Areas.{has_leaf}
 use Rattle.query_core.specs.Looks.{unread_look}
-use Rattle.query_core.specs.Openings.{flag_at, let_in}
+use Rattle.plan_split.specs.Meeting.{flag_at, let_in}
 use Rattle.query_core.specs.Settings.{QuerySetting}
 
 -- before the first zone, once all root words are loaded

@@ -9,10 +9,8 @@ pub mod Loadings
 pub mod Looks
 pub mod Machine
 pub mod Mixtures
-pub mod Openings
 pub mod Orders
 pub mod Program
-pub mod ReadableSlots
 pub mod Rounds
 pub mod SentTold
 pub mod Sessions

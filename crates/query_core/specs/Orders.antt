@@ -6,7 +6,7 @@ use Rattle.mon_topo.specs.Settings.{Setting}
 use Rattle.mon_value.specs.declared.positions.Leaf.{Leaf}
 use Rattle.query_core.specs.Areas.{leaf_at, range_at}
 use Rattle.query_core.specs.Machine.{Query}
-use Rattle.query_core.specs.Openings.{flag_at, let_in}
+use Rattle.plan_split.specs.Meeting.{flag_at, let_in}
 use Rattle.query_core.specs.Program.{ask_of}
 use Rattle.query_core.specs.Sessions.{Event, told_then}
 use Rattle.query_core.specs.Settings.{QuerySetting}

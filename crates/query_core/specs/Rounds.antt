@@ -11,7 +11,7 @@ use Rattle.mon_value.specs.Positions.{same_leaf}
 use Rattle.query_core.specs.declared.answers.Resolved.{Resolved}
 use Rattle.query_core.specs.declared.areas.Area.{Area}
 use Rattle.query_core.specs.Areas.{has_leaf, leaf_at, range_at}
-use Rattle.query_core.specs.Openings.{flag_at}
+use Rattle.plan_split.specs.Meeting.{flag_at}
 
 -- a zone, and what those of its ranges that are behind resolved to
 pub record Round : Type 0 where

@@ -6,13 +6,14 @@ ghost use Rattle.query_core.specs.Courses as spec;
 use crate::answers::{Flags, Resolved, Resolveds, Trace};
 use crate::areas::Area;
 use crate::asks::Seen;
+use crate::flags::flag_at;
 use crate::loadings::Loading;
 use crate::looks::{Look, Looks, add_unread, cuts_of, read_of, sent_of};
-use crate::openings::{flag_at, let_in};
 use crate::segments::{from_place, segment};
 use crate::settings::QuerySetting;
 use mixer::{ZoneAnswer, ZoneAnswers};
 use mon_value::{FoundDown, Founds, Leaf, OutOfMemory};
+use plan_split::let_in;
 use std::alloc::Global;
 use std::mem;
 

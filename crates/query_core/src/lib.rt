@@ -6,12 +6,12 @@ mod areas;
 mod asks;
 mod courses;
 mod fault_texts;
+mod flags;
 mod laws;
 mod loadings;
 mod looks;
 mod machine;
 mod mixing;
-mod openings;
 mod rounds;
 mod segments;
 mod settings;
@@ -23,7 +23,6 @@ pub use asks::{Ask, Seen, Told};
 pub use fault_texts::fault_text;
 pub use laws::{
     ends_name_what_was_told, sessions_answer_rightly, sessions_keep_the_order, sessions_may_go_on,
-    traces_count_what_was_sent,
+    traces_count_what_was_sent, traces_stay,
 };
 pub use machine::QueryMachine;
-pub use openings::is_let_in;

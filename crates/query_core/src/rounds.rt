@@ -5,7 +5,7 @@ ghost use Rattle.query_core.specs.Rounds as spec;
 
 use crate::answers::{Flags, Resolved, Resolveds};
 use crate::areas::Area;
-use crate::openings::flag_at;
+use crate::flags::flag_at;
 use mon_value::{Leaf, Leaves, OutOfMemory, Range, RangeSlot, RangeSlots, Slot};
 use std::alloc::Global;
 use std::marker::Model;

@@ -11,14 +11,15 @@ use crate::answers::{Answer, RoundFault};
 use crate::areas::Area;
 use crate::asks::{Seen, Told};
 use crate::courses::{Course, cuts_seen};
+use crate::flags::some_flag;
 use crate::loadings::Loading;
 use crate::looks::Look;
-use crate::openings::{let_in, some_flag};
 use crate::rounds::Round;
 use crate::settings::QuerySetting;
 use crate::visits::Visits;
 use mon_fold::{LeafAnswer, LeafAnswers};
 use mon_value::{Leaf, OutOfMemory, Range, Slot};
+use plan_split::let_in;
 use std::alloc::Global;
 
 /// How far a query is.

@@ -1,3 +1,2 @@
-pub mod PlanBuckets
 mod PlanLemmas
 mod TextTreeLemmas

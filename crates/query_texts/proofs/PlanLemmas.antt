@@ -1,5 +1,6 @@
 -- A text's plan, step by step.
-use Rattle.std.proofs.Common.{◌≡◌, ℕ, List, Result, Ok, Err, map, sym, ap, subst}
+use Rattle.std.proofs.Common.{◌≡◌, ◌<◌, ℕ, List, Result, Ok, Err, map, sym, ap, subst}
+use Rattle.std.specs.List.{AllByRecursion}
 use Rattle.mon_hints.specs.Formulas.{FormulaTree, all_named, formula_tree, formulas}
 use Rattle.mon_hints.specs.Listings.{IsListing}
 use Rattle.mon_schema.specs.HeldMetrics.{AreMetricsHeld}
@@ -19,7 +20,6 @@ use Rattle.mql_types.specs.Typing.{typing}
 use Rattle.mql_types.specs.declared.plans.Plan.{Plan}
 use Rattle.plan_split.specs.FetchFormulas.{plan_formulas}
 use Rattle.plan_split.specs.Promises.{AllHoldWhereMet}
-use Rattle.query_texts.proofs.PlanBuckets.{plan_below}
 use Rattle.query_texts.specs.Plans.{IsPlanOver}
 use Rattle.query_texts.specs.TextTypes.{refused_as, text_type, tree_type}
 use Rattle.query_texts.specs.declared.faults.TextFault.{TextFault}
@@ -50,21 +50,19 @@ has_type held query text typed metrics targets spelled is = record {
 }
 
 -- the plan of a query that has a type
-pub plan_over : (held : SchemaLists) (buckets : ℕ) → 0 < buckets → (typed : TypedTree) → IsQueryType held typed
+pub plan_over : (held : SchemaLists) (buckets : ℕ) (typed : TypedTree) → IsQueryType held typed
     → (plan : Plan) → typed_tree plan.typed ≡ typed
     → map formula_tree plan.formulas ≡ plan_formulas buckets typed.tree
     → IsListing (all_named (formulas (map formula_tree plan.formulas))) plan.buckets
+    → AllByRecursion (λ (bucket : ℕ). bucket < buckets) plan.buckets
     → AllHoldWhereMet held buckets (fetches typed.tree) (map formula_tree plan.formulas)
     → IsPlanOver held buckets plan
-plan_over held buckets some typed query plan same hints listed promise =
-    let there : map formula_tree plan.formulas ≡ plan_formulas buckets (typed_tree plan.typed).tree =
-    subst (λ (of : TypedTree). map formula_tree plan.formulas ≡ plan_formulas buckets of.tree) (sym same) hints in
+plan_over held buckets typed query plan same hints listed below promise =
     record {
       query = subst (λ (of : TypedTree). IsQueryType held of) (sym same) query;
-      hints = there;
+      hints = subst (λ (of : TypedTree). map formula_tree plan.formulas ≡ plan_formulas buckets of.tree) (sym same) hints;
       promise = subst (λ (of : TypedTree). AllHoldWhereMet held buckets (fetches of.tree) (map formula_tree plan.formulas))
           (sym same) promise;
       listed = listed;
-      below = plan_below buckets some (typed_tree plan.typed).tree (map formula_tree plan.formulas) plan.buckets there
-          listed;
+      below = below;
     }

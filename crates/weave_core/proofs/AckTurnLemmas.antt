@@ -22,7 +22,7 @@ use Rattle.weave_core.proofs.SeatLemmas.{shared_at_range}
 use Rattle.mon_topo.proofs.SightLemmas.{range_noted_over, range_seen}
 use Rattle.weave_core.proofs.WriteTurnLemmas.{can_come, step_is}
 use Rattle.weave_core.specs.Agreements.{AreShared, IsRangeSo}
-use Rattle.weave_core.specs.Meetings.{met_at_range}
+use Rattle.weave_core.specs.Meetings.{sight_at_range}
 use Rattle.mon_topo.specs.Sights.{range_sight, sight_of, with_range_sight}
 use Rattle.weave_core.specs.States.{store_of}
 use Rattle.weave_core.specs.WriteEvents.{ChangesRange, IfWritten, LetsGo}
@@ -39,7 +39,7 @@ use Rattle.write_core.specs.Invariant.{IsAcking, IsAt}
 use Rattle.write_core.specs.Marks.{ack_of, found_in_mark, some_took}
 use Rattle.write_core.specs.Program.{Acking, Ended, Marked, Not, Stage, Verdict, end_of_verdict}
 use Rattle.write_core.specs.Steps.{with_acknowledgement, step}
-use Rattle.write_core.specs.Views.{View, joined_view, of_leaf, of_range, with_range_entry}
+use Rattle.mon_topo.specs.Views.{View, joined_view, of_leaf, of_range, with_range_entry}
 use Rattle.write_core.specs.World.{World, Writer, Writes, at_range, view_of, writes_on}
 use Rattle.write_core.specs.declared.asks.WriteEnd.{WriteEnd}
 use Rattle.write_core.specs.declared.asks.WriteEnd.TheVariants as end
@@ -107,10 +107,10 @@ module _ (config : Config) (world : World) (i : ℕ) (store : Store) (writing : 
     ranges_same : (n : ℕ) → n ≢ range.0
         → of_range (change world.truth) (range_numbered n) ≡ of_range world.truth (range_numbered n)
     history : events.with_end_entry seat.state writing.number writing.row last ≡ of_range (change world.truth) range
-    seen : met_at_range range (events.with_end_entry seat.state writing.number writing.row last) sight seat.sight
+    seen : sight_at_range range (events.with_end_entry seat.state writing.number writing.row last) sight seat.sight
         ≡ sight_of (change met).seen
 
-  met_is : met_at_range range (of_range world.truth range) (sight_of view.seen) (sight_of (world.ranges range.0).seen)
+  met_is : sight_at_range range (of_range world.truth range) (sight_of view.seen) (sight_of (world.ranges range.0).seen)
       ≡ sight_of met.seen
   met_is = range_met setting world view range work.kept (own config world i store writing sight work).part
 
@@ -121,7 +121,7 @@ module _ (config : Config) (world : World) (i : ℕ) (store : Store) (writing : 
     leaves_same = λ leaf. refl;
     ranges_same = λ n apart. refl;
     history = same ∙ so.history;
-    seen = (λ k. met_at_range range ((same ∙ so.history) k) (work.writer.seen k) (so.sight k)) ∙ met_is;
+    seen = (λ k. sight_at_range range ((same ∙ so.history) k) (work.writer.seen k) (so.sight k)) ∙ met_is;
   }
 
   appends : (ack : Ack) → IsChangeSo (with_range_entry range (range_entry.Acked i writing.row ack)) (end.Written ack)
@@ -141,7 +141,7 @@ module _ (config : Config) (world : World) (i : ℕ) (store : Store) (writing : 
         ranges_same = λ n apart. range_entry_other world.truth.seen range entry (range_numbered n) apart;
         history = grown ∙ sym (range_entry_same world.truth.seen range entry there);
         seen =
-            (λ k. met_at_range range (grown k) (work.writer.seen k) (so.sight k))
+            (λ k. sight_at_range range (grown k) (work.writer.seen k) (so.sight k))
             ∙ range_noted_over range (range_sight (of_range world.truth range))
             (range_sight (of_range world.truth range ++ entry ∷ [])) (sight_of view.seen)
             (sight_of (world.ranges range.0).seen) (sight_of met.seen) met_is
@@ -182,7 +182,7 @@ module _ (config : Config) (world : World) (i : ℕ) (store : Store) (writing : 
 
     seen_is : now ≡ sight_of (change met).seen
     seen_is =
-        goes.seen ∙ ap (λ (history : List RangeEntry). met_at_range range history sight seat.sight) goes.state
+        goes.seen ∙ ap (λ (history : List RangeEntry). sight_at_range range history sight seat.sight) goes.state
         ∙ is_change.seen
 
     doer_is : (step setting world i told.Done).actors i ≡ Writes (ended_write i writing verdict (change met))

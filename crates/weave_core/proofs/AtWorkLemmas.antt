@@ -27,7 +27,7 @@ use Rattle.write_core.specs.Program.{Acking, Ended, Entering, Inside, Locking, M
 use Rattle.write_core.specs.Program.{after, ask_of, done_inside, enter, entering, inside, reserve, reserving}
 use Rattle.write_core.specs.Rounds.{Round, again, is_no_mark_left, is_through, after_look, round_marks, round_of}
 use Rattle.write_core.specs.Rounds.{after_skip}
-use Rattle.write_core.specs.Views.{View}
+use Rattle.mon_topo.specs.Views.{View}
 use Rattle.write_core.specs.World.{World, Writer, view_of}
 use Rattle.write_core.specs.declared.asks.WriteAsk.{WriteAsk}
 use Rattle.write_core.specs.declared.asks.WriteAsk.TheVariants as ask

@@ -6,7 +6,7 @@ use Rattle.std.specs.Prelude.{slice_get}
 use Rattle.mon_config.specs.declared.config.Config.{Config}
 use Rattle.mon_schema.specs.Fits.{fits}
 use Rattle.mon_topo.proofs.HeldLemmas.{seen_within_itself}
-use Rattle.mon_topo.specs.Locations.{range_for}
+use Rattle.mon_config.specs.KeyRanges.{range_of_key}
 use Rattle.mon_topo.specs.SeenHistories.{AreWithin}
 use Rattle.mon_topo.specs.Zones.{ranges_in}
 use Rattle.mon_value.specs.declared.positions.Range.{Range}
@@ -29,7 +29,7 @@ use Rattle.weave_core.specs.Agreements.{AreShared, IsServed, first_view}
 use Rattle.weave_core.specs.Core.{CanCome, Happens, Reader}
 use Rattle.weave_core.specs.Declarations.{Declares, QueryBegins, WriteBegins, new_reader, with_reader}
 use Rattle.weave_core.specs.EndTexts.{no_plan_text, no_zone_text}
-use Rattle.weave_core.specs.FirstHistories.{first_histories}
+use Rattle.mon_topo.specs.FirstHistories.{first_histories}
 use Rattle.weave_core.specs.Holders.{AreHolders, HoldsLeaf, HoldsRange}
 use Rattle.weave_core.specs.LawfulLines.{IsLawfulCall}
 use Rattle.weave_core.specs.Licensed.{IsReader}
@@ -55,7 +55,7 @@ use Rattle.weave_core.specs.declared.writes.Writing.{Writing as Write}
 use Rattle.write_core.proofs.KeepsLemmas.{changed_by, changed_other, changed_same}
 use Rattle.write_core.specs.Events.{Begins, CanBegin, new_writer}
 use Rattle.write_core.specs.Program.{Locking, new_write}
-use Rattle.write_core.specs.Views.{View}
+use Rattle.mon_topo.specs.Views.{View}
 use Rattle.write_core.specs.World.{Actor as Doer, Stands, Writes, with_value_at, view_of}
 use Rattle.write_core.specs.declared.asks.WriteAsk.TheVariants as write_ask
 
@@ -203,7 +203,7 @@ module _ (config : Config) (state : State (store_of config)) (i : ℕ) where
     -- a write
 
     module _ (row : Row) (range : Range)
-        (home : range_for config.schemas config.topology row.key.target ≡ Some range)
+        (home : range_of_key config row.key ≡ Some range)
         (there : range.0 < length (ranges_in config.topology)) (fitting : fits config.schemas row ≡ true) where
       abbrev Begun : State (store_of config)
       Begun = with_event (store_of config) state (Happens (Begins i row range))

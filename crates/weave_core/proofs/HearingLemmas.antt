@@ -27,7 +27,7 @@ use Rattle.weave_core.specs.Agreements.{AreShared}
 use Rattle.weave_core.specs.Core.{CanCome, Happens, Hears, Reader, begun_with}
 use Rattle.weave_core.specs.Courses.{is_over}
 use Rattle.weave_core.specs.Declarations.{hearing, hearing_in}
-use Rattle.weave_core.specs.FirstHistories.{first_histories}
+use Rattle.mon_topo.specs.FirstHistories.{first_histories}
 use Rattle.weave_core.specs.Holders.{HoldsLeaf, HoldsRange}
 use Rattle.weave_core.specs.Licensed.{IsWoven}
 use Rattle.weave_core.specs.NewActors.{hearing_of}
@@ -53,7 +53,7 @@ use Rattle.write_core.proofs.KeepsLemmas.{changed_other, changed_same}
 use Rattle.write_core.proofs.ViewLemmas.{joined_first}
 use Rattle.write_core.specs.Events.{HasNotBegun, Learns}
 use Rattle.write_core.specs.Program.{Acking, Ended, Entering, Inside, Locking, Reserving, Stage}
-use Rattle.write_core.specs.Views.{View, joined_view}
+use Rattle.mon_topo.specs.Views.{View, joined_view}
 use Rattle.write_core.specs.World.{Actor as Doer, IsPart, Recovers, Stands, Writes, with_value_at, view_of, wiser}
 
 -- ---- who is wiser

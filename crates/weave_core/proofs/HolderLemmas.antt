@@ -13,7 +13,7 @@ use Rattle.write_core.specs.Rounds.{Round, again, is_through, after_look, round_
 use Rattle.write_core.specs.Marks.{waiting}
 use Rattle.write_core.specs.Steps.{CanCome, CanComeAt, CanGo, with_acknowledgement, entrant, step, step_at}
 use Rattle.write_core.specs.Steps.{after_answer, same_view}
-use Rattle.write_core.specs.Views.{View, joined_view, with_entry, with_root_bit, with_zone_bit}
+use Rattle.mon_topo.specs.Views.{View, joined_view, with_entry, with_root_bit, with_zone_bit}
 use Rattle.write_core.specs.World.{Actor, World, Writer, Writes, at_leaf, at_range, with_value_at, put_of, writes_on}
 use Rattle.write_core.specs.declared.asks.WriteTold.{WriteTold}
 use Rattle.write_core.specs.declared.asks.WriteTold.TheVariants as told

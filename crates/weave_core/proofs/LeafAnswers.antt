@@ -17,11 +17,10 @@ use Rattle.mql_types.specs.Nodes.{typed_tree}
 use Rattle.mql_types.specs.declared.plans.Plan.{Plan}
 use Rattle.query_core.specs.Machine.{Query, slots_at, slots_of, slots_visited}
 use Rattle.query_core.specs.Mixtures.{typed_of}
-use Rattle.query_core.specs.Openings.{is_plan_met}
+use Rattle.plan_split.specs.Meeting.{is_plan_met}
 use Rattle.query_core.specs.Program.{ask_of}
-use Rattle.query_core.specs.ReadableSlots.{CanBeRead}
+use Rattle.mon_meaning.specs.ReadableSlots.{CanBeRead, slot_rows}
 use Rattle.query_core.specs.Settings.{QuerySetting}
-use Rattle.query_core.specs.Traces.{slot_rows}
 use Rattle.query_core.specs.declared.asks.Ask.{Ask}
 use Rattle.query_core.specs.declared.asks.Ask.TheVariants as ask
 use Rattle.query_core.specs.declared.asks.Told.{Told}
@@ -35,7 +34,7 @@ use Rattle.weave_core.proofs.SeatLemmas.{parts_alike}
 use Rattle.weave_core.specs.Agreements.{IsLeafSo}
 use Rattle.weave_core.specs.Core.{Core, IsLookedAt, IsTold, Reader, query_now}
 use Rattle.weave_core.specs.Holders.{HoldsLeaf}
-use Rattle.weave_core.specs.Meetings.{met_at_leaf}
+use Rattle.weave_core.specs.Meetings.{sight_at_leaf}
 use Rattle.weave_core.specs.QueryLooks.{IsHeldFrom, IsSeatedForLeaf, Looks, LooksAt, TellsSo}
 use Rattle.weave_core.specs.QueryTurns.{AnswersSo, IsAnswered, IsAsking, QueryWaits}
 use Rattle.mon_topo.specs.Sights.{AreAlike, sight_of}
@@ -46,7 +45,7 @@ use Rattle.weave_core.specs.declared.queries.Querying.{Querying}
 use Rattle.mon_topo.specs.declared.sights.Sight.{Sight}
 use Rattle.weave_core.specs.declared.store.Store.{Store}
 use Rattle.write_core.proofs.KeepsLemmas.{changed_same}
-use Rattle.write_core.specs.Views.{View, joined_view, of_leaf}
+use Rattle.mon_topo.specs.Views.{View, joined_view, of_leaf}
 use Rattle.write_core.specs.World.{World}
 use Rattle.weave_core.proofs.AskingLemmas.{answered, asked_of, asks_then, from, not_mine, some_holder, there_at, waits}
 
@@ -210,7 +209,7 @@ module _ (config : Config) (core : Core (store_of config)) (k : ℕ) (store : St
       leaf_looked answer looks =
           let seen_then : now ≡ sight_of (joined_view reader.view (world.leaves leaf.0)).seen =
           looks.seen
-          ∙ (λ i. met_at_leaf leaf (so.history i) (asking.reader.seen i) (so.sight i))
+          ∙ (λ i. sight_at_leaf leaf (so.history i) (asking.reader.seen i) (so.sight i))
           ∙ leaf_met (store_of config) world reader.view leaf asking.woven.world (asking.woven.readers k).part in
           answered config core k store querying sight asking (ask.Visit leaf) e new now answer (record {
             told = visit_told (sym so.holder ∙ looks.free) answer (tells_there answer looks.told_so);

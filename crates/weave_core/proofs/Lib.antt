@@ -5,7 +5,6 @@ pub mod AtWorkLemmas
 pub mod CoreLemmas
 pub mod CourseLemmas
 pub mod DeclareLemmas
-pub mod FirstLemmas
 pub mod HearingLemmas
 pub mod HolderLemmas
 pub mod LeafAnswers
@@ -35,7 +34,6 @@ pub mod ReaderAnswers
 pub mod ReaderLemmas
 pub mod SeatLemmas
 pub mod SeenLemmas
-pub mod ServingLemmas
 pub mod StepLemmas
 pub mod TurnLemmas
 pub mod WeaveLemmas

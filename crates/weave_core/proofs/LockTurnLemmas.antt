@@ -13,7 +13,7 @@ use Rattle.weave_core.proofs.WriteTurnLemmas.{can_come, not_mine_range, step_is,
 use Rattle.weave_core.specs.Writers.{writer_of}
 use Rattle.weave_core.specs.Agreements.{IsRangeSo}
 use Rattle.weave_core.specs.Holders.{HoldsRange, IsHolding, leaf_inside}
-use Rattle.weave_core.specs.Meetings.{met_at_range}
+use Rattle.weave_core.specs.Meetings.{sight_at_range}
 use Rattle.weave_core.specs.RangeAnswers.{lock_answer}
 use Rattle.mon_topo.specs.Sights.{sight_of}
 use Rattle.weave_core.specs.States.{holder_for_actor, holder_for_write, store_of}
@@ -26,7 +26,7 @@ use Rattle.weave_core.specs.declared.writes.Writing.{Writing}
 use Rattle.write_core.proofs.KeepsLemmas.{changed_same}
 use Rattle.write_core.specs.Program.{Locking, Stage, after, ask_of}
 use Rattle.write_core.specs.Steps.{IsToldByRange, same_view}
-use Rattle.write_core.specs.Views.{View, joined_view, of_range}
+use Rattle.mon_topo.specs.Views.{View, joined_view, of_range}
 use Rattle.write_core.specs.World.{Actor, World, Writer, Writes, at_range, view_of, writes_on}
 use Rattle.write_core.specs.declared.asks.WriteAsk.TheVariants as ask
 use Rattle.write_core.specs.declared.asks.WriteTold.{WriteTold}
@@ -67,7 +67,7 @@ module _ (config : Config) (world : World) (i : ℕ) (store : Store) (writing : 
     seen_is : now ≡ sight_of (joined_view view (world.ranges range.0)).seen
     seen_is =
         locks.seen
-        ∙ (λ k. met_at_range range (so.history k) (work.writer.seen k) (so.sight k))
+        ∙ (λ k. sight_at_range range (so.history k) (work.writer.seen k) (so.sight k))
         ∙ range_met setting world view range work.kept (own config world i store writing sight work).part
 
     holder_is : taken.holder ≡ Some i

@@ -5,7 +5,7 @@ use Rattle.std.specs.List.{AllByRecursion as All}
 use Rattle.std.proofs.lemmas.Bool.{and_parts, eqb-true, or_cases, or_left, or_parts, or_right}
 use Rattle.leaf_eval.specs.Replicas as leaf_eval
 use Rattle.leaf_eval.specs.Replicas.{ShareNoSeries, has_series}
-use Rattle.mixer.specs.Divisions.{AreApart, ShareNoTarget, has_target}
+use Rattle.mon_meaning.specs.ApartTargets.{AreApart, ShareNoTarget, has_target}
 use Rattle.mon_hints.specs.Formulas.{FormulaTrees, all_named, any_holds, formula_tree, formulas}
 use Rattle.mon_hints.specs.Listings.{AreAmong, is_among}
 use Rattle.mon_hints.specs.Words.{buckets_of_child, has_bit}
@@ -18,8 +18,8 @@ use Rattle.mon_value.specs.declared.rows.Row.{Row}
 use Rattle.mon_value.specs.declared.rows.SeriesKey.{SeriesKey}
 use Rattle.mon_value.specs.declared.rows.Target.{Target}
 use Rattle.mql_types.specs.declared.plans.Plan.{Plan}
-use Rattle.query_core.proofs.HintFacts.{any_on}
-use Rattle.query_core.specs.Openings.{is_plan_met, lets_child_in}
+use Rattle.plan_split.proofs.NamedBuckets.{any_on}
+use Rattle.plan_split.specs.Meeting.{is_plan_met, lets_child_in}
 
 -- ---- a leaf's own words
 

@@ -15,7 +15,7 @@ use Rattle.weave_core.specs.declared.ranges.RangeSeat.{RangeSeat}
 use Rattle.weave_core.specs.declared.store.Store.{Store}
 use Rattle.write_core.proofs.KeepsLemmas.{changed_other}
 use Rattle.write_core.specs.Events.{after_resolving, after_visit}
-use Rattle.write_core.specs.Views.{View, of_leaf, of_range}
+use Rattle.mon_topo.specs.Views.{View, of_leaf, of_range}
 use Rattle.write_core.specs.World.{World}
 
 -- the same is true and held, and all but one leaf and one range have seen the same

@@ -7,7 +7,7 @@ use Rattle.mon_value.specs.declared.positions.Range.{Range}
 use Rattle.mon_value.specs.declared.positions.SlotLeaf.{SlotLeaf}
 use Rattle.query_core.specs.Machine.{Query, slots_at}
 use Rattle.query_core.specs.Program.{ask_of}
-use Rattle.query_core.specs.Traces.{first_serving}
+use Rattle.mon_topo.specs.Serving.{first_serving}
 use Rattle.query_core.specs.declared.asks.Ask.{Ask}
 use Rattle.query_core.specs.declared.asks.Ask.TheVariants as ask
 use Rattle.query_core.specs.declared.asks.Told.{Told}
@@ -17,7 +17,7 @@ use Rattle.weave_core.proofs.SeatLemmas.{parts_alike}
 use Rattle.weave_core.specs.Agreements.{IsRangeSo}
 use Rattle.weave_core.specs.Core.{Core, IsTold, Reader, query_now}
 use Rattle.weave_core.specs.Holders.{HoldsRange}
-use Rattle.weave_core.specs.Meetings.{met_at_range}
+use Rattle.weave_core.specs.Meetings.{sight_at_range}
 use Rattle.weave_core.specs.QueryLooks.{FindsReplica, FindsAt, IsHeldFrom, IsSeatedForRange, slot_told}
 use Rattle.weave_core.specs.QueryTurns.{AnswersSo, IsAnswered, IsAsking, QueryWaits}
 use Rattle.mon_topo.specs.Sights.{AreAlike, range_sight, sight_of}
@@ -28,7 +28,7 @@ use Rattle.weave_core.specs.declared.ranges.RangeSeat.{RangeSeat}
 use Rattle.mon_topo.specs.declared.sights.Sight.{Sight}
 use Rattle.weave_core.specs.declared.store.Store.{Store}
 use Rattle.write_core.proofs.KeepsLemmas.{changed_same}
-use Rattle.write_core.specs.Views.{View, joined_view, of_range}
+use Rattle.mon_topo.specs.Views.{View, joined_view, of_range}
 use Rattle.write_core.specs.World.{World}
 use Rattle.weave_core.proofs.AskingLemmas.{answered, not_mine, some_holder, there_at, waits}
 
@@ -89,7 +89,7 @@ module _ (config : Config) (core : Core (store_of config)) (k : ℕ) (store : St
           let so = range_so seat was in
           let seen_then : now ≡ sight_of (joined_view reader.view (world.ranges range.0)).seen =
           finds.seen
-          ∙ (λ i. met_at_range range (so.history i) (asking.reader.seen i) (so.sight i))
+          ∙ (λ i. sight_at_range range (so.history i) (asking.reader.seen i) (so.sight i))
           ∙ range_met (store_of config) world reader.view range asking.woven.world (asking.woven.readers k).part in
           let avoided : querying.machine.avoided ≡ query.avoided = ap (λ (one : Query). one.avoided)
           (sym asking.reader.now) in

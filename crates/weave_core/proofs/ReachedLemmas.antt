@@ -2,7 +2,7 @@
 use Rattle.std.proofs.Common.{◌≡◌, ◌≤ℤ◌, ◌⊎◌, inl, inr, ℕ, ℤ, zero, suc, pos, List, [], ◌∷◌, Option, Some, None}
 use Rattle.std.proofs.Common.{Result, Ok, Err, refl, sym, subst, ◌∙◌}
 use Rattle.mon_config.specs.declared.config.Config.{Config}
-use Rattle.mon_topo.specs.Locations.{range_for}
+use Rattle.mon_config.specs.KeyRanges.{range_of_key}
 use Rattle.mon_topo.specs.Settings.{Setting}
 use Rattle.mon_value.specs.declared.positions.Range.{Range}
 use Rattle.mon_value.specs.declared.rows.Row.{Row}
@@ -34,7 +34,7 @@ use Rattle.weave_core.specs.declared.lines.LineForm.TheVariants as form
 use Rattle.write_core.proofs.KeepsLemmas.{changed_by}
 use Rattle.write_core.specs.Events.{Begins, Goes}
 use Rattle.write_core.specs.Invariant.{IsActor}
-use Rattle.write_core.specs.Views.{View, joined_view}
+use Rattle.mon_topo.specs.Views.{View, joined_view}
 use Rattle.write_core.specs.World.{Actor, IsPart, Recovers, Stands, World, Writes, view_of}
 
 -- what an actor has seen and knows is a part of the truth
@@ -50,7 +50,7 @@ pub fresh_reader : (store : Setting) (world : World) (setting : QuerySetting) (m
     → IsReader store world (new_reader store setting moment view)
 fresh_reader store world setting moment view part = record {
   part = part;
-  sound = record { held = part.sound.held; covered = λ leaf here. part.sound.covered leaf };
+  sound = part.sound;
   licensed = tt;
   now = refl;
 }
@@ -210,7 +210,7 @@ module _ (config : Config) where
   declare_holds : (state : State') (k : ℕ) (what : Call) (after : State') → IsLawfulCall config.schemas what
       → Declares config state k what after → Holds state → Holds after
   declare_holds state k (call.Write row) after lawful declares h =
-      write_holds state k row (range_for config.schemas config.topology row.key.target) after declares h
+      write_holds state k row (range_of_key config row.key) after declares h
   declare_holds state k (call.Query moment text) after lawful declares h =
       query_holds state k moment (text_type config.schemas text) after lawful declares h
 

@@ -19,13 +19,13 @@ use Rattle.weave_core.specs.declared.leaves.LeafSeat.{LeafSeat}
 use Rattle.weave_core.specs.declared.ranges.RangeSeat.{RangeSeat}
 use Rattle.mon_topo.specs.declared.sights.Sight.{Sight}
 use Rattle.weave_core.specs.declared.store.Store.{Store}
-use Rattle.weave_core.specs.declared.words.Place.TheVariants as at
+use Rattle.mon_hints.specs.declared.places.Place.TheVariants as at
 use Rattle.mon_hints.specs.Covers.{Bits}
 use Rattle.mon_hints.specs.Words.{has_bit}
 use Rattle.mon_topo.specs.Settings.{zone_of_leaf}
 use Rattle.weave_core.specs.Agreements.{place_of_leaf}
 use Rattle.write_core.proofs.KeepsLemmas.{changed_other, changed_same}
-use Rattle.write_core.specs.Views.{View, of_leaf, of_range}
+use Rattle.mon_topo.specs.Views.{View, of_leaf, of_range}
 use Rattle.write_core.specs.World.{Actor, IsPart, World, at_leaf, at_range, met_at_leaf, met_at_range}
 
 -- ---- lists with one item changed

@@ -17,13 +17,14 @@ use Rattle.mon_topo.specs.Zones.{ranges_in}
 use Rattle.mon_topo.specs.declared.zones.ZoneSpec.{ZoneSpec}
 use Rattle.mon_value.specs.declared.histories.Entry.{Entry}
 use Rattle.mon_value.specs.declared.histories.RangeEntry.{RangeEntry}
-use Rattle.weave_core.proofs.FirstLemmas.{leaf_is}
+use Rattle.mon_topo.proofs.FirstLemmas.{leaf_is}
 use Rattle.weave_core.specs.Agreements.{AreLeaves, AreRanges, AreShared, AreWords, IsLeafSo, IsRangeSo, IsServed}
 use Rattle.weave_core.specs.Agreements.{first_view, place_of_leaf}
-use Rattle.weave_core.specs.FirstHistories.{first_histories, first_leaf_history, first_range_history}
+use Rattle.mon_topo.specs.FirstHistories.{first_histories, first_leaf_history, first_range_history}
+use Rattle.mon_topo.specs.FirstHistories.{first_range_histories}
 use Rattle.weave_core.specs.FirstSeats.{AreFirstSeats}
 use Rattle.weave_core.specs.HintWords.{HintTable, index_of, no_words, hint_word_at}
-use Rattle.weave_core.specs.Openings.{AreOpenedSo, IsOpenedSo, first_range_histories, first_world, leaf_seat}
+use Rattle.weave_core.specs.Openings.{AreOpenedSo, IsOpenedSo, first_world, leaf_seat}
 use Rattle.weave_core.specs.Openings.{leaf_seats, range_seat, sight_of_states}
 use Rattle.mon_topo.specs.Sights.{range_sight, sight_of}
 use Rattle.weave_core.specs.declared.leaves.LeafSeat.{LeafSeat}
@@ -31,8 +32,8 @@ use Rattle.weave_core.specs.declared.ranges.RangeSeat.{RangeSeat}
 use Rattle.mon_topo.specs.declared.sights.Sight.{Sight}
 use Rattle.weave_core.specs.declared.store.Seats.{Seats}
 use Rattle.weave_core.specs.declared.store.Store.{Store}
-use Rattle.weave_core.specs.declared.words.Place.{Place}
-use Rattle.weave_core.specs.declared.words.Place.TheVariants as at
+use Rattle.mon_hints.specs.declared.places.Place.{Place}
+use Rattle.mon_hints.specs.declared.places.Place.TheVariants as at
 use Rattle.weave_core.specs.States.{store_of}
 
 -- ---- how far histories were seen

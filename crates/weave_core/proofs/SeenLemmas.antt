@@ -19,10 +19,11 @@ use Rattle.mon_value.specs.declared.positions.Leaf.{Leaf}
 use Rattle.mon_value.specs.declared.positions.Range.{Range}
 use Rattle.mon_value.specs.declared.positions.SlotLeaf.{SlotLeaf}
 use Rattle.query_core.specs.Sessions.{IsSeenSo}
-use Rattle.query_core.specs.Traces.{first_serving, is_avoided, replica_of}
+use Rattle.query_core.specs.Traces.{replica_of}
+use Rattle.mon_topo.specs.Serving.{first_serving, is_avoided}
 use Rattle.query_core.specs.declared.answers.Resolved.{Resolved}
-use Rattle.weave_core.proofs.ServingLemmas.{HasFirst, first_serves}
-use Rattle.weave_core.specs.FirstHistories.{first_histories, first_range_history, openings_from, slot_numbered}
+use Rattle.mon_topo.proofs.ServingLemmas.{HasFirst, first_serves}
+use Rattle.mon_topo.specs.FirstHistories.{first_histories, first_range_history, openings_from, slot_numbered}
 use Rattle.weave_core.specs.QueryLooks.{with_first_replica, firsts_from, seen_of}
 use Rattle.mon_topo.specs.Sights.{range_sight, sight_of}
 use Rattle.mon_topo.specs.declared.sights.RangeSight.{RangeSight}

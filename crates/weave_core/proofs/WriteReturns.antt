@@ -1,10 +1,9 @@
 -- What the calls of a store for a write's events ask for, and what they come to, by what the events do to the seats.
-use Rattle.std.proofs.Common.{◌≡◌, ℕ, ◌<◌, ◌≤◌, ◌<ℤ◌, Bool, true, false, List, [], ◌∷◌, ◌++◌, Some, length, get_or}
+use Rattle.std.proofs.Common.{◌≡◌, ℕ, ◌<◌, ◌<ℤ◌, Bool, true, false, List, [], ◌∷◌, ◌++◌, Some, length, get_or}
 use Rattle.std.proofs.Common.{refl, sym, ap, subst, ◌∙◌}
 use Rattle.std.specs.Prelude.{IfSome, slice_get}
 use Rattle.std.proofs.lemmas.Option.{same_Some, slice_get_read}
 use Rattle.mon_config.specs.declared.config.Config.{Config}
-use Rattle.mon_value.specs.declared.limits.TheConstants.{MOST_BUCKETS}
 use Rattle.mon_topo.specs.Settings.{zone_of_leaf}
 use Rattle.mon_topo.specs.RangeHistories.{acknowledged_rows}
 use Rattle.mon_value.specs.LeafHistories.{IsWellFormed}
@@ -37,7 +36,7 @@ use Rattle.weave_core.specs.declared.leaves.LeafSeat.{LeafSeat}
 use Rattle.weave_core.specs.declared.ranges.RangeSeat.{RangeSeat}
 use Rattle.mon_topo.specs.declared.sights.Sight.{Sight}
 use Rattle.weave_core.specs.declared.store.Store.{Store}
-use Rattle.weave_core.specs.declared.words.Place.TheVariants as word
+use Rattle.mon_hints.specs.declared.places.Place.TheVariants as word
 use Rattle.weave_core.specs.declared.writes.WriteTurn.{WriteTurn}
 use Rattle.weave_core.specs.declared.writes.Writing.{Writing}
 use Rattle.write_core.specs.Invariant.{IsAt}
@@ -339,17 +338,6 @@ module _ (store : Store) (writing : Writing) (sight : Sight) (some : IsInSomeWor
         < length seat.sight.leaves
     seat_in_sight seat got = leaf_in_sight some.config some.world some.i store writing sight some.at_work leaf here seat
         (leaf_so some.config some.world some.i store writing sight some.at_work leaf seat got)
-
-    pub seat_some : (seat : LeafSeat) → slice_get store.leaves.items leaf.0 ≡ Some seat → 0 < seat.state.buckets
-    seat_some seat got = subst (λ (n : ℕ). 0 < n)
-        (sym (leaf_so some.config some.world some.i store writing sight some.at_work leaf seat got).buckets)
-        some.at_work.shared.served.limited.some
-
-    pub seat_most : (seat : LeafSeat) → slice_get store.leaves.items leaf.0 ≡ Some seat → seat.state.buckets
-        ≤ MOST_BUCKETS
-    seat_most seat got = subst (λ (n : ℕ). n ≤ MOST_BUCKETS)
-        (sym (leaf_so some.config some.world some.i store writing sight some.at_work leaf seat got).buckets)
-        some.at_work.shared.served.limited.most
 
   pub reserving_leaf : (slot : Slot) (leaf : Leaf) → ask_of writing.machine.stage ≡ ask.Reserve slot leaf
       → leaf.0 < length some.world.truth.seen.leaves

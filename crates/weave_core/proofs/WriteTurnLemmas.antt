@@ -16,7 +16,7 @@ use Rattle.weave_core.specs.declared.store.Store.{Store}
 use Rattle.weave_core.specs.declared.writes.Writing.{Writing}
 use Rattle.write_core.specs.Program.{Stage, after, ask_of}
 use Rattle.write_core.specs.Steps.{CanCome, CanComeAt, step, step_at, after_answer, CanGo}
-use Rattle.write_core.specs.Views.{View}
+use Rattle.mon_topo.specs.Views.{View}
 use Rattle.write_core.specs.World.{Actor, World, Writer, Writes, view_of, writes_on}
 use Rattle.write_core.specs.declared.asks.WriteAsk.TheVariants as ask
 use Rattle.write_core.specs.declared.asks.WriteTold.{WriteTold}

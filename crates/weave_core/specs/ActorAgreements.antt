@@ -10,7 +10,7 @@ use Rattle.query_core.specs.Program as query
 use Rattle.query_core.specs.declared.asks.Ask.TheVariants as query_ask
 use Rattle.weave_core.specs.Agreements.{AreShared, first_view}
 use Rattle.weave_core.specs.Core.{Reader, asked_now, query_now}
-use Rattle.weave_core.specs.FirstHistories.{first_histories}
+use Rattle.mon_topo.specs.FirstHistories.{first_histories}
 use Rattle.weave_core.specs.Holders.{AreHolders}
 use Rattle.weave_core.specs.Licensed.{IsWoven}
 use Rattle.weave_core.specs.PlannedQueries.{IsPlanned}

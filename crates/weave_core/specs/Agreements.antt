@@ -11,15 +11,15 @@ use Rattle.mon_topo.specs.Settings.{Setting, zone_of_leaf}
 use Rattle.mon_value.specs.Positions.{leaf_numbered, range_numbered}
 use Rattle.mon_topo.specs.Zones.{first_leaf, leaves_in, ranges_in}
 use Rattle.mon_value.specs.declared.positions.Leaf.{Leaf}
-use Rattle.weave_core.specs.FirstHistories.{first_histories}
+use Rattle.mon_topo.specs.FirstHistories.{first_histories}
 use Rattle.weave_core.specs.HintWords.{HintTable, hint_word_at}
 use Rattle.mon_topo.specs.Sights.{sight_of}
 use Rattle.weave_core.specs.States.{store_of}
 use Rattle.weave_core.specs.declared.leaves.LeafSeat.{LeafSeat}
 use Rattle.weave_core.specs.declared.ranges.RangeSeat.{RangeSeat}
 use Rattle.weave_core.specs.declared.store.Store.{Store}
-use Rattle.weave_core.specs.declared.words.Place.TheVariants as at
-use Rattle.write_core.specs.Views.{View, of_leaf, of_range}
+use Rattle.mon_hints.specs.declared.places.Place.TheVariants as at
+use Rattle.mon_topo.specs.Views.{View, of_leaf, of_range}
 use Rattle.write_core.specs.World.{World}
 use Rattle.mon_config.specs.Configs.{IsLimited}
 

@@ -2,7 +2,7 @@
 use Rattle.std.specs.Prelude.{ℕ, ℤ, ◌≡◌, List, [], map, Option, Some, None, Result, Ok, Err}
 use Rattle.mon_config.specs.declared.config.Config.{Config}
 use Rattle.mon_hints.specs.Formulas.{formula_tree}
-use Rattle.mon_topo.specs.Locations.{range_for}
+use Rattle.mon_config.specs.KeyRanges.{range_of_key}
 use Rattle.mon_topo.specs.Settings.{Setting}
 use Rattle.mon_value.specs.declared.positions.Range.{Range}
 use Rattle.mon_value.specs.declared.rows.Row.{Row}
@@ -22,7 +22,7 @@ use Rattle.weave_core.specs.Steps.{with_event, with_role}
 use Rattle.weave_core.specs.declared.calls.Call.{Call}
 use Rattle.weave_core.specs.declared.calls.Call.TheVariants as call
 use Rattle.write_core.specs.Events.{Begins, Learns}
-use Rattle.write_core.specs.Views.{View}
+use Rattle.mon_topo.specs.Views.{View}
 use Rattle.write_core.specs.World.{with_value_at, view_of}
 
 -- ---- queries
@@ -76,7 +76,7 @@ module _ (config : Config) where
   -- an actor is declared, and this is left
   abbrev pub Declares : State (store_of config) → ℕ → Call → State (store_of config) → Type 0
   Declares state k (call.Write row) after =
-      WriteBegins state k row (range_for config.schemas config.topology row.key.target) after
+      WriteBegins state k row (range_of_key config row.key) after
   Declares state k (call.Query moment text) after = QueryBegins state k moment (text_type config.schemas text) after
 
 -- ---- meetings

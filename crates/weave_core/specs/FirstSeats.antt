@@ -2,9 +2,9 @@
 use Rattle.std.specs.Prelude.{◌≡◌, List, length, map}
 use Rattle.leaf_store.specs.LeafStates.{LeafView}
 use Rattle.mon_config.specs.declared.config.Config.{Config}
-use Rattle.weave_core.specs.FirstHistories.{first_leaf_history}
+use Rattle.mon_topo.specs.FirstHistories.{first_leaf_history, first_range_histories}
 use Rattle.weave_core.specs.HintWords.{no_words}
-use Rattle.weave_core.specs.Openings.{AreOpenedSo, first_range_histories, leaf_seats, range_seat, sight_of_states}
+use Rattle.weave_core.specs.Openings.{AreOpenedSo, leaf_seats, range_seat, sight_of_states}
 use Rattle.weave_core.specs.declared.store.Seats.{Seats}
 
 -- the first replicas are opened, all of them have been seen, nobody holds a leaf or a range, and no bit is set

@@ -6,7 +6,6 @@ pub mod Courses
 pub mod Declarations
 pub mod EndTexts
 pub mod EventNames
-pub mod FirstHistories
 pub mod FirstSeats
 pub mod HintWords
 pub mod Holders

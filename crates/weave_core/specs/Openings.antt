@@ -1,18 +1,17 @@
--- How a store begins: the first replicas as they are opened one by one, and then the seats of its leaves and ranges.
-use Rattle.std.specs.Prelude.{ℕ, ◌≡◌, ◌+◌, ◌-◌, List, [], ◌∷◌, ◌++◌, length, map, take, slice_get}
+-- How a store begins: the states of its leaves as the first replicas are opened, and then the seats of its leaves and ranges.
+use Rattle.std.specs.Prelude.{ℕ, ◌≡◌, ◌+◌, ◌-◌, List, [], ◌∷◌, length, map, slice_get}
 use Rattle.std.specs.Prelude.{Some, None}
-use Rattle.std.specs.List.{flat_map, range_with_len, slice_index_or}
+use Rattle.std.specs.List.{slice_index_or}
 use Rattle.leaf_store.specs.LeafStates.{LeafView, leaf_with_entry, with_promised}
 use Rattle.mon_config.specs.declared.config.Config.{Config}
-use Rattle.mon_topo.specs.Zones.{first_leaf, first_replicas, leaf_zones, leaves_in}
-use Rattle.mon_value.specs.Positions.{leaf_numbered, range_numbered, zone_numbered}
-use Rattle.mon_topo.specs.Zones.{ranges_in}
+use Rattle.mon_topo.specs.Zones.{first_leaf, leaf_zones, leaves_in}
+use Rattle.mon_value.specs.Positions.{zone_numbered}
 use Rattle.mon_topo.specs.declared.zones.ZoneSpec.{ZoneSpec}
 use Rattle.mon_value.specs.declared.histories.Entry.{Entry}
 use Rattle.mon_value.specs.declared.histories.RangeEntry.{RangeEntry}
 use Rattle.mon_value.specs.declared.positions.Range.{Range}
 use Rattle.weave_core.specs.Agreements.{first_view}
-use Rattle.weave_core.specs.FirstHistories.{first_range_history, opened_here, opened_of, opening}
+use Rattle.mon_topo.specs.FirstHistories.{opening}
 use Rattle.mon_topo.specs.Sights.{range_sight}
 use Rattle.weave_core.specs.declared.leaves.LeafSeat.{LeafSeat}
 use Rattle.weave_core.specs.declared.ranges.RangeSeat.{RangeSeat}
@@ -20,16 +19,6 @@ use Rattle.mon_topo.specs.declared.sights.Sight.{Sight}
 use Rattle.write_core.specs.World.{Stands, World}
 
 -- ---- the first replicas
-
--- what is on a leaf once the ranges before one are opened
-abbrev pub opened_before : List ZoneSpec → ℕ → ℕ → List Entry
-opened_before zones range n = flat_map (opened_of zones (leaf_numbered n)) (range_with_len 0 range)
-
--- and the range's own replicas up to a slot
-abbrev pub opened_up_to : List ZoneSpec → ℕ → ℕ → ℕ → List Entry
-opened_up_to zones range slot n =
-    opened_before zones range n
-    ++ opened_here (leaf_numbered n) (range_numbered range) 0 (take slot (first_replicas zones range))
 
 -- a leaf's state has this history, and room is promised for none
 pub record IsOpenedSo (config : Config) (history : List Entry) (state : LeafView) : Type 0 where
@@ -45,10 +34,6 @@ pub record AreOpenedSo (config : Config) (so_far : ℕ → List Entry) (states :
 -- a replica without rows is opened on a leaf
 abbrev pub with_opening : Range → ℕ → LeafView → LeafView
 with_opening range slot state = leaf_with_entry (with_promised state (state.promised + 1)) (opening range slot)
-
--- the histories of all ranges
-abbrev pub first_range_histories : List ZoneSpec → List (List RangeEntry)
-first_range_histories zones = map (first_range_history zones) (range_with_len 0 (length (ranges_in zones)))
 
 -- ---- seats
 

@@ -15,14 +15,14 @@ use Rattle.mon_value.specs.declared.rows.Row.{Row}
 use Rattle.mql_types.specs.Nodes.{TypedTree, typed_tree}
 use Rattle.mql_types.specs.declared.plans.Plan.{Plan}
 use Rattle.query_core.specs.Machine.{slots_of}
-use Rattle.query_core.specs.Openings.{is_plan_met}
-use Rattle.query_core.specs.ReadableSlots.{CanBeRead}
-use Rattle.query_core.specs.Traces.{first_serving, slot_rows}
+use Rattle.plan_split.specs.Meeting.{is_plan_met}
+use Rattle.mon_meaning.specs.ReadableSlots.{CanBeRead, slot_rows}
+use Rattle.mon_topo.specs.Serving.{first_serving}
 use Rattle.query_core.specs.declared.answers.Resolved.{Resolved}
 use Rattle.query_core.specs.declared.asks.Seen.{Seen}
 use Rattle.query_core.specs.declared.asks.Told.{Told}
 use Rattle.query_core.specs.declared.asks.Told.TheVariants as told
-use Rattle.weave_core.specs.Meetings.{met_at_leaf, met_at_range}
+use Rattle.weave_core.specs.Meetings.{sight_at_leaf, sight_at_range}
 use Rattle.mon_topo.specs.Sights.{AreAlike}
 use Rattle.weave_core.specs.WriteEvents.{ChangesLeaf, ChangesRange, StaysThere}
 use Rattle.weave_core.specs.declared.leaves.LeafSeat.{LeafSeat}
@@ -69,7 +69,7 @@ pub record FindsReplica (range : Range) (avoided : List Leaf) (old new : RangeSe
   pub state : new.state ≡ old.state
   pub holder : new.holder ≡ old.holder
   pub sight_there : new.sight ≡ sight_after
-  pub seen : sight_after ≡ met_at_range range old.state sight old.sight
+  pub seen : sight_after ≡ sight_at_range range old.state sight old.sight
 
 abbrev pub FindsIf : Range → List Leaf → RangeSeat → RangeSeat → Sight → Sight → Option Told → Type 0
 FindsIf range avoided old new sight sight_after (Some answer)
@@ -117,7 +117,7 @@ module _ (plan : Plan) (moment : ℤ) (limit : ℕ) (slots : List RangeSlot) (le
     pub stays : StaysThere old new sight_after
     pub history : new.state.history ≡ old.state.history
     pub holder : new.holder ≡ old.holder
-    pub seen : sight_after ≡ met_at_leaf leaf old.state.history sight old.sight
+    pub seen : sight_after ≡ sight_at_leaf leaf old.state.history sight old.sight
 
   abbrev pub LooksIf : LeafSeat → LeafSeat → Sight → Sight → Option Told → Type 0
   LooksIf old new sight sight_after (Some answer) = Looks old new sight sight_after answer

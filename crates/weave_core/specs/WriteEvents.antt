@@ -1,9 +1,7 @@
 -- What an event of a write does to the seat that it needs, to the write, and to how far this has seen.
 use Rattle.std.specs.Prelude.{ℕ, ◌≡◌, Bool, true, false, is_some, List, [], ◌∷◌, ◌++◌, length, Option, Some, None}
 use Rattle.std.specs.Prelude.{set, if◌then◌else◌}
-use Rattle.std.specs.List.Sorted.{IsStrictlyIncreasing}
-use Rattle.leaf_store.specs.LeafBuckets.{is_unraised}
-use Rattle.mon_hints.specs.Listings.{is_among}
+use Rattle.leaf_store.specs.LeafBuckets.{AreToRaise}
 use Rattle.mon_value.specs.LeafHistories.{is_down}
 use Rattle.mon_value.specs.declared.histories.Entry.{Entry}
 use Rattle.mon_value.specs.declared.histories.Entry.TheVariants as entry
@@ -13,16 +11,14 @@ use Rattle.mon_value.specs.declared.positions.Leaf.{Leaf}
 use Rattle.mon_value.specs.declared.positions.Range.{Range}
 use Rattle.mon_value.specs.declared.positions.Slot.{Slot}
 use Rattle.mon_value.specs.declared.rows.Row.{Row}
-use Rattle.mon_value.specs.declared.rows.SeriesKey.{SeriesKey}
-use Rattle.leaf_store.specs.LeafStates.{LeafView}
 use Rattle.weave_core.specs.HintWords.{with_child_bit}
-use Rattle.weave_core.specs.Meetings.{met_at_leaf, met_at_range}
+use Rattle.weave_core.specs.Meetings.{sight_at_leaf, sight_at_range}
 use Rattle.weave_core.specs.RangeAnswers.{lock_answer}
 use Rattle.weave_core.specs.declared.leaves.LeafSeat.{LeafSeat}
 use Rattle.weave_core.specs.declared.ranges.RangeSeat.{RangeSeat}
 use Rattle.mon_topo.specs.declared.sights.Sight.{Sight}
 use Rattle.weave_core.specs.declared.store.Store.{Store}
-use Rattle.weave_core.specs.declared.words.Place.{Place}
+use Rattle.mon_hints.specs.declared.places.Place.{Place}
 use Rattle.weave_core.specs.declared.writes.Writing.{Writing}
 use Rattle.write_core.specs.Program.{after}
 use Rattle.write_core.specs.declared.asks.WriteEnd.{WriteEnd}
@@ -57,7 +53,7 @@ pub record Locks (limit : ℕ) (old new : RangeSeat) (before after : Writing) (s
   pub state : new.state ≡ old.state
   pub holder : new.holder ≡ Some before.number
   pub sight_there : new.sight ≡ sight_after
-  pub seen : sight_after ≡ met_at_range before.range old.state sight old.sight
+  pub seen : sight_after ≡ sight_at_range before.range old.state sight old.sight
   pub told_so : IsToldSo (lock_answer limit old.state before.row) before.inside before after
 
 abbrev pub LocksIf : ℕ → RangeSeat → RangeSeat → Writing → Writing → Sight → Sight → Bool → Type 0
@@ -83,7 +79,7 @@ pub record LetsGo (end : WriteEnd) (number : ℕ) (row : Row) (range : Range) (o
   pub state : new.state ≡ with_end_entry old.state number row end
   pub holder : new.holder ≡ None
   pub sight_there : new.sight ≡ sight_after
-  pub seen : sight_after ≡ met_at_range range new.state sight old.sight
+  pub seen : sight_after ≡ sight_at_range range new.state sight old.sight
 
 -- ---- at a leaf
 
@@ -107,7 +103,7 @@ pub record Reserves (leaf : Leaf) (old new : LeafSeat) (before after : Writing) 
     pub stays : StaysThere old new sight_after
     pub history : new.state.history ≡ old.state.history
     pub holder : new.holder ≡ None
-    pub seen : sight_after ≡ met_at_leaf leaf old.state.history sight old.sight
+    pub seen : sight_after ≡ sight_at_leaf leaf old.state.history sight old.sight
     pub told_so : IsToldSo (up_or_down old.state.history []) before.inside before after
 
 abbrev pub ReservesIf : Leaf → LeafSeat → LeafSeat → Writing → Writing → Sight → Sight → Bool → Type 0
@@ -115,17 +111,12 @@ ReservesIf leaf old new before after sight sight_after true = Reserves leaf old 
 ReservesIf leaf old new before after sight sight_after false = IsHeldUp old.holder old new before after sight
     sight_after
 
--- the buckets of a series that no series of a leaf has, rising
-pub record AreToRaise (state : LeafView) (key : SeriesKey) (buckets : List ℕ) : Type 0 where
-  pub rising : IsStrictlyIncreasing buckets
-  pub same : (bucket : ℕ) → is_among bucket buckets ≡ is_unraised state.buckets state.schemas state.history key bucket
-
 -- it takes the leaf's lock where the leaf is up
 pub record Enters (leaf : Leaf) (old new : LeafSeat) (before after : Writing) (sight sight_after : Sight) : Type 0 where
   pub free : old.holder ≡ None
   pub stays : StaysThere old new sight_after
   pub history : new.state.history ≡ old.state.history
-  pub seen : sight_after ≡ met_at_leaf leaf old.state.history sight old.sight
+  pub seen : sight_after ≡ sight_at_leaf leaf old.state.history sight old.sight
   pub buckets : List ℕ
   pub to_raise : is_down old.state.history ≡ false → AreToRaise old.state before.row.key buckets
   pub holder : new.holder ≡ (if is_down old.state.history then None else Some before.number)
@@ -142,7 +133,7 @@ pub record RaisesBit (leaf : Leaf) (old new : LeafSeat) (before after : Writing)
     pub stays : StaysThere old new sight_after
     pub history : new.state.history ≡ old.state.history
     pub holder : new.holder ≡ old.holder
-    pub seen : sight_after ≡ met_at_leaf leaf old.state.history sight old.sight
+    pub seen : sight_after ≡ sight_at_leaf leaf old.state.history sight old.sight
     pub told_so : IsToldSo told.Done before.inside before after
 
 -- its row is put, and it lets go of the leaf
@@ -151,7 +142,7 @@ pub record Puts (slot : Slot) (leaf : Leaf) (old new : LeafSeat) (before after :
   pub stays : StaysThere old new sight_after
   pub history : new.state.history ≡ old.state.history ++ entry.Put before.number before.range slot before.row ∷ []
   pub holder : new.holder ≡ None
-  pub seen : sight_after ≡ met_at_leaf leaf new.state.history sight old.sight
+  pub seen : sight_after ≡ sight_at_leaf leaf new.state.history sight old.sight
   pub told_so : IsToldSo told.Done None before after
 
 -- ---- in a store

@@ -95,7 +95,7 @@ fn course_of(store: &Store, number: u32, call: Call) -> Result<Course, OutOfMemo
 fn write_course(store: &Store, number: u32, row: Row) -> Result<Course, OutOfMemory>
     ensures course { IfOk result (IsWriteCourse store.now.config number row) }
 {
-    match store.range_of(&row.key) {
+    match store.config.range_of(&row.key) {
         Some(range) => Ok(Course::Writes(Writing {
             number,
             row,

@@ -4,13 +4,13 @@ ghost use Rattle.leaf_store.specs.LeafBuckets.{key_buckets};
 ghost use Rattle.mon_hints.specs.Formulas.{all_named, formula_tree, formulas};
 ghost use Rattle.mon_hints.specs.HistoryBuckets.{history_buckets};
 ghost use Rattle.mon_hints.specs.Listings.{AreAmong, is_among};
-ghost use Rattle.query_core.specs.Openings as spec;
+ghost use Rattle.plan_split.specs.Meeting as spec;
 
 use leaf_store::LeafState;
 use mon_hints::Words;
 use mon_value::OutOfMemory;
 use mql_types::Plan;
-use query_core::is_let_in;
+use plan_split::is_let_in;
 use std::alloc::Global;
 
 /// Whether some formula of a plan, which loads all buckets that its formulas name, holds of the leaf's buckets.

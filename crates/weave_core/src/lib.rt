@@ -36,4 +36,4 @@ pub use ranges::{RangeSeat, RangeState};
 pub use schedule_laws::schedules_answer_rightly;
 pub use schedules::run_schedule;
 pub use weave::Weave;
-pub use words::{HintWords, Place};
+pub use words::HintWords;

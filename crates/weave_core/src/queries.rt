@@ -16,7 +16,7 @@ ghost use Rattle.weave_core.specs.States.{store_of};
 
 use crate::query_looks::{find, look, seen_so};
 use crate::store::Store;
-use crate::words::Place;
+use mon_hints::Place;
 use mon_topo::Sight;
 use mon_value::{Leaf, OutOfMemory, Range};
 use query_core::{Answer, Ask, QueryMachine, RoundFault, Told};

@@ -5,8 +5,8 @@ ghost use Rattle.std.specs.List.{list_any};
 ghost use Rattle.mon_topo.specs.RangeHistories.{acknowledged_rows, is_missed};
 ghost use Rattle.mon_value.specs.Positions.{same_leaf};
 ghost use Rattle.mon_value.specs.Sources.{last_end, points_of};
-ghost use Rattle.query_core.specs.Traces.{first_serving, is_avoided};
-ghost use Rattle.weave_core.specs.Meetings.{met_at_range};
+ghost use Rattle.mon_topo.specs.Serving.{first_serving, is_avoided};
+ghost use Rattle.weave_core.specs.Meetings.{sight_at_range};
 ghost use Rattle.weave_core.specs.RangeAnswers.{lock_answer, serving_or_full};
 ghost use Rattle.mon_topo.specs.Sights.{AreAlike, range_sight};
 
@@ -148,7 +148,7 @@ impl RangeSeat {
     pub fn meet(&mut self, range: Range, sight: &mut Sight)
         requires alike { AreAlike sight.old self.old.sight }
         requires there { range.0 < length self.old.sight.ranges }
-        ensures sight { sight.new ≡ met_at_range range self.old.state sight.old self.old.sight }
+        ensures sight { sight.new ≡ sight_at_range range self.old.state sight.old self.old.sight }
         ensures seat { self.new.sight ≡ sight.new }
         ensures state { self.new.state ≡ self.old.state }
         ensures holder { self.new.holder ≡ self.old.holder }

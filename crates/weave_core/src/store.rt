@@ -3,19 +3,19 @@ ghost use Rattle.std.specs.Prelude.{◌≡◌, ◌<◌, ◌-◌, ◌+◌, ◌++�
 ghost use Rattle.std.specs.Prelude.{OnOk};
 ghost use Rattle.std.specs.List.{slice_index_or};
 ghost use Rattle.leaf_store.specs.LeafStates.{new_leaf};
-ghost use Rattle.mon_topo.specs.Locations.{range_for};
 ghost use Rattle.mon_topo.specs.Replicas.{HasReplicas};
 ghost use Rattle.mon_value.specs.Positions.{zone_numbered};
 ghost use Rattle.mon_topo.specs.Zones.{first_leaf, leaf_zones, leaves_in, ranges_in};
 ghost use Rattle.mon_value.specs.LeafHistories.{IsWellFormed};
 ghost use Rattle.mon_config.specs.Configs.{IsLimited};
 ghost use Rattle.weave_core.specs.Agreements.{AreShared, IsServed};
-ghost use Rattle.weave_core.specs.FirstHistories.{first_leaf_history, first_range_history};
+ghost use Rattle.mon_topo.specs.FirstHistories.{first_leaf_history, first_range_history, first_range_histories};
+ghost use Rattle.mon_topo.specs.FirstHistories.{opened_before};
 ghost use Rattle.weave_core.specs.FirstSeats.{AreFirstSeats};
 ghost use Rattle.weave_core.specs.HintWords.{no_words};
 ghost use Rattle.weave_core.specs.Openings as spec;
 ghost use Rattle.leaf_store.specs.LeafLists.{IsChanged};
-ghost use Rattle.weave_core.specs.Openings.{AreOpenedSo, first_range_histories, first_world, opened_before};
+ghost use Rattle.weave_core.specs.Openings.{AreOpenedSo, first_world};
 ghost use Rattle.weave_core.specs.Openings.{sight_of_states, with_opening};
 ghost use Rattle.mon_topo.specs.Sights.{range_sight};
 
@@ -24,8 +24,8 @@ use crate::ranges::{RangeSeat, RangeState};
 use crate::words::HintWords;
 use leaf_store::LeafState;
 use mon_config::Config;
-use mon_topo::{RangeSight, Sight, Topology, location_of, ranges_have_replicas};
-use mon_value::{Entry, Leaf, ListOf, OutOfMemory, Range, RowList, SeriesKey, Slot, TryCopy, Zone};
+use mon_topo::{RangeSight, Sight, Topology, ranges_have_replicas};
+use mon_value::{Entry, Leaf, ListOf, OutOfMemory, Range, RowList, Slot, TryCopy, Zone};
 use std::alloc::Global;
 
 /// The hint words, the leaves and the ranges, and what all have seen at first: the first replicas of all ranges.
@@ -69,16 +69,6 @@ impl Store {
                 Err(fault)
             }
         }
-    }
-
-    /// The range that a series' target lies in, where a zone lists its location.
-    pub(crate) fn range_of(&self, key: &SeriesKey) -> Option<Range>
-        ensures range { result ≡ range_for self.now.config.schemas self.now.config.topology key.now.target }
-        ensures there { IfSome result (λ range. range.0 < length (ranges_in self.now.config.topology)) }
-    {
-        let location = location_of(&self.config.schemas, &key.target)?;
-        let zone = self.config.topology.zone_of(location.as_bytes())?;
-        Some(self.config.topology.range_of(zone, &key.target))
     }
 }
 

@@ -1,20 +1,18 @@
 // The events of a write, each at the seat that it needs.
-ghost use Rattle.std.specs.Prelude.{◌≤◌, ◌<◌, ◌<ℤ◌, ◌++◌, ◌∷◌, [], length, IfOk, IfSome, OnOk};
-ghost use Rattle.mon_value.specs.declared.limits.TheConstants.{MOST_BUCKETS as MOST};
+ghost use Rattle.std.specs.Prelude.{◌<◌, ◌<ℤ◌, ◌++◌, ◌∷◌, [], length, IfOk, IfSome, OnOk};
 ghost use Rattle.mon_topo.specs.RangeHistories.{acknowledged_rows};
 ghost use Rattle.mon_value.specs.LeafHistories.{IsWellFormed};
 ghost use Rattle.mon_value.specs.Sources.{last_end, points_of};
 ghost use Rattle.mon_topo.specs.Sights.{AreAlike};
-ghost use Rattle.weave_core.specs.WriteEvents.{AreToRaise, EntersIf, IfWritten, LetsGo, LocksIf, Puts, RaisesBit};
+ghost use Rattle.weave_core.specs.WriteEvents.{EntersIf, IfWritten, LetsGo, LocksIf, Puts, RaisesBit};
 ghost use Rattle.weave_core.specs.WriteEvents.{ReservesIf};
 
 use crate::leaves::LeafSeat;
 use crate::ranges::RangeSeat;
 use crate::writes::Writing;
-use leaf_store::LeafState;
 use mon_hints::Buckets;
 use mon_topo::Sight;
-use mon_value::{Entry, Leaf, OutOfMemory, Range, Row, SeriesKey, Slot, TryCopy};
+use mon_value::{Entry, Leaf, OutOfMemory, Range, Row, Slot, TryCopy};
 use std::alloc::Global;
 use write_core::{WriteEnd, WriteTold};
 
@@ -73,8 +71,6 @@ pub(crate) fn enter(
 ) -> Result<bool, OutOfMemory>
     requires alike { AreAlike sight.old seat.old.sight }
     requires there { leaf.0 < length seat.old.sight.leaves }
-    requires some { 0 < seat.old.state.buckets }
-    requires most { seat.old.state.buckets ≤ MOST }
     ensures enters { IfOk result (EntersIf leaf seat.old seat.new writing.old writing.new sight.old sight.new) }
 {
     if seat.holder.is_some() {
@@ -83,7 +79,7 @@ pub(crate) fn enter(
     if seat.state.down() {
         writing.machine.told(WriteTold::Down(seat.state.length()))?;
     } else {
-        let buckets = unraised(alloc, &seat.state, &writing.row.key)?;
+        let buckets = seat.state.unraised(alloc, &writing.row.key)?;
         writing.machine.told(WriteTold::Up(buckets))?;
         writing.inside = Some(leaf);
         seat.holder = Some(writing.number);
@@ -160,19 +156,4 @@ pub(crate) fn let_go(
     seat.holder = None;
     seat.meet(range, sight);
     Ok(())
-}
-
-// The buckets of a series that no series of the leaf has, rising.
-fn unraised(alloc: Global, state: &LeafState, key: &SeriesKey) -> Result<Buckets, OutOfMemory>
-    requires some { 0 < state.now.buckets }
-    requires most { state.now.buckets ≤ MOST }
-    ensures unraised { IfOk result (AreToRaise state.now key.now) }
-{
-    let mut buckets = Buckets::new(alloc);
-    let mut from = 0;
-    while let Some(bucket) = state.next_unraised(key, from) {
-        buckets.push(bucket)?;
-        from = bucket + 1;
-    }
-    Ok(buckets)
 }

@@ -9,8 +9,8 @@ ghost use Rattle.write_core.specs.World.{World};
 ghost use Rattle.write_core.specs.declared.asks.WriteAsk.TheVariants as ask;
 
 use crate::store::Store;
-use crate::words::Place;
 use crate::write_events::{enter, let_go, lock, put, raise, reserve};
+use mon_hints::Place;
 use mon_topo::Sight;
 use mon_value::{Leaf, OutOfMemory, Range, Row, Slot};
 use write_core::{WriteAsk, WriteEnd, WriteMachine, WriteTold};

@@ -42,9 +42,8 @@ use Rattle.write_core.specs.Recovering.{Denies, Gives, HasRoom, Nearing, NoSourc
 use Rattle.write_core.specs.Recovering.{Sources, Telling, WasDone, WasDown, WasOpened, Within, copying}
 use Rattle.write_core.specs.Recovering.{found_on}
 use Rattle.write_core.specs.Steps.{same_view}
-use Rattle.write_core.specs.Views.{IsSound, IsViewWithin, View, joined_view, of_leaf, of_range, with_entry}
-use Rattle.write_core.specs.Views.{with_range_entry}
-use Rattle.write_core.specs.Views.{with_root_bit, with_zone_bit}
+use Rattle.mon_topo.specs.Views.{IsSound, IsViewWithin, View, joined_view, of_leaf, of_range, with_entry}
+use Rattle.mon_topo.specs.Views.{with_range_entry, with_root_bit, with_zone_bit}
 use Rattle.write_core.specs.World.{Recovers, Recovery, World, at_leaf, at_range, copied_on, recovers_on}
 use Rattle.write_core.proofs.ChangeLemmas.{entry_sound, entry_up, entry_within, range_entry_sound, range_entry_up}
 use Rattle.write_core.proofs.ChangeLemmas.{range_entry_within, root_bit_up, zone_bit_up}

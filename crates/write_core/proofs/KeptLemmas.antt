@@ -17,7 +17,7 @@ use Rattle.write_core.specs.Events.{Aims, Begins, CanHappen, CanRun, Copies, Eve
 use Rattle.write_core.specs.Events.{Visits, after_event, after_events}
 use Rattle.write_core.specs.Recovering.{CopyStage, CopyTold, Denied, NoSource, NoTarget, Opens, Outcome, Over}
 use Rattle.mon_topo.specs.Settings.{Setting}
-use Rattle.write_core.specs.Views.{View, of_leaf, of_range, joined_view}
+use Rattle.mon_topo.specs.Views.{View, joined_view, of_leaf, of_range}
 use Rattle.write_core.specs.World.{Actor, IsPart, Recovers, Recovery, Stands, World, Writer, Writes, at_range}
 use Rattle.write_core.specs.World.{writes_on}
 use Rattle.write_core.specs.declared.asks.WriteTold.{WriteTold}

@@ -31,7 +31,7 @@ use Rattle.write_core.specs.Rounds.{Round, round_marks, round_of, round_with_loo
 use Rattle.write_core.specs.Steps.{CanComeAt, CanEnter, CanGo, CanReserve, IsToldAtEntry, IsToldByLeaf, after_answer}
 use Rattle.write_core.specs.Steps.{after_entering, after_reserving, entrant, gone_on_inside, same_view, step_at}
 use Rattle.write_core.specs.Steps.{with_acknowledgement}
-use Rattle.write_core.specs.Views.{View, of_leaf, of_range, with_entry, with_root_bit, with_zone_bit}
+use Rattle.mon_topo.specs.Views.{View, of_leaf, of_range, with_entry, with_root_bit, with_zone_bit}
 use Rattle.write_core.specs.World.{Actor, LengthNote, OfLeaf, OfRange, Recovers, Recovery, Stands, World, Writer}
 use Rattle.write_core.specs.World.{Writes, at_leaf, at_range, met_at_leaf, met_at_range, put_of, recovers_on}
 use Rattle.write_core.specs.World.{stands_on, wiser, with_value_at, writes_on}

@@ -12,5 +12,4 @@ pub mod Program
 pub mod Recovering
 pub mod Rounds
 pub mod Steps
-pub mod Views
 pub mod World

@@ -4,7 +4,8 @@ use Rattle.mon_value.specs.declared.rows.Row.{Row}
 use Rattle.mql_types.specs.Nodes.{typed_tree}
 use Rattle.mon_meaning.specs.Central.{all_held}
 use Rattle.mon_meaning.specs.LeafAnswers.{IsLeafAnswer}
-use Rattle.leaf_eval.specs.Replicas.{replica_rows_of, replicas_rows}
+use Rattle.leaf_eval.specs.Replicas.{replica_rows_of}
+use Rattle.mon_meaning.specs.ReadableSlots.{slot_rows}
 use Rattle.leaf_eval.proofs.ApartReplicas.{replicas_held}
 use Rattle.leaf_eval.proofs.leaf.eval_leaf.Goals as goal
 
@@ -16,7 +17,7 @@ answer_by_series-requires-clause-asked c =
     ap (map (λ (rows : Bor (List Row)). rows.now)) c.as_slice-2.ensures.value ∙ c.in_ok-kept.ensures.rows
     ∙ ap (map (replica_rows_of history)) c.as_slice.ensures.items in
     record {
-      source = replicas_rows history slots;
+      source = slot_rows history slots;
       kept = replicas_held history c.as_slice-2.result.now slots c.requires.apart kept;
       fits = c.requires.typed;
     }
@@ -26,7 +27,7 @@ returns c =
     let typed = typed_tree c.args.plan.now.typed in
     let history = c.args.leaf.now.history in
     let slots = c.args.slots.now in
-    let source = replicas_rows history slots in
+    let source = slot_rows history slots in
     let moment : to_z w64 (of_z w64 c.args.moment) ≡ c.args.moment = search rules in
     let kept : map (λ (rows : Bor (List Row)). rows.now) c.as_slice-2.result.now ≡ map (replica_rows_of history) slots =
     ap (map (λ (rows : Bor (List Row)). rows.now)) c.as_slice-2.ensures.value ∙ c.in_ok-kept.ensures.rows

@@ -1,6 +1,7 @@
 -- the rows so far with those of the replicas that are left are all, and these were opened
 use Rattle.std.proofs.Common.{◌≡◌, ◌++◌, drop, map}
-use Rattle.leaf_eval.specs.Replicas.{AreOpened, replica_rows_of}
+use Rattle.leaf_eval.specs.Replicas.{replica_rows_of}
+use Rattle.mon_meaning.specs.ReadableSlots.{AreOpened}
 use Rattle.leaf_eval.proofs.leaf.kept_rows.Given as goal
 
 abbrev pub invariant-loop-own : goal.invariant-loop-own

@@ -1,4 +1,4 @@
-use Rattle.weave_core.proofs.FirstLemmas.{first_held, first_rows}
+use Rattle.mon_topo.proofs.FirstLemmas.{first_held, first_rows}
 use Rattle.weave_core.proofs.kept_laws.stores_begin_held.Goals as goal
 
 pub returns : goal.returns

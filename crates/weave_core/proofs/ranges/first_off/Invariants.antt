@@ -1,7 +1,7 @@
 -- the replicas so far are on leaves that are avoided
 use Rattle.std.proofs.Common.{◌≡◌, drop, filter, not}
 use Rattle.std.specs.Prelude.{slice_get}
-use Rattle.query_core.specs.Traces.{is_avoided}
+use Rattle.mon_topo.specs.Serving.{is_avoided}
 use Rattle.weave_core.proofs.ranges.first_off.Given as goal
 
 abbrev pub invariant-loop-replica : goal.invariant-loop-replica

@@ -1,8 +1,9 @@
 use Rattle.std.proofs.Common.{◌≡◌, ◌∙◌, ap, length, map, arith, rules}
 use Rattle.std.specs.List.{range_with_len}
 use Rattle.mon_topo.specs.Zones.{ranges_in}
-use Rattle.weave_core.specs.FirstHistories.{first_range_history}
-use Rattle.weave_core.proofs.OpeningLemmas.{histories_more, opened_all}
+use Rattle.mon_topo.specs.FirstHistories.{first_range_history}
+use Rattle.weave_core.proofs.OpeningLemmas.{opened_all}
+use Rattle.mon_topo.proofs.FirstOpenings.{histories_more}
 use Rattle.weave_core.proofs.store.open_ranges.Goals as goal
 
 pub loop-range-init : goal.loop-range-init

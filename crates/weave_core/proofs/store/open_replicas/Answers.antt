@@ -1,8 +1,8 @@
 use Rattle.std.proofs.Common.{◌≡◌, ◌∙◌, ◌+◌, List, ap, get_or, length, refl, slice_get, arith, rules, Some}
 use Rattle.mon_topo.specs.Zones.{first_replicas}
 use Rattle.mon_value.specs.declared.positions.Leaf.{Leaf}
-use Rattle.weave_core.proofs.OpeningLemmas.{item_at, may_open, opened_begun, opened_more, opened_whole, range_more}
-use Rattle.weave_core.proofs.OpeningLemmas.{range_whole, replica_there}
+use Rattle.weave_core.proofs.OpeningLemmas.{may_open, opened_begun, opened_more, opened_whole}
+use Rattle.mon_topo.proofs.FirstOpenings.{item_at, range_more, range_whole, replica_there}
 use Rattle.weave_core.proofs.store.open_replicas.Goals as goal
 
 pub loop-leaf-init : goal.loop-leaf-init

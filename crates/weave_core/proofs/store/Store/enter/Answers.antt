@@ -1,7 +1,7 @@
 use Rattle.std.proofs.Common.{rules, ◌≡◌, Some, slice_get, refl}
 use Rattle.std.specs.Vec.{with_item}
 use Rattle.weave_core.proofs.WriteReturns.{leaf_read, enter_returns, entering_leaf, seat_alike, seat_in_sight}
-use Rattle.weave_core.proofs.WriteReturns.{seat_most, seat_some, seat_there}
+use Rattle.weave_core.proofs.WriteReturns.{seat_there}
 use Rattle.weave_core.proofs.store.Store.enter.Goals as goal
 
 pub index_mut-seat-requires : goal.index_mut-seat-requires
@@ -30,28 +30,6 @@ enter-requires-clause-there c =
     c.requires.asks.1)
     c.index_mut-seat.result.now c.index_mut-seat.ensures.value in
     seat_in_sight c.args.self.now c.args.writing c.args.sight.now c.requires.at_work c.args.leaf
-    (entering_leaf c.args.self.now c.args.writing c.args.sight.now c.requires.at_work c.requires.asks.0 c.args.leaf
-    c.requires.asks.1) c.index_mut-seat.result.now got
-
-pub enter-requires-clause-some : goal.enter-requires-clause-some
-enter-requires-clause-some c =
-    let got : slice_get c.args.self.now.leaves.items c.args.leaf.0 ≡ Some c.index_mut-seat.result.now
-    = leaf_read c.args.self.now c.args.writing c.args.sight.now c.requires.at_work c.args.leaf
-    (entering_leaf c.args.self.now c.args.writing c.args.sight.now c.requires.at_work c.requires.asks.0 c.args.leaf
-    c.requires.asks.1)
-    c.index_mut-seat.result.now c.index_mut-seat.ensures.value in
-    seat_some c.args.self.now c.args.writing c.args.sight.now c.requires.at_work c.args.leaf
-    (entering_leaf c.args.self.now c.args.writing c.args.sight.now c.requires.at_work c.requires.asks.0 c.args.leaf
-    c.requires.asks.1) c.index_mut-seat.result.now got
-
-pub enter-requires-clause-most : goal.enter-requires-clause-most
-enter-requires-clause-most c =
-    let got : slice_get c.args.self.now.leaves.items c.args.leaf.0 ≡ Some c.index_mut-seat.result.now
-    = leaf_read c.args.self.now c.args.writing c.args.sight.now c.requires.at_work c.args.leaf
-    (entering_leaf c.args.self.now c.args.writing c.args.sight.now c.requires.at_work c.requires.asks.0 c.args.leaf
-    c.requires.asks.1)
-    c.index_mut-seat.result.now c.index_mut-seat.ensures.value in
-    seat_most c.args.self.now c.args.writing c.args.sight.now c.requires.at_work c.args.leaf
     (entering_leaf c.args.self.now c.args.writing c.args.sight.now c.requires.at_work c.requires.asks.0 c.args.leaf
     c.requires.asks.1) c.index_mut-seat.result.now got
 

@@ -1,5 +1,5 @@
 use Rattle.std.proofs.Common.{refl}
-use Rattle.weave_core.specs.Openings.{first_range_histories}
+use Rattle.mon_topo.specs.FirstHistories.{first_range_histories}
 use Rattle.weave_core.proofs.SeatingLemmas.{shared}
 use Rattle.weave_core.proofs.store.Store.new.Goals as goal
 

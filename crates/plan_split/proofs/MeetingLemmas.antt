@@ -4,7 +4,7 @@ use Rattle.std.proofs.lemmas.List.FromFn.{map-range_with_len_more}
 use Rattle.std.specs.List.{range_with_len}
 use Rattle.mon_hints.specs.Words.{IsMask, has_bit}
 use Rattle.mql_types.specs.declared.plans.Plan.{Plan}
-use Rattle.query_core.specs.Openings.{lets_child_in}
+use Rattle.plan_split.specs.Meeting.{lets_child_in}
 
 pub flags_more : (plan : Plan) (words : List ℕ) (mask child : ℕ) → IsMask mask (lets_child_in plan words) → child < 64
     → map (lets_child_in plan words) (range_with_len 0 child) ++ has_bit mask child ∷ []

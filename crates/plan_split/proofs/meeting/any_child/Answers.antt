@@ -4,7 +4,7 @@ use Rattle.mon_hints.proofs.MaskLemmas.{AnyLeft, any_step}
 use Rattle.mon_hints.specs.Formulas.{any_holds, formula_tree, formulas, holds}
 use Rattle.mon_hints.specs.Words.{buckets_of_child}
 use Rattle.mon_hints.specs.declared.formulas.Formula.{Formula}
-use Rattle.query_core.proofs.openings.any_child.Goals as goal
+use Rattle.plan_split.proofs.meeting.any_child.Goals as goal
 
 pub loop-formula-preserved : goal.loop-formula-preserved
 loop-formula-preserved c =

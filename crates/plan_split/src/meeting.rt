@@ -1,29 +1,27 @@
 // Which children the hint words let in.
 ghost use Rattle.std.specs.Prelude.{◌≡◌, ◌≤◌, ◌<◌, map, IfOk};
-ghost use Rattle.std.specs.List.{list_any};
 ghost use Rattle.mon_hints.specs.Formulas.{any_holds, formula_tree, formulas};
 ghost use Rattle.mon_hints.specs.Words.{IsMask, buckets_of_child, has_bit};
-ghost use Rattle.query_core.specs.Openings as spec;
+ghost use Rattle.plan_split.specs.Meeting as spec;
 
-use crate::answers::Flags;
 use mon_hints::{Buckets, Formula, Words, mask};
-use mon_value::OutOfMemory;
+use mon_value::{ListOf, OutOfMemory};
 use mql_types::Plan;
 use std::alloc::Global;
 
 /// Of so many children, which ones the words let in: those of which some formula of the plan holds.
-#[tactic(auto, using(crate::proofs::OpeningLemmas::flags_more))]
-pub(crate) fn let_in(
+#[tactic(auto, using(crate::proofs::MeetingLemmas::flags_more))]
+pub fn let_in(
     alloc: Global,
     plan: &Plan,
     words: &Words,
     count: u32,
-) -> Result<Flags, OutOfMemory>
+) -> Result<ListOf<bool>, OutOfMemory>
     requires few { count ≤ 64 }
     ensures let_in { IfOk result (λ flags. flags ≡ spec.let_in plan.now words.now count) }
 {
     let mask = children_let_in(plan, words);
-    let mut flags = Flags::new(alloc);
+    let mut flags = ListOf::new(alloc);
     for child in 0..count {
         flags.push(has_child(mask, child))?;
     }
@@ -56,23 +54,6 @@ pub fn is_let_in(plan: &Plan, words: &Words, child: u32) -> bool
     ensures let_in { result ≡ spec.lets_child_in plan.now words.now child }
 {
     has_child(children_let_in(plan, words), child)
-}
-
-/// The flag at a place, and none behind the last.
-pub(crate) fn flag_at(flags: &[bool], place: usize) -> bool
-    ensures flag { result ≡ spec.flag_at flags.now place }
-{
-    match flags.get(place) {
-        Some(flag) => *flag,
-        None => false,
-    }
-}
-
-/// Whether some flag is set.
-pub(crate) fn some_flag(flags: &[bool]) -> bool
-    ensures some { result ≡ list_any (λ flag. flag) flags.now }
-{
-    flags.iter().any(|flag| *flag)
 }
 
 // Whether a word has the bit of a child.

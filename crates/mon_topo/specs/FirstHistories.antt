@@ -1,5 +1,5 @@
 -- The histories that a store begins with: each range is opened on its first replicas, which have no rows.
-use Rattle.std.specs.Prelude.{ℕ, ◌+◌, List, [], ◌∷◌, ◌++◌, length, map, if◌then◌else◌}
+use Rattle.std.specs.Prelude.{ℕ, ◌+◌, List, [], ◌∷◌, ◌++◌, length, map, take, if◌then◌else◌}
 use Rattle.std.specs.List.{flat_map, range_with_len}
 use Rattle.mon_value.specs.declared.histories.Entry.{Entry}
 use Rattle.mon_value.specs.declared.histories.Entry.TheVariants as entry
@@ -42,8 +42,24 @@ opened_of zones leaf range = opened_here leaf (range_numbered range) 0 (first_re
 abbrev pub first_leaf_history : List ZoneSpec → ℕ → List Entry
 first_leaf_history zones n = flat_map (opened_of zones (leaf_numbered n)) (range_with_len 0 (length (ranges_in zones)))
 
+-- the histories of all ranges
+abbrev pub first_range_histories : List ZoneSpec → List (List RangeEntry)
+first_range_histories zones = map (first_range_history zones) (range_with_len 0 (length (ranges_in zones)))
+
 abbrev pub first_histories : List ZoneSpec → Histories
 first_histories zones = record {
   leaves = map (first_leaf_history zones) (range_with_len 0 (length (leaves_in zones)));
-  ranges = map (first_range_history zones) (range_with_len 0 (length (ranges_in zones)));
+  ranges = first_range_histories zones;
 }
+
+-- ---- as they are opened one by one
+
+-- what is on a leaf once the ranges before one are opened
+abbrev pub opened_before : List ZoneSpec → ℕ → ℕ → List Entry
+opened_before zones range n = flat_map (opened_of zones (leaf_numbered n)) (range_with_len 0 range)
+
+-- and the range's own replicas up to a slot
+abbrev pub opened_up_to : List ZoneSpec → ℕ → ℕ → ℕ → List Entry
+opened_up_to zones range slot n =
+    opened_before zones range n
+    ++ opened_here (leaf_numbered n) (range_numbered range) 0 (take slot (first_replicas zones range))

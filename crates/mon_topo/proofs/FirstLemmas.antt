@@ -30,8 +30,8 @@ use Rattle.mon_topo.specs.Replicas.{HasReplicas}
 use Rattle.mon_value.specs.Positions.{leaf_numbered, range_numbered, same_leaf}
 use Rattle.mon_topo.specs.Zones.{first_replicas, leaves_in, ranges_in}
 use Rattle.mon_topo.specs.declared.zones.ZoneSpec.{ZoneSpec}
-use Rattle.weave_core.specs.FirstHistories.{first_histories, first_leaf_history, first_range_history, opened_here}
-use Rattle.weave_core.specs.FirstHistories.{opened_of, opening, openings_from, slot_numbered}
+use Rattle.mon_topo.specs.FirstHistories.{first_histories, first_leaf_history, first_range_history, opened_here}
+use Rattle.mon_topo.specs.FirstHistories.{opened_of, opening, openings_from, slot_numbered}
 
 -- ---- a leaf's history
 

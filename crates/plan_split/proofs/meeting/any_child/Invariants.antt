@@ -3,7 +3,7 @@ use Rattle.std.proofs.Common.{drop, map}
 use Rattle.mon_hints.specs.Formulas.{any_holds, formula_tree, formulas}
 use Rattle.mon_hints.specs.Words.{buckets_of_child}
 use Rattle.mon_hints.proofs.MaskLemmas.{AnyLeft}
-use Rattle.query_core.proofs.openings.any_child.Given as goal
+use Rattle.plan_split.proofs.meeting.any_child.Given as goal
 
 abbrev pub invariant-loop-formula : goal.invariant-loop-formula
 invariant-loop-formula l =
