@@ -12,7 +12,7 @@ use Rattle.mon_table.specs.Tables.{newline}
 use Rattle.mon_run.specs.declared.outcome.RowRefused.{RowRefused}
 use Rattle.mon_run.specs.declared.outcome.RowRefused.TheVariants as refused
 use Rattle.mon_run.specs.declared.outcome.RowRefusal.{RowRefusal}
-use Rattle.weave_core.specs.Schedules.{fault_name}
+use Rattle.weave_core.specs.Schedules.{schedule_fault_text}
 use Rattle.weave_core.specs.declared.calls.ScheduleFault.{ScheduleFault}
 
 -- ---- lines
@@ -51,7 +51,7 @@ abbrev pub script_text : ScriptFault → List ℕ
 script_text fault = codes "script line " ++ (decimal fault.line ++ (codes ": NotBuilt" ++ newline))
 
 abbrev pub schedule_text : ScheduleFault → List ℕ
-schedule_text fault = codes "line " ++ (decimal fault.line ++ (codes ": " ++ (fault_name fault.fault ++ newline)))
+schedule_text fault = schedule_fault_text fault ++ newline
 
 abbrev pub read_text : List ℕ → List ℕ
 read_text name = codes "cannot read " ++ (name ++ newline)

@@ -17,6 +17,7 @@ use Rattle.query_core.specs.Program as query
 use Rattle.query_core.specs.Settings.{QuerySetting}
 use Rattle.query_core.specs.declared.asks.Ask.TheVariants as query_ask
 use Rattle.query_core.specs.declared.stages.Stage.{Stage}
+use Rattle.query_texts.specs.declared.faults.TextFault.{TextFault}
 use Rattle.weave_core.proofs.CoreLemmas.{stays_woven}
 use Rattle.weave_core.proofs.HolderLemmas.{holders_changed}
 use Rattle.weave_core.proofs.NumberLemmas.{agrees_at, set_apart, set_at, shared_beside}
@@ -27,7 +28,7 @@ use Rattle.weave_core.specs.ActorAgreements.{actor_numbered, flat}
 use Rattle.weave_core.specs.Agreements.{AreShared, IsServed, first_view}
 use Rattle.weave_core.specs.Core.{CanCome, Happens, Reader}
 use Rattle.weave_core.specs.Declarations.{Declares, QueryBegins, WriteBegins, new_reader, with_reader}
-use Rattle.weave_core.specs.EndTexts.{no_zone_text}
+use Rattle.weave_core.specs.EndTexts.{no_plan_text, no_zone_text}
 use Rattle.mon_topo.specs.FirstHistories.{first_histories}
 use Rattle.weave_core.specs.Holders.{AreHolders, HoldsLeaf, HoldsRange}
 use Rattle.weave_core.specs.LawfulLines.{IsLawfulCall}
@@ -325,7 +326,7 @@ module _ (config : Config) (state : State (store_of config)) (i : ℕ) where
           → IsDeclaredSo (call.Query moment text) (course.Queries querying) begun sight
       query_declared begun sight new seen = record {
         after = Read;
-        declares = subst (λ (typed : Result TypedTree (List ℕ)). QueryBegins config state i moment typed Read)
+        declares = subst (λ (typed : Result TypedTree TextFault). QueryBegins config state i moment typed Read)
             (sym asks.machine.typed_is) (Asked, asks.machine.asked, refl);
         leaves = query_left;
         shared = agrees.shared;
@@ -348,9 +349,11 @@ module _ (config : Config) (state : State (store_of config)) (i : ℕ) where
     declared_by (call.Write row) (course.Queries querying) begun sight new seen lawful h = absurd h
     declared_by (call.Write row) course.Ended begun sight new seen lawful h = absurd h
     declared_by (call.Query moment text) (course.Refused line) begun sight new seen lawful h =
-        eventless_declared (call.Query moment text) line begun sight new seen
-        (subst (λ (typed : Result TypedTree (List ℕ)). QueryBegins config state i moment typed
-        (with_role (store_of config) state i (Eventless line))) (sym h) refl)
+        let said : List ℕ = no_plan_text h.why in
+        subst (λ (one : List ℕ). IsDeclaredSo (call.Query moment text) (course.Refused one) begun sight) (sym h.line_is)
+        (eventless_declared (call.Query moment text) said begun sight new seen
+        (subst (λ (typed : Result TypedTree TextFault). QueryBegins config state i moment typed
+        (with_role (store_of config) state i (Eventless said))) (sym h.refused) refl))
     declared_by (call.Query moment text) (course.Writes writing) begun sight new seen lawful h = absurd h
     declared_by (call.Query moment text) (course.Queries querying) begun sight new seen lawful h =
         query_declared moment text querying h lawful begun sight new seen

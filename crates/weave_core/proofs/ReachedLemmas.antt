@@ -10,12 +10,14 @@ use Rattle.mql_types.specs.Nodes.{TypedTree}
 use Rattle.query_core.specs.Askings.{IsAskedOf}
 use Rattle.query_core.specs.Machine.{new_query}
 use Rattle.query_core.specs.Settings.{QuerySetting}
+use Rattle.query_texts.specs.TextTypes.{text_type}
+use Rattle.query_texts.specs.declared.faults.TextFault.{TextFault}
 use Rattle.weave_core.proofs.CoreLemmas.{new_woven, stays_woven}
 use Rattle.weave_core.specs.Core.{CanCome, CoreEvent, Happens, Hears, Reader, Tells, begun_with, came, told_on}
 use Rattle.weave_core.specs.Core.{view_told}
-use Rattle.weave_core.specs.Declarations.{Declares, QueryBegins, WriteBegins, hearing, new_reader, query_typed}
+use Rattle.weave_core.specs.Declarations.{Declares, QueryBegins, WriteBegins, hearing, new_reader}
 use Rattle.weave_core.specs.Declarations.{with_reader}
-use Rattle.weave_core.specs.EndTexts.{no_zone_text}
+use Rattle.weave_core.specs.EndTexts.{no_plan_text, no_zone_text}
 use Rattle.weave_core.specs.LawfulLines.{IsLawfulCall, IsLawfulForm}
 use Rattle.weave_core.specs.Licensed.{IsReader, IsWoven}
 use Rattle.weave_core.specs.Reached.{LinesLead}
@@ -196,10 +198,11 @@ module _ (config : Config) where
       (role_holds (with_event Store' state (Happens (Begins k row range))) k Writing writing
       (event_holds state (Happens (Begins k row range)) begins.0 h))
 
-  query_holds : (state : State') (k : ℕ) (moment : ℤ) (typed : Result TypedTree (List ℕ)) (after : State')
+  query_holds : (state : State') (k : ℕ) (moment : ℤ) (typed : Result TypedTree TextFault) (after : State')
       → pos 0 ≤ℤ moment
       → QueryBegins config state k moment typed after → Holds state → Holds after
-  query_holds state k moment (Err line) after from begins h =
+  query_holds state k moment (Err why) after from begins h =
+      let line : List ℕ = no_plan_text why in
       subst Holds (sym begins) (role_holds state k (Eventless line) (eventless line) h)
   query_holds state k moment (Ok typed) after from (setting, asked, same) h =
       subst Holds (sym same) (reader_holds state k setting moment asked.asked from h)
@@ -209,7 +212,7 @@ module _ (config : Config) where
   declare_holds state k (call.Write row) after lawful declares h =
       write_holds state k row (range_of_key config row.key) after declares h
   declare_holds state k (call.Query moment text) after lawful declares h =
-      query_holds state k moment (query_typed config text) after lawful declares h
+      query_holds state k moment (text_type config.schemas text) after lawful declares h
 
   does_hold : (state : State') (what : LineForm) (said : List ℕ) (after : State') → IsLawfulForm config.schemas what
       → Does config state what said after → Holds state → Holds after

@@ -4,20 +4,18 @@ use Rattle.mon_config.specs.declared.config.Config.{Config}
 use Rattle.mon_hints.specs.Formulas.{formula_tree}
 use Rattle.mon_config.specs.KeyRanges.{range_of_key}
 use Rattle.mon_topo.specs.Settings.{Setting}
-use Rattle.mon_value.specs.Answers.{◌>>=◌}
 use Rattle.mon_value.specs.declared.positions.Range.{Range}
 use Rattle.mon_value.specs.declared.rows.Row.{Row}
-use Rattle.mql_parse.specs.PipeReading.{text_outcome}
 use Rattle.mql_types.specs.Nodes.{TypedTree}
-use Rattle.mql_types.specs.Typing.{typing}
 use Rattle.plan_split.specs.FetchFormulas.{plan_formulas}
 use Rattle.query_core.specs.Askings.{IsAskedOf}
 use Rattle.query_core.specs.Machine.{new_query}
 use Rattle.query_core.specs.Mixtures.{typed_of}
 use Rattle.query_core.specs.Settings.{QuerySetting}
 use Rattle.weave_core.specs.Core.{CanCome, CoreEvent, Happens, Hears, Reader}
-use Rattle.weave_core.specs.EndTexts.{no_zone_text}
-use Rattle.weave_core.specs.Refusals.{parse_line, typing_line}
+use Rattle.query_texts.specs.TextTypes.{text_type}
+use Rattle.query_texts.specs.declared.faults.TextFault.{TextFault}
+use Rattle.weave_core.specs.EndTexts.{no_plan_text, no_zone_text}
 use Rattle.weave_core.specs.States.{Asking, Dismissed, Eventless, Role, State, Undeclared, Writing, actor_at, store_of}
 use Rattle.weave_core.specs.States.{view_at}
 use Rattle.weave_core.specs.Steps.{with_event, with_role}
@@ -28,17 +26,6 @@ use Rattle.mon_topo.specs.Views.{View}
 use Rattle.write_core.specs.World.{with_value_at, view_of}
 
 -- ---- queries
-
--- a fault is what it prints
-abbrev pub printed_fault : {X F : Type 0} → (F → List ℕ) → Result X F → Result X (List ℕ)
-printed_fault text (Ok x) = Ok x
-printed_fault text (Err why) = Err (text why)
-
--- the typed tree of a query's text, or the line that says why it has none
-abbrev pub query_typed : Config → List ℕ → Result TypedTree (List ℕ)
-query_typed config text = do
-  tree ← printed_fault parse_line (text_outcome text)
-  printed_fault typing_line (typing config.schemas tree)
 
 -- a typed query is asked of the store, with the hints that its fetches have, and the limit
 pub record IsAskedSo (config : Config) (typed : TypedTree) (setting : QuerySetting) : Type 0 where
@@ -77,9 +64,10 @@ module _ (config : Config) where
       Writing)
 
   -- a query is asked of the store, if its text has a typed tree; else it has no event
-  abbrev pub QueryBegins : State (store_of config) → ℕ → ℤ → Result TypedTree (List ℕ) → State (store_of config)
+  abbrev pub QueryBegins : State (store_of config) → ℕ → ℤ → Result TypedTree TextFault → State (store_of config)
       → Type 0
-  QueryBegins state k moment (Err line) after = after ≡ with_role (store_of config) state k (Eventless line)
+  QueryBegins state k moment (Err why) after =
+      after ≡ with_role (store_of config) state k (Eventless (no_plan_text why))
   QueryBegins state k moment (Ok typed) after =
       (setting : QuerySetting) × IsAskedSo config typed setting
       × (after ≡ with_reader (store_of config) state k
@@ -89,7 +77,7 @@ module _ (config : Config) where
   abbrev pub Declares : State (store_of config) → ℕ → Call → State (store_of config) → Type 0
   Declares state k (call.Write row) after =
       WriteBegins state k row (range_of_key config row.key) after
-  Declares state k (call.Query moment text) after = QueryBegins state k moment (query_typed config text) after
+  Declares state k (call.Query moment text) after = QueryBegins state k moment (text_type config.schemas text) after
 
 -- ---- meetings
 

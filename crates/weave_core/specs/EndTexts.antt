@@ -8,8 +8,14 @@ use Rattle.mon_value.specs.declared.positions.Range.{Range}
 use Rattle.query_core.specs.FaultTexts.{round_fault_text}
 use Rattle.query_core.specs.declared.answers.Answer.{Answer}
 use Rattle.query_core.specs.declared.answers.RoundFault.{RoundFault}
+use Rattle.query_texts.specs.TextTypes.{text_fault_text}
+use Rattle.query_texts.specs.declared.faults.TextFault.{TextFault}
 use Rattle.write_core.specs.declared.asks.WriteEnd.{WriteEnd}
 use Rattle.write_core.specs.declared.asks.WriteEnd.TheVariants as end
+
+-- the line of a call that is refused
+abbrev pub refused_line : List ℕ → List ℕ
+refused_line why = codes "refused: " ++ (why ++ newline)
 
 -- how many replicas took the row, and how many missed it; or why the row was not written
 abbrev pub write_end_text : List ZoneSpec → Range → WriteEnd → List ℕ
@@ -25,11 +31,11 @@ write_end_text zones range (end.Unavailable founds) =
 abbrev pub no_zone_text : List ℕ
 no_zone_text = codes "refused: NoZone" ++ newline
 
--- why a query has no table
-abbrev pub refusal_text : List ZoneSpec → RoundFault → List ℕ
-refusal_text zones why = codes "refused: " ++ (round_fault_text zones why ++ newline)
+-- a query whose text has no plan
+abbrev pub no_plan_text : TextFault → List ℕ
+no_plan_text why = refused_line (text_fault_text why)
 
 -- the table of a query, or why it has none
 abbrev pub query_text : List ZoneSpec → Result Answer RoundFault → List ℕ
 query_text zones (Ok answer) = printed_table answer.table
-query_text zones (Err why) = refusal_text zones why
+query_text zones (Err why) = refused_line (round_fault_text zones why)

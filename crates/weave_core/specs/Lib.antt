@@ -19,7 +19,6 @@ pub mod QueryLooks
 pub mod QueryPlans
 pub mod QueryTurns
 pub mod Reached
-pub mod Refusals
 pub mod ScheduleLines
 pub mod ScheduleTurns
 pub mod Schedules

@@ -1,11 +1,13 @@
 // What an actor prints that ends.
 ghost use Rattle.std.specs.Prelude.{◌≡◌, IfOk, string_bytes};
+ghost use Rattle.query_core.specs.FaultTexts.{round_fault_text};
 ghost use Rattle.weave_core.specs.EndTexts as spec;
 
 use mon_table::print;
 use mon_topo::{Topology, down_text};
 use mon_value::{OutOfMemory, Range, Text};
 use query_core::{Answer, RoundFault, fault_text};
+use query_texts::TextFault;
 use std::alloc::Global;
 use write_core::WriteEnd;
 
@@ -52,6 +54,13 @@ pub(crate) fn no_zone(alloc: Global) -> Result<Text, OutOfMemory>
     Text::from_str(alloc, "refused: NoZone\n")
 }
 
+/// The text of a query whose text has no plan.
+pub(crate) fn no_plan(alloc: Global, fault: TextFault) -> Result<Text, OutOfMemory>
+    ensures text { IfOk result (λ text. text ≡ spec.no_plan_text fault) }
+{
+    Ok(Text::from_string(format!(in alloc; "refused: {fault}\n")?))
+}
+
 /// The text of a query that ended so.
 pub(crate) fn query_text(
     alloc: Global,
@@ -62,13 +71,13 @@ pub(crate) fn query_text(
 {
     match end {
         Ok(answer) => print(alloc, &answer.table),
-        Err(fault) => refusal_text(alloc, topology, &fault),
+        Err(fault) => no_table(alloc, topology, &fault),
     }
 }
 
 // The line of why a query has no table.
-fn refusal_text(alloc: Global, topology: &Topology, fault: &RoundFault) -> Result<Text, OutOfMemory>
-    ensures text { IfOk result (λ text. text ≡ spec.refusal_text topology.now fault.now) }
+fn no_table(alloc: Global, topology: &Topology, fault: &RoundFault) -> Result<Text, OutOfMemory>
+    ensures line { IfOk result (λ line. line ≡ spec.refused_line (round_fault_text topology.now fault.now)) }
 {
     let why = fault_text(alloc, topology, fault)?;
     Ok(Text::from_string(format!(in alloc; "refused: {why}\n")?))

@@ -12,13 +12,13 @@ use Rattle.mql_parse.proofs.TextSteady.{fault_place, long_fault}
 use Rattle.mql_parse.specs.FaultPlaces.{too_long}
 use Rattle.mql_parse.specs.PipeReading.{text_outcome}
 use Rattle.mql_parse.specs.declared.faults.ParseFault.{ParseFault}
-use Rattle.mon_run.specs.Queries.{refused_as, tree_answer}
-use Rattle.mon_run.specs.QueryTexts.{GoesByTree, HasNoTree, IsAlwaysRefused, IsTextFault}
-use Rattle.mon_run.specs.declared.outcome.LineFault.TheVariants as fault
+use Rattle.query_texts.specs.TextTrees.{GoesByTree, HasNoTree, IsAlwaysRefused, IsTextFault}
+use Rattle.query_texts.specs.TextTypes.{refused_as, tree_type}
+use Rattle.query_texts.specs.declared.faults.TextFault.TheVariants as fault
 
 pub goes_by_tree : (text : List ℕ) → GoesByTree text
-goes_by_tree text config rows moment tree spells =
-    ap (λ (answer : Result PipeTree ParseFault). refused_as fault.Parse answer >>= tree_answer config rows moment)
+goes_by_tree text held tree spells =
+    ap (λ (answer : Result PipeTree ParseFault). refused_as fault.Parse answer >>= tree_type held)
     (text_complete text tree spells)
 
 abbrev refusal_of : ParseFault → Result PipeTree ParseFault
@@ -37,12 +37,11 @@ text_fault text why is = record {
 
 refused_by : (text : List ℕ) (answer : Result PipeTree ParseFault) → text_outcome text ≡ answer → HasNoTree text
     → IsAlwaysRefused text
-refused_by text (Ok tree) is none config rows moment =
+refused_by text (Ok tree) is none held =
     absurd (none tree (subst (λ (a : Result PipeTree ParseFault). IfOk a (λ t. Spells t text)) is (text_sound text)))
-refused_by text (Err why) is none config rows moment = record {
+refused_by text (Err why) is none held = record {
   why = why;
-  refused = ap (λ (answer : Result PipeTree ParseFault). refused_as fault.Parse answer >>= tree_answer config rows
-      moment) is;
+  refused = ap (λ (answer : Result PipeTree ParseFault). refused_as fault.Parse answer >>= tree_type held) is;
   fault = text_fault text why is;
 }
 
