@@ -20,9 +20,10 @@ ghost use Rattle.raise_table.specs.Seats.{MayRaise, after_meet, after_raise, wit
 
 use history_book::{BookOwner, NewEntry, RoomMove};
 use know::{Know, Names, Tables};
+use mon_hints::Place;
 use mon_topo::Sight;
 use mon_value::{Entry, Leaf, Zone};
-use raise_table::{OwnerSeat, Place};
+use raise_table::OwnerSeat;
 use std::marker::Model;
 
 /// The owner of a leaf. What it has seen is held, and the bits that it knows lead to all of it.
