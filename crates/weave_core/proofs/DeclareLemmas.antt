@@ -76,7 +76,14 @@ abbrev pub at_lock : ℕ → Row → Range → View → Doer
 at_lock i row range view = Writes (record { pass = i; row = row; range = range; stage = Locking; view = view })
 
 abbrev writing_of : ℕ → Row → Range → Write
-writing_of i row range = record { number = i; row = row; range = range; machine = new_write range; inside = None }
+writing_of i row range = record {
+  number = i;
+  row = row;
+  key = row.key;
+  range = range;
+  machine = new_write range;
+  inside = None;
+}
 
 new_writing : (config : Config) (i : ℕ) (doer : Doer) (reader : Reader (store_of config)) (row : Row) (range : Range)
     (view : View) → doer ≡ at_lock i row range view
@@ -84,6 +91,7 @@ new_writing : (config : Config) (i : ℕ) (doer : Doer) (reader : Reader (store_
 new_writing config i doer reader row range view e = record {
   writer = record {
     number = refl;
+    key = refl;
     writer = e ∙ ap (λ (v : View). at_lock i row range v) (sym (ap (λ (d : Doer). view_of d) e));
     range = refl;
     looks = tt;
@@ -100,6 +108,7 @@ writing_is : (config : Config) (i : ℕ) (row : Row) (writing : Write) → Begin
 writing_is config i row writing h = λ k. record {
   number = h.number k;
   row = h.row_is k;
+  key = h.key_is k;
   range = writing.range;
   machine = h.machine k;
   inside = h.inside k;

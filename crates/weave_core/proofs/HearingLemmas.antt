@@ -215,6 +215,7 @@ module _ (config : Config) (state : State (store_of config)) (i : ℕ) where
           actor = record {
             writer = record {
               number = h.writer.number;
+              key = h.writer.key;
               writer = now ∙ ap (λ (v : View). Writes (writer_of i writing v)) (sym (ap (λ (d : Doer). view_of d) now));
               range = h.writer.range;
               looks = h.writer.looks;

@@ -28,7 +28,6 @@ pub mod QueryTurnLemmas
 pub mod RaiseLemmas
 pub mod RaiseTurnLemmas
 pub mod RangeAnswers
-pub mod RangeLemmas
 pub mod ReachedLemmas
 pub mod ReaderAnswers
 pub mod ReaderLemmas

@@ -78,6 +78,7 @@ module _ (config : Config) (world next : World) (OtherLeaf OtherRange : ℕ → 
     history = so.history ∙ ap (λ (truth : View). of_range truth (range_numbered n)) (sym same.truth);
     holder = so.holder ∙ sym (same.range_holder n);
     sight = so.sight ∙ ap (λ (view : View). sight_of view.seen) (sym (same.ranges n other));
+    room = so.room;
   }
 
 -- one range's seat is looked at

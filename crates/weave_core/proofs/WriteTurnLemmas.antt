@@ -3,6 +3,7 @@ use Rattle.std.proofs.Common.{◌≡◌, ℕ, true, Option, Some, None, refl, sy
 use Rattle.std.specs.Prelude.{◌≢◌, is_some}
 use Rattle.mon_config.specs.declared.config.Config.{Config}
 use Rattle.mon_value.specs.declared.positions.Leaf.{Leaf}
+use Rattle.mon_value.specs.declared.rows.Row.{Row}
 use Rattle.weave_core.proofs.AtWorkLemmas.{looks_after}
 use Rattle.weave_core.specs.Writers.{IsWriterSo, LooksAtOne, RaisesBelow, writer_of}
 use Rattle.weave_core.specs.Agreements.{AreShared}
@@ -59,6 +60,7 @@ module _ (config : Config) (world : World) (i : ℕ) (store : Store) (writing : 
       let view_is : view_of doer ≡ seen = ap view_of doer_is in
       record {
         number = told.number ∙ work.writer.number;
+        key = told.key ∙ work.writer.key ∙ ap (λ (row : Row). row.key) (sym told.row);
         writer = doer_is ∙ (λ k. Writes (record {
           pass = i;
           row = sym told.row k;

@@ -22,8 +22,8 @@ abbrev pub write_end_text : List ZoneSpec → Range → WriteEnd → List ℕ
 write_end_text zones range (end.Written ack) =
     codes "written: took "
     ++ (decimal (length ack.took) ++ (codes ", missed " ++ (decimal (length ack.missed) ++ newline)))
-write_end_text zones range (end.Old last) = codes "refused: OldPoint " ++ (signed_decimal last ++ newline)
-write_end_text zones range (end.Full limit) = codes "refused: RangeFull " ++ (decimal limit ++ newline)
+write_end_text zones range (end.OldPoint last) = codes "refused: OldPoint " ++ (signed_decimal last ++ newline)
+write_end_text zones range (end.RangeFull limit) = codes "refused: RangeFull " ++ (decimal limit ++ newline)
 write_end_text zones range (end.Unavailable founds) =
     codes "refused: Unavailable " ++ (down_text zones range founds ++ newline)
 

@@ -18,7 +18,6 @@ pub mod PlannedQueries
 pub mod QueryLooks
 pub mod QueryPlans
 pub mod QueryTurns
-pub mod RangeAnswers
 pub mod Reached
 pub mod ScheduleLines
 pub mod ScheduleTurns

@@ -20,6 +20,7 @@ use Rattle.write_core.specs.Program.{new_write}
 pub record BeginsToWrite (config : Config) (i : ℕ) (row : Row) (writing : Writing) : Type 0 where
   pub number : writing.number ≡ i
   pub row_is : writing.row ≡ row
+  pub key_is : writing.key ≡ row.key
   pub range_is : range_of_key config row.key ≡ Some writing.range
   pub there : writing.range.0 < length (ranges_in config.topology)
   pub machine : writing.machine ≡ new_write writing.range

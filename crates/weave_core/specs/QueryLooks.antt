@@ -65,11 +65,11 @@ pub record FindsReplica (range : Range) (avoided : List Leaf) (old new : RangeSe
     (answer : Told)
     : Type 0 where
   pub free : old.holder ≡ None
-  pub told_so : answer ≡ slot_told (first_serving avoided old.state)
+  pub told_so : answer ≡ slot_told (first_serving avoided old.state.history)
   pub state : new.state ≡ old.state
   pub holder : new.holder ≡ old.holder
   pub sight_there : new.sight ≡ sight_after
-  pub seen : sight_after ≡ sight_at_range range old.state sight old.sight
+  pub seen : sight_after ≡ sight_at_range range old.state.history sight old.sight
 
 abbrev pub FindsIf : Range → List Leaf → RangeSeat → RangeSeat → Sight → Sight → Option Told → Type 0
 FindsIf range avoided old new sight sight_after (Some answer)

@@ -42,6 +42,7 @@ RaisesBelow count (Ended verdict) = Unit {0}
 -- an actor of the core is this write, in a store of so many buckets, and has seen so much
 pub record IsWriterSo (buckets i : ℕ) (doer : Doer) (writing : Write) (sight : Sight) : Type 0 where
   pub number : writing.number ≡ i
+  pub key : writing.key ≡ writing.row.key
   pub writer : doer ≡ Writes (writer_of i writing (view_of doer))
   pub range : writing.machine.range ≡ writing.range
   pub looks : LooksAtOne writing.machine.stage

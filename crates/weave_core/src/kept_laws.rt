@@ -18,11 +18,11 @@ ghost use Rattle.mon_value.specs.declared.positions.Leaf.{Leaf as LeafNumber};
 ghost use Rattle.mon_value.specs.declared.positions.Range.{Range as RangeNumber};
 ghost use Rattle.mon_value.specs.declared.rows.Row.{Row as RowOf};
 ghost use Rattle.write_core.specs.Invariant.{IsKept};
+ghost use Rattle.write_core.specs.RangeAnswers.{lock_answer};
 ghost use Rattle.write_core.specs.Steps.{IsToldByRange};
 ghost use Rattle.mon_topo.specs.Views.{View, joined_view, of_leaf, of_range};
 ghost use Rattle.write_core.specs.World.{IsPart, World};
 ghost use Rattle.weave_core.specs.Meetings.{sight_at_leaf, sight_at_range};
-ghost use Rattle.weave_core.specs.RangeAnswers.{lock_answer};
 
 /// Setting the bit of a child in a word sets that bit and no other.
 pub fn one_bit_is_raised()

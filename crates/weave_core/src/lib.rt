@@ -32,7 +32,7 @@ pub use kept_laws::{
 pub use laws::{queries_answer_rightly, queries_are_licensed};
 pub use leaves::LeafSeat;
 pub use limits::{LAST_ACTOR, MOST_EVENTS, MOST_LINES};
-pub use ranges::{RangeSeat, RangeState};
+pub use ranges::RangeSeat;
 pub use schedule_laws::schedules_answer_rightly;
 pub use schedules::run_schedule;
 pub use weave::Weave;

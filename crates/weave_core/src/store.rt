@@ -20,13 +20,14 @@ ghost use Rattle.weave_core.specs.Openings.{sight_of_states, with_opening};
 ghost use Rattle.mon_topo.specs.Sights.{range_sight};
 
 use crate::leaves::LeafSeat;
-use crate::ranges::{RangeSeat, RangeState};
+use crate::ranges::RangeSeat;
 use crate::words::HintWords;
 use leaf_store::LeafState;
 use mon_config::Config;
 use mon_topo::{RangeSight, Sight, Topology, ranges_have_replicas};
 use mon_value::{Entry, Leaf, ListOf, OutOfMemory, Range, RowList, Slot, TryCopy, Zone};
 use std::alloc::Global;
+use write_core::RangeReplay;
 
 /// The hint words, the leaves and the ranges, and what all have seen at first: the first replicas of all ranges.
 #[derive(Drop)]
@@ -103,10 +104,10 @@ fn seated(
     alloc: Global,
     config: &Config,
     leaf_states: Vec<LeafState>,
-    range_states: Vec<RangeState>,
+    range_states: Vec<RangeReplay>,
 ) -> Result<Seats, OutOfMemory>
     requires opened { AreOpenedSo config.now (first_leaf_history config.now.topology) leaf_states.items }
-    requires histories { range_states.items ≡ first_range_histories config.now.topology }
+    requires histories { spec.replayed range_states.items ≡ first_range_histories config.now.topology }
     ensures seats { IfOk result (AreFirstSeats config.now) }
 {
     match first_sight(alloc, leaf_states.as_slice(), range_states.as_slice()) {
@@ -124,7 +125,7 @@ fn seats_of(
     alloc: Global,
     config: &Config,
     leaf_states: Vec<LeafState>,
-    range_states: Vec<RangeState>,
+    range_states: Vec<RangeReplay>,
     sight: Sight,
 ) -> Result<Seats, OutOfMemory>
     requires count { length leaf_states.items ≡ length (leaves_in config.now.topology) }
@@ -149,7 +150,7 @@ fn seats_beside(
     alloc: Global,
     config: &Config,
     leaves: Vec<LeafSeat>,
-    range_states: Vec<RangeState>,
+    range_states: Vec<RangeReplay>,
     sight: Sight,
 ) -> Result<Seats, OutOfMemory>
     ensures words { IfOk result (λ seats. seats.words ≡ no_words (length config.now.topology) config.now.buckets) }
@@ -214,10 +215,11 @@ fn open_ranges(
     alloc: Global,
     config: &Config,
     leaves: &mut Vec<LeafState>,
-) -> Result<Vec<RangeState>, OutOfMemory>
+) -> Result<Vec<RangeReplay>, OutOfMemory>
     requires none { AreOpenedSo config.now (opened_before config.now.topology 0) leaves.old.items }
     ensures opened { OnOk result (AreOpenedSo config.now (first_leaf_history config.now.topology) leaves.new.items) }
-    ensures histories { IfOk result (λ ranges. ranges.items ≡ first_range_histories config.now.topology) }
+    ensures histories { IfOk result (λ ranges.
+        spec.replayed ranges.items ≡ first_range_histories config.now.topology) }
 {
     ranges_have_replicas(&config.topology);
     let mut ranges = Vec::new(alloc);
@@ -234,15 +236,15 @@ fn open_range(
     config: &Config,
     leaves: &mut Vec<LeafState>,
     range: Range,
-) -> Result<RangeState, OutOfMemory>
+) -> Result<RangeReplay, OutOfMemory>
     requires there { range.0 < length (ranges_in config.now.topology) }
     requires replicas { HasReplicas config.now.topology range }
     requires before { AreOpenedSo config.now (opened_before config.now.topology range.0) leaves.old.items }
     ensures opened { OnOk result
         (AreOpenedSo config.now (opened_before config.now.topology (range.0 + 1)) leaves.new.items) }
-    ensures history { IfOk result (λ state. state ≡ first_range_history config.now.topology range.0) }
+    ensures history { IfOk result (λ state. state.history ≡ first_range_history config.now.topology range.0) }
 {
-    let mut state = RangeState::new(alloc);
+    let mut state = RangeReplay::new(alloc);
     match open_replicas(alloc, config, leaves, range, &mut state) {
         Ok(()) => Ok(state),
         Err(fault) => {
@@ -258,15 +260,15 @@ fn open_replicas(
     config: &Config,
     leaves: &mut Vec<LeafState>,
     range: Range,
-    state: &mut RangeState,
+    state: &mut RangeReplay,
 ) -> Result<(), OutOfMemory>
     requires there { range.0 < length (ranges_in config.now.topology) }
     requires replicas { HasReplicas config.now.topology range }
     requires before { AreOpenedSo config.now (opened_before config.now.topology range.0) leaves.old.items }
-    requires none { state.old ≡ [] }
+    requires none { state.old.history ≡ [] }
     ensures opened { OnOk result
         (AreOpenedSo config.now (opened_before config.now.topology (range.0 + 1)) leaves.new.items) }
-    ensures history { OnOk result (state.new ≡ first_range_history config.now.topology range.0) }
+    ensures history { OnOk result (state.new.history ≡ first_range_history config.now.topology range.0) }
 {
     let mut number = 0;
     for leaf in config.topology.first_replicas(range).as_slice() {
@@ -319,7 +321,7 @@ fn open_slot(
 fn first_sight(
     alloc: Global,
     leaves: &[LeafState],
-    ranges: &[RangeState],
+    ranges: &[RangeReplay],
 ) -> Result<Sight, OutOfMemory>
     ensures sight { IfOk result (λ sight. sight ≡ sight_of_states leaves.now ranges.now) }
 {
@@ -341,8 +343,8 @@ fn leaf_lengths(alloc: Global, leaves: &[LeafState]) -> Result<ListOf<u64>, OutO
 }
 
 // What who sees all of each range's history sees.
-fn range_sights(alloc: Global, ranges: &[RangeState]) -> Result<ListOf<RangeSight>, OutOfMemory>
-    ensures sights { IfOk result (λ sights. sights ≡ map range_sight ranges.now) }
+fn range_sights(alloc: Global, ranges: &[RangeReplay]) -> Result<ListOf<RangeSight>, OutOfMemory>
+    ensures sights { IfOk result (λ sights. sights ≡ map (λ replay. range_sight replay.history) ranges.now) }
 {
     let mut sights = ListOf::new(alloc);
     for state in ranges {
@@ -411,7 +413,7 @@ fn place_of(topology: &Topology, leaf: usize) -> (Zone, u32)
 // Each range, held by nobody.
 fn range_seats(
     alloc: Global,
-    states: Vec<RangeState>,
+    states: Vec<RangeReplay>,
     sight: &Sight,
 ) -> Result<Vec<RangeSeat>, OutOfMemory>
     ensures seats { IfOk result (λ seats. seats.items ≡ map (spec.range_seat sight.now) states.items) }
@@ -425,7 +427,7 @@ fn range_seats(
 }
 
 // A range, held by nobody.
-fn range_seat(alloc: Global, state: RangeState, sight: &Sight) -> Result<RangeSeat, OutOfMemory>
+fn range_seat(alloc: Global, state: RangeReplay, sight: &Sight) -> Result<RangeSeat, OutOfMemory>
     ensures seat { IfOk result (λ seat. seat ≡ spec.range_seat sight.now state) }
 {
     let copied = sight.copy(alloc)?;

@@ -38,8 +38,8 @@ fn write_line(
             let missed = ack.missed.len();
             format!(in alloc; "written: took {took}, missed {missed}\n")
         }
-        WriteEnd::Old(last) => format!(in alloc; "refused: OldPoint {last}\n"),
-        WriteEnd::Full(limit) => format!(in alloc; "refused: RangeFull {limit}\n"),
+        WriteEnd::OldPoint(last) => format!(in alloc; "refused: OldPoint {last}\n"),
+        WriteEnd::RangeFull(limit) => format!(in alloc; "refused: RangeFull {limit}\n"),
         WriteEnd::Unavailable(founds) => {
             let down = down_text(alloc, topology, range, founds.as_slice())?;
             format!(in alloc; "refused: Unavailable {down}\n")

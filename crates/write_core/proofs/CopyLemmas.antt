@@ -562,10 +562,10 @@ module _ (setting : Setting) (world : World) (i : ℕ) (who : Recovery) (is : wo
     new = new_replica who g
 
     serve_then : serving (g ++ last ∷ []) ≡ serving g ++ new ∷ []
-    serve_then = serving-opened g who.pass new
+    serve_then = serving-opened g who.pass new.slot new.leaf
 
     acked_then : acknowledged_rows (g ++ last ∷ []) ≡ acknowledged_rows g
-    acked_then = acked-opened g who.pass new
+    acked_then = acked-opened g who.pass new.slot new.leaf
 
     module _ (view : View) (sound : IsSound setting view) (upper : IsViewWithin who.view view)
         (whole : of_range view r ≡ g) where
@@ -670,7 +670,7 @@ module _ (setting : Setting) (world : World) (i : ℕ) (who : Recovery) (is : wo
           (sym told_history)
           (λ slot leaf beyond. h.fresh slot leaf
           (let count : length (opened_slots (g ++ last ∷ [])) ≡ length (opened_slots g) + 1 =
-          ap length (opened-opened g who.pass new) ∙ length-append (opened_slots g) (new ∷ []) in
+          ap length (opened-opened g who.pass new.slot new.leaf) ∙ length-append (opened_slots g) (new ∷ []) in
           let from : length (opened_slots (g ++ last ∷ [])) ≤ slot.0 = beyond in
           omega arith));
     }

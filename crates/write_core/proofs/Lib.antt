@@ -11,10 +11,12 @@ pub mod InsideLemmas
 pub mod KeepsLemmas
 pub mod KeptLemmas
 pub mod LeafEventLemmas
+pub mod LockLemmas
 pub mod MeetLemmas
 mod NotedLemmas
 pub mod OpeningLemmas
 pub mod RangeEventLemmas
+pub mod ReplayLemmas
 pub mod RoundLemmas
 pub mod StageLemmas
 pub mod StepLemmas

@@ -2,7 +2,7 @@
 use Rattle.std.proofs.Common.{◌≡◌, drop, filter, not}
 use Rattle.std.specs.Prelude.{slice_get}
 use Rattle.mon_topo.specs.Serving.{is_avoided}
-use Rattle.weave_core.proofs.ranges.first_off.Given as goal
+use Rattle.write_core.proofs.replays.first_off.Given as goal
 
 abbrev pub invariant-loop-replica : goal.invariant-loop-replica
 invariant-loop-replica l =
