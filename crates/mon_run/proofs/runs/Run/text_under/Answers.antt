@@ -7,8 +7,8 @@ use Rattle.mon_run.proofs.LimitLemmas.{is_limited}
 use Rattle.mon_run.proofs.runs.Run.text_under.Goals as goal
 use Rattle.weave_core.specs.Schedules.{IsPrinted}
 
-pub script-requires-clause-limited : goal.script-requires-clause-limited
-script-requires-clause-limited g c = is_limited c.args.config c.requires.lawful
+pub script-ended-requires-clause-limited : goal.script-ended-requires-clause-limited
+script-ended-requires-clause-limited g c = is_limited c.args.config c.requires.lawful
 
 pub returns-in-Run-clause-ended : goal.returns-in-Run-clause-ended
 returns-in-Run-clause-ended g c =
