@@ -1,5 +1,5 @@
 -- What it takes and what it does to declare an actor, and to let one that has not begun hear from one that has ended.
-use Rattle.std.specs.Prelude.{ℕ, ℤ, ◌≡◌, List, [], map, Option, Some, None, Result, Ok, Err}
+use Rattle.std.specs.Prelude.{ℕ, ℤ, ◌≡◌, [], map, Option, Some, None, Result, Ok, Err}
 use Rattle.mon_config.specs.declared.config.Config.{Config}
 use Rattle.mon_hints.specs.Formulas.{formula_tree}
 use Rattle.mon_config.specs.KeyRanges.{range_of_key}
