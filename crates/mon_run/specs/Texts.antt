@@ -1,6 +1,6 @@
 -- Every text that a run prints, but for those of its queries and its schedule.
 use Rattle.std.specs.Prelude.{ℕ, List, ◌++◌, length, codes}
-use Rattle.std.specs.Fmt.{decimal, signed_decimal}
+use Rattle.std.specs.Fmt.{decimal}
 use Rattle.std.specs.List.{flat_map}
 use Rattle.mon_config.specs.FaultTexts.{config_fault_text}
 use Rattle.mon_config.specs.declared.faults.ConfigFault.{ConfigFault}
@@ -14,14 +14,16 @@ use Rattle.mon_run.specs.declared.outcome.RowRefused.TheVariants as refused
 use Rattle.mon_run.specs.declared.outcome.RowRefusal.{RowRefusal}
 use Rattle.weave_core.specs.Schedules.{schedule_fault_text}
 use Rattle.weave_core.specs.declared.calls.ScheduleFault.{ScheduleFault}
+use Rattle.write_core.specs.Refusals.{no_zone_text, refused_text}
+use Rattle.write_core.specs.declared.refusals.Refused.TheVariants as why
 
 -- ---- lines
 
 -- why a row was not written
 abbrev pub write_fault_text : WriteFault → List ℕ
-write_fault_text write.NoZone = codes "NoZone"
-write_fault_text (write.OldPoint last) = codes "OldPoint " ++ signed_decimal last
-write_fault_text (write.RangeFull limit) = codes "RangeFull " ++ decimal limit
+write_fault_text write.NoZone = no_zone_text
+write_fault_text (write.OldPoint last) = refused_text (why.OldPoint last)
+write_fault_text (write.RangeFull limit) = refused_text (why.RangeFull limit)
 
 abbrev pub row_refused_text : RowRefused → List ℕ
 row_refused_text (refused.Read fault) = row_fault_text fault

@@ -1,7 +1,7 @@
 -- A text's plan, step by step.
-use Rattle.std.proofs.Common.{◌≡◌, ◌<◌, ℕ, List, Result, Ok, Err, map, sym, ap, subst}
+use Rattle.std.proofs.Common.{◌≡◌, ◌<◌, ℕ, List, Result, Ok, map, sym, ap, subst}
 use Rattle.std.specs.List.{AllByRecursion}
-use Rattle.mon_hints.specs.Formulas.{FormulaTree, all_named, formula_tree, formulas}
+use Rattle.mon_hints.specs.Formulas.{all_named, formula_tree, formulas}
 use Rattle.mon_hints.specs.Listings.{IsListing}
 use Rattle.mon_schema.specs.HeldMetrics.{AreMetricsHeld}
 use Rattle.mon_schema.specs.HeldTargets.{AllTellLocations}

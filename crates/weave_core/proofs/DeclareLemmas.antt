@@ -28,7 +28,7 @@ use Rattle.weave_core.specs.ActorAgreements.{actor_numbered, flat}
 use Rattle.weave_core.specs.Agreements.{AreShared, IsServed, first_view}
 use Rattle.weave_core.specs.Core.{CanCome, Happens, Reader}
 use Rattle.weave_core.specs.Declarations.{Declares, QueryBegins, WriteBegins, new_reader, with_reader}
-use Rattle.weave_core.specs.EndTexts.{no_plan_text, no_zone_text}
+use Rattle.weave_core.specs.EndTexts.{no_plan_line, no_zone_line}
 use Rattle.mon_topo.specs.FirstHistories.{first_histories}
 use Rattle.weave_core.specs.Holders.{AreHolders, HoldsLeaf, HoldsRange}
 use Rattle.weave_core.specs.LawfulLines.{IsLawfulCall}
@@ -339,9 +339,9 @@ module _ (config : Config) (state : State (store_of config)) (i : ℕ) where
         → IsLawfulCall config.schemas what → IsCourseOf config i what one → IsDeclaredSo what one begun sight
     declared_by (call.Write row) (course.Refused line) begun sight new seen lawful h =
         subst (λ (text : List ℕ). IsDeclaredSo (call.Write row) (course.Refused text) begun sight) (sym h.1)
-        (eventless_declared (call.Write row) no_zone_text begun sight new seen
+        (eventless_declared (call.Write row) no_zone_line begun sight new seen
         (subst (λ (found : Option Range). WriteBegins config state i row found
-        (with_role (store_of config) state i (Eventless no_zone_text))) (sym h.0) refl))
+        (with_role (store_of config) state i (Eventless no_zone_line))) (sym h.0) refl))
     declared_by (call.Write row) (course.Writes writing) begun sight new seen lawful h =
         subst (λ (one : Write). IsDeclaredSo (call.Write row) (course.Writes one) begun sight)
         (sym (writing_is config i row writing h))
@@ -349,7 +349,7 @@ module _ (config : Config) (state : State (store_of config)) (i : ℕ) where
     declared_by (call.Write row) (course.Queries querying) begun sight new seen lawful h = absurd h
     declared_by (call.Write row) course.Ended begun sight new seen lawful h = absurd h
     declared_by (call.Query moment text) (course.Refused line) begun sight new seen lawful h =
-        let said : List ℕ = no_plan_text h.why in
+        let said : List ℕ = no_plan_line h.why in
         subst (λ (one : List ℕ). IsDeclaredSo (call.Query moment text) (course.Refused one) begun sight) (sym h.line_is)
         (eventless_declared (call.Query moment text) said begun sight new seen
         (subst (λ (typed : Result TypedTree TextFault). QueryBegins config state i moment typed

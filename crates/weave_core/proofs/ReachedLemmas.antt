@@ -17,7 +17,7 @@ use Rattle.weave_core.specs.Core.{CanCome, CoreEvent, Happens, Hears, Reader, Te
 use Rattle.weave_core.specs.Core.{view_told}
 use Rattle.weave_core.specs.Declarations.{Declares, QueryBegins, WriteBegins, hearing, new_reader}
 use Rattle.weave_core.specs.Declarations.{with_reader}
-use Rattle.weave_core.specs.EndTexts.{no_plan_text, no_zone_text}
+use Rattle.weave_core.specs.EndTexts.{no_plan_line, no_zone_line}
 use Rattle.weave_core.specs.LawfulLines.{IsLawfulCall, IsLawfulForm}
 use Rattle.weave_core.specs.Licensed.{IsReader, IsWoven}
 use Rattle.weave_core.specs.Reached.{LinesLead}
@@ -192,7 +192,7 @@ module _ (config : Config) where
       k row range after
       → Holds state → Holds after
   write_holds state k row None after begins h =
-      subst Holds (sym begins) (role_holds state k (Eventless no_zone_text) (eventless no_zone_text) h)
+      subst Holds (sym begins) (role_holds state k (Eventless no_zone_line) (eventless no_zone_line) h)
   write_holds state k row (Some range) after begins h =
       subst Holds (sym begins.1)
       (role_holds (with_event Store' state (Happens (Begins k row range))) k Writing writing
@@ -202,7 +202,7 @@ module _ (config : Config) where
       → pos 0 ≤ℤ moment
       → QueryBegins config state k moment typed after → Holds state → Holds after
   query_holds state k moment (Err why) after from begins h =
-      let line : List ℕ = no_plan_text why in
+      let line : List ℕ = no_plan_line why in
       subst Holds (sym begins) (role_holds state k (Eventless line) (eventless line) h)
   query_holds state k moment (Ok typed) after from (setting, asked, same) h =
       subst Holds (sym same) (reader_holds state k setting moment asked.asked from h)

@@ -1,5 +1,5 @@
 -- What it takes and what it does to declare an actor, and to let one that has not begun hear from one that has ended.
-use Rattle.std.specs.Prelude.{ℕ, ℤ, ◌≡◌, List, [], map, Option, Some, None, Result, Ok, Err}
+use Rattle.std.specs.Prelude.{ℕ, ℤ, ◌≡◌, [], map, Option, Some, None, Result, Ok, Err}
 use Rattle.mon_config.specs.declared.config.Config.{Config}
 use Rattle.mon_hints.specs.Formulas.{formula_tree}
 use Rattle.mon_config.specs.KeyRanges.{range_of_key}
@@ -15,7 +15,7 @@ use Rattle.query_core.specs.Settings.{QuerySetting}
 use Rattle.weave_core.specs.Core.{CanCome, CoreEvent, Happens, Hears, Reader}
 use Rattle.query_texts.specs.TextTypes.{text_type}
 use Rattle.query_texts.specs.declared.faults.TextFault.{TextFault}
-use Rattle.weave_core.specs.EndTexts.{no_plan_text, no_zone_text}
+use Rattle.weave_core.specs.EndTexts.{no_plan_line, no_zone_line}
 use Rattle.weave_core.specs.States.{Asking, Dismissed, Eventless, Role, State, Undeclared, Writing, actor_at, store_of}
 use Rattle.weave_core.specs.States.{view_at}
 use Rattle.weave_core.specs.Steps.{with_event, with_role}
@@ -57,7 +57,7 @@ module _ (store : Setting) where
 module _ (config : Config) where
   -- a write begins, if a zone lists its row's location; else it has no event
   abbrev pub WriteBegins : State (store_of config) → ℕ → Row → Option Range → State (store_of config) → Type 0
-  WriteBegins state k row None after = after ≡ with_role (store_of config) state k (Eventless no_zone_text)
+  WriteBegins state k row None after = after ≡ with_role (store_of config) state k (Eventless no_zone_line)
   WriteBegins state k row (Some range) after =
       CanCome (store_of config) state.core (Happens (Begins k row range))
       × (after ≡ with_role (store_of config) (with_event (store_of config) state (Happens (Begins k row range))) k
@@ -67,7 +67,7 @@ module _ (config : Config) where
   abbrev pub QueryBegins : State (store_of config) → ℕ → ℤ → Result TypedTree TextFault → State (store_of config)
       → Type 0
   QueryBegins state k moment (Err why) after =
-      after ≡ with_role (store_of config) state k (Eventless (no_plan_text why))
+      after ≡ with_role (store_of config) state k (Eventless (no_plan_line why))
   QueryBegins state k moment (Ok typed) after =
       (setting : QuerySetting) × IsAskedSo config typed setting
       × (after ≡ with_reader (store_of config) state k

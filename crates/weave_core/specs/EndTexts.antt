@@ -1,6 +1,6 @@
 -- What a write or a query prints that ends.
 use Rattle.std.specs.Prelude.{ℕ, List, ◌++◌, codes, length, Result, Ok, Err}
-use Rattle.std.specs.Fmt.{decimal, signed_decimal}
+use Rattle.std.specs.Fmt.{decimal}
 use Rattle.mon_table.specs.Tables.{newline, printed_table}
 use Rattle.mon_topo.specs.NameTexts.{down_text}
 use Rattle.mon_topo.specs.declared.zones.ZoneSpec.{ZoneSpec}
@@ -10,8 +10,10 @@ use Rattle.query_core.specs.declared.answers.Answer.{Answer}
 use Rattle.query_core.specs.declared.answers.RoundFault.{RoundFault}
 use Rattle.query_texts.specs.TextTypes.{text_fault_text}
 use Rattle.query_texts.specs.declared.faults.TextFault.{TextFault}
+use Rattle.write_core.specs.Refusals.{no_zone_text, refused_text}
 use Rattle.write_core.specs.declared.asks.WriteEnd.{WriteEnd}
 use Rattle.write_core.specs.declared.asks.WriteEnd.TheVariants as end
+use Rattle.write_core.specs.declared.refusals.Refused.TheVariants as refused
 
 -- the line of a call that is refused
 abbrev pub refused_line : List ℕ → List ℕ
@@ -22,18 +24,17 @@ abbrev pub write_end_text : List ZoneSpec → Range → WriteEnd → List ℕ
 write_end_text zones range (end.Written ack) =
     codes "written: took "
     ++ (decimal (length ack.took) ++ (codes ", missed " ++ (decimal (length ack.missed) ++ newline)))
-write_end_text zones range (end.OldPoint last) = codes "refused: OldPoint " ++ (signed_decimal last ++ newline)
-write_end_text zones range (end.RangeFull limit) = codes "refused: RangeFull " ++ (decimal limit ++ newline)
-write_end_text zones range (end.Unavailable founds) =
-    codes "refused: Unavailable " ++ (down_text zones range founds ++ newline)
+write_end_text zones range (end.OldPoint last) = refused_line (refused_text (refused.OldPoint last))
+write_end_text zones range (end.RangeFull limit) = refused_line (refused_text (refused.RangeFull limit))
+write_end_text zones range (end.Unavailable founds) = refused_line (codes "Unavailable " ++ down_text zones range founds)
 
 -- a write of a row whose location no zone lists
-abbrev pub no_zone_text : List ℕ
-no_zone_text = codes "refused: NoZone" ++ newline
+abbrev pub no_zone_line : List ℕ
+no_zone_line = refused_line no_zone_text
 
 -- a query whose text has no plan
-abbrev pub no_plan_text : TextFault → List ℕ
-no_plan_text why = refused_line (text_fault_text why)
+abbrev pub no_plan_line : TextFault → List ℕ
+no_plan_line why = refused_line (text_fault_text why)
 
 -- the table of a query, or why it has none
 abbrev pub query_text : List ZoneSpec → Result Answer RoundFault → List ℕ

@@ -4,7 +4,7 @@ use Rattle.mon_config.specs.declared.config.Config.{Config}
 use Rattle.mon_config.specs.KeyRanges.{range_of_key}
 use Rattle.mon_topo.specs.Zones.{ranges_in}
 use Rattle.mon_value.specs.declared.rows.Row.{Row}
-use Rattle.weave_core.specs.EndTexts.{no_zone_text}
+use Rattle.weave_core.specs.EndTexts.{no_zone_line}
 use Rattle.weave_core.specs.QueryPlans.{IsQueryCourse}
 use Rattle.mon_topo.specs.Sights.{joined_sight}
 use Rattle.weave_core.specs.declared.actors.Actor.{Actor}
@@ -30,7 +30,7 @@ pub record BeginsToWrite (config : Config) (i : ℕ) (row : Row) (writing : Writ
 abbrev pub IsWriteCourse : Config → ℕ → Row → Course → Type 0
 IsWriteCourse config i row (course.Writes writing) = BeginsToWrite config i row writing
 IsWriteCourse config i row (course.Refused line) =
-    (range_of_key config row.key ≡ None) × (line ≡ no_zone_text)
+    (range_of_key config row.key ≡ None) × (line ≡ no_zone_line)
 IsWriteCourse config i row (course.Queries querying) = ⊥
 IsWriteCourse config i row course.Ended = ⊥
 

@@ -9,7 +9,7 @@ use Rattle.query_core.specs.Machine.{Query, new_query}
 use Rattle.query_texts.specs.TextTypes.{text_type}
 use Rattle.query_texts.specs.declared.faults.TextFault.{TextFault}
 use Rattle.weave_core.specs.Declarations.{IsAskedSo}
-use Rattle.weave_core.specs.EndTexts.{no_plan_text}
+use Rattle.weave_core.specs.EndTexts.{no_plan_line}
 use Rattle.weave_core.specs.declared.actors.Course.{Course}
 use Rattle.weave_core.specs.declared.actors.Course.TheVariants as course
 use Rattle.weave_core.specs.declared.queries.Querying.{Querying}
@@ -36,7 +36,7 @@ pub record BeginsToAsk (config : Config) (moment : ℤ) (text : List ℕ) (query
 pub record HasNoPlan (config : Config) (text line : List ℕ) : Type 0 where
   pub why : TextFault
   pub refused : text_type config.schemas text ≡ Err why
-  pub line_is : line ≡ no_plan_text why
+  pub line_is : line ≡ no_plan_line why
 
 -- a text's query begins, or is refused with a line
 abbrev pub IsQueryCourse : Config → ℤ → List ℕ → Course → Type 0

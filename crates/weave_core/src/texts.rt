@@ -2,6 +2,7 @@
 ghost use Rattle.std.specs.Prelude.{◌≡◌, IfOk, string_bytes};
 ghost use Rattle.query_core.specs.FaultTexts.{round_fault_text};
 ghost use Rattle.weave_core.specs.EndTexts as spec;
+ghost use Rattle.write_core.specs.Refusals.{refused_text};
 
 use mon_table::print;
 use mon_topo::{Topology, down_text};
@@ -9,7 +10,7 @@ use mon_value::{OutOfMemory, Range, Text};
 use query_core::{Answer, RoundFault, fault_text};
 use query_texts::TextFault;
 use std::alloc::Global;
-use write_core::WriteEnd;
+use write_core::{Refused, WriteEnd};
 
 /// The text of a write to a range that ended so.
 pub(crate) fn write_end_text(
@@ -38,8 +39,8 @@ fn write_line(
             let missed = ack.missed.len();
             format!(in alloc; "written: took {took}, missed {missed}\n")
         }
-        WriteEnd::OldPoint(last) => format!(in alloc; "refused: OldPoint {last}\n"),
-        WriteEnd::RangeFull(limit) => format!(in alloc; "refused: RangeFull {limit}\n"),
+        WriteEnd::OldPoint(last) => refused_line(alloc, Refused::OldPoint(*last)),
+        WriteEnd::RangeFull(limit) => refused_line(alloc, Refused::RangeFull(*limit)),
         WriteEnd::Unavailable(founds) => {
             let down = down_text(alloc, topology, range, founds.as_slice())?;
             format!(in alloc; "refused: Unavailable {down}\n")
@@ -47,16 +48,23 @@ fn write_line(
     }
 }
 
+// The line of a write that its range refuses.
+fn refused_line(alloc: Global, why: Refused) -> Result<String, OutOfMemory>
+    ensures line { IfOk result (λ line. string_bytes line ≡ spec.refused_line (refused_text why)) }
+{
+    format!(in alloc; "refused: {why}\n")
+}
+
 /// The text of a write of a row whose location no zone lists.
 pub(crate) fn no_zone(alloc: Global) -> Result<Text, OutOfMemory>
-    ensures text { IfOk result (λ text. text ≡ spec.no_zone_text) }
+    ensures text { IfOk result (λ text. text ≡ spec.no_zone_line) }
 {
     Text::from_str(alloc, "refused: NoZone\n")
 }
 
 /// The text of a query whose text has no plan.
 pub(crate) fn no_plan(alloc: Global, fault: TextFault) -> Result<Text, OutOfMemory>
-    ensures text { IfOk result (λ text. text ≡ spec.no_plan_text fault) }
+    ensures text { IfOk result (λ text. text ≡ spec.no_plan_line fault) }
 {
     Ok(Text::from_string(format!(in alloc; "refused: {fault}\n")?))
 }

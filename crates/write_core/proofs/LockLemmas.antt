@@ -19,7 +19,8 @@ use Rattle.mon_value.specs.declared.rows.Point.{Point}
 use Rattle.mon_value.specs.declared.rows.Row.{Row}
 use Rattle.write_core.proofs.OpeningLemmas.{acked-opened}
 use Rattle.write_core.specs.RangeAnswers.{lock_answer, told_unless}
-use Rattle.write_core.specs.Refusals.{full_refusal, range_refusal, refusal}
+use Rattle.write_core.specs.RangeAnswers.{refusal}
+use Rattle.write_core.specs.Refusals.{full_refusal, range_refusal}
 use Rattle.write_core.specs.Steps.{IsToldByRange}
 use Rattle.write_core.specs.declared.refusals.Refused.{Refused}
 use Rattle.write_core.specs.declared.refusals.Refused.TheVariants as refused

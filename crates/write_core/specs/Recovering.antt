@@ -46,9 +46,9 @@ told_by_source founds source left (WasDown cut) = copying (founds ++ found_on so
 told_by_source founds source left told = Copying founds (source ∷ left)
 
 -- a leaf that it asked was found down
-abbrev pub IsToldDown : CopyTold → Type 0
-IsToldDown (WasDown cut) = Unit {0}
-IsToldDown told = ⊥
+abbrev pub SaysDown : CopyTold → Type 0
+SaysDown (WasDown cut) = Unit {0}
+SaysDown told = ⊥
 
 abbrev pub told_by_target : List Row → CopyTold → CopyStage
 told_by_target rows HasRoom = Nearing rows

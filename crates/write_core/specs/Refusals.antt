@@ -1,12 +1,9 @@
--- Why a range refuses a row. It has a range where some zone lists its location; else it is refused as NoZone, and no
--- range is asked.
-use Rattle.std.specs.Prelude.{ℕ, ℤ, int_le, nat_le, List, length, Option, Some, None, if◌then◌else◌}
+-- Why a range refuses a row, and what that prints as. It has a range where some zone lists its location; else it is
+-- refused as NoZone, and no range is asked.
+use Rattle.std.specs.Prelude.{ℕ, ℤ, int_le, nat_le, List, ◌++◌, codes, Option, Some, None, if◌then◌else◌}
+use Rattle.std.specs.Fmt.{decimal, signed_decimal}
 use Rattle.std.specs.Option.{option_or}
-use Rattle.mon_topo.specs.RangeHistories.{acknowledged_rows}
-use Rattle.mon_value.specs.Sources.{last_end, points_of}
-use Rattle.mon_value.specs.declared.histories.RangeEntry.{RangeEntry}
 use Rattle.mon_value.specs.declared.rows.Point.{Point}
-use Rattle.mon_value.specs.declared.rows.Row.{Row}
 use Rattle.write_core.specs.declared.refusals.Refused.{Refused}
 use Rattle.write_core.specs.declared.refusals.Refused.TheVariants as refused
 
@@ -23,8 +20,13 @@ full_refusal limit held = if nat_le limit held then Some (refused.RangeFull limi
 abbrev pub range_refusal : Option ℤ → ℕ → ℕ → Point → Option Refused
 range_refusal last limit held point = option_or (old_refusal last point) (full_refusal limit held)
 
--- by the range's history
-abbrev pub refusal : ℕ → List RangeEntry → Row → Option Refused
-refusal limit history row =
-    range_refusal (last_end (points_of row.key (acknowledged_rows history))) limit (length (acknowledged_rows history))
-    row.point
+-- ---- texts
+
+-- no zone lists a row's location
+abbrev pub no_zone_text : List ℕ
+no_zone_text = codes "NoZone"
+
+-- why a range refuses a row
+abbrev pub refused_text : Refused → List ℕ
+refused_text (refused.OldPoint last) = codes "OldPoint " ++ signed_decimal last
+refused_text (refused.RangeFull limit) = codes "RangeFull " ++ decimal limit

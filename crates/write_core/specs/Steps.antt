@@ -14,7 +14,7 @@ use Rattle.mon_hints.specs.HistoryBuckets.{history_buckets}
 use Rattle.write_core.specs.Marks.{ack_of, some_took}
 use Rattle.write_core.specs.Program.{Acking, Ended, Entering, Inside, Locking, Marked, Not, Reserving, Stage, Verdict}
 use Rattle.write_core.specs.Program.{after}
-use Rattle.write_core.specs.Refusals.{refusal}
+use Rattle.write_core.specs.RangeAnswers.{refusal}
 use Rattle.mon_topo.specs.Settings.{Setting, zone_of_leaf}
 use Rattle.mon_topo.specs.Views.{View, of_leaf, of_range, with_entry, with_range_entry, with_root_bit, with_zone_bit}
 use Rattle.write_core.specs.World.{Actor, Recovers, Stands, World, Writer, Writes, at_leaf, at_range, put_of, writes_on}

@@ -20,4 +20,5 @@ pub use laws::{
 pub use machine::WriteMachine;
 pub use marks::{Fate, Mark};
 pub use mon_value::{Ack, Miss, Misses};
+pub use refusals::Refused;
 pub use replays::RangeReplay;

@@ -6,6 +6,7 @@ ghost use Rattle.write_core.specs.Refusals.{full_refusal, range_refusal};
 
 use crate::asks::{WriteEnd, WriteTold};
 use mon_value::Point;
+use std::fmt;
 
 /// Why a range does not take a row.
 #[derive(Clone, Copy, PartialEq, Eq)]
@@ -14,6 +15,20 @@ pub enum Refused {
     OldPoint(i64),
     /// The range holds so many rows, and no more go in.
     RangeFull(u64),
+}
+
+impl fmt::Display for Refused {
+    ghost use Rattle.std.specs.Prelude.{Some};
+    ghost use Rattle.write_core.specs.Refusals.{refused_text};
+
+    ghost output = { λ why. Some (refused_text why) };
+
+    fn fmt<W: fmt::Write>(&self, f: &mut fmt::Formatter<W>) -> fmt::Result {
+        match self {
+            Refused::OldPoint(last) => write!(f, "OldPoint {last}"),
+            Refused::RangeFull(limit) => write!(f, "RangeFull {limit}"),
+        }
+    }
 }
 
 impl Refused {

@@ -1,4 +1,4 @@
-use Rattle.std.proofs.Common.{List, ℕ, None, sym, subst}
+use Rattle.std.proofs.Common.{List, ℕ, sym, subst}
 use Rattle.mon_run.specs.Endings.{Progress}
 use Rattle.mon_run.specs.Plans.{Command, command}
 use Rattle.mon_run.specs.declared.stop.Stop.{Stop}

@@ -7,17 +7,17 @@ use Rattle.mon_run.proofs.LimitLemmas.{is_limited}
 use Rattle.mon_run.proofs.runs.Run.text_under.Goals as goal
 use Rattle.weave_core.specs.Schedules.{IsPrinted}
 
-pub script-requires-clause-limited : goal.script-requires-clause-limited
-script-requires-clause-limited g c = is_limited c.args.config c.requires.lawful
+pub script-ended-requires-clause-limited : goal.script-ended-requires-clause-limited
+script-ended-requires-clause-limited g c = is_limited c.args.config c.requires.lawful
 
 pub returns-in-Run-clause-ended : goal.returns-in-Run-clause-ended
 returns-in-Run-clause-ended g c =
     let before : Progress = seen g.F.Folder.state g.O.Sink.state c.args.self.now in
-    let after : Progress = seen g.F.Folder.state g.O.Sink.state c.script.new.self in
+    let after : Progress = seen g.F.Folder.state g.O.Sink.state c.script-ended.new.self in
     let text : List ℕ = c.args.text.now in
     subst (λ (v : Verb). Weaves (λ woven files. file_plan woven c.args.config files v text)
-    (λ files. IsPrinted c.args.config text) c.script.result before after) (sym c.in-Run.is)
-    (record { woven = None; printed = λ files told. tt; ends = c.script.ensures.ended })
+    (λ files. IsPrinted c.args.config text) c.script-ended.result before after) (sym c.in-Run.is)
+    (record { woven = None; printed = λ files told. tt; ends = c.script-ended.ensures.ended })
 
 pub returns-in-Weave-clause-ended : goal.returns-in-Weave-clause-ended
 returns-in-Weave-clause-ended g c =
