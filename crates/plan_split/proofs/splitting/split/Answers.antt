@@ -1,5 +1,5 @@
-use Rattle.std.proofs.Common.{List, sym, subst}
-use Rattle.mon_hints.specs.Formulas.{FormulaTree}
+use Rattle.std.proofs.Common.{◌≡◌, ◌∙◌, List, map, rules, sym, subst}
+use Rattle.mon_hints.specs.Formulas.{FormulaTree, formula_tree}
 use Rattle.mql_types.proofs.FetchColumnLemmas.{fetches_have_columns}
 use Rattle.mql_types.specs.Nodes.{node_tree, typed_tree}
 use Rattle.mql_types.specs.Plans.{fetches}
@@ -17,5 +17,6 @@ returns-clause-promise c held query typed =
 
 pub returns-clause-below : goal.returns-clause-below
 returns-clause-below c =
-    plan_below c.args.buckets c.requires.some (node_tree c.args.typed.tree) (map formula_tree c.in_ok-formulas.formulas)
-    c.in_ok-buckets.buckets c.in_ok-formulas.ensures.formulas c.in_ok-buckets.ensures.listing
+    let same : map formula_tree c.as_slice.result.now ≡ map formula_tree c.in_ok-formulas.formulas = search rules in
+    plan_below c.args.buckets c.requires.some (node_tree c.args.typed.tree) (map formula_tree c.as_slice.result.now)
+    c.in_ok-buckets.buckets (same ∙ c.in_ok-formulas.ensures.formulas) c.in_ok-buckets.ensures.listing
