@@ -60,9 +60,9 @@ abbrev pub WasSeen : Lengths → Histories → Type 0
 WasSeen moment seen = IsSoonerThan moment (lengths_of seen)
 
 -- two moments lie within two others, and histories have grown since they were seen
-pub record AreWider (from to earlier later : Lengths) (seen more : Histories) : Type 0 where
-  pub sooner : IsSoonerThan earlier from
-  pub later : IsSoonerThan to later
+pub record AreWider (from to first last : Lengths) (seen more : Histories) : Type 0 where
+  pub sooner : IsSoonerThan first from
+  pub later : IsSoonerThan to last
   pub begun : WasSeen from seen
   pub within : WasSeen to seen
   pub grown : AreWithin seen more
