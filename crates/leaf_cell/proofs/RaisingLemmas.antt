@@ -17,8 +17,8 @@ use Rattle.mon_value.specs.Positions.{zone_numbered}
 use Rattle.mon_value.specs.declared.positions.Zone.{Zone}
 use Rattle.raise_table.specs.Places.{bit_of}
 use Rattle.raise_table.specs.Seats.{MayRaise, Owner, after_raise, note, raised_at}
-use Rattle.raise_table.specs.declared.places.Place.{Place}
-use Rattle.raise_table.specs.declared.places.Place.TheVariants as at
+use Rattle.mon_hints.specs.declared.places.Place.{Place}
+use Rattle.mon_hints.specs.declared.places.Place.TheVariants as at
 use Rattle.raise_table.specs.declared.views.Raised.{Raised}
 
 -- ---- tests

@@ -28,7 +28,7 @@ use Rattle.owners.specs.Owners as owners
 use Rattle.owners.specs.Receiving.{HasReceived, parted}
 use Rattle.raise_table.specs.Seats as hints
 use Rattle.raise_table.specs.Tables.{RaiseIdentity}
-use Rattle.raise_table.specs.declared.places.Place.TheVariants as at
+use Rattle.mon_hints.specs.declared.places.Place.TheVariants as at
 use Rattle.raise_table.specs.declared.places.ZoneLeaf.{ZoneLeaf}
 
 module _ (setting : Setting) (raise : RaiseIdentity) (n : ℕ) where

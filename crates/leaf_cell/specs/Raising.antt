@@ -4,8 +4,8 @@ use Rattle.know.specs.Sound.{is_known, same_place}
 use Rattle.leaf_cell.specs.Rest.{is_raised}
 use Rattle.raise_table.specs.Places.{bit_of}
 use Rattle.raise_table.specs.Seats as hints
-use Rattle.raise_table.specs.declared.places.Place.{Place}
-use Rattle.raise_table.specs.declared.places.Place.TheVariants as at
+use Rattle.mon_hints.specs.declared.places.Place.{Place}
+use Rattle.mon_hints.specs.declared.places.Place.TheVariants as at
 use Rattle.raise_table.specs.declared.places.ZoneLeaf.{ZoneLeaf}
 use Rattle.raise_table.specs.declared.views.Note.{Note}
 use Rattle.raise_table.specs.declared.views.Raised.{Raised}

@@ -13,8 +13,8 @@ use Rattle.mon_value.specs.declared.limits.TheConstants.{MOST_BUCKETS}
 use Rattle.owners.specs.Owners as owners
 use Rattle.raise_table.specs.Seats as hints
 use Rattle.raise_table.specs.Tables.{RaiseIdentity}
-use Rattle.raise_table.specs.declared.places.Place.{Place}
-use Rattle.raise_table.specs.declared.places.Place.TheVariants as at
+use Rattle.mon_hints.specs.declared.places.Place.{Place}
+use Rattle.mon_hints.specs.declared.places.Place.TheVariants as at
 use Rattle.raise_table.specs.declared.views.Raised.{Raised}
 
 -- whether a bucket was raised at a place

@@ -28,9 +28,9 @@ use crate::readers::LeafReader;
 use history_book::{NewEntry, RoomMove};
 use know::{Found, Know, Names, Tables};
 use leaf_store::{Entry, LeafState};
+use mon_hints::Place;
 use mon_value::{OutOfMemory, Range, Row, RowList, SeriesKey, Slot};
 use owners::LeafOwner;
-use raise_table::Place;
 use std::alloc::AllocError;
 use std::marker::Brand;
 

@@ -5,9 +5,9 @@ ghost use Rattle.leaf_store.specs.LeafBuckets.{is_unraised};
 
 use know::{Names, Tables};
 use leaf_store::LeafState;
+use mon_hints::Place;
 use mon_value::{MOST_BUCKETS, SeriesKey};
 use owners::LeafOwner;
-use raise_table::Place;
 
 /// Raises at a place the buckets of a series that the leaf's history lacks, from the least one up.
 pub(crate) fn raise_left<N: Names>(
