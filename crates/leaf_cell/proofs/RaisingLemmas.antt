@@ -9,10 +9,11 @@ use Rattle.std.proofs.lemmas.Bool.Decides.{nat_tests}
 use Rattle.std.proofs.lemmas.List.{append_assoc}
 use Rattle.std.proofs.lemmas.List.Folds.{list_any-append}
 use Rattle.std.proofs.lemmas.Nat.Bits.{bit_at-pow_same}
-use Rattle.know.specs.Sound.{is_known, note_has_bit, same_place}
+use Rattle.know.specs.Sound.{is_known, note_has_bit}
 use Rattle.leaf_cell.specs.Raising.{HasRaisedAt, MayRaiseAll, set_below}
 use Rattle.leaf_cell.specs.Rest.{is_raised}
 use Rattle.mon_hints.specs.BucketSets.{HasNone, IsNext}
+use Rattle.mon_hints.specs.Places.{place_number, same_place}
 use Rattle.mon_value.specs.Positions.{zone_numbered}
 use Rattle.mon_value.specs.declared.positions.Zone.{Zone}
 use Rattle.raise_table.specs.Places.{bit_of}
@@ -32,16 +33,19 @@ equal_self a = grind (arith, nat_tests)
 below_none : (a : ℕ) → nat_lt a 0 ≡ false
 below_none a = grind (arith, nat_tests)
 
+one_number : (a b : Place) → place_number a ≡ place_number b → a ≡ b
+one_number at.Root at.Root e = refl
+one_number at.Root (at.Zone b) e = absurd (omega (arith, e))
+one_number (at.Zone a) at.Root e = absurd (omega (arith, e))
+one_number (at.Zone a) (at.Zone b) e =
+    let same : a.0 ≡ b.0 = omega (arith, e) in
+    ap (λ (z : Zone). at.Zone z) (ap zone_numbered same)
+
 pub one_place : (a b : Place) → same_place a b ≡ true → a ≡ b
-one_place at.Root at.Root e = refl
-one_place at.Root (at.Zone b) e = absurd cc
-one_place (at.Zone a) at.Root e = absurd cc
-one_place (at.Zone a) (at.Zone b) e =
-    ap (λ (z : Zone). at.Zone z) (ap zone_numbered (equal a.0 b.0 e))
+one_place a b e = one_number a b (equal (place_number a) (place_number b) e)
 
 pub same_self : (a : Place) → same_place a a ≡ true
-same_self at.Root = refl
-same_self (at.Zone zone) = equal_self zone.0
+same_self a = equal_self (place_number a)
 
 and_one : (a b c : Bool) → a ≡ true → b ≡ true → c ≡ true → (a && (b && c)) ≡ true
 and_one true true true x y z = refl

@@ -1,6 +1,7 @@
 -- What an owner is once it raised a set of buckets at a place, and what it needs for that.
 use Rattle.std.specs.Prelude.{◌≡◌, ℕ, ◌&&◌, ◌||◌, nat_lt, Bool, true, List, ◌++◌}
-use Rattle.know.specs.Sound.{is_known, same_place}
+use Rattle.know.specs.Sound.{is_known}
+use Rattle.mon_hints.specs.Places.{same_place}
 use Rattle.leaf_cell.specs.Rest.{is_raised}
 use Rattle.raise_table.specs.Places.{bit_of}
 use Rattle.raise_table.specs.Seats as hints

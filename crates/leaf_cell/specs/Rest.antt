@@ -1,7 +1,7 @@
 -- What holds of a leaf where its lock is free.
 use Rattle.std.specs.Prelude.{◌≡◌, ℕ, ◌≤◌, ◌&&◌, Bool, List, None, nat_eq}
 use Rattle.std.specs.List.{list_any}
-use Rattle.know.specs.Sound.{same_place}
+use Rattle.mon_hints.specs.Places.{same_place}
 use Rattle.leaf_store.specs.LeafBuckets.{key_buckets}
 use Rattle.leaf_store.specs.LeafStates as store
 use Rattle.mon_hints.specs.HistoryBuckets.{history_buckets}
