@@ -1,6 +1,6 @@
 -- A write's turn inside a leaf: a bit is set in a word.
-use Rattle.std.proofs.Common.{◌≡◌, ℕ, ◌+◌, ◌<◌, ◌≤◌, ◌&&◌, ◌||◌, Bool, true, false, nat_eq, Some, List, [], ◌∷◌}
-use Rattle.std.proofs.Common.{length, refl, sym, ap, subst, ◌∙◌, inl, inr, arith}
+use Rattle.std.proofs.Common.{◌≡◌, ℕ, ◌<◌, ◌≤◌, ◌&&◌, ◌||◌, Bool, true, false, nat_eq, Some, List, [], ◌∷◌}
+use Rattle.std.proofs.Common.{length, refl, suc, sym, ap, subst, ◌∙◌, inl, inr, arith}
 use Rattle.std.proofs.lemmas.List.{length-set}
 use Rattle.std.proofs.lemmas.Bool.{cases_eq, eq-eqb, ne_eqb}
 use Rattle.mon_config.specs.declared.config.Config.{Config}
@@ -111,7 +111,7 @@ module _ (config : Config) (world next : World) (words : HintTable) (are : AreWo
             (nat_eq (place_of_leaf (store_of config) leaf) zone)
             (has_bit (hint_word_at words (word.Zone (zone_of_leaf (store_of config) leaf)) b)
             (place_of_leaf (store_of config) leaf))
-            (ne_eqb ((zone_of_leaf (store_of config) leaf).0 + 1) 0 (λ e. omega (arith, e)))
+            (ne_eqb (suc (zone_of_leaf (store_of config) leaf).0) 0 (λ e. omega (arith, e)))
             ∙ are.zone leaf b here h ∙ sym (zones leaf.0 b);
       }
 
@@ -133,38 +133,38 @@ module _ (config : Config) (world next : World) (words : HintTable) (are : AreWo
         root = λ z b h.
             raises word.Root b z (in_words b h)
             ∙ elsewhere (same_place word.Root (word.Zone own_zone)) (nat_eq b bucket) (nat_eq z own_place)
-            (has_bit (hint_word_at words word.Root b) z) (ne_eqb 0 (own_zone.0 + 1) (λ e. omega (arith, e)))
+            (has_bit (hint_word_at words word.Root b) z) (ne_eqb 0 (suc own_zone.0) (λ e. omega (arith, e)))
             ∙ are.root z b h ∙ sym (roots z b);
         zone = λ other b here h.
             let zone' = zone_of_leaf (store_of config) other in
             let place' = place_of_leaf (store_of config) other in
             raises (word.Zone zone') b place' (in_words b h)
-            ∙ (λ k. regrouped (nat_eq (zone'.0 + 1) (own_zone.0 + 1)) (nat_eq b bucket) (nat_eq place' own_place)
+            ∙ (λ k. regrouped (nat_eq (suc zone'.0) (suc own_zone.0)) (nat_eq b bucket) (nat_eq place' own_place)
             (nat_eq other.0 leaf.0) (same_leaf leaf there other here) k || are.zone other b here h k)
             ∙ sym (zones other.0 b);
       }
     where
       same_leaf : (leaf : Leaf) → leaf.0 < length (leaves_in config.topology) → (other : Leaf)
           → other.0 < length (leaves_in config.topology)
-          → (nat_eq ((zone_of_leaf (store_of config) other).0 + 1) ((zone_of_leaf (store_of config) leaf).0 + 1)
+          → (nat_eq (suc (zone_of_leaf (store_of config) other).0) (suc (zone_of_leaf (store_of config) leaf).0)
           && nat_eq (place_of_leaf (store_of config) other) (place_of_leaf (store_of config) leaf)) ≡ nat_eq other.0
           leaf.0
       same_leaf leaf there other here = elim (cases_eq other.0 leaf.0) [
         | inl same ↦
             let leaves : other ≡ leaf = ap leaf_numbered same in
-            (λ k. nat_eq ((zone_of_leaf (store_of config) (leaves k)).0 + 1) ((zone_of_leaf (store_of config) leaf).0
-            + 1)
+            (λ k. nat_eq (suc (zone_of_leaf (store_of config) (leaves k)).0)
+            (suc (zone_of_leaf (store_of config) leaf).0)
             && nat_eq (place_of_leaf (store_of config) (leaves k)) (place_of_leaf (store_of config) leaf))
-            ∙ (λ k. eq-eqb ((zone_of_leaf (store_of config) leaf).0 + 1) ((zone_of_leaf (store_of config) leaf).0 + 1)
+            ∙ (λ k. eq-eqb (suc (zone_of_leaf (store_of config) leaf).0) (suc (zone_of_leaf (store_of config) leaf).0)
             refl k
             && eq-eqb (place_of_leaf (store_of config) leaf) (place_of_leaf (store_of config) leaf) refl k)
             ∙ sym (eq-eqb other.0 leaf.0 same)
         | inr apart ↦
             both_false
-            (nat_eq ((zone_of_leaf (store_of config) other).0 + 1) ((zone_of_leaf (store_of config) leaf).0 + 1))
+            (nat_eq (suc (zone_of_leaf (store_of config) other).0) (suc (zone_of_leaf (store_of config) leaf).0))
             (nat_eq (place_of_leaf (store_of config) other) (place_of_leaf (store_of config) leaf))
             (λ zones places. apart (one_leaf config other leaf here there
-            (let e = eq_of ((zone_of_leaf (store_of config) other).0 + 1) ((zone_of_leaf (store_of config) leaf).0 + 1)
+            (let e = eq_of (suc (zone_of_leaf (store_of config) other).0) (suc (zone_of_leaf (store_of config) leaf).0)
             zones in
             omega (arith, e))
             (eq_of (place_of_leaf (store_of config) other) (place_of_leaf (store_of config) leaf) places)))
