@@ -17,8 +17,8 @@ use Rattle.mon_topo.proofs.HeldLemmas.{joined_seen_held, joined_seen_leaf_by}
 use Rattle.mon_value.specs.declared.histories.Histories.{Histories}
 use Rattle.mon_value.specs.Histories.{joined_histories, leaf_history, range_history}
 use Rattle.history_book.specs.Histories.{AreFronts}
-use Rattle.raise_table.specs.declared.places.Place.{Place}
-use Rattle.raise_table.specs.declared.places.Place.TheVariants as at
+use Rattle.mon_hints.specs.declared.places.Place.{Place}
+use Rattle.mon_hints.specs.declared.places.Place.TheVariants as at
 use Rattle.raise_table.specs.declared.views.Hints.{Hints}
 use Rattle.raise_table.specs.declared.views.Note.{Note}
 use Rattle.raise_table.specs.Seats.{met}

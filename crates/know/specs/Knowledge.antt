@@ -5,7 +5,7 @@ use Rattle.history_book.specs.declared.views.Purse.{Purse}
 use Rattle.mon_value.specs.Histories.{joined_histories}
 use Rattle.history_book.specs.Numbers.{is_spent}
 use Rattle.history_book.specs.Seats.{Seat, first_handed, met_purse, no_purse, with_stock_handed}
-use Rattle.raise_table.specs.declared.places.Place.{Place}
+use Rattle.mon_hints.specs.declared.places.Place.{Place}
 use Rattle.raise_table.specs.declared.views.Hints.{Hints}
 use Rattle.raise_table.specs.Seats as hints
 use Rattle.know.specs.declared.answers.NumbersSpent.{NumbersSpent}

@@ -1,29 +1,23 @@
 -- What holds of all that a caller knows: the histories that it has seen are held together, and the bits that it knows
 -- lead to all that stands in them.
-use Rattle.std.specs.Prelude.{ℕ, ◌-◌, ◌&&◌, nat_eq, Bool, true, false}
+use Rattle.std.specs.Prelude.{ℕ, ◌-◌, ◌&&◌, nat_eq, Bool}
 use Rattle.std.specs.Int.{bit_at}
 use Rattle.std.specs.List.{list_any}
 use Rattle.mon_value.specs.declared.positions.Leaf.{Leaf}
-use Rattle.mon_hints.specs.Covers.{Bits, Covers}
-use Rattle.mon_hints.specs.HistoryBuckets.{history_buckets}
-use Rattle.mon_topo.specs.HeldHistories.{AreHeld}
+use Rattle.mon_hints.specs.Covers.{Bits}
+use Rattle.mon_hints.specs.Places.{same_place}
 use Rattle.mon_topo.specs.Settings.{Setting, zone_of_leaf}
+use Rattle.mon_topo.specs.Views as views
+use Rattle.mon_topo.specs.Views.{View}
 use Rattle.mon_value.specs.Positions.{leaf_numbered}
 use Rattle.mon_topo.specs.Zones.{first_leaf}
 use Rattle.mon_value.specs.declared.histories.Histories.{Histories}
-use Rattle.mon_value.specs.Histories.{leaf_history}
-use Rattle.raise_table.specs.declared.places.Place.{Place}
-use Rattle.raise_table.specs.declared.places.Place.TheVariants as at
+use Rattle.mon_hints.specs.declared.places.Place.{Place}
+use Rattle.mon_hints.specs.declared.places.Place.TheVariants as at
 use Rattle.raise_table.specs.declared.views.Hints.{Hints}
 use Rattle.raise_table.specs.declared.views.Note.{Note}
 
 -- ---- known bits
-
-abbrev pub same_place : Place → Place → Bool
-same_place at.Root at.Root = true
-same_place at.Root (at.Zone other) = false
-same_place (at.Zone zone) at.Root = false
-same_place (at.Zone zone) (at.Zone other) = nat_eq zone.0 other.0
 
 -- whether a note has a bit of the word of a place and a bucket
 abbrev pub note_has_bit : Place → ℕ → ℕ → Note → Bool
@@ -51,7 +45,9 @@ known_bits setting hints = record {
 
 -- ---- the whole
 
-pub record IsSound (setting : Setting) (hints : Hints) (seen : Histories) : Type 0 where
-  pub held : AreHeld setting.held setting.zones setting.points seen
-  pub covered : (leaf : Leaf) → Covers (known_bits setting hints) (zone_of_leaf setting leaf) leaf
-      (history_buckets setting.buckets_of (leaf_history seen leaf))
+-- what was seen and is known, as one view
+abbrev pub known_view : Setting → Hints → Histories → View
+known_view setting hints seen = record { seen = seen; bits = known_bits setting hints }
+
+abbrev pub IsSound : Setting → Hints → Histories → Type 0
+IsSound setting hints seen = views.IsSound setting (known_view setting hints seen)

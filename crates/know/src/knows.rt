@@ -20,9 +20,10 @@ use crate::ends::Ended;
 use crate::names::Names;
 use crate::tables::Tables;
 use history_book::BookSeat;
+use mon_hints::Place;
 use mon_topo::Sight;
 use mon_value::{Leaf, OutOfMemory, Range, Refusal, Slot, TryCopy};
-use raise_table::{HintSeat, Place};
+use raise_table::HintSeat;
 use std::alloc::Global;
 use std::marker::Model;
 

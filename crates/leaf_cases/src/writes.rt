@@ -50,8 +50,8 @@ fn told_of(alloc: Global, line: &str) -> Result<WriteTold, Trouble> {
     let (word, rest) = first_word(line);
     match word {
         "slots" => Ok(WriteTold::Slots(replicas_of(alloc, rest)?)),
-        "old" => Ok(WriteTold::Old(number_in(rest)?)),
-        "full" => Ok(WriteTold::Full(number_in(rest)?)),
+        "old" => Ok(WriteTold::OldPoint(number_in(rest)?)),
+        "full" => Ok(WriteTold::RangeFull(number_in(rest)?)),
         "up" => Ok(WriteTold::Up(buckets_of(alloc, rest)?)),
         "down" => Ok(WriteTold::Down(number_in(rest)?)),
         "done" => Ok(WriteTold::Done),
@@ -91,8 +91,8 @@ fn buckets_of(alloc: Global, words: &str) -> Result<Buckets, Trouble> {
 
 fn add_end(text: &mut String, end: &WriteEnd) -> Done {
     match end {
-        WriteEnd::Old(last) => Ok(write!(text, "old {last}")?),
-        WriteEnd::Full(count) => Ok(write!(text, "full {count}")?),
+        WriteEnd::OldPoint(last) => Ok(write!(text, "old {last}")?),
+        WriteEnd::RangeFull(count) => Ok(write!(text, "full {count}")?),
         WriteEnd::Unavailable(founds) => add_founds(text, "unavailable", founds),
         WriteEnd::Written(ack) => add_ack(text, ack),
     }

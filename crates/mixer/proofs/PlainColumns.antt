@@ -9,7 +9,8 @@ use Rattle.mql_ast.specs.Trees.{ItemTree, SumTree}
 use Rattle.mql_ast.specs.declared.names.Name.{Name}
 use Rattle.mql_ast.specs.declared.operations.Aggregate.{Aggregate}
 use Rattle.mql_ast.specs.declared.operations.FoldWord.{FoldWord}
-use Rattle.mql_types.specs.Groupings.{aggregate_column, aggregate_columns, aggregate_name, column_made, folded_column}
+use Rattle.mql_types.specs.Groupings.{aggregate_column, aggregate_columns, aggregate_name, aggregated_column}
+use Rattle.mql_types.specs.Groupings.{folded_column}
 use Rattle.mql_types.specs.Items.{column_alone, item_column, item_name, plain_column, renamed_column, sum_column}
 use Rattle.mql_types.specs.Items.{sum_width}
 use Rattle.mql_types.proofs.MadeCells.{all-filter_map, nothing_is, same_item}
@@ -36,7 +37,7 @@ aggregate_plain columns name how (Some source) c e =
 pub aggregates_plain : (columns : List Column) (aggregates : List Aggregate)
     → AllByRecursion HasNoAnchor (aggregate_columns columns aggregates)
 aggregates_plain columns aggregates =
-    all-filter_map (λ a. Unit {0}) HasNoAnchor (column_made columns) aggregates
+    all-filter_map (λ a. Unit {0}) HasNoAnchor (aggregated_column columns) aggregates
     (λ a c t e. aggregate_plain columns (aggregate_name a).text a.fold a.column c e) (units aggregates)
 
 sum_plain : (columns : List Column) (name : List ℕ) (sum : SumTree) (alone : Option Name) (c : Column)

@@ -25,7 +25,7 @@ use Rattle.mql_ast.specs.declared.operations.Aggregate.{Aggregate}
 use Rattle.mql_ast.specs.declared.operations.FoldWord.{FoldWord}
 use Rattle.mql_ast.specs.declared.operations.FoldWord.TheVariants as fold
 use Rattle.mql_types.specs.Groupings.{aggregate_at, aggregate_column, aggregate_columns, aggregate_faults}
-use Rattle.mql_types.specs.Groupings.{aggregate_name, aggregate_of, aggregates_over, column_made, fold_kind}
+use Rattle.mql_types.specs.Groupings.{aggregate_name, aggregate_of, aggregates_over, aggregated_column, fold_kind}
 use Rattle.mql_types.specs.Groupings.{folded_column, folded_faults, key_columns_at, place_found}
 use Rattle.mql_types.specs.Groupings as grouping
 use Rattle.mql_types.specs.Items.{item_column, item_name, item_sum_faults, key_columns, plain_column}
@@ -142,7 +142,7 @@ aggregates_typed : (columns : List Column) → AreLawful columns → (aggregates
 aggregates_typed columns lawful [] counts none rows some fit = tt
 aggregates_typed columns lawful (a ∷ aggregates) counts none rows some fit =
     let parts = no_faults (aggregate_faults columns a) (flat_map (aggregate_faults columns) aggregates) none in
-    cell_more columns rows (column_made columns a) (aggregate_of columns a)
+    cell_more columns rows (aggregated_column columns a) (aggregate_of columns a)
     (aggregate_cell columns lawful (aggregate_name a).text a.fold a.column counts.0 parts.0 rows some fit)
     (aggregate_columns columns aggregates) (aggregates_over columns aggregates)
     (aggregates_typed columns lawful aggregates counts.1 parts.1 rows some fit)

@@ -1,9 +1,11 @@
 // The configuration as a whole.
-ghost use Rattle.std.specs.Prelude.{IfOk};
+ghost use Rattle.std.specs.Prelude.{◌≡◌, ◌<◌, length, IfOk, IfSome};
 ghost use Rattle.mon_config.specs.Configs as spec;
 ghost use Rattle.mon_config.specs.Configs.{config_in, KeepsNumbers};
+ghost use Rattle.mon_config.specs.KeyRanges.{range_of_key};
 ghost use Rattle.mon_config.specs.Numbers.{AreLawful};
 ghost use Rattle.mon_config.specs.Objects.{parts_in};
+ghost use Rattle.mon_topo.specs.Zones.{ranges_in};
 ghost use Rattle.mon_value.specs.Answers.{Gives, GivesView};
 ghost use Rattle.serde_json.specs.View.{view};
 
@@ -13,8 +15,8 @@ use crate::limits::LONGEST_CONFIGURATION;
 use crate::parts::{Parts, parts_in};
 use crate::paths::path_from_top;
 use mon_schema::Schemas;
-use mon_topo::{Topology, ZoneSpecs};
-use mon_value::{OutOfMemory, Refusal, TryCopy};
+use mon_topo::{Topology, ZoneSpecs, location_of};
+use mon_value::{OutOfMemory, Range, Refusal, SeriesKey, TryCopy};
 use serde_json::Value;
 use std::alloc::{AllocError, Global};
 
@@ -31,6 +33,18 @@ pub struct Config {
     pub limit: u64,
     /// How many points a range holds at most.
     pub range_points: u64,
+}
+
+impl Config {
+    /// The range that a series' target lies in, where a zone lists its location.
+    pub fn range_of(&self, key: &SeriesKey) -> Option<Range>
+        ensures range { result ≡ range_of_key self.now key.now }
+        ensures there { IfSome result (λ range. range.0 < length (ranges_in self.now.topology)) }
+    {
+        let location = location_of(&self.schemas, &key.target)?;
+        let zone = self.topology.zone_of(location.as_bytes())?;
+        Some(self.topology.range_of(zone, &key.target))
+    }
 }
 
 impl TryCopy for Config {

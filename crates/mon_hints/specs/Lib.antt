@@ -7,4 +7,5 @@ pub mod Hints
 pub mod HistoryBuckets
 pub mod Labels
 pub mod Listings
+pub mod Places
 pub mod Words

@@ -8,6 +8,7 @@ mod formulas;
 mod hints;
 mod laws;
 mod masks;
+mod places;
 
 pub use excerpts::{
     BACK_MARK, Excerpt, Excerpts, FRONT_MARK, Pieces, excerpts_of, excerpts_of_value,
@@ -17,3 +18,4 @@ pub use formulas::{Formula, buckets_of_all};
 pub use hints::{hints_of, next_bucket};
 pub use laws::{formulas_stay_true, patterns_are_in_texts};
 pub use masks::{Words, mask};
+pub use places::Place;

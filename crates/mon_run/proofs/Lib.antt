@@ -3,7 +3,6 @@ mod EndLemmas
 mod FeedLemmas
 mod LimitLemmas
 mod QueryLemmas
-mod QueryTextLemmas
 mod ReadLemmas
 mod RunLemmas
 mod SinkLemmas

@@ -1,32 +1,25 @@
--- A query's reply: it is read, typed, evaluated and printed.
-use Rattle.std.proofs.Common.{◌≡◌, ◌∙◌, ◌++◌, ℕ, ℤ, false, cond, nat_lt, List, Result, Ok, Err, sym, ap}
+-- A query's reply: it is planned, evaluated and printed.
+use Rattle.std.proofs.Common.{◌≡◌, ◌∙◌, ◌++◌, ℕ, ℤ, false, cond, nat_lt, List, Result, Ok, Err, sym, ap, subst}
 use Rattle.std.proofs.lemmas.Bool.{le-ltb}
 use Rattle.std.proofs.lemmas.List.Sorted.{length_permutation}
 use Rattle.std.specs.Fmt.{decimal}
 use Rattle.std.specs.List.Sorted.{IsPermutation}
 use Rattle.mon_value.proofs.RowOrderLemmas.{sorted_rows-alike}
-use Rattle.mon_value.specs.Answers.{◌>>=◌, Withholds}
+use Rattle.mon_value.specs.Answers.{◌>>=◌, Gives}
 use Rattle.mon_value.specs.declared.refusals.Refusal.{Refusal}
-use Rattle.mon_value.specs.declared.refusals.Refusal.TheVariants as refusal
 use Rattle.mon_value.specs.declared.rows.Row.{Row}
 use Rattle.mon_value.specs.declared.tables.Table.{Table}
 use Rattle.mon_value.specs.declared.tables.TimedRow.{TimedRow}
 use Rattle.mon_meaning.specs.Central.{IsMeant}
 use Rattle.mon_value.specs.Columns.{column_names}
 use Rattle.mon_table.specs.Tables.{codes, lines_of_rows, newline, printed_table, table_text}
-use Rattle.mon_schema.specs.HeldMetrics.{AreMetricsHeld}
-use Rattle.mon_schema.specs.HeldTargets.{AllTellLocations}
-use Rattle.mon_schema.specs.SchemaLists.{SchemaLists}
-use Rattle.mql_ast.specs.Grammar.{Spells}
-use Rattle.mql_ast.specs.Trees.{PipeTree}
-use Rattle.mql_types.proofs.DurationLemmas.{durations_spelled}
+use Rattle.mon_config.specs.declared.config.Config.{Config}
 use Rattle.mql_types.specs.Loads.{load}
 use Rattle.mql_types.specs.Meaning.{meaning}
 use Rattle.mql_types.specs.Nodes.{TypedTree, columns_of}
-use Rattle.mql_types.specs.Typing.{typing}
-use Rattle.mql_types.proofs.SpelledQueries.{query_spelled}
-use Rattle.mql_types.specs.Soundness.{IsQueryType}
-use Rattle.mon_run.specs.Queries.{refused_as, table_within}
+use Rattle.query_texts.specs.TextTypes.{refused_as, text_type}
+use Rattle.query_texts.specs.declared.faults.TextFault.{TextFault}
+use Rattle.mon_run.specs.Queries.{query_answer, table_within}
 use Rattle.mon_run.specs.declared.outcome.LineFault.{LineFault}
 use Rattle.mon_run.specs.declared.outcome.LineFault.TheVariants as fault
 
@@ -51,33 +44,12 @@ meant_within limit typed rows moment table meant =
     ap (λ b. cond b (Err (fault.StepLimit limit))
     (Ok (table_text (column_names (columns_of typed.tree)) (meaning typed rows moment)))) within ∙ ap Ok text
 
--- ---- answers, step by step
+-- ---- answers
 
-pub taken_as : {T F : Type 0} (kind : F → LineFault) (answer : Result T F) (x : T) → refused_as kind answer ≡ Ok x
-    → answer ≡ Ok x
-taken_as kind (Ok y) x e = cc
-taken_as kind (Err why) x e = absurd cc
-
--- what withholds a first step withholds all
-pub withheld : {A B F : Type 0} (r : Refusal F) (first : Result A F) (next : A → Result B F) → Withholds r first
-    → Withholds r (first >>= next)
-withheld (refusal.Fault why) first next is = ap (λ answer. answer >>= next) is
-withheld refusal.OutOfMemory first next is = tt
-
--- a first step that gives a value leaves the next
-pub gone_on : {A B F : Type 0} (first : Result A F) (x : A) (next : A → Result B F) → first ≡ Ok x → next x
-    ≡ (first >>= next)
-gone_on first x next is = sym (ap (λ answer. answer >>= next) is)
-
--- a text's query that has a type over lawful schemas
-pub has_type : (held : SchemaLists) (query : PipeTree) (text : List ℕ) (typed : TypedTree) → AreMetricsHeld held.metrics
-    → AllTellLocations held.targets
-    → Spells query text → typing held query ≡ Ok typed → IsQueryType held typed
-has_type held query text typed metrics targets spelled is = record {
-  query = query;
-  metrics = metrics;
-  targets = targets;
-  spelled = query_spelled query text spelled;
-  durations = durations_spelled query text spelled;
-  is = is;
-}
+-- what a call gives that gives the table of a text's query
+pub answered : (config : Config) (rows : List Row) (moment : ℤ) (text : List ℕ) (typed : TypedTree)
+    (result : Result (List ℕ) (Refusal LineFault)) → text_type config.schemas text ≡ Ok typed
+    → Gives result (table_within config.limit typed rows moment) → Gives result (query_answer config rows moment text)
+answered config rows moment text typed result is given =
+    subst (Gives result) (sym (ap (λ (answer : Result TypedTree TextFault).
+    refused_as fault.Text answer >>= λ (of : TypedTree). table_within config.limit of rows moment) is)) given

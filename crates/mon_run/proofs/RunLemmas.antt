@@ -18,7 +18,7 @@ use Rattle.mon_script.specs.declared.script.ScriptLine.{ScriptLine}
 use Rattle.mon_run.specs.Endings.{CutShort, Did, Progress, Starved, end_in, read_in, row_in, text_of_step}
 use Rattle.mon_run.specs.Feeds.{Fed, feed_of}
 use Rattle.mon_run.specs.Faults.{Rose}
-use Rattle.mon_run.specs.Folders.{Files, FolderState, content_of}
+use Rattle.mon_run.specs.Folders.{Files, FolderState, Told, content_of}
 use Rattle.mon_run.specs.Sinks.{SinkState, written_then}
 use Rattle.mon_run.specs.Plans.{Accept, Ask, Command, End, IsRunWoven, IsWovenBy, Plan, Step, Write, command_of}
 use Rattle.mon_run.specs.Plans.{command_plan, config_plan, end_status, ending, feed_steps, file_plan, is_refused}
@@ -33,8 +33,10 @@ use Rattle.mon_run.specs.declared.outside.folder.Asked.{Asked}
 use Rattle.mon_run.specs.declared.queries.Reply.{Reply}
 use Rattle.mon_run.specs.declared.stop.Stop.{Stop}
 use Rattle.mon_run.specs.declared.stop.Stop.TheVariants as stop
-use Rattle.mon_run.specs.within.Stops.{Completes, Counts, Done, Ends, Halts, HasRead, Ran, Stops, Weaves, WriteStops}
-use Rattle.mon_run.specs.within.Stops.{WroteFront, config_stop, files_plan, script_stop, words_plan}
+use Rattle.mon_run.specs.declared.words.Verb.{Verb}
+use Rattle.mon_run.specs.within.Stops.{Completes, Counts, Done, Ends, Halts, HasConfig, HasRead, Ran, Stops, Weaves}
+use Rattle.mon_run.specs.within.Stops.{WriteStops, WroteFront, config_stop, files_plan, named_plan, script_stop}
+use Rattle.mon_run.specs.within.Stops.{words_plan}
 use Rattle.mon_run.specs.within.Takings.{FedAs, Front, Took}
 use Rattle.weave_core.specs.Schedules.{IsPrinted, Printed}
 use Rattle.weave_core.specs.declared.calls.ScheduleFault.{ScheduleFault}
@@ -391,19 +393,6 @@ files_second : (woven : Option Printed) (what : Command) {files : Files} {conten
 files_second woven what {files} has is = files_are woven what has ∙ ap (λ answer. plan_behind (Ask what.config ∷ [])
     (config_plan woven files what answer)) is
 
--- behind both files, what is done with the second
-pub files_both : (woven : Option Printed) (what : Command) {files : Files} {content text : List ℕ} {read : Config}
-    → HasRead files what.config content → config_in content ≡ Ok read → HasRead files what.file text →
-    files_plan what woven files ≡ plan_behind (Ask what.config ∷ Ask what.file ∷ [])
-    (file_plan woven read files what.verb text)
-files_both woven what {files} {content} {text} {read} has is file =
-    let rest : Plan = file_plan woven read files what.verb (content_of files what.file) in
-    files_second woven what has is
-    ∙ ap (plan_behind (Ask what.config ∷ [])) (not_long files what.file rest file.short
-    ∙ ap (λ (t : List ℕ). plan_behind (Ask what.file ∷ []) (file_plan woven read files what.verb t))
-    (sym file.whole))
-    ∙ plan_twice (Ask what.config ∷ []) (Ask what.file ∷ []) (file_plan woven read files what.verb text)
-
 -- a configuration is refused, or wants memory
 pub files_refused : (what : Command) {files : Files} {content : List ℕ} {before after : Progress}
     (fault : Refusal ConfigFault) → HasRead files what.config content → Withholds fault (config_in content)
@@ -418,27 +407,56 @@ files_refused what {files} {content} (refusal.Fault fault) has is did = record {
 files_refused what {files} {content} refusal.OutOfMemory has is did =
     starved_at (Ask what.config ∷ []) [] (config_plan None files what (config_in content)) (files_are None what has) did
 
--- the second file stops the run
-pub files_unread : (what : Command) {files : Files} {content : List ℕ} {read : Config} {before mid : Progress}
-    (after : Progress) (stopped : Stop) → HasRead files what.config content → config_in content ≡ Ok read
-    → Did (Ask what.config ∷ []) before mid →
-    ((rest : Plan) → Stops (read_plan files what.file rest) stopped mid after) → Stops (files_plan what None files)
-    stopped before after
-files_unread what {files} {content} {read} {before} {mid} after stopped has is did stops =
-    let rest : Plan = file_plan None read files what.verb (content_of files what.file) in
-    subst (λ (p : Plan). Stops p stopped before after) (sym (files_second None what has is))
-    (stops_behind (read_plan files what.file rest) after stopped did (stops rest))
-
--- what a schedule printed by its content, it printed by its name
-pub woven_by : (woven : Option Printed) (what : Command) {files : Files} {content text : List ℕ} {read : Config}
-    → HasRead files what.config content → config_in content ≡ Ok read → HasRead files what.file text
-    → IfSome woven (IsPrinted read text) → IfSome woven (IsWovenBy what files)
-woven_by None what has is file printed = tt
-woven_by (Some woven) what {files} {content} {text} {read} has is file printed = λ config answer.
+-- what a schedule printed by its configuration's content, it printed by the names of both files
+woven_by : (woven : Option Printed) (what : Command) {files : Files} {content : List ℕ} {read : Config}
+    → HasRead files what.config content → config_in content ≡ Ok read
+    → IfSome woven (IsPrinted read (content_of files what.file)) → IfSome woven (IsWovenBy what files)
+woven_by None what has is printed = tt
+woven_by (Some woven) what {files} {content} {read} has is printed = λ config answer.
     let both : Ok read ≡ Ok config = sym is ∙ ap config_in has.whole ∙ answer in
     let same : read ≡ config = cc in
-    subst (λ (c : Config). IsPrinted c (content_of files what.file) woven) same
-    (subst (λ (t : List ℕ). IsPrinted read t woven) file.whole printed)
+    subst (λ (c : Config). IsPrinted c (content_of files what.file) woven) same printed
+
+-- the second file was run under the configuration that the first one is
+pub files_weave : (what : Command) (read : Config) (ended : Result Bool Stop) {before mid : Progress}
+    (after : Progress) → Told before.folder (λ files. HasConfig files what.config read)
+    → Did (Ask what.config ∷ []) before mid → Counts before mid
+    → Weaves (named_plan read what.verb what.file) (λ files. IsPrinted read (content_of files what.file)) ended mid after
+    → Weaves (files_plan what) (IsWovenBy what) ended before after
+files_weave what read ended {before} {mid} after config did counts weaves = record {
+  woven = weaves.woven;
+  printed = λ files told.
+      let first = config files told in
+      woven_by weaves.woven what first.has first.is (weaves.printed files (did.files ∙ told));
+  ends = ends_behind (Ask what.config ∷ []) (named_plan read what.verb what.file weaves.woven)
+      (files_plan what weaves.woven) ended after
+      (λ files told.
+      let first = config files told in
+      files_second weaves.woven what first.has first.is) did counts weaves.ends;
+}
+
+printed_whole : (woven : Option Printed) (read : Config) {text other : List ℕ} → text ≡ other
+    → IfSome woven (IsPrinted read text) → IfSome woven (IsPrinted read other)
+printed_whole woven read same printed = subst (λ (t : List ℕ). IfSome woven (IsPrinted read t)) same printed
+
+-- what was read of the second file was run under a configuration
+pub named_weave : (read : Config) (verb : Verb) (name text : List ℕ) (ended : Result Bool Stop) {before mid : Progress}
+    (after : Progress) → Told before.folder (λ files. HasRead files name text) → Did (Ask name ∷ []) before mid
+    → Counts before mid
+    → Weaves (λ woven files. file_plan woven read files verb text) (λ files. IsPrinted read text) ended mid after
+    → Weaves (named_plan read verb name) (λ files. IsPrinted read (content_of files name)) ended before after
+named_weave read verb name text ended {before} {mid} after file did counts weaves = record {
+  woven = weaves.woven;
+  printed = λ files told.
+      printed_whole weaves.woven read (file files told).whole (weaves.printed files (did.files ∙ told));
+  ends = ends_behind (Ask name ∷ []) (λ files. file_plan weaves.woven read files verb text)
+      (named_plan read verb name weaves.woven) ended after
+      (λ files told.
+      let has = file files told in
+      not_long files name (file_plan weaves.woven read files verb (content_of files name)) has.short
+      ∙ ap (λ (t : List ℕ). plan_behind (Ask name ∷ []) (file_plan weaves.woven read files verb t)) (sym has.whole))
+      did counts weaves.ends;
+}
 
 -- ---- words
 

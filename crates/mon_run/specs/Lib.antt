@@ -4,7 +4,6 @@ pub mod Feeds
 pub mod Folders
 pub mod Plans
 pub mod Queries
-pub mod QueryTexts
 pub mod Sinks
 pub mod Texts
 pub mod within

@@ -1,6 +1,6 @@
 -- Every text that a run prints, but for those of its queries and its schedule.
 use Rattle.std.specs.Prelude.{ℕ, List, ◌++◌, length, codes}
-use Rattle.std.specs.Fmt.{decimal, signed_decimal}
+use Rattle.std.specs.Fmt.{decimal}
 use Rattle.std.specs.List.{flat_map}
 use Rattle.mon_config.specs.FaultTexts.{config_fault_text}
 use Rattle.mon_config.specs.declared.faults.ConfigFault.{ConfigFault}
@@ -12,16 +12,18 @@ use Rattle.mon_table.specs.Tables.{newline}
 use Rattle.mon_run.specs.declared.outcome.RowRefused.{RowRefused}
 use Rattle.mon_run.specs.declared.outcome.RowRefused.TheVariants as refused
 use Rattle.mon_run.specs.declared.outcome.RowRefusal.{RowRefusal}
-use Rattle.weave_core.specs.Schedules.{fault_name}
+use Rattle.weave_core.specs.Schedules.{schedule_fault_text}
 use Rattle.weave_core.specs.declared.calls.ScheduleFault.{ScheduleFault}
+use Rattle.write_core.specs.Refusals.{no_zone_text, refused_text}
+use Rattle.write_core.specs.declared.refusals.Refused.TheVariants as why
 
 -- ---- lines
 
 -- why a row was not written
 abbrev pub write_fault_text : WriteFault → List ℕ
-write_fault_text write.NoZone = codes "NoZone"
-write_fault_text (write.OldPoint last) = codes "OldPoint " ++ signed_decimal last
-write_fault_text (write.RangeFull limit) = codes "RangeFull " ++ decimal limit
+write_fault_text write.NoZone = no_zone_text
+write_fault_text (write.OldPoint last) = refused_text (why.OldPoint last)
+write_fault_text (write.RangeFull limit) = refused_text (why.RangeFull limit)
 
 abbrev pub row_refused_text : RowRefused → List ℕ
 row_refused_text (refused.Read fault) = row_fault_text fault
@@ -51,7 +53,7 @@ abbrev pub script_text : ScriptFault → List ℕ
 script_text fault = codes "script line " ++ (decimal fault.line ++ (codes ": NotBuilt" ++ newline))
 
 abbrev pub schedule_text : ScheduleFault → List ℕ
-schedule_text fault = codes "line " ++ (decimal fault.line ++ (codes ": " ++ (fault_name fault.fault ++ newline)))
+schedule_text fault = schedule_fault_text fault ++ newline
 
 abbrev pub read_text : List ℕ → List ℕ
 read_text name = codes "cannot read " ++ (name ++ newline)

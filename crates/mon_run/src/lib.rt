@@ -18,6 +18,5 @@ pub use command::run;
 pub use outcome::{LineEnd, LineEnds, LineFault, Outcome, RowRefusal, RowRefusals, RowRefused};
 pub use outside::{
     Asked, CalmFolder, Failed, FileFolder, Folder, FolderFault, MemoryFile, MemoryFiles,
-    MemoryFolder, MemorySink, OutSink, Sink, read_front,
+    MemoryFolder, MemorySink, OutSink, Sink,
 };
-pub use queries::queries_go_by_their_trees;

@@ -3,9 +3,9 @@ use crate::accepted::Accepted;
 use mon_points::RowFault;
 use mon_store::WriteFault;
 use mon_value::{ListOf, TryCopy};
-use mql_parse::ParseFault;
-use mql_types::TypeFault;
+use query_texts::TextFault;
 use std::alloc::{AllocError, Global};
+use std::fmt;
 
 /// Why a record was refused.
 #[derive(Clone, Copy, PartialEq, Eq)]
@@ -29,10 +29,8 @@ pub type RowRefusals = ListOf<RowRefusal>;
 /// Why a line was refused.
 #[derive(Clone, Copy, PartialEq, Eq)]
 pub enum LineFault {
-    /// The text of the query has no tree.
-    Parse(ParseFault),
-    /// The query has no type over the schemas.
-    Typing(TypeFault),
+    /// The text of the query has no plan.
+    Text(TextFault),
     /// The query's load is above this limit.
     StepLimit(u64),
 }
@@ -80,6 +78,20 @@ impl TryCopy for RowRefusal {
 impl TryCopy for LineFault {
     fn copy(&self, _alloc: Global) -> Result<LineFault, AllocError> {
         Ok(*self)
+    }
+}
+
+impl fmt::Display for LineFault {
+    ghost use Rattle.std.specs.Prelude.{Some};
+    ghost use Rattle.mon_run.specs.Queries.{line_fault_text};
+
+    ghost output = { λ fault. Some (line_fault_text fault) };
+
+    fn fmt<W: fmt::Write>(&self, f: &mut fmt::Formatter<W>) -> fmt::Result {
+        match self {
+            LineFault::Text(fault) => write!(f, "{fault}"),
+            LineFault::StepLimit(limit) => write!(f, "StepLimit {limit}"),
+        }
     }
 }
 

@@ -5,7 +5,7 @@ mod memory_folder;
 mod sink;
 mod sinks;
 
-pub use file_folder::{FileFolder, read_front};
+pub use file_folder::FileFolder;
 pub use folder::{Asked, Folder, FolderFault};
 pub use memory_folder::{CalmFolder, MemoryFile, MemoryFiles, MemoryFolder};
 pub use sink::{Failed, Sink, write_all};

@@ -1,29 +1,20 @@
 // What a query's text comes to over the rows that were accepted.
-ghost use Rattle.std.specs.Prelude.{◌≡◌, ◌≤ℤ◌, ℕ, List, pos, IfOk};
+ghost use Rattle.std.specs.Prelude.{◌≡◌, ◌≤ℤ◌, pos, IfOk};
 ghost use Rattle.mon_value.specs.Answers.{Gives, GivesView};
-ghost use Rattle.mql_ast.specs.Grammar.{Spells};
-ghost use Rattle.mql_ast.specs.Trees.{query_tree};
-ghost use Rattle.mql_parse.specs.PipeReading.{text_outcome};
 ghost use Rattle.mql_types.specs.Nodes.{typed_tree};
-ghost use Rattle.mql_types.specs.Typing.{typing};
-ghost use Rattle.mon_run.specs.Queries as spec;
-ghost use Rattle.mon_run.specs.QueryTexts.{GoesByTree, HasNoTree, IsAlwaysRefused};
 ghost use Rattle.mql_types.specs.Soundness.{IsQueryType};
+ghost use Rattle.mon_run.specs.Queries as spec;
 ghost use Rattle.mon_store.specs.Stores.{AreSound, accepted_rows};
 ghost use Rattle.mon_table.specs.Tables.{printed_table};
 
 use crate::outcome::{LineEnd, LineFault};
 use mon_config::Config;
-use mon_schema::Schemas;
 use mon_store::Store;
 use mon_table::print;
 use mon_value::{OutOfMemory, Refusal, Table, Text};
-use mql_ast::Query;
-use mql_parse::parse;
-use mql_types::{Plan, Typed, check};
-use plan_split::split;
+use mql_types::Plan;
+use query_texts::plan_of;
 use std::alloc::{AllocError, Global};
-use weave_core::{limit_refusal, parse_refusal, typing_refusal};
 
 /// How a query's line ends, and what it prints.
 #[derive(Drop)]
@@ -71,11 +62,7 @@ pub(crate) fn reply_to(
 fn refused_line(alloc: Global, fault: LineFault) -> Result<Text, OutOfMemory>
     ensures line { IfOk result (λ line. line ≡ spec.refused_line fault) }
 {
-    match fault {
-        LineFault::Parse(fault) => parse_refusal(alloc, fault),
-        LineFault::Typing(fault) => typing_refusal(alloc, fault),
-        LineFault::StepLimit(limit) => limit_refusal(alloc, limit),
-    }
+    Ok(Text::from_string(format!(in alloc; "refused: {fault}\n")?))
 }
 
 // The text of a query's table.
@@ -90,12 +77,32 @@ fn answer(
     requires moment { pos 0 ≤ℤ moment }
     ensures answer { Gives result (spec.query_answer config.now (accepted_rows store.now) moment text.now) }
 {
-    config.schemas.metrics_are_lawful();
-    config.schemas.targets_tell_locations();
-    let query = parsed(alloc, text)?;
-    let typed = typed(alloc, &query, &config.schemas)?;
-    let plan = split(alloc, typed, config.buckets)?;
-    let table = table_within(store, config, &plan, moment)?;
+    match plan_of(alloc, &config.schemas, config.buckets, text) {
+        Ok(plan) => {
+            let text = table_text(alloc, config, store, moment, &plan);
+            drop(plan);
+            text
+        }
+        Err(Refusal::Fault(fault)) => Err(Refusal::Fault(LineFault::Text(fault))),
+        Err(Refusal::OutOfMemory) => Err(Refusal::OutOfMemory),
+    }
+}
+
+// The text of a plan's table.
+fn table_text(
+    alloc: Global,
+    config: &Config,
+    store: &Store,
+    moment: i64,
+    plan: &Plan,
+) -> Result<Text, Refusal<LineFault>>
+    requires sound { AreSound config.now store.now }
+    requires typed { IsQueryType config.now.schemas (typed_tree plan.now.typed) }
+    requires moment { pos 0 ≤ℤ moment }
+    ensures text { Gives result
+        (spec.table_within config.now.limit (typed_tree plan.now.typed) (accepted_rows store.now) moment) }
+{
+    let table = table_within(store, config, plan, moment)?;
     Ok(print(alloc, &table)?)
 }
 
@@ -115,37 +122,6 @@ fn table_within(
     match store.table(config, plan, moment) {
         Ok(table) => Ok(table),
         Err(Refusal::Fault(_over)) => Err(Refusal::Fault(LineFault::StepLimit(config.limit))),
-        Err(Refusal::OutOfMemory) => Err(Refusal::OutOfMemory),
-    }
-}
-
-/// A query comes to what the tree that spells its text does; a text that no tree spells is refused for
-/// its fault.
-pub fn queries_go_by_their_trees()
-    ensures spelled { (text : List ℕ) → GoesByTree text }
-    ensures unspelled { (text : List ℕ) → HasNoTree text → IsAlwaysRefused text }
-{}
-
-// The tree of a query's text.
-fn parsed(alloc: Global, text: &[u8]) -> Result<Query, Refusal<LineFault>>
-    ensures tree { GivesView query_tree result (spec.refused_as LineFault.Parse (text_outcome text.now)) }
-    ensures spelled { IfOk result (λ query. Spells (query_tree query) text.now) }
-{
-    match parse(alloc, text) {
-        Ok(query) => Ok(query),
-        Err(Refusal::Fault(fault)) => Err(Refusal::Fault(LineFault::Parse(fault))),
-        Err(Refusal::OutOfMemory) => Err(Refusal::OutOfMemory),
-    }
-}
-
-// The typed tree of a query.
-fn typed(alloc: Global, query: &Query, schemas: &Schemas) -> Result<Typed, Refusal<LineFault>>
-    ensures typed { GivesView typed_tree result
-        (spec.refused_as LineFault.Typing (typing schemas.now (query_tree query.now))) }
-{
-    match check(alloc, query, schemas) {
-        Ok(typed) => Ok(typed),
-        Err(Refusal::Fault(fault)) => Err(Refusal::Fault(LineFault::Typing(fault))),
         Err(Refusal::OutOfMemory) => Err(Refusal::OutOfMemory),
     }
 }

@@ -3,7 +3,7 @@ ghost use Rattle.std.specs.Prelude.{◌≡◌, ◌≤◌, ◌∷◌, ◌||◌, [
 ghost use Rattle.std.specs.Prelude.{string_bytes};
 ghost use Rattle.std.specs.List.{AllByRecursion};
 ghost use Rattle.mon_config.specs.Numbers.{AreLawful};
-ghost use Rattle.mon_run.specs.Folders.{Told};
+ghost use Rattle.mon_run.specs.Folders.{Told, content_of};
 ghost use Rattle.mon_script.specs.Lawful.{IsLawfulForm, IsLawfulLine};
 ghost use Rattle.mon_script.specs.Scripts.{script_in};
 ghost use Rattle.mon_run.specs.Endings.{Did};
@@ -12,8 +12,9 @@ ghost use Rattle.mon_run.specs.Plans.{Ask, End, Write};
 ghost use Rattle.mon_config.specs.Configs.{IsLimited};
 ghost use Rattle.mon_store.specs.Stores.{AreSound, accepted_rows};
 ghost use Rattle.mon_run.specs.within.Takings.{FileTaken, TakeStops};
-ghost use Rattle.mon_run.specs.within.Stops.{Between, Closes, Continues, Ends, HasRead, LineRuns, LineStops, PutStops};
-ghost use Rattle.mon_run.specs.within.Stops.{ReadStops, StopsBetween, Weaves, WriteStops, files_plan, words_plan};
+ghost use Rattle.mon_run.specs.within.Stops.{Between, Closes, ConfigStops, Continues, Ends, HasConfig, HasRead};
+ghost use Rattle.mon_run.specs.within.Stops.{LineRuns, LineStops, PutStops, ReadStops, StopsBetween, Weaves};
+ghost use Rattle.mon_run.specs.within.Stops.{WriteStops, files_plan, named_plan, words_plan};
 ghost use Rattle.mon_run.specs.within.Stops.{is_silent as silent, status_of as code};
 ghost use Rattle.weave_core.specs.Schedules.{IsPrinted};
 
@@ -85,12 +86,58 @@ impl<'f, 'o, 'l, F: Folder, O: Sink> Run<'f, 'o, 'l, F, O> {
         ensures ended { Between F.state O.state (Weaves (files_plan (plan.command verb config.now file.now))
             (plan.IsWovenBy (plan.command verb config.now file.now)) result) self.old self.new }
     {
-        let text = self.read(config)?;
+        let config = self.configuration(config)?;
+        self.file_under(verb, config, file)
+    }
+
+    // Reads a configuration by the name of its file.
+    fn configuration(&mut self, name: &str) -> Result<Config, Stop>
+        ensures continues { Continues F.state O.state self.old self.new }
+        ensures log { self.new.log.now ≡ self.old.log.now }
+        ensures lawful { IfOk result (λ config. AreLawful config.buckets config.limit config.range_points) }
+        ensures config { IfOk result (λ config. Told (F.state self.old.folder.now)
+            (λ files. HasConfig files name.now config)) }
+        ensures asked { OnOk result (Between F.state O.state (Did (Ask name.now ∷ [])) self.old self.new) }
+        ensures stops { IfErr result (StopsBetween F.state O.state (ConfigStops name.now) self.old self.new) }
+    {
+        let text = self.read(name)?;
         let config = read_config(self.alloc, text.as_slice())?;
-        let content = self.read(file)?;
+        Ok(config)
+    }
+
+    // Runs a script or a schedule under a configuration, by the name of its file.
+    fn file_under(&mut self, verb: Verb, config: Config, name: &str) -> Result<bool, Stop>
+        requires lawful { AreLawful config.buckets config.limit config.range_points }
+        requires fresh { accepted_rows self.old.log.now.store ≡ [] }
+        ensures continues { Continues F.state O.state self.old self.new }
+        ensures ended { Between F.state O.state (Weaves (named_plan config verb name.now)
+            (λ files. IsPrinted config (content_of files name.now)) result) self.old self.new }
+    {
+        match self.read(name) {
+            Ok(content) => self.text_under(verb, config, content.as_slice()),
+            Err(stop) => {
+                drop(config);
+                Err(stop)
+            }
+        }
+    }
+
+    // Runs a script or a schedule under a configuration.
+    fn text_under(&mut self, verb: Verb, config: Config, text: &[u8]) -> Result<bool, Stop>
+        requires short { length text.now ≤ LONGEST_FILE }
+        requires lawful { AreLawful config.buckets config.limit config.range_points }
+        requires fresh { accepted_rows self.old.log.now.store ≡ [] }
+        ensures continues { Continues F.state O.state self.old self.new }
+        ensures ended { Between F.state O.state (Weaves (λ woven files. plan.file_plan woven config files verb text.now)
+            (λ files. IsPrinted config text.now) result) self.old self.new }
+    {
         match verb {
-            Verb::Run => self.script(&config, content.as_slice()),
-            Verb::Weave => self.schedule(config, content.as_slice()),
+            Verb::Run => {
+                let ended = self.script(&config, text);
+                drop(config);
+                ended
+            }
+            Verb::Weave => self.schedule(config, text),
         }
     }
 

@@ -71,11 +71,7 @@ pub(crate) fn own_text(alloc: Global, stop: &Stop) -> Result<String, OutOfMemory
             let line = fault.line;
             format!(in alloc; "script line {line}: NotBuilt\n")
         }
-        Stop::Schedule(fault) => {
-            let line = fault.line;
-            let name = fault.fault.name();
-            format!(in alloc; "line {line}: {name}\n")
-        }
+        Stop::Schedule(fault) => format!(in alloc; "{fault}\n"),
         Stop::CannotRead(name) => named(alloc, "cannot read ", name.as_str()),
         Stop::TooLong(name) => named(alloc, "too long: ", name.as_str()),
         Stop::WriteFailed | Stop::OutOfMemory => Ok(String::new(alloc)),

@@ -8,18 +8,18 @@ use Rattle.mon_schema.specs.declared.limits.TheConstants.{LONGEST_METRIC_NAME, L
 abbrev pub is_byte_within : ℕ → ℕ → ℕ → Bool
 is_byte_within low high byte = nat_le low byte && nat_le byte high
 
-abbrev pub is_letter : ℕ → Bool
-is_letter byte = is_byte_within 65 90 byte || is_byte_within 97 122 byte
+abbrev pub is_ascii_letter : ℕ → Bool
+is_ascii_letter byte = is_byte_within 65 90 byte || is_byte_within 97 122 byte
 
-abbrev pub is_digit : ℕ → Bool
-is_digit byte = is_byte_within 48 57 byte
+abbrev pub is_ascii_digit : ℕ → Bool
+is_ascii_digit byte = is_byte_within 48 57 byte
 
 -- a letter or `_`
 abbrev pub is_name_start : ℕ → Bool
-is_name_start byte = is_letter byte || (byte == 95)
+is_name_start byte = is_ascii_letter byte || (byte == 95)
 
 abbrev pub is_name_byte : ℕ → Bool
-is_name_byte byte = is_name_start byte || is_digit byte
+is_name_byte byte = is_name_start byte || is_ascii_digit byte
 
 -- a name has 1 to 64 bytes: a letter or `_`, and then these or digits
 unfoldable pub is_name : List ℕ → Bool

@@ -32,7 +32,8 @@ use Rattle.mon_meaning.specs.declared.meter.OverLimit.{OverLimit}
 use Rattle.mixer.specs.Divisions.{IsDivided, ShareNoLocation, all_rows, has_location, together}
 use Rattle.mon_meaning.specs.ApartTargets.{AreApart, ShareNoTarget}
 use Rattle.leaf_store.specs.LeafStates.{LeafView}
-use Rattle.mon_store.specs.Writes.{is_range, range_of_key}
+use Rattle.mon_config.specs.KeyRanges.{range_of_key}
+use Rattle.mon_store.specs.Writes.{is_range}
 use Rattle.mon_store.specs.within.Divisions.{divided_rows, divided_leaf_rows, zone_rows}
 use Rattle.mon_store.specs.Stores.{AllFit, AreReplicasKept, range_rows, rows_kept}
 use Rattle.mon_store.specs.within.Leaves.{first_slot, first_slots, is_on_leaf, leaf_of}

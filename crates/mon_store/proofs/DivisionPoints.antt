@@ -22,7 +22,8 @@ use Rattle.mon_topo.specs.Zones.{first_leaf, first_replicas, leaves_in, ranges_i
 use Rattle.mon_topo.specs.declared.zones.ZoneSpec.{ZoneSpec}
 use Rattle.mon_config.specs.declared.config.Config.{Config}
 use Rattle.mixer.specs.Divisions.{all_rows, together}
-use Rattle.mon_store.specs.Writes.{is_range, range_of_key}
+use Rattle.mon_config.specs.KeyRanges.{range_of_key}
+use Rattle.mon_store.specs.Writes.{is_range}
 use Rattle.mon_store.specs.within.Divisions.{divided_rows, divided_leaf_rows, values_below, slots_rows, zone_rows}
 use Rattle.mon_store.specs.Stores.{range_rows}
 use Rattle.mon_store.specs.within.Leaves.{first_slot, first_slots, is_on_leaf, leaf_of}

@@ -23,8 +23,9 @@ use Rattle.leaf_store.specs.LeafStates.{LeafView}
 use Rattle.leaf_eval.specs.Replicas.{AreReplicasApart, ShareNoSeries, has_series, replica_rows_of}
 use Rattle.mon_meaning.specs.ReadableSlots.{AreOpened, slot_rows}
 use Rattle.mixer.proofs.ApartTargets as apart_targets
+use Rattle.mon_config.specs.KeyRanges.{range_of_key}
+use Rattle.mon_store.specs.Writes.{is_range}
 use Rattle.mon_meaning.specs.ApartTargets.{ShareNoTarget}
-use Rattle.mon_store.specs.Writes.{is_range, range_of_key}
 use Rattle.mon_store.specs.within.Divisions.{divided_leaf_rows}
 use Rattle.mon_store.specs.Stores.{AreReplicasKept, range_rows, rows_kept}
 use Rattle.mon_store.specs.within.Leaves.{Keeps, first_replica_rows, first_slot, first_slots, histories, is_on_leaf}

@@ -1,7 +1,8 @@
 -- A row that is put to the first replicas of its range, from the last one back.
 use Rattle.std.proofs.Common.{◌≡◌, ◌∙◌, ◌≤◌, ◌+◌, ℕ, suc, zero, ◌||◌, ◌&&◌, Bool, true, false, cond, Option, Some}
 use Rattle.std.specs.Prelude.{is_some}
-use Rattle.std.proofs.Common.{None, Result, Ok, Err, OnErr, OnOk, IfSome, List, [], ◌∷◌, ◌++◌, nat_eq, nat_le, slice_get}
+use Rattle.std.proofs.Common.{None, Result, Ok, Err, OnErr, OnOk, IfSome, List, [], ◌∷◌, ◌++◌, nat_eq, nat_le}
+use Rattle.std.proofs.Common.{slice_get}
 use Rattle.std.proofs.Common.{length, drop, refl, sym, ap, subst, append-nil, arith, option_map}
 use Rattle.std.specs.List.{AllByRecursion, IsDistinct, list_any}
 use Rattle.std.proofs.lemmas.Bool.Decides.{nat_tests}

@@ -1,9 +1,8 @@
 -- The rows of a range among those that were accepted, and what becomes of a row by them.
-use Rattle.std.proofs.Common.{◌≡◌, ◌∙◌, ℕ, ℤ, ◌<ℤ◌, int_le, Bool, true, false, cond, Option, Some, None, List, [], ◌∷◌}
+use Rattle.std.proofs.Common.{◌≡◌, ◌∙◌, ℕ, ◌<ℤ◌, Bool, true, false, cond, Option, Some, None, List, [], ◌∷◌}
 use Rattle.std.proofs.Common.{◌++◌, IfSome, length, map, refl, sym, ap, arith}
-use Rattle.std.specs.Option.{option_or}
+use Rattle.std.specs.Prelude.{option_map}
 use Rattle.std.proofs.lemmas.Bool.Decides.{nat_tests}
-use Rattle.std.proofs.lemmas.Int.{ints}
 use Rattle.std.proofs.lemmas.List.Elements.{filter-append}
 use Rattle.std.proofs.lemmas.List.Sums.{length-filter}
 use Rattle.mon_value.proofs.SameLemmas.{same_series-Decides}
@@ -14,29 +13,27 @@ use Rattle.mon_value.specs.declared.rows.Point.{Point}
 use Rattle.mon_value.specs.declared.rows.Row.{Row}
 use Rattle.mon_value.specs.declared.rows.SeriesKey.{SeriesKey}
 use Rattle.mon_config.specs.declared.config.Config.{Config}
-use Rattle.mon_store.specs.Writes.{fault_behind, full_fault, is_range, old_fault, range_fault, range_of_key}
-use Rattle.mon_store.specs.Writes.{write_fault}
+use Rattle.mon_config.specs.KeyRanges.{range_of_key}
+use Rattle.mon_store.specs.Writes.{as_fault, fault_behind, is_range, range_fault, write_fault}
 use Rattle.mon_store.specs.declared.faults.WriteFault.{WriteFault}
-use Rattle.mon_store.specs.declared.faults.WriteFault.TheVariants as fault
 use Rattle.mon_store.specs.Stores.{range_rows}
+use Rattle.write_core.proofs.LockLemmas.{ends_later}
+use Rattle.write_core.specs.Refusals.{range_refusal}
+use Rattle.write_core.specs.declared.refusals.Refused.{Refused}
 
 -- ---- faults
 
--- a row that isn't old ends later than its series
-old_none : (o : Option ℤ) (rest : Option WriteFault) (point : Point) → option_or (old_fault o point) rest ≡ None
-    → IfSome o (λ last. last <ℤ point.end)
-old_none None rest point none = tt
-old_none (Some last) rest point none = by (int_le point.end last) refl none
-  where
-    by : (b : Bool) → int_le point.end last ≡ b → option_or (cond b (Some (fault.OldPoint last)) None) rest ≡ None
-        → last <ℤ point.end
-    by true le fault = absurd cc
-    by false later fault = grind (arith, ints)
+none_told : (why : Option Refused) → option_map as_fault why ≡ None → why ≡ None
+none_told None none = refl
+none_told (Some why) none = absurd cc
 
+-- a row that isn't old ends later than its series
 pub is_later : (rows : List Row) (row : Row) (limit : ℕ) → fault_behind rows row limit ≡ None
     → IfSome (last_end (points_of row.key rows)) (λ last. last <ℤ row.point.end)
-is_later rows row limit none = old_none (last_end (points_of row.key rows)) (full_fault limit (length rows)) row.point
-    none
+is_later rows row limit none =
+    let last = last_end (points_of row.key rows) in
+    ends_later last limit (length rows) row.point
+    (none_told (range_refusal last limit (length rows) row.point) none)
 
 -- ---- the rows of a range
 
@@ -82,7 +79,7 @@ module _ (config : Config) (range : Range) where
       → fault ≡ fault_behind own row config.range_points → write_fault config rows row ≡ fault
   fault_ranged rows own row fault at same is =
       ap (λ (o : Option Range). range_fault config rows row o) at
-      ∙ (λ i. option_or (old_fault (last_end (sym (points_of-ranged row.key rows at) i)) row.point)
-      (full_fault config.range_points (sym (length-filter lies rows) i)))
+      ∙ (λ i. option_map as_fault (range_refusal (last_end (sym (points_of-ranged row.key rows at) i))
+      config.range_points (sym (length-filter lies rows) i) row.point))
       ∙ ap (λ (r : List Row). fault_behind r row config.range_points) (sym same)
       ∙ sym is

@@ -21,7 +21,8 @@ use Rattle.mon_topo.specs.declared.zones.ZoneSpec.{ZoneSpec}
 use Rattle.mon_config.specs.declared.config.Config.{Config}
 use Rattle.leaf_store.specs.LeafStates.{LeafView}
 use Rattle.mon_store.proofs.ListedLemmas.{all_push}
-use Rattle.mon_store.specs.Writes.{is_range, range_of_key}
+use Rattle.mon_config.specs.KeyRanges.{range_of_key}
+use Rattle.mon_store.specs.Writes.{is_range}
 use Rattle.mon_store.specs.Stores.{AreReplicasKept, range_rows, rows_kept}
 use Rattle.mon_store.specs.within.Leaves.{AllKeep, AreReplicasAlike, AreLeavesOpened, first_replica_rows, first_slot}
 use Rattle.mon_store.specs.within.Leaves.{histories}

@@ -12,7 +12,8 @@ use Rattle.mon_topo.specs.Zones.{first_replicas, leaves_in, ranges_in}
 use Rattle.mon_topo.specs.declared.zones.ZoneSpec.{ZoneSpec}
 use Rattle.mon_config.specs.declared.config.Config.{Config}
 use Rattle.leaf_store.specs.LeafStates.{LeafView}
-use Rattle.mon_store.specs.Writes.{fault_behind, range_of_key, write_fault}
+use Rattle.mon_config.specs.KeyRanges.{range_of_key}
+use Rattle.mon_store.specs.Writes.{fault_behind, write_fault}
 use Rattle.mon_store.specs.declared.faults.WriteFault.{WriteFault}
 use Rattle.mon_store.specs.Stores.{AreReplicasKept, rows_kept}
 use Rattle.mon_store.specs.within.Leaves.{AreReplicasAlike, first_replica_rows, first_slot, histories, leaf_of}

@@ -8,7 +8,8 @@ use Rattle.mon_schema.specs.SchemaLists.{SchemaLists}
 use Rattle.mon_topo.specs.Zones.{ranges_in}
 use Rattle.mon_config.specs.declared.config.Config.{Config}
 use Rattle.leaf_store.specs.LeafStates.{LeafView}
-use Rattle.mon_store.specs.Writes.{is_range, range_of_key}
+use Rattle.mon_config.specs.KeyRanges.{range_of_key}
+use Rattle.mon_store.specs.Writes.{is_range}
 use Rattle.mon_store.specs.within.Leaves.{AreReplicasAlike, AreInOrder, AreSettled, HasFirsts, first_replica_rows}
 use Rattle.mon_store.specs.within.Leaves.{histories}
 use Rattle.mon_store.specs.within.Leaves.{in_turn}

@@ -1,15 +1,13 @@
 // The states of all leaves.
 ghost use Rattle.std.specs.Prelude.{◌≡◌, ◌<◌, ◌≤◌, ◌++◌, ◌+◌, ◌∷◌, [], ℕ, true, drop, length, slice_get, Some, IfOk};
-ghost use Rattle.std.specs.Prelude.{IfSome, OnErr, OnOk};
+ghost use Rattle.std.specs.Prelude.{IfSome, OnErr, OnOk, option_map};
 ghost use Rattle.mon_value.specs.LeafHistories.{IsWellFormed, is_opened, replica_rows};
 ghost use Rattle.mon_value.specs.Sources.{IsSource, last_end, points_of};
 ghost use Rattle.mon_topo.specs.Replicas.{HasReplicas};
 ghost use Rattle.mon_value.specs.Positions.{leaf_numbered};
 ghost use Rattle.mon_topo.specs.Zones.{first_replicas, ranges_in};
 ghost use Rattle.std.specs.List.{AllByRecursion};
-ghost use Rattle.std.specs.Option.{option_or};
-ghost use Rattle.mon_store.specs.Writes as writes;
-ghost use Rattle.mon_store.specs.Writes.{fault_behind};
+ghost use Rattle.mon_store.specs.Writes.{as_fault, fault_behind};
 ghost use Rattle.mon_store.specs.within.Leaves as spec;
 ghost use Rattle.leaf_store.specs.LeafLists.{IsChanged};
 ghost use Rattle.mon_store.specs.within.Leaves.{AllKeep, AreReplicasAlike, AreLeavesOpened, HasEntry, IsSettled};
@@ -17,6 +15,7 @@ ghost use Rattle.mon_store.specs.within.Leaves.{AreSettled, MayComeToLeaf, first
 ghost use Rattle.mon_store.specs.within.Leaves.{leaf_of};
 ghost use Rattle.mon_store.specs.within.Leaves.{with_row_from};
 ghost use Rattle.leaf_store.specs.LeafStates.{leaf_with_entry, leaf_with_put, with_settled};
+ghost use Rattle.write_core.specs.Refusals.{full_refusal, range_refusal};
 
 use crate::faults::WriteFault;
 use leaf_store::{Entry, LeafState};
@@ -328,7 +327,7 @@ fn leaf_at(topology: &Topology, range: Range, slot: u32) -> Option<Leaf>
 
 // Why a row is refused, by the end of its series' last point and how many rows its range holds.
 fn fault_at(last: Option<i64>, held: u64, row: &Row, limit: u64) -> Option<WriteFault>
-    ensures fault { result ≡ option_or (writes.old_fault last row.now.point) (writes.full_fault limit held) }
+    ensures fault { result ≡ option_map as_fault (range_refusal last limit held row.now.point) }
 {
     match last {
         Some(last) if row.point.end <= last => Some(WriteFault::OldPoint(last)),
@@ -338,7 +337,7 @@ fn fault_at(last: Option<i64>, held: u64, row: &Row, limit: u64) -> Option<Write
 
 // A range that holds as many rows as it may takes no more.
 fn full_fault(limit: u64, held: u64) -> Option<WriteFault>
-    ensures fault { result ≡ writes.full_fault limit held }
+    ensures fault { result ≡ option_map as_fault (full_refusal limit held) }
 {
     if limit <= held {
         Some(WriteFault::RangeFull(limit))

@@ -7,15 +7,15 @@ ghost use Rattle.mon_topo.specs.Zones.{ranges_in};
 ghost use Rattle.mon_config.specs.declared.config.Config.{Config as ConfigView};
 ghost use Rattle.mon_config.specs.Configs.{IsLimited};
 ghost use Rattle.mon_store.specs.Stores.{IsStoreKept, IsStoreReady, accepted_rows};
-ghost use Rattle.mon_store.specs.Writes as spec;
+ghost use Rattle.mon_config.specs.KeyRanges.{range_of_key};
 ghost use Rattle.mon_store.specs.Writes.{write_fault};
 ghost use Rattle.mon_store.specs.within.Leaves.{AreBare, HasFirsts, IsPushed, first_replica_rows, histories};
 
 use crate::faults::WriteFault;
 use crate::leaf_states::LeafStates;
 use mon_config::Config;
-use mon_topo::{Topology, location_of, ranges_have_replicas};
-use mon_value::{Leaf, OutOfMemory, Range, RangeSlot, RangeSlots, Refusal, Row, SeriesKey, Slot};
+use mon_topo::{Topology, ranges_have_replicas};
+use mon_value::{Leaf, OutOfMemory, Range, RangeSlot, RangeSlots, Refusal, Row, Slot};
 use std::alloc::Global;
 
 /// A store: a state for each leaf, the first replicas on each, and the range of each row in the order in which the rows
@@ -81,7 +81,7 @@ impl Store {
         ensures written { OnOk result (accepted_rows self.new ≡ accepted_rows self.old ++ row.now ∷ []) }
         ensures rows { OnErr result (accepted_rows self.new ≡ accepted_rows self.old) }
     {
-        match range_of(config, &row.key) {
+        match config.range_of(&row.key) {
             Some(range) => self.write_in(config, range, row),
             None => Err(Refusal::Fault(WriteFault::NoZone)),
         }
@@ -104,7 +104,7 @@ impl Store {
         row: &Row,
     ) -> Result<(), Refusal<WriteFault>>
         requires kept { IsStoreKept config.now self.old }
-        requires range { spec.range_of_key config.now row.now.key ≡ Some range }
+        requires range { range_of_key config.now row.now.key ≡ Some range }
         requires there { range.0 < length (ranges_in config.now.topology) }
         ensures kept { IsStoreKept config.now self.new }
         ensures refused { AnswersBy result (write_fault config.now (accepted_rows self.old) row.now) }
@@ -126,7 +126,7 @@ impl Store {
     // Puts a row that has no fault behind those that are there.
     fn append(&mut self, config: &Config, range: Range, row: &Row) -> Result<(), OutOfMemory>
         requires kept { IsStoreKept config.now self.old }
-        requires range { spec.range_of_key config.now row.now.key ≡ Some range }
+        requires range { range_of_key config.now row.now.key ≡ Some range }
         requires there { range.0 < length (ranges_in config.now.topology) }
         requires source { IsSource (first_replica_rows (histories self.old.leaves.states.items) range ++ row.now ∷ []) }
         ensures kept { IsStoreKept config.now self.new }
@@ -139,16 +139,6 @@ impl Store {
         self.order.push_reserved(range);
         Ok(())
     }
-}
-
-// The range that a series' target lies in, where a zone lists its location.
-fn range_of(config: &Config, key: &SeriesKey) -> Option<Range>
-    ensures range { result ≡ spec.range_of_key config.now key.now }
-    ensures within { IfSome result (λ range. range.0 < length (ranges_in config.now.topology)) }
-{
-    let location = location_of(&config.schemas, &key.target)?;
-    let zone = config.topology.zone_of(location.as_bytes())?;
-    Some(config.topology.range_of(zone, &key.target))
 }
 
 // The first replicas on each leaf.

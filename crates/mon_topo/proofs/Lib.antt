@@ -3,6 +3,7 @@ mod FindsLemmas
 mod KeptLemmas
 pub mod LawfulLemmas
 mod LeadingLemmas
+mod NameTextLemmas
 mod NumberedLemmas
 mod PlaceLemmas
 pub mod RangeNameLemmas

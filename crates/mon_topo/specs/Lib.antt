@@ -6,6 +6,7 @@ pub mod HeldHistories
 pub mod Indexed
 pub mod Kept
 pub mod Locations
+pub mod NameTexts
 pub mod Places
 pub mod RangeHistories
 pub mod Replicas
@@ -13,4 +14,6 @@ pub mod SeenHistories
 pub mod Serving
 pub mod Settings
 pub mod Sights
+pub mod Sizes
+pub mod Views
 pub mod Zones

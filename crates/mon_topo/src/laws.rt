@@ -3,6 +3,7 @@ ghost use Rattle.std.specs.Prelude.{◌<◌, ℕ, length};
 ghost use Rattle.mon_value.specs.declared.rows.Target.{Target};
 ghost use Rattle.mon_topo.specs.Bounds.{HasOneRange};
 ghost use Rattle.mon_topo.specs.Replicas.{HasReplicas};
+ghost use Rattle.mon_topo.specs.Sizes.{AreWithinLimits};
 ghost use Rattle.mon_value.specs.Positions.{range_numbered};
 ghost use Rattle.mon_topo.specs.Zones.{ranges_in};
 
@@ -13,6 +14,13 @@ use crate::topology::Topology;
 pub fn targets_have_one_range(topology: &Topology)
     ensures one { (zone : ℕ) (target : Target) → zone < length topology.now
         → HasOneRange topology.now zone target }
+{
+    let _zones = topology.zones();
+}
+
+/// Zones, leaves and ranges are as many as there may be at most.
+pub fn zones_are_few(topology: &Topology)
+    ensures few { AreWithinLimits topology.now }
 {
     let _zones = topology.zones();
 }

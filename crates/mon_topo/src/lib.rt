@@ -9,6 +9,7 @@ mod lengths;
 mod limits;
 mod lists;
 mod locations;
+mod name_texts;
 mod names;
 mod naming;
 mod places;
@@ -22,12 +23,13 @@ mod topology;
 mod zones;
 
 pub use faults::{TopoFault, TopoKind};
-pub use laws::{ranges_have_replicas, targets_have_one_range};
+pub use laws::{ranges_have_replicas, targets_have_one_range, zones_are_few};
 pub use limits::{
     MOST_LEAVES, MOST_LEAVES_OF_ZONE, MOST_RANGES, MOST_REPLICAS, MOST_SLOTS, MOST_ZONES,
 };
 pub use locations::location_of;
 pub use mon_value::{Leaf, LeafCounts, Leaves, Range, Slot, Zone};
+pub use name_texts::down_text;
 pub use sight_laws::{sights_grow, sights_join};
 pub use sights::{RangeSight, Sight};
 pub use topology::Topology;

@@ -19,4 +19,4 @@ pub mod FaultFirsts
 pub mod Views
 pub mod TurnViews
 pub mod PredicateViews
-pub mod FaultWords
+pub mod FaultTexts

@@ -1,6 +1,5 @@
 // Where and why a text is no query.
-ghost use Rattle.std.specs.Prelude.{◌≡◌};
-ghost use Rattle.mql_parse.specs.FaultWords.{what_word};
+use std::fmt;
 
 /// The place of a fault, and what it is. The place is the length of the longest front of the text that
 /// begins some query.
@@ -60,12 +59,43 @@ pub enum What {
     Minus,
 }
 
-impl What {
-    /// The word or the signs as a person reads them.
-    pub fn word(self) -> &'static str
-        ensures text { result.now ≡ what_word self }
-    {
+impl fmt::Display for ParseFault {
+    ghost use Rattle.std.specs.Prelude.{Some};
+    ghost use Rattle.mql_parse.specs.FaultTexts.{parse_fault_text};
+
+    ghost output = { λ fault. Some (parse_fault_text fault) };
+
+    fn fmt<W: fmt::Write>(&self, f: &mut fmt::Formatter<W>) -> fmt::Result {
+        write!(f, "{} {}", self.at, self.kind)
+    }
+}
+
+impl fmt::Display for ParseKind {
+    ghost use Rattle.std.specs.Prelude.{Some};
+    ghost use Rattle.mql_parse.specs.FaultTexts.{parse_kind_text};
+
+    ghost output = { λ kind. Some (parse_kind_text kind) };
+
+    fn fmt<W: fmt::Write>(&self, f: &mut fmt::Formatter<W>) -> fmt::Result {
         match self {
+            ParseKind::BadToken => f.write_str("BadToken"),
+            ParseKind::Expected(what) => write!(f, "Expected {what}"),
+            ParseKind::NumberTooLarge => f.write_str("NumberTooLarge"),
+            ParseKind::BadPattern => f.write_str("BadPattern"),
+            ParseKind::TooDeep => f.write_str("TooDeep"),
+            ParseKind::TooLong => f.write_str("TooLong"),
+        }
+    }
+}
+
+impl fmt::Display for What {
+    ghost use Rattle.std.specs.Prelude.{Some};
+    ghost use Rattle.mql_parse.specs.FaultTexts.{what_text};
+
+    ghost output = { λ what. Some (what_text what) };
+
+    fn fmt<W: fmt::Write>(&self, f: &mut fmt::Formatter<W>) -> fmt::Result {
+        f.write_str(match self {
             What::Fetch => "fetch",
             What::Name => "name",
             What::Metric => "metric",
@@ -94,6 +124,6 @@ impl What {
             What::Not => "!",
             What::Plus => "+",
             What::Minus => "-",
-        }
+        })
     }
 }

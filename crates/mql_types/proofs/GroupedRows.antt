@@ -23,7 +23,8 @@ use Rattle.mql_ast.specs.SumWidths.{FitWidths}
 use Rattle.mql_ast.specs.declared.names.Name.{Name}
 use Rattle.mql_ast.specs.declared.operations.Aggregate.{Aggregate}
 use Rattle.mql_types.specs.Groupings.{aggregate_columns, aggregate_faults, aggregate_name, aggregate_of}
-use Rattle.mql_types.specs.Groupings.{aggregates_over, as_key, column_made, group_columns, key_at, key_columns_at}
+use Rattle.mql_types.specs.Groupings.{aggregates_over, as_key, aggregated_column, grouped_columns, key_at}
+use Rattle.mql_types.specs.Groupings.{key_columns_at}
 use Rattle.mql_types.specs.Groupings.{listed_places, new_place, place_found}
 use Rattle.mql_types.specs.Items.{is_taken, reserved_names, with_name}
 use Rattle.mql_types.specs.Soundness.{CountsRows, FitTable, TotalsFit}
@@ -123,7 +124,7 @@ keys_there columns by within =
 
 -- an aggregate of a query, without a fault
 abbrev pub AggregateMade : List Column → Aggregate → Type 0
-AggregateMade columns a = FoldMade columns (column_made columns a) (aggregate_of columns a)
+AggregateMade columns a = FoldMade columns (aggregated_column columns a) (aggregate_of columns a)
 
 pub aggregates_made : (columns : List Column) → AreLawful columns → (aggregates : List Aggregate)
     → AllByRecursion (λ (a : Aggregate). CountsRows a.fold a.column) aggregates
@@ -149,7 +150,7 @@ value_is columns rows o m e = ap (λ (p : Option folds.Aggregate). option_and_th
 
 aggregate_cell : (columns : List Column) (time : ℤ) (rows : List TimedRow) → IsGroup columns time rows
     → (a : Aggregate) → AggregateMade columns a
-    → MadeCell (column_made columns a) (value_in columns rows a)
+    → MadeCell (aggregated_column columns a) (value_in columns rows a)
 aggregate_cell columns time rows group a fold =
     let P : Option Column → Type 0 = λ o. MadeCell o (value_in columns rows a) in
     let Q : Option Value → Type 0 = λ o. MadeCell (Some fold.column) o in
@@ -159,9 +160,9 @@ aggregate_cell columns time rows group a fold =
 aggregate_cells : (columns : List Column) (time : ℤ) (rows : List TimedRow) → IsGroup columns time rows
     → (aggregates : List Aggregate)
     → AllByRecursion (AggregateMade columns) aggregates
-    → AllByRecursion (λ (a : Aggregate). MadeCell (column_made columns a) (value_in columns rows a)) aggregates
+    → AllByRecursion (λ (a : Aggregate). MadeCell (aggregated_column columns a) (value_in columns rows a)) aggregates
 aggregate_cells columns time rows group aggregates all =
-    all-map (AggregateMade columns) (λ (a : Aggregate). MadeCell (column_made columns a) (value_in columns rows a))
+    all-map (AggregateMade columns) (λ (a : Aggregate). MadeCell (aggregated_column columns a) (value_in columns rows a))
     aggregates
     (λ a fold. aggregate_cell columns time rows group a fold) all
 
@@ -206,10 +207,10 @@ group_fits columns by within aggregates all key (row ∷ rows) keyed =
     subst Q same (made_within (key_at columns) (λ place. slice_get row.cells place) by keys) in (
       FitColumns-append (key_columns_at columns by) (aggregate_columns columns aggregates) key.cells
           (made_in columns aggregates (row ∷ rows))
-          shaped (made_shaped (column_made columns) (value_in columns (row ∷ rows)) aggregates cells),
+          shaped (made_shaped (aggregated_column columns) (value_in columns (row ∷ rows)) aggregates cells),
       FitWidths-append (key_columns_at columns by) (aggregate_columns columns aggregates) key.cells
           (made_in columns aggregates (row ∷ rows))
-          shaped widths (made_within (column_made columns) (value_in columns (row ∷ rows)) aggregates cells),
+          shaped widths (made_within (aggregated_column columns) (value_in columns (row ∷ rows)) aggregates cells),
     )
 
 -- ---- which groups there are
@@ -386,9 +387,9 @@ aggregate_counts columns by within aggregates all time k a e fold key (row ∷ r
     (key_cells_made columns row keyed.rows.fit.0 by within)) in
     let cells = aggregate_cells columns key.time g keyed.rows aggregates all in
     let there : AllByRecursion (λ (b : Aggregate). IsThere (value_in columns g b)) aggregates =
-    all-map (λ (b : Aggregate). MadeCell (column_made columns b) (value_in columns g b))
+    all-map (λ (b : Aggregate). MadeCell (aggregated_column columns b) (value_in columns g b))
     (λ (b : Aggregate). IsThere (value_in columns g b)) aggregates
-    (λ b made. cell_there (column_made columns b) (value_in columns g b) made) cells in
+    (λ b made. cell_there (aggregated_column columns b) (value_in columns g b) made) cells in
     let long : length key.cells ≡ length (key_columns_at columns by) =
     length_fit (key_columns_at columns by) key.cells shaped in
     let rest = made_in columns aggregates g in
@@ -465,10 +466,10 @@ group_total columns by within aggregates all rows few time totals keyed place co
           time totals,
     )
 group_total columns by within aggregates all rows few time totals keyed place column is (back k at e) =
-    let there : AllByRecursion (λ (a : Aggregate). IsThere (column_made columns a)) aggregates =
-    all-map (AggregateMade columns) (λ (a : Aggregate). IsThere (column_made columns a)) aggregates
-    (λ a fold. is_there (column_made columns a) fold.column fold.is) all in
-    let from = from_item (column_made columns) aggregates there k column e in
+    let there : AllByRecursion (λ (a : Aggregate). IsThere (aggregated_column columns a)) aggregates =
+    all-map (AggregateMade columns) (λ (a : Aggregate). IsThere (aggregated_column columns a)) aggregates
+    (λ a fold. is_there (aggregated_column columns a) fold.column fold.is) all in
+    let from = from_item (aggregated_column columns) aggregates there k column e in
     let fold = column_of_all (AggregateMade columns) aggregates k from.item all from.is in
     let here = length (key_columns_at columns by) + k in
     let less : sum_by (counted time here) (groups_made columns by aggregates rows) ≤ sum_by (fold.measure time) rows =
@@ -487,13 +488,13 @@ group_total columns by within aggregates all rows few time totals keyed place co
 fits_made : (columns : List Column) (names : List Name) (aggregates : List Aggregate) (rows : List TimedRow)
     → FitTable columns rows
     → AllByRecursion (AggregateMade columns) aggregates → length rows ≤ 2 ^ 24
-    → FitTable (group_columns columns names aggregates)
+    → FitTable (grouped_columns columns names aggregates)
     (groups_made columns (listed_places columns reserved_names names) aggregates rows)
 fits_made columns names aggregates rows fit all few =
     let by = listed_places columns reserved_names names in
     let within = listed_within columns reserved_names names in
     let made = groups_made columns by aggregates rows in
-    let to = group_columns columns names aggregates in
+    let to = grouped_columns columns names aggregates in
     let both : AllByRecursion (FitsBoth columns) rows =
     all-both (λ row. FitColumns columns row.cells) (λ row. FitWidths columns row.cells) rows fit.shaped
     fit.widths in
@@ -517,11 +518,11 @@ pub FitTable-group_by : (columns : List Column) (names : List Name) (aggregates 
     (rows : List TimedRow) → FitTable columns rows
     → AreLawful columns → AllByRecursion (λ (a : Aggregate). CountsRows a.fold a.column) aggregates
     → flat_map (aggregate_faults columns) aggregates ≡ [] → length rows ≤ 2 ^ 24
-    → FitTable (group_columns columns names aggregates)
+    → FitTable (grouped_columns columns names aggregates)
     (group_rows (listed_places columns reserved_names names) (aggregates_over columns aggregates) rows)
 FitTable-group_by columns names aggregates rows fit lawful counts none few =
     let by = listed_places columns reserved_names names in
-    let P : List TimedRow → Type 0 = λ made. FitTable (group_columns columns names aggregates) made in
+    let P : List TimedRow → Type 0 = λ made. FitTable (grouped_columns columns names aggregates) made in
     subst P (map_same (row_of_group columns aggregates) (group_row (aggregates_over columns aggregates))
     (group_row_is columns aggregates) (rows_by_group by rows))
     (fits_made columns names aggregates rows fit (aggregates_made columns lawful aggregates counts none) few)
@@ -543,14 +544,14 @@ key_sound columns lawful place c (Some d) e is =
 pub group_lawful : (columns : List Column) (names : List Name) (aggregates : List Aggregate) → AreLawful columns
     → AllByRecursion (λ (a : Aggregate). CountsRows a.fold a.column) aggregates
     → flat_map (aggregate_faults columns) aggregates ≡ []
-    → AreLawful (group_columns columns names aggregates)
+    → AreLawful (grouped_columns columns names aggregates)
 group_lawful columns names aggregates lawful counts none =
     let by = listed_places columns reserved_names names in
     all-append IsSound (key_columns_at columns by) (aggregate_columns columns aggregates)
     (all-filter_map (λ place. place < length columns) IsSound (key_at columns) by
     (λ place c h e. key_sound columns lawful place c (slice_get columns place) refl e)
     (listed_within columns reserved_names names))
-    (all-filter_map (AggregateMade columns) IsSound (column_made columns) aggregates
+    (all-filter_map (AggregateMade columns) IsSound (aggregated_column columns) aggregates
     (λ a c fold e. subst IsSound (same_item fold.column c (sym fold.is ∙ e)) fold.sound)
     (aggregates_made columns lawful aggregates counts none))
 

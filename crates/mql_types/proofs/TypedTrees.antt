@@ -33,7 +33,7 @@ use Rattle.mql_types.specs.declared.nodes.NodeInfo.{NodeInfo}
 use Rattle.mql_types.specs.Branches.{anchored_with, as_joined, join_columns, left_column, same_columns, union_columns}
 use Rattle.mql_types.specs.Branches.{united_column}
 use Rattle.mql_types.specs.Fetches.{columns_fetched}
-use Rattle.mql_types.specs.Groupings.{aggregate_faults, aggregates_over, group_columns, listed_places}
+use Rattle.mql_types.specs.Groupings.{aggregate_faults, aggregates_over, grouped_columns, listed_places}
 use Rattle.mql_types.specs.Items.{item_sum_faults, reserved_names, value_columns}
 use Rattle.mql_types.specs.Loads.{load_of, points_reached}
 use Rattle.mql_types.specs.Meaning.{aligned_rows, points_meant, rows_meant}
@@ -74,7 +74,7 @@ pub record GroupOf (info : NodeInfo) (by : List ℕ) (with : List folds.Aggregat
     pub none : flat_map (aggregate_faults columns) aggregates ≡ []
     pub places : listed_places columns reserved_names names ≡ by
     pub makes : aggregates_over columns aggregates ≡ with
-    pub is : group_columns columns names aggregates ≡ info.columns
+    pub is : grouped_columns columns names aggregates ≡ info.columns
 
 pub record ValueOf (info : NodeInfo) (items : List ItemTree) (columns : List Column) : Type 0 where
   pub literals : AllByRecursion (λ (item : ItemTree). HasLiterals item.sum) items

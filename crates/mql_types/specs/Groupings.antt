@@ -124,11 +124,11 @@ abbrev pub aggregate_column : List Column → List ℕ → FoldWord → Option N
 aggregate_column columns name how None = Some (plain_column name type.Int count_width)
 aggregate_column columns name how (Some source) = option_map (folded_column name how) (column_named source.text columns)
 
-abbrev pub column_made : List Column → Aggregate → Option Column
-column_made columns a = aggregate_column columns (aggregate_name a).text a.fold a.column
+abbrev pub aggregated_column : List Column → Aggregate → Option Column
+aggregated_column columns a = aggregate_column columns (aggregate_name a).text a.fold a.column
 
 abbrev pub aggregate_columns : List Column → List Aggregate → List Column
-aggregate_columns columns aggregates = filter_map (column_made columns) aggregates
+aggregate_columns columns aggregates = filter_map (aggregated_column columns) aggregates
 
 -- what an aggregate makes of the column at a place
 abbrev pub typed_aggregate : FoldWord → ValueType → ℕ → made.Aggregate
@@ -161,5 +161,5 @@ group_faults columns names aggregates =
     ++ (flat_map (unknown_faults columns) names ++ flat_map (aggregate_faults columns) aggregates)
 
 -- the listed columns, and then one for each aggregate of which the type is known
-abbrev pub group_columns : List Column → List Name → List Aggregate → List Column
-group_columns columns names aggregates = listed_columns columns names ++ aggregate_columns columns aggregates
+abbrev pub grouped_columns : List Column → List Name → List Aggregate → List Column
+grouped_columns columns names aggregates = listed_columns columns names ++ aggregate_columns columns aggregates

@@ -3,6 +3,7 @@ pub mod Durations
 pub mod ExplanationParts
 pub mod Explanations
 pub mod Faults
+pub mod FaultTexts
 pub mod Fetches
 pub mod Filters
 pub mod Groupings

@@ -24,7 +24,7 @@ use Rattle.mql_types.specs.Branches.{common_columns, join_columns, join_faults, 
 use Rattle.mql_types.specs.Faults.{fault_at, first_fault}
 use Rattle.mql_types.specs.Fetches.{fetch_columns, fetch_faults, kind_of}
 use Rattle.mql_types.specs.Filters.{condition_faults, predicate_faults}
-use Rattle.mql_types.specs.Groupings.{aggregates_over, group_columns, group_faults, listed_columns, listed_places}
+use Rattle.mql_types.specs.Groupings.{aggregates_over, grouped_columns, group_faults, listed_columns, listed_places}
 use Rattle.mql_types.specs.Groupings.{place_found}
 use Rattle.mql_types.specs.Items.{is_number_type, reserved_names, value_columns, value_faults}
 use Rattle.mql_types.specs.Levels.{higher_level, meeting_level}
@@ -98,7 +98,7 @@ abbrev pub group_node : SchemaLists → ℕ → List Name → List Aggregate →
 group_node held at names aggregates input =
     let columns = columns_of input in
     node.GroupBy
-    (info (Some at) (group_columns columns names aggregates)
+    (info (Some at) (grouped_columns columns names aggregates)
     (meeting_level held (level_of input) (listed_columns columns names)))
     (listed_places columns reserved_names names) (aggregates_over columns aggregates) input
 
@@ -154,10 +154,12 @@ union_info held at left right =
     info (Some at) (union_columns held (columns_of left) (columns_of right))
     (higher_level (level_of left) (level_of right))
 
+-- the columns of two tables that are brought together, and the level at which they meet
 abbrev pub branch_info : SchemaLists → How → ℕ → NodeTree → NodeTree → NodeInfo
 branch_info held how.Join at left right = join_info held at left right
 branch_info held how.Union at left right = union_info held at left right
 
+-- two tables brought together, of which the columns and the level are known
 abbrev pub joint_node : How → NodeInfo → NodeTree → NodeTree → NodeTree
 joint_node how.Join info left right = node.Join info left right
 joint_node how.Union info left right = node.Union info left right

@@ -1,5 +1,5 @@
 // What a join and a union of two tables give.
-ghost use Rattle.std.specs.Prelude.{◌≡◌, ◌++◌, ◌∷◌, [], IfOk, OnOk, map, option_to_list};
+ghost use Rattle.std.specs.Prelude.{◌≡◌, ◌++◌, ◌∷◌, [], IfOk, OnOk, Some, map, option_to_list};
 ghost use Rattle.std.specs.List.{flat_map, list_any};
 ghost use Rattle.mon_value.specs.Joins as join;
 ghost use Rattle.mql_ast.specs.NamedCells as named;
@@ -147,15 +147,46 @@ impl Joined {
         ensures faults { OnOk result (found.new.first ≡ first_with found.old.first
             (spec.mismatch_faults at left.now (named.column_named left.now.name rights.now))) }
     {
-        let Some(right) = rights.get(&left.name) else {
-            return self.columns.push(as_joined(left.copy(setting.alloc)?));
-        };
+        match rights.get(&left.name) {
+            Some(right) => self.push_common(setting, at, left, right, found),
+            None => push_joined(setting.alloc, left, &mut self.columns),
+        }
+    }
+
+    // Adds a left column whose name a right one has too, anchored to what either is. Tells columns of two types.
+    fn push_common(
+        &mut self,
+        setting: TypingSetting<'_>,
+        at: u32,
+        left: &Column,
+        right: &Column,
+        found: &mut Faults,
+    ) -> Result<(), AllocError>
+        ensures columns { OnOk result (self.new.columns ≡ self.old.columns
+            ++ spec.as_joined (spec.anchored_with setting.entry.schemas.now left.now right.now) ∷ []) }
+        ensures common { OnOk result (self.new.common ≡ self.old.common
+            ++ spec.anchored_with setting.entry.schemas.now left.now right.now ∷ []) }
+        ensures faults { OnOk result (found.new.first ≡ first_with found.old.first
+            (spec.mismatch_faults at left.now (Some right.now))) }
+    {
         let same = same_type(&left.of, &right.of);
         found.tell_unlike(same, at, &left.of, type_word(&right.of));
         let common = anchored_with(setting, left, right)?;
-        self.columns.push(as_joined(common.copy(setting.alloc)?))?;
-        self.common.push(common)
+        match push_joined(setting.alloc, &common, &mut self.columns) {
+            Ok(()) => self.common.push(common),
+            Err(stop) => {
+                drop(common);
+                Err(stop)
+            }
+        }
     }
+}
+
+// Adds a column as a join has it.
+fn push_joined(alloc: Global, column: &Column, columns: &mut Columns) -> Result<(), AllocError>
+    ensures added { OnOk result (columns.new ≡ columns.old ++ spec.as_joined column.now ∷ []) }
+{
+    columns.push(as_joined(column.copy(alloc)?))
 }
 
 // Adds the right columns that have a name of their own.
@@ -185,10 +216,10 @@ fn push_own(
     ensures added { OnOk result (columns.new
         ≡ columns.old ++ map spec.as_joined (join.right_columns lefts.now (right.now ∷ []))) }
 {
-    if !lefts.has(&right.name) {
-        columns.push(as_joined(right.copy(alloc)?))?;
+    if lefts.has(&right.name) {
+        return Ok(());
     }
-    Ok(())
+    push_joined(alloc, right, columns)
 }
 
 // A column as a join has it.

@@ -3,6 +3,7 @@ ghost use Rattle.std.specs.Prelude.{◌≡◌, None, [], ◌∷◌, not};
 ghost use Rattle.mql_types.specs.Faults as spec;
 
 use mon_value::ValueType;
+use std::fmt;
 
 /// Why a query has no type, with the place in its text.
 #[derive(Clone, Copy, PartialEq, Eq)]
@@ -45,6 +46,56 @@ pub enum TypeWord {
     Bool,
     Text,
     Dist,
+}
+
+impl fmt::Display for TypeFault {
+    ghost use Rattle.std.specs.Prelude.{Some};
+    ghost use Rattle.mql_types.specs.FaultTexts.{type_fault_text};
+
+    ghost output = { λ fault. Some (type_fault_text fault) };
+
+    fn fmt<W: fmt::Write>(&self, f: &mut fmt::Formatter<W>) -> fmt::Result {
+        write!(f, "{} {}", self.at, self.kind)
+    }
+}
+
+impl fmt::Display for TypeKind {
+    ghost use Rattle.std.specs.Prelude.{Some};
+    ghost use Rattle.mql_types.specs.FaultTexts.{type_kind_text};
+
+    ghost output = { λ kind. Some (type_kind_text kind) };
+
+    fn fmt<W: fmt::Write>(&self, f: &mut fmt::Formatter<W>) -> fmt::Result {
+        match self {
+            TypeKind::UnknownSchema => f.write_str("UnknownSchema"),
+            TypeKind::UnknownMetric => f.write_str("UnknownMetric"),
+            TypeKind::UnknownColumn => f.write_str("UnknownColumn"),
+            TypeKind::Mismatch(found, wanted) => write!(f, "Mismatch {found} {wanted}"),
+            TypeKind::NotDelta => f.write_str("NotDelta"),
+            TypeKind::NotGauge => f.write_str("NotGauge"),
+            TypeKind::DuplicateColumn => f.write_str("DuplicateColumn"),
+            TypeKind::BranchColumns => f.write_str("BranchColumns"),
+            TypeKind::TooManyTimes => f.write_str("TooManyTimes"),
+            TypeKind::TooWide(bits) => write!(f, "TooWide {bits}"),
+            TypeKind::BadOrder => f.write_str("BadOrder"),
+        }
+    }
+}
+
+impl fmt::Display for TypeWord {
+    ghost use Rattle.std.specs.Prelude.{Some};
+    ghost use Rattle.mql_types.specs.FaultTexts.{type_word_text};
+
+    ghost output = { λ word. Some (type_word_text word) };
+
+    fn fmt<W: fmt::Write>(&self, f: &mut fmt::Formatter<W>) -> fmt::Result {
+        f.write_str(match self {
+            TypeWord::Int => "int",
+            TypeWord::Bool => "bool",
+            TypeWord::Text => "text",
+            TypeWord::Dist => "dist",
+        })
+    }
 }
 
 impl TypeKind {

@@ -48,7 +48,7 @@ impl Grouping {
         ensures aggregates { IfOk result (λ made. made.aggregates
             ≡ spec.aggregates_over (columns_of (node_tree input.now)) aggregates.now) }
         ensures columns { IfOk result (λ made. made.columns
-            ≡ spec.group_columns (columns_of (node_tree input.now)) names.now aggregates.now) }
+            ≡ spec.grouped_columns (columns_of (node_tree input.now)) names.now aggregates.now) }
         ensures level { IfOk result (λ made. made.level ≡ meeting_level setting.entry.schemas.now
             (level_of (node_tree input.now)) (spec.listed_columns (columns_of (node_tree input.now)) names.now)) }
         ensures faults { OnOk result (found.new.first ≡ first_with found.old.first
@@ -74,7 +74,7 @@ impl Grouping {
             ≡ spec.listed_places all.now reserved_names names.now) }
         ensures aggregates { IfOk result (λ made. made.aggregates ≡ spec.aggregates_over all.now aggregates.now) }
         ensures columns { IfOk result (λ made. made.columns
-            ≡ spec.group_columns all.now names.now aggregates.now) }
+            ≡ spec.grouped_columns all.now names.now aggregates.now) }
         ensures level { IfOk result (λ made. made.level
             ≡ meeting_level setting.entry.schemas.now level (spec.listed_columns all.now names.now)) }
         ensures faults { OnOk result (found.new.first
@@ -297,7 +297,7 @@ fn push_fold(
     found: &mut Faults,
 ) -> Result<(), AllocError>
     ensures made { OnOk result (made.new ≡ made.old ++ option_to_list (spec.aggregate_of columns.now aggregate.now)) }
-    ensures given { OnOk result (given.new ≡ given.old ++ option_to_list (spec.column_made columns.now aggregate.now)) }
+    ensures given { OnOk result (given.new ≡ given.old ++ option_to_list (spec.aggregated_column columns.now aggregate.now)) }
     ensures faults { OnOk result (found.new.first
         ≡ first_with found.old.first (spec.aggregate_faults columns.now aggregate.now)) }
 {
@@ -339,8 +339,8 @@ fn push_known(
 ) -> Result<(), AllocError>
     ensures made { OnOk result (made.new
         ≡ made.old ++ option_to_list (spec.aggregate_over columns.now aggregate.now.fold (Some source.now))) }
-    ensures given { OnOk result (given.new ≡ given.old ++ option_to_list
-        (spec.aggregate_column columns.now (spec.aggregate_name aggregate.now).text aggregate.now.fold (Some source.now))) }
+    ensures given { OnOk result (given.new ≡ given.old ++ option_to_list (spec.aggregate_column columns.now
+        (spec.aggregate_name aggregate.now).text aggregate.now.fold (Some source.now))) }
     ensures faults { OnOk result (found.new.first
         ≡ first_with found.old.first (spec.folded_faults columns.now aggregate.now.fold (Some source.now))) }
 {

@@ -3,7 +3,7 @@ ghost use Rattle.std.specs.Prelude.{◌≡◌, IfOk, OnOk, map, Some, unwrap_or}
 ghost use Rattle.mql_ast.specs.Trees.{deed_tree, item_tree, op_tree, predicate_tree};
 ghost use Rattle.mql_types.specs.Faults.{first_with};
 ghost use Rattle.mql_types.specs.Filters.{condition_faults, predicate_faults};
-ghost use Rattle.mql_types.specs.Groupings.{place_found};
+ghost use Rattle.mql_types.specs.Groupings.{group_faults, place_found};
 ghost use Rattle.mql_types.specs.Items.{is_number_type, value_faults};
 ghost use Rattle.mql_types.specs.declared.faults.TypeWord.TheVariants as word;
 ghost use Rattle.mql_types.specs.Nodes as node;
@@ -21,8 +21,8 @@ use crate::levels::Level;
 use crate::nodes::{Node, NodeInfo};
 use crate::parts::{Part, TypingSetting, table};
 use crate::places::NamedColumns;
-use mon_value::{Column, TryCopy};
-use mql_ast::{Items, Name, Op, OpKind, Predicate};
+use mon_value::{Aligner, Column, TryCopy};
+use mql_ast::{Aggregate, Items, Name, Op, OpKind, Predicate};
 use std::alloc::{AllocError, Global};
 
 /// A part with operations more. Tells what is wrong in them.
@@ -59,25 +59,17 @@ fn op_part(
 {
     match &op.what {
         OpKind::Filter(predicate) => filter_part(setting.alloc, part, op.at, predicate, found),
-        OpKind::Align(by) => {
-            tell_align(part.points, op.at, *by, found);
-            let node = align_node(setting.alloc, Some(op.at), *by, part.node)?;
-            Ok(table(node))
-        }
-        OpKind::GroupBy(names, aggregates) => {
-            let input = aligned_tree(setting.alloc, setting.every, part)?;
-            let (names, aggregates) = (names.as_slice(), aggregates.as_slice());
-            let grouping = Grouping::new(setting, &input, names, aggregates, found)?;
-            Ok(table(group_node(setting.alloc, op.at, grouping, input)?))
-        }
-        OpKind::Value(items) => {
-            let input = aligned_tree(setting.alloc, setting.every, part)?;
-            Ok(table(value_node(setting.alloc, op.at, items, input, found)?))
-        }
-        OpKind::Top(most, column) => {
-            let input = aligned_tree(setting.alloc, setting.every, part)?;
-            Ok(table(top_node(setting.alloc, op.at, *most, column, input, found)?))
-        }
+        OpKind::Align(by) => align_part(setting.alloc, part, op.at, *by, found),
+        OpKind::GroupBy(names, aggregates) => group_part(
+            setting,
+            part,
+            op.at,
+            names.as_slice(),
+            aggregates.as_slice(),
+            found,
+        ),
+        OpKind::Value(items) => value_part(setting, part, op.at, items, found),
+        OpKind::Top(most, column) => top_part(setting, part, op.at, *most, column, found),
         OpKind::Every(_) | OpKind::Within(_) => Ok(part),
     }
 }
@@ -147,6 +139,22 @@ fn filtered_part(alloc: Global, part: Part, at: u32, by: Predicate) -> Result<Pa
     }
 }
 
+// A part that is aligned as the query says.
+fn align_part(
+    alloc: Global,
+    part: Part,
+    at: u32,
+    by: Aligner,
+    found: &mut Faults,
+) -> Result<Part, AllocError>
+    ensures part { IfOk result (λ made. part_view made
+        ≡ spec.table (spec.align_node (Some at) by (node_tree part.node))) }
+    ensures faults { OnOk result (found.new.first ≡ first_with found.old.first (spec.align_faults part.points at by)) }
+{
+    tell_align(part.points, at, by, found);
+    Ok(table(align_node(alloc, Some(at), by, part.node)?))
+}
+
 // What is told of a node at a place, with the columns of another.
 fn info_at(alloc: Global, at: u32, other: &NodeInfo, level: Level) -> Result<NodeInfo, AllocError>
     ensures info { IfOk result (λ made. made ≡ spec.info (Some at) other.now.columns level) }
@@ -156,6 +164,31 @@ fn info_at(alloc: Global, at: u32, other: &NodeInfo, level: Level) -> Result<Nod
         columns: other.columns.copy(alloc)?,
         level,
     })
+}
+
+// A part whose rows are grouped.
+fn group_part(
+    setting: TypingSetting<'_>,
+    part: Part,
+    at: u32,
+    names: &[Name],
+    aggregates: &[Aggregate],
+    found: &mut Faults,
+) -> Result<Part, AllocError>
+    ensures part { IfOk result (λ made. part_view made
+        ≡ spec.table (spec.group_node setting.entry.schemas.now at names.now aggregates.now
+        (spec.aligned_tree setting.entry.every (part_view part)))) }
+    ensures faults { OnOk result (found.new.first ≡ first_with found.old.first (group_faults
+        (columns_of (spec.aligned_tree setting.entry.every (part_view part))) names.now aggregates.now)) }
+{
+    let input = aligned_tree(setting.alloc, setting.every, part)?;
+    match Grouping::new(setting, &input, names, aggregates, found) {
+        Ok(grouping) => Ok(table(group_node(setting.alloc, at, grouping, input)?)),
+        Err(stop) => {
+            drop(input);
+            Err(stop)
+        }
+    }
 }
 
 // Groups are made where rows that agree in the listed columns meet.
@@ -169,6 +202,23 @@ fn group_node(alloc: Global, at: u32, grouping: Grouping, input: Node) -> Result
         with: grouping.aggregates,
         input: Box::new(alloc, input)?,
     })
+}
+
+// A part whose columns are computed.
+fn value_part(
+    setting: TypingSetting<'_>,
+    part: Part,
+    at: u32,
+    items: &Items,
+    found: &mut Faults,
+) -> Result<Part, AllocError>
+    ensures part { IfOk result (λ made. part_view made ≡ spec.table (spec.value_node at
+        (map item_tree items.now) (spec.aligned_tree setting.entry.every (part_view part)))) }
+    ensures faults { OnOk result (found.new.first ≡ first_with found.old.first (value_faults
+        (columns_of (spec.aligned_tree setting.entry.every (part_view part))) (map item_tree items.now))) }
+{
+    let input = aligned_tree(setting.alloc, setting.every, part)?;
+    Ok(table(value_node(setting.alloc, at, items, input, found)?))
 }
 
 fn value_node(
@@ -199,6 +249,24 @@ fn copied_items(alloc: Global, items: &Items) -> Result<Items, AllocError>
         copied.push(item.copy(alloc)?)?;
     }
     Ok(copied)
+}
+
+// A part of the rows that come first.
+fn top_part(
+    setting: TypingSetting<'_>,
+    part: Part,
+    at: u32,
+    most: u32,
+    column: &Name,
+    found: &mut Faults,
+) -> Result<Part, AllocError>
+    ensures part { IfOk result (λ made. part_view made ≡ spec.table (spec.top_node at most column.now
+        (spec.aligned_tree setting.entry.every (part_view part)))) }
+    ensures faults { OnOk result (found.new.first ≡ first_with found.old.first (condition_faults
+        (columns_of (spec.aligned_tree setting.entry.every (part_view part))) column.now is_number_type word.Int)) }
+{
+    let input = aligned_tree(setting.alloc, setting.every, part)?;
+    Ok(table(top_node(setting.alloc, at, most, column, input, found)?))
 }
 
 // The rows that come first are known at the root alone. Tells a column that isn't there or isn't of numbers, by which

@@ -210,8 +210,9 @@ fn branch_info(
 ) -> Result<NodeInfo, AllocError>
     ensures info { IfOk result (λ made. made
         ≡ spec.branch_info setting.entry.schemas.now how.how how.at (node_tree left.now) (node_tree right.now)) }
-    ensures faults { OnOk result (found.new.first ≡ first_with found.old.first (spec.branch_faults
-        setting.entry.schemas.now how.how how.at (columns_of (node_tree left.now)) (columns_of (node_tree right.now)))) }
+    ensures faults { OnOk result (found.new.first
+        ≡ first_with found.old.first (spec.branch_faults setting.entry.schemas.now how.how how.at
+        (columns_of (node_tree left.now)) (columns_of (node_tree right.now)))) }
 {
     match how.how {
         How::Join => join_info(setting, how.at, left, right, found),
@@ -300,8 +301,9 @@ fn told_columns(
 ) -> Result<Columns, AllocError>
     ensures columns { IfOk result (λ columns. columns
         ≡ fetch.fetch_columns (option_copied target.entry) (option_copied metric.entry)) }
-    ensures faults { OnOk result (found.new.first ≡ first_with found.old.first (fault_where (texts_repeat (column_names
-        (fetch.fetch_columns (option_copied target.entry) (option_copied metric.entry)))) at TypeKind.DuplicateColumn)) }
+    ensures faults { OnOk result (found.new.first ≡ first_with found.old.first (fault_where
+        (texts_repeat (column_names (fetch.fetch_columns (option_copied target.entry) (option_copied metric.entry))))
+        at TypeKind.DuplicateColumn)) }
 {
     let columns = fetch_columns(alloc, target, metric)?;
     match names_repeat(alloc, columns.as_slice()) {

@@ -6,4 +6,5 @@ pub mod LinkLemmas
 mod MeetingLemmas
 pub mod NamedBuckets
 pub mod PartLemmas
+pub mod PlanBuckets
 pub mod PredicateLemmas

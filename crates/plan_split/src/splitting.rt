@@ -1,5 +1,6 @@
 // The plan of a query.
 ghost use Rattle.std.specs.Prelude.{◌≡◌, ◌<◌, ◌+◌, ◌++◌, map, Ok, IfOk, OnOk};
+ghost use Rattle.std.specs.List.{AllByRecursion};
 ghost use Rattle.mon_hints.specs.Formulas.{all_named, formula_tree, formulas};
 ghost use Rattle.mon_hints.specs.Listings.{IsListing};
 ghost use Rattle.mon_schema.specs.SchemaLists.{SchemaLists};
@@ -21,12 +22,13 @@ use std::alloc::Global;
 /// The plan of a typed query: its tree as it is, the formula of each of its fetches, from the left, among so many
 /// buckets, and the buckets that the formulas name. After a refusal the query is gone.
 pub fn split(alloc: Global, typed: Typed, buckets: u32) -> Result<Plan, OutOfMemory>
-    requires { 0 < buckets }
+    requires some { 0 < buckets }
     ensures typed { IfOk result (λ plan. typed_tree plan.typed ≡ typed_tree typed) }
     ensures formulas { IfOk result (λ plan.
         map formula_tree plan.formulas ≡ spec.plan_formulas buckets (node_tree typed.tree)) }
     ensures buckets { IfOk result (λ plan.
         IsListing (all_named (formulas (map formula_tree plan.formulas))) plan.buckets) }
+    ensures below { IfOk result (λ plan. AllByRecursion (λ bucket. bucket < buckets) plan.buckets) }
     ensures promise { IfOk result (λ plan.
         (held : SchemaLists) (query : PipeTree) → typing held query ≡ Ok (typed_tree typed)
         → AllHoldWhereMet held buckets (fetches (node_tree typed.tree)) (map formula_tree plan.formulas)) }

@@ -29,7 +29,7 @@ use Rattle.query_core.specs.Program as spec
 use Rattle.query_core.specs.Program.{ask_of, let_some_in, with_zone}
 use Rattle.query_core.specs.Rounds.{Round, round_of, slots_on}
 use Rattle.query_core.specs.Sessions as session
-use Rattle.query_core.specs.Sessions.{View}
+use Rattle.mon_topo.specs.Views.{IsSound, View}
 use Rattle.query_core.specs.Settings.{QuerySetting}
 use Rattle.mon_meaning.specs.ReadableSlots.{slot_rows}
 use Rattle.query_core.specs.Visits as visit
@@ -93,7 +93,7 @@ module _ (store : Setting) (setting : QuerySetting) (moment : ℤ) where
       }
 
 module _ (store : Setting) (setting : QuerySetting) (moment : ℤ) (Tells : Histories → Course → Type 0)
-    (areas : setting.areas ≡ areas_of store.zones) (before after : View) (sound : session.IsSound store before)
+    (areas : setting.areas ≡ areas_of store.zones) (before after : View) (sound : IsSound store before)
     (grown : AreWithin before.seen after.seen) (avoided : List Leaf) where
   inside_then : (course : Course) (area : Area) → CourseIn store setting moment before.seen course area
       → CourseIn store setting moment after.seen course area

@@ -26,7 +26,8 @@ use Rattle.query_core.specs.declared.courses.Course.{Course}
 use Rattle.query_core.specs.Areas.{area_of, has_leaf}
 use Rattle.query_core.specs.Courses.{found_down, founds_of_zone, with_found}
 use Rattle.query_core.specs.Findings.{AreFoundThen, HasNoReplica, IsFoundThen}
-use Rattle.query_core.specs.Sessions.{IsFoundSo, IsResolvedSo, View}
+use Rattle.query_core.specs.Sessions.{IsFoundSo, IsResolvedSo}
+use Rattle.mon_topo.specs.Views.{View}
 use Rattle.query_core.specs.Traces.{found_leaves}
 use Rattle.mon_topo.specs.Serving.{is_avoided}
 

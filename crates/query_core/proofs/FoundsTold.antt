@@ -22,7 +22,7 @@ use Rattle.query_core.specs.Program as spec
 use Rattle.query_core.specs.Program.{ask_of, let_some_in, next_zone}
 use Rattle.query_core.specs.Rounds.{Round, next_range, round_of, with_slot}
 use Rattle.query_core.specs.Sessions as session
-use Rattle.query_core.specs.Sessions.{View}
+use Rattle.mon_topo.specs.Views.{View}
 use Rattle.query_core.specs.Settings.{QuerySetting}
 use Rattle.query_core.specs.Visits as visit
 use Rattle.query_core.specs.Visits.{Visits, next_leaf, with_look}

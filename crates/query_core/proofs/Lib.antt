@@ -11,13 +11,14 @@ mod MixedParts
 mod NamedLeaves
 mod NextPlaces
 mod OrderLemmas
-mod OrderSteps
 mod PartClaims
 mod PlaceFacts
 mod ReadLeaves
 mod ResolvedZones
 mod RightAnswers
 mod RoundLemmas
+pub mod SeenLemmas
+mod RoundOrders
 mod SeenSpans
 mod SegmentFacts
 mod SentRows
@@ -32,6 +33,7 @@ pub mod ToldAnswers
 mod TraceAnswers
 mod TraceClaims
 mod TraceEnds
+mod TraceGrowth
 mod TraceLooks
 mod TraceRows
 mod TraceSession
@@ -44,5 +46,6 @@ mod VisitedSlots
 mod WantedRows
 mod WholeTraces
 mod ZoneFacts
+mod ZoneOrders
 mod ZoneParts
 mod ZoneRows

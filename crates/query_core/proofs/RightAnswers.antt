@@ -37,12 +37,12 @@ use Rattle.query_core.specs.Program as spec
 use Rattle.query_core.specs.Rounds.{slots_on}
 use Rattle.query_core.specs.SentTold.{sent_told}
 use Rattle.query_core.specs.Sessions as session
-use Rattle.query_core.specs.Sessions.{IsSound, View}
+use Rattle.mon_topo.specs.Views.{IsSound, View}
 use Rattle.query_core.specs.Settings.{QuerySetting}
 use Rattle.query_core.specs.Traces.{IsFirstServing, is_wanted}
 use Rattle.mon_meaning.specs.ReadableSlots.{slot_rows}
 use Rattle.query_core.proofs.SentSums.{StageSent, sent_session}
-use Rattle.query_core.proofs.SessionEnds.{sound_then, stage_last}
+use Rattle.query_core.proofs.SessionEnds.{seen_since, sound_then, stage_last}
 use Rattle.query_core.proofs.PartClaims.{EndParts, StageParts}
 use Rattle.query_core.proofs.ReadLeaves.{cuts_of, flags_of}
 use Rattle.query_core.proofs.ResolvedZones.{zoned_first}
@@ -207,7 +207,8 @@ module _ (store : Setting) (setting : QuerySetting) (moment : ℤ) (asked : IsAs
       record {
         of = trace_of_histories store setting moment view.seen exit held Nobody answer.trace is
             (λ leaf within. answered_sends store setting asked moment from exit.seen held answer so in_zones leaf);
-        fresh = trace_fresh store setting moment view.seen exit held Nobody answer.trace is;
+        fresh = trace_fresh store setting moment view.seen exit held Nobody answer.trace is
+            (seen_since store setting moment events view (new_query setting) licensed);
         read = λ leaf within. read_rightly store setting moment view.seen exit held Nobody answer.trace is leaf within
             (λ none. none);
         down = is.founds.were_found;

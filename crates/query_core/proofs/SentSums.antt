@@ -29,7 +29,7 @@ use Rattle.query_core.specs.Program.{ask_of, let_some_in, next_zone}
 use Rattle.query_core.specs.Rounds.{Round, next_range, round_of, with_slot}
 use Rattle.query_core.specs.SentTold.{answer_sent, sent_told}
 use Rattle.query_core.specs.Sessions as session
-use Rattle.query_core.specs.Sessions.{View}
+use Rattle.mon_topo.specs.Views.{IsSound, View}
 use Rattle.query_core.specs.Settings.{QuerySetting}
 use Rattle.query_core.specs.Visits as visit
 use Rattle.query_core.specs.Visits.{Visits, next_leaf, with_look}
@@ -272,7 +272,7 @@ module _ (store : Setting) (setting : QuerySetting) (moment : ℤ) where
   module _ (Tells : Histories → Course → Type 0) (areas : setting.areas ≡ areas_of store.zones)
       (Also : View → Query → Type 0) (keeps : Keeps store setting moment Tells areas Also) where
     pub sent_session : (events : List (session.Event store setting moment)) (before : View) (query : Query) (n : ℕ)
-        → session.IsSound store before → Also before query
+        → IsSound store before → Also before query
         → StageParts store setting moment Tells before.seen query.stage → StageSent n query.stage
         → session.IsLicensed store setting moment before query events
         → StageSent (n + sent_told store setting moment events)

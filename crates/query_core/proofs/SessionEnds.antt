@@ -6,7 +6,7 @@ use Rattle.mon_topo.specs.Settings.{Setting}
 use Rattle.query_core.specs.Areas.{areas_of}
 use Rattle.query_core.specs.Machine.{Query, new_query}
 use Rattle.query_core.specs.Sessions as session
-use Rattle.query_core.specs.Sessions.{IsSound, View}
+use Rattle.mon_topo.specs.Views.{IsSound, View}
 use Rattle.query_core.specs.Settings.{QuerySetting}
 use Rattle.query_core.proofs.PartClaims.{StageParts}
 use Rattle.query_core.proofs.SessionParts.{Keeps, session_parts}

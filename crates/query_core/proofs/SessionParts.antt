@@ -22,7 +22,7 @@ use Rattle.mon_value.specs.declared.rows.Row.{Row}
 use Rattle.query_core.specs.Mixtures.{RootMixes, Settles, TurnSettles, ZoneMixes, root_stage, typed_of, zone_turn}
 use Rattle.query_core.specs.Program as spec
 use Rattle.query_core.specs.Sessions as session
-use Rattle.query_core.specs.Sessions.{View}
+use Rattle.mon_topo.specs.Views.{IsSound, View}
 use Rattle.query_core.specs.Settings.{QuerySetting}
 use Rattle.query_core.proofs.AnswerParts.{answer_parts}
 use Rattle.query_core.proofs.PartClaims.{CourseAt, CourseThrough, GatheredSo, StageParts, StepParts, TurnParts}
@@ -141,7 +141,7 @@ module _ (store : Setting) (setting : QuerySetting) (moment : ℤ) (Tells : Hist
         × StepTells event.view.seen (spec.after setting query.stage event.answer)
 
   pub session_parts : (Also : View → Query → Type 0) → Keeps Also → (events : List (session.Event store setting moment))
-      (before : View) (query : Query) → session.IsSound store before → Also before query
+      (before : View) (query : Query) → IsSound store before → Also before query
       → StageParts store setting moment Tells before.seen query.stage
       → session.IsLicensed store setting moment before query events
       → StageParts store setting moment Tells (session.view_after store setting moment before events).seen

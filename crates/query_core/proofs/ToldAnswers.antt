@@ -26,7 +26,7 @@ use Rattle.query_core.specs.Program.{ask_of}
 use Rattle.mon_meaning.specs.ReadableSlots.{CanBeRead}
 use Rattle.query_core.specs.Rounds.{Round}
 use Rattle.query_core.specs.Sessions as session
-use Rattle.query_core.specs.Sessions.{IsGrown, IsSound, View}
+use Rattle.mon_topo.specs.Views.{IsSound, IsViewWithin, View}
 use Rattle.query_core.specs.Settings.{QuerySetting}
 use Rattle.query_core.specs.Traces.{IsBetween}
 use Rattle.query_core.specs.Visits.{Visits}
@@ -62,7 +62,7 @@ module _ (store : Setting) (setting : QuerySetting) (moment : ℤ) (asked : IsAs
     (from : pos 0 ≤ℤ moment)
     (view : View) (events : List (session.Event store setting moment)) (sound : IsSound store view)
     (licensed : session.IsLicensed store setting moment view (new_query setting) events) (after : View)
-    (grown : IsGrown (session.view_after store setting moment view events) after) (sound_after : IsSound store after)
+    (grown : IsViewWithin (session.view_after store setting moment view events) after) (sound_after : IsSound store after)
   where
     abbrev now : View
     now = session.view_after store setting moment view events

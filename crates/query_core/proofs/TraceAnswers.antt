@@ -15,11 +15,13 @@ use Rattle.mon_value.specs.Histories.{leaf_history, range_history}
 use Rattle.mon_value.specs.declared.histories.Histories.{Histories}
 use Rattle.mon_topo.specs.HeldHistories.{AreHeld}
 use Rattle.mon_topo.specs.RangeHistories.{acknowledged_rows}
+use Rattle.mon_topo.specs.SeenHistories.{AreWithin}
 use Rattle.mon_topo.specs.Settings.{Setting}
 use Rattle.mon_value.specs.Positions.{range_numbered}
 use Rattle.mon_topo.specs.Zones.{first_leaf}
 use Rattle.mon_value.specs.LeafHistories.{IsDownAt, is_opened, leaf_rows, replica_rows}
 use Rattle.mon_value.specs.declared.histories.Entry.{Entry}
+use Rattle.mon_value.specs.declared.histories.RangeEntry.{RangeEntry}
 use Rattle.mon_value.specs.declared.positions.FoundDown.{FoundDown}
 use Rattle.mon_value.specs.declared.positions.Leaf.{Leaf}
 use Rattle.mon_value.specs.declared.positions.Range.{Range}
@@ -43,7 +45,7 @@ use Rattle.query_core.specs.Looks.{unread_look}
 use Rattle.query_core.specs.Mixtures.{typed_of}
 use Rattle.plan_split.specs.Meeting.{is_plan_met}
 use Rattle.query_core.specs.Rounds.{slots_on}
-use Rattle.query_core.specs.Sessions.{View}
+use Rattle.mon_topo.specs.Views.{View}
 use Rattle.query_core.specs.Settings.{QuerySetting}
 use Rattle.query_core.specs.Traces.{IsFirstServing, IsFresh, IsReadRightly, IsTraceOf, cut_of, is_wanted, looked_at}
 use Rattle.query_core.specs.Traces.{resolved_rows}
@@ -218,8 +220,8 @@ module _ (store : Setting) (setting : QuerySetting) (moment : ℤ) (at_entry : H
     sends = sends;
   }
 
-  pub trace_fresh : IsFresh at_entry now.seen trace
-  trace_fresh = record {
+  pub trace_fresh : AreWithin at_entry now.seen → IsFresh at_entry now.seen trace
+  trace_fresh since = record {
     cuts = λ leaf within.
         (let low : leaf.0 < all = omega (arith, within, leaves_are) in
         let is_looked = is.span.cuts leaf (omega arith) low in
@@ -231,11 +233,13 @@ module _ (store : Setting) (setting : QuerySetting) (moment : ℤ) (at_entry : H
         let rows = all_at (λ (one : Resolved). All (Contains (resolved_rows now.seen trace one))
         (acknowledged_rows (range_history at_entry one.range)))
         trace.resolved one.one (stand_by trace.resolved is.span.each is.span.stand).1 one.there in
-        subst (λ (r : Range). All (Contains (source_of now.seen trace)) (acknowledged_rows (range_history at_entry r)))
+        subst (λ (front : List RangeEntry). All (Contains (source_of now.seen trace)) (acknowledged_rows front))
+        (sym (since.ranges range))
+        (subst (λ (r : Range). All (Contains (source_of now.seen trace)) (acknowledged_rows (range_history at_entry r)))
         same
         (all_on (Contains (resolved_rows now.seen trace one.one)) (Contains (source_of now.seen trace))
         (λ row here. in_flat_map (resolved_rows now.seen trace) trace.resolved one.one row one.there here)
-        (acknowledged_rows (range_history at_entry one.one.range)) rows));
+        (acknowledged_rows (range_history at_entry one.one.range)) rows)));
   }
 
   -- a leaf of which something is told was read, or not, rightly

@@ -25,7 +25,8 @@ use Rattle.query_core.specs.Findings.{HasNoReplica}
 use Rattle.query_core.specs.Mixtures.{typed_of}
 use Rattle.plan_split.specs.Meeting.{flag_at, is_plan_met}
 use Rattle.query_core.specs.Rounds.{Round}
-use Rattle.query_core.specs.Sessions.{IsGrown, IsSeenSo, IsSound, View}
+use Rattle.query_core.specs.Sessions.{IsSeenSo}
+use Rattle.mon_topo.specs.Views.{IsSound, IsViewWithin, View}
 use Rattle.query_core.specs.Settings.{QuerySetting}
 use Rattle.query_core.specs.Traces.{is_wanted}
 use Rattle.query_core.specs.Visits.{Visits}
@@ -230,7 +231,7 @@ module _ (store : Setting) (setting : QuerySetting) (at_entry : Histories) where
 
   -- ---- as more is seen and known
 
-  module _ (before after : View) (grown : IsGrown before after) where
+  module _ (before after : View) (grown : IsViewWithin before after) where
     kept_through : (a b c : ℕ → ℕ → Bool) → StaysSet a b → StaysSet b c → StaysSet a c
     kept_through a b c h k place bucket set = k place bucket (h place bucket set)
 

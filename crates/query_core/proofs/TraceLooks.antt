@@ -30,7 +30,7 @@ use Rattle.query_core.proofs.TraceWords.{rest_seen}
 use Rattle.query_core.specs.Courses.{all_looks, trace_of}
 use Rattle.query_core.specs.Looks.{unread_look}
 use Rattle.query_core.specs.Rounds.{slots_on}
-use Rattle.query_core.specs.Sessions.{IsGrown, View}
+use Rattle.mon_topo.specs.Views.{IsViewWithin, View}
 use Rattle.query_core.specs.Settings.{QuerySetting}
 use Rattle.query_core.specs.Traces.{IsBetween}
 use Rattle.query_core.specs.Visits.{Visits, with_look}
@@ -41,7 +41,7 @@ use Rattle.query_core.specs.declared.looks.Look.{Look}
 -- ---- a look at a leaf
 
 module _ (store : Setting) (setting : QuerySetting) (at_entry : Histories) (before after : View)
-    (grown : IsGrown before after)
+    (grown : IsViewWithin before after)
     (since : AreWithin at_entry before.seen) (avoided : List Leaf) (Skip : Leaf → Type 0) (low high first last : ℕ)
     (resolved : List Resolved) (looks : List Look) (leaf : Leaf) (left : List Leaf) (look : Look)
     (was : claim.Span store setting at_entry before.seen avoided (Contains (leaf ∷ left)) low high first last resolved

@@ -53,7 +53,8 @@ use Rattle.query_core.specs.Program as spec
 use Rattle.query_core.specs.Program.{ask_of, begin_visits, let_some_in, next_zone, resolving, visiting, with_zone}
 use Rattle.query_core.specs.Rounds.{Round, slots_on}
 use Rattle.query_core.specs.Sessions as session
-use Rattle.query_core.specs.Sessions.{IsFoundSo, IsGrown, IsSound, IsZoneWord, View}
+use Rattle.query_core.specs.Sessions.{IsFoundSo, IsZoneWord}
+use Rattle.mon_topo.specs.Views.{IsSound, IsViewWithin, View}
 use Rattle.query_core.specs.Settings.{QuerySetting}
 use Rattle.query_core.specs.Traces.{IsBetween}
 use Rattle.query_core.specs.Visits as visit
@@ -170,7 +171,7 @@ module _ (store : Setting) (setting : QuerySetting) (moment : ℤ) (at_entry : H
 
   -- ---- words
 
-  module _ (before after : View) (grown : IsGrown before after) (since : AreWithin at_entry before.seen)
+  module _ (before after : View) (grown : IsViewWithin before after) (since : AreWithin at_entry before.seen)
       (sound_before : IsSound store before) (sound : IsSound store after) (avoided : List Leaf) where
     root_by : (loading : Loading) (whole : Bool) → is_whole setting.plan loading ≡ whole → avoided ≡ []
         → claim.LoadedSo store setting at_entry after claim.root_known (length zs) Anyhow loading.words loading.seen

@@ -29,7 +29,7 @@ use Rattle.query_core.specs.Loadings.{no_word}
 use Rattle.plan_split.specs.Meeting.{flag_at}
 use Rattle.query_core.specs.Program.{next_zone, resolving, resolving_at, visiting, visiting_at, with_zone}
 use Rattle.query_core.specs.Rounds.{Round, round_of}
-use Rattle.query_core.specs.Sessions.{View}
+use Rattle.mon_topo.specs.Views.{View}
 use Rattle.query_core.specs.Settings.{QuerySetting}
 use Rattle.query_core.specs.Visits.{Visits, but_first, first_left, gone_on}
 use Rattle.query_core.specs.declared.areas.Area.{Area}

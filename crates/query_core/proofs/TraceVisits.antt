@@ -49,7 +49,8 @@ use Rattle.plan_split.specs.Meeting.{flag_at, let_in}
 use Rattle.query_core.specs.Program.{resolving}
 use Rattle.query_core.specs.Rounds.{Round, is_none, is_to_visit, leaves_to_visit, resolution, round_of, slots_by_leaf}
 use Rattle.query_core.specs.Rounds.{slots_on, with_slot}
-use Rattle.query_core.specs.Sessions.{IsFoundSo, IsGrown, IsResolvedSo, IsSound, View}
+use Rattle.query_core.specs.Sessions.{IsFoundSo, IsResolvedSo}
+use Rattle.mon_topo.specs.Views.{IsSound, IsViewWithin, View}
 use Rattle.query_core.specs.Settings.{QuerySetting}
 use Rattle.query_core.specs.Traces.{IsFirstServing}
 use Rattle.mon_meaning.specs.ReadableSlots.{slot_rows}
@@ -149,7 +150,7 @@ module _ (store : Setting) (setting : QuerySetting) (at_entry : Histories)
 
   -- ---- a range resolves, or a leaf is found down
 
-  module _ (before after : View) (grown : IsGrown before after) (since : AreWithin at_entry before.seen)
+  module _ (before after : View) (grown : IsViewWithin before after) (since : AreWithin at_entry before.seen)
       (sound : IsSound store after) (avoided : List Leaf) where
     entry_within : AreWithin at_entry after.seen
     entry_within = seen_within_through at_entry before.seen after.seen since grown.seen

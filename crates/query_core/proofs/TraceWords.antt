@@ -38,8 +38,9 @@ use Rattle.query_core.specs.Areas.{area_of}
 use Rattle.query_core.specs.Courses.{cuts_seen, firsts_seen}
 use Rattle.query_core.specs.Loadings.{seen_first}
 use Rattle.query_core.specs.Looks.{unread_look}
+use Rattle.query_core.specs.Sessions.{IsSeenSo}
+use Rattle.mon_topo.specs.Views.{IsSound, IsViewWithin, View}
 use Rattle.plan_split.specs.Meeting.{flag_at, let_in, lets_child_in}
-use Rattle.query_core.specs.Sessions.{IsGrown, IsSeenSo, IsSound, View}
 use Rattle.query_core.specs.Settings.{QuerySetting}
 use Rattle.query_core.specs.declared.answers.Resolved.{Resolved}
 use Rattle.query_core.specs.declared.asks.Seen.{Seen}
@@ -73,7 +74,7 @@ module _ (store : Setting) (setting : QuerySetting) (at_entry : Histories) where
   loading_from now known_of count Also [] seen is = record {}
   loading_from now known_of count Also (word ∷ words) seen is = is
 
-  module _ (before after : View) (grown : IsGrown before after) (since : AreWithin at_entry before.seen)
+  module _ (before after : View) (grown : IsViewWithin before after) (since : AreWithin at_entry before.seen)
       (sound : IsSound store before) (known_of : KnownOf)
       (stays : (some others : Bits) → AreBitsWithin some others → (child bucket : ℕ) → known_of some child bucket ≡ true
       → known_of others child bucket ≡ true)
@@ -136,7 +137,7 @@ module _ (store : Setting) (setting : QuerySetting)
           parts_so_far (λ (zone : ZoneSpec). zone.leaves) store.zones z no_zone there,
           sound.held.all_leaves,
         ) in
-        let is = sound.covered leaf within bucket here in
+        let is = sound.covered leaf bucket here in
         (subst (λ (n : ℕ). then.bits.root n bucket ≡ true) zone_is is.at_root, is.in_zone)
 
     pub root_shut : (words : List ℕ) → AreKnown (root_known then.bits) (length store.zones) setting.plan.buckets words

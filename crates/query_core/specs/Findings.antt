@@ -12,14 +12,17 @@ use Rattle.mon_value.specs.declared.positions.FoundDown.{FoundDown}
 use Rattle.mon_value.specs.declared.positions.Range.{Range}
 use Rattle.query_core.specs.Areas.{area_of}
 use Rattle.query_core.specs.Courses.{founds_of_zone}
-use Rattle.query_core.specs.Traces.{IsBetween, found_leaves}
+use Rattle.query_core.specs.Traces.{IsBetween, Lengths, found_leaves, lengths_of}
 use Rattle.mon_topo.specs.Serving.{is_avoided}
 
--- a leaf was found down between two moments, at a length of its history that was found then
-pub record IsFoundThen (at_entry at_exit : Histories) (found : FoundDown) : Type 0 where
-  pub between : IsBetween (length (leaf_history at_entry found.leaf)) (length (leaf_history at_exit found.leaf))
-      found.cut
-  pub down : IsDownAt (leaf_history at_exit found.leaf) found.cut
+-- a leaf was found down between two moments, at a length of its history that it had between them
+pub record IsFoundBetween (from to : Lengths) (seen : Histories) (found : FoundDown) : Type 0 where
+  pub between : IsBetween (from.leaves found.leaf) (to.leaves found.leaf) found.cut
+  pub down : IsDownAt (leaf_history seen found.leaf) found.cut
+
+-- so between entry and exit
+abbrev pub IsFoundThen : Histories → Histories → FoundDown → Type 0
+IsFoundThen at_entry at_exit = IsFoundBetween (lengths_of at_entry) (lengths_of at_exit) at_exit
 
 abbrev pub AreFoundThen : Histories → Histories → List FoundDown → Type 0
 AreFoundThen at_entry at_exit = AllByRecursion (IsFoundThen at_entry at_exit)

@@ -3,6 +3,7 @@ pub mod Areas
 pub mod AskedPlaces
 pub mod Askings
 pub mod Courses
+pub mod FaultTexts
 pub mod Findings
 pub mod Loadings
 pub mod Looks
@@ -11,6 +12,7 @@ pub mod Mixtures
 pub mod Orders
 pub mod Program
 pub mod Rounds
+pub mod SeenSights
 pub mod SentTold
 pub mod Sessions
 pub mod Settings

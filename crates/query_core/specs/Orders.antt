@@ -18,8 +18,7 @@ use Rattle.query_core.specs.declared.asks.Told.TheVariants as told
 
 -- ---- events in order
 
--- a zone that is entered, and of each round the leaves that are visited in it; there is none where the zone's words let
--- no leaf in, and one more after each leaf that is found down
+-- a zone that is entered, and of each of its rounds, however many there are, the leaves that are visited in it
 pub record ZoneCourse : Type 0 where
   pub area : Area
   pub rounds : List (List Leaf)
@@ -51,7 +50,8 @@ chosen_areas flags number (area ∷ areas) =
     if flag_at flags number then area ∷ chosen_areas flags (number + 1) areas
     else chosen_areas flags (number + 1) areas
 
--- the leaves that are visited in a round are the first of some leaves of the zone, in the zone's order
+-- the leaves that are visited in a round are the first of some leaves of the zone, whichever these are, in the zone's
+-- order
 pub record IsRoundInOrder (area : Area) (leaves : List Leaf) : Type 0 where
   pub is_chosen : ℕ → Bool
   pub left : List Leaf

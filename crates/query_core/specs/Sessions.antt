@@ -2,16 +2,13 @@
 use Rattle.std.specs.Prelude.{◌≡◌, ◌<◌, ◌-◌, ℕ, ℤ, Bool, true, false, List, [], ◌∷◌, length, map, take, slice_get}
 use Rattle.std.specs.Prelude.{Option, Some, None}
 use Rattle.std.specs.List.{AllByRecursion, range_with_len}
-use Rattle.mon_hints.specs.Covers.{AreBitsWithin, Bits, Covers}
 use Rattle.mon_hints.specs.HistoryBuckets.{history_buckets}
 use Rattle.mon_hints.specs.Words.{has_bit}
 use Rattle.mon_meaning.specs.LeafAnswers.{IsLeafPart, IsOverLeaf}
 use Rattle.mon_value.specs.Histories.{leaf_history, range_history}
 use Rattle.mon_value.specs.declared.histories.Histories.{Histories}
-use Rattle.mon_topo.specs.HeldHistories.{AreHeld}
-use Rattle.mon_topo.specs.SeenHistories.{AreWithin}
-use Rattle.mon_topo.specs.Settings.{zone_of_leaf}
 use Rattle.mon_topo.specs.Settings.{Setting}
+use Rattle.mon_topo.specs.Views.{IsSound, IsViewWithin, View}
 use Rattle.mon_value.specs.Positions.{range_numbered}
 use Rattle.mon_topo.specs.Zones.{first_leaf, leaf_zones}
 use Rattle.mon_topo.specs.declared.zones.ZoneSpec.{ZoneSpec}
@@ -37,22 +34,6 @@ use Rattle.query_core.specs.Settings.{QuerySetting}
 use Rattle.query_core.specs.Traces.{IsBetween, replica_of}
 use Rattle.mon_meaning.specs.ReadableSlots.{slot_rows}
 use Rattle.mon_topo.specs.Serving.{first_serving}
-
--- what someone has seen, and the bits that they know
-pub record View : Type 0 where
-  pub seen : Histories
-  pub bits : Bits
-
--- what was seen is held, and the known bits lead to all of it
-pub record IsSound (store : Setting) (view : View) : Type 0 where
-  pub held : AreHeld store.held store.zones store.points view.seen
-  pub covered : (leaf : Leaf) → leaf.0 < length view.seen.leaves
-      → Covers view.bits (zone_of_leaf store leaf) leaf (history_buckets store.buckets_of (leaf_history view.seen leaf))
-
--- more is seen and known, and nothing less
-pub record IsGrown (before after : View) : Type 0 where
-  pub seen : AreWithin before.seen after.seen
-  pub bits : AreBitsWithin before.bits after.bits
 
 -- ---- answers that are true
 
@@ -137,7 +118,7 @@ module _ (store : Setting) (setting : QuerySetting) (moment : ℤ) where
 
   -- one answer: true, of what is seen by more and more, and stays sound; and the query goes on by it
   pub record IsLicensedEvent (before : View) (query : Query) (event : Event) : Type 0 where
-    pub grown : IsGrown before event.view
+    pub grown : IsViewWithin before event.view
     pub sound : IsSound store event.view
     pub true_then : IsTrueAnswer before event.view query.avoided (slots_at query) (ask_of setting query.stage)
         event.answer

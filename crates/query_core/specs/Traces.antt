@@ -6,8 +6,9 @@ use Rattle.mon_hints.specs.HistoryBuckets.{history_buckets}
 use Rattle.mon_value.specs.Histories.{leaf_history, range_history}
 use Rattle.mon_value.specs.declared.histories.Histories.{Histories}
 use Rattle.mon_topo.specs.RangeHistories.{acknowledged_rows}
-use Rattle.mon_topo.specs.Serving.{first_serving}
+use Rattle.mon_topo.specs.SeenHistories.{AreWithin}
 use Rattle.mon_value.specs.Positions.{range_numbered}
+use Rattle.mon_topo.specs.Serving.{first_serving}
 use Rattle.mon_value.specs.LeafHistories.{IsDownAt, is_opened, replica_rows}
 use Rattle.mon_value.specs.declared.histories.Entry.{Entry}
 use Rattle.mon_value.specs.declared.positions.FoundDown.{FoundDown}
@@ -37,12 +38,48 @@ pub record IsBetween (before after length : ℕ) : Type 0 where
   pub from : before ≤ length
   pub to : length ≤ after
 
--- at a length of the range's history that was found on the way, the slot was the first that serves and is not on one of
--- these leaves
-pub record IsFirstServing (at_entry at_exit : Histories) (avoided : List Leaf) (one : Resolved) : Type 0 where
+-- how long the histories of leaves and ranges were at a moment
+pub record Lengths : Type 0 where
+  pub leaves : Leaf → ℕ
+  pub ranges : Range → ℕ
+
+-- of all that was seen then
+abbrev pub lengths_of : Histories → Lengths
+lengths_of seen = record {
+  leaves = λ leaf. length (leaf_history seen leaf);
+  ranges = λ range. length (range_history seen range);
+}
+
+-- a moment was no later than another
+pub record IsSoonerThan (sooner than : Lengths) : Type 0 where
+  pub leaves : (leaf : Leaf) → sooner.leaves leaf ≤ than.leaves leaf
+  pub ranges : (range : Range) → sooner.ranges range ≤ than.ranges range
+
+-- all that there was at a moment was seen
+abbrev pub WasSeen : Lengths → Histories → Type 0
+WasSeen moment seen = IsSoonerThan moment (lengths_of seen)
+
+-- two moments lie within two others, and histories have grown since they were seen
+pub record AreWider (from to first last : Lengths) (seen more : Histories) : Type 0 where
+  pub sooner : IsSoonerThan first from
+  pub later : IsSoonerThan to last
+  pub begun : WasSeen from seen
+  pub within : WasSeen to seen
+  pub grown : AreWithin seen more
+  pub leaves : length more.leaves ≡ length seen.leaves
+  pub ranges : length more.ranges ≡ length seen.ranges
+
+-- at a length of the range's history that it had between two moments, the slot was the first that serves and is not on
+-- one of these leaves
+pub record IsFirstServingBetween (from to : Lengths) (seen : Histories) (avoided : List Leaf) (one : Resolved)
+    : Type 0 where
   pub found : ℕ
-  pub between : IsBetween (length (range_history at_entry one.range)) (length (range_history at_exit one.range)) found
-  pub first : first_serving avoided (take found (range_history at_exit one.range)) ≡ Some (replica_of one)
+  pub between : IsBetween (from.ranges one.range) (to.ranges one.range) found
+  pub first : first_serving avoided (take found (range_history seen one.range)) ≡ Some (replica_of one)
+
+-- so between entry and exit
+abbrev pub IsFirstServing : Histories → Histories → List Leaf → Resolved → Type 0
+IsFirstServing at_entry at_exit = IsFirstServingBetween (lengths_of at_entry) (lengths_of at_exit) at_exit
 
 -- ---- what a trace stands for
 
@@ -80,28 +117,42 @@ found_leaves founds = map (λ (found : FoundDown). found.leaf) founds
 abbrev pub sent_if : Bool → ℕ → ℕ
 sent_if read most = if read then most else 0
 
--- a trace is of the histories that were seen from entry to exit
-pub record IsTraceOf (typed : TypedTree) (moment : ℤ) (at_entry at_exit : Histories) (trace : Trace) : Type 0 where
-  pub ranges : map (λ (one : Resolved). one.range) trace.resolved
-      ≡ map range_numbered (range_with_len 0 (length at_exit.ranges))
-  pub cuts : length trace.cuts ≡ length at_exit.leaves
-  pub flags : length trace.read ≡ length at_exit.leaves
-  pub counts : length trace.sent ≡ length at_exit.leaves
-  pub resolved : AllByRecursion (IsFirstServing at_entry at_exit (found_leaves trace.down)) trace.resolved
-  pub within : (leaf : Leaf) → leaf.0 < length at_exit.leaves → cut_of trace leaf ≤ length (leaf_history at_exit leaf)
-  pub opened : AllByRecursion
-      (λ (one : Resolved). is_opened one.range one.slot (looked_at at_exit trace one.leaf) ≡ true) trace.resolved
-  pub down : AllByRecursion (λ (found : FoundDown). IsDownAt (leaf_history at_exit found.leaf) found.cut) trace.down
-  pub sends : (leaf : Leaf) → leaf.0 < length at_exit.leaves
-      → sent_by trace leaf ≡ sent_if (was_read trace leaf) (sent_amount typed (rows_on at_exit trace leaf) moment)
+-- each of so many ranges is resolved once, in order
+abbrev pub IsOfRanges : Trace → ℕ → Type 0
+IsOfRanges trace count =
+    map (λ (one : Resolved). one.range) trace.resolved ≡ map range_numbered (range_with_len 0 count)
 
--- no leaf is looked at before what was seen of it at entry, and each row that had been acknowledged by then is among
--- those that the query stands on
-pub record IsFresh (at_entry at_exit : Histories) (trace : Trace) : Type 0 where
-  pub cuts : (leaf : Leaf) → leaf.0 < length at_exit.leaves
-      → length (leaf_history at_entry leaf) ≤ cut_of trace leaf
-  pub rows : (range : Range) → range.0 < length at_exit.ranges
-      → AllByRecursion (Contains (source_of at_exit trace)) (acknowledged_rows (range_history at_entry range))
+-- a trace is of the histories between two moments
+pub record IsTraceBetween (typed : TypedTree) (moment : ℤ) (from to : Lengths) (seen : Histories) (trace : Trace)
+    : Type 0 where
+  pub ranges : IsOfRanges trace (length seen.ranges)
+  pub cuts : length trace.cuts ≡ length seen.leaves
+  pub flags : length trace.read ≡ length seen.leaves
+  pub counts : length trace.sent ≡ length seen.leaves
+  pub resolved : AllByRecursion (IsFirstServingBetween from to seen (found_leaves trace.down)) trace.resolved
+  pub within : (leaf : Leaf) → leaf.0 < length seen.leaves → cut_of trace leaf ≤ to.leaves leaf
+  pub opened : AllByRecursion
+      (λ (one : Resolved). is_opened one.range one.slot (looked_at seen trace one.leaf) ≡ true) trace.resolved
+  pub down : AllByRecursion (λ (found : FoundDown). IsDownAt (leaf_history seen found.leaf) found.cut) trace.down
+  pub sends : (leaf : Leaf) → leaf.0 < length seen.leaves
+      → sent_by trace leaf ≡ sent_if (was_read trace leaf) (sent_amount typed (rows_on seen trace leaf) moment)
+
+-- of those that were seen from entry to exit
+abbrev pub IsTraceOf : TypedTree → ℤ → Histories → Histories → Trace → Type 0
+IsTraceOf typed moment at_entry at_exit =
+    IsTraceBetween typed moment (lengths_of at_entry) (lengths_of at_exit) at_exit
+
+-- no leaf is looked at before a moment, and each row that had been acknowledged by then is among those that the query
+-- stands on
+pub record IsFreshSince (from : Lengths) (seen : Histories) (trace : Trace) : Type 0 where
+  pub cuts : (leaf : Leaf) → leaf.0 < length seen.leaves → from.leaves leaf ≤ cut_of trace leaf
+  pub rows : (range : Range) → range.0 < length seen.ranges
+      → AllByRecursion (Contains (source_of seen trace))
+      (acknowledged_rows (take (from.ranges range) (range_history seen range)))
+
+-- so since entry
+abbrev pub IsFresh : Histories → Histories → Trace → Type 0
+IsFresh at_entry at_exit = IsFreshSince (lengths_of at_entry) at_exit
 
 -- whether a row's series meets a fetch of a query
 abbrev pub is_wanted : TypedTree → Row → Bool

@@ -4,24 +4,30 @@ ghost use Rattle.std.specs.List.{sum};
 ghost use Rattle.std.specs.List.Sorted.{IsStrictlyIncreasing};
 ghost use Rattle.mon_value.specs.Histories.{leaf_history};
 ghost use Rattle.mon_topo.specs.Settings.{Setting};
+ghost use Rattle.mon_value.specs.declared.histories.Histories.{Histories};
 ghost use Rattle.mon_value.specs.declared.positions.FoundDown.{FoundDown as Found};
 ghost use Rattle.mon_value.specs.declared.positions.Leaf.{Leaf as LeafOf};
 ghost use Rattle.mon_value.specs.declared.positions.Range.{Range as RangeOf};
+ghost use Rattle.mon_value.specs.declared.rows.SeriesKey.{SeriesKey as KeyOf};
+ghost use Rattle.mql_types.specs.Nodes.{TypedTree as Typed};
+ghost use Rattle.mql_types.specs.declared.plans.Plan.{Plan as PlanOf};
 ghost use Rattle.query_core.specs.Answers.{IsAnsweredRightly, IsStoppedRightly};
 ghost use Rattle.query_core.specs.AskedPlaces.{IsThere};
 ghost use Rattle.query_core.specs.Askings.{IsAskedOf};
-ghost use Rattle.query_core.specs.Findings.{HasNoReplica};
+ghost use Rattle.query_core.specs.Findings.{HasNoReplica, IsFoundBetween};
 ghost use Rattle.query_core.specs.Machine.{Query, new_query, slots_at};
 ghost use Rattle.query_core.specs.Mixtures.{MayBeTold, typed_of};
 ghost use Rattle.query_core.specs.Orders.{ComeInOrder, ComeWholeInOrder, events_told, words_loaded};
 ghost use Rattle.query_core.specs.Program.{ask_of};
 ghost use Rattle.mon_meaning.specs.ReadableSlots.{CanBeRead};
 ghost use Rattle.query_core.specs.SentTold.{sent_told};
-ghost use Rattle.query_core.specs.Sessions.{Event, IsGrown, IsLicensed, IsSound, IsTrueAnswer, View, query_after};
+ghost use Rattle.query_core.specs.Sessions.{Event, IsLicensed, IsTrueAnswer, query_after};
+ghost use Rattle.mon_topo.specs.Views.{IsSound, IsViewWithin, View};
 ghost use Rattle.query_core.specs.Sessions.{view_after};
 ghost use Rattle.query_core.specs.Settings.{QuerySetting};
 ghost use Rattle.query_core.specs.ToldDowns.{EndNames, downs_told};
-ghost use Rattle.query_core.specs.Traces.{IsBetween};
+ghost use Rattle.query_core.specs.Traces.{AreWider, IsBetween, IsFreshSince, IsReadRightly, IsTraceBetween, Lengths};
+ghost use Rattle.query_core.specs.Traces.{source_of};
 ghost use Rattle.query_core.specs.declared.answers.RoundFault.{RoundFault as FaultOf};
 ghost use Rattle.query_core.specs.declared.answers.Answer.{Answer as AnswerOf};
 ghost use Rattle.query_core.specs.declared.answers.RoundFault.TheVariants.{NoReplica, StepLimit};
@@ -99,6 +105,27 @@ pub fn sessions_keep_the_order()
         (events_told store setting moment (new_query setting) events) }
 {}
 
+/// What is said of a trace between two moments stays as histories grow, and between an earlier moment and a later
+/// one; so do its rows, and what was found down.
+pub fn traces_stay()
+    ensures of { (typed : Typed) (moment : ℤ) (from to earlier later : Lengths) (seen more : Histories)
+        (trace : TraceOf) → AreWider from to earlier later seen more → IsTraceBetween typed moment from to seen trace
+        → IsTraceBetween typed moment earlier later more trace }
+    ensures rows { (typed : Typed) (moment : ℤ) (from to earlier later : Lengths) (seen more : Histories)
+        (trace : TraceOf) → AreWider from to earlier later seen more → IsTraceBetween typed moment from to seen trace
+        → source_of more trace ≡ source_of seen trace }
+    ensures fresh { (typed : Typed) (moment : ℤ) (from to earlier later : Lengths) (seen more : Histories)
+        (trace : TraceOf) → AreWider from to earlier later seen more → IsTraceBetween typed moment from to seen trace
+        → IsFreshSince from seen trace → IsFreshSince earlier more trace }
+    ensures read { (typed : Typed) (moment : ℤ) (from to earlier later : Lengths) (seen more : Histories)
+        (trace : TraceOf) (plan : PlanOf) (buckets_of : KeyOf → List ℕ) (leaf : LeafOf)
+        → AreWider from to earlier later seen more → IsTraceBetween typed moment from to seen trace
+        → IsReadRightly typed plan buckets_of seen trace leaf → IsReadRightly typed plan buckets_of more trace leaf }
+    ensures found { (from to earlier later : Lengths) (seen more : Histories) (found : Found)
+        → AreWider from to earlier later seen more → IsFoundBetween from to seen found
+        → IsFoundBetween earlier later more found }
+{}
+
 /// What a licensed session of a query that is asked of a store asks next may be told truly, by what is seen and known
 /// then: the answers that this leads to mix are over divided rows. And where it visits a leaf, the slots that
 /// resolved to it can be read together, at each length of the leaf's history that is found then. The zones, ranges
@@ -108,7 +135,7 @@ pub fn sessions_may_go_on()
         (events : List (Event store setting moment)) (later : View) (answer : ToldOf)
         → IsAskedOf store setting → pos 0 ≤ℤ moment → IsSound store view
         → IsLicensed store setting moment view (new_query setting) events
-        → IsGrown (view_after store setting moment view events) later → IsSound store later
+        → IsViewWithin (view_after store setting moment view events) later → IsSound store later
         → let query : Query = query_after store setting moment (new_query setting) events in
         IsTrueAnswer store setting moment (view_after store setting moment view events) later query.avoided
         (slots_at query) (ask_of setting query.stage) answer
@@ -117,7 +144,7 @@ pub fn sessions_may_go_on()
         (events : List (Event store setting moment)) (later : View) (leaf : LeafOf) (cut : ℕ)
         → IsAskedOf store setting → pos 0 ≤ℤ moment → IsSound store view
         → IsLicensed store setting moment view (new_query setting) events
-        → IsGrown (view_after store setting moment view events) later → IsSound store later
+        → IsViewWithin (view_after store setting moment view events) later → IsSound store later
         → IsBetween (length (leaf_history (view_after store setting moment view events).seen leaf))
         (length (leaf_history later.seen leaf)) cut
         → let query : Query = query_after store setting moment (new_query setting) events in

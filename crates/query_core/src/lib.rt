@@ -5,6 +5,7 @@ mod answers;
 mod areas;
 mod asks;
 mod courses;
+mod fault_texts;
 mod flags;
 mod laws;
 mod loadings;
@@ -14,13 +15,15 @@ mod mixing;
 mod rounds;
 mod segments;
 mod settings;
+mod sights;
 mod stages;
 mod visits;
 
 pub use answers::{Answer, Cuts, Flags, Resolved, Resolveds, RoundFault, Trace};
 pub use asks::{Ask, Seen, Told};
+pub use fault_texts::fault_text;
 pub use laws::{
     ends_name_what_was_told, sessions_answer_rightly, sessions_keep_the_order, sessions_may_go_on,
-    traces_count_what_was_sent,
+    traces_count_what_was_sent, traces_stay,
 };
 pub use machine::QueryMachine;

@@ -8,8 +8,8 @@ use mathlib.Core.Option.{some}
 use lib.ListN.{get_elem?}
 use Rattle.std.proofs.lemmas.List.{length-set}
 use Rattle.std.proofs.lemmas.List.Elements.{Contains-append_left, Contains-push, Contains-push_cases}
-use Rattle.raise_table.specs.declared.places.Place.{Place}
-use Rattle.raise_table.specs.declared.places.Place.TheVariants as at
+use Rattle.mon_hints.specs.declared.places.Place.{Place}
+use Rattle.mon_hints.specs.declared.places.Place.TheVariants as at
 use Rattle.raise_table.specs.declared.places.ZoneLeaf.{ZoneLeaf}
 use Rattle.raise_table.specs.declared.views.Hints.{Hints}
 use Rattle.raise_table.specs.declared.views.Note.{Note}

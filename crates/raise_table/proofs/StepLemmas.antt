@@ -9,7 +9,7 @@ use Rattle.std.proofs.lemmas.List.Elements.{Contains-append_cases}
 use Rattle.std.proofs.lemmas.List.Sums.{sum_by-take-drop}
 use Rattle.atomic_table.specs.Table.{Allows, Joins, Splits, State, keeps, step}
 use Rattle.atomic_table.proofs.Lists.{set_again, set_else}
-use Rattle.raise_table.specs.declared.places.Place.{Place}
+use Rattle.mon_hints.specs.declared.places.Place.{Place}
 use Rattle.raise_table.specs.declared.places.ZoneLeaf.{ZoneLeaf}
 use Rattle.raise_table.specs.declared.views.Hints.{Hints}
 use Rattle.raise_table.specs.declared.views.SeatView.{SeatView}

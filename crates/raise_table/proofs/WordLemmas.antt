@@ -11,12 +11,13 @@ use Rattle.std.proofs.lemmas.Nat.Bits.{bit_at_or, bit_at-lt, bit_at-pow_same, bi
 use Rattle.std.proofs.Math.Pow.{pow-lt}
 use mathlib.Core.Logic.{dite}
 use native.Mathlib.Decide.{ℕ_discrete}
-use Rattle.raise_table.specs.declared.places.Place.{Place}
-use Rattle.raise_table.specs.declared.places.Place.TheVariants as at
+use Rattle.mon_hints.specs.declared.places.Place.{Place}
+use Rattle.mon_hints.specs.declared.places.Place.TheVariants as at
 use Rattle.raise_table.specs.declared.places.ZoneLeaf.{ZoneLeaf}
 use Rattle.raise_table.specs.Places.{IsPlaceAmong, bit_of, word_count, bucket_of_word, leaves_from, leaves_in}
 use Rattle.raise_table.specs.Places.{leaves_of_zone}
-use Rattle.raise_table.specs.Places.{place_number, place_numbered, place_of_word, word_at, word_number, zone_leaf}
+use Rattle.mon_hints.specs.Places.{place_number}
+use Rattle.raise_table.specs.Places.{place_numbered, place_of_word, word_at, word_number, zone_leaf}
 use Rattle.raise_table.specs.declared.views.Raised.{Raised}
 use Rattle.raise_table.specs.Seats.{MayRaise}
 use Rattle.raise_table.specs.Tables.{AreFew}

@@ -1,8 +1,9 @@
 -- Where the words of a raise table stand, which leaves there are, and which bit is whose.
 use Rattle.std.specs.Prelude.{ℕ, zero, suc, ◌+◌, ◌*◌, ◌/◌, ◌%◌, ◌<◌, List, [], ◌∷◌, ◌++◌, length, slice_index}
+use Rattle.mon_hints.specs.Places.{word_index}
 use Rattle.mon_value.specs.declared.positions.Zone.{Zone}
-use Rattle.raise_table.specs.declared.places.Place.{Place}
-use Rattle.raise_table.specs.declared.places.Place.TheVariants as at
+use Rattle.mon_hints.specs.declared.places.Place.{Place}
+use Rattle.mon_hints.specs.declared.places.Place.TheVariants as at
 use Rattle.raise_table.specs.declared.places.ZoneLeaf.{ZoneLeaf}
 use Rattle.mon_value.specs.Positions.{zone_numbered}
 use Rattle.mon_value.specs.declared.limits.TheConstants.{MOST_BUCKETS}
@@ -28,18 +29,13 @@ leaves_in = leaves_from 0
 
 -- ---- words
 
--- the root is the first place, and the zones follow
-abbrev pub place_number : Place → ℕ
-place_number at.Root = 0
-place_number (at.Zone zone) = suc zone.0
-
 abbrev pub place_numbered : ℕ → Place
 place_numbered zero = at.Root
 place_numbered (suc n) = at.Zone (zone_numbered n)
 
 -- each place has 4,096 words, one for each bucket
 abbrev pub word_number : Place → ℕ → ℕ
-word_number place bucket = place_number place * MOST_BUCKETS + bucket
+word_number = word_index MOST_BUCKETS
 
 abbrev pub place_of_word : ℕ → Place
 place_of_word word = place_numbered (word / MOST_BUCKETS)

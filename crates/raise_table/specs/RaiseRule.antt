@@ -5,7 +5,7 @@ use Rattle.std.specs.List.{Contains, count_by, sum_by}
 use Rattle.std.specs.Int.{bit_at}
 use mathlib.Core.Option.{some}
 use lib.ListN.{get_elem?}
-use Rattle.raise_table.specs.declared.places.Place.{Place}
+use Rattle.mon_hints.specs.declared.places.Place.{Place}
 use Rattle.raise_table.specs.declared.places.ZoneLeaf.{ZoneLeaf}
 use Rattle.raise_table.specs.declared.views.Raised.{Raised}
 use Rattle.raise_table.specs.declared.views.SeatView.{SeatView}

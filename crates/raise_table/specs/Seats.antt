@@ -2,8 +2,8 @@
 use Rattle.std.specs.Prelude.{◌≡◌, ℕ, ◌^◌, List, [], ◌∷◌, ◌++◌}
 use Rattle.std.specs.List.{Contains}
 use Rattle.std.specs.Int.{bit_at}
-use Rattle.raise_table.specs.declared.places.Place.{Place}
-use Rattle.raise_table.specs.declared.places.Place.TheVariants as at
+use Rattle.mon_hints.specs.declared.places.Place.{Place}
+use Rattle.mon_hints.specs.declared.places.Place.TheVariants as at
 use Rattle.raise_table.specs.declared.places.ZoneLeaf.{ZoneLeaf}
 use Rattle.raise_table.specs.declared.views.Note.{Note}
 use Rattle.raise_table.specs.declared.views.Raised.{Raised}

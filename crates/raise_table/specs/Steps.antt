@@ -1,7 +1,7 @@
 -- What the kinds of step make of a seat's view, and what they tell.
 use Rattle.std.specs.Prelude.{◌≡◌, ℕ, List, [], ◌∷◌, ◌++◌, drop, take}
 use Rattle.atomic_table.specs.Table.{Me, Step}
-use Rattle.raise_table.specs.declared.places.Place.{Place}
+use Rattle.mon_hints.specs.declared.places.Place.{Place}
 use Rattle.raise_table.specs.declared.views.SeatView.{SeatView}
 use Rattle.raise_table.specs.Places.{bucket_of_word, leaves_in, place_of_word}
 use Rattle.raise_table.specs.Seats.{HasKnown, after_load, after_set, met, no_hints, raised_at, without_notes}

@@ -2,7 +2,7 @@
 use Rattle.std.specs.Prelude.{◌≡◌, ℕ, ◌<◌, ◌≤◌, List, length}
 use Rattle.std.specs.List.{All}
 use Rattle.atomic_table.specs.Seated.{TableId}
-use Rattle.raise_table.specs.declared.places.Place.{Place}
+use Rattle.mon_hints.specs.declared.places.Place.{Place}
 use Rattle.raise_table.specs.Places.{IsPlaceAmong, word_count}
 use Rattle.mon_value.specs.declared.limits.TheConstants.{MOST_BUCKETS}
 

@@ -9,7 +9,7 @@ mod tables;
 mod views;
 
 pub use names::RaiseName;
-pub use places::{Place, ZoneLeaf, leaves_stand_once};
+pub use places::{ZoneLeaf, leaves_stand_once};
 pub use seats::{HintSeat, OwnerSeat, OwnerSeats};
 pub use tables::{RaiseBlank, RaiseTable};
 pub use views::{Hints, Note, Raised};

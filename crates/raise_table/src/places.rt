@@ -4,15 +4,9 @@ ghost use Rattle.raise_table.specs.declared.places.ZoneLeaf as the;
 ghost use Rattle.raise_table.specs.Places.{bit_of, leaves_in, leaves_of_zone, word_number};
 ghost use Rattle.raise_table.specs.RaiseRule.{times_leaf};
 
+use mon_hints::Place;
 use mon_value::{LeafCounts, ListOf, MOST_BUCKETS, OutOfMemory, Zone};
 use std::alloc::Global;
-
-/// Where a word stands: at the root, or at a zone.
-#[derive(Clone, Copy, PartialEq, Eq)]
-pub enum Place {
-    Root,
-    Zone(Zone),
-}
 
 /// A leaf, by its zone and its place among the leaves of its zone.
 #[derive(Clone, Copy, PartialEq, Eq)]
@@ -37,11 +31,7 @@ impl ZoneLeaf {
 pub(crate) fn word_number(place: Place, bucket: u32) -> usize
     ensures number { result ≡ word_number place bucket }
 {
-    let number = match place {
-        Place::Root => 0,
-        Place::Zone(zone) => zone.0 as usize + 1,
-    };
-    number * MOST_BUCKETS as usize + bucket as usize
+    place.word_index(bucket, MOST_BUCKETS)
 }
 
 /// The leaves of all zones, in order.

@@ -8,11 +8,12 @@ ghost use Rattle.raise_table.specs.Steps.{first_seat};
 ghost use Rattle.raise_table.specs.Tables.{AreFew, HasWord, IsShaped};
 
 use crate::names::RaiseName;
-use crate::places::{Place, ZoneLeaf, leaves_of_all, word_number};
+use crate::places::{ZoneLeaf, leaves_of_all, word_number};
 use crate::seats::{HintSeat, OwnerSeat, OwnerSeats};
 use crate::steps::{Deal, Load, Meet, Raise, RaiseRule, SplitOff};
 use crate::views::SeatView;
 use atomic_table::{Seat, Table};
+use mon_hints::Place;
 use mon_value::{LeafCounts, ListOf, MOST_BUCKETS, OutOfMemory};
 use std::alloc::Global;
 use std::marker::{Model, PhantomData};

@@ -1,5 +1,6 @@
 // What a seat is seen to know. No value of these is made: contracts alone speak of them.
-use crate::places::{Place, ZoneLeaf};
+use crate::places::ZoneLeaf;
+use mon_hints::Place;
 use mon_value::ListOf;
 
 /// Bits of the word of a place and a bucket.

@@ -1,11 +1,12 @@
 // The calls of query texts, types and plans.
-use crate::{plans, queries, ranges, typing};
+use crate::{names, plans, queries, ranges, typing};
 use case_queries::CaseSetting;
 use case_tables::{Calls, Done, Standing, Trouble};
 use std::alloc::Global;
 
 // The calls whose cases stand under a configuration.
 const UNDER_FILES: &[&str] = &[
+    "mon_topo::leaf_named or range_named",
     "mon_topo::range_of",
     "mql_types::check",
     "mql_types::op_levels",
@@ -63,7 +64,14 @@ fn write_answer(text: &mut String, setting: &CaseSetting, call: &str, given: &st
         "mql_parse" => queries::write_answer(text, setting.alloc, name, given),
         "mql_types" => typing::write_answer(text, setting, name, given),
         "plan_split" => plans::write_answer(text, setting, name, given),
-        "mon_topo" => ranges::write_answer(text, setting, given),
+        "mon_topo" => write_place(text, setting, name, given),
         _ => Err(Trouble::Misspelled),
+    }
+}
+
+fn write_place(text: &mut String, setting: &CaseSetting, name: &str, given: &str) -> Done {
+    match name {
+        "range_of" => ranges::write_answer(text, setting, given),
+        _ => names::write_answer(text, setting, given),
     }
 }

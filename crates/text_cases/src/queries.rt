@@ -2,7 +2,7 @@
 use case_tables::{Done, Trouble, bytes_of, put};
 use mon_value::Refusal;
 use mql_ast::{Query, print_query};
-use mql_parse::{ParseFault, ParseKind, parse};
+use mql_parse::{ParseFault, parse};
 use std::alloc::Global;
 use std::mem;
 
@@ -39,24 +39,7 @@ fn write_canonical(text: &mut String, alloc: Global, query: &Query) -> Done {
 }
 
 fn write_fault(text: &mut String, fault: ParseFault) -> Done {
-    let at = fault.at;
-    let kind = kind_word(fault.kind);
-    write!(text, "{at} {kind}")?;
-    match fault.kind {
-        ParseKind::Expected(what) => put(text, what.word()),
-        _ => Ok(()),
-    }
-}
-
-fn kind_word(kind: ParseKind) -> &'static str {
-    match kind {
-        ParseKind::BadToken => "BadToken",
-        ParseKind::NumberTooLarge => "NumberTooLarge",
-        ParseKind::BadPattern => "BadPattern",
-        ParseKind::TooDeep => "TooDeep",
-        ParseKind::TooLong => "TooLong",
-        ParseKind::Expected(_) => "Expected ",
-    }
+    Ok(write!(text, "{fault}")?)
 }
 
 fn write_fronts(text: &mut String, alloc: Global, query: &mut [u8]) -> Done {

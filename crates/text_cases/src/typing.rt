@@ -4,7 +4,7 @@ use case_queries::{CaseSetting, query_in};
 use case_tables::{Done, Trouble, put};
 use mon_value::{Anchor, Column, Refusal, ValueType};
 use mql_ast::Query;
-use mql_types::{Level, Node, NodeInfo, TypeFault, TypeKind, TypeWord, Typed, check};
+use mql_types::{Level, Node, NodeInfo, TypeFault, Typed, check};
 use std::alloc::Global;
 
 /// A case is a query text; its answer is its typed tree for `check`, what explains it for `op_levels`, or its fault.
@@ -41,45 +41,8 @@ fn write_typed(text: &mut String, alloc: Global, call: &str, typed: &Typed) -> D
     }
 }
 
-// A fault of typing: its place, its kind and its parts.
 fn write_fault(text: &mut String, fault: TypeFault) -> Done {
-    let at = fault.at;
-    let kind = kind_word(fault.kind);
-    write!(text, "{at} {kind}")?;
-    match fault.kind {
-        TypeKind::Mismatch(left, right) => write_mismatch(text, word_of(left), word_of(right)),
-        TypeKind::TooWide(bits) => Ok(write!(text, " {bits}")?),
-        _ => Ok(()),
-    }
-}
-
-fn write_mismatch(text: &mut String, left: &str, right: &str) -> Done {
-    Ok(write!(text, " {left} {right}")?)
-}
-
-fn kind_word(kind: TypeKind) -> &'static str {
-    match kind {
-        TypeKind::UnknownSchema => "UnknownSchema",
-        TypeKind::UnknownMetric => "UnknownMetric",
-        TypeKind::UnknownColumn => "UnknownColumn",
-        TypeKind::Mismatch(_, _) => "Mismatch",
-        TypeKind::NotDelta => "NotDelta",
-        TypeKind::NotGauge => "NotGauge",
-        TypeKind::DuplicateColumn => "DuplicateColumn",
-        TypeKind::BranchColumns => "BranchColumns",
-        TypeKind::TooManyTimes => "TooManyTimes",
-        TypeKind::TooWide(_) => "TooWide",
-        TypeKind::BadOrder => "BadOrder",
-    }
-}
-
-fn word_of(word: TypeWord) -> &'static str {
-    match word {
-        TypeWord::Int => "int",
-        TypeWord::Bool => "bool",
-        TypeWord::Text => "text",
-        TypeWord::Dist => "dist",
-    }
+    Ok(write!(text, "{fault}")?)
 }
 
 // The times, each node with its level in the order of the text, and the columns of the answer.

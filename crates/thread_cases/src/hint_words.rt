@@ -1,10 +1,11 @@
 // Bits of hint words: they stand where they were raised, and who meets another knows its bits.
 ghost use Rattle.std.specs.Prelude.{◌≡◌, ◌<◌, length};
 ghost use Rattle.raise_table.specs.Seats.{Knows};
-ghost use Rattle.raise_table.specs.declared.places.Place.TheVariants.{Root};
+ghost use Rattle.mon_hints.specs.declared.places.Place.TheVariants.{Root};
 
+use mon_hints::Place;
 use mon_value::{LeafCounts, MOST_BUCKETS, OutOfMemory, Zone};
-use raise_table::{HintSeat, OwnerSeat, OwnerSeats, Place, RaiseBlank, RaiseName, RaiseTable};
+use raise_table::{HintSeat, OwnerSeat, OwnerSeats, RaiseBlank, RaiseName, RaiseTable};
 use std::alloc::Global;
 use std::marker::Brand;
 use std::thread::{Threads, join};

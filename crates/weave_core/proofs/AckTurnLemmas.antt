@@ -1,15 +1,12 @@
 -- A write's turn at its acknowledgement: its range is told what became of the row.
-use Rattle.std.proofs.Common.{◌≡◌, ℕ, ◌<◌, ◌<ℤ◌, ◌≢◌, Bool, true, false, cond, None, List, [], ◌∷◌, ◌++◌, length, refl}
+use Rattle.std.proofs.Common.{◌≡◌, ℕ, ◌<◌, ◌≢◌, Bool, true, false, cond, None, Some, List, [], ◌∷◌, ◌++◌, length, refl}
 use Rattle.std.proofs.Common.{sym, ap, subst, ◌∙◌}
-use Rattle.std.specs.Prelude.{IfSome}
+use Rattle.std.specs.Prelude.{is_some}
 use Rattle.std.specs.List.{flat_map}
 use Rattle.mon_config.specs.declared.config.Config.{Config}
-use Rattle.mon_series.proofs.SourceEnds.{source_later}
 use Rattle.mon_topo.proofs.HeldLemmas.{range_entry_other, range_entry_same}
-use Rattle.mon_topo.specs.RangeHistories.{acknowledged_rows}
 use Rattle.mon_topo.specs.Settings.{Setting}
 use Rattle.mon_value.specs.Positions.{range_numbered}
-use Rattle.mon_value.specs.Sources.{last_end, points_of}
 use Rattle.mon_value.specs.declared.histories.Ack.{Ack}
 use Rattle.mon_value.specs.declared.histories.RangeEntry.{RangeEntry}
 use Rattle.mon_value.specs.declared.histories.RangeEntry.TheVariants as range_entry
@@ -22,10 +19,10 @@ use Rattle.weave_core.proofs.SeatLemmas.{shared_at_range}
 use Rattle.mon_topo.proofs.SightLemmas.{range_noted_over, range_seen}
 use Rattle.weave_core.proofs.WriteTurnLemmas.{can_come, step_is}
 use Rattle.weave_core.specs.Agreements.{AreShared, IsRangeSo}
-use Rattle.weave_core.specs.Meetings.{met_at_range}
+use Rattle.weave_core.specs.Meetings.{sight_at_range}
 use Rattle.mon_topo.specs.Sights.{range_sight, sight_of, with_range_sight}
 use Rattle.weave_core.specs.States.{store_of}
-use Rattle.weave_core.specs.WriteEvents.{ChangesRange, IfWritten, LetsGo}
+use Rattle.weave_core.specs.WriteEvents.{ChangesRange, LetsGo}
 use Rattle.weave_core.specs.WriteEvents as events
 use Rattle.weave_core.specs.WriteTurns.{IsAtWork, WriteEnded, ended_write}
 use Rattle.weave_core.specs.Writers.{writer_of}
@@ -38,18 +35,14 @@ use Rattle.write_core.proofs.ViewLemmas.{joined_whole_range}
 use Rattle.write_core.specs.Invariant.{IsAcking, IsAt}
 use Rattle.write_core.specs.Marks.{ack_of, found_in_mark, some_took}
 use Rattle.write_core.specs.Program.{Acking, Ended, Marked, Not, Stage, Verdict, end_of_verdict}
+use Rattle.write_core.specs.Replays.{HasAckRoom}
 use Rattle.write_core.specs.Steps.{with_acknowledgement, step}
-use Rattle.write_core.specs.Views.{View, joined_view, of_leaf, of_range, with_range_entry}
+use Rattle.mon_topo.specs.Views.{View, joined_view, of_leaf, of_range, with_range_entry}
 use Rattle.write_core.specs.World.{World, Writer, Writes, at_range, view_of, writes_on}
 use Rattle.write_core.specs.declared.asks.WriteEnd.{WriteEnd}
 use Rattle.write_core.specs.declared.asks.WriteEnd.TheVariants as end
 use Rattle.write_core.specs.declared.asks.WriteTold.TheVariants as told
-use Rattle.write_core.specs.declared.marks.Refused.TheVariants as refused
-
-if_written : (b : Bool) (ack : Ack) (founds : List FoundDown) (P : Type 0) → P
-    → IfWritten (cond b (end.Written ack) (end.Unavailable founds)) P
-if_written true ack founds P p = p
-if_written false ack founds P p = tt
+use Rattle.write_core.specs.declared.refusals.Refused.TheVariants as refused
 
 module _ (config : Config) (world : World) (i : ℕ) (store : Store) (writing : Writing) (sight : Sight)
     (work : IsAtWork config world i store writing sight) (verdict : Verdict) (at : writing.machine.stage
@@ -76,27 +69,14 @@ module _ (config : Config) (world : World) (i : ℕ) (store : Store) (writing : 
       = (own config world i store writing sight work).at in
       subst (λ (s : Stage). IsAt setting world i writer s) at own_at
 
-  -- ---- its row ends later than those that were acknowledged
+  -- ---- room was made for what it appends
 
-  abbrev pub IsLater : List RangeEntry → Type 0
-  IsLater history =
-      IfSome (last_end (points_of writing.row.key (acknowledged_rows history))) (λ last. last <ℤ writing.row.point.end)
+  holds_by : (one : Verdict) → IsAcking world i setting writer one → world.range_holder range.0 ≡ Some i
+  holds_by (Not why) h = h.holds.holder
+  holds_by (Marked marks) h = h.going.holds.holder
 
-  later_by : (one : Verdict) → IsAcking world i setting writer one
-      → IfWritten (end_of_verdict range one) (IsLater (of_range world.truth range))
-  later_by (Not (refused.Old last)) h = tt
-  later_by (Not (refused.Full count)) h = tt
-  later_by (Marked marks) h =
-      if_written (some_took marks) (ack_of range marks) (flat_map found_in_mark marks)
-      (IsLater (of_range world.truth range))
-      (source_later (acknowledged_rows (of_range world.truth range)) writing.row h.going.source)
-
-  pub later : (last : WriteEnd) → last ≡ end_of_verdict range verdict → IfWritten last (IsLater seat.state)
-  later last is =
-      subst (λ (e : WriteEnd). IfWritten e (IsLater seat.state)) (sym is)
-      (subst (λ (history : List RangeEntry). IfWritten (end_of_verdict range verdict) (IsLater history))
-      (sym so.history)
-      (later_by verdict acking))
+  pub has_room : HasAckRoom seat.state
+  has_room = so.room (ap is_some (so.holder ∙ holds_by verdict acking))
 
   -- ---- what it appends
 
@@ -106,30 +86,33 @@ module _ (config : Config) (world : World) (i : ℕ) (store : Store) (writing : 
     leaves_same : (leaf : Leaf) → of_leaf (change world.truth) leaf ≡ of_leaf world.truth leaf
     ranges_same : (n : ℕ) → n ≢ range.0
         → of_range (change world.truth) (range_numbered n) ≡ of_range world.truth (range_numbered n)
-    history : events.with_end_entry seat.state writing.number writing.row last ≡ of_range (change world.truth) range
-    seen : met_at_range range (events.with_end_entry seat.state writing.number writing.row last) sight seat.sight
+    history : events.with_end_entry seat.state.history writing.number writing.row last
+        ≡ of_range (change world.truth) range
+    seen : sight_at_range range (events.with_end_entry seat.state.history writing.number writing.row last) sight
+        seat.sight
         ≡ sight_of (change met).seen
 
-  met_is : met_at_range range (of_range world.truth range) (sight_of view.seen) (sight_of (world.ranges range.0).seen)
+  met_is : sight_at_range range (of_range world.truth range) (sight_of view.seen) (sight_of (world.ranges range.0).seen)
       ≡ sight_of met.seen
   met_is = range_met setting world view range work.kept (own config world i store writing sight work).part
 
-  quiet : (last : WriteEnd) → events.with_end_entry seat.state writing.number writing.row last ≡ seat.state
+  quiet : (last : WriteEnd)
+      → events.with_end_entry seat.state.history writing.number writing.row last ≡ seat.state.history
       → IsChangeSo (λ seen. seen) last
   quiet last same = record {
     bits = refl;
     leaves_same = λ leaf. refl;
     ranges_same = λ n apart. refl;
     history = same ∙ so.history;
-    seen = (λ k. met_at_range range ((same ∙ so.history) k) (work.writer.seen k) (so.sight k)) ∙ met_is;
+    seen = (λ k. sight_at_range range ((same ∙ so.history) k) (work.writer.seen k) (so.sight k)) ∙ met_is;
   }
 
   appends : (ack : Ack) → IsChangeSo (with_range_entry range (range_entry.Acked i writing.row ack)) (end.Written ack)
   appends ack =
       let entry : RangeEntry = range_entry.Acked i writing.row ack in
       let there : range.0 < length world.truth.seen.ranges = range_in_truth config world i store writing sight work in
-      let grown : seat.state ++ range_entry.Acked writing.number writing.row ack ∷ [] ≡ of_range world.truth range
-      ++ entry ∷ []
+      let grown : seat.state.history ++ range_entry.Acked writing.number writing.row ack ∷ []
+      ≡ of_range world.truth range ++ entry ∷ []
       = (λ k. so.history k ++ range_entry.Acked (work.writer.number k) writing.row ack ∷ []) in
       let whole : of_range met range ≡ of_range world.truth range
       = joined_whole_range view (world.ranges range.0) world.truth
@@ -141,7 +124,7 @@ module _ (config : Config) (world : World) (i : ℕ) (store : Store) (writing : 
         ranges_same = λ n apart. range_entry_other world.truth.seen range entry (range_numbered n) apart;
         history = grown ∙ sym (range_entry_same world.truth.seen range entry there);
         seen =
-            (λ k. met_at_range range (grown k) (work.writer.seen k) (so.sight k))
+            (λ k. sight_at_range range (grown k) (work.writer.seen k) (so.sight k))
             ∙ range_noted_over range (range_sight (of_range world.truth range))
             (range_sight (of_range world.truth range ++ entry ∷ [])) (sight_of view.seen)
             (sight_of (world.ranges range.0).seen) (sight_of met.seen) met_is
@@ -158,8 +141,8 @@ module _ (config : Config) (world : World) (i : ℕ) (store : Store) (writing : 
   change_by false ack founds = quiet (end.Unavailable founds) refl
 
   change_is : (one : Verdict) → IsChangeSo (with_acknowledgement writer one) (end_of_verdict range one)
-  change_is (Not (refused.Old last)) = quiet (end.Old last) refl
-  change_is (Not (refused.Full count)) = quiet (end.Full count) refl
+  change_is (Not (refused.OldPoint last)) = quiet (end.OldPoint last) refl
+  change_is (Not (refused.RangeFull count)) = quiet (end.RangeFull count) refl
   change_is (Marked marks) = change_by (some_took marks) (ack_of range marks) (flat_map found_in_mark marks)
 
   -- ---- it has ended
@@ -182,7 +165,7 @@ module _ (config : Config) (world : World) (i : ℕ) (store : Store) (writing : 
 
     seen_is : now ≡ sight_of (change met).seen
     seen_is =
-        goes.seen ∙ ap (λ (history : List RangeEntry). met_at_range range history sight seat.sight) goes.state
+        goes.seen ∙ ap (λ (history : List RangeEntry). sight_at_range range history sight seat.sight) goes.history
         ∙ is_change.seen
 
     doer_is : (step setting world i told.Done).actors i ≡ Writes (ended_write i writing verdict (change met))
@@ -201,9 +184,9 @@ module _ (config : Config) (world : World) (i : ℕ) (store : Store) (writing : 
         shared = subst (λ (w : World). AreShared config w new) (sym is_then)
             (shared_at_range config world i view range change is_change.bits is_change.leaves_same
             is_change.ranges_same None
-            (writes_on writer (Ended verdict)) store new other work.shared changes (goes.state ∙ is_change.history)
+            (writes_on writer (Ended verdict)) store new other work.shared changes (goes.history ∙ is_change.history)
             goes.holder
-            (goes.sight_there ∙ seen_is));
+            (goes.sight_there ∙ seen_is) (λ held. absurd cc));
       };
       verdict = verdict;
       writer = doer_is ∙ (λ k. Writes (ended_write i writing verdict (sym view_is k)));

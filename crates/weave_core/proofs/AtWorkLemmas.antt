@@ -27,7 +27,7 @@ use Rattle.write_core.specs.Program.{Acking, Ended, Entering, Inside, Locking, M
 use Rattle.write_core.specs.Program.{after, ask_of, done_inside, enter, entering, inside, reserve, reserving}
 use Rattle.write_core.specs.Rounds.{Round, again, is_no_mark_left, is_through, after_look, round_marks, round_of}
 use Rattle.write_core.specs.Rounds.{after_skip}
-use Rattle.write_core.specs.Views.{View}
+use Rattle.mon_topo.specs.Views.{View}
 use Rattle.write_core.specs.World.{World, Writer, view_of}
 use Rattle.write_core.specs.declared.asks.WriteAsk.{WriteAsk}
 use Rattle.write_core.specs.declared.asks.WriteAsk.TheVariants as ask
@@ -35,7 +35,7 @@ use Rattle.write_core.specs.declared.asks.WriteTold.{WriteTold}
 use Rattle.write_core.specs.declared.asks.WriteTold.TheVariants as told
 use Rattle.write_core.specs.declared.marks.Fate.TheVariants as fate
 use Rattle.write_core.specs.declared.marks.Mark.{Mark}
-use Rattle.write_core.specs.declared.marks.Refused.TheVariants as refused
+use Rattle.write_core.specs.declared.refusals.Refused.TheVariants as refused
 use Rattle.write_core.proofs.InsideLemmas.{opened_there}
 
 -- ---- where a write is, by what it asks
@@ -128,38 +128,38 @@ looks_done round [] [] looks = looks_entering (after_look round fate.Took)
 -- whatever it is told, it looks at a replica where it goes from one to the next
 pub looks_after : (stage : Stage) (answer : WriteTold) → LooksAtOne stage → LooksAtOne (after stage answer)
 looks_after Locking (told.Slots replicas) looks = looks_reserving (round_of (map waiting replicas))
-looks_after Locking (told.Old last) looks = tt
-looks_after Locking (told.Full count) looks = tt
+looks_after Locking (told.OldPoint last) looks = tt
+looks_after Locking (told.RangeFull count) looks = tt
 looks_after Locking (told.Up buckets) looks = looks
 looks_after Locking (told.Down cut) looks = looks
 looks_after Locking told.Done looks = looks
 looks_after (Reserving round) (told.Slots replicas) looks = looks
-looks_after (Reserving round) (told.Old last) looks = looks
-looks_after (Reserving round) (told.Full count) looks = looks
+looks_after (Reserving round) (told.OldPoint last) looks = looks
+looks_after (Reserving round) (told.RangeFull count) looks = looks
 looks_after (Reserving round) (told.Up buckets) looks = looks_reserving (after_look round fate.Ready)
 looks_after (Reserving round) (told.Down cut) looks = looks_reserving (after_look round (fate.Missed cut))
 looks_after (Reserving round) told.Done looks = looks
 looks_after (Entering round) (told.Slots replicas) looks = looks
-looks_after (Entering round) (told.Old last) looks = looks
-looks_after (Entering round) (told.Full count) looks = looks
+looks_after (Entering round) (told.OldPoint last) looks = looks
+looks_after (Entering round) (told.RangeFull count) looks = looks
 looks_after (Entering round) (told.Up buckets) looks = looks
 looks_after (Entering round) (told.Down cut) looks = looks_entering (after_look round (fate.Missed cut))
 looks_after (Entering round) told.Done looks = looks
 looks_after (Inside round at_root in_zone) (told.Slots replicas) looks = looks
-looks_after (Inside round at_root in_zone) (told.Old last) looks = looks
-looks_after (Inside round at_root in_zone) (told.Full count) looks = looks
+looks_after (Inside round at_root in_zone) (told.OldPoint last) looks = looks
+looks_after (Inside round at_root in_zone) (told.RangeFull count) looks = looks
 looks_after (Inside round at_root in_zone) (told.Up buckets) looks = looks
 looks_after (Inside round at_root in_zone) (told.Down cut) looks = looks
 looks_after (Inside round at_root in_zone) told.Done looks = looks_done round at_root in_zone looks
 looks_after (Acking verdict) (told.Slots replicas) looks = looks
-looks_after (Acking verdict) (told.Old last) looks = looks
-looks_after (Acking verdict) (told.Full count) looks = looks
+looks_after (Acking verdict) (told.OldPoint last) looks = looks
+looks_after (Acking verdict) (told.RangeFull count) looks = looks
 looks_after (Acking verdict) (told.Up buckets) looks = looks
 looks_after (Acking verdict) (told.Down cut) looks = looks
 looks_after (Acking verdict) told.Done looks = tt
 looks_after (Ended verdict) (told.Slots replicas) looks = looks
-looks_after (Ended verdict) (told.Old last) looks = looks
-looks_after (Ended verdict) (told.Full count) looks = looks
+looks_after (Ended verdict) (told.OldPoint last) looks = looks
+looks_after (Ended verdict) (told.RangeFull count) looks = looks
 looks_after (Ended verdict) (told.Up buckets) looks = looks
 looks_after (Ended verdict) (told.Down cut) looks = looks
 looks_after (Ended verdict) told.Done looks = looks
@@ -204,8 +204,8 @@ going_reserving round = going_reserving_by (is_through round) round
 -- whatever a range tells
 pub going_locked : (answer : WriteTold) → IsGoingOn (after Locking answer)
 going_locked (told.Slots replicas) = going_reserving (round_of (map waiting replicas))
-going_locked (told.Old last) = going_acking (Not (refused.Old last))
-going_locked (told.Full count) = going_acking (Not (refused.Full count))
+going_locked (told.OldPoint last) = going_acking (Not (refused.OldPoint last))
+going_locked (told.RangeFull count) = going_acking (Not (refused.RangeFull count))
 going_locked (told.Up buckets) = λ e. cc
 going_locked (told.Down cut) = λ e. cc
 going_locked told.Done = λ e. cc
@@ -229,8 +229,8 @@ none_reserving round = none_reserving_by (is_through round) round
 
 pub none_locked : (answer : WriteTold) → leaf_inside (after Locking answer) ≡ None
 none_locked (told.Slots replicas) = none_reserving (round_of (map waiting replicas))
-none_locked (told.Old last) = refl
-none_locked (told.Full count) = refl
+none_locked (told.OldPoint last) = refl
+none_locked (told.RangeFull count) = refl
 none_locked (told.Up buckets) = refl
 none_locked (told.Down cut) = refl
 none_locked told.Done = refl
@@ -256,8 +256,8 @@ module _ (count : ℕ) where
 
   pub below_locked : (answer : WriteTold) → RaisesBelow count (after Locking answer)
   below_locked (told.Slots replicas) = below_reserving (round_of (map waiting replicas))
-  below_locked (told.Old last) = tt
-  below_locked (told.Full count) = tt
+  below_locked (told.OldPoint last) = tt
+  below_locked (told.RangeFull count) = tt
   below_locked (told.Up buckets) = tt
   below_locked (told.Down cut) = tt
   below_locked told.Done = tt

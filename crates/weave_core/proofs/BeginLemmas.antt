@@ -33,7 +33,7 @@ use Rattle.query_core.specs.Machine.{new_query}
 use Rattle.query_core.specs.Settings.{QuerySetting}
 use Rattle.write_core.specs.Deeds.{IsUnused, acks_by, puts_by}
 use Rattle.write_core.specs.Invariant.{IsRangeSettled}
-use Rattle.write_core.specs.Views.{IsSound}
+use Rattle.mon_topo.specs.Views.{IsSound}
 use Rattle.weave_core.proofs.CoreLemmas.{new_woven}
 use Rattle.mon_topo.proofs.FirstLemmas as begun
 use Rattle.mon_topo.proofs.FirstLemmas.{HasNoRow}

@@ -34,11 +34,11 @@ use Rattle.write_core.proofs.KeptLemmas.{new_kept, part_stays, parts_join, run_k
 use Rattle.write_core.proofs.ViewLemmas.{joined_first, joined_whole_leaf, joined_whole_range, within_itself}
 use Rattle.write_core.specs.Events.{Resolves, Visits, after_event}
 use Rattle.write_core.specs.Invariant.{IsKept}
-use Rattle.write_core.specs.Views.{IsViewWithin, View, joined_view, of_leaf, of_range}
+use Rattle.mon_topo.specs.Views.{IsSound, IsViewWithin, View, joined_view, of_leaf, of_range}
 use Rattle.write_core.specs.World.{IsPart, World}
 use Rattle.weave_core.specs.Core.{CanCome, CanGoOn, Core, CoreEvent, Happens, Hears, IsLookedAt, IsTold, MayTell}
 use Rattle.weave_core.specs.Core.{Reader, Tells, asked_now, begun_with, came, core_gone_on, query_now, root_word_bits}
-use Rattle.weave_core.specs.Core.{seen_by, told_on, view_then, view_told, with_bits, world_then, world_told}
+use Rattle.weave_core.specs.Core.{told_on, view_then, view_told, with_bits, world_then, world_told}
 use Rattle.weave_core.specs.Core.{zone_word_bits}
 use Rattle.weave_core.specs.Licensed.{IsNewCore, IsNewReader, IsReader, IsWoven}
 
@@ -48,7 +48,7 @@ module _ (store : Setting) (setting : QuerySetting) (moment : ℤ) where
   abbrev Told' : Type 0
   Told' = session.Event store setting moment
 
-  licensed_push : (before : session.View) (query : Query) (events : List Told') (event : Told')
+  licensed_push : (before : View) (query : Query) (events : List Told') (event : Told')
       → IsLicensed store setting moment before query events
       → IsLicensedEvent store setting moment (view_after store setting moment before events)
       (query_after store setting moment query events) event
@@ -57,7 +57,7 @@ module _ (store : Setting) (setting : QuerySetting) (moment : ℤ) where
   licensed_push before query (first ∷ events) event h one =
       (h.0, licensed_push first.view (session.told_then store setting moment query first) events event h.1 one)
 
-  view_push : (before : session.View) (events : List Told') (event : Told')
+  view_push : (before : View) (events : List Told') (event : Told')
       → view_after store setting moment before (events ++ event ∷ []) ≡ event.view
   view_push before [] event = refl
   view_push before (first ∷ events) event = view_push first.view events event
@@ -184,7 +184,7 @@ module _ (store : Setting) (setting : QuerySetting) (moment : ℤ) (world : Worl
 
     resolved_so : (avoided : List Leaf) (found : Option SlotLeaf)
         → first_serving avoided (of_range world.truth range) ≡ found
-        → session.IsResolvedSo (seen_by view) (seen_by after_range) avoided range found
+        → session.IsResolvedSo view after_range avoided range found
     resolved_so avoided found e =
         let grown = joined_first view (world.ranges range.0) world.truth part.within (kept.ranges range).within in
         record {
@@ -215,7 +215,7 @@ module _ (store : Setting) (setting : QuerySetting) (moment : ℤ) (world : Worl
     all_looked =
         ap (λ n. take n (of_leaf after_leaf leaf)) cut_is ∙ take_whole (of_leaf after_leaf leaf) ∙ whole_leaf
 
-    pub found_so : IsFoundSo (seen_by view) (seen_by after_leaf) leaf cut down
+    pub found_so : IsFoundSo view after_leaf leaf cut down
     found_so =
         let grown = joined_first view (world.leaves leaf.0) world.truth part.within (kept.leaves leaf).within in
         let least = begins_length (of_leaf after_leaf leaf) (of_leaf view leaf) (grown.seen.leaves leaf) in
@@ -226,7 +226,7 @@ module _ (store : Setting) (setting : QuerySetting) (moment : ℤ) (world : Worl
         }
 
     met_so : (b : Bool) → is_plan_met setting.plan (history_buckets store.buckets_of (of_leaf world.truth leaf)) ≡ b
-        → session.is_met_at store setting moment (seen_by after_leaf) leaf cut ≡ b
+        → session.is_met_at store setting moment after_leaf leaf cut ≡ b
     met_so b e = ap (λ history. is_plan_met setting.plan (history_buckets store.buckets_of history)) all_looked ∙ e
 
     on_rows : (P : List Entry → Type 0) → P (of_leaf world.truth leaf) → P (take cut (of_leaf after_leaf leaf))
@@ -235,7 +235,7 @@ module _ (store : Setting) (setting : QuerySetting) (moment : ℤ) (world : Worl
   -- each answer is true of what is seen then
   pub true_told : (avoided : List Leaf) (slots : List RangeSlot) (asked : Ask) (answer : Told)
       → IsTold store setting moment world view avoided slots asked answer
-      → IsTrueAnswer store setting moment (seen_by view) (seen_by (view_then store setting moment world view asked))
+      → IsTrueAnswer store setting moment view (view_then store setting moment world view asked)
       avoided
       slots asked answer
   true_told avoided slots (ask.LoadRoot bucket) (told.Word word seen) h = record {
@@ -296,9 +296,8 @@ module _ (store : Setting) (setting : QuerySetting) (moment : ℤ) (world : Worl
 
 -- ---- each reader
 
-pub sound_so : (store : Setting) (world : World) (view : View) → IsPart store world view → session.IsSound store
-    (seen_by view)
-sound_so store world view part = record { held = part.sound.held; covered = λ leaf here. part.sound.covered leaf }
+pub sound_so : (store : Setting) (world : World) (view : View) → IsPart store world view → IsSound store view
+sound_so store world view part = part.sound
 
 module _ (store : Setting) (world : World) (reader : Reader store) (kept : IsKept store world)
     (own : IsReader store world reader) (answer : Told) (stage : Stage) (may : MayTell store world reader answer stage)
@@ -313,14 +312,11 @@ module _ (store : Setting) (world : World) (reader : Reader store) (kept : IsKep
     went = goes store reader.setting reader.moment world reader.view kept own.part query.avoided (slots_at query)
         (asked_now store reader) answer may.0
 
-    event_licensed : IsLicensedEvent store reader.setting reader.moment (seen_by reader.view) query
-        (record { answer = answer; view = seen_by next; stage = stage })
+    event_licensed : IsLicensedEvent store reader.setting reader.moment reader.view query
+        (record { answer = answer; view = next; stage = stage })
     event_licensed = record {
-      grown = record { seen = went.grown.seen; bits = went.grown.bits };
-      sound = record {
-        held = went.part_then.sound.held;
-        covered = λ leaf here. went.part_then.sound.covered leaf;
-      };
+      grown = went.grown;
+      sound = went.part_then.sound;
       true_then = true_told store reader.setting reader.moment world reader.view kept own.part query.avoided
           (slots_at query)
           (asked_now store reader) answer may.0;
@@ -331,12 +327,12 @@ module _ (store : Setting) (world : World) (reader : Reader store) (kept : IsKep
     reader_told = record {
       part = went.part_then;
       sound = own.sound;
-      licensed = licensed_push store reader.setting reader.moment (seen_by reader.begin) reader.first reader.session
-          (record { answer = answer; view = seen_by next; stage = stage }) own.licensed
-          (subst (λ (before : session.View). IsLicensedEvent store reader.setting reader.moment before query
-          (record { answer = answer; view = seen_by next; stage = stage })) (sym own.now) event_licensed);
-      now = view_push store reader.setting reader.moment (seen_by reader.begin) reader.session
-          (record { answer = answer; view = seen_by next; stage = stage });
+      licensed = licensed_push store reader.setting reader.moment reader.begin reader.first reader.session
+          (record { answer = answer; view = next; stage = stage }) own.licensed
+          (subst (λ (before : View). IsLicensedEvent store reader.setting reader.moment before query
+          (record { answer = answer; view = next; stage = stage })) (sym own.now) event_licensed);
+      now = view_push store reader.setting reader.moment reader.begin reader.session
+          (record { answer = answer; view = next; stage = stage });
     }
 
 reader_stays : (store : Setting) (before after : World) (reader : Reader store)
@@ -404,11 +400,11 @@ new_woven store core new = record {
     new_reader reader h = record {
       part = subst (λ (view : View). IsPart store core.world view) (sym h.view)
           (record { sound = new.world.sound; within = within_itself core.world.truth });
-      sound = subst (λ (view : View). session.IsSound store (seen_by view)) (sym h.begin)
+      sound = subst (λ (view : View). IsSound store view) (sym h.begin)
           (sound_so store core.world core.world.truth
           (record { sound = new.world.sound; within = within_itself core.world.truth }));
       licensed = subst (λ (events : List (session.Event store reader.setting reader.moment)).
-          IsLicensed store reader.setting reader.moment (seen_by reader.begin) reader.first events) (sym h.session) tt;
-      now = ap (view_after store reader.setting reader.moment (seen_by reader.begin)) h.session
-          ∙ ap seen_by (h.begin ∙ sym h.view);
+          IsLicensed store reader.setting reader.moment reader.begin reader.first events) (sym h.session) tt;
+      now = ap (view_after store reader.setting reader.moment reader.begin) h.session
+          ∙ h.begin ∙ sym h.view;
     }

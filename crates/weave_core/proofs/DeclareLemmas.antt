@@ -6,7 +6,7 @@ use Rattle.std.specs.Prelude.{slice_get}
 use Rattle.mon_config.specs.declared.config.Config.{Config}
 use Rattle.mon_schema.specs.Fits.{fits}
 use Rattle.mon_topo.proofs.HeldLemmas.{seen_within_itself}
-use Rattle.mon_topo.specs.Locations.{range_for}
+use Rattle.mon_config.specs.KeyRanges.{range_of_key}
 use Rattle.mon_topo.specs.SeenHistories.{AreWithin}
 use Rattle.mon_topo.specs.Zones.{ranges_in}
 use Rattle.mon_value.specs.declared.positions.Range.{Range}
@@ -17,6 +17,7 @@ use Rattle.query_core.specs.Program as query
 use Rattle.query_core.specs.Settings.{QuerySetting}
 use Rattle.query_core.specs.declared.asks.Ask.TheVariants as query_ask
 use Rattle.query_core.specs.declared.stages.Stage.{Stage}
+use Rattle.query_texts.specs.declared.faults.TextFault.{TextFault}
 use Rattle.weave_core.proofs.CoreLemmas.{stays_woven}
 use Rattle.weave_core.proofs.HolderLemmas.{holders_changed}
 use Rattle.weave_core.proofs.NumberLemmas.{agrees_at, set_apart, set_at, shared_beside}
@@ -27,7 +28,7 @@ use Rattle.weave_core.specs.ActorAgreements.{actor_numbered, flat}
 use Rattle.weave_core.specs.Agreements.{AreShared, IsServed, first_view}
 use Rattle.weave_core.specs.Core.{CanCome, Happens, Reader}
 use Rattle.weave_core.specs.Declarations.{Declares, QueryBegins, WriteBegins, new_reader, with_reader}
-use Rattle.weave_core.specs.EndTexts.{no_zone_text}
+use Rattle.weave_core.specs.EndTexts.{no_plan_line, no_zone_line}
 use Rattle.mon_topo.specs.FirstHistories.{first_histories}
 use Rattle.weave_core.specs.Holders.{AreHolders, HoldsLeaf, HoldsRange}
 use Rattle.weave_core.specs.LawfulLines.{IsLawfulCall}
@@ -54,7 +55,7 @@ use Rattle.weave_core.specs.declared.writes.Writing.{Writing as Write}
 use Rattle.write_core.proofs.KeepsLemmas.{changed_by, changed_other, changed_same}
 use Rattle.write_core.specs.Events.{Begins, CanBegin, new_writer}
 use Rattle.write_core.specs.Program.{Locking, new_write}
-use Rattle.write_core.specs.Views.{View}
+use Rattle.mon_topo.specs.Views.{View}
 use Rattle.write_core.specs.World.{Actor as Doer, Stands, Writes, with_value_at, view_of}
 use Rattle.write_core.specs.declared.asks.WriteAsk.TheVariants as write_ask
 
@@ -75,7 +76,14 @@ abbrev pub at_lock : ℕ → Row → Range → View → Doer
 at_lock i row range view = Writes (record { pass = i; row = row; range = range; stage = Locking; view = view })
 
 abbrev writing_of : ℕ → Row → Range → Write
-writing_of i row range = record { number = i; row = row; range = range; machine = new_write range; inside = None }
+writing_of i row range = record {
+  number = i;
+  row = row;
+  key = row.key;
+  range = range;
+  machine = new_write range;
+  inside = None;
+}
 
 new_writing : (config : Config) (i : ℕ) (doer : Doer) (reader : Reader (store_of config)) (row : Row) (range : Range)
     (view : View) → doer ≡ at_lock i row range view
@@ -83,6 +91,7 @@ new_writing : (config : Config) (i : ℕ) (doer : Doer) (reader : Reader (store_
 new_writing config i doer reader row range view e = record {
   writer = record {
     number = refl;
+    key = refl;
     writer = e ∙ ap (λ (v : View). at_lock i row range v) (sym (ap (λ (d : Doer). view_of d) e));
     range = refl;
     looks = tt;
@@ -99,6 +108,7 @@ writing_is : (config : Config) (i : ℕ) (row : Row) (writing : Write) → Begin
 writing_is config i row writing h = λ k. record {
   number = h.number k;
   row = h.row_is k;
+  key = h.key_is k;
   range = writing.range;
   machine = h.machine k;
   inside = h.inside k;
@@ -202,7 +212,7 @@ module _ (config : Config) (state : State (store_of config)) (i : ℕ) where
     -- a write
 
     module _ (row : Row) (range : Range)
-        (home : range_for config.schemas config.topology row.key.target ≡ Some range)
+        (home : range_of_key config row.key ≡ Some range)
         (there : range.0 < length (ranges_in config.topology)) (fitting : fits config.schemas row ≡ true) where
       abbrev Begun : State (store_of config)
       Begun = with_event (store_of config) state (Happens (Begins i row range))
@@ -316,7 +326,7 @@ module _ (config : Config) (state : State (store_of config)) (i : ℕ) where
           → IsDeclaredSo (call.Query moment text) (course.Queries querying) begun sight
       query_declared begun sight new seen = record {
         after = Read;
-        declares = subst (λ (typed : Result TypedTree (List ℕ)). QueryBegins config state i moment typed Read)
+        declares = subst (λ (typed : Result TypedTree TextFault). QueryBegins config state i moment typed Read)
             (sym asks.machine.typed_is) (Asked, asks.machine.asked, refl);
         leaves = query_left;
         shared = agrees.shared;
@@ -329,9 +339,9 @@ module _ (config : Config) (state : State (store_of config)) (i : ℕ) where
         → IsLawfulCall config.schemas what → IsCourseOf config i what one → IsDeclaredSo what one begun sight
     declared_by (call.Write row) (course.Refused line) begun sight new seen lawful h =
         subst (λ (text : List ℕ). IsDeclaredSo (call.Write row) (course.Refused text) begun sight) (sym h.1)
-        (eventless_declared (call.Write row) no_zone_text begun sight new seen
+        (eventless_declared (call.Write row) no_zone_line begun sight new seen
         (subst (λ (found : Option Range). WriteBegins config state i row found
-        (with_role (store_of config) state i (Eventless no_zone_text))) (sym h.0) refl))
+        (with_role (store_of config) state i (Eventless no_zone_line))) (sym h.0) refl))
     declared_by (call.Write row) (course.Writes writing) begun sight new seen lawful h =
         subst (λ (one : Write). IsDeclaredSo (call.Write row) (course.Writes one) begun sight)
         (sym (writing_is config i row writing h))
@@ -339,9 +349,11 @@ module _ (config : Config) (state : State (store_of config)) (i : ℕ) where
     declared_by (call.Write row) (course.Queries querying) begun sight new seen lawful h = absurd h
     declared_by (call.Write row) course.Ended begun sight new seen lawful h = absurd h
     declared_by (call.Query moment text) (course.Refused line) begun sight new seen lawful h =
-        eventless_declared (call.Query moment text) line begun sight new seen
-        (subst (λ (typed : Result TypedTree (List ℕ)). QueryBegins config state i moment typed
-        (with_role (store_of config) state i (Eventless line))) (sym h) refl)
+        let said : List ℕ = no_plan_line h.why in
+        subst (λ (one : List ℕ). IsDeclaredSo (call.Query moment text) (course.Refused one) begun sight) (sym h.line_is)
+        (eventless_declared (call.Query moment text) said begun sight new seen
+        (subst (λ (typed : Result TypedTree TextFault). QueryBegins config state i moment typed
+        (with_role (store_of config) state i (Eventless said))) (sym h.refused) refl))
     declared_by (call.Query moment text) (course.Writes writing) begun sight new seen lawful h = absurd h
     declared_by (call.Query moment text) (course.Queries querying) begun sight new seen lawful h =
         query_declared moment text querying h lawful begun sight new seen

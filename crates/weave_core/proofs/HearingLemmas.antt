@@ -53,7 +53,7 @@ use Rattle.write_core.proofs.KeepsLemmas.{changed_other, changed_same}
 use Rattle.write_core.proofs.ViewLemmas.{joined_first}
 use Rattle.write_core.specs.Events.{HasNotBegun, Learns}
 use Rattle.write_core.specs.Program.{Acking, Ended, Entering, Inside, Locking, Reserving, Stage}
-use Rattle.write_core.specs.Views.{View, joined_view}
+use Rattle.mon_topo.specs.Views.{View, joined_view}
 use Rattle.write_core.specs.World.{Actor as Doer, IsPart, Recovers, Stands, Writes, with_value_at, view_of, wiser}
 
 -- ---- who is wiser
@@ -215,6 +215,7 @@ module _ (config : Config) (state : State (store_of config)) (i : ℕ) where
           actor = record {
             writer = record {
               number = h.writer.number;
+              key = h.writer.key;
               writer = now ∙ ap (λ (v : View). Writes (writer_of i writing v)) (sym (ap (λ (d : Doer). view_of d) now));
               range = h.writer.range;
               looks = h.writer.looks;

@@ -13,7 +13,7 @@ use Rattle.write_core.specs.Rounds.{Round, again, is_through, after_look, round_
 use Rattle.write_core.specs.Marks.{waiting}
 use Rattle.write_core.specs.Steps.{CanCome, CanComeAt, CanGo, with_acknowledgement, entrant, step, step_at}
 use Rattle.write_core.specs.Steps.{after_answer, same_view}
-use Rattle.write_core.specs.Views.{View, joined_view, with_entry, with_root_bit, with_zone_bit}
+use Rattle.mon_topo.specs.Views.{View, joined_view, with_entry, with_root_bit, with_zone_bit}
 use Rattle.write_core.specs.World.{Actor, World, Writer, Writes, at_leaf, at_range, with_value_at, put_of, writes_on}
 use Rattle.write_core.specs.declared.asks.WriteTold.{WriteTold}
 use Rattle.write_core.specs.declared.asks.WriteTold.TheVariants as told
@@ -156,16 +156,16 @@ module _ (setting : Setting) (world : World) (i : ℕ) (who : Writer) (is : worl
         holding_locked : (answer : WriteTold) → CanComeAt setting world who Locking answer
             → IsHolding (after Locking answer)
         holding_locked (told.Slots replicas) can = holding_reserving (round_of (map waiting replicas))
-        holding_locked (told.Old last) can = tt
-        holding_locked (told.Full count) can = tt
+        holding_locked (told.OldPoint last) can = tt
+        holding_locked (told.RangeFull count) can = tt
         holding_locked (told.Up buckets) can = absurd can.1
         holding_locked (told.Down cut) can = absurd can.1
         holding_locked told.Done can = absurd can.1
 
     holding_reserved : (round : Round) (answer : WriteTold) → IsHolding (after (Reserving round) answer)
     holding_reserved round (told.Slots replicas) = tt
-    holding_reserved round (told.Old last) = tt
-    holding_reserved round (told.Full count) = tt
+    holding_reserved round (told.OldPoint last) = tt
+    holding_reserved round (told.RangeFull count) = tt
     holding_reserved round (told.Up buckets) = holding_reserving (after_look round fate.Ready)
     holding_reserved round (told.Down cut) = holding_reserving (after_look round (fate.Missed cut))
     holding_reserved round told.Done = tt
@@ -183,8 +183,8 @@ module _ (setting : Setting) (world : World) (i : ℕ) (who : Writer) (is : worl
 
     holding_entered : (round : Round) (answer : WriteTold) → IsHolding (after (Entering round) answer)
     holding_entered round (told.Slots replicas) = tt
-    holding_entered round (told.Old last) = tt
-    holding_entered round (told.Full count) = tt
+    holding_entered round (told.OldPoint last) = tt
+    holding_entered round (told.RangeFull count) = tt
     holding_entered round (told.Up buckets) = tt
     holding_entered round (told.Down cut) = holding_entering (after_look round (fate.Missed cut))
     holding_entered round told.Done = tt
@@ -193,8 +193,8 @@ module _ (setting : Setting) (world : World) (i : ℕ) (who : Writer) (is : worl
         → (j ≡ i) × (option_map (λ (inside : Leaf). inside.0)
         (leaf_inside (after (Entering (record { done = done; left = mark ∷ left })) answer)) ≡ Some mark.leaf.0)
     inside_entered done left mark (told.Slots replicas) j e = absurd (not_some j e)
-    inside_entered done left mark (told.Old last) j e = absurd (not_some j e)
-    inside_entered done left mark (told.Full count) j e = absurd (not_some j e)
+    inside_entered done left mark (told.OldPoint last) j e = absurd (not_some j e)
+    inside_entered done left mark (told.RangeFull count) j e = absurd (not_some j e)
     inside_entered done left mark (told.Up buckets) j e = (sym (same_Some i j e), refl)
     inside_entered done left mark (told.Down cut) j e = absurd (not_some j e)
     inside_entered done left mark told.Done j e = absurd (not_some j e)

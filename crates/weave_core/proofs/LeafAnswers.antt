@@ -29,7 +29,7 @@ use Rattle.weave_core.proofs.SeatLemmas.{parts_alike}
 use Rattle.weave_core.specs.Agreements.{IsLeafSo}
 use Rattle.weave_core.specs.Core.{Core, IsLookedAt, IsTold, Reader, query_now}
 use Rattle.weave_core.specs.Holders.{HoldsLeaf}
-use Rattle.weave_core.specs.Meetings.{met_at_leaf}
+use Rattle.weave_core.specs.Meetings.{sight_at_leaf}
 use Rattle.weave_core.specs.QueryLooks.{IsHeldFrom, IsSeatedForLeaf, Looks, LooksAt, visit_told}
 use Rattle.weave_core.specs.QueryTurns.{AnswersSo, IsAnswered, IsAsking, QueryWaits}
 use Rattle.mon_topo.specs.Sights.{AreAlike, sight_of}
@@ -40,7 +40,7 @@ use Rattle.weave_core.specs.declared.queries.Querying.{Querying}
 use Rattle.mon_topo.specs.declared.sights.Sight.{Sight}
 use Rattle.weave_core.specs.declared.store.Store.{Store}
 use Rattle.write_core.proofs.KeepsLemmas.{changed_same}
-use Rattle.write_core.specs.Views.{View, joined_view, of_leaf}
+use Rattle.mon_topo.specs.Views.{View, joined_view, of_leaf}
 use Rattle.write_core.specs.World.{World}
 use Rattle.weave_core.proofs.AskingLemmas.{answered, asked_of, asks_then, from, not_mine, some_holder, there_at, waits}
 
@@ -171,7 +171,7 @@ module _ (config : Config) (core : Core (store_of config)) (k : ℕ) (store : St
       leaf_looked answer looks =
           let seen_then : now ≡ sight_of (joined_view reader.view (world.leaves leaf.0)).seen =
           looks.seen
-          ∙ (λ i. met_at_leaf leaf (so.history i) (asking.reader.seen i) (so.sight i))
+          ∙ (λ i. sight_at_leaf leaf (so.history i) (asking.reader.seen i) (so.sight i))
           ∙ leaf_met (store_of config) world reader.view leaf asking.woven.world (asking.woven.readers k).part in
           answered config core k store querying sight asking (ask.Visit leaf) e new now answer (record {
             told = subst (λ (some : Told). IsTold (store_of config) reader.setting reader.moment world reader.view

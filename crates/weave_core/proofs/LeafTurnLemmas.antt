@@ -19,7 +19,7 @@ use Rattle.weave_core.proofs.RaiseLemmas.{all_below}
 use Rattle.weave_core.proofs.WriteTurnLemmas.{can_come, not_mine_leaf, step_is, waits_so, went_so, writer_then}
 use Rattle.weave_core.specs.Agreements.{IsLeafSo}
 use Rattle.weave_core.specs.Holders.{leaf_inside}
-use Rattle.weave_core.specs.Meetings.{met_at_leaf}
+use Rattle.weave_core.specs.Meetings.{sight_at_leaf}
 use Rattle.mon_topo.specs.Sights.{sight_of}
 use Rattle.weave_core.specs.States.{holder_for_actor, holder_for_write, store_of}
 use Rattle.weave_core.specs.WriteEvents.{ChangesLeaf, Enters, EntersIf, IsHeldUp, Reserves, ReservesIf, up_or_down}
@@ -33,7 +33,7 @@ use Rattle.write_core.proofs.KeepsLemmas.{changed_same}
 use Rattle.write_core.specs.Program.{Entering, Reserving, Stage, after, ask_of}
 use Rattle.write_core.specs.Rounds.{Round, after_look}
 use Rattle.write_core.specs.Steps.{AreUnraised, IsToldAtEntry, IsToldByLeaf, entrant, same_view}
-use Rattle.write_core.specs.Views.{View, joined_view, of_leaf}
+use Rattle.mon_topo.specs.Views.{View, joined_view, of_leaf}
 use Rattle.write_core.specs.World.{Actor, World, Writer, at_leaf, view_of, writes_on}
 use Rattle.write_core.specs.declared.asks.WriteTold.{WriteTold}
 use Rattle.write_core.specs.declared.asks.WriteTold.TheVariants as told
@@ -52,10 +52,10 @@ module _ (config : Config) (world : World) (i : ℕ) (store : Store) (writing : 
   abbrev writer : Writer
   writer = writer_of i writing view
 
-  pub met_is : met_at_leaf leaf seat.state.history sight seat.sight
+  pub met_is : sight_at_leaf leaf seat.state.history sight seat.sight
       ≡ sight_of (joined_view view (world.leaves leaf.0)).seen
   met_is =
-      (λ k. met_at_leaf leaf (so.history k) (work.writer.seen k) (so.sight k))
+      (λ k. sight_at_leaf leaf (so.history k) (work.writer.seen k) (so.sight k))
       ∙ leaf_met setting world view leaf work.kept (own config world i store writing sight work).part
 
   -- it waits

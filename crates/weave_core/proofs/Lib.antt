@@ -5,7 +5,6 @@ pub mod AtWorkLemmas
 pub mod CoreLemmas
 pub mod CourseLemmas
 pub mod DeclareLemmas
-pub mod EndTextLemmas
 pub mod HearingLemmas
 pub mod HolderLemmas
 pub mod LeafAnswers
@@ -20,7 +19,6 @@ pub mod OpeningLemmas
 pub mod SeatingLemmas
 pub mod BeginLemmas
 pub mod PlaceLemmas
-pub mod PlanBuckets
 pub mod PutTurnLemmas
 pub mod QueryPlanLemmas
 pub mod QuerySeats
@@ -29,12 +27,10 @@ pub mod QueryTurnLemmas
 pub mod RaiseLemmas
 pub mod RaiseTurnLemmas
 pub mod RangeAnswers
-pub mod RangeLemmas
 pub mod ReachedLemmas
 pub mod ReaderAnswers
 pub mod ReaderLemmas
 pub mod SeatLemmas
-pub mod SeenLemmas
 pub mod StepLemmas
 pub mod TurnLemmas
 pub mod WeaveLemmas

@@ -1,6 +1,6 @@
 -- A write's turn at its range's lock.
 use Rattle.std.proofs.Common.{◌≡◌, ℕ, Bool, true, false, Some, List, refl, sym, ap, subst, ◌∙◌}
-use Rattle.std.specs.Prelude.{◌≢◌}
+use Rattle.std.specs.Prelude.{◌≢◌, is_some}
 use Rattle.mon_config.specs.declared.config.Config.{Config}
 use Rattle.mon_topo.specs.Settings.{Setting}
 use Rattle.mon_value.specs.declared.histories.RangeEntry.{RangeEntry}
@@ -13,8 +13,7 @@ use Rattle.weave_core.proofs.WriteTurnLemmas.{can_come, not_mine_range, step_is,
 use Rattle.weave_core.specs.Writers.{writer_of}
 use Rattle.weave_core.specs.Agreements.{IsRangeSo}
 use Rattle.weave_core.specs.Holders.{HoldsRange, IsHolding, leaf_inside}
-use Rattle.weave_core.specs.Meetings.{met_at_range}
-use Rattle.weave_core.specs.RangeAnswers.{lock_answer}
+use Rattle.weave_core.specs.Meetings.{sight_at_range}
 use Rattle.mon_topo.specs.Sights.{sight_of}
 use Rattle.weave_core.specs.States.{holder_for_actor, holder_for_write, store_of}
 use Rattle.weave_core.specs.WriteEvents.{ChangesRange, IsHeldUp, Locks, LocksIf}
@@ -25,8 +24,10 @@ use Rattle.weave_core.specs.declared.store.Store.{Store}
 use Rattle.weave_core.specs.declared.writes.Writing.{Writing}
 use Rattle.write_core.proofs.KeepsLemmas.{changed_same}
 use Rattle.write_core.specs.Program.{Locking, Stage, after, ask_of}
+use Rattle.write_core.specs.RangeAnswers.{lock_answer}
+use Rattle.write_core.specs.Replays.{HasAckRoom}
 use Rattle.write_core.specs.Steps.{IsToldByRange, same_view}
-use Rattle.write_core.specs.Views.{View, joined_view, of_range}
+use Rattle.mon_topo.specs.Views.{View, joined_view, of_range}
 use Rattle.write_core.specs.World.{Actor, World, Writer, Writes, at_range, view_of, writes_on}
 use Rattle.write_core.specs.declared.asks.WriteAsk.TheVariants as ask
 use Rattle.write_core.specs.declared.asks.WriteTold.{WriteTold}
@@ -52,7 +53,7 @@ module _ (config : Config) (world : World) (i : ℕ) (store : Store) (writing : 
       new)
       (locks : Locks config.range_points seat taken writing next sight now) where
     abbrev answer : WriteTold
-    answer = lock_answer config.range_points seat.state writing.row
+    answer = lock_answer config.range_points seat.state.history writing.row
 
     abbrev then' : World
     then' = at_range world i view range same_view (Some i) (writes_on writer (after Locking answer))
@@ -67,7 +68,7 @@ module _ (config : Config) (world : World) (i : ℕ) (store : Store) (writing : 
     seen_is : now ≡ sight_of (joined_view view (world.ranges range.0)).seen
     seen_is =
         locks.seen
-        ∙ (λ k. met_at_range range (so.history k) (work.writer.seen k) (so.sight k))
+        ∙ (λ k. sight_at_range range (so.history k) (work.writer.seen k) (so.sight k))
         ∙ range_met setting world view range work.kept (own config world i store writing sight work).part
 
     holder_is : taken.holder ≡ Some i
@@ -79,9 +80,9 @@ module _ (config : Config) (world : World) (i : ℕ) (store : Store) (writing : 
         (step_is config world i store writing sight work Locking answer at)
         (can_come config world i store writing sight work Locking answer at (sym so.holder ∙ locks.free, told_truly))
         (shared_at_range config world i view range same_view refl (λ leaf. refl) (λ n apart. refl) (Some i)
-        (writes_on writer (after Locking answer)) store new taken work.shared changes (locks.state ∙ so.history)
+        (writes_on writer (after Locking answer)) store new taken work.shared changes (locks.history ∙ so.history)
         holder_is
-        (locks.sight_there ∙ seen_is))
+        (locks.sight_there ∙ seen_is) (λ held. locks.room))
         (writer_then config world i store writing sight work (then'.actors i) (after Locking answer)
         (joined_view view (world.ranges range.0)) answer writing.inside next now
         (changed_same world.actors i (writes_on writer (after Locking answer)
@@ -111,9 +112,10 @@ module _ (config : Config) (world : World) (i : ℕ) (store : Store) (writing : 
         waits_so config world i store writing sight work seat.holder new next now held.held needs
         (λ e. not_mine_range config world i store writing sight work range.0 not_holding (sym so.holder ∙ e))
         (same_at_range config world range store new left work.shared changes (record {
-          history = ap (λ (s : RangeSeat). s.state) held.seat ∙ so.history;
+          history = ap (λ (s : RangeSeat). s.state.history) held.seat ∙ so.history;
           holder = ap (λ (s : RangeSeat). s.holder) held.seat ∙ so.holder;
           sight = ap (λ (s : RangeSeat). s.sight) held.seat ∙ so.sight;
+          room = subst (λ (s : RangeSeat). is_some s.holder ≡ true → HasAckRoom s.state) (sym held.seat) so.room;
         }))
         held.writing held.seen
 

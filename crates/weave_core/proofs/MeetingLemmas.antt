@@ -3,7 +3,7 @@ use Rattle.std.proofs.Common.{◌≡◌, List, [], length, map, set, sym, ap, �
 use Rattle.std.proofs.Math.ListN.{get_or-map}
 use Rattle.std.proofs.lemmas.List.{set-get_or}
 use Rattle.mon_topo.proofs.SightLemmas.{joined_seen}
-use Rattle.weave_core.specs.Meetings.{met_at_leaf, met_at_range}
+use Rattle.weave_core.specs.Meetings.{sight_at_leaf, sight_at_range}
 use Rattle.mon_topo.specs.Sights.{range_sight, sight_of, with_leaf_sight, with_range_sight}
 use Rattle.mon_value.specs.Histories.{joined_histories, leaf_history, range_history}
 use Rattle.mon_value.specs.declared.histories.Histories.{Histories}
@@ -14,7 +14,7 @@ use Rattle.mon_value.specs.declared.positions.Leaf.{Leaf}
 use Rattle.mon_value.specs.declared.positions.Range.{Range}
 use Rattle.write_core.proofs.ViewLemmas.{joined_whole_leaf, joined_whole_range}
 use Rattle.write_core.specs.Invariant.{IsKept}
-use Rattle.write_core.specs.Views.{View, joined_view, of_leaf, of_range}
+use Rattle.mon_topo.specs.Views.{View, joined_view, of_leaf, of_range}
 use Rattle.write_core.specs.World.{IsPart, World}
 
 -- a history that was seen whole is seen so far
@@ -38,7 +38,7 @@ range_noted seen range history is = λ i. record {
 
 module _ (store : Setting) (world : World) (view : View) where
   pub leaf_met : (leaf : Leaf) → IsKept store world → IsPart store world view
-      → met_at_leaf leaf (of_leaf world.truth leaf) (sight_of view.seen) (sight_of (world.leaves leaf.0).seen)
+      → sight_at_leaf leaf (of_leaf world.truth leaf) (sight_of view.seen) (sight_of (world.leaves leaf.0).seen)
       ≡ sight_of (joined_view view (world.leaves leaf.0)).seen
   leaf_met leaf kept part =
       ap (with_leaf_sight leaf (length (of_leaf world.truth leaf))) (joined_seen view.seen (world.leaves leaf.0).seen)
@@ -47,7 +47,7 @@ module _ (store : Setting) (world : World) (view : View) where
       (kept.whole_leaves leaf))
 
   pub range_met : (range : Range) → IsKept store world → IsPart store world view
-      → met_at_range range (of_range world.truth range) (sight_of view.seen) (sight_of (world.ranges range.0).seen)
+      → sight_at_range range (of_range world.truth range) (sight_of view.seen) (sight_of (world.ranges range.0).seen)
       ≡ sight_of (joined_view view (world.ranges range.0)).seen
   range_met range kept part =
       ap (with_range_sight range (range_sight (of_range world.truth range)))

@@ -15,7 +15,7 @@ use Rattle.mon_value.specs.declared.positions.Zone.{Zone}
 use Rattle.weave_core.specs.Agreements.{AreWords, place_of_leaf}
 use Rattle.weave_core.specs.HintWords.{HasWord, HintTable}
 use Rattle.weave_core.specs.States.{store_of}
-use Rattle.weave_core.specs.declared.words.Place.TheVariants as at
+use Rattle.mon_hints.specs.declared.places.Place.TheVariants as at
 use Rattle.write_core.specs.World.{World}
 
 -- ---- zones of leaves

@@ -18,7 +18,7 @@ use Rattle.weave_core.proofs.SeatLemmas.{leaf_so_then, shared_at_leaf}
 use Rattle.mon_topo.proofs.SightLemmas.{leaf_seen, noted_over}
 use Rattle.weave_core.proofs.WriteTurnLemmas.{can_come, step_is, went_so, writer_then}
 use Rattle.weave_core.specs.Agreements.{IsLeafSo}
-use Rattle.weave_core.specs.Meetings.{met_at_leaf}
+use Rattle.weave_core.specs.Meetings.{sight_at_leaf}
 use Rattle.mon_topo.specs.Sights.{sight_of, with_leaf_sight}
 use Rattle.weave_core.specs.States.{store_of}
 use Rattle.weave_core.specs.WriteEvents.{ChangesLeaf, Puts}
@@ -36,7 +36,7 @@ use Rattle.write_core.specs.Invariant.{IsAt, IsEntering, IsKept}
 use Rattle.write_core.specs.Program.{Inside, Stage, after, entering}
 use Rattle.write_core.specs.Rounds.{Round, after_look}
 use Rattle.write_core.specs.Steps.{step}
-use Rattle.write_core.specs.Views.{View, joined_view, of_leaf, with_entry}
+use Rattle.mon_topo.specs.Views.{View, joined_view, of_leaf, with_entry}
 use Rattle.write_core.specs.World.{World, Writer, at_leaf, put_of, view_of, writes_on}
 use Rattle.write_core.specs.declared.asks.WriteTold.TheVariants as told
 use Rattle.write_core.specs.declared.marks.Fate.TheVariants as fate
@@ -131,7 +131,7 @@ module _ (config : Config) (world : World) (i : ℕ) (store : Store) (writing : 
       seen_is : now ≡ sight_of (with_entry mark.leaf last met).seen
       seen_is =
           puts.seen
-          ∙ (λ k. met_at_leaf mark.leaf (other_history k) (work.writer.seen k) (so.sight k))
+          ∙ (λ k. sight_at_leaf mark.leaf (other_history k) (work.writer.seen k) (so.sight k))
           ∙ noted_over mark.leaf (of_leaf world.truth mark.leaf) (of_leaf world.truth mark.leaf ++ last ∷ [])
           (sight_of view.seen) (sight_of (world.leaves mark.leaf.0).seen) (sight_of met.seen)
           (leaf_met setting world view mark.leaf work.kept (own config world i store writing sight work).part)

@@ -15,7 +15,7 @@ use Rattle.weave_core.specs.declared.ranges.RangeSeat.{RangeSeat}
 use Rattle.weave_core.specs.declared.store.Store.{Store}
 use Rattle.write_core.proofs.KeepsLemmas.{changed_other}
 use Rattle.write_core.specs.Events.{after_resolving, after_visit}
-use Rattle.write_core.specs.Views.{View, of_leaf, of_range}
+use Rattle.mon_topo.specs.Views.{View, of_leaf, of_range}
 use Rattle.write_core.specs.World.{World}
 
 -- the same is true and held, and all but one leaf and one range have seen the same
@@ -78,6 +78,7 @@ module _ (config : Config) (world next : World) (OtherLeaf OtherRange : ℕ → 
     history = so.history ∙ ap (λ (truth : View). of_range truth (range_numbered n)) (sym same.truth);
     holder = so.holder ∙ sym (same.range_holder n);
     sight = so.sight ∙ ap (λ (view : View). sight_of view.seen) (sym (same.ranges n other));
+    room = so.room;
   }
 
 -- one range's seat is looked at

@@ -34,7 +34,7 @@ use Rattle.weave_core.specs.declared.queries.Querying.{Querying}
 use Rattle.mon_topo.specs.declared.sights.Sight.{Sight}
 use Rattle.weave_core.specs.declared.store.Store.{Store}
 use Rattle.write_core.proofs.KeepsLemmas.{changed_same}
-use Rattle.write_core.specs.Views.{View}
+use Rattle.mon_topo.specs.Views.{View}
 use Rattle.write_core.specs.World.{Actor as Doer, Stands, World, view_of}
 
 -- ---- stages

@@ -19,7 +19,7 @@ use Rattle.query_core.specs.declared.stages.Stage.{Stage}
 use Rattle.query_core.specs.declared.stages.Stage.TheVariants as at
 use Rattle.weave_core.proofs.CoreLemmas.{goes}
 use Rattle.weave_core.specs.ActorAgreements.{IsReaderSo}
-use Rattle.weave_core.specs.Core.{Core, Reader, Tells, asked_now, came, query_now, seen_by, told_on, view_told}
+use Rattle.weave_core.specs.Core.{Core, Reader, Tells, asked_now, came, query_now, told_on, view_told}
 use Rattle.mon_topo.specs.FirstHistories.{first_histories}
 use Rattle.weave_core.specs.QueryTurns.{AnswersSo, IsAnswered, IsAsking, IsToldLast, IsToldOn, QueriesSo, QueryEnded}
 use Rattle.weave_core.specs.QueryTurns.{QueryWent, TurnsBy}
@@ -65,7 +65,7 @@ module _ (config : Config) (core : Core (store_of config)) (k : ℕ) (store : St
         ≡ record { setting = query.setting; avoided = avoided_after query.avoided query.stage answer; stage = stage }
     query_then stage =
         query_push (store_of config) reader.setting reader.moment reader.first reader.session
-        (record { answer = answer; view = seen_by (view_told (store_of config) core.world reader); stage = stage })
+        (record { answer = answer; view = view_told (store_of config) core.world reader; stage = stage })
 
     settled : (stage : Stage)
         → Settles querying.machine.setting (after querying.machine.setting querying.machine.stage answer) stage

@@ -4,6 +4,7 @@ use Rattle.std.proofs.Common.{length, refl, sym, ap, subst, ◌∙◌, inl, inr,
 use Rattle.std.proofs.lemmas.List.{length-set}
 use Rattle.std.proofs.lemmas.Bool.{cases_eq, eq-eqb, ne_eqb}
 use Rattle.mon_config.specs.declared.config.Config.{Config}
+use Rattle.mon_hints.specs.Places.{same_place}
 use Rattle.mon_hints.specs.Covers.{with_bit}
 use Rattle.mon_hints.specs.Words.{has_bit}
 use Rattle.mon_value.specs.Histories.{leaf_history}
@@ -19,9 +20,9 @@ use Rattle.weave_core.proofs.SeatLemmas.{leaf_so_then, leaves_at_leaf, ranges_at
 use Rattle.weave_core.proofs.WriteTurnLemmas.{can_come, step_is, went_so, writer_then}
 use Rattle.weave_core.proofs.WordLemmas.{one_raised}
 use Rattle.weave_core.specs.Agreements.{AreWords, IsLeafSo, place_of_leaf}
-use Rattle.weave_core.specs.HintWords.{HasWord, HintTable, RaisesOne, with_child_bit, same_word_place, hint_word_at}
+use Rattle.weave_core.specs.HintWords.{HasWord, HintTable, RaisesOne, with_child_bit, hint_word_at}
 use Rattle.weave_core.specs.Holders.{leaf_inside}
-use Rattle.weave_core.specs.Meetings.{met_at_leaf}
+use Rattle.weave_core.specs.Meetings.{sight_at_leaf}
 use Rattle.mon_topo.specs.Sights.{sight_of}
 use Rattle.weave_core.specs.States.{store_of}
 use Rattle.weave_core.specs.WriteEvents.{RaisesBit, RaisesWord}
@@ -31,14 +32,14 @@ use Rattle.weave_core.specs.declared.leaves.LeafSeat.{LeafSeat}
 use Rattle.mon_topo.specs.declared.sights.Sight.{Sight}
 use Rattle.mon_topo.proofs.LawfulLemmas.{few}
 use Rattle.weave_core.specs.declared.store.Store.{Store}
-use Rattle.weave_core.specs.declared.words.Place.{Place}
-use Rattle.weave_core.specs.declared.words.Place.TheVariants as word
+use Rattle.mon_hints.specs.declared.places.Place.{Place}
+use Rattle.mon_hints.specs.declared.places.Place.TheVariants as word
 use Rattle.weave_core.specs.declared.writes.Writing.{Writing}
 use Rattle.write_core.proofs.KeepsLemmas.{changed_same}
 use Rattle.write_core.specs.Invariant.{IsAt, IsInside}
 use Rattle.write_core.specs.Program.{Inside, Stage, after}
 use Rattle.write_core.specs.Rounds.{Round}
-use Rattle.write_core.specs.Views.{View, joined_view, with_root_bit, with_zone_bit}
+use Rattle.mon_topo.specs.Views.{View, joined_view, with_root_bit, with_zone_bit}
 use Rattle.write_core.specs.World.{World, Writer, at_leaf, view_of, writes_on}
 use Rattle.write_core.specs.declared.asks.WriteTold.TheVariants as told
 use Rattle.write_core.specs.declared.marks.Mark.{Mark}
@@ -100,13 +101,13 @@ module _ (config : Config) (world next : World) (words : HintTable) (are : AreWo
         count = count_raised word.Root zone small (root_there config world words are bucket below) ∙ are.count;
         root = λ z b h.
             raises word.Root b z (in_words b h)
-            ∙ (λ k. turned (same_word_place word.Root word.Root) (nat_eq b bucket) (nat_eq z zone) (eq-eqb 0 0 refl) k
+            ∙ (λ k. turned (same_place word.Root word.Root) (nat_eq b bucket) (nat_eq z zone) (eq-eqb 0 0 refl) k
             || are.root z b h k)
             ∙ sym (roots z b);
         zone = λ leaf b here h.
             raises (word.Zone (zone_of_leaf (store_of config) leaf)) b (place_of_leaf (store_of config) leaf)
             (in_words b h)
-            ∙ elsewhere (same_word_place (word.Zone (zone_of_leaf (store_of config) leaf)) word.Root) (nat_eq b bucket)
+            ∙ elsewhere (same_place (word.Zone (zone_of_leaf (store_of config) leaf)) word.Root) (nat_eq b bucket)
             (nat_eq (place_of_leaf (store_of config) leaf) zone)
             (has_bit (hint_word_at words (word.Zone (zone_of_leaf (store_of config) leaf)) b)
             (place_of_leaf (store_of config) leaf))
@@ -131,7 +132,7 @@ module _ (config : Config) (world next : World) (words : HintTable) (are : AreWo
         count = count_raised (word.Zone own_zone) own_place small has ∙ are.count;
         root = λ z b h.
             raises word.Root b z (in_words b h)
-            ∙ elsewhere (same_word_place word.Root (word.Zone own_zone)) (nat_eq b bucket) (nat_eq z own_place)
+            ∙ elsewhere (same_place word.Root (word.Zone own_zone)) (nat_eq b bucket) (nat_eq z own_place)
             (has_bit (hint_word_at words word.Root b) z) (ne_eqb 0 (own_zone.0 + 1) (λ e. omega (arith, e)))
             ∙ are.root z b h ∙ sym (roots z b);
         zone = λ other b here h.
@@ -237,7 +238,7 @@ module _ (config : Config) (world : World) (i : ℕ) (store : Store) (writing : 
     seen_is : now ≡ sight_of (change met).seen
     seen_is =
         raises.seen
-        ∙ (λ k. met_at_leaf mark.leaf (so.history k) (work.writer.seen k) (so.sight k))
+        ∙ (λ k. sight_at_leaf mark.leaf (so.history k) (work.writer.seen k) (so.sight k))
         ∙ leaf_met setting world view mark.leaf work.kept (own config world i store writing sight work).part
         ∙ ap sight_of (sym (seen_same met))
 

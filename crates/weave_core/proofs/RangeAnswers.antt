@@ -1,6 +1,6 @@
 -- What a query is told of a range is what the core tells it.
 use Rattle.std.proofs.Common.{◌≡◌, ◌∙◌, ◌<◌, ℕ, length, refl, sym, ap, subst, arith}
-use Rattle.std.specs.Prelude.{slice_get, Option, Some, None}
+use Rattle.std.specs.Prelude.{is_some, slice_get, Option, Some, None}
 use Rattle.std.proofs.lemmas.List.{length-map}
 use Rattle.mon_config.specs.declared.config.Config.{Config}
 use Rattle.mon_value.specs.declared.positions.Range.{Range}
@@ -17,7 +17,7 @@ use Rattle.weave_core.proofs.SeatLemmas.{parts_alike}
 use Rattle.weave_core.specs.Agreements.{IsRangeSo}
 use Rattle.weave_core.specs.Core.{Core, IsTold, Reader, query_now}
 use Rattle.weave_core.specs.Holders.{HoldsRange}
-use Rattle.weave_core.specs.Meetings.{met_at_range}
+use Rattle.weave_core.specs.Meetings.{sight_at_range}
 use Rattle.weave_core.specs.QueryLooks.{FindsReplica, FindsAt, IsHeldFrom, IsSeatedForRange, slot_told}
 use Rattle.weave_core.specs.QueryTurns.{AnswersSo, IsAnswered, IsAsking, QueryWaits}
 use Rattle.mon_topo.specs.Sights.{AreAlike, range_sight, sight_of}
@@ -28,7 +28,8 @@ use Rattle.weave_core.specs.declared.ranges.RangeSeat.{RangeSeat}
 use Rattle.mon_topo.specs.declared.sights.Sight.{Sight}
 use Rattle.weave_core.specs.declared.store.Store.{Store}
 use Rattle.write_core.proofs.KeepsLemmas.{changed_same}
-use Rattle.write_core.specs.Views.{View, joined_view, of_range}
+use Rattle.write_core.specs.Replays.{HasAckRoom, Replay}
+use Rattle.mon_topo.specs.Views.{View, joined_view, of_range}
 use Rattle.write_core.specs.World.{World}
 use Rattle.weave_core.proofs.AskingLemmas.{answered, not_mine, some_holder, there_at, waits}
 
@@ -89,7 +90,7 @@ module _ (config : Config) (core : Core (store_of config)) (k : ℕ) (store : St
           let so = range_so seat was in
           let seen_then : now ≡ sight_of (joined_view reader.view (world.ranges range.0)).seen =
           finds.seen
-          ∙ (λ i. met_at_range range (so.history i) (asking.reader.seen i) (so.sight i))
+          ∙ (λ i. sight_at_range range (so.history i) (asking.reader.seen i) (so.sight i))
           ∙ range_met (store_of config) world reader.view range asking.woven.world (asking.woven.readers k).part in
           let avoided : querying.machine.avoided ≡ query.avoided = ap (λ (one : Query). one.avoided)
           (sym asking.reader.now) in
@@ -103,11 +104,12 @@ module _ (config : Config) (core : Core (store_of config)) (k : ℕ) (store : St
             shared = shared_range config world _ range store new left (resolved_same world range reader.view)
                 asking.shared
                 changes (record {
-                  history = finds.state ∙ so.history;
+                  history = ap (λ (replay : Replay). replay.history) finds.state ∙ so.history;
                   holder = finds.holder ∙ so.holder;
                   sight = finds.sight_there ∙ seen_then
                       ∙ ap (λ (view : View). sight_of view.seen)
                       (sym (changed_same world.ranges range.0 (joined_view reader.view (world.ranges range.0))));
+                  room = λ held. subst HasAckRoom (sym finds.state) (so.room (ap is_some (sym finds.holder) ∙ held));
                 });
             sight_is = seen_then;
           })

@@ -2,7 +2,7 @@
 use Rattle.std.proofs.Common.{◌≡◌, ◌≤ℤ◌, ◌⊎◌, inl, inr, ℕ, ℤ, zero, suc, pos, List, [], ◌∷◌, Option, Some, None}
 use Rattle.std.proofs.Common.{Result, Ok, Err, refl, sym, subst, ◌∙◌}
 use Rattle.mon_config.specs.declared.config.Config.{Config}
-use Rattle.mon_topo.specs.Locations.{range_for}
+use Rattle.mon_config.specs.KeyRanges.{range_of_key}
 use Rattle.mon_topo.specs.Settings.{Setting}
 use Rattle.mon_value.specs.declared.positions.Range.{Range}
 use Rattle.mon_value.specs.declared.rows.Row.{Row}
@@ -10,12 +10,14 @@ use Rattle.mql_types.specs.Nodes.{TypedTree}
 use Rattle.query_core.specs.Askings.{IsAskedOf}
 use Rattle.query_core.specs.Machine.{new_query}
 use Rattle.query_core.specs.Settings.{QuerySetting}
+use Rattle.query_texts.specs.TextTypes.{text_type}
+use Rattle.query_texts.specs.declared.faults.TextFault.{TextFault}
 use Rattle.weave_core.proofs.CoreLemmas.{new_woven, stays_woven}
 use Rattle.weave_core.specs.Core.{CanCome, CoreEvent, Happens, Hears, Reader, Tells, begun_with, came, told_on}
 use Rattle.weave_core.specs.Core.{view_told}
-use Rattle.weave_core.specs.Declarations.{Declares, QueryBegins, WriteBegins, hearing, new_reader, query_typed}
+use Rattle.weave_core.specs.Declarations.{Declares, QueryBegins, WriteBegins, hearing, new_reader}
 use Rattle.weave_core.specs.Declarations.{with_reader}
-use Rattle.weave_core.specs.EndTexts.{no_zone_text}
+use Rattle.weave_core.specs.EndTexts.{no_plan_line, no_zone_line}
 use Rattle.weave_core.specs.LawfulLines.{IsLawfulCall, IsLawfulForm}
 use Rattle.weave_core.specs.Licensed.{IsReader, IsWoven}
 use Rattle.weave_core.specs.Reached.{LinesLead}
@@ -32,7 +34,7 @@ use Rattle.weave_core.specs.declared.lines.LineForm.TheVariants as form
 use Rattle.write_core.proofs.KeepsLemmas.{changed_by}
 use Rattle.write_core.specs.Events.{Begins, Goes}
 use Rattle.write_core.specs.Invariant.{IsActor}
-use Rattle.write_core.specs.Views.{View, joined_view}
+use Rattle.mon_topo.specs.Views.{View, joined_view}
 use Rattle.write_core.specs.World.{Actor, IsPart, Recovers, Stands, World, Writes, view_of}
 
 -- what an actor has seen and knows is a part of the truth
@@ -48,7 +50,7 @@ pub fresh_reader : (store : Setting) (world : World) (setting : QuerySetting) (m
     → IsReader store world (new_reader store setting moment view)
 fresh_reader store world setting moment view part = record {
   part = part;
-  sound = record { held = part.sound.held; covered = λ leaf here. part.sound.covered leaf };
+  sound = part.sound;
   licensed = tt;
   now = refl;
 }
@@ -190,16 +192,17 @@ module _ (config : Config) where
       k row range after
       → Holds state → Holds after
   write_holds state k row None after begins h =
-      subst Holds (sym begins) (role_holds state k (Eventless no_zone_text) (eventless no_zone_text) h)
+      subst Holds (sym begins) (role_holds state k (Eventless no_zone_line) (eventless no_zone_line) h)
   write_holds state k row (Some range) after begins h =
       subst Holds (sym begins.1)
       (role_holds (with_event Store' state (Happens (Begins k row range))) k Writing writing
       (event_holds state (Happens (Begins k row range)) begins.0 h))
 
-  query_holds : (state : State') (k : ℕ) (moment : ℤ) (typed : Result TypedTree (List ℕ)) (after : State')
+  query_holds : (state : State') (k : ℕ) (moment : ℤ) (typed : Result TypedTree TextFault) (after : State')
       → pos 0 ≤ℤ moment
       → QueryBegins config state k moment typed after → Holds state → Holds after
-  query_holds state k moment (Err line) after from begins h =
+  query_holds state k moment (Err why) after from begins h =
+      let line : List ℕ = no_plan_line why in
       subst Holds (sym begins) (role_holds state k (Eventless line) (eventless line) h)
   query_holds state k moment (Ok typed) after from (setting, asked, same) h =
       subst Holds (sym same) (reader_holds state k setting moment asked.asked from h)
@@ -207,9 +210,9 @@ module _ (config : Config) where
   declare_holds : (state : State') (k : ℕ) (what : Call) (after : State') → IsLawfulCall config.schemas what
       → Declares config state k what after → Holds state → Holds after
   declare_holds state k (call.Write row) after lawful declares h =
-      write_holds state k row (range_for config.schemas config.topology row.key.target) after declares h
+      write_holds state k row (range_of_key config row.key) after declares h
   declare_holds state k (call.Query moment text) after lawful declares h =
-      query_holds state k moment (query_typed config text) after lawful declares h
+      query_holds state k moment (text_type config.schemas text) after lawful declares h
 
   does_hold : (state : State') (what : LineForm) (said : List ℕ) (after : State') → IsLawfulForm config.schemas what
       → Does config state what said after → Holds state → Holds after

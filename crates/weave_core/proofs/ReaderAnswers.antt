@@ -15,15 +15,15 @@ use Rattle.query_core.specs.Program.{ask_of}
 use Rattle.mon_meaning.specs.ReadableSlots.{CanBeRead}
 use Rattle.query_core.specs.Sessions as session
 use Rattle.query_core.specs.Traces.{IsBetween}
-use Rattle.query_core.specs.Sessions.{IsGrown, IsLicensed, IsSound, IsTrueAnswer, query_after, view_after}
+use Rattle.query_core.specs.Sessions.{IsLicensed, IsTrueAnswer, query_after, view_after}
+use Rattle.mon_topo.specs.Views.{IsSound, IsViewWithin, View, joined_view, of_leaf}
 use Rattle.query_core.specs.declared.asks.Ask.TheVariants as ask
 use Rattle.query_core.specs.declared.asks.Told.{Told}
 use Rattle.weave_core.proofs.CoreLemmas.{all_looked, at_leaf, found_so, goes, sound_so, true_told}
 use Rattle.weave_core.proofs.ReaderLemmas.{as_new}
-use Rattle.weave_core.specs.Core.{IsLookedAt, IsTold, Reader, asked_now, query_now, seen_by, view_told, world_told}
+use Rattle.weave_core.specs.Core.{IsLookedAt, IsTold, Reader, asked_now, query_now, view_told, world_told}
 use Rattle.weave_core.specs.Licensed.{IsReader}
 use Rattle.write_core.specs.Invariant.{IsKept}
-use Rattle.write_core.specs.Views.{View, joined_view, of_leaf}
 use Rattle.write_core.specs.World.{World}
 
 module _ (store : Setting) (world : World) (reader : Reader store) (kept : IsKept store world)
@@ -36,10 +36,10 @@ module _ (store : Setting) (world : World) (reader : Reader store) (kept : IsKep
   abbrev from_new : Query
   from_new = query_after store reader.setting reader.moment (new_query reader.setting) reader.session
 
-  abbrev seen_then : session.View
-  seen_then = view_after store reader.setting reader.moment (seen_by reader.begin) reader.session
+  abbrev seen_then : View
+  seen_then = view_after store reader.setting reader.moment reader.begin reader.session
 
-  licensed : IsLicensed store reader.setting reader.moment (seen_by reader.begin) (new_query reader.setting)
+  licensed : IsLicensed store reader.setting reader.moment reader.begin (new_query reader.setting)
       reader.session
   licensed = as_new store world reader own new
 
@@ -50,29 +50,29 @@ module _ (store : Setting) (world : World) (reader : Reader store) (kept : IsKep
   pub reader_there : IsThere store.zones (asked_now store reader)
   reader_there =
       subst (λ (one : Query). IsThere store.zones (ask_of reader.setting one.stage)) same_query
-      (all_there store reader.setting reader.moment asked from (seen_by reader.begin) reader.session own.sound licensed)
+      (all_there store reader.setting reader.moment asked from reader.begin reader.session own.sound licensed)
 
-  module _ (later : session.View) (grown : IsGrown (seen_by reader.view) later) (sound : IsSound store later) where
-    grown_then : IsGrown seen_then later
-    grown_then = subst (λ (view : session.View). IsGrown view later) (sym own.now) grown
+  module _ (later : View) (grown : IsViewWithin reader.view later) (sound : IsSound store later) where
+    grown_then : IsViewWithin seen_then later
+    grown_then = subst (λ (view : View). IsViewWithin view later) (sym own.now) grown
 
-    true_then : (answer : Told) → IsTrueAnswer store reader.setting reader.moment (seen_by reader.view) later
+    true_then : (answer : Told) → IsTrueAnswer store reader.setting reader.moment reader.view later
         query.avoided
         (slots_at query) (asked_now store reader) answer
         → IsTrueAnswer store reader.setting reader.moment seen_then later from_new.avoided (slots_at from_new)
         (ask_of reader.setting from_new.stage) answer
     true_then answer is =
-        subst (λ (view : session.View). IsTrueAnswer store reader.setting reader.moment view later from_new.avoided
+        subst (λ (view : View). IsTrueAnswer store reader.setting reader.moment view later from_new.avoided
         (slots_at from_new) (ask_of reader.setting from_new.stage) answer) (sym own.now)
-        (subst (λ (one : Query). IsTrueAnswer store reader.setting reader.moment (seen_by reader.view) later one.avoided
+        (subst (λ (one : Query). IsTrueAnswer store reader.setting reader.moment reader.view later one.avoided
         (slots_at one) (ask_of reader.setting one.stage) answer) (sym same_query) is)
 
-    may_told : (answer : Told) → IsTrueAnswer store reader.setting reader.moment (seen_by reader.view) later
+    may_told : (answer : Told) → IsTrueAnswer store reader.setting reader.moment reader.view later
         query.avoided
         (slots_at query) (asked_now store reader) answer → MayBeTold reader.setting query.stage answer
     may_told answer is =
         subst (λ (one : Query). MayBeTold reader.setting one.stage answer) same_query
-        (may_be_told store reader.setting reader.moment asked from (seen_by reader.begin) reader.session own.sound
+        (may_be_told store reader.setting reader.moment asked from reader.begin reader.session own.sound
         licensed
         later grown_then sound answer (true_then answer is))
 
@@ -82,7 +82,7 @@ module _ (store : Setting) (world : World) (reader : Reader store) (kept : IsKep
   reader_may answer told =
       let went = goes store reader.setting reader.moment world reader.view kept own.part query.avoided (slots_at query)
       (asked_now store reader) answer told in
-      may_told (seen_by (view_told store world reader)) (record { seen = went.grown.seen; bits = went.grown.bits })
+      may_told ((view_told store world reader)) (record { seen = went.grown.seen; bits = went.grown.bits })
       (sound_so store (world_told store world reader) (view_told store world reader) went.part_then) answer
       (true_told store reader.setting reader.moment world reader.view kept own.part query.avoided (slots_at query)
       (asked_now store reader) answer told)
@@ -105,12 +105,12 @@ module _ (store : Setting) (world : World) (reader : Reader store) (kept : IsKep
     read_then =
         let went = at_leaf store reader.setting reader.moment world reader.view kept own.part leaf free in
         let found = found_so store reader.setting reader.moment world reader.view kept own.part leaf cut down looked in
-        can_read store reader.setting reader.moment asked from (seen_by reader.begin) reader.session own.sound licensed
-        (seen_by after)
-        (grown_then (seen_by after) (record { seen = went.grown.seen; bits = went.grown.bits })
+        can_read store reader.setting reader.moment asked from reader.begin reader.session own.sound licensed
+        after
+        (grown_then after (record { seen = went.grown.seen; bits = went.grown.bits })
         (sound_so store _ after went.part_then))
         (sound_so store _ after went.part_then) leaf cut
-        (subst (λ (view : session.View). IsBetween (length (leaf_history view.seen leaf)) (length (of_leaf after leaf))
+        (subst (λ (view : View). IsBetween (length (leaf_history view.seen leaf)) (length (of_leaf after leaf))
         cut)
         (sym own.now) found.between)
         (ap (λ (one : Query). ask_of reader.setting one.stage) same_query ∙ asks)

@@ -1,7 +1,7 @@
 -- Seats of a store: what is said of each of them stays where one is changed, and what is known of the one that a
 -- write needs.
-use Rattle.std.proofs.Common.{◌≡◌, ℕ, zero, suc, List, [], ◌∷◌, length, set, refl, sym, ap, subst, ◌∙◌, arith}
-use Rattle.std.specs.Prelude.{Option, Some, slice_get, ◌≢◌}
+use Rattle.std.proofs.Common.{◌≡◌, ℕ, zero, suc, true, List, [], ◌∷◌, length, set, refl, sym, ap, subst, ◌∙◌, arith}
+use Rattle.std.specs.Prelude.{Option, Some, is_some, slice_get, ◌≢◌}
 use Rattle.std.proofs.Math.Nat.{suc_inj}
 use Rattle.std.proofs.lemmas.List.{length-set, length-map}
 use Rattle.std.proofs.lemmas.Option.{none-some, same_Some}
@@ -19,13 +19,14 @@ use Rattle.weave_core.specs.declared.leaves.LeafSeat.{LeafSeat}
 use Rattle.weave_core.specs.declared.ranges.RangeSeat.{RangeSeat}
 use Rattle.mon_topo.specs.declared.sights.Sight.{Sight}
 use Rattle.weave_core.specs.declared.store.Store.{Store}
-use Rattle.weave_core.specs.declared.words.Place.TheVariants as at
+use Rattle.mon_hints.specs.declared.places.Place.TheVariants as at
 use Rattle.mon_hints.specs.Covers.{Bits}
 use Rattle.mon_hints.specs.Words.{has_bit}
 use Rattle.mon_topo.specs.Settings.{zone_of_leaf}
 use Rattle.weave_core.specs.Agreements.{place_of_leaf}
 use Rattle.write_core.proofs.KeepsLemmas.{changed_other, changed_same}
-use Rattle.write_core.specs.Views.{View, of_leaf, of_range}
+use Rattle.write_core.specs.Replays.{HasAckRoom}
+use Rattle.mon_topo.specs.Views.{View, of_leaf, of_range}
 use Rattle.write_core.specs.World.{Actor, IsPart, World, at_leaf, at_range, met_at_leaf, met_at_range}
 
 -- ---- lists with one item changed
@@ -122,10 +123,12 @@ module _ (config : Config) (world : World) (i : ℕ) (view : View) (range : Rang
     → of_range (change world.truth) (range_numbered n) ≡ of_range world.truth (range_numbered n)) where
   pub shared_at_range : (holder : Option ℕ) (f : View → Actor) (old new : Store) (seat : RangeSeat) → AreShared config
       world old
-      → ChangesRange range seat old new → seat.state ≡ of_range (change world.truth) range → seat.holder ≡ holder
+      → ChangesRange range seat old new → seat.state.history ≡ of_range (change world.truth) range
+      → seat.holder ≡ holder
       → seat.sight ≡ sight_of (met_at_range world view range change).seen
+      → (is_some holder ≡ true → HasAckRoom seat.state)
       → AreShared config (at_range world i view range change holder f) new
-  shared_at_range holder f old new seat shared changes state holds sight =
+  shared_at_range holder f old new seat shared changes state holds sight room =
       let next : World = at_range world i view range change holder f in
       let leaf_stays : (n : ℕ) (one : LeafSeat) → IsLeafSo config world (leaf_numbered n) one
       → IsLeafSo config next (leaf_numbered n) one
@@ -144,6 +147,7 @@ module _ (config : Config) (world : World) (i : ℕ) (view : View) (range : Rang
         holder = holds ∙ sym (changed_same world.range_holder range.0 holder);
         sight = sight ∙ ap (λ (seen : View). sight_of seen.seen)
             (sym (changed_same world.ranges range.0 (met_at_range world view range change)));
+        room = λ held. room (ap is_some (sym holds) ∙ held);
       } in
       let others : (m : ℕ) (one : RangeSeat) → m ≢ range.0 → slice_get old.ranges.items m ≡ Some one
       → IsRangeSo next m one
@@ -152,6 +156,7 @@ module _ (config : Config) (world : World) (i : ℕ) (view : View) (range : Rang
         holder = (shared.ranges.each m one got).holder ∙ sym (changed_other world.range_holder range.0 m holder apart);
         sight = (shared.ranges.each m one got).sight ∙ ap (λ (seen : View). sight_of seen.seen)
             (sym (changed_other world.ranges range.0 m (met_at_range world view range change) apart));
+        room = (shared.ranges.each m one got).room;
       } in
       record {
         config_is = changes.config ∙ shared.config_is;
@@ -213,6 +218,7 @@ module _ (config : Config) (world : World) (i : ℕ) (view : View) (leaf : Leaf)
           history = before.history ∙ sym (ranges_same (range_numbered n));
           holder = before.holder;
           sight = before.sight;
+          room = before.room;
         };
   }
 

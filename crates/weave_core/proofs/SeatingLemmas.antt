@@ -25,16 +25,18 @@ use Rattle.mon_topo.specs.FirstHistories.{first_range_histories}
 use Rattle.weave_core.specs.FirstSeats.{AreFirstSeats}
 use Rattle.weave_core.specs.HintWords.{HintTable, index_of, no_words, hint_word_at}
 use Rattle.weave_core.specs.Openings.{AreOpenedSo, IsOpenedSo, first_world, leaf_seat}
-use Rattle.weave_core.specs.Openings.{leaf_seats, range_seat, sight_of_states}
+use Rattle.weave_core.specs.Openings.{leaf_seats, range_seat, replayed, sight_of_states}
 use Rattle.mon_topo.specs.Sights.{range_sight, sight_of}
 use Rattle.weave_core.specs.declared.leaves.LeafSeat.{LeafSeat}
 use Rattle.weave_core.specs.declared.ranges.RangeSeat.{RangeSeat}
+use Rattle.mon_topo.specs.declared.sights.RangeSight.{RangeSight}
 use Rattle.mon_topo.specs.declared.sights.Sight.{Sight}
 use Rattle.weave_core.specs.declared.store.Seats.{Seats}
 use Rattle.weave_core.specs.declared.store.Store.{Store}
-use Rattle.weave_core.specs.declared.words.Place.{Place}
-use Rattle.weave_core.specs.declared.words.Place.TheVariants as at
+use Rattle.mon_hints.specs.declared.places.Place.{Place}
+use Rattle.mon_hints.specs.declared.places.Place.TheVariants as at
 use Rattle.weave_core.specs.States.{store_of}
+use Rattle.write_core.specs.Replays.{Replay}
 
 -- ---- how far histories were seen
 
@@ -57,14 +59,23 @@ histories_are config states opened =
     get_or-map (λ (state : LeafView). state.history) states k some [] within
     ∙ (opened.each k (get_or states k some) (slice_get-get_or states k some within)).entries)
 
-sight_is : (config : Config) (states : List LeafView) (ranges : List (List RangeEntry))
-    → AreOpenedSo config (first_leaf_history config.topology) states → ranges ≡ first_range_histories config.topology
+sights_by : (ranges : List Replay)
+    → map (λ (replay : Replay). range_sight replay.history) ranges ≡ map range_sight (replayed ranges)
+sights_by [] = refl
+sights_by (replay ∷ ranges) = ap (λ (l : List RangeSight). range_sight replay.history ∷ l) (sights_by ranges)
+
+sight_is : (config : Config) (states : List LeafView) (ranges : List Replay)
+    → AreOpenedSo config (first_leaf_history config.topology) states
+    → replayed ranges ≡ first_range_histories config.topology
     → sight_of_states states ranges ≡ sight_of (first_view config).seen
 sight_is config states ranges opened are =
     let lengths : map (λ (state : LeafView). length state.history) states
     ≡ map (λ (h : List Entry). length h) (first_histories config.topology).leaves
     = lengths_by states ∙ ap (map (λ (h : List Entry). length h)) (histories_are config states opened) in
-    λ i. record { leaves = lengths i; ranges = map range_sight (are i) }
+    let sights : map (λ (replay : Replay). range_sight replay.history) ranges
+    ≡ map range_sight (first_range_histories config.topology)
+    = sights_by ranges ∙ ap (map range_sight) are in
+    λ i. record { leaves = lengths i; ranges = sights i }
 
 -- ---- words
 
@@ -232,32 +243,49 @@ none_behind zones z n past from within =
 some_range : (a b : RangeSeat) → Some a ≡ Some b → a ≡ b
 some_range a b e = cc
 
-range_at : (sight : Sight) (n : ℕ) (histories : List (List RangeEntry)) (seat : RangeSeat)
-    → slice_get (map (range_seat sight) histories) n ≡ Some seat → range_seat sight (get_or histories n []) ≡ seat
-range_at sight n [] seat is = let l = slice_get_within [] n seat is in absurd (omega (arith, l))
-range_at sight zero (history ∷ histories) seat is = some_range (range_seat sight history) seat is
-range_at sight (suc n) (history ∷ histories) seat is = range_at sight n histories seat is
+-- the seat of a replay
+record IsSeated (sight : Sight) (n : ℕ) (replays : List Replay) (seat : RangeSeat) : Type 0 where
+  replay : Replay
+  history : replay.history ≡ get_or (replayed replays) n []
+  is : range_seat sight replay ≡ seat
 
-ranges_are : (config : Config) (sight : Sight) (seats : List RangeSeat) → sight ≡ sight_of (first_view config).seen
-    → seats ≡ map (range_seat sight) (first_range_histories config.topology) → AreRanges config (first_world config)
-    seats
-ranges_are config sight seats seen are = record {
+range_at : (sight : Sight) (n : ℕ) (replays : List Replay) (seat : RangeSeat)
+    → slice_get (map (range_seat sight) replays) n ≡ Some seat → IsSeated sight n replays seat
+range_at sight n [] seat is = let l = slice_get_within [] n seat is in absurd (omega (arith, l))
+range_at sight zero (replay ∷ replays) seat is = record {
+  replay = replay;
+  history = refl;
+  is = some_range (range_seat sight replay) seat is;
+}
+range_at sight (suc n) (replay ∷ replays) seat is =
+    let rest = range_at sight n replays seat is in
+    record { replay = rest.replay; history = rest.history; is = rest.is }
+
+ranges_are : (config : Config) (sight : Sight) (seats : List RangeSeat) (replays : List Replay)
+    → sight ≡ sight_of (first_view config).seen → replayed replays ≡ first_range_histories config.topology
+    → seats ≡ map (range_seat sight) replays → AreRanges config (first_world config) seats
+ranges_are config sight seats replays seen same are = record {
   count = ap (λ (l : List RangeSeat). length l) are
-      ∙ length-map (first_range_histories config.topology) (range_seat sight)
+      ∙ length-map replays (range_seat sight)
+      ∙ sym (length-map replays (λ (replay : Replay). replay.history))
+      ∙ ap (λ (l : List (List RangeEntry)). length l) same
       ∙ length-map-range_with_len (first_range_history config.topology) 0 (length (ranges_in config.topology));
   each = λ n seat there.
-      subst (IsRangeSo (first_world config) n)
-      (range_at sight n (first_range_histories config.topology) seat
-      (sym (ap (λ (l : List RangeSeat). slice_get l n) are) ∙ there))
-      (record { history = refl; holder = refl; sight = seen });
+      let own = range_at sight n replays seat (sym (ap (λ (l : List RangeSeat). slice_get l n) are) ∙ there) in
+      subst (IsRangeSo (first_world config) n) own.is
+      (record {
+        history = own.history ∙ ap (λ (l : List (List RangeEntry)). get_or l n []) same;
+        holder = refl;
+        sight = seen;
+        room = λ held. absurd cc;
+      });
 }
 
 -- ---- all of them
 
-pub shared : (config : Config) (store : Store) (states : List LeafView) (ranges : List (List RangeEntry))
-    (sight : Sight)
+pub shared : (config : Config) (store : Store) (states : List LeafView) (ranges : List Replay) (sight : Sight)
     → IsServed config → AreOpenedSo config (first_leaf_history config.topology) states
-    → ranges ≡ first_range_histories config.topology → sight ≡ sight_of_states states ranges
+    → replayed ranges ≡ first_range_histories config.topology → sight ≡ sight_of_states states ranges
     → store.config ≡ config → store.words ≡ no_words (length config.topology) config.buckets
     → store.leaves.items ≡ leaf_seats config.topology sight 0 states
     → store.ranges.items ≡ map (range_seat sight) ranges → store.first_sight ≡ sight
@@ -269,15 +297,16 @@ shared config store states ranges sight served opened histories seen config_is w
       served = served;
       words = words_are config store.words words;
       leaves = leaves_are config sight states store.leaves.items opened whole leaves;
-      ranges = ranges_are config sight store.ranges.items whole (seats ∙ ap (map (range_seat sight)) histories);
+      ranges = ranges_are config sight store.ranges.items ranges whole histories seats;
       first = first ∙ whole;
     }
 
 -- ---- seats that nobody holds, and of which all is seen
 
-pub first_seats : {E : Type 0} (config : Config) (states : List LeafView) (ranges : List (List RangeEntry))
+pub first_seats : {E : Type 0} (config : Config) (states : List LeafView) (ranges : List Replay)
     (sight : Sight) (result : Result Seats E)
-    → AreOpenedSo config (first_leaf_history config.topology) states → ranges ≡ first_range_histories config.topology
+    → AreOpenedSo config (first_leaf_history config.topology) states
+    → replayed ranges ≡ first_range_histories config.topology
     → sight ≡ sight_of_states states ranges
     → IfOk result (λ (seats : Seats). seats.words ≡ no_words (length config.topology) config.buckets)
     → IfOk result (λ (seats : Seats). seats.leaves.items ≡ leaf_seats config.topology sight 0 states)
@@ -287,9 +316,11 @@ pub first_seats : {E : Type 0} (config : Config) (states : List LeafView) (range
 first_seats config states ranges sight (Ok seats) opened histories seen words leaves seats_of_ranges first = record {
   states = states;
   opened = opened;
-  sight = first ∙ seen ∙ ap (λ (r : List (List RangeEntry)). sight_of_states states r) histories;
+  replays = ranges;
+  replay = histories;
+  sight = first ∙ seen;
   words = words;
   leaves = leaves ∙ ap (λ (s : Sight). leaf_seats config.topology s 0 states) (sym first);
-  ranges = seats_of_ranges ∙ (λ i. map (range_seat (sym first i)) (histories i));
+  ranges = seats_of_ranges ∙ ap (λ (s : Sight). map (range_seat s) ranges) (sym first);
 }
 first_seats config states ranges sight (Err why) opened histories seen words leaves seats_of_ranges first = record {}

@@ -19,7 +19,7 @@ use Rattle.write_core.proofs.KeepsLemmas.{changed_other}
 use Rattle.write_core.specs.Events.{Goes}
 use Rattle.write_core.specs.Program.{Acking, Ended, Entering, Inside, Locking, Reserving, Stage, after}
 use Rattle.write_core.specs.Steps.{CanGo, after_entering, gone_on_inside, after_reserving, step, step_at, after_answer}
-use Rattle.write_core.specs.Views.{View}
+use Rattle.mon_topo.specs.Views.{View}
 use Rattle.write_core.specs.World.{Actor, Recovers, Stands, World, Writer, Writes}
 use Rattle.write_core.specs.declared.asks.WriteTold.{WriteTold}
 use Rattle.write_core.specs.declared.marks.Mark.{Mark}

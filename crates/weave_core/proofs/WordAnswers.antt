@@ -18,7 +18,7 @@ use Rattle.query_core.specs.declared.asks.Ask.TheVariants as ask
 use Rattle.query_core.specs.declared.stages.Stage.{Stage}
 use Rattle.query_core.specs.declared.stages.Stage.TheVariants as at
 use Rattle.weave_core.proofs.PlaceLemmas.{zone_word_there}
-use Rattle.weave_core.proofs.PlanBuckets.{next_below}
+use Rattle.plan_split.proofs.PlanBuckets.{next_below}
 use Rattle.weave_core.specs.Core.{Core}
 use Rattle.weave_core.specs.HintWords.{HasWord, hint_word_at}
 use Rattle.weave_core.specs.QueryLooks.{word_told}
@@ -27,7 +27,7 @@ use Rattle.weave_core.specs.States.{store_of}
 use Rattle.weave_core.specs.declared.queries.Querying.{Querying}
 use Rattle.mon_topo.specs.declared.sights.Sight.{Sight}
 use Rattle.weave_core.specs.declared.store.Store.{Store}
-use Rattle.weave_core.specs.declared.words.Place.TheVariants as word
+use Rattle.mon_hints.specs.declared.places.Place.TheVariants as word
 use Rattle.write_core.specs.World.{World}
 use Rattle.weave_core.proofs.AskingLemmas.{answered, seen_here, there_at}
 

@@ -7,12 +7,11 @@ use Rattle.std.proofs.lemmas.Bool.{cases_eq, cases_lt, eq-eqb, ne_eqb}
 use Rattle.std.proofs.lemmas.List.{get_or-set_same, get_or-set_other}
 use Rattle.std.proofs.Math.Nat.{add-mul, mul-le-mul_right}
 use Rattle.std.proofs.lemmas.Nat.Bits.{bit_at_set_same, bit_at_set_other}
+use Rattle.mon_hints.specs.Places.{place_number, same_place}
 use Rattle.mon_hints.specs.Words.{has_bit}
 use Rattle.weave_core.specs.HintWords.{HasWord, HintTable, RaisesOne, child_bit, index_of, with_child_bit}
-use Rattle.weave_core.specs.HintWords.{same_word_place}
-use Rattle.weave_core.specs.HintWords.{table_number}
 use Rattle.weave_core.specs.HintWords.{with_raised, hint_word_at}
-use Rattle.weave_core.specs.declared.words.Place.{Place}
+use Rattle.mon_hints.specs.declared.places.Place.{Place}
 
 -- ---- places of words
 
@@ -64,25 +63,25 @@ module _ (hints : HintTable) (place : Place) (child bucket : ℕ) (small : child
   -- another word
   elsewhere : (index_of hints other b ≡ index_of hints place bucket → ⊥) → Wanted
   elsewhere differ =
-      let apart : (same_word_place other place && nat_eq b bucket) ≡ false
-      = not_this (same_word_place other place && nat_eq b bucket) (λ e.
-      let parts = both_true (same_word_place other place) (nat_eq b bucket) e in
-      differ (ap (λ t. t * hints.buckets + b) (is_same (table_number other) (table_number place) parts.0)
-      ∙ ap (λ x. table_number place * hints.buckets + x) (is_same b bucket parts.1))) in
+      let apart : (same_place other place && nat_eq b bucket) ≡ false
+      = not_this (same_place other place && nat_eq b bucket) (λ e.
+      let parts = both_true (same_place other place) (nat_eq b bucket) e in
+      differ (ap (λ t. t * hints.buckets + b) (is_same (place_number other) (place_number place) parts.0)
+      ∙ ap (λ x. place_number place * hints.buckets + x) (is_same b bucket parts.1))) in
       ap (λ read. has_bit read c)
       (get_or-set_other hints.words (index_of hints place bucket) (index_of hints other b) new 0 differ)
       ∙ sym (ap (λ found. (found && nat_eq c child) || has_bit (hint_word_at hints other b) c) apart)
 
   module _ (same : index_of hints other b ≡ index_of hints place bucket) where
-    tables : table_number other ≡ table_number place
-    tables = same_table (table_number other) (table_number place) hints.buckets b bucket within there.bucket_there same
+    tables : place_number other ≡ place_number place
+    tables = same_table (place_number other) (place_number place) hints.buckets b bucket within there.bucket_there same
 
     buckets : b ≡ bucket
-    buckets = same_bucket (table_number other) (table_number place) hints.buckets b bucket tables same
+    buckets = same_bucket (place_number other) (place_number place) hints.buckets b bucket tables same
 
-    this_word : (same_word_place other place && nat_eq b bucket) ≡ true
+    this_word : (same_place other place && nat_eq b bucket) ≡ true
     this_word =
-        ap (λ found. found && nat_eq b bucket) (eq-eqb (table_number other) (table_number place) tables)
+        ap (λ found. found && nat_eq b bucket) (eq-eqb (place_number other) (place_number place) tables)
         ∙ eq-eqb b bucket buckets
 
     read_back : get_or (set hints.words (index_of hints place bucket) new) (index_of hints other b) 0 ≡ new

@@ -1,19 +1,17 @@
 -- What the calls of a store for a write's events ask for, and what they come to, by what the events do to the seats.
-use Rattle.std.proofs.Common.{◌≡◌, ℕ, ◌<◌, ◌<ℤ◌, Bool, true, false, List, [], ◌∷◌, ◌++◌, Some, length, get_or}
+use Rattle.std.proofs.Common.{◌≡◌, ℕ, ◌<◌, Bool, true, false, List, [], ◌∷◌, ◌++◌, Some, length, get_or}
 use Rattle.std.proofs.Common.{refl, sym, ap, subst, ◌∙◌}
-use Rattle.std.specs.Prelude.{IfSome, slice_get}
+use Rattle.std.specs.Prelude.{slice_get}
 use Rattle.std.proofs.lemmas.Option.{same_Some, slice_get_read}
 use Rattle.mon_config.specs.declared.config.Config.{Config}
 use Rattle.mon_topo.specs.Settings.{zone_of_leaf}
-use Rattle.mon_topo.specs.RangeHistories.{acknowledged_rows}
 use Rattle.mon_value.specs.LeafHistories.{IsWellFormed}
-use Rattle.mon_value.specs.Sources.{last_end, points_of}
 use Rattle.mon_value.specs.declared.histories.Entry.TheVariants as entry
 use Rattle.mon_value.specs.declared.positions.Leaf.{Leaf}
 use Rattle.mon_value.specs.declared.positions.Range.{Range}
 use Rattle.mon_value.specs.declared.positions.Slot.{Slot}
 use Rattle.mon_value.specs.declared.positions.Zone.{Zone}
-use Rattle.weave_core.proofs.AckTurnLemmas.{acknowledge_turn, later}
+use Rattle.weave_core.proofs.AckTurnLemmas.{acknowledge_turn, has_room}
 use Rattle.weave_core.proofs.AtWorkLemmas.{StandsAt, StandsBefore, StandsInside, leaf_alike, leaf_in_sight}
 use Rattle.weave_core.proofs.AtWorkLemmas.{leaf_in_truth, leaf_there, own, range_alike, range_in_sight, range_there}
 use Rattle.weave_core.proofs.AtWorkLemmas.{stands_at}
@@ -27,8 +25,7 @@ use Rattle.weave_core.specs.Agreements.{IsLeafSo, IsRangeSo, place_of_leaf}
 use Rattle.weave_core.specs.HintWords.{HasWord}
 use Rattle.mon_topo.specs.Sights.{AreAlike}
 use Rattle.weave_core.specs.States.{store_of}
-use Rattle.weave_core.specs.WriteEvents.{ChangesLeaf, ChangesRange, EntersIf, IfWritten, LetsGo, LocksIf, Puts}
-use Rattle.weave_core.specs.WriteEvents.{RaisesBit}
+use Rattle.weave_core.specs.WriteEvents.{ChangesLeaf, ChangesRange, EntersIf, LetsGo, LocksIf, Puts, RaisesBit}
 use Rattle.weave_core.specs.WriteEvents.{RaisesWord, ReservesIf}
 use Rattle.weave_core.specs.WriteTurns.{IsAtWork, IsInSomeWorld, WentSo, WriteEnded, WriteWent, WritesSo, turn_of}
 use Rattle.weave_core.specs.Writers.{writer_of}
@@ -36,12 +33,13 @@ use Rattle.weave_core.specs.declared.leaves.LeafSeat.{LeafSeat}
 use Rattle.weave_core.specs.declared.ranges.RangeSeat.{RangeSeat}
 use Rattle.mon_topo.specs.declared.sights.Sight.{Sight}
 use Rattle.weave_core.specs.declared.store.Store.{Store}
-use Rattle.weave_core.specs.declared.words.Place.TheVariants as word
+use Rattle.mon_hints.specs.declared.places.Place.TheVariants as word
 use Rattle.weave_core.specs.declared.writes.WriteTurn.{WriteTurn}
 use Rattle.weave_core.specs.declared.writes.Writing.{Writing}
 use Rattle.write_core.specs.Invariant.{IsAt}
 use Rattle.write_core.specs.Program.{Acking, Ended, Entering, Inside, Reserving, Stage, Verdict, after, ask_of}
 use Rattle.write_core.specs.Program.{end_of_verdict, EndsSo}
+use Rattle.write_core.specs.Replays.{HasAckRoom}
 use Rattle.write_core.specs.World.{World, view_of}
 use Rattle.write_core.specs.declared.asks.WriteAsk.{WriteAsk}
 use Rattle.write_core.specs.declared.asks.WriteAsk.TheVariants as ask
@@ -178,15 +176,11 @@ module _ (config : Config) (world : World) (i : ℕ) (store : Store) (writing : 
       acknowledge_turn config world i store writing sight work at.0 at.1 seat (range_so seat got) end
       (end_so at.0 at.1 range stage end ranges stages ends) new other now changes goes
 
-  pub later_so : ask_of writing.machine.stage ≡ ask.Ack → (range : Range) (stage : Stage) (end : WriteEnd)
-      → range ≡ writing.machine.range → stage ≡ after writing.machine.stage told.Done → EndsSo range stage end
-      → (seat : RangeSeat) → slice_get store.ranges.items writing.range.0 ≡ Some seat
-      → IfWritten end (IfSome (last_end (points_of writing.row.key (acknowledged_rows seat.state)))
-      (λ last. last <ℤ writing.row.point.end))
-  later_so e range stage end ranges stages ends seat got =
+  pub room_so : ask_of writing.machine.stage ≡ ask.Ack → (seat : RangeSeat)
+      → slice_get store.ranges.items writing.range.0 ≡ Some seat → HasAckRoom seat.state
+  room_so e seat got =
       let at : (verdict : Verdict) × (writing.machine.stage ≡ Acking verdict) = at_ask ask.Ack e in
-      later config world i store writing sight work at.0 at.1 seat (range_so seat got) end
-      (end_so at.0 at.1 range stage end ranges stages ends)
+      has_room config world i store writing sight work at.0 at.1 seat (range_so seat got)
 
   -- ---- what is asked for
 
@@ -358,12 +352,12 @@ module _ (store : Store) (writing : Writing) (sight : Sight) (some : IsInSomeWor
   putting_follows slot leaf e seat got =
       put_follows_so some.config some.world some.i store writing sight some.at_work slot leaf e seat got
 
-  pub acking_later : ask_of writing.machine.stage ≡ ask.Ack → (range : Range) (stage : Stage) (end : WriteEnd)
-      → range ≡ writing.machine.range → stage ≡ after writing.machine.stage told.Done → EndsSo range stage end
-      → (seat : RangeSeat) → slice_get store.ranges.items writing.range.0 ≡ Some seat
-      → IfWritten end (IfSome (last_end (points_of writing.row.key (acknowledged_rows seat.state)))
-      (λ last. last <ℤ writing.row.point.end))
-  acking_later = later_so some.config some.world some.i store writing sight some.at_work
+  pub acking_room : ask_of writing.machine.stage ≡ ask.Ack → (seat : RangeSeat)
+      → slice_get store.ranges.items writing.range.0 ≡ Some seat → HasAckRoom seat.state
+  acking_room = room_so some.config some.world some.i store writing sight some.at_work
+
+  pub own_key : writing.key ≡ writing.row.key
+  own_key = some.at_work.writer.key
 
   -- where a bit is set
   module _ (bucket : ℕ) (asks : ask_of writing.machine.stage ≡ ask.RaiseRoot bucket) (leaf : Leaf)

@@ -3,6 +3,7 @@ use Rattle.std.proofs.Common.{◌≡◌, ℕ, true, Option, Some, None, refl, sy
 use Rattle.std.specs.Prelude.{◌≢◌, is_some}
 use Rattle.mon_config.specs.declared.config.Config.{Config}
 use Rattle.mon_value.specs.declared.positions.Leaf.{Leaf}
+use Rattle.mon_value.specs.declared.rows.Row.{Row}
 use Rattle.weave_core.proofs.AtWorkLemmas.{looks_after}
 use Rattle.weave_core.specs.Writers.{IsWriterSo, LooksAtOne, RaisesBelow, writer_of}
 use Rattle.weave_core.specs.Agreements.{AreShared}
@@ -16,7 +17,7 @@ use Rattle.weave_core.specs.declared.store.Store.{Store}
 use Rattle.weave_core.specs.declared.writes.Writing.{Writing}
 use Rattle.write_core.specs.Program.{Stage, after, ask_of}
 use Rattle.write_core.specs.Steps.{CanCome, CanComeAt, step, step_at, after_answer, CanGo}
-use Rattle.write_core.specs.Views.{View}
+use Rattle.mon_topo.specs.Views.{View}
 use Rattle.write_core.specs.World.{Actor, World, Writer, Writes, view_of, writes_on}
 use Rattle.write_core.specs.declared.asks.WriteAsk.TheVariants as ask
 use Rattle.write_core.specs.declared.asks.WriteTold.{WriteTold}
@@ -59,6 +60,7 @@ module _ (config : Config) (world : World) (i : ℕ) (store : Store) (writing : 
       let view_is : view_of doer ≡ seen = ap view_of doer_is in
       record {
         number = told.number ∙ work.writer.number;
+        key = told.key ∙ work.writer.key ∙ ap (λ (row : Row). row.key) (sym told.row);
         writer = doer_is ∙ (λ k. Writes (record {
           pass = i;
           row = sym told.row k;

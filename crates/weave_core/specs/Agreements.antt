@@ -1,5 +1,5 @@
 -- What a store keeps of all that actors share: each leaf, each range and each hint word as the core has it.
-use Rattle.std.specs.Prelude.{ℕ, ◌≡◌, ◌+◌, ◌*◌, ◌-◌, ◌<◌, false, List, length, slice_get, Some}
+use Rattle.std.specs.Prelude.{ℕ, ◌≡◌, ◌+◌, ◌*◌, ◌-◌, ◌<◌, false, true, List, length, slice_get, Some, is_some}
 use Rattle.mon_config.specs.declared.config.Config.{Config}
 use Rattle.mon_hints.specs.Covers.{Bits}
 use Rattle.mon_hints.specs.Words.{has_bit}
@@ -18,8 +18,9 @@ use Rattle.weave_core.specs.States.{store_of}
 use Rattle.weave_core.specs.declared.leaves.LeafSeat.{LeafSeat}
 use Rattle.weave_core.specs.declared.ranges.RangeSeat.{RangeSeat}
 use Rattle.weave_core.specs.declared.store.Store.{Store}
-use Rattle.weave_core.specs.declared.words.Place.TheVariants as at
-use Rattle.write_core.specs.Views.{View, of_leaf, of_range}
+use Rattle.mon_hints.specs.declared.places.Place.TheVariants as at
+use Rattle.write_core.specs.Replays.{HasAckRoom}
+use Rattle.mon_topo.specs.Views.{View, of_leaf, of_range}
 use Rattle.write_core.specs.World.{World}
 use Rattle.mon_config.specs.Configs.{IsLimited}
 
@@ -53,11 +54,12 @@ pub record AreLeaves (config : Config) (world : World) (seats : List LeafSeat) :
   pub count : length seats ≡ length (leaves_in config.topology)
   pub each : (n : ℕ) (seat : LeafSeat) → slice_get seats n ≡ Some seat → IsLeafSo config world (leaf_numbered n) seat
 
--- so does a range's
+-- so does a range's, and while someone holds the range its next acknowledgement takes no memory
 pub record IsRangeSo (world : World) (n : ℕ) (seat : RangeSeat) : Type 0 where
-  pub history : seat.state ≡ of_range world.truth (range_numbered n)
+  pub history : seat.state.history ≡ of_range world.truth (range_numbered n)
   pub holder : seat.holder ≡ world.range_holder n
   pub sight : seat.sight ≡ sight_of (world.ranges n).seen
+  pub room : is_some seat.holder ≡ true → HasAckRoom seat.state
 
 pub record AreRanges (config : Config) (world : World) (seats : List RangeSeat) : Type 0 where
   pub count : length seats ≡ length (ranges_in config.topology)

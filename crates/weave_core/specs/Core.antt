@@ -29,12 +29,8 @@ use Rattle.query_core.specs.declared.asks.Told.{Told}
 use Rattle.query_core.specs.declared.asks.Told.TheVariants as told
 use Rattle.query_core.specs.declared.stages.Stage.{Stage}
 use Rattle.write_core.specs.Events.{CanHappen, Event, after_event, after_resolving, after_visit}
-use Rattle.write_core.specs.Views.{View, joined_view, of_leaf, of_range}
+use Rattle.mon_topo.specs.Views.{View, joined_view, of_leaf, of_range}
 use Rattle.write_core.specs.World.{IsPart, World, with_value_at}
-
--- a view, as a query's session speaks of it
-abbrev pub seen_by : View → session.View
-seen_by view = record { seen = view.seen; bits = view.bits }
 
 -- ---- what a query is told of its next event
 
@@ -148,7 +144,7 @@ module _ (store : Setting) where
     moment = reader.moment;
     first = reader.first;
     begin = reader.begin;
-    session = reader.session ++ record { answer = answer; view = seen_by view; stage = stage } ∷ [];
+    session = reader.session ++ record { answer = answer; view = view; stage = stage } ∷ [];
     view = view;
   }
 

@@ -1,44 +1,31 @@
 -- What it takes and what it does to declare an actor, and to let one that has not begun hear from one that has ended.
-use Rattle.std.specs.Prelude.{ℕ, ℤ, ◌≡◌, List, [], map, Option, Some, None, Result, Ok, Err}
+use Rattle.std.specs.Prelude.{ℕ, ℤ, ◌≡◌, [], map, Option, Some, None, Result, Ok, Err}
 use Rattle.mon_config.specs.declared.config.Config.{Config}
 use Rattle.mon_hints.specs.Formulas.{formula_tree}
-use Rattle.mon_topo.specs.Locations.{range_for}
+use Rattle.mon_config.specs.KeyRanges.{range_of_key}
 use Rattle.mon_topo.specs.Settings.{Setting}
-use Rattle.mon_value.specs.Answers.{◌>>=◌}
 use Rattle.mon_value.specs.declared.positions.Range.{Range}
 use Rattle.mon_value.specs.declared.rows.Row.{Row}
-use Rattle.mql_parse.specs.PipeReading.{text_outcome}
 use Rattle.mql_types.specs.Nodes.{TypedTree}
-use Rattle.mql_types.specs.Typing.{typing}
 use Rattle.plan_split.specs.FetchFormulas.{plan_formulas}
 use Rattle.query_core.specs.Askings.{IsAskedOf}
 use Rattle.query_core.specs.Machine.{new_query}
 use Rattle.query_core.specs.Mixtures.{typed_of}
 use Rattle.query_core.specs.Settings.{QuerySetting}
 use Rattle.weave_core.specs.Core.{CanCome, CoreEvent, Happens, Hears, Reader}
-use Rattle.weave_core.specs.EndTexts.{no_zone_text}
-use Rattle.weave_core.specs.Refusals.{parse_line, typing_line}
+use Rattle.query_texts.specs.TextTypes.{text_type}
+use Rattle.query_texts.specs.declared.faults.TextFault.{TextFault}
+use Rattle.weave_core.specs.EndTexts.{no_plan_line, no_zone_line}
 use Rattle.weave_core.specs.States.{Asking, Dismissed, Eventless, Role, State, Undeclared, Writing, actor_at, store_of}
 use Rattle.weave_core.specs.States.{view_at}
 use Rattle.weave_core.specs.Steps.{with_event, with_role}
 use Rattle.weave_core.specs.declared.calls.Call.{Call}
 use Rattle.weave_core.specs.declared.calls.Call.TheVariants as call
 use Rattle.write_core.specs.Events.{Begins, Learns}
-use Rattle.write_core.specs.Views.{View}
+use Rattle.mon_topo.specs.Views.{View}
 use Rattle.write_core.specs.World.{with_value_at, view_of}
 
 -- ---- queries
-
--- a fault is what it prints
-abbrev pub printed_fault : {X F : Type 0} → (F → List ℕ) → Result X F → Result X (List ℕ)
-printed_fault text (Ok x) = Ok x
-printed_fault text (Err why) = Err (text why)
-
--- the typed tree of a query's text, or the line that says why it has none
-abbrev pub query_typed : Config → List ℕ → Result TypedTree (List ℕ)
-query_typed config text = do
-  tree ← printed_fault parse_line (text_outcome text)
-  printed_fault typing_line (typing config.schemas tree)
 
 -- a typed query is asked of the store, with the hints that its fetches have, and the limit
 pub record IsAskedSo (config : Config) (typed : TypedTree) (setting : QuerySetting) : Type 0 where
@@ -70,16 +57,17 @@ module _ (store : Setting) where
 module _ (config : Config) where
   -- a write begins, if a zone lists its row's location; else it has no event
   abbrev pub WriteBegins : State (store_of config) → ℕ → Row → Option Range → State (store_of config) → Type 0
-  WriteBegins state k row None after = after ≡ with_role (store_of config) state k (Eventless no_zone_text)
+  WriteBegins state k row None after = after ≡ with_role (store_of config) state k (Eventless no_zone_line)
   WriteBegins state k row (Some range) after =
       CanCome (store_of config) state.core (Happens (Begins k row range))
       × (after ≡ with_role (store_of config) (with_event (store_of config) state (Happens (Begins k row range))) k
       Writing)
 
   -- a query is asked of the store, if its text has a typed tree; else it has no event
-  abbrev pub QueryBegins : State (store_of config) → ℕ → ℤ → Result TypedTree (List ℕ) → State (store_of config)
+  abbrev pub QueryBegins : State (store_of config) → ℕ → ℤ → Result TypedTree TextFault → State (store_of config)
       → Type 0
-  QueryBegins state k moment (Err line) after = after ≡ with_role (store_of config) state k (Eventless line)
+  QueryBegins state k moment (Err why) after =
+      after ≡ with_role (store_of config) state k (Eventless (no_plan_line why))
   QueryBegins state k moment (Ok typed) after =
       (setting : QuerySetting) × IsAskedSo config typed setting
       × (after ≡ with_reader (store_of config) state k
@@ -88,8 +76,8 @@ module _ (config : Config) where
   -- an actor is declared, and this is left
   abbrev pub Declares : State (store_of config) → ℕ → Call → State (store_of config) → Type 0
   Declares state k (call.Write row) after =
-      WriteBegins state k row (range_for config.schemas config.topology row.key.target) after
-  Declares state k (call.Query moment text) after = QueryBegins state k moment (query_typed config text) after
+      WriteBegins state k row (range_of_key config row.key) after
+  Declares state k (call.Query moment text) after = QueryBegins state k moment (text_type config.schemas text) after
 
 -- ---- meetings
 

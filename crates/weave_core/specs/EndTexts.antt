@@ -1,60 +1,42 @@
 -- What a write or a query prints that ends.
-use Rattle.std.specs.Prelude.{ℕ, List, [], ◌++◌, codes, length, Result, Ok, Err}
-use Rattle.std.specs.Fmt.{decimal, signed_decimal}
-use Rattle.std.specs.List.{flat_map, slice_index_or}
+use Rattle.std.specs.Prelude.{ℕ, List, ◌++◌, codes, length, Result, Ok, Err}
+use Rattle.std.specs.Fmt.{decimal}
 use Rattle.mon_table.specs.Tables.{newline, printed_table}
-use Rattle.mon_topo.specs.Zones.{leaves_in, range_names}
+use Rattle.mon_topo.specs.NameTexts.{down_text}
 use Rattle.mon_topo.specs.declared.zones.ZoneSpec.{ZoneSpec}
-use Rattle.mon_value.specs.declared.positions.FoundDown.{FoundDown}
 use Rattle.mon_value.specs.declared.positions.Range.{Range}
+use Rattle.query_core.specs.FaultTexts.{round_fault_text}
 use Rattle.query_core.specs.declared.answers.Answer.{Answer}
 use Rattle.query_core.specs.declared.answers.RoundFault.{RoundFault}
-use Rattle.query_core.specs.declared.answers.RoundFault.TheVariants as fault
+use Rattle.query_texts.specs.TextTypes.{text_fault_text}
+use Rattle.query_texts.specs.declared.faults.TextFault.{TextFault}
+use Rattle.write_core.specs.Refusals.{no_zone_text, refused_text}
 use Rattle.write_core.specs.declared.asks.WriteEnd.{WriteEnd}
 use Rattle.write_core.specs.declared.asks.WriteEnd.TheVariants as end
-use Rattle.weave_core.specs.Refusals.{limit_line}
+use Rattle.write_core.specs.declared.refusals.Refused.TheVariants as refused
 
--- ---- names
-
--- a range is named by its zone and its number there
-abbrev pub range_text : List ZoneSpec → Range → List ℕ
-range_text zones range = slice_index_or (range_names zones) range.0 []
-
--- a leaf that was found down, with its cut
-abbrev pub found_text : List ZoneSpec → FoundDown → List ℕ
-found_text zones found =
-    codes " " ++ (slice_index_or (leaves_in zones) found.leaf.0 [] ++ (codes "@" ++ decimal found.cut))
-
-abbrev pub founds_text : List ZoneSpec → List FoundDown → List ℕ
-founds_text zones = flat_map (found_text zones)
-
--- a range whose replicas are on leaves that are down
-abbrev pub down_text : List ZoneSpec → Range → List FoundDown → List ℕ
-down_text zones range founds = range_text zones range ++ (codes ":" ++ founds_text zones founds)
-
--- ---- ends
+-- the line of a call that is refused
+abbrev pub refused_line : List ℕ → List ℕ
+refused_line why = codes "refused: " ++ (why ++ newline)
 
 -- how many replicas took the row, and how many missed it; or why the row was not written
 abbrev pub write_end_text : List ZoneSpec → Range → WriteEnd → List ℕ
 write_end_text zones range (end.Written ack) =
     codes "written: took "
     ++ (decimal (length ack.took) ++ (codes ", missed " ++ (decimal (length ack.missed) ++ newline)))
-write_end_text zones range (end.Old last) = codes "refused: OldPoint " ++ (signed_decimal last ++ newline)
-write_end_text zones range (end.Full limit) = codes "refused: RangeFull " ++ (decimal limit ++ newline)
-write_end_text zones range (end.Unavailable founds) =
-    codes "refused: Unavailable " ++ (down_text zones range founds ++ newline)
+write_end_text zones range (end.OldPoint last) = refused_line (refused_text (refused.OldPoint last))
+write_end_text zones range (end.RangeFull limit) = refused_line (refused_text (refused.RangeFull limit))
+write_end_text zones range (end.Unavailable founds) = refused_line (codes "Unavailable " ++ down_text zones range founds)
 
 -- a write of a row whose location no zone lists
-abbrev pub no_zone_text : List ℕ
-no_zone_text = codes "refused: NoZone" ++ newline
+abbrev pub no_zone_line : List ℕ
+no_zone_line = refused_line no_zone_text
 
--- why a query has no table
-abbrev pub refusal_text : List ZoneSpec → RoundFault → List ℕ
-refusal_text zones (fault.NoReplica range founds) =
-    codes "refused: NoReplica " ++ (down_text zones range founds ++ newline)
-refusal_text zones (fault.StepLimit limit trace) = limit_line limit
+-- a query whose text has no plan
+abbrev pub no_plan_line : TextFault → List ℕ
+no_plan_line why = refused_line (text_fault_text why)
 
 -- the table of a query, or why it has none
 abbrev pub query_text : List ZoneSpec → Result Answer RoundFault → List ℕ
 query_text zones (Ok answer) = printed_table answer.table
-query_text zones (Err why) = refusal_text zones why
+query_text zones (Err why) = refused_line (round_fault_text zones why)

@@ -1,21 +1,17 @@
 -- The hint words: a word for each place and bucket, the root's words first and then those of each zone.
 use Rattle.std.specs.Prelude.{◌≡◌, ℕ, ◌+◌, ◌*◌, ◌%◌, ◌^◌, ◌<◌, ◌||◌, ◌&&◌, Bool, nat_eq, List, length, get_or, set}
 use Rattle.std.specs.Prelude.{replicate, bit_or}
+use Rattle.mon_hints.specs.Places.{same_place, word_index}
 use Rattle.mon_hints.specs.Words.{has_bit}
-use Rattle.weave_core.specs.declared.words.Place.{Place}
-use Rattle.weave_core.specs.declared.words.Place.TheVariants as at
+use Rattle.mon_hints.specs.declared.places.Place.{Place}
 
 -- the words, table by table, and how many buckets each table is for
 pub record HintTable : Type 0 where
   pub words : List ℕ
   pub buckets : ℕ
 
-abbrev pub table_number : Place → ℕ
-table_number at.Root = 0
-table_number (at.Zone zone) = zone.0 + 1
-
 abbrev pub index_of : HintTable → Place → ℕ → ℕ
-index_of hints place bucket = table_number place * hints.buckets + bucket
+index_of hints = word_index hints.buckets
 
 abbrev pub hint_word_at : HintTable → Place → ℕ → ℕ
 hint_word_at hints place bucket = get_or hints.words (index_of hints place bucket) 0
@@ -40,13 +36,10 @@ with_child_bit hints place child bucket = record {
   buckets = hints.buckets;
 }
 
-abbrev pub same_word_place : Place → Place → Bool
-same_word_place a b = nat_eq (table_number a) (table_number b)
-
 -- whether a child has its bit in the word of a place and a bucket, once one bit more was set
 abbrev pub with_raised : HintTable → Place → ℕ → ℕ → Place → ℕ → ℕ → Bool
 with_raised hints place child bucket other b c =
-    ((same_word_place other place && nat_eq b bucket) && nat_eq c child) || has_bit (hint_word_at hints other b) c
+    ((same_place other place && nat_eq b bucket) && nat_eq c child) || has_bit (hint_word_at hints other b) c
 
 -- what setting a bit changes: that bit, and no other
 abbrev pub RaisesOne : HintTable → Place → ℕ → ℕ → Type 0

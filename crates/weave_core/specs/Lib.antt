@@ -18,9 +18,7 @@ pub mod PlannedQueries
 pub mod QueryLooks
 pub mod QueryPlans
 pub mod QueryTurns
-pub mod RangeAnswers
 pub mod Reached
-pub mod Refusals
 pub mod ScheduleLines
 pub mod ScheduleTurns
 pub mod Schedules

@@ -8,8 +8,8 @@ use Rattle.mon_value.specs.declared.positions.Range.{Range}
 use Rattle.mon_topo.specs.Sights.{joined_sight, range_sight, with_leaf_sight, with_range_sight}
 use Rattle.mon_topo.specs.declared.sights.Sight.{Sight}
 
-abbrev pub met_at_leaf : Leaf → List Entry → Sight → Sight → Sight
-met_at_leaf leaf history own there = with_leaf_sight leaf (length history) (joined_sight own there)
+abbrev pub sight_at_leaf : Leaf → List Entry → Sight → Sight → Sight
+sight_at_leaf leaf history own there = with_leaf_sight leaf (length history) (joined_sight own there)
 
-abbrev pub met_at_range : Range → List RangeEntry → Sight → Sight → Sight
-met_at_range range history own there = with_range_sight range (range_sight history) (joined_sight own there)
+abbrev pub sight_at_range : Range → List RangeEntry → Sight → Sight → Sight
+sight_at_range range history own there = with_range_sight range (range_sight history) (joined_sight own there)

@@ -1,10 +1,10 @@
 -- Actors that have not begun: one that was declared, and one that hears what another one has seen.
 use Rattle.std.specs.Prelude.{ℕ, ◌≡◌, ◌<◌, false, length, Some, None}
 use Rattle.mon_config.specs.declared.config.Config.{Config}
-use Rattle.mon_topo.specs.Locations.{range_for}
+use Rattle.mon_config.specs.KeyRanges.{range_of_key}
 use Rattle.mon_topo.specs.Zones.{ranges_in}
 use Rattle.mon_value.specs.declared.rows.Row.{Row}
-use Rattle.weave_core.specs.EndTexts.{no_zone_text}
+use Rattle.weave_core.specs.EndTexts.{no_zone_line}
 use Rattle.weave_core.specs.QueryPlans.{IsQueryCourse}
 use Rattle.mon_topo.specs.Sights.{joined_sight}
 use Rattle.weave_core.specs.declared.actors.Actor.{Actor}
@@ -20,7 +20,8 @@ use Rattle.write_core.specs.Program.{new_write}
 pub record BeginsToWrite (config : Config) (i : ℕ) (row : Row) (writing : Writing) : Type 0 where
   pub number : writing.number ≡ i
   pub row_is : writing.row ≡ row
-  pub range_is : range_for config.schemas config.topology row.key.target ≡ Some writing.range
+  pub key_is : writing.key ≡ row.key
+  pub range_is : range_of_key config row.key ≡ Some writing.range
   pub there : writing.range.0 < length (ranges_in config.topology)
   pub machine : writing.machine ≡ new_write writing.range
   pub inside : writing.inside ≡ None
@@ -29,7 +30,7 @@ pub record BeginsToWrite (config : Config) (i : ℕ) (row : Row) (writing : Writ
 abbrev pub IsWriteCourse : Config → ℕ → Row → Course → Type 0
 IsWriteCourse config i row (course.Writes writing) = BeginsToWrite config i row writing
 IsWriteCourse config i row (course.Refused line) =
-    (range_for config.schemas config.topology row.key.target ≡ None) × (line ≡ no_zone_text)
+    (range_of_key config row.key ≡ None) × (line ≡ no_zone_line)
 IsWriteCourse config i row (course.Queries querying) = ⊥
 IsWriteCourse config i row course.Ended = ⊥
 

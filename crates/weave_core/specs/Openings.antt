@@ -16,6 +16,7 @@ use Rattle.mon_topo.specs.Sights.{range_sight}
 use Rattle.weave_core.specs.declared.leaves.LeafSeat.{LeafSeat}
 use Rattle.weave_core.specs.declared.ranges.RangeSeat.{RangeSeat}
 use Rattle.mon_topo.specs.declared.sights.Sight.{Sight}
+use Rattle.write_core.specs.Replays.{Replay}
 use Rattle.write_core.specs.World.{Stands, World}
 
 -- ---- the first replicas
@@ -35,13 +36,17 @@ pub record AreOpenedSo (config : Config) (so_far : ℕ → List Entry) (states :
 abbrev pub with_opening : Range → ℕ → LeafView → LeafView
 with_opening range slot state = leaf_with_entry (with_promised state (state.promised + 1)) (opening range slot)
 
+-- the histories of replays
+abbrev pub replayed : List Replay → List (List RangeEntry)
+replayed = map (λ replay. replay.history)
+
 -- ---- seats
 
 -- how far whoever has seen all of these histories has seen them
-abbrev pub sight_of_states : List LeafView → List (List RangeEntry) → Sight
+abbrev pub sight_of_states : List LeafView → List Replay → Sight
 sight_of_states leaves ranges = record {
   leaves = map (λ state. length state.history) leaves;
-  ranges = map range_sight ranges;
+  ranges = map (λ replay. range_sight replay.history) ranges;
 }
 
 -- a leaf that nobody holds
@@ -60,7 +65,7 @@ leaf_seats zones sight n [] = []
 leaf_seats zones sight n (state ∷ states) = leaf_seat zones sight n state ∷ leaf_seats zones sight (n + 1) states
 
 -- a range that nobody holds
-abbrev pub range_seat : Sight → List RangeEntry → RangeSeat
+abbrev pub range_seat : Sight → Replay → RangeSeat
 range_seat sight state = record { state = state; holder = None; sight = sight }
 
 -- ---- the world

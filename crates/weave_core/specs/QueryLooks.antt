@@ -1,11 +1,10 @@
 -- What a look of a query does to the seat that it needs and to how far this has seen, and what it is told.
-use Rattle.std.specs.Prelude.{ℕ, ℤ, ◌≡◌, ◌+◌, ◌<◌, true, is_some, List, [], ◌∷◌, length, slice_get, Option}
+use Rattle.std.specs.Prelude.{ℕ, ℤ, ◌≡◌, ◌<◌, true, is_some, List, length, slice_get, Option}
 use Rattle.std.specs.Prelude.{Some, None}
 use Rattle.leaf_store.specs.LeafBuckets.{key_buckets}
 use Rattle.leaf_eval.specs.Visits.{IsVisit}
 use Rattle.leaf_eval.specs.declared.visits.Visit.{Visit}
 use Rattle.leaf_eval.specs.declared.visits.Visit.TheVariants as visit
-use Rattle.mon_value.specs.Positions.{range_numbered}
 use Rattle.mon_value.specs.declared.positions.Leaf.{Leaf}
 use Rattle.mon_value.specs.declared.positions.Range.{Range}
 use Rattle.mon_value.specs.declared.positions.RangeSlot.{RangeSlot}
@@ -13,19 +12,17 @@ use Rattle.mon_value.specs.declared.positions.SlotLeaf.{SlotLeaf}
 use Rattle.mql_types.specs.Nodes.{typed_tree}
 use Rattle.mql_types.specs.declared.plans.Plan.{Plan}
 use Rattle.query_core.specs.Machine.{slots_of}
+use Rattle.query_core.specs.SeenSights.{seen_of}
 use Rattle.mon_meaning.specs.ReadableSlots.{CanBeRead}
 use Rattle.mon_topo.specs.Serving.{first_serving}
-use Rattle.query_core.specs.declared.answers.Resolved.{Resolved}
-use Rattle.query_core.specs.declared.asks.Seen.{Seen}
 use Rattle.query_core.specs.declared.asks.Told.{Told}
 use Rattle.query_core.specs.declared.asks.Told.TheVariants as told
-use Rattle.weave_core.specs.Meetings.{met_at_leaf, met_at_range}
+use Rattle.weave_core.specs.Meetings.{sight_at_leaf, sight_at_range}
 use Rattle.mon_topo.specs.Sights.{AreAlike}
 use Rattle.weave_core.specs.WriteEvents.{ChangesLeaf, ChangesRange, StaysThere}
 use Rattle.weave_core.specs.declared.leaves.LeafSeat.{LeafSeat}
 use Rattle.weave_core.specs.declared.queries.Querying.{Querying}
 use Rattle.weave_core.specs.declared.ranges.RangeSeat.{RangeSeat}
-use Rattle.mon_topo.specs.declared.sights.RangeSight.{RangeSight}
 use Rattle.mon_topo.specs.declared.sights.Sight.{Sight}
 use Rattle.weave_core.specs.declared.store.Store.{Store}
 
@@ -34,22 +31,6 @@ pub record IsHeldFrom {Seat : Type 0} (holder : Option ℕ) (old new : Seat) (si
   pub held : is_some holder ≡ true
   pub seat : new ≡ old
   pub seen : sight_after ≡ sight
-
--- ---- words
-
--- the first replica of a range, where one was seen to serve
-abbrev pub with_first_replica : ℕ → Option SlotLeaf → List Resolved → List Resolved
-with_first_replica n None rest = rest
-with_first_replica n (Some replica)
-    rest = record { range = range_numbered n; slot = replica.slot; leaf = replica.leaf } ∷ rest
-
-abbrev pub firsts_from : ℕ → List RangeSight → List Resolved
-firsts_from n [] = []
-firsts_from n (one ∷ ranges) = with_first_replica n one.first (firsts_from (n + 1) ranges)
-
--- what a query is told with a word of how far its caller has seen
-abbrev pub seen_of : Sight → Seen
-seen_of sight = record { cuts = sight.leaves; firsts = firsts_from 0 sight.ranges }
 
 -- ---- at a range
 
@@ -62,11 +43,11 @@ pub record FindsReplica (range : Range) (avoided : List Leaf) (old new : RangeSe
     (answer : Told)
     : Type 0 where
   pub free : old.holder ≡ None
-  pub told_so : answer ≡ slot_told (first_serving avoided old.state)
+  pub told_so : answer ≡ slot_told (first_serving avoided old.state.history)
   pub state : new.state ≡ old.state
   pub holder : new.holder ≡ old.holder
   pub sight_there : new.sight ≡ sight_after
-  pub seen : sight_after ≡ met_at_range range old.state sight old.sight
+  pub seen : sight_after ≡ sight_at_range range old.state.history sight old.sight
 
 abbrev pub FindsIf : Range → List Leaf → RangeSeat → RangeSeat → Sight → Sight → Option Told → Type 0
 FindsIf range avoided old new sight sight_after (Some answer)
@@ -91,7 +72,7 @@ module _ (plan : Plan) (moment : ℤ) (limit : ℕ) (slots : List RangeSlot) (le
     pub stays : StaysThere old new sight_after
     pub history : new.state.history ≡ old.state.history
     pub holder : new.holder ≡ old.holder
-    pub seen : sight_after ≡ met_at_leaf leaf old.state.history sight old.sight
+    pub seen : sight_after ≡ sight_at_leaf leaf old.state.history sight old.sight
 
   abbrev pub LooksIf : LeafSeat → LeafSeat → Sight → Sight → Option Told → Type 0
   LooksIf old new sight sight_after (Some answer) = Looks old new sight sight_after answer

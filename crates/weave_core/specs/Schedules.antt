@@ -29,10 +29,16 @@ use Rattle.write_core.specs.World.{Stands}
 
 -- ---- texts
 
-abbrev pub fault_name : WeaveFault → List ℕ
-fault_name fault.NoActor = codes "NoActor"
-fault_name fault.Finished = codes "Finished"
-fault_name fault.BadLine = codes "BadLine"
+-- why a line is refused
+abbrev pub weave_fault_text : WeaveFault → List ℕ
+weave_fault_text fault.NoActor = codes "NoActor"
+weave_fault_text fault.Finished = codes "Finished"
+weave_fault_text fault.BadLine = codes "BadLine"
+
+-- the line that is refused, and why
+abbrev pub schedule_fault_text : ScheduleFault → List ℕ
+schedule_fault_text refused =
+    codes "line " ++ (decimal refused.line ++ (codes ": " ++ weave_fault_text refused.fault))
 
 -- what a line prints whose actor stepped last so
 abbrev pub stepped_text : ℕ → Stepped → List ℕ

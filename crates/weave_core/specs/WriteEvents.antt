@@ -12,15 +12,16 @@ use Rattle.mon_value.specs.declared.positions.Range.{Range}
 use Rattle.mon_value.specs.declared.positions.Slot.{Slot}
 use Rattle.mon_value.specs.declared.rows.Row.{Row}
 use Rattle.weave_core.specs.HintWords.{with_child_bit}
-use Rattle.weave_core.specs.Meetings.{met_at_leaf, met_at_range}
-use Rattle.weave_core.specs.RangeAnswers.{lock_answer}
+use Rattle.weave_core.specs.Meetings.{sight_at_leaf, sight_at_range}
 use Rattle.weave_core.specs.declared.leaves.LeafSeat.{LeafSeat}
 use Rattle.weave_core.specs.declared.ranges.RangeSeat.{RangeSeat}
 use Rattle.mon_topo.specs.declared.sights.Sight.{Sight}
 use Rattle.weave_core.specs.declared.store.Store.{Store}
-use Rattle.weave_core.specs.declared.words.Place.{Place}
+use Rattle.mon_hints.specs.declared.places.Place.{Place}
 use Rattle.weave_core.specs.declared.writes.Writing.{Writing}
 use Rattle.write_core.specs.Program.{after}
+use Rattle.write_core.specs.RangeAnswers.{lock_answer}
+use Rattle.write_core.specs.Replays.{HasAckRoom}
 use Rattle.write_core.specs.declared.asks.WriteEnd.{WriteEnd}
 use Rattle.write_core.specs.declared.asks.WriteEnd.TheVariants as end
 use Rattle.write_core.specs.declared.asks.WriteTold.{WriteTold}
@@ -32,6 +33,7 @@ use Rattle.write_core.specs.declared.asks.WriteTold.TheVariants as told
 pub record IsToldSo (answer : WriteTold) (inside : Option Leaf) (old new : Writing) : Type 0 where
   pub number : new.number ≡ old.number
   pub row : new.row ≡ old.row
+  pub key : new.key ≡ old.key
   pub range : new.range ≡ old.range
   pub machine_range : new.machine.range ≡ old.machine.range
   pub stage : new.machine.stage ≡ after old.machine.stage answer
@@ -47,14 +49,15 @@ pub record IsHeldUp {Seat : Type 0} (holder : Option ℕ) (old new : Seat) (befo
 
 -- ---- at a range
 
--- it takes the lock, and is told whether its row goes in
+-- it takes the lock, room is made for its acknowledgement, and it is told whether its row goes in
 pub record Locks (limit : ℕ) (old new : RangeSeat) (before after : Writing) (sight sight_after : Sight) : Type 0 where
   pub free : old.holder ≡ None
-  pub state : new.state ≡ old.state
+  pub history : new.state.history ≡ old.state.history
+  pub room : HasAckRoom new.state
   pub holder : new.holder ≡ Some before.number
   pub sight_there : new.sight ≡ sight_after
-  pub seen : sight_after ≡ met_at_range before.range old.state sight old.sight
-  pub told_so : IsToldSo (lock_answer limit old.state before.row) before.inside before after
+  pub seen : sight_after ≡ sight_at_range before.range old.state.history sight old.sight
+  pub told_so : IsToldSo (lock_answer limit old.state.history before.row) before.inside before after
 
 abbrev pub LocksIf : ℕ → RangeSeat → RangeSeat → Writing → Writing → Sight → Sight → Bool → Type 0
 LocksIf limit old new before after sight sight_after true = Locks limit old new before after sight sight_after
@@ -63,23 +66,17 @@ LocksIf limit old new before after sight sight_after false = IsHeldUp old.holder
 -- what an end appends to a range's history
 abbrev pub with_end_entry : List RangeEntry → ℕ → Row → WriteEnd → List RangeEntry
 with_end_entry history number row (end.Written ack) = history ++ range_entry.Acked number row ack ∷ []
-with_end_entry history number row (end.Old last) = history
-with_end_entry history number row (end.Full count) = history
+with_end_entry history number row (end.OldPoint last) = history
+with_end_entry history number row (end.RangeFull count) = history
 with_end_entry history number row (end.Unavailable founds) = history
-
-abbrev pub IfWritten : WriteEnd → Type 0 → Type 0
-IfWritten (end.Written ack) fact = fact
-IfWritten (end.Old last) fact = Unit {0}
-IfWritten (end.Full count) fact = Unit {0}
-IfWritten (end.Unavailable founds) fact = Unit {0}
 
 -- it lets go of the range
 pub record LetsGo (end : WriteEnd) (number : ℕ) (row : Row) (range : Range) (old new : RangeSeat)
     (sight sight_after : Sight) : Type 0 where
-  pub state : new.state ≡ with_end_entry old.state number row end
+  pub history : new.state.history ≡ with_end_entry old.state.history number row end
   pub holder : new.holder ≡ None
   pub sight_there : new.sight ≡ sight_after
-  pub seen : sight_after ≡ met_at_range range new.state sight old.sight
+  pub seen : sight_after ≡ sight_at_range range new.state.history sight old.sight
 
 -- ---- at a leaf
 
@@ -103,7 +100,7 @@ pub record Reserves (leaf : Leaf) (old new : LeafSeat) (before after : Writing) 
     pub stays : StaysThere old new sight_after
     pub history : new.state.history ≡ old.state.history
     pub holder : new.holder ≡ None
-    pub seen : sight_after ≡ met_at_leaf leaf old.state.history sight old.sight
+    pub seen : sight_after ≡ sight_at_leaf leaf old.state.history sight old.sight
     pub told_so : IsToldSo (up_or_down old.state.history []) before.inside before after
 
 abbrev pub ReservesIf : Leaf → LeafSeat → LeafSeat → Writing → Writing → Sight → Sight → Bool → Type 0
@@ -116,7 +113,7 @@ pub record Enters (leaf : Leaf) (old new : LeafSeat) (before after : Writing) (s
   pub free : old.holder ≡ None
   pub stays : StaysThere old new sight_after
   pub history : new.state.history ≡ old.state.history
-  pub seen : sight_after ≡ met_at_leaf leaf old.state.history sight old.sight
+  pub seen : sight_after ≡ sight_at_leaf leaf old.state.history sight old.sight
   pub buckets : List ℕ
   pub to_raise : is_down old.state.history ≡ false → AreToRaise old.state before.row.key buckets
   pub holder : new.holder ≡ (if is_down old.state.history then None else Some before.number)
@@ -133,7 +130,7 @@ pub record RaisesBit (leaf : Leaf) (old new : LeafSeat) (before after : Writing)
     pub stays : StaysThere old new sight_after
     pub history : new.state.history ≡ old.state.history
     pub holder : new.holder ≡ old.holder
-    pub seen : sight_after ≡ met_at_leaf leaf old.state.history sight old.sight
+    pub seen : sight_after ≡ sight_at_leaf leaf old.state.history sight old.sight
     pub told_so : IsToldSo told.Done before.inside before after
 
 -- its row is put, and it lets go of the leaf
@@ -142,7 +139,7 @@ pub record Puts (slot : Slot) (leaf : Leaf) (old new : LeafSeat) (before after :
   pub stays : StaysThere old new sight_after
   pub history : new.state.history ≡ old.state.history ++ entry.Put before.number before.range slot before.row ∷ []
   pub holder : new.holder ≡ None
-  pub seen : sight_after ≡ met_at_leaf leaf new.state.history sight old.sight
+  pub seen : sight_after ≡ sight_at_leaf leaf new.state.history sight old.sight
   pub told_so : IsToldSo told.Done None before after
 
 -- ---- in a store

@@ -15,7 +15,7 @@ use Rattle.weave_core.specs.declared.writes.Writing.{Writing}
 use Rattle.write_core.specs.Invariant.{IsKept}
 use Rattle.write_core.specs.Program.{Ended, Verdict, after, ask_of, end_of_verdict}
 use Rattle.write_core.specs.Steps.{CanCome, step}
-use Rattle.write_core.specs.Views.{View}
+use Rattle.mon_topo.specs.Views.{View}
 use Rattle.write_core.specs.World.{World, Writer, Writes, view_of}
 use Rattle.write_core.specs.declared.asks.WriteAsk.TheVariants.{Finished}
 use Rattle.write_core.specs.declared.asks.WriteEnd.{WriteEnd}

@@ -7,7 +7,7 @@ use Rattle.mon_topo.specs.declared.sights.Sight.{Sight}
 use Rattle.weave_core.specs.declared.writes.Writing.{Writing as Write}
 use Rattle.write_core.specs.Program.{Acking, Ended, Entering, Inside, Locking, Reserving, Stage}
 use Rattle.write_core.specs.Rounds.{is_through}
-use Rattle.write_core.specs.Views.{View}
+use Rattle.mon_topo.specs.Views.{View}
 use Rattle.write_core.specs.World.{Actor as Doer, Writer, Writes, view_of}
 
 -- the write of an actor, by what is kept of it
@@ -42,6 +42,7 @@ RaisesBelow count (Ended verdict) = Unit {0}
 -- an actor of the core is this write, in a store of so many buckets, and has seen so much
 pub record IsWriterSo (buckets i : ℕ) (doer : Doer) (writing : Write) (sight : Sight) : Type 0 where
   pub number : writing.number ≡ i
+  pub key : writing.key ≡ writing.row.key
   pub writer : doer ≡ Writes (writer_of i writing (view_of doer))
   pub range : writing.machine.range ≡ writing.range
   pub looks : LooksAtOne writing.machine.stage

@@ -1,8 +1,9 @@
 // Actors: writes and queries on their way.
-ghost use Rattle.std.specs.Prelude.{◌≡◌, ◌||◌, IfOk};
+ghost use Rattle.std.specs.Prelude.{◌≡◌, ◌||◌, None, IfOk};
 ghost use Rattle.weave_core.specs.Agreements.{IsServed};
 ghost use Rattle.weave_core.specs.Courses.{event_of, is_over};
 ghost use Rattle.weave_core.specs.NewActors.{IsCourseOf, IsDeclaredActor, IsWriteCourse};
+ghost use Rattle.write_core.specs.Program.{new_write as machine_of};
 
 use crate::calls::Call;
 use crate::events::{Event, event_of_query, event_of_write};
@@ -12,7 +13,8 @@ use crate::store::Store;
 use crate::texts::no_zone;
 use crate::writes::Writing;
 use mon_topo::Sight;
-use mon_value::{OutOfMemory, Row, Text, TryCopy};
+use mon_value::{OutOfMemory, Range, Row, Text, TryCopy};
+use std::alloc::Global;
 use write_core::WriteMachine;
 
 /// How far an actor is.
@@ -95,14 +97,28 @@ fn course_of(store: &Store, number: u32, call: Call) -> Result<Course, OutOfMemo
 fn write_course(store: &Store, number: u32, row: Row) -> Result<Course, OutOfMemory>
     ensures course { IfOk result (IsWriteCourse store.now.config number row) }
 {
-    match store.range_of(&row.key) {
-        Some(range) => Ok(Course::Writes(Writing {
-            number,
-            row,
-            range,
-            machine: WriteMachine::new(store.alloc, range),
-            inside: None,
-        })),
+    match store.config.range_of(&row.key) {
+        Some(range) => Ok(Course::Writes(new_write(store.alloc, number, row, range)?)),
         None => Ok(Course::Refused(no_zone(store.alloc)?)),
     }
+}
+
+// A write of a row to a range that has not begun.
+fn new_write(alloc: Global, number: u32, row: Row, range: Range) -> Result<Writing, OutOfMemory>
+    ensures number { IfOk result (λ writing. writing.number ≡ number) }
+    ensures row { IfOk result (λ writing. writing.row ≡ row) }
+    ensures key { IfOk result (λ writing. writing.key ≡ row.key) }
+    ensures range { IfOk result (λ writing. writing.range ≡ range) }
+    ensures machine { IfOk result (λ writing. writing.machine ≡ machine_of range) }
+    ensures inside { IfOk result (λ writing. writing.inside ≡ None) }
+{
+    let key = row.key.copy(alloc)?;
+    Ok(Writing {
+        number,
+        row,
+        key,
+        range,
+        machine: WriteMachine::new(alloc, range),
+        inside: None,
+    })
 }

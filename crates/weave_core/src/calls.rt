@@ -1,9 +1,7 @@
 // What an actor is to do, and how its steps go.
-ghost use Rattle.std.specs.Prelude.{◌≡◌};
-ghost use Rattle.weave_core.specs.Schedules as spec;
-
 use mon_value::{Row, Text, TryCopy};
 use std::alloc::{AllocError, Global};
+use std::fmt;
 
 /// What an actor is to do.
 #[derive(Drop)]
@@ -36,24 +34,37 @@ pub enum WeaveFault {
     BadLine,
 }
 
-impl WeaveFault {
-    /// Its name.
-    pub fn name(self) -> &'static str
-        ensures name { result.now ≡ spec.fault_name self }
-    {
-        match self {
-            WeaveFault::NoActor => "NoActor",
-            WeaveFault::Finished => "Finished",
-            WeaveFault::BadLine => "BadLine",
-        }
-    }
-}
-
 /// The first line of a schedule that is refused. Lines are numbered from 1.
 #[derive(Clone, Copy, PartialEq, Eq)]
 pub struct ScheduleFault {
     pub line: u32,
     pub fault: WeaveFault,
+}
+
+impl fmt::Display for WeaveFault {
+    ghost use Rattle.std.specs.Prelude.{Some};
+    ghost use Rattle.weave_core.specs.Schedules.{weave_fault_text};
+
+    ghost output = { λ fault. Some (weave_fault_text fault) };
+
+    fn fmt<W: fmt::Write>(&self, f: &mut fmt::Formatter<W>) -> fmt::Result {
+        f.write_str(match self {
+            WeaveFault::NoActor => "NoActor",
+            WeaveFault::Finished => "Finished",
+            WeaveFault::BadLine => "BadLine",
+        })
+    }
+}
+
+impl fmt::Display for ScheduleFault {
+    ghost use Rattle.std.specs.Prelude.{Some};
+    ghost use Rattle.weave_core.specs.Schedules.{schedule_fault_text};
+
+    ghost output = { λ fault. Some (schedule_fault_text fault) };
+
+    fn fmt<W: fmt::Write>(&self, f: &mut fmt::Formatter<W>) -> fmt::Result {
+        write!(f, "line {}: {}", self.line, self.fault)
+    }
 }
 
 impl TryCopy for Call {

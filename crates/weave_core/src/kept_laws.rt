@@ -2,7 +2,7 @@
 ghost use Rattle.std.specs.Prelude.{◌≡◌, ◌<◌, [], ℕ, List, length};
 ghost use Rattle.mon_topo.specs.FirstHistories.{first_histories};
 ghost use Rattle.weave_core.specs.HintWords.{HasWord, HintTable, RaisesOne};
-ghost use Rattle.weave_core.specs.declared.words.Place.{Place as WordPlace};
+ghost use Rattle.mon_hints.specs.declared.places.Place.{Place as WordPlace};
 ghost use Rattle.mon_topo.specs.Sights.{sight_of};
 ghost use Rattle.mon_schema.specs.SchemaLists.{SchemaLists};
 ghost use Rattle.mon_value.specs.Histories.{leaf_history};
@@ -18,11 +18,11 @@ ghost use Rattle.mon_value.specs.declared.positions.Leaf.{Leaf as LeafNumber};
 ghost use Rattle.mon_value.specs.declared.positions.Range.{Range as RangeNumber};
 ghost use Rattle.mon_value.specs.declared.rows.Row.{Row as RowOf};
 ghost use Rattle.write_core.specs.Invariant.{IsKept};
+ghost use Rattle.write_core.specs.RangeAnswers.{lock_answer};
 ghost use Rattle.write_core.specs.Steps.{IsToldByRange};
-ghost use Rattle.write_core.specs.Views.{View, joined_view, of_leaf, of_range};
+ghost use Rattle.mon_topo.specs.Views.{View, joined_view, of_leaf, of_range};
 ghost use Rattle.write_core.specs.World.{IsPart, World};
-ghost use Rattle.weave_core.specs.Meetings.{met_at_leaf, met_at_range};
-ghost use Rattle.weave_core.specs.RangeAnswers.{lock_answer};
+ghost use Rattle.weave_core.specs.Meetings.{sight_at_leaf, sight_at_range};
 
 /// Setting the bit of a child in a word sets that bit and no other.
 pub fn one_bit_is_raised()
@@ -45,11 +45,11 @@ pub fn stores_begin_held()
 pub fn meetings_see_as_far_as_views()
     ensures leaf { (store : Setting) (world : World) (view : View) (leaf : LeafNumber) → IsKept store world
         → IsPart store world view
-        → met_at_leaf leaf (of_leaf world.truth leaf) (sight_of view.seen) (sight_of (world.leaves leaf.0).seen)
+        → sight_at_leaf leaf (of_leaf world.truth leaf) (sight_of view.seen) (sight_of (world.leaves leaf.0).seen)
         ≡ sight_of (joined_view view (world.leaves leaf.0)).seen }
     ensures range { (store : Setting) (world : World) (view : View) (range : RangeNumber) → IsKept store world
         → IsPart store world view
-        → met_at_range range (of_range world.truth range) (sight_of view.seen) (sight_of (world.ranges range.0).seen)
+        → sight_at_range range (of_range world.truth range) (sight_of view.seen) (sight_of (world.ranges range.0).seen)
         ≡ sight_of (joined_view view (world.ranges range.0)).seen }
 {}
 

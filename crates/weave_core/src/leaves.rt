@@ -1,7 +1,7 @@
 // What is kept of a leaf.
 ghost use Rattle.std.specs.Prelude.{◌≡◌, ◌<◌, ◌++◌, ◌∷◌, [], false, length, OnErr, OnOk};
 ghost use Rattle.mon_value.specs.LeafHistories.{IsWellFormed, is_switch};
-ghost use Rattle.weave_core.specs.Meetings.{met_at_leaf};
+ghost use Rattle.weave_core.specs.Meetings.{sight_at_leaf};
 ghost use Rattle.mon_topo.specs.Sights.{AreAlike};
 
 use leaf_store::LeafState;
@@ -25,7 +25,7 @@ impl LeafSeat {
     pub fn meet(&mut self, leaf: Leaf, sight: &mut Sight)
         requires alike { AreAlike sight.old self.old.sight }
         requires there { leaf.0 < length self.old.sight.leaves }
-        ensures sight { sight.new ≡ met_at_leaf leaf self.old.state.history sight.old self.old.sight }
+        ensures sight { sight.new ≡ sight_at_leaf leaf self.old.state.history sight.old self.old.sight }
         ensures seat { self.new.sight ≡ sight.new }
         ensures state { self.new.state ≡ self.old.state }
         ensures holder { self.new.holder ≡ self.old.holder }

@@ -14,12 +14,12 @@ ghost use Rattle.weave_core.specs.QueryLooks.{FindsAt, IsSeatedForLeaf, IsSeated
 ghost use Rattle.weave_core.specs.QueryTurns.{AnswersSo, IsAskedSomewhere, IsAsking, IsTurnOf, QueriesSo, TurnsBy};
 ghost use Rattle.weave_core.specs.States.{store_of};
 
-use crate::query_looks::{find, look, seen_so};
+use crate::query_looks::{find, look};
 use crate::store::Store;
-use crate::words::Place;
+use mon_hints::Place;
 use mon_topo::Sight;
 use mon_value::{Leaf, OutOfMemory, Range};
-use query_core::{Answer, Ask, QueryMachine, RoundFault, Told};
+use query_core::{Answer, Ask, QueryMachine, RoundFault, Seen, Told};
 
 /// A query on its way: its moment, and what it does next.
 #[derive(Drop)]
@@ -85,7 +85,7 @@ impl Store {
         ensures told { IfOk result
             (λ told. told ≡ Some (word_told (hint_word_at self.now.words place bucket) sight.now)) }
     {
-        let seen = seen_so(self.alloc, sight)?;
+        let seen = Seen::of(self.alloc, sight)?;
         Ok(Some(Told::Word(self.words.word(place, bucket), seen)))
     }
 

@@ -1,5 +1,5 @@
 // The looks of a query, each at the seat that it needs.
-ghost use Rattle.std.specs.Prelude.{◌≡◌, ◌≤◌, ◌≤ℤ◌, ◌<◌, ◌^◌, ◌++◌, [], length, map, pos, IfOk, OnOk, None};
+ghost use Rattle.std.specs.Prelude.{◌≡◌, ◌≤◌, ◌≤ℤ◌, ◌<◌, ◌^◌, length, map, pos, IfOk, None};
 ghost use Rattle.mon_hints.specs.Formulas.{all_named, formula_tree, formulas};
 ghost use Rattle.mon_hints.specs.Listings.{AreAmong};
 ghost use Rattle.mon_value.specs.declared.limits.TheConstants.{ROW_BITS};
@@ -7,17 +7,16 @@ ghost use Rattle.mql_types.specs.Nodes.{typed_tree};
 ghost use Rattle.query_core.specs.Machine.{slots_of};
 ghost use Rattle.mon_meaning.specs.ReadableSlots.{CanBeRead};
 ghost use Rattle.weave_core.specs.QueryLooks as spec;
-ghost use Rattle.weave_core.specs.QueryLooks.{FindsIf, LooksIf, with_first_replica, firsts_from};
-ghost use Rattle.weave_core.specs.QueryLooks.{seen_of};
+ghost use Rattle.weave_core.specs.QueryLooks.{FindsIf, LooksIf};
 ghost use Rattle.mon_topo.specs.Sights.{AreAlike};
 
 use crate::leaves::LeafSeat;
 use crate::queries::Querying;
 use crate::ranges::RangeSeat;
 use leaf_eval::{Visit, visit};
-use mon_topo::{RangeSight, Sight};
-use mon_value::{Leaf, Leaves, ListOf, OutOfMemory, Range, SlotLeaf};
-use query_core::{Resolved, Resolveds, Seen, Told};
+use mon_topo::Sight;
+use mon_value::{Leaf, Leaves, OutOfMemory, Range, SlotLeaf};
+use query_core::Told;
 use std::alloc::Global;
 
 /// A query finds the first replica of a range that serves on none of these leaves, unless someone holds the range.
@@ -96,48 +95,5 @@ fn visit_told(found: Visit) -> Told
         Visit::Unread(cut) => Told::Unread(cut),
         Visit::Read(cut, answer) => Told::Read(cut, answer),
         Visit::Over(load, cut) => Told::Over(load, cut),
-    }
-}
-
-/// What a query is told with a word of how far its caller has seen.
-pub(crate) fn seen_so(alloc: Global, sight: &Sight) -> Result<Seen, OutOfMemory>
-    requires few { length sight.now.ranges < 2 ^ 32 }
-    ensures seen { IfOk result (λ seen. seen ≡ seen_of sight.now) }
-{
-    let firsts = firsts_of(alloc, sight.ranges.as_slice())?;
-    let cuts = ListOf::from_vec(sight.leaves.as_slice().to_vec(alloc)?);
-    Ok(Seen { cuts, firsts })
-}
-
-// The first replica of each range, as it was seen.
-fn firsts_of(alloc: Global, ranges: &[RangeSight]) -> Result<Resolveds, OutOfMemory>
-    requires few { length ranges.now < 2 ^ 32 }
-    ensures firsts { IfOk result (λ firsts. firsts ≡ firsts_from 0 ranges.now) }
-{
-    let mut firsts = Resolveds::new(alloc);
-    for (number, range) in ranges.iter().enumerate() {
-        push_first(&mut firsts, Range(number as u32), range.first)?;
-    }
-    Ok(firsts)
-}
-
-// Adds the first replica of a range, where one was seen to serve.
-fn push_first(
-    firsts: &mut Resolveds,
-    range: Range,
-    first: Option<SlotLeaf>,
-) -> Result<(), OutOfMemory>
-    ensures pushed { OnOk result (firsts.new ≡ firsts.old ++ with_first_replica range.0 first []) }
-{
-    match first {
-        Some(replica) => {
-            firsts.push(Resolved {
-                range,
-                slot: replica.slot,
-                leaf: replica.leaf,
-            })?;
-            Ok(())
-        }
-        None => Ok(()),
     }
 }

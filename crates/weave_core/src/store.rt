@@ -3,7 +3,6 @@ ghost use Rattle.std.specs.Prelude.{◌≡◌, ◌<◌, ◌-◌, ◌+◌, ◌++�
 ghost use Rattle.std.specs.Prelude.{OnOk};
 ghost use Rattle.std.specs.List.{slice_index_or};
 ghost use Rattle.leaf_store.specs.LeafStates.{new_leaf};
-ghost use Rattle.mon_topo.specs.Locations.{range_for};
 ghost use Rattle.mon_topo.specs.Replicas.{HasReplicas};
 ghost use Rattle.mon_value.specs.Positions.{zone_numbered};
 ghost use Rattle.mon_topo.specs.Zones.{first_leaf, leaf_zones, leaves_in, ranges_in};
@@ -21,13 +20,14 @@ ghost use Rattle.weave_core.specs.Openings.{sight_of_states, with_opening};
 ghost use Rattle.mon_topo.specs.Sights.{range_sight};
 
 use crate::leaves::LeafSeat;
-use crate::ranges::{RangeSeat, RangeState};
+use crate::ranges::RangeSeat;
 use crate::words::HintWords;
 use leaf_store::LeafState;
 use mon_config::Config;
-use mon_topo::{RangeSight, Sight, Topology, location_of, ranges_have_replicas};
-use mon_value::{Entry, Leaf, ListOf, OutOfMemory, Range, RowList, SeriesKey, Slot, TryCopy, Zone};
+use mon_topo::{RangeSight, Sight, Topology, ranges_have_replicas};
+use mon_value::{Entry, Leaf, ListOf, OutOfMemory, Range, RowList, Slot, TryCopy, Zone};
 use std::alloc::Global;
+use write_core::RangeReplay;
 
 /// The hint words, the leaves and the ranges, and what all have seen at first: the first replicas of all ranges.
 #[derive(Drop)]
@@ -71,16 +71,6 @@ impl Store {
             }
         }
     }
-
-    /// The range that a series' target lies in, where a zone lists its location.
-    pub(crate) fn range_of(&self, key: &SeriesKey) -> Option<Range>
-        ensures range { result ≡ range_for self.now.config.schemas self.now.config.topology key.now.target }
-        ensures there { IfSome result (λ range. range.0 < length (ranges_in self.now.config.topology)) }
-    {
-        let location = location_of(&self.config.schemas, &key.target)?;
-        let zone = self.config.topology.zone_of(location.as_bytes())?;
-        Some(self.config.topology.range_of(zone, &key.target))
-    }
 }
 
 // What is known of each configuration.
@@ -114,10 +104,10 @@ fn seated(
     alloc: Global,
     config: &Config,
     leaf_states: Vec<LeafState>,
-    range_states: Vec<RangeState>,
+    range_states: Vec<RangeReplay>,
 ) -> Result<Seats, OutOfMemory>
     requires opened { AreOpenedSo config.now (first_leaf_history config.now.topology) leaf_states.items }
-    requires histories { range_states.items ≡ first_range_histories config.now.topology }
+    requires histories { spec.replayed range_states.items ≡ first_range_histories config.now.topology }
     ensures seats { IfOk result (AreFirstSeats config.now) }
 {
     match first_sight(alloc, leaf_states.as_slice(), range_states.as_slice()) {
@@ -135,7 +125,7 @@ fn seats_of(
     alloc: Global,
     config: &Config,
     leaf_states: Vec<LeafState>,
-    range_states: Vec<RangeState>,
+    range_states: Vec<RangeReplay>,
     sight: Sight,
 ) -> Result<Seats, OutOfMemory>
     requires count { length leaf_states.items ≡ length (leaves_in config.now.topology) }
@@ -160,7 +150,7 @@ fn seats_beside(
     alloc: Global,
     config: &Config,
     leaves: Vec<LeafSeat>,
-    range_states: Vec<RangeState>,
+    range_states: Vec<RangeReplay>,
     sight: Sight,
 ) -> Result<Seats, OutOfMemory>
     ensures words { IfOk result (λ seats. seats.words ≡ no_words (length config.now.topology) config.now.buckets) }
@@ -225,10 +215,11 @@ fn open_ranges(
     alloc: Global,
     config: &Config,
     leaves: &mut Vec<LeafState>,
-) -> Result<Vec<RangeState>, OutOfMemory>
+) -> Result<Vec<RangeReplay>, OutOfMemory>
     requires none { AreOpenedSo config.now (opened_before config.now.topology 0) leaves.old.items }
     ensures opened { OnOk result (AreOpenedSo config.now (first_leaf_history config.now.topology) leaves.new.items) }
-    ensures histories { IfOk result (λ ranges. ranges.items ≡ first_range_histories config.now.topology) }
+    ensures histories { IfOk result (λ ranges.
+        spec.replayed ranges.items ≡ first_range_histories config.now.topology) }
 {
     ranges_have_replicas(&config.topology);
     let mut ranges = Vec::new(alloc);
@@ -245,15 +236,15 @@ fn open_range(
     config: &Config,
     leaves: &mut Vec<LeafState>,
     range: Range,
-) -> Result<RangeState, OutOfMemory>
+) -> Result<RangeReplay, OutOfMemory>
     requires there { range.0 < length (ranges_in config.now.topology) }
     requires replicas { HasReplicas config.now.topology range }
     requires before { AreOpenedSo config.now (opened_before config.now.topology range.0) leaves.old.items }
     ensures opened { OnOk result
         (AreOpenedSo config.now (opened_before config.now.topology (range.0 + 1)) leaves.new.items) }
-    ensures history { IfOk result (λ state. state ≡ first_range_history config.now.topology range.0) }
+    ensures history { IfOk result (λ state. state.history ≡ first_range_history config.now.topology range.0) }
 {
-    let mut state = RangeState::new(alloc);
+    let mut state = RangeReplay::new(alloc);
     match open_replicas(alloc, config, leaves, range, &mut state) {
         Ok(()) => Ok(state),
         Err(fault) => {
@@ -269,15 +260,15 @@ fn open_replicas(
     config: &Config,
     leaves: &mut Vec<LeafState>,
     range: Range,
-    state: &mut RangeState,
+    state: &mut RangeReplay,
 ) -> Result<(), OutOfMemory>
     requires there { range.0 < length (ranges_in config.now.topology) }
     requires replicas { HasReplicas config.now.topology range }
     requires before { AreOpenedSo config.now (opened_before config.now.topology range.0) leaves.old.items }
-    requires none { state.old ≡ [] }
+    requires none { state.old.history ≡ [] }
     ensures opened { OnOk result
         (AreOpenedSo config.now (opened_before config.now.topology (range.0 + 1)) leaves.new.items) }
-    ensures history { OnOk result (state.new ≡ first_range_history config.now.topology range.0) }
+    ensures history { OnOk result (state.new.history ≡ first_range_history config.now.topology range.0) }
 {
     let mut number = 0;
     for leaf in config.topology.first_replicas(range).as_slice() {
@@ -330,7 +321,7 @@ fn open_slot(
 fn first_sight(
     alloc: Global,
     leaves: &[LeafState],
-    ranges: &[RangeState],
+    ranges: &[RangeReplay],
 ) -> Result<Sight, OutOfMemory>
     ensures sight { IfOk result (λ sight. sight ≡ sight_of_states leaves.now ranges.now) }
 {
@@ -352,8 +343,8 @@ fn leaf_lengths(alloc: Global, leaves: &[LeafState]) -> Result<ListOf<u64>, OutO
 }
 
 // What who sees all of each range's history sees.
-fn range_sights(alloc: Global, ranges: &[RangeState]) -> Result<ListOf<RangeSight>, OutOfMemory>
-    ensures sights { IfOk result (λ sights. sights ≡ map range_sight ranges.now) }
+fn range_sights(alloc: Global, ranges: &[RangeReplay]) -> Result<ListOf<RangeSight>, OutOfMemory>
+    ensures sights { IfOk result (λ sights. sights ≡ map (λ replay. range_sight replay.history) ranges.now) }
 {
     let mut sights = ListOf::new(alloc);
     for state in ranges {
@@ -422,7 +413,7 @@ fn place_of(topology: &Topology, leaf: usize) -> (Zone, u32)
 // Each range, held by nobody.
 fn range_seats(
     alloc: Global,
-    states: Vec<RangeState>,
+    states: Vec<RangeReplay>,
     sight: &Sight,
 ) -> Result<Vec<RangeSeat>, OutOfMemory>
     ensures seats { IfOk result (λ seats. seats.items ≡ map (spec.range_seat sight.now) states.items) }
@@ -436,7 +427,7 @@ fn range_seats(
 }
 
 // A range, held by nobody.
-fn range_seat(alloc: Global, state: RangeState, sight: &Sight) -> Result<RangeSeat, OutOfMemory>
+fn range_seat(alloc: Global, state: RangeReplay, sight: &Sight) -> Result<RangeSeat, OutOfMemory>
     ensures seat { IfOk result (λ seat. seat ≡ spec.range_seat sight.now state) }
 {
     let copied = sight.copy(alloc)?;

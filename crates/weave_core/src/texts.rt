@@ -1,16 +1,16 @@
 // What an actor prints that ends.
-ghost use Rattle.std.specs.Prelude.{◌≡◌, [], IfOk, string_bytes};
-ghost use Rattle.std.specs.List.{slice_index_or};
-ghost use Rattle.mon_topo.specs.Zones.{leaves_in};
+ghost use Rattle.std.specs.Prelude.{◌≡◌, IfOk, string_bytes};
+ghost use Rattle.query_core.specs.FaultTexts.{round_fault_text};
 ghost use Rattle.weave_core.specs.EndTexts as spec;
+ghost use Rattle.write_core.specs.Refusals.{refused_text};
 
-use crate::refusals::limit_refusal;
 use mon_table::print;
-use mon_topo::Topology;
-use mon_value::{FoundDown, Leaf, OutOfMemory, Range, Text, Zone};
-use query_core::{Answer, RoundFault};
+use mon_topo::{Topology, down_text};
+use mon_value::{OutOfMemory, Range, Text};
+use query_core::{Answer, RoundFault, fault_text};
+use query_texts::TextFault;
 use std::alloc::Global;
-use write_core::WriteEnd;
+use write_core::{Refused, WriteEnd};
 
 /// The text of a write to a range that ended so.
 pub(crate) fn write_end_text(
@@ -39,8 +39,8 @@ fn write_line(
             let missed = ack.missed.len();
             format!(in alloc; "written: took {took}, missed {missed}\n")
         }
-        WriteEnd::Old(last) => format!(in alloc; "refused: OldPoint {last}\n"),
-        WriteEnd::Full(limit) => format!(in alloc; "refused: RangeFull {limit}\n"),
+        WriteEnd::OldPoint(last) => refused_line(alloc, Refused::OldPoint(*last)),
+        WriteEnd::RangeFull(limit) => refused_line(alloc, Refused::RangeFull(*limit)),
         WriteEnd::Unavailable(founds) => {
             let down = down_text(alloc, topology, range, founds.as_slice())?;
             format!(in alloc; "refused: Unavailable {down}\n")
@@ -48,11 +48,25 @@ fn write_line(
     }
 }
 
+// The line of a write that its range refuses.
+fn refused_line(alloc: Global, why: Refused) -> Result<String, OutOfMemory>
+    ensures line { IfOk result (λ line. string_bytes line ≡ spec.refused_line (refused_text why)) }
+{
+    format!(in alloc; "refused: {why}\n")
+}
+
 /// The text of a write of a row whose location no zone lists.
 pub(crate) fn no_zone(alloc: Global) -> Result<Text, OutOfMemory>
-    ensures text { IfOk result (λ text. text ≡ spec.no_zone_text) }
+    ensures text { IfOk result (λ text. text ≡ spec.no_zone_line) }
 {
     Text::from_str(alloc, "refused: NoZone\n")
+}
+
+/// The text of a query whose text has no plan.
+pub(crate) fn no_plan(alloc: Global, fault: TextFault) -> Result<Text, OutOfMemory>
+    ensures text { IfOk result (λ text. text ≡ spec.no_plan_line fault) }
+{
+    Ok(Text::from_string(format!(in alloc; "refused: {fault}\n")?))
 }
 
 /// The text of a query that ended so.
@@ -65,84 +79,14 @@ pub(crate) fn query_text(
 {
     match end {
         Ok(answer) => print(alloc, &answer.table),
-        Err(fault) => refusal_text(alloc, topology, &fault),
+        Err(fault) => no_table(alloc, topology, &fault),
     }
 }
 
-// Why a query has no table.
-fn refusal_text(alloc: Global, topology: &Topology, fault: &RoundFault) -> Result<Text, OutOfMemory>
-    ensures text { IfOk result (λ text. text ≡ spec.refusal_text topology.now fault.now) }
+// The line of why a query has no table.
+fn no_table(alloc: Global, topology: &Topology, fault: &RoundFault) -> Result<Text, OutOfMemory>
+    ensures line { IfOk result (λ line. line ≡ spec.refused_line (round_fault_text topology.now fault.now)) }
 {
-    match fault {
-        RoundFault::NoReplica(range, founds) => {
-            let down = down_text(alloc, topology, *range, founds.as_slice())?;
-            Ok(Text::from_string(format!(in alloc; "refused: NoReplica {down}\n")?))
-        }
-        RoundFault::StepLimit(limit, _trace) => limit_refusal(alloc, *limit),
-    }
-}
-
-// A range whose replicas are on leaves that were found down.
-fn down_text(
-    alloc: Global,
-    topology: &Topology,
-    range: Range,
-    founds: &[FoundDown],
-) -> Result<String, OutOfMemory>
-    ensures text { IfOk result (λ text. string_bytes text ≡ spec.down_text topology.now range founds.now) }
-{
-    let range = range_text(alloc, topology, range)?;
-    let founds = founds_text(alloc, topology, founds)?;
-    format!(in alloc; "{range}:{founds}")
-}
-
-// Each leaf with its cut, and a space in front.
-fn founds_text(
-    alloc: Global,
-    topology: &Topology,
-    founds: &[FoundDown],
-) -> Result<String, OutOfMemory>
-    ensures text { IfOk result (λ text. string_bytes text ≡ spec.founds_text topology.now founds.now) }
-{
-    let mut text = String::new(alloc);
-    for found in founds {
-        let one = found_text(alloc, topology, *found)?;
-        text.push_str(one.as_str())?;
-    }
-    Ok(text)
-}
-
-// A leaf with its cut.
-fn found_text(alloc: Global, topology: &Topology, found: FoundDown) -> Result<String, OutOfMemory>
-    ensures text { IfOk result (λ text. string_bytes text ≡ spec.found_text topology.now found) }
-{
-    let name = leaf_text(topology, found.leaf);
-    let cut = found.cut;
-    format!(in alloc; " {name}@{cut}")
-}
-
-// The name of a leaf, if there is such a leaf.
-fn leaf_text(topology: &Topology, leaf: Leaf) -> &str
-    ensures name { result.now ≡ slice_index_or (leaves_in topology.now) leaf.0 [] }
-{
-    if leaf.0 < topology.leaves() {
-        topology.leaf_name(leaf).as_str()
-    } else {
-        ""
-    }
-}
-
-// The name of a range, if there is such a range: that of its zone, and its number there.
-fn range_text(alloc: Global, topology: &Topology, range: Range) -> Result<String, OutOfMemory>
-    ensures text { IfOk result (λ text. string_bytes text ≡ spec.range_text topology.now range) }
-{
-    for zone in 0..topology.zones() {
-        let (first, count) = topology.ranges_of(Zone(zone));
-        if first.0 <= range.0 && range.0 - first.0 < count {
-            let name = topology.zone_name(Zone(zone)).as_str();
-            let place = range.0 - first.0;
-            return format!(in alloc; "{name}/{place}");
-        }
-    }
-    Ok(String::new(alloc))
+    let why = fault_text(alloc, topology, fault)?;
+    Ok(Text::from_string(format!(in alloc; "refused: {why}\n")?))
 }

@@ -3,18 +3,10 @@ ghost use Rattle.std.specs.Prelude.{◌≡◌, ◌<◌, IfOk};
 ghost use Rattle.weave_core.specs.HintWords as spec;
 ghost use Rattle.weave_core.specs.HintWords.{HasWord, with_child_bit, hint_word_at};
 
-use mon_value::{OutOfMemory, Zone};
+use mon_hints::Place;
+use mon_value::OutOfMemory;
 use std::alloc::Global;
 use std::marker::Model;
-
-/// Where a hint word stands.
-#[derive(Clone, Copy, PartialEq, Eq)]
-pub enum Place {
-    /// At the root, with a bit for each zone.
-    Root,
-    /// In a zone, with a bit for each of its leaves.
-    Zone(Zone),
-}
 
 /// A word of each place for each bucket.
 #[derive(Drop)]
@@ -48,7 +40,7 @@ impl HintWords {
         requires there { HasWord self.now place bucket }
         ensures word { result ≡ hint_word_at self.now place bucket }
     {
-        self.words[self.index(place, bucket)]
+        self.words[place.word_index(bucket, self.buckets)]
     }
 
     /// Sets the bit of a child in the word of a place and a bucket.
@@ -57,18 +49,7 @@ impl HintWords {
         requires child { child < 64 }
         ensures raised { self.new ≡ with_child_bit self.old place child bucket }
     {
-        let index = self.index(place, bucket);
+        let index = place.word_index(bucket, self.buckets);
         self.words[index] |= 1 << child;
-    }
-
-    // Where the word of a place and a bucket stands: the root's words come first.
-    fn index(&self, place: Place, bucket: u32) -> usize
-        ensures index { result ≡ spec.index_of self.now place bucket }
-    {
-        let table = match place {
-            Place::Root => 0,
-            Place::Zone(zone) => zone.0 as usize + 1,
-        };
-        table * self.buckets as usize + bucket as usize
     }
 }

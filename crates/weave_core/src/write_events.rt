@@ -1,22 +1,21 @@
 // The events of a write, each at the seat that it needs.
-ghost use Rattle.std.specs.Prelude.{◌<◌, ◌<ℤ◌, ◌++◌, ◌∷◌, [], length, IfOk, IfSome, OnOk};
-ghost use Rattle.mon_topo.specs.RangeHistories.{acknowledged_rows};
+ghost use Rattle.std.specs.Prelude.{◌≡◌, ◌<◌, ◌++◌, ◌∷◌, [], length, IfOk, OnOk};
 ghost use Rattle.mon_value.specs.LeafHistories.{IsWellFormed};
-ghost use Rattle.mon_value.specs.Sources.{last_end, points_of};
 ghost use Rattle.mon_topo.specs.Sights.{AreAlike};
-ghost use Rattle.weave_core.specs.WriteEvents.{EntersIf, IfWritten, LetsGo, LocksIf, Puts, RaisesBit};
-ghost use Rattle.weave_core.specs.WriteEvents.{ReservesIf};
+ghost use Rattle.weave_core.specs.WriteEvents.{EntersIf, LetsGo, LocksIf, Puts, RaisesBit, ReservesIf};
+ghost use Rattle.write_core.specs.Replays.{HasAckRoom};
 
 use crate::leaves::LeafSeat;
 use crate::ranges::RangeSeat;
 use crate::writes::Writing;
 use mon_hints::Buckets;
 use mon_topo::Sight;
-use mon_value::{Entry, Leaf, OutOfMemory, Range, Row, Slot, TryCopy};
+use mon_value::{Entry, Leaf, OutOfMemory, Range, Row, SeriesKey, Shared, Slot, TryCopy};
 use std::alloc::Global;
 use write_core::{WriteEnd, WriteTold};
 
-/// A write takes its range's lock, and is told whether its row goes in, of a range that holds so many at most.
+/// A write takes its range's lock, room is made for its acknowledgement, and it is told whether its row goes in, of a
+/// range that holds so many at most.
 pub(crate) fn lock(
     seat: &mut RangeSeat,
     limit: u64,
@@ -30,6 +29,7 @@ pub(crate) fn lock(
     if seat.holder.is_some() {
         return Ok(false);
     }
+    seat.state.reserve()?;
     let told = seat.state.answer(&writing.row, limit)?;
     writing.machine.told(told)?;
     seat.holder = Some(writing.number);
@@ -139,19 +139,20 @@ pub(crate) fn let_go(
     seat: &mut RangeSeat,
     number: u32,
     row: Row,
+    key: Shared<SeriesKey>,
     range: Range,
     end: &WriteEnd,
     sight: &mut Sight,
 ) -> Result<(), OutOfMemory>
     requires alike { AreAlike sight.old seat.old.sight }
     requires there { range.0 < length seat.old.sight.ranges }
-    requires later { IfWritten end.now
-        (IfSome (last_end (points_of row.key (acknowledged_rows seat.old.state))) (λ last. last <ℤ row.point.end)) }
+    requires room { HasAckRoom seat.old.state }
+    requires key { key ≡ row.key }
     ensures lets_go { OnOk result (LetsGo end.now number row range seat.old seat.new sight.old sight.new) }
 {
     if let WriteEnd::Written(ack) = end {
-        seat.state
-            .acknowledge(u64::from(number), row, ack.copy(alloc)?)?;
+        let ack = ack.copy(alloc)?;
+        seat.state.acknowledge(key, u64::from(number), row, ack);
     }
     seat.holder = None;
     seat.meet(range, sight);

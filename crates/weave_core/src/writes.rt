@@ -9,18 +9,19 @@ ghost use Rattle.write_core.specs.World.{World};
 ghost use Rattle.write_core.specs.declared.asks.WriteAsk.TheVariants as ask;
 
 use crate::store::Store;
-use crate::words::Place;
 use crate::write_events::{enter, let_go, lock, put, raise, reserve};
+use mon_hints::Place;
 use mon_topo::Sight;
-use mon_value::{Leaf, OutOfMemory, Range, Row, Slot};
+use mon_value::{Leaf, OutOfMemory, Range, Row, SeriesKey, Shared, Slot};
 use write_core::{WriteAsk, WriteEnd, WriteMachine, WriteTold};
 
-/// A write on its way: its number, its row and the range that this goes to, what it does next, and the leaf that it is
-/// inside of.
+/// A write on its way: its number, its row with a key for the range's replay, the range that this goes to, what it does
+/// next, and the leaf that it is inside of.
 #[derive(Drop)]
 pub(crate) struct Writing {
     pub number: u32,
     pub row: Row,
+    pub key: Shared<SeriesKey>,
     pub range: Range,
     pub machine: WriteMachine,
     pub inside: Option<Leaf>,
@@ -180,6 +181,7 @@ impl Store {
         let Writing {
             number,
             row,
+            key,
             range,
             machine,
             ..
@@ -189,7 +191,7 @@ impl Store {
             Ok(()) => {
                 let end = machine.finish();
                 let seat = &mut self.ranges[range.0 as usize];
-                match let_go(self.alloc, seat, number, row, range, &end, sight) {
+                match let_go(self.alloc, seat, number, row, key, range, &end, sight) {
                     Ok(()) => Ok(WriteTurn::Ended(range, end)),
                     Err(fault) => {
                         drop(end);
@@ -199,6 +201,7 @@ impl Store {
             }
             Err(fault) => {
                 drop(row);
+                drop(key);
                 drop(machine);
                 Err(fault)
             }

@@ -18,8 +18,8 @@ use Rattle.mon_hints.specs.Covers.{AreBitsWithin, Bits, Covers}
 use Rattle.mon_hints.specs.HistoryBuckets.{history_buckets}
 use Rattle.mon_hints.proofs.CoverLemmas.{bits_within, covers-push, covers_more, kept_bit}
 use Rattle.mon_topo.specs.Settings.{Setting, zone_of_leaf}
-use Rattle.write_core.specs.Views.{IsSound, IsViewWithin, View, of_leaf, of_range, with_entry, with_range_entry}
-use Rattle.write_core.specs.Views.{with_root_bit, with_zone_bit}
+use Rattle.mon_topo.specs.Views.{IsSound, IsViewWithin, View, of_leaf, of_range, with_entry, with_range_entry}
+use Rattle.mon_topo.specs.Views.{with_root_bit, with_zone_bit}
 
 -- ---- a bit
 

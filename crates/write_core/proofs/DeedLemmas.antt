@@ -21,7 +21,7 @@ use Rattle.write_core.specs.Invariant.{AreAll, is_asked}
 use Rattle.write_core.specs.Marks.{ack_of, is_ready, has_taken, with_fate, some_took, waiting}
 use Rattle.write_core.specs.Program.{Acking, Ended, Entering, Inside, Locking, Marked, Reserving, entering, reserving}
 use Rattle.write_core.specs.Rounds.{Round, again, is_through, after_look, round_marks, skip_unready, after_skip}
-use Rattle.write_core.specs.Views.{View, of_leaf, of_range, with_entry, with_range_entry}
+use Rattle.mon_topo.specs.Views.{View, of_leaf, of_range, with_entry, with_range_entry}
 use Rattle.write_core.specs.World.{Writer, put_of}
 use Rattle.write_core.specs.declared.marks.Fate.{Fate}
 use Rattle.write_core.specs.declared.marks.Fate.TheVariants as fate

@@ -25,8 +25,8 @@ use Rattle.write_core.specs.Marks.{with_fate, replica_of}
 use Rattle.write_core.specs.Program.{Inside, Stage, entering}
 use Rattle.write_core.specs.Rounds.{Round, after_look}
 use Rattle.mon_topo.specs.Settings.{Setting, zone_of_leaf}
-use Rattle.write_core.specs.Views.{IsViewWithin, View, joined_view, of_leaf, of_range, with_entry, with_root_bit}
-use Rattle.write_core.specs.Views.{with_zone_bit}
+use Rattle.mon_topo.specs.Views.{IsViewWithin, View, joined_view, of_leaf, of_range, with_entry, with_root_bit}
+use Rattle.mon_topo.specs.Views.{with_zone_bit}
 use Rattle.write_core.specs.World.{World, Writer, Writes, at_leaf, writer_at_stage, pass_of, put_of, writes_on}
 use Rattle.write_core.specs.declared.marks.Fate.TheVariants as fate
 use Rattle.write_core.specs.declared.marks.Mark.{Mark}

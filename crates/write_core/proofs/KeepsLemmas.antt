@@ -28,7 +28,7 @@ use Rattle.write_core.specs.Marks.{has_taken, replica_of}
 use Rattle.write_core.specs.Program.{Acking, Ended, Entering, Inside, Locking, Marked, Not, Reserving, Stage, Verdict}
 use Rattle.write_core.specs.Rounds.{Round, round_marks}
 use Rattle.mon_topo.specs.Settings.{Setting}
-use Rattle.write_core.specs.Views.{IsViewWithin, View, of_leaf, of_range}
+use Rattle.mon_topo.specs.Views.{IsViewWithin, View, of_leaf, of_range}
 use Rattle.write_core.specs.World.{Actor, IsPart, Recovers, Recovery, Stands, World, Writer, Writes, with_value_at}
 use Rattle.write_core.specs.World.{writer_at_stage}
 use Rattle.write_core.specs.World.{pass_of, put_of}

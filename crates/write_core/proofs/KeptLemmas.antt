@@ -17,13 +17,13 @@ use Rattle.write_core.specs.Events.{Aims, Begins, CanHappen, CanRun, Copies, Eve
 use Rattle.write_core.specs.Events.{Visits, after_event, after_events}
 use Rattle.write_core.specs.Recovering.{CopyStage, CopyTold, Denied, NoSource, NoTarget, Opens, Outcome, Over}
 use Rattle.mon_topo.specs.Settings.{Setting}
-use Rattle.write_core.specs.Views.{View, of_leaf, of_range, joined_view}
+use Rattle.mon_topo.specs.Views.{View, joined_view, of_leaf, of_range}
 use Rattle.write_core.specs.World.{Actor, IsPart, Recovers, Recovery, Stands, World, Writer, Writes, at_range}
 use Rattle.write_core.specs.World.{writes_on}
 use Rattle.write_core.specs.declared.asks.WriteTold.{WriteTold}
 use Rattle.write_core.specs.declared.asks.WriteTold.TheVariants as told
 use Rattle.write_core.specs.declared.marks.Mark.{Mark}
-use Rattle.write_core.specs.declared.marks.Refused.TheVariants as refused
+use Rattle.write_core.specs.declared.refusals.Refused.TheVariants as refused
 use Rattle.write_core.proofs.InsideLemmas.{put_row, raise_root, raise_zone}
 use Rattle.write_core.proofs.LeafEventLemmas.{enter_down, enter_up, reserve_down, reserve_up}
 use Rattle.write_core.proofs.RangeEventLemmas.{ack_marked, ack_refused, lock_refused, lock_slots}
@@ -32,7 +32,7 @@ use Rattle.write_core.proofs.SwitchLemmas.{aim_kept, begin_kept, learn_kept, res
 use Rattle.write_core.proofs.ViewLemmas.{joined_sound, joined_within, within_itself}
 use Rattle.write_core.proofs.KeepsLemmas.{part_moves}
 use Rattle.write_core.proofs.StepLemmas.{IsStep, recovery_of, writer_of}
-use Rattle.write_core.proofs.CopyLemmas.{recovery_kept}
+use Rattle.write_core.proofs.CopyEnds.{recovery_kept}
 
 module _ (setting : Setting) (world : World) (i : ℕ) (who : Writer) (is : world.actors i ≡ Writes who)
     (kept : IsKept setting world) where
@@ -48,8 +48,8 @@ module _ (setting : Setting) (world : World) (i : ℕ) (who : Writer) (is : worl
       mark can.0
       at deeds cut can.1.0 can.1.1
   reserve_kept done (mark ∷ left) (told.Slots replicas) at deeds can = absurd can.1
-  reserve_kept done (mark ∷ left) (told.Old last) at deeds can = absurd can.1
-  reserve_kept done (mark ∷ left) (told.Full count) at deeds can = absurd can.1
+  reserve_kept done (mark ∷ left) (told.OldPoint last) at deeds can = absurd can.1
+  reserve_kept done (mark ∷ left) (told.RangeFull count) at deeds can = absurd can.1
   reserve_kept done (mark ∷ left) told.Done at deeds can = absurd can.1
 
   enter_kept : (done left : List Mark) (answer : WriteTold)
@@ -68,8 +68,8 @@ module _ (setting : Setting) (world : World) (i : ℕ) (who : Writer) (is : worl
       deeds cut
       can.1.0 can.1.1
   enter_kept done (mark ∷ left) (told.Slots replicas) at deeds can = absurd can.1
-  enter_kept done (mark ∷ left) (told.Old last) at deeds can = absurd can.1
-  enter_kept done (mark ∷ left) (told.Full count) at deeds can = absurd can.1
+  enter_kept done (mark ∷ left) (told.OldPoint last) at deeds can = absurd can.1
+  enter_kept done (mark ∷ left) (told.RangeFull count) at deeds can = absurd can.1
   enter_kept done (mark ∷ left) told.Done at deeds can = absurd can.1
 
   inside_kept : (done left : List Mark) (at_root in_zone : List ℕ)
@@ -94,8 +94,10 @@ module _ (setting : Setting) (world : World) (i : ℕ) (who : Writer) (is : worl
       (writes_on who (after Locking answer)))
   lock_kept (told.Slots replicas) free can deeds = lock_slots setting world i who is kept free deeds replicas can.0
       can.1 can.2
-  lock_kept (told.Old last) free can deeds = lock_refused setting world i who is kept free deeds (refused.Old last)
-  lock_kept (told.Full count) free can deeds = lock_refused setting world i who is kept free deeds (refused.Full count)
+  lock_kept (told.OldPoint last) free can deeds =
+      lock_refused setting world i who is kept free deeds (refused.OldPoint last)
+  lock_kept (told.RangeFull count) free can deeds =
+      lock_refused setting world i who is kept free deeds (refused.RangeFull count)
   lock_kept (told.Up buckets) free can deeds = absurd can
   lock_kept (told.Down cut) free can deeds = absurd can
   lock_kept told.Done free can deeds = absurd can

@@ -13,7 +13,7 @@ use Rattle.write_core.specs.Program.{Entering, Inside, Reserving, Stage, enterin
 use Rattle.write_core.specs.Rounds.{Round, after_look}
 use Rattle.write_core.specs.Steps.{AreUnraised, same_view}
 use Rattle.mon_topo.specs.Settings.{Setting}
-use Rattle.write_core.specs.Views.{View, joined_view, of_leaf, with_root_bit, with_zone_bit}
+use Rattle.mon_topo.specs.Views.{View, joined_view, of_leaf, with_root_bit, with_zone_bit}
 use Rattle.write_core.specs.World.{World, Writer, Writes, at_leaf, writer_at_stage, writes_on}
 use Rattle.write_core.specs.declared.marks.Fate.TheVariants as fate
 use Rattle.write_core.specs.declared.marks.Mark.{Mark}

@@ -2,7 +2,8 @@ pub mod AckLemmas
 pub mod BucketLemmas
 pub mod ChangeLemmas
 mod CopyAnswers
-pub mod CopyLemmas
+pub mod CopyAsking
+pub mod CopyEnds
 pub mod CopyPlaces
 pub mod CourseLemmas
 pub mod DecidedLemmas
@@ -11,10 +12,12 @@ pub mod InsideLemmas
 pub mod KeepsLemmas
 pub mod KeptLemmas
 pub mod LeafEventLemmas
+pub mod LockLemmas
 pub mod MeetLemmas
 mod NotedLemmas
 pub mod OpeningLemmas
 pub mod RangeEventLemmas
+pub mod ReplayLemmas
 pub mod RoundLemmas
 pub mod StageLemmas
 pub mod StepLemmas

@@ -16,8 +16,8 @@ use Rattle.mon_topo.proofs.HeldLemmas.{joined_seen_range}
 use Rattle.mon_topo.specs.Settings.{Setting, zone_of_leaf}
 use Rattle.write_core.specs.Invariant.{IsInside, IsKept}
 use Rattle.write_core.specs.Steps.{AreUnraised, same_view}
-use Rattle.write_core.specs.Views.{IsSound, IsViewWithin, View, joined_view, of_leaf, of_range, with_root_bit}
-use Rattle.write_core.specs.Views.{with_zone_bit}
+use Rattle.mon_topo.specs.Views.{IsSound, IsViewWithin, View, joined_view, of_leaf, of_range, with_root_bit}
+use Rattle.mon_topo.specs.Views.{with_zone_bit}
 use Rattle.write_core.specs.World.{IsPart, World}
 use Rattle.write_core.proofs.ChangeLemmas.{root_bit_sound, root_bit_up, root_bit_within, zone_bit_sound, zone_bit_up}
 use Rattle.write_core.proofs.ChangeLemmas.{zone_bit_within}

@@ -31,7 +31,7 @@ use Rattle.write_core.specs.Rounds.{Round, round_marks, round_of, round_with_loo
 use Rattle.write_core.specs.Steps.{CanComeAt, CanEnter, CanGo, CanReserve, IsToldAtEntry, IsToldByLeaf, after_answer}
 use Rattle.write_core.specs.Steps.{after_entering, after_reserving, entrant, gone_on_inside, same_view, step_at}
 use Rattle.write_core.specs.Steps.{with_acknowledgement}
-use Rattle.write_core.specs.Views.{View, of_leaf, of_range, with_entry, with_root_bit, with_zone_bit}
+use Rattle.mon_topo.specs.Views.{View, of_leaf, of_range, with_entry, with_root_bit, with_zone_bit}
 use Rattle.write_core.specs.World.{Actor, LengthNote, OfLeaf, OfRange, Recovers, Recovery, Stands, World, Writer}
 use Rattle.write_core.specs.World.{Writes, at_leaf, at_range, met_at_leaf, met_at_range, put_of, recovers_on}
 use Rattle.write_core.specs.World.{stands_on, wiser, with_value_at, writes_on}
@@ -94,14 +94,14 @@ module _ (So : Leaf → ℕ → Type 0) where
   pub write_so : (stage : Stage) (answer : WriteTold) → MarksSo So stage → ToldSo stage answer
       → MarksSo So (after stage answer)
   write_so Locking (told.Slots replicas) h now = reserving_so (round_of (map waiting replicas)) (waiting_so replicas)
-  write_so Locking (told.Old last) h now = tt
-  write_so Locking (told.Full count) h now = tt
+  write_so Locking (told.OldPoint last) h now = tt
+  write_so Locking (told.RangeFull count) h now = tt
   write_so Locking (told.Up buckets) h now = h
   write_so Locking (told.Down cut) h now = h
   write_so Locking told.Done h now = h
   write_so (Reserving round) (told.Slots replicas) h now = h
-  write_so (Reserving round) (told.Old last) h now = h
-  write_so (Reserving round) (told.Full count) h now = h
+  write_so (Reserving round) (told.OldPoint last) h now = h
+  write_so (Reserving round) (told.RangeFull count) h now = h
   write_so (Reserving round) (told.Up buckets) h now =
       reserving_so (round_with_look round.done round.left fate.Ready)
       (looked_so round.done round.left fate.Ready h (λ mark rest same. tt))
@@ -110,28 +110,28 @@ module _ (So : Leaf → ℕ → Type 0) where
       (looked_so round.done round.left (fate.Missed cut) h (missed_so round.left cut now))
   write_so (Reserving round) told.Done h now = h
   write_so (Entering round) (told.Slots replicas) h now = h
-  write_so (Entering round) (told.Old last) h now = h
-  write_so (Entering round) (told.Full count) h now = h
+  write_so (Entering round) (told.OldPoint last) h now = h
+  write_so (Entering round) (told.RangeFull count) h now = h
   write_so (Entering round) (told.Up buckets) h now = h
   write_so (Entering round) (told.Down cut) h now =
       entering_so (round_with_look round.done round.left (fate.Missed cut))
       (looked_so round.done round.left (fate.Missed cut) h (missed_so round.left cut now))
   write_so (Entering round) told.Done h now = h
   write_so (Inside round at_root in_zone) (told.Slots replicas) h now = h
-  write_so (Inside round at_root in_zone) (told.Old last) h now = h
-  write_so (Inside round at_root in_zone) (told.Full count) h now = h
+  write_so (Inside round at_root in_zone) (told.OldPoint last) h now = h
+  write_so (Inside round at_root in_zone) (told.RangeFull count) h now = h
   write_so (Inside round at_root in_zone) (told.Up buckets) h now = h
   write_so (Inside round at_root in_zone) (told.Down cut) h now = h
   write_so (Inside round at_root in_zone) told.Done h now = inside_so round at_root in_zone h
   write_so (Acking verdict) (told.Slots replicas) h now = h
-  write_so (Acking verdict) (told.Old last) h now = h
-  write_so (Acking verdict) (told.Full count) h now = h
+  write_so (Acking verdict) (told.OldPoint last) h now = h
+  write_so (Acking verdict) (told.RangeFull count) h now = h
   write_so (Acking verdict) (told.Up buckets) h now = h
   write_so (Acking verdict) (told.Down cut) h now = h
   write_so (Acking verdict) told.Done h now = h
   write_so (Ended verdict) (told.Slots replicas) h now = h
-  write_so (Ended verdict) (told.Old last) h now = h
-  write_so (Ended verdict) (told.Full count) h now = h
+  write_so (Ended verdict) (told.OldPoint last) h now = h
+  write_so (Ended verdict) (told.RangeFull count) h now = h
   write_so (Ended verdict) (told.Up buckets) h now = h
   write_so (Ended verdict) (told.Down cut) h now = h
   write_so (Ended verdict) told.Done h now = h
@@ -345,8 +345,8 @@ module _ (setting : Setting) (world : World) (noted : AreNoted world) where
         noted_now notes mark.leaf cut (length (of_leaf world.truth mark.leaf)) can.1
     reserve_told mark left (told.Up buckets) can = tt
     reserve_told mark left (told.Slots replicas) can = tt
-    reserve_told mark left (told.Old last) can = tt
-    reserve_told mark left (told.Full count) can = tt
+    reserve_told mark left (told.OldPoint last) can = tt
+    reserve_told mark left (told.RangeFull count) can = tt
     reserve_told mark left told.Done can = tt
 
     enter_told : (mark : Mark) (left : List Mark) (answer : WriteTold)
@@ -356,8 +356,8 @@ module _ (setting : Setting) (world : World) (noted : AreNoted world) where
         noted_now notes mark.leaf cut (length (of_leaf world.truth mark.leaf)) can.1
     enter_told mark left (told.Up buckets) can = tt
     enter_told mark left (told.Slots replicas) can = tt
-    enter_told mark left (told.Old last) can = tt
-    enter_told mark left (told.Full count) can = tt
+    enter_told mark left (told.OldPoint last) can = tt
+    enter_told mark left (told.RangeFull count) can = tt
     enter_told mark left told.Done can = tt
 
     reserve_noted : (done left : List Mark) (answer : WriteTold)

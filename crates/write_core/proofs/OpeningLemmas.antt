@@ -11,6 +11,7 @@ use Rattle.mon_value.specs.declared.histories.Entry.{Entry}
 use Rattle.mon_value.specs.declared.histories.Entry.TheVariants as entry
 use Rattle.mon_value.specs.declared.histories.RangeEntry.{RangeEntry}
 use Rattle.mon_value.specs.declared.histories.RangeEntry.TheVariants as range_entry
+use Rattle.mon_value.specs.declared.positions.Leaf.{Leaf}
 use Rattle.mon_value.specs.declared.positions.Range.{Range}
 use Rattle.mon_value.specs.declared.positions.Slot.{Slot}
 use Rattle.mon_value.specs.declared.positions.SlotLeaf.{SlotLeaf}
@@ -35,9 +36,12 @@ pub opened-acked : (history : List RangeEntry) (pass : ℕ) (row : Row) (ack : A
 opened-acked history pass row ack = opened-push history (range_entry.Acked pass row ack)
     ∙ append-nil (opened_slots history)
 
-module _ (history : List RangeEntry) (pass : ℕ) (replica : SlotLeaf) where
+module _ (history : List RangeEntry) (pass : ℕ) (slot : Slot) (leaf : Leaf) where
   abbrev opening : RangeEntry
-  opening = range_entry.Opened pass replica.slot replica.leaf
+  opening = range_entry.Opened pass slot leaf
+
+  abbrev replica : SlotLeaf
+  replica = record { slot = slot; leaf = leaf }
 
   -- one more replica is the last that was opened
   pub opened-opened : opened_slots (history ++ opening ∷ []) ≡ opened_slots history ++ replica ∷ []
@@ -47,10 +51,9 @@ module _ (history : List RangeEntry) (pass : ℕ) (replica : SlotLeaf) where
   pub acked-opened : acknowledged_rows (history ++ opening ∷ []) ≡ acknowledged_rows history
   acked-opened = flat_map-append spec.acked_row history (opening ∷ []) ∙ append-nil (acknowledged_rows history)
 
--- and serves
-pub serving-opened : (history : List RangeEntry) (pass : ℕ) (replica : SlotLeaf)
-    → serving (history ++ range_entry.Opened pass replica.slot replica.leaf ∷ []) ≡ serving history ++ replica ∷ []
-serving-opened history pass replica = serving_after-opened [] history pass replica
+  -- and serves
+  pub serving-opened : serving (history ++ opening ∷ []) ≡ serving history ++ replica ∷ []
+  serving-opened = serving_after-opened [] history pass replica
 
 -- ---- the acknowledged rows are a source
 
@@ -63,7 +66,7 @@ module _ (held : SchemaLists) (zones : List ZoneSpec) (points : ℕ) (r : Range)
       let e = range_entry.Opened pass slot leaf in
       subst (λ (xs : List RangeEntry). IsSource (acknowledged_rows xs)) (append_assoc before (e ∷ []) history)
       (source_on (before ++ e ∷ []) history
-      (subst IsSource (sym (acked-opened before pass (record { slot = slot; leaf = leaf }))) h) goes.1)
+      (subst IsSource (sym (acked-opened before pass slot leaf)) h) goes.1)
   source_on before (range_entry.Acked pass row ack ∷ history) h goes =
       let e = range_entry.Acked pass row ack in
       subst (λ (xs : List RangeEntry). IsSource (acknowledged_rows xs)) (append_assoc before (e ∷ []) history)

@@ -26,12 +26,12 @@ use Rattle.write_core.specs.Program.{Acking, Ended, Locking, Marked, Not, Stage,
 use Rattle.write_core.specs.Rounds.{round_of}
 use Rattle.write_core.specs.Steps.{with_acknowledgement, same_view}
 use Rattle.mon_topo.specs.Settings.{Setting}
-use Rattle.write_core.specs.Views.{IsSound, IsViewWithin, View, joined_view, of_leaf, of_range, with_range_entry}
+use Rattle.mon_topo.specs.Views.{IsSound, IsViewWithin, View, joined_view, of_leaf, of_range, with_range_entry}
 use Rattle.write_core.specs.World.{World, Writer, Writes, at_range, writer_at_stage, pass_of, writes_on}
 use Rattle.write_core.specs.declared.marks.Fate.{Fate}
 use Rattle.write_core.specs.declared.marks.Fate.TheVariants as fate
 use Rattle.write_core.specs.declared.marks.Mark.{Mark}
-use Rattle.write_core.specs.declared.marks.Refused.{Refused}
+use Rattle.write_core.specs.declared.refusals.Refused.{Refused}
 use Rattle.write_core.proofs.AckLemmas.{all_map_from, contains_filter, contains_map, is_named_missed, missed_in, named}
 use Rattle.write_core.proofs.AckLemmas.{none_took, some_taken, taken_in, took_from}
 use Rattle.write_core.proofs.ChangeLemmas.{range_entry_sound, range_entry_up, range_entry_within}

@@ -10,7 +10,7 @@ use Rattle.write_core.specs.Marks.{is_ready, has_taken, with_fate, replica_of}
 use Rattle.write_core.specs.Program.{Acking, Entering, Marked, Reserving, entering, reserving}
 use Rattle.write_core.specs.Rounds.{Round, again, is_no_mark_left, is_through, round_marks, skip_unready, after_skip}
 use Rattle.mon_topo.specs.Settings.{Setting}
-use Rattle.write_core.specs.Views.{of_range}
+use Rattle.mon_topo.specs.Views.{of_range}
 use Rattle.write_core.specs.World.{World, Writer}
 use Rattle.write_core.specs.declared.marks.Fate.{Fate}
 use Rattle.write_core.specs.declared.marks.Fate.TheVariants as fate

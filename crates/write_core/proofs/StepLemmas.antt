@@ -10,7 +10,7 @@ use Rattle.write_core.specs.Invariant.{IsActor, IsAimed, IsAt, IsCopyAt, IsKept,
 use Rattle.write_core.specs.Recovering.{CopyStage}
 use Rattle.write_core.specs.Program.{Stage}
 use Rattle.mon_topo.specs.Settings.{Setting}
-use Rattle.write_core.specs.Views.{IsSound, IsViewWithin, View, of_leaf, of_range}
+use Rattle.mon_topo.specs.Views.{IsSound, IsViewWithin, View, of_leaf, of_range}
 use Rattle.write_core.specs.World.{Actor, IsPart, Recovers, Recovery, World, Writer, Writes, at_leaf, at_range}
 use Rattle.write_core.specs.World.{copied_on, writer_at_stage, met_at_leaf, met_at_range, pass_of, recovers_on}
 use Rattle.write_core.specs.World.{writes_on}

@@ -24,7 +24,7 @@ use Rattle.write_core.specs.Events.{WasDownAlready, WasSwitched, WasUpAlready, a
 use Rattle.write_core.specs.Events.{after_learning, after_resolving, new_recovery, new_writer, switched, switches_with}
 use Rattle.write_core.specs.Events.{after_visit}
 use Rattle.mon_topo.specs.Settings.{Setting, zone_of_leaf}
-use Rattle.write_core.specs.Views.{IsSound, View, joined_view, of_leaf, of_range, with_entry}
+use Rattle.mon_topo.specs.Views.{IsSound, View, joined_view, of_leaf, of_range, with_entry}
 use Rattle.write_core.specs.Steps.{same_view}
 use Rattle.write_core.specs.World.{Actor, IsPart, Recovers, Stander, Stands, World, Writes, at_leaf, copied_on}
 use Rattle.write_core.specs.World.{pass_of, stands_on, wiser, writer_at_stage}

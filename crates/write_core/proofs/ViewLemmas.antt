@@ -10,7 +10,7 @@ use Rattle.mon_hints.specs.Covers.{AreBitsWithin, Bits, Covers}
 use Rattle.mon_hints.specs.HistoryBuckets.{history_buckets}
 use Rattle.mon_hints.proofs.CoverLemmas.{covers_more, joined_bits_first, joined_bits_second, joined_bits_within}
 use Rattle.mon_topo.specs.Settings.{Setting, zone_of_leaf}
-use Rattle.write_core.specs.Views.{IsSound, IsViewWithin, View, joined_view, of_leaf, of_range}
+use Rattle.mon_topo.specs.Views.{IsSound, IsViewWithin, View, joined_view, of_leaf, of_range}
 
 -- ---- views within one another
 

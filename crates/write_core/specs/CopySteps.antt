@@ -20,7 +20,7 @@ use Rattle.write_core.specs.Recovering.{Denies, Gives, HasRoom, Nearing, NoSourc
 use Rattle.write_core.specs.Recovering.{ServesFully, ServesThere, SlotsSpent, Sources, Telling, WasDone, WasDown}
 use Rattle.write_core.specs.Recovering.{WasOpened, Within, copied_after}
 use Rattle.write_core.specs.Steps.{AreUnraised, same_view}
-use Rattle.write_core.specs.Views.{View, of_leaf, of_range, with_entry, with_range_entry, with_root_bit, with_zone_bit}
+use Rattle.mon_topo.specs.Views.{View, of_leaf, of_range, with_entry, with_range_entry, with_root_bit, with_zone_bit}
 use Rattle.write_core.specs.World.{Actor, Recovers, Recovery, Stands, World, Writes, at_leaf, at_range, recovers_on}
 
 -- ---- what is opened

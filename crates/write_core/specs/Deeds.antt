@@ -10,7 +10,7 @@ use Rattle.mon_value.specs.declared.positions.Range.{Range}
 use Rattle.write_core.specs.Marks.{ack_of, has_taken, some_took}
 use Rattle.write_core.specs.Program.{Acking, Ended, Entering, Inside, Locking, Marked, Not, Reserving, Stage, Verdict}
 use Rattle.write_core.specs.Rounds.{round_marks}
-use Rattle.write_core.specs.Views.{View, of_leaf, of_range}
+use Rattle.mon_topo.specs.Views.{View, of_leaf, of_range}
 use Rattle.write_core.specs.World.{Writer, put_of}
 use Rattle.write_core.specs.declared.marks.Mark.{Mark}
 

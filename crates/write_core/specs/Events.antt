@@ -15,7 +15,7 @@ use Rattle.write_core.specs.Invariant.{IsAimed}
 use Rattle.write_core.specs.Program.{Locking}
 use Rattle.write_core.specs.Recovering.{Beginning, CopyTold}
 use Rattle.write_core.specs.Steps.{CanCome, same_view, step}
-use Rattle.write_core.specs.Views.{View, joined_view, of_leaf, with_entry}
+use Rattle.mon_topo.specs.Views.{View, joined_view, of_leaf, with_entry}
 use Rattle.write_core.specs.World.{Actor, IsPart, Recovers, Recovery, Stander, Stands, World, Writer, Writes, at_leaf}
 use Rattle.write_core.specs.World.{pass_of, stands_on, view_of, wiser, with_value_at}
 use Rattle.write_core.specs.declared.asks.WriteTold.{WriteTold}

@@ -24,7 +24,7 @@ use Rattle.write_core.specs.Program.{Acking, Ended, Entering, Inside, Locking, M
 use Rattle.write_core.specs.Rounds.{Round, round_marks}
 use Rattle.write_core.specs.Deeds.{HasDone, IsUnused}
 use Rattle.mon_topo.specs.Settings.{Setting, zone_of_leaf}
-use Rattle.write_core.specs.Views.{IsSound, View, of_leaf, of_range}
+use Rattle.mon_topo.specs.Views.{IsSound, View, of_leaf, of_range}
 use Rattle.write_core.specs.World.{Actor, IsPart, Recovers, Recovery, Stander, Stands, World, Writer, Writes, pass_of}
 use Rattle.write_core.specs.World.{put_of}
 use Rattle.write_core.specs.declared.marks.Fate.{Fate}

@@ -9,8 +9,10 @@ pub mod Marks
 pub mod Noted
 pub mod Phases
 pub mod Program
+pub mod RangeAnswers
 pub mod Recovering
+pub mod Refusals
+pub mod Replays
 pub mod Rounds
 pub mod Steps
-pub mod Views
 pub mod World

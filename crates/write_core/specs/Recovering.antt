@@ -45,6 +45,11 @@ told_by_source founds source left (Gives rows) = Carrying rows
 told_by_source founds source left (WasDown cut) = copying (founds ++ found_on source cut ∷ []) left
 told_by_source founds source left told = Copying founds (source ∷ left)
 
+-- a leaf that it asked was found down
+abbrev pub SaysDown : CopyTold → Type 0
+SaysDown (WasDown cut) = Unit {0}
+SaysDown told = ⊥
+
 abbrev pub told_by_target : List Row → CopyTold → CopyStage
 told_by_target rows HasRoom = Nearing rows
 told_by_target rows (WasDown cut) = Telling (NoTarget cut)

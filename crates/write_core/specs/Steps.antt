@@ -1,10 +1,10 @@
 -- The events of writes: when each can come and with what answer, and what it makes of the world.
-use Rattle.std.specs.Prelude.{ℕ, ◌≡◌, ◌<◌, ◌≤ℤ◌, ◌<ℤ◌, ◌&&◌, true, false, not, List, [], ◌∷◌, ◌++◌, length, Option}
-use Rattle.std.specs.Prelude.{Some, None, IfSome, if◌then◌else◌}
+use Rattle.std.specs.Prelude.{ℕ, ◌≡◌, ◌<◌, ◌&&◌, true, false, not, List, [], ◌∷◌, ◌++◌, length, Option}
+use Rattle.std.specs.Prelude.{Some, None, if◌then◌else◌}
 use Rattle.std.specs.List.Sorted.{IsStrictlyIncreasing}
 use Rattle.mon_hints.specs.Listings.{is_among}
 use Rattle.mon_value.specs.LeafHistories.{is_down}
-use Rattle.mon_value.specs.Sources.{IsSource, last_end, points_of}
+use Rattle.mon_value.specs.Sources.{IsSource}
 use Rattle.mon_value.specs.declared.histories.Entry.{Entry}
 use Rattle.mon_value.specs.declared.histories.RangeEntry.{RangeEntry}
 use Rattle.mon_value.specs.declared.histories.RangeEntry.TheVariants as range_entry
@@ -14,26 +14,26 @@ use Rattle.mon_hints.specs.HistoryBuckets.{history_buckets}
 use Rattle.write_core.specs.Marks.{ack_of, some_took}
 use Rattle.write_core.specs.Program.{Acking, Ended, Entering, Inside, Locking, Marked, Not, Reserving, Stage, Verdict}
 use Rattle.write_core.specs.Program.{after}
+use Rattle.write_core.specs.RangeAnswers.{refusal}
 use Rattle.mon_topo.specs.Settings.{Setting, zone_of_leaf}
-use Rattle.write_core.specs.Views.{View, of_leaf, of_range, with_entry, with_range_entry, with_root_bit, with_zone_bit}
+use Rattle.mon_topo.specs.Views.{View, of_leaf, of_range, with_entry, with_range_entry, with_root_bit, with_zone_bit}
 use Rattle.write_core.specs.World.{Actor, Recovers, Stands, World, Writer, Writes, at_leaf, at_range, put_of, writes_on}
 use Rattle.write_core.specs.declared.asks.WriteTold.{WriteTold}
 use Rattle.write_core.specs.declared.asks.WriteTold.TheVariants as told
 use Rattle.write_core.specs.declared.marks.Mark.{Mark}
+use Rattle.write_core.specs.declared.refusals.Refused.TheVariants as refused
 
 -- ---- answers
 
--- a range whose history is this one takes a row, or tells why not: that the row is old, and, of one that is not, that
--- no more go in
+-- a range whose history is this one takes a row, or tells why it refuses it
 abbrev pub IsToldByRange : Setting → List RangeEntry → Row → WriteTold → Type 0
 IsToldByRange setting history row (told.Slots replicas) =
     (replicas ≡ serving history) × IsSource (acknowledged_rows history ++ row ∷ [])
     × (length (acknowledged_rows history) < setting.points)
-IsToldByRange setting history row (told.Old last) =
-    (last_end (points_of row.key (acknowledged_rows history)) ≡ Some last) × (row.point.end ≤ℤ last)
-IsToldByRange setting history row (told.Full count) =
-    (count ≡ setting.points) × (length (acknowledged_rows history) ≡ count)
-    × IfSome (last_end (points_of row.key (acknowledged_rows history))) (λ last. last <ℤ row.point.end)
+IsToldByRange setting history row (told.OldPoint last) =
+    refusal setting.points history row ≡ Some (refused.OldPoint last)
+IsToldByRange setting history row (told.RangeFull count) =
+    (refusal setting.points history row ≡ Some (refused.RangeFull count)) × (length (acknowledged_rows history) ≡ count)
 IsToldByRange setting history row answer = ⊥
 
 -- a leaf whose history is this one makes room, or is down
@@ -96,8 +96,8 @@ abbrev pub entrant : ℕ → WriteTold → Option ℕ
 entrant i (told.Up buckets) = Some i
 entrant i (told.Down cut) = None
 entrant i (told.Slots replicas) = None
-entrant i (told.Old last) = None
-entrant i (told.Full count) = None
+entrant i (told.OldPoint last) = None
+entrant i (told.RangeFull count) = None
 entrant i told.Done = None
 
 abbrev pub after_reserving : World → ℕ → Writer → List Mark → Stage → World

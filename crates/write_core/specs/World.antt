@@ -8,7 +8,7 @@ use Rattle.mon_value.specs.declared.rows.Row.{Row}
 use Rattle.mon_topo.specs.Settings.{Setting}
 use Rattle.write_core.specs.Program.{Stage}
 use Rattle.write_core.specs.Recovering.{CopyStage}
-use Rattle.write_core.specs.Views.{IsSound, IsViewWithin, View, joined_view, of_leaf, of_range}
+use Rattle.mon_topo.specs.Views.{IsSound, IsViewWithin, View, joined_view, of_leaf, of_range}
 use Rattle.write_core.specs.declared.marks.Mark.{Mark}
 
 -- ---- actors

@@ -31,9 +31,9 @@ pub enum WriteTold {
     /// The range can take the row: the replicas that serve, in slot order.
     Slots(SlotLeaves),
     /// The series has an acknowledged row that ends there, which is not before the row's end.
-    Old(i64),
+    OldPoint(i64),
     /// The range holds so many rows, and no more go in.
-    Full(u64),
+    RangeFull(u64),
     /// The leaf is up. Of one that was entered, the buckets of the row that it has not raised, rising.
     Up(Buckets),
     /// The leaf is down, with so many entries in its history.
@@ -48,9 +48,9 @@ pub enum WriteEnd {
     /// Some replica took the row, and it is acknowledged.
     Written(Ack),
     /// As the range's lock told.
-    Old(i64),
+    OldPoint(i64),
     /// As the range's lock told.
-    Full(u64),
+    RangeFull(u64),
     /// Every replica was found down, these in slot order.
     Unavailable(Founds),
 }
@@ -74,8 +74,8 @@ impl TryCopy for WriteTold {
     fn copy(&self, alloc: Global) -> Result<WriteTold, AllocError> {
         match self {
             WriteTold::Slots(replicas) => Ok(WriteTold::Slots(replicas.copy(alloc)?)),
-            WriteTold::Old(last) => Ok(WriteTold::Old(*last)),
-            WriteTold::Full(count) => Ok(WriteTold::Full(*count)),
+            WriteTold::OldPoint(last) => Ok(WriteTold::OldPoint(*last)),
+            WriteTold::RangeFull(count) => Ok(WriteTold::RangeFull(*count)),
             WriteTold::Up(buckets) => Ok(WriteTold::Up(buckets.copy(alloc)?)),
             WriteTold::Down(cut) => Ok(WriteTold::Down(*cut)),
             WriteTold::Done => Ok(WriteTold::Done),
@@ -87,8 +87,8 @@ impl TryCopy for WriteEnd {
     fn copy(&self, alloc: Global) -> Result<WriteEnd, AllocError> {
         match self {
             WriteEnd::Written(ack) => Ok(WriteEnd::Written(ack.copy(alloc)?)),
-            WriteEnd::Old(last) => Ok(WriteEnd::Old(*last)),
-            WriteEnd::Full(count) => Ok(WriteEnd::Full(*count)),
+            WriteEnd::OldPoint(last) => Ok(WriteEnd::OldPoint(*last)),
+            WriteEnd::RangeFull(count) => Ok(WriteEnd::RangeFull(*count)),
             WriteEnd::Unavailable(founds) => Ok(WriteEnd::Unavailable(founds.copy(alloc)?)),
         }
     }

@@ -1,9 +1,9 @@
 // A recovery on its way: what it does next, what it is told of that, and how it comes out.
-ghost use Rattle.std.specs.Prelude.{◌≡◌, IfOk, drop};
+ghost use Rattle.std.specs.Prelude.{◌≡◌, IfOk, OnErr, drop};
 ghost use Rattle.write_core.specs.CopyPhases.{CopyEndsSo, copy_ask_of, copy_stage_of};
 ghost use Rattle.write_core.specs.declared.copies.CopyAsk.TheVariants.{Finished};
 ghost use Rattle.write_core.specs.Recovering as spec;
-ghost use Rattle.write_core.specs.Recovering.{Beginning, Copying, copied_after};
+ghost use Rattle.write_core.specs.Recovering.{Beginning, Copying, SaysDown, copied_after};
 
 use mon_hints::Buckets;
 use mon_value::{FoundDown, Founds, Leaf, OutOfMemory, RowList, Slot, SlotLeaves, TryCopy};
@@ -176,9 +176,10 @@ impl CopyMachine {
         }
     }
 
-    /// Goes on by what its last event came to. It takes memory where a replica's leaf was down.
+    /// Goes on by what its last event came to. It takes memory only where a replica's leaf was down.
     pub fn told(self, told: CopyTold) -> Result<CopyMachine, OutOfMemory>
         ensures after { IfOk result (λ next. next ≡ copied_after self told) }
+        ensures memory { OnErr result (SaysDown told) }
     {
         let alloc = self.alloc;
         let phase = match self.phase {
@@ -250,6 +251,7 @@ fn by_source(
 ) -> Result<CopyPhase, OutOfMemory>
     ensures after { IfOk result (λ phase. copy_stage_of phase
         ≡ copied_after (Copying founds.items (drop asked sources)) told) }
+    ensures memory { OnErr result (SaysDown told) }
 {
     let mut founds = founds;
     if asked >= sources.as_slice().len() {

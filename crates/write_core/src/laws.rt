@@ -15,7 +15,7 @@ ghost use Rattle.write_core.specs.Program.{Ended, Locking, Marked};
 ghost use Rattle.write_core.specs.Events.{CanRun, Event, after_events};
 ghost use Rattle.mon_topo.specs.Settings.{Setting};
 ghost use Rattle.write_core.specs.Recovering.{Denial, Outcome, Over};
-ghost use Rattle.write_core.specs.Views.{View, joined_view};
+ghost use Rattle.mon_topo.specs.Views.{View, joined_view};
 ghost use Rattle.write_core.specs.World.{IsPart, Recovers, Recovery, World, Writer, Writes};
 ghost use Rattle.write_core.specs.declared.asks.WriteTold.{WriteTold};
 ghost use Rattle.write_core.specs.declared.marks.Mark.{Mark};

@@ -1,5 +1,5 @@
 //! The core of writes and of recoveries: what each does one step after another, whatever it is told, and what every
-//! interleaving of them keeps.
+//! interleaving of them keeps; and the replay of a range's history, which tells a write whether its row goes in.
 #![tactic(auto)]
 
 mod asks;
@@ -8,6 +8,8 @@ mod ends;
 mod laws;
 mod machine;
 mod marks;
+mod refusals;
+mod replays;
 mod rounds;
 
 pub use asks::{WriteAsk, WriteEnd, WriteTold};
@@ -18,3 +20,5 @@ pub use laws::{
 pub use machine::WriteMachine;
 pub use marks::{Fate, Mark};
 pub use mon_value::{Ack, Miss, Misses};
+pub use refusals::Refused;
+pub use replays::RangeReplay;

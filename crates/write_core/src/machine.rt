@@ -9,7 +9,8 @@ ghost use Rattle.write_core.specs.declared.asks.WriteAsk.TheVariants.{Finished};
 
 use crate::asks::{WriteAsk, WriteEnd, WriteTold};
 use crate::ends::{founds, misses, some_took, taken_slots};
-use crate::marks::{Fate, Mark, Refused, all_waiting};
+use crate::marks::{Fate, Mark, all_waiting};
+use crate::refusals::Refused;
 use crate::rounds::Round;
 use mon_hints::Buckets;
 use mon_value::{Ack, FoundDown, Miss, OutOfMemory, Range, Slot, SlotLeaf};
@@ -122,12 +123,12 @@ impl WriteMachine {
     {
         match told {
             WriteTold::Slots(replicas) => self.told_slots(replicas.as_slice()),
-            WriteTold::Old(last) => {
-                self.told_refused(Refused::Old(last));
+            WriteTold::OldPoint(last) => {
+                self.told_refused(Refused::OldPoint(last));
                 Ok(())
             }
-            WriteTold::Full(count) => {
-                self.told_refused(Refused::Full(count));
+            WriteTold::RangeFull(count) => {
+                self.told_refused(Refused::RangeFull(count));
                 Ok(())
             }
             WriteTold::Up(buckets) => {

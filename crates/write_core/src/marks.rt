@@ -2,9 +2,7 @@
 ghost use Rattle.std.specs.Prelude.{◌≡◌, map, IfOk};
 ghost use Rattle.write_core.specs.Marks as spec;
 ghost use Rattle.write_core.specs.Marks.{waiting};
-ghost use Rattle.write_core.specs.Program.{end_of_refusal};
 
-use crate::asks::WriteEnd;
 use mon_value::{FoundDown, Leaf, Miss, OutOfMemory, Slot, SlotLeaf};
 use std::alloc::Global;
 
@@ -30,15 +28,6 @@ pub struct Mark {
     pub leaf: Leaf,
     /// What became of it.
     pub fate: Fate,
-}
-
-/// Why a range does not take a row.
-#[derive(Clone, Copy, PartialEq, Eq)]
-pub enum Refused {
-    /// The series has an acknowledged row that ends there, which is not before the row's end.
-    Old(i64),
-    /// The range holds so many rows, and no more go in.
-    Full(u64),
 }
 
 impl Mark {
@@ -92,18 +81,6 @@ impl Mark {
         match self.fate {
             Fate::Ready => true,
             Fate::Waiting | Fate::Took | Fate::Missed(_) => false,
-        }
-    }
-}
-
-impl Refused {
-    /// The end of a write that was refused so.
-    pub(crate) fn end(self) -> WriteEnd
-        ensures end { result ≡ end_of_refusal self }
-    {
-        match self {
-            Refused::Old(last) => WriteEnd::Old(last),
-            Refused::Full(count) => WriteEnd::Full(count),
         }
     }
 }

@@ -1,10 +1,11 @@
 -- How a part of a run leaves it: it did its steps, or it stopped.
-use Rattle.std.specs.Prelude.{◌≡◌, ◌≤◌, ◌<◌, ◌⊎◌, ℕ, Bool, true, false, List, [], ◌∷◌, ◌++◌, length, Option, Some}
+use Rattle.std.specs.Prelude.{◌≡◌, ◌≤◌, ◌<◌, ◌⊎◌, ℕ, Bool, true, false, List, [], ◌∷◌, ◌++◌, length, Option, Some, None}
 use Rattle.std.specs.Prelude.{IfSome, Result, Ok, Err, IfOk, IfErr}
 use Rattle.std.specs.Bool.{⊤}
 use Rattle.mon_value.specs.declared.refusals.Refusal.{Refusal}
 use Rattle.mon_value.specs.declared.refusals.Refusal.TheVariants as refusal
 use Rattle.mon_value.specs.declared.rows.Row.{Row}
+use Rattle.mon_config.specs.Configs.{config_in}
 use Rattle.mon_config.specs.declared.config.Config.{Config}
 use Rattle.mon_config.specs.declared.faults.ConfigFault.{ConfigFault}
 use Rattle.mon_script.specs.declared.script.LineForm.{LineForm}
@@ -13,8 +14,8 @@ use Rattle.mon_run.specs.Endings.{CutShort, Did, LastFailed, Progress, Starved, 
 use Rattle.mon_run.specs.Faults.{Rose}
 use Rattle.mon_run.specs.Folders.{Files, FolderState, Told, content_of}
 use Rattle.mon_run.specs.Sinks.{SinkState}
-use Rattle.mon_run.specs.Plans.{Ask, Command, End, Miss, Plan, Step, Write, command_plan, end_status, ending}
-use Rattle.mon_run.specs.Plans.{is_too_long, line_plan, line_rows, plan_behind, read_plan, run_plan}
+use Rattle.mon_run.specs.Plans.{Ask, Command, End, Miss, Plan, Step, Write, command, command_plan, end_status, ending}
+use Rattle.mon_run.specs.Plans.{file_plan, is_too_long, line_plan, line_rows, plan_behind, read_plan, run_plan}
 use Rattle.mon_run.specs.Texts.{config_text, read_text, schedule_text, script_text, too_long_text, usage_text}
 use Rattle.mon_run.specs.declared.outcome.LineEnd.{LineEnd}
 use Rattle.mon_store.specs.Stores.{accepted_rows}
@@ -22,6 +23,7 @@ use Rattle.mon_run.specs.declared.runs.Run.{Run}
 use Rattle.mon_run.specs.declared.schedules.Woven.{Woven}
 use Rattle.mon_run.specs.declared.stop.Stop.{Stop}
 use Rattle.mon_run.specs.declared.stop.Stop.TheVariants as stop
+use Rattle.mon_run.specs.declared.words.Verb.{Verb}
 use Rattle.weave_core.specs.Schedules.{Printed}
 
 -- ---- runs
@@ -137,6 +139,12 @@ pub record HasRead (files : Files) (name content : List ℕ) : Type 0 where
   pub whole : content ≡ content_of files name
   pub short : is_too_long files name ≡ false
 
+-- a file is this configuration
+pub record HasConfig (files : Files) (name : List ℕ) (config : Config) : Type 0 where
+  pub content : List ℕ
+  pub has : HasRead files name content
+  pub is : config_in content ≡ Ok config
+
 -- a part of a plan stops, before any rest, and there is a cause
 pub record PartStops (part : Files → Plan → Plan) (stopped : Stop) (before after : Progress) : Type 0 where
   pub told : Told before.folder (λ files. (rest : Plan) → Stops (part files rest) stopped before after)
@@ -196,6 +204,16 @@ printed_by woven = record { text = woven.text; fault = woven.fault }
 
 abbrev pub files_plan : Command → Option Printed → Files → Plan
 files_plan what woven files = command_plan woven files (Some what)
+
+-- the configuration of a command stops it, whatever it does with which second file
+abbrev pub ConfigStops : List ℕ → Stop → Progress → Progress → Type 0
+ConfigStops name stopped before after =
+    (verb : Verb) (file : List ℕ) → Halts (files_plan (command verb name file) None) stopped before after
+
+-- the second file of a command, under a configuration
+abbrev pub named_plan : Config → Verb → List ℕ → Option Printed → Files → Plan
+named_plan config verb name woven files =
+    read_plan files name (file_plan woven config files verb (content_of files name))
 
 abbrev pub words_plan : List (List ℕ) → Option Printed → Files → Plan
 words_plan words woven files = run_plan woven files words

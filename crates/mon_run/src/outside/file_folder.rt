@@ -68,9 +68,9 @@ fn read_file<R: Files>(alloc: Global, files: &R, name: &str, most: u64) -> io::R
     read_front(alloc, fs::open(files, name)?, most)
 }
 
-/// What a reader gives up to its end, and no more than `most` bytes of it. A reader that gives less than
-/// was asked for is asked again.
-pub fn read_front<R: Read + Drop>(alloc: Global, reader: R, most: u64) -> io::Result<Vec<u8>>
+// What a reader gives up to its end, and no more than `most` bytes of it. A reader that gives less than was asked for
+// is asked again.
+fn read_front<R: Read + Drop>(alloc: Global, reader: R, most: u64) -> io::Result<Vec<u8>>
     ensures front { IfOk result (λ content. IfSome (R.remaining reader) (λ bytes. content.items ≡ take most bytes)) }
 {
     let mut content = Vec::new(alloc);

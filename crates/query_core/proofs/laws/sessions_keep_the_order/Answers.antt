@@ -1,4 +1,4 @@
-use Rattle.query_core.proofs.OrderSteps.{session_in_order, session_whole}
+use Rattle.query_core.proofs.ZoneOrders.{session_in_order, session_whole}
 use Rattle.query_core.proofs.laws.sessions_keep_the_order.Goals as goal
 
 pub returns : goal.returns

@@ -1,7 +1,6 @@
 use Rattle.query_core.specs.declared.stages.Stage.TheVariants.{Ended}
 use Rattle.weave_core.proofs.ReachedLemmas.{reached}
 use Rattle.weave_core.proofs.ReaderLemmas.{as_new, stage_is}
-use Rattle.weave_core.specs.Core.{seen_by}
 use Rattle.weave_core.specs.States.{store_of}
 use Rattle.weave_core.proofs.schedule_laws.schedules_answer_rightly.Goals as goal
 
@@ -31,6 +30,6 @@ returns c =
           let own = h.woven.readers k in
           let fresh = (h.asked k is).first in
           c.ends_name_what_was_told.ensures.named (store_of config) reader.setting reader.moment
-          (seen_by reader.begin) reader.session end (as_new (store_of config) state.core.world reader own fresh)
+          reader.begin reader.session end (as_new (store_of config) state.core.world reader own fresh)
           (stage_is (store_of config) state.core.world reader own fresh (Ended end) ended);
     }

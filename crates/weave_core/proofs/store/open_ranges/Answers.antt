@@ -1,9 +1,12 @@
-use Rattle.std.proofs.Common.{◌≡◌, ◌∙◌, ap, length, map, arith, rules}
+use Rattle.std.proofs.Common.{◌≡◌, ◌∙◌, ◌∷◌, [], ap, length, map, arith, rules}
+use Rattle.std.proofs.lemmas.List.{map-append}
 use Rattle.std.specs.List.{range_with_len}
 use Rattle.mon_topo.specs.Zones.{ranges_in}
 use Rattle.mon_topo.specs.FirstHistories.{first_range_history}
 use Rattle.weave_core.proofs.OpeningLemmas.{opened_all}
 use Rattle.mon_topo.proofs.FirstOpenings.{histories_more}
+use Rattle.weave_core.specs.Openings.{replayed}
+use Rattle.write_core.specs.Replays.{Replay}
 use Rattle.weave_core.proofs.store.open_ranges.Goals as goal
 
 pub loop-range-init : goal.loop-range-init
@@ -15,9 +18,11 @@ open_range-requires-clause-before c = c.loop-range.invariant.opened
 pub loop-range-preserved : goal.loop-range-preserved
 loop-range-preserved c = record {
   opened = c.in_ok-state.ensures.opened;
-  histories = histories_more c.args.config.now.topology c.loop-range.range c.loop-range.ranges.items
-      _ c.in_ok-state.state
-      c.loop-range.invariant.histories c.in_ok-state.ensures.history c.in_ok-push.ensures.items;
+  histories = histories_more c.args.config.now.topology c.loop-range.range (replayed c.loop-range.ranges.items)
+      _ c.in_ok-state.state.history
+      c.loop-range.invariant.histories c.in_ok-state.ensures.history
+      (ap replayed c.in_ok-push.ensures.items
+      ∙ map-append (λ (replay : Replay). replay.history) c.loop-range.ranges.items (c.in_ok-state.state ∷ []));
 }
 
 pub returns : goal.returns

@@ -2,11 +2,11 @@
 use Rattle.std.proofs.Common.{◌≡◌, map}
 use Rattle.std.specs.List.{range_with_len}
 use Rattle.mon_topo.specs.FirstHistories.{first_range_history, opened_before}
-use Rattle.weave_core.specs.Openings.{AreOpenedSo}
+use Rattle.weave_core.specs.Openings.{AreOpenedSo, replayed}
 use Rattle.weave_core.proofs.store.open_ranges.Given as goal
 
 abbrev pub invariant-loop-range : goal.invariant-loop-range
 invariant-loop-range l = record {
   opened : AreOpenedSo l.config (opened_before l.config.topology l.range) l.leaves.items;
-  histories : l.ranges.items ≡ map (first_range_history l.config.topology) (range_with_len 0 l.range);
+  histories : replayed l.ranges.items ≡ map (first_range_history l.config.topology) (range_with_len 0 l.range);
 }

@@ -60,7 +60,7 @@ loop-leaf-preserved c =
       opened = opened_more c.args.config.now c.args.range place leaf c.loop-leaf.number c.loop-leaf.leaves.items
           c.open_replica.new.leaves.items c.loop-leaf.invariant.slot c.loop-leaf.invariant.opened at
           c.open_replica.ensures.count c.in_ok-open_replica.ensures.opened;
-      history = range_more zones c.args.range.0 place c.loop-leaf.number leaf c.loop-leaf.state _ at
+      history = range_more zones c.args.range.0 place c.loop-leaf.number leaf c.loop-leaf.state.history _ at
           c.loop-leaf.invariant.slot c.loop-leaf.invariant.history c.in_ok-open.ensures.opened;
       slot = ap (λ n. n + 1) c.loop-leaf.invariant.slot;
     }
@@ -73,7 +73,8 @@ returns c =
     record {
       opened = opened_whole c.args.config.now c.args.range c.loop-leaf.leaf-index c.loop-leaf.leaves.items
           c.loop-leaf.invariant.opened (omega arith);
-      history = range_whole c.args.config.now.topology c.args.range.0 c.loop-leaf.leaf-index c.loop-leaf.state
+      history = range_whole c.args.config.now.topology c.args.range.0 c.loop-leaf.leaf-index
+          c.loop-leaf.state.history
           (omega arith)
           c.loop-leaf.invariant.history;
     }

@@ -8,6 +8,6 @@ use Rattle.weave_core.proofs.store.open_replicas.Given as goal
 abbrev pub invariant-loop-leaf : goal.invariant-loop-leaf
 invariant-loop-leaf l = record {
   opened : AreOpenedSo l.config (opened_up_to l.config.topology l.range.0 l.leaf-index) l.leaves.items;
-  history : l.state ≡ openings_from 0 (take l.leaf-index (first_replicas l.config.topology l.range.0));
+  history : l.state.history ≡ openings_from 0 (take l.leaf-index (first_replicas l.config.topology l.range.0));
   slot : l.number ≡ l.leaf-index;
 }

@@ -1,8 +1,8 @@
 use Rattle.std.proofs.Common.{◌≡◌, ◌∙◌, ◌++◌, ◌∷◌, [], List, ap, append_assoc, map, sym, rules}
 use Rattle.std.specs.Vec.Iter.{into_iter_items}
-use Rattle.mon_value.specs.declared.histories.RangeEntry.{RangeEntry}
 use Rattle.weave_core.specs.Openings.{range_seat}
 use Rattle.weave_core.specs.declared.ranges.RangeSeat.{RangeSeat}
+use Rattle.write_core.specs.Replays.{Replay}
 use Rattle.weave_core.proofs.store.range_seats.Goals as goal
 
 pub loop-state-init : goal.loop-state-init
@@ -24,7 +24,7 @@ loop-state-preserved c =
       seats = ap (λ (l : List RangeSeat). l ++ map (range_seat c.args.sight.now) rest)
           (c.in_ok-push.ensures.items ∙ ap (λ (seat : RangeSeat). made ++ seat ∷ []) c.in_ok-seat.ensures.seat)
           ∙ append_assoc made (range_seat c.args.sight.now state ∷ []) (map (range_seat c.args.sight.now) rest)
-          ∙ ap (λ (l : List (List RangeEntry)). made ++ map (range_seat c.args.sight.now) l) (sym next)
+          ∙ ap (λ (l : List Replay). made ++ map (range_seat c.args.sight.now) l) (sym next)
           ∙ c.loop-state.invariant.seats;
       left = search rules;
     }

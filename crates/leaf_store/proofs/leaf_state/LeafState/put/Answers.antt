@@ -1,4 +1,5 @@
-use Rattle.std.proofs.Common.{◌≡◌, ◌∙◌, ◌≤◌, ◌+◌, ◌++◌, ◌∷◌, [], ℕ, Bool, true, List, length, drop, refl, sym, ap, subst}
+use Rattle.std.proofs.Common.{◌≡◌, ◌∙◌, ◌≤◌, ◌+◌, ◌++◌, ◌∷◌, [], ℕ, Bool, true, List, length, drop, refl, sym, ap}
+use Rattle.std.proofs.Common.{subst}
 use Rattle.std.specs.List.{count_by}
 use Rattle.mon_hints.specs.BucketSets.{is_set}
 use Rattle.mon_hints.specs.HistoryBuckets.{history_buckets, rows_buckets}

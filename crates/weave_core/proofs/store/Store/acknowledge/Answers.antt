@@ -1,6 +1,7 @@
 use Rattle.std.proofs.Common.{◌≡◌, Some, slice_get, refl}
 use Rattle.std.specs.Vec.{with_item}
-use Rattle.weave_core.proofs.WriteReturns.{acking_later, acknowledge_returns, lock_alike, lock_there, range_read}
+use Rattle.weave_core.proofs.WriteReturns.{acking_room, acknowledge_returns, lock_alike, lock_there, own_key}
+use Rattle.weave_core.proofs.WriteReturns.{range_read}
 use Rattle.weave_core.proofs.store.Store.acknowledge.Goals as goal
 
 pub let_go-requires-clause-alike : goal.let_go-requires-clause-alike
@@ -17,16 +18,16 @@ let_go-requires-clause-there c =
     c.index_mut-seat.ensures.value in
     lock_there c.args.self.now c.args.writing c.args.sight.now c.requires.at_work c.index_mut-seat.result.now got
 
-pub let_go-requires-clause-later : goal.let_go-requires-clause-later
-let_go-requires-clause-later c =
+pub let_go-requires-clause-room : goal.let_go-requires-clause-room
+let_go-requires-clause-room c =
     let got : slice_get c.args.self.now.ranges.items c.args.writing.range.0 ≡ Some c.index_mut-seat.result.now
     = range_read c.args.self.now c.args.writing c.args.sight.now c.requires.at_work c.index_mut-seat.result.now
     c.index_mut-seat.ensures.value in
-    acking_later c.args.self.now c.args.writing c.args.sight.now c.requires.at_work c.requires.asks
-    c.told.new.self.range
-    c.told.new.self.stage c.finish-end.result c.in-Ok.ensures.range c.in-Ok.ensures.after
-    c.finish-end.ensures.end
+    acking_room c.args.self.now c.args.writing c.args.sight.now c.requires.at_work c.requires.asks
     c.index_mut-seat.result.now got
+
+pub let_go-requires-clause-key : goal.let_go-requires-clause-key
+let_go-requires-clause-key c = own_key c.args.self.now c.args.writing c.args.sight.now c.requires.at_work
 
 pub returns-in-Ok-let_go : goal.returns-in-Ok-let_go
 returns-in-Ok-let_go c =

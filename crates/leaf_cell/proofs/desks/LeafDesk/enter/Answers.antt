@@ -1,0 +1,6 @@
+use Rattle.mon_value.proofs.LeafHistoryLemmas.{IsWellFormed-push}
+use Rattle.leaf_cell.proofs.desks.LeafDesk.enter.Goals as goal
+
+pub apply-requires-clause-follows : goal.apply-requires-clause-follows
+apply-requires-clause-follows g c =
+    IsWellFormed-push c.args.self.now.state.history c.args.entry c.length-length.ensures.formed c.requires.may

@@ -1,0 +1,170 @@
+// The locked leaf.
+ghost use Rattle.std.specs.Prelude.{◌≡◌, ◌<◌, ◌≤◌, length, true, IfOk, OnErr};
+ghost use Rattle.history_book.specs.Seats.{times_room, without_one};
+ghost use Rattle.know.specs.Knowledge.{Knowledge};
+ghost use Rattle.know.specs.Sound.{IsSound};
+ghost use Rattle.leaf_cell.specs.Rest.{IsAtRest};
+ghost use Rattle.leaf_cell.specs.Visits.{HasGathered, HasVisited};
+ghost use Rattle.mon_topo.specs.Sights.{sight_of};
+ghost use Rattle.mon_value.specs.LeafHistories.{is_opened};
+ghost use Rattle.mon_value.specs.Histories.{leaf_history};
+ghost use Rattle.mon_value.specs.Positions.{leaf_numbered};
+ghost use Rattle.mon_value.specs.declared.histories.Entry.TheVariants as entry;
+ghost use Rattle.owners.specs.Calls.{HasLooked, HasPut, HasReserved};
+ghost use Rattle.owners.specs.Owners.{IsOfLeaf, leaf_owner};
+ghost use Rattle.owners.specs.Puts.{MayPut, pass_of};
+
+use crate::desks::LeafDesk;
+use crate::readers::LeafReader;
+use history_book::BookOwner;
+use know::{Found, Know, Names, Tables};
+use leaf_store::LeafState;
+use mon_topo::Sight;
+use mon_value::{Leaf, OutOfMemory, Range, Row, RowList, Slot};
+use owners::LeafOwner;
+use raise_table::OwnerSeat;
+use std::alloc::Global;
+use std::marker::{Model, PhantomData};
+use std::sync::Wait;
+use tied_lock::{Fits, TiedLock};
+
+// A leaf at rest fits its number.
+struct AtRest<N>(PhantomData<N>);
+
+impl<N: Names> Fits<LeafDesk<N>> for AtRest<N> {
+    ghost use Rattle.leaf_cell.specs.Rest.{IsAtRest};
+
+    ghost fits = { λ leaf desk. IsAtRest N.setting N.raise leaf desk.state desk.owner };
+}
+
+/// A leaf under its lock. Contracts see its number.
+#[derive(Drop)]
+pub struct LeafCell<N: Names> {
+    lock: TiedLock<LeafDesk<N>, AtRest<N>>,
+}
+
+impl<N: Names> Model for LeafCell<N> {
+    ghost use Rattle.std.specs.Prelude.{ℕ};
+
+    ghost Value = { ℕ };
+
+    ghost view = { λ cell. cell.lock.tag };
+}
+
+impl<N: Names> LeafCell<N> {
+    /// A leaf under a lock of its own, by its state and its owner's seats, of which the one in the book has seen so far.
+    pub fn new(
+        alloc: Global,
+        leaf: Leaf,
+        state: LeafState,
+        hints: OwnerSeat<N>,
+        book: BookOwner<N>,
+        sight: Sight,
+    ) -> Result<LeafCell<N>, OutOfMemory>
+        requires of_leaf { IsOfLeaf N.setting leaf hints book }
+        requires sound { IsSound N.setting hints.hints book.seen }
+        requires sight { sight ≡ sight_of book.seen }
+        requires rest { IsAtRest N.setting N.raise leaf.0 state (leaf_owner leaf hints book) }
+        ensures leaf { IfOk result (λ cell. cell ≡ leaf.0) }
+    {
+        let owner = LeafOwner::new(leaf, hints, book, sight);
+        Ok(LeafCell {
+            lock: TiedLock::new(alloc, leaf.0, LeafDesk { state, owner })?,
+        })
+    }
+
+    /// Asks for room for a row: where the leaf is up, the caller has room there then.
+    pub fn reserve<R: Wait>(
+        &self,
+        rt: &R,
+        tables: &Tables<N>,
+        know: &mut Know<N>,
+        range: Range,
+        slot: Slot,
+        row: &Row,
+    ) -> Result<Found, OutOfMemory>
+        requires opened { is_opened range slot (leaf_history know.old.seen (leaf_numbered self.now)) ≡ true }
+        ensures reserved { IfOk result (λ found. HasReserved (leaf_numbered self.now) found know.old know.new) }
+        ensures refused { OnErr result (HasLooked (leaf_numbered self.now) know.old.purse.rooms know.old know.new) }
+    {
+        let (mut desk, key) = self.lock.lock(rt);
+        let found = desk.reserve(tables, know, range, slot, row);
+        self.lock.release(key, desk);
+        found
+    }
+
+    /// Puts a row where room was made, or gives the room back where the leaf is down. No memory is taken.
+    pub fn put<R: Wait>(
+        &self,
+        rt: &R,
+        tables: &Tables<N>,
+        know: &mut Know<N>,
+        range: Range,
+        slot: Slot,
+        row: Row,
+    ) -> Found
+        requires may { MayPut N.setting know.old (leaf_numbered self.now) range slot row }
+        ensures put { HasPut (leaf_numbered self.now) (entry.Put (pass_of know.old) range slot row) result know.old know.new }
+    {
+        let (mut desk, key) = self.lock.lock(rt);
+        let found = desk.put(tables, know, range, slot, row);
+        self.lock.release(key, desk);
+        found
+    }
+
+    /// Gives room back. No memory is taken.
+    pub fn cancel<R: Wait>(&self, rt: &R, tables: &Tables<N>, know: &mut Know<N>)
+        requires room { 0 < times_room (leaf_numbered self.now) know.old.purse.rooms }
+        ensures cancelled { HasLooked (leaf_numbered self.now)
+            (without_one (leaf_numbered self.now) know.old.purse.rooms) know.old know.new }
+    {
+        let (mut desk, key) = self.lock.lock(rt);
+        desk.cancel(tables, know);
+        self.lock.release(key, desk);
+    }
+
+    /// Looks at the leaf: where it is up, it is read, and what the reader has for the caller is handed out.
+    pub fn visit<R: Wait, P: LeafReader>(
+        &self,
+        rt: &R,
+        tables: &Tables<N>,
+        know: &mut Know<N>,
+        reader: &mut P,
+    ) -> Result<Found, OutOfMemory>
+        requires readable { (later : Knowledge)
+            → HasLooked (leaf_numbered self.now) know.old.purse.rooms know.old later
+            → IsSound N.setting later.hints later.seen
+            → P.asks reader.old N.setting.buckets_of (leaf_history later.seen (leaf_numbered self.now)) }
+        ensures visited { IfOk result (λ found. HasVisited (leaf_numbered self.now)
+            (P.tells reader.old reader.new N.setting.buckets_of) found know.old know.new) }
+        ensures refused { OnErr result
+            (HasLooked (leaf_numbered self.now) know.old.purse.rooms know.old know.new) }
+    {
+        let (mut desk, key) = self.lock.lock(rt);
+        let found = desk.visit(tables, know, reader);
+        self.lock.release(key, desk);
+        found
+    }
+    /// The rows of a replica in the beginning of what the caller had seen of the leaf, which are handed out. The leaf may
+    /// be down.
+    pub fn gather<R: Wait>(
+        &self,
+        rt: &R,
+        tables: &Tables<N>,
+        know: &mut Know<N>,
+        range: Range,
+        slot: Slot,
+        cut: u64,
+    ) -> Result<RowList, OutOfMemory>
+        requires seen { cut ≤ length (leaf_history know.old.seen (leaf_numbered self.now)) }
+        ensures gathered { IfOk result (λ rows.
+            HasGathered (leaf_numbered self.now) range slot cut rows know.old know.new) }
+        ensures refused { OnErr result
+            (HasLooked (leaf_numbered self.now) know.old.purse.rooms know.old know.new) }
+    {
+        let (mut desk, key) = self.lock.lock(rt);
+        let rows = desk.gather(tables, know, range, slot, cut);
+        self.lock.release(key, desk);
+        rows
+    }
+}

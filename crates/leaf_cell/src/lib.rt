@@ -1,0 +1,12 @@
+//! The leaves of a store, each under its lock: what lies there is the leaf's state and the owner of its history.
+#![tactic(auto)]
+
+mod cells;
+mod desks;
+mod laws;
+mod raising;
+mod readers;
+
+pub use cells::LeafCell;
+pub use laws::new_leaves_are_at_rest;
+pub use readers::LeafReader;

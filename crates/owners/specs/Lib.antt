@@ -1,0 +1,5 @@
+pub mod Calls
+pub mod Entries
+pub mod Owners
+pub mod Puts
+pub mod Receiving

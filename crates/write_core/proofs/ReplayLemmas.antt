@@ -1,0 +1,77 @@
+-- What one entry more makes of a range's replay.
+use Rattle.std.proofs.Common.{◌≡◌, ◌≤◌, ℤ, Bool, true, false, cond, List, [], ◌∷◌, ◌++◌, length, map, refl, sym}
+use Rattle.std.proofs.Common.{ap, ◌∙◌, Some, Result, Ok, Err, OnOk, is_ok, arith}
+use Rattle.std.specs.Map.{lookup}
+use Rattle.std.proofs.lemmas.List.{append-nil, map-append}
+use Rattle.std.proofs.lemmas.List.Elements.{filter-append}
+use Rattle.mon_topo.proofs.RangeHistoryLemmas.{acknowledged_rows-push, serving-push}
+use Rattle.mon_topo.specs.RangeHistories.{acknowledged_rows}
+use Rattle.mon_value.proofs.SameLemmas.{eq-same_series, same_series-Decides}
+use Rattle.mon_value.specs.Same.{same_series}
+use Rattle.mon_value.specs.Sources.{last_end, points_of, rows_of}
+use Rattle.mon_value.specs.contracts.rows.SeriesKeyPartialEq.TheImpl as derived
+use Rattle.mon_value.specs.declared.histories.RangeEntry.{RangeEntry}
+use Rattle.mon_value.specs.declared.histories.RangeEntry.TheVariants as entry
+use Rattle.mon_value.specs.declared.rows.Point.{Point}
+use Rattle.mon_value.specs.declared.rows.Row.{Row}
+use Rattle.mon_value.specs.declared.rows.SeriesKey.{SeriesKey}
+use Rattle.write_core.specs.Replays.{TellsLasts}
+use Rattle.write_core.proofs.OpeningLemmas.{acked-opened, serving-opened}
+
+-- ---- the end of the last row of each series
+
+pub same_test : (key : SeriesKey) → derived.eq-value.it key ≡ same_series key
+same_test key = λ i other. eq-same_series key other i
+
+last_end-push : (points : List Point) (point : Point) → last_end (points ++ point ∷ []) ≡ Some point.end
+last_end-push [] point = refl
+last_end-push (p ∷ []) point = refl
+last_end-push (p ∷ q ∷ points) point = last_end-push (q ∷ points) point
+
+last_by : (key : SeriesKey) (rows : List Row) (row : Row) (b : Bool)
+    → last_end (points_of key rows ++ map (λ (r : Row). r.point) (cond b (row ∷ []) []))
+    ≡ cond b (Some row.point.end) (last_end (points_of key rows))
+last_by key rows row true = last_end-push (points_of key rows) row.point
+last_by key rows row false = ap last_end (append-nil (points_of key rows))
+
+last_after : (key : SeriesKey) (rows : List Row) (row : Row)
+    → last_end (points_of key (rows ++ row ∷ []))
+    ≡ cond (same_series key row.key) (Some row.point.end) (last_end (points_of key rows))
+last_after key rows row =
+    ap (λ rs. last_end (map (λ (r : Row). r.point) rs))
+    (filter-append (λ (r : Row). same_series key r.key) rows (row ∷ []))
+    ∙ ap last_end (map-append (λ (r : Row). r.point) (rows_of key rows) (rows_of key (row ∷ [])))
+    ∙ last_by key rows row (same_series key row.key)
+
+symmetric : (a b : SeriesKey) → same_series a b ≡ same_series b a
+symmetric a b = by (same_series a b) (same_series b a) refl refl
+  where
+    by : (x y : Bool) → same_series a b ≡ x → same_series b a ≡ y → x ≡ y
+    by true true h k = refl
+    by false false h k = refl
+    by true false h k = sym ((same_series-Decides b a).1 (sym ((same_series-Decides a b).0 h))) ∙ k
+    by false true h k = sym h ∙ (same_series-Decides a b).1 (sym ((same_series-Decides b a).0 k))
+
+pub lasts_told : (old new : List (SeriesKey × ℤ)) (row : Row) (rows : List Row)
+    → ((key : SeriesKey) → lookup (derived.eq-value.it key) new
+    ≡ cond (derived.eq-value.it row.key key) (Some row.point.end) (lookup (derived.eq-value.it key) old))
+    → TellsLasts old rows → TellsLasts new (rows ++ row ∷ [])
+lasts_told old new row rows updated tells key =
+    ap (λ test. lookup test new) (sym (same_test key)) ∙ updated key
+    ∙ (λ i. cond (eq-same_series row.key key i) (Some row.point.end) (lookup (same_test key i) old))
+    ∙ (λ i. cond (symmetric row.key key i) (Some row.point.end) (tells key i))
+    ∙ sym (last_after key rows row)
+
+pub ok_claim : {V E : Type 0} (P : Type 0) (r : Result V E) → is_ok r ≡ true → OnOk r P → P
+ok_claim P (Ok value) ok claim = claim
+ok_claim P (Err error) ok claim = absurd cc
+
+-- ---- entries
+
+-- no more rows are acknowledged than there are entries
+pub acked_few : (history : List RangeEntry) → length (acknowledged_rows history) ≤ length history
+acked_few [] = omega arith
+acked_few (entry.Opened pass slot leaf ∷ history) = let few = acked_few history in omega arith
+acked_few (entry.Acked pass row ack ∷ history) = let few = acked_few history in omega arith
+
+pub ruleset ranges = (serving-opened, serving-push, acked-opened, acknowledged_rows-push)

@@ -1,0 +1,205 @@
+// The replay of a range's history.
+ghost use Rattle.std.specs.Prelude.{◌≡◌, ◌<◌, ◌^◌, ◌+◌, ◌++◌, ◌∷◌, [], List, filter, length, not, slice_get, IfOk};
+ghost use Rattle.std.specs.Prelude.{OnErr, OnOk};
+ghost use Rattle.std.specs.List.{list_any};
+ghost use Rattle.indexmap.specs.IndexMap.{spare};
+ghost use Rattle.mon_topo.specs.RangeHistories.{acknowledged_rows, is_missed};
+ghost use Rattle.mon_topo.specs.Sights.{range_sight};
+ghost use Rattle.mon_value.specs.Positions.{same_leaf};
+ghost use Rattle.mon_value.specs.Sources.{last_end, points_of};
+ghost use Rattle.mon_value.specs.declared.rows.Row as a_row;
+ghost use Rattle.write_core.specs.RangeAnswers.{lock_answer};
+ghost use Rattle.write_core.specs.Replays.{HasAckRoom, TellsLasts};
+ghost use Rattle.mon_topo.specs.Serving.{first_serving, is_avoided};
+
+use crate::asks::WriteTold;
+use crate::refusals::Refused;
+use indexmap::IndexMap;
+use mon_topo::RangeSight;
+use mon_value::{
+    Ack, Leaf, Leaves, Miss, OutOfMemory, RangeEntry, RoomListOf, Row, SeriesKey, Shared, Slot,
+    SlotLeaf, SlotLeaves,
+};
+use std::alloc::Global;
+use std::marker::Model;
+
+/// The end of the last row of each series.
+type Lasts = IndexMap<Shared<SeriesKey>, i64>;
+
+/// The replay of a range's history: the replicas that serve, how many rows were acknowledged, and the end of the last
+/// one of each series. Contracts see the history, and the room that was made for more of it.
+#[derive(Drop)]
+pub struct RangeReplay {
+    alloc: Global,
+    history: RoomListOf<RangeEntry>,
+    serving: Vec<SlotLeaf>,
+    lasts: Lasts,
+    count: u64,
+}
+
+impl Model for RangeReplay {
+    ghost use Rattle.std.specs.Prelude.{◌≡◌, length};
+    ghost use Rattle.indexmap.specs.IndexMap.{spare};
+    ghost use Rattle.mon_topo.specs.RangeHistories as histories;
+    ghost use Rattle.write_core.specs.Replays.{Replay, TellsLasts};
+
+    ghost Value = { Replay };
+
+    ghost view = { λ replay. record {
+      history = replay.history.items;
+      entry_room = replay.history.spare;
+      series_room = spare replay.lasts;
+    } };
+
+    ghost invariant = { λ replay. record {
+      serve : replay.serving.items ≡ histories.serving replay.history.items;
+      count : replay.count ≡ length (histories.acknowledged_rows replay.history.items);
+      lasts : TellsLasts replay.lasts.entries (histories.acknowledged_rows replay.history.items);
+    } };
+}
+
+impl RangeReplay {
+    /// A range without replicas.
+    pub fn new(alloc: Global) -> RangeReplay
+        ensures new { result.history ≡ [] }
+    {
+        RangeReplay {
+            alloc,
+            history: RoomListOf::new(alloc),
+            serving: Vec::new(alloc),
+            lasts: Lasts::new(alloc),
+            count: 0,
+        }
+    }
+
+    /// A replica is opened on a leaf. Where memory runs out nothing changes.
+    #[tactic(auto, using(crate::proofs::ReplayLemmas::ranges))]
+    pub fn open(&mut self, pass: u64, slot: Slot, leaf: Leaf) -> Result<(), OutOfMemory>
+        ensures opened { OnOk result (self.new.history ≡ self.old.history ++ RangeEntry.Opened pass slot leaf ∷ []) }
+        ensures kept { OnErr result (self.new.history ≡ self.old.history) }
+    {
+        self.history.reserve_one()?;
+        self.serving.push(SlotLeaf { slot, leaf })?;
+        self.history.push(RangeEntry::Opened { pass, slot, leaf });
+        Ok(())
+    }
+
+    /// What a write of a row is told that takes the lock, of a range that holds so many rows at most.
+    pub fn answer(&self, row: &Row, limit: u64) -> Result<WriteTold, OutOfMemory>
+        ensures told { IfOk result (λ told. told ≡ lock_answer limit self.now.history row.now) }
+    {
+        match Refused::why(self.last(&row.key), limit, self.count, &row.point) {
+            Some(why) => Ok(why.told()),
+            None => Ok(WriteTold::Slots(SlotLeaves::from_vec(
+                self.serving.as_slice().to_vec(self.alloc)?,
+            ))),
+        }
+    }
+
+    /// Makes room for an acknowledgement, whatever its row.
+    pub fn reserve(&mut self) -> Result<(), OutOfMemory>
+        ensures history { self.new.history ≡ self.old.history }
+        ensures room { OnOk result (HasAckRoom self.new) }
+    {
+        self.history.reserve_one()?;
+        self.lasts.reserve(1)?;
+        Ok(())
+    }
+
+    /// A row is acknowledged, in room that was made before. The replicas that missed it serve no more.
+    pub fn acknowledge(&mut self, key: Shared<SeriesKey>, pass: u64, row: Row, ack: Ack)
+        requires key { key ≡ row.key }
+        requires room { HasAckRoom self.old }
+        ensures acknowledged { self.new.history ≡ self.old.history ++ RangeEntry.Acked pass row ack ∷ [] }
+    {
+        note_last(&mut self.lasts, key, row.point.end);
+        drop_missed(&mut self.serving, ack.missed.as_slice());
+        self.count = one_more(self.count, self.history.as_slice());
+        self.history.push(RangeEntry::Acked { pass, row, ack });
+    }
+
+    /// The first replica that serves and is on none of these leaves.
+    pub fn resolve(&self, avoided: &Leaves) -> Option<SlotLeaf>
+        ensures first { result ≡ first_serving avoided.now self.now.history }
+    {
+        first_off(self.serving.as_slice(), avoided.as_slice())
+    }
+
+    /// What who sees all of the history sees.
+    pub fn sight(&self) -> RangeSight
+        ensures sight { result ≡ range_sight self.now.history }
+    {
+        RangeSight {
+            length: self.length(),
+            first: self.serving.first().copied(),
+        }
+    }
+
+    /// How many entries the history has.
+    pub fn length(&self) -> u64
+        ensures count { result ≡ length self.now.history }
+        ensures short { result < 2 ^ 62 }
+    {
+        self.history.as_slice().len() as u64
+    }
+
+    // The end of the last row of a series.
+    fn last(&self, key: &Shared<SeriesKey>) -> Option<i64>
+        ensures last { result ≡ last_end (points_of key.now (acknowledged_rows self.now.history)) }
+    {
+        self.lasts.get(key).copied()
+    }
+}
+
+// The last row of a series ends there, in the room that was made.
+fn note_last(lasts: &mut Lasts, key: Shared<SeriesKey>, end: i64)
+    requires room { 0 < spare lasts.old }
+    ensures told { (rows : List a_row.Row) (row : a_row.Row) → row.key ≡ key → row.point.end ≡ end
+        → TellsLasts lasts.old.entries rows → TellsLasts lasts.new.entries (rows ++ row ∷ []) }
+{
+    let _before = lasts.insert(key, end).unwrap();
+}
+
+// One row more than those that this history acknowledges.
+fn one_more(count: u64, history: &[RangeEntry]) -> u64
+    requires count { count ≡ length (acknowledged_rows history.now) }
+    ensures more { result ≡ count + 1 }
+{
+    let entries = history.len() as u64;
+    prove!(count <= entries);
+    count + 1
+}
+
+// Takes out the replicas that missed a row.
+fn drop_missed(serving: &mut Vec<SlotLeaf>, missed: &[Miss])
+    ensures dropped { serving.new.items ≡ filter (λ replica. not (is_missed missed.now replica)) serving.old.items }
+{
+    serving.retain(|replica| !has_missed(missed, *replica));
+}
+
+// Whether a replica missed a row.
+fn has_missed(missed: &[Miss], replica: SlotLeaf) -> bool
+    ensures missed { result ≡ is_missed missed.now replica }
+{
+    missed.iter().any(|miss| miss.slot.0 == replica.slot.0)
+}
+
+// The first of these replicas that is on none of these leaves.
+fn first_off(serving: &[SlotLeaf], avoided: &[Leaf]) -> Option<SlotLeaf>
+    ensures first { result
+        ≡ slice_get (filter (λ replica. not (is_avoided avoided.now replica)) serving.now) 0 }
+{
+    for replica in serving {
+        if !is_among(avoided, replica.leaf) {
+            return Some(*replica);
+        }
+    }
+    None
+}
+
+// Whether a leaf is among those that are avoided.
+fn is_among(avoided: &[Leaf], leaf: Leaf) -> bool
+    ensures avoided { result ≡ list_any (same_leaf leaf) avoided.now }
+{
+    avoided.iter().any(|other| leaf.0 == other.0)
+}
