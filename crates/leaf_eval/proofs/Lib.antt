@@ -1,3 +1,5 @@
 mod ApartReplicas
 mod EvaluatedParts
+mod OwnWords
+pub mod ReadableSlots
 mod ReadyParts

@@ -3,23 +3,18 @@ use Rattle.std.proofs.Common.{◌≡◌, ◌∙◌, ◌<◌, ℕ, ℤ, Bool, tru
 use Rattle.std.specs.Prelude.{slice_get, Option, Some, None}
 use Rattle.std.proofs.lemmas.List.{length-map}
 use Rattle.leaf_store.specs.LeafBuckets.{key_buckets}
-use Rattle.leaf_store.specs.LeafStates.{LeafView}
+use Rattle.leaf_eval.specs.Visits.{IsFoundAt, IsVisit}
+use Rattle.leaf_eval.specs.declared.visits.Visit.{Visit}
+use Rattle.leaf_eval.specs.declared.visits.Visit.TheVariants as visit
 use Rattle.mon_config.specs.declared.config.Config.{Config}
-use Rattle.mon_hints.specs.HistoryBuckets.{history_buckets}
-use Rattle.mon_meaning.specs.LeafAnswers.{IsLeafPart, IsOverLeaf}
 use Rattle.mon_schema.specs.SchemaLists.{SchemaLists}
-use Rattle.mon_value.specs.LeafHistories.{is_down}
 use Rattle.mon_value.specs.declared.histories.Entry.{Entry}
 use Rattle.mon_value.specs.declared.positions.Leaf.{Leaf}
 use Rattle.mon_value.specs.declared.positions.RangeSlot.{RangeSlot}
-use Rattle.mon_value.specs.declared.rows.SeriesKey.{SeriesKey}
-use Rattle.mql_types.specs.Nodes.{typed_tree}
-use Rattle.mql_types.specs.declared.plans.Plan.{Plan}
 use Rattle.query_core.specs.Machine.{Query, slots_at, slots_of, slots_visited}
 use Rattle.query_core.specs.Mixtures.{typed_of}
-use Rattle.plan_split.specs.Meeting.{is_plan_met}
 use Rattle.query_core.specs.Program.{ask_of}
-use Rattle.mon_meaning.specs.ReadableSlots.{CanBeRead, slot_rows}
+use Rattle.mon_meaning.specs.ReadableSlots.{CanBeRead}
 use Rattle.query_core.specs.Settings.{QuerySetting}
 use Rattle.query_core.specs.declared.asks.Ask.{Ask}
 use Rattle.query_core.specs.declared.asks.Ask.TheVariants as ask
@@ -35,7 +30,7 @@ use Rattle.weave_core.specs.Agreements.{IsLeafSo}
 use Rattle.weave_core.specs.Core.{Core, IsLookedAt, IsTold, Reader, query_now}
 use Rattle.weave_core.specs.Holders.{HoldsLeaf}
 use Rattle.weave_core.specs.Meetings.{sight_at_leaf}
-use Rattle.weave_core.specs.QueryLooks.{IsHeldFrom, IsSeatedForLeaf, Looks, LooksAt, TellsSo}
+use Rattle.weave_core.specs.QueryLooks.{IsHeldFrom, IsSeatedForLeaf, Looks, LooksAt, visit_told}
 use Rattle.weave_core.specs.QueryTurns.{AnswersSo, IsAnswered, IsAsking, QueryWaits}
 use Rattle.mon_topo.specs.Sights.{AreAlike, sight_of}
 use Rattle.weave_core.specs.States.{store_of}
@@ -59,34 +54,6 @@ slots_same asked (at.Reloading course round loading) leaf e = absurd cc
 slots_same asked (at.Visiting course round visits other) leaf e =
     let same : leaf ≡ other = cc in ap (slots_of (at.Visiting course round visits other)) same
 slots_same asked (at.Ended end) leaf e = absurd cc
-
--- what a leaf tells, by its history
-abbrev TellsOf : Plan → ℤ → ℕ → List Entry → (SeriesKey → List ℕ) → List RangeSlot → Told → Type 0
-TellsOf plan moment limit history buckets_of slots (told.Down cut) =
-    (cut ≡ length history) × (is_down history ≡ true)
-TellsOf plan moment limit history buckets_of slots (told.Unread cut) =
-    ((cut ≡ length history) × (is_down history ≡ false))
-    × (is_plan_met plan (history_buckets buckets_of history) ≡ false)
-TellsOf plan moment limit history buckets_of slots (told.Read cut answer) =
-    ((cut ≡ length history) × (is_down history ≡ false))
-    × (is_plan_met plan (history_buckets buckets_of history) ≡ true)
-    × IsLeafPart (typed_tree plan.typed) (slot_rows history slots) moment limit answer
-TellsOf plan moment limit history buckets_of slots (told.Over load cut) =
-    ((cut ≡ length history) × (is_down history ≡ false))
-    × (is_plan_met plan (history_buckets buckets_of history) ≡ true)
-    × IsOverLeaf (typed_tree plan.typed) (slot_rows history slots) moment limit (record { load = load })
-TellsOf plan moment limit history buckets_of slots answer = ⊥
-
-tells_of : (plan : Plan) (moment : ℤ) (limit : ℕ) (state : LeafView) (slots : List RangeSlot) (answer : Told)
-    → TellsSo plan moment limit state slots answer
-    → TellsOf plan moment limit state.history (key_buckets state.buckets state.schemas) slots answer
-tells_of plan moment limit state slots (told.Down cut) tells = (tells.whole, tells.is)
-tells_of plan moment limit state slots (told.Unread cut) tells = ((tells.0.whole, tells.0.is), tells.1)
-tells_of plan moment limit state slots (told.Read cut answer) tells = ((tells.0.whole, tells.0.is), tells.1, tells.2)
-tells_of plan moment limit state slots (told.Over load cut) tells = ((tells.0.whole, tells.0.is), tells.1, tells.2)
-tells_of plan moment limit state slots (told.Word word seen) tells = absurd tells
-tells_of plan moment limit state slots (told.Slot slot leaf) tells = absurd tells
-tells_of plan moment limit state slots told.NoSlot tells = absurd tells
 
 module _ (config : Config) (core : Core (store_of config)) (k : ℕ) (store : Store) (querying : Querying) (sight : Sight)
     (asking : IsAsking config core k store querying sight) where
@@ -161,47 +128,42 @@ module _ (config : Config) (core : Core (store_of config)) (k : ℕ) (store : St
           ap (λ (c : Config). c.limit) asking.shared.config_is ∙ sym asking.planned.limit
           ∙ ap (λ (some : QuerySetting). some.limit) (sym asking.reader.setting)
 
-      -- what the leaf tells, of the world and of the query in the core
-      abbrev Then : Told → Type 0
-      Then = TellsOf reader.setting.plan reader.moment reader.setting.limit (of_leaf world.truth leaf)
+      -- what is found at the leaf, of the world and of the query in the core
+      abbrev Found : Visit → Type 0
+      Found = IsVisit reader.setting.plan reader.moment reader.setting.limit (of_leaf world.truth leaf)
           (key_buckets config.buckets config.schemas) (slots_at query)
 
-      tells_there : (some : Told) → TellsSo asked.plan querying.moment store.config.limit seat.state
-          (slots_of querying.machine.stage leaf) some → Then some
-      tells_there some tells =
+      found_there : (some : Visit) → IsVisit asked.plan querying.moment store.config.limit seat.state.history
+          (key_buckets seat.state.buckets seat.state.schemas) (slots_of querying.machine.stage leaf) some → Found some
+      found_there some found =
           let own_buckets = key_buckets config.buckets config.schemas in
           let slots = slots_of querying.machine.stage leaf in
-          subst (λ (a : QuerySetting). TellsOf a.plan reader.moment reader.setting.limit (of_leaf world.truth leaf)
+          subst (λ (a : QuerySetting). IsVisit a.plan reader.moment reader.setting.limit (of_leaf world.truth leaf)
           own_buckets (slots_at query) some) (sym asking.reader.setting)
-          (subst (λ (slots : List RangeSlot). TellsOf asked.plan reader.moment reader.setting.limit
+          (subst (λ (slots : List RangeSlot). IsVisit asked.plan reader.moment reader.setting.limit
           (of_leaf world.truth leaf) own_buckets slots some) own_slots
-          (subst (λ (limit : ℕ). TellsOf asked.plan reader.moment limit (of_leaf world.truth leaf) own_buckets slots
+          (subst (λ (limit : ℕ). IsVisit asked.plan reader.moment limit (of_leaf world.truth leaf) own_buckets slots
           some) limit_is
-          (subst (λ (moment : ℤ). TellsOf asked.plan moment store.config.limit (of_leaf world.truth leaf) own_buckets
+          (subst (λ (moment : ℤ). IsVisit asked.plan moment store.config.limit (of_leaf world.truth leaf) own_buckets
           slots some) (sym asking.reader.moment)
-          (subst (λ (history : List Entry). TellsOf asked.plan querying.moment store.config.limit history own_buckets
+          (subst (λ (history : List Entry). IsVisit asked.plan querying.moment store.config.limit history own_buckets
           slots some) so.history
-          (subst (λ (held : SchemaLists). TellsOf asked.plan querying.moment store.config.limit seat.state.history
+          (subst (λ (held : SchemaLists). IsVisit asked.plan querying.moment store.config.limit seat.state.history
           (key_buckets config.buckets held) slots some) so.schemas
-          (subst (λ (count : ℕ). TellsOf asked.plan querying.moment store.config.limit seat.state.history
-          (key_buckets count seat.state.schemas) slots some) so.buckets
-          (tells_of asked.plan querying.moment store.config.limit seat.state slots some tells)))))))
+          (subst (λ (count : ℕ). IsVisit asked.plan querying.moment store.config.limit seat.state.history
+          (key_buckets count seat.state.schemas) slots some) so.buckets found))))))
 
       looked_at : (down : Bool) (cut : ℕ) → world.leaf_holder leaf.0 ≡ None
-          → (cut ≡ length (of_leaf world.truth leaf)) × (is_down (of_leaf world.truth leaf) ≡ down)
-          → IsLookedAt world leaf cut down
-      looked_at down cut free found = record { free = free; whole = found.0; is = found.1 }
+          → IsFoundAt (of_leaf world.truth leaf) cut down → IsLookedAt world leaf cut down
+      looked_at down cut free found = record { free = free; whole = found.whole; is = found.is }
 
-      visit_told : world.leaf_holder leaf.0 ≡ None → (some : Told) → Then some
+      found_told : world.leaf_holder leaf.0 ≡ None → (some : Visit) → Found some
           → IsTold (store_of config) reader.setting reader.moment world reader.view query.avoided (slots_at query)
-          (ask.Visit leaf) some
-      visit_told free (told.Down cut) then = looked_at true cut free then
-      visit_told free (told.Unread cut) then = (looked_at false cut free then.0, then.1)
-      visit_told free (told.Read cut part) then = (looked_at false cut free then.0, then.1, then.2)
-      visit_told free (told.Over load cut) then = (looked_at false cut free then.0, then.1, then.2)
-      visit_told free (told.Word word seen) then = absurd then
-      visit_told free (told.Slot slot other) then = absurd then
-      visit_told free told.NoSlot then = absurd then
+          (ask.Visit leaf) (visit_told some)
+      found_told free (visit.Down cut) found = looked_at true cut free found
+      found_told free (visit.Unread cut) found = (looked_at false cut free found.0, found.1)
+      found_told free (visit.Read cut part) found = (looked_at false cut free found.0, found.1, found.2)
+      found_told free (visit.Over load cut) found = (looked_at false cut free found.0, found.1, found.2)
 
       pub leaf_looked : (answer : Told) → Looks asked.plan querying.moment store.config.limit
           (slots_of querying.machine.stage leaf) leaf seat left sight now answer → IsAnswered config core k new now
@@ -212,7 +174,9 @@ module _ (config : Config) (core : Core (store_of config)) (k : ℕ) (store : St
           ∙ (λ i. sight_at_leaf leaf (so.history i) (asking.reader.seen i) (so.sight i))
           ∙ leaf_met (store_of config) world reader.view leaf asking.woven.world (asking.woven.readers k).part in
           answered config core k store querying sight asking (ask.Visit leaf) e new now answer (record {
-            told = visit_told (sym so.holder ∙ looks.free) answer (tells_there answer looks.told_so);
+            told = subst (λ (some : Told). IsTold (store_of config) reader.setting reader.moment world reader.view
+                query.avoided (slots_at query) (ask.Visit leaf) some) (sym looks.told_so)
+                (found_told (sym so.holder ∙ looks.free) looks.visit (found_there looks.visit looks.found));
             shared = shared_leaf config world _ leaf store new left (visited_same world leaf reader.view) asking.shared
                 changes
                 (record {

@@ -12,7 +12,6 @@ pub mod LeafTurnLemmas
 pub mod LineRunLemmas
 pub mod LockLemmas
 pub mod LockTurnLemmas
-pub mod LookLemmas
 pub mod MeetingLemmas
 pub mod NumberLemmas
 pub mod PassedLemmas

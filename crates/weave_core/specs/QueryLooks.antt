@@ -1,22 +1,19 @@
 -- What a look of a query does to the seat that it needs and to how far this has seen, and what it is told.
-use Rattle.std.specs.Prelude.{ℕ, ℤ, ◌≡◌, ◌<◌, Bool, true, false, is_some, List, length, slice_get, Option}
+use Rattle.std.specs.Prelude.{ℕ, ℤ, ◌≡◌, ◌<◌, true, is_some, List, length, slice_get, Option}
 use Rattle.std.specs.Prelude.{Some, None}
 use Rattle.leaf_store.specs.LeafBuckets.{key_buckets}
-use Rattle.leaf_store.specs.LeafStates.{LeafView}
-use Rattle.mon_hints.specs.HistoryBuckets.{history_buckets}
-use Rattle.mon_meaning.specs.LeafAnswers.{IsLeafPart, IsOverLeaf}
-use Rattle.mon_value.specs.LeafHistories.{is_down}
+use Rattle.leaf_eval.specs.Visits.{IsVisit}
+use Rattle.leaf_eval.specs.declared.visits.Visit.{Visit}
+use Rattle.leaf_eval.specs.declared.visits.Visit.TheVariants as visit
 use Rattle.mon_value.specs.declared.positions.Leaf.{Leaf}
 use Rattle.mon_value.specs.declared.positions.Range.{Range}
 use Rattle.mon_value.specs.declared.positions.RangeSlot.{RangeSlot}
 use Rattle.mon_value.specs.declared.positions.SlotLeaf.{SlotLeaf}
-use Rattle.mon_value.specs.declared.rows.Row.{Row}
-use Rattle.mql_types.specs.Nodes.{TypedTree, typed_tree}
+use Rattle.mql_types.specs.Nodes.{typed_tree}
 use Rattle.mql_types.specs.declared.plans.Plan.{Plan}
 use Rattle.query_core.specs.Machine.{slots_of}
 use Rattle.query_core.specs.SeenSights.{seen_of}
-use Rattle.plan_split.specs.Meeting.{is_plan_met}
-use Rattle.mon_meaning.specs.ReadableSlots.{CanBeRead, slot_rows}
+use Rattle.mon_meaning.specs.ReadableSlots.{CanBeRead}
 use Rattle.mon_topo.specs.Serving.{first_serving}
 use Rattle.query_core.specs.declared.asks.Told.{Told}
 use Rattle.query_core.specs.declared.asks.Told.TheVariants as told
@@ -59,42 +56,19 @@ FindsIf range avoided old new sight sight_after None = IsHeldFrom old.holder old
 
 -- ---- at a leaf
 
--- a leaf that is read tells its part of the query over these rows, or that its load is above the limit, and how long
--- its history is
-abbrev pub ReadsSo : TypedTree → List Row → ℤ → ℕ → ℕ → Told → Type 0
-ReadsSo typed rows moment limit cut (told.Read found answer) =
-    (found ≡ cut) × IsLeafPart typed rows moment limit answer
-ReadsSo typed rows moment limit cut (told.Over load found) =
-    (found ≡ cut) × IsOverLeaf typed rows moment limit (record { load = load })
-ReadsSo typed rows moment limit cut answer = ⊥
-
-module _ (plan : Plan) (moment : ℤ) (limit : ℕ) (state : LeafView) (slots : List RangeSlot) where
-  abbrev pub is_met_there : Bool
-  is_met_there = is_plan_met plan (history_buckets (key_buckets state.buckets state.schemas) state.history)
-
-  abbrev pub rows_there : List Row
-  rows_there = slot_rows state.history slots
-
-  -- it is looked at at the whole of its history
-  pub record IsFoundThere (cut : ℕ) (down : Bool) : Type 0 where
-    pub whole : cut ≡ length state.history
-    pub is : is_down state.history ≡ down
-
-  -- whether the leaf is down, whether the query reads it, and its part of the query over the rows of these slots
-  abbrev pub TellsSo : Told → Type 0
-  TellsSo (told.Down cut) = IsFoundThere cut true
-  TellsSo (told.Unread cut) = IsFoundThere cut false × (is_met_there ≡ false)
-  TellsSo (told.Read cut answer) = IsFoundThere cut false × (is_met_there ≡ true)
-      × IsLeafPart (typed_tree plan.typed) rows_there moment limit answer
-  TellsSo (told.Over load cut) = IsFoundThere cut false × (is_met_there ≡ true)
-      × IsOverLeaf (typed_tree plan.typed) rows_there moment limit (record { load = load })
-  TellsSo answer = ⊥
+abbrev pub visit_told : Visit → Told
+visit_told (visit.Down cut) = told.Down cut
+visit_told (visit.Unread cut) = told.Unread cut
+visit_told (visit.Read cut answer) = told.Read cut answer
+visit_told (visit.Over load cut) = told.Over load cut
 
 module _ (plan : Plan) (moment : ℤ) (limit : ℕ) (slots : List RangeSlot) (leaf : Leaf) where
-  -- it tells so much, and stays as it is
+  -- what is found there is told, and it stays as it is
   pub record Looks (old new : LeafSeat) (sight sight_after : Sight) (answer : Told) : Type 0 where
     pub free : old.holder ≡ None
-    pub told_so : TellsSo plan moment limit old.state slots answer
+    pub visit : Visit
+    pub found : IsVisit plan moment limit old.state.history (key_buckets old.state.buckets old.state.schemas) slots visit
+    pub told_so : answer ≡ visit_told visit
     pub stays : StaysThere old new sight_after
     pub history : new.state.history ≡ old.state.history
     pub holder : new.holder ≡ old.holder

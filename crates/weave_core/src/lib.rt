@@ -7,7 +7,6 @@ mod calls;
 mod events;
 mod kept_laws;
 mod laws;
-mod leaf_looks;
 mod leaves;
 mod limits;
 mod lines;

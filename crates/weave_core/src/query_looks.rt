@@ -1,25 +1,23 @@
 // The looks of a query, each at the seat that it needs.
-ghost use Rattle.std.specs.Prelude.{◌≡◌, ◌≤◌, ◌≤ℤ◌, ◌<◌, ◌^◌, ◌++◌, [], length, map, pos, IfOk, OnOk, None};
+ghost use Rattle.std.specs.Prelude.{◌≡◌, ◌≤◌, ◌≤ℤ◌, ◌<◌, ◌^◌, length, map, pos, IfOk, None};
 ghost use Rattle.mon_hints.specs.Formulas.{all_named, formula_tree, formulas};
 ghost use Rattle.mon_hints.specs.Listings.{AreAmong};
 ghost use Rattle.mon_value.specs.declared.limits.TheConstants.{ROW_BITS};
 ghost use Rattle.mql_types.specs.Nodes.{typed_tree};
 ghost use Rattle.query_core.specs.Machine.{slots_of};
-ghost use Rattle.mon_meaning.specs.ReadableSlots.{CanBeRead, slot_rows};
+ghost use Rattle.mon_meaning.specs.ReadableSlots.{CanBeRead};
 ghost use Rattle.weave_core.specs.QueryLooks as spec;
-ghost use Rattle.weave_core.specs.QueryLooks.{FindsIf, LooksIf, ReadsSo, TellsSo};
+ghost use Rattle.weave_core.specs.QueryLooks.{FindsIf, LooksIf};
 ghost use Rattle.mon_topo.specs.Sights.{AreAlike};
 
-use crate::leaf_looks::is_met;
 use crate::leaves::LeafSeat;
 use crate::queries::Querying;
 use crate::ranges::RangeSeat;
-use leaf_eval::eval_leaf;
-use leaf_store::LeafState;
+use leaf_eval::{Visit, visit};
 use mon_topo::Sight;
-use mon_value::{Leaf, Leaves, OutOfMemory, Range, Refusal, SlotLeaf};
+use mon_value::{Leaf, Leaves, OutOfMemory, Range, SlotLeaf};
 use query_core::Told;
-use std::alloc::{AllocError, Global};
+use std::alloc::Global;
 
 /// A query finds the first replica of a range that serves on none of these leaves, unless someone holds the range.
 pub(crate) fn find(
@@ -74,68 +72,28 @@ pub(crate) fn look(
     if seat.holder.is_some() {
         return Ok(None);
     }
-    let told = tell(alloc, querying, limit, &mut seat.state, leaf)?;
-    seat.meet(leaf, sight);
-    Ok(Some(told))
-}
-
-// What a query is told of a leaf.
-fn tell(
-    alloc: Global,
-    querying: &Querying,
-    limit: u64,
-    state: &mut LeafState,
-    leaf: Leaf,
-) -> Result<Told, OutOfMemory>
-    requires listed { AreAmong (all_named (formulas (map formula_tree querying.now.machine.setting.plan.formulas)))
-        querying.now.machine.setting.plan.buckets }
-    requires moment { pos 0 ≤ℤ querying.now.moment }
-    requires limit { limit ≤ 2 ^ ROW_BITS }
-    requires readable { CanBeRead (typed_tree querying.now.machine.setting.plan.typed) state.old.history
-        (slots_of querying.now.machine.stage leaf) }
-    ensures tells { IfOk result (TellsSo querying.now.machine.setting.plan querying.now.moment limit state.old
-        (slots_of querying.now.machine.stage leaf)) }
-    ensures schemas { state.new.schemas ≡ state.old.schemas }
-    ensures buckets { state.new.buckets ≡ state.old.buckets }
-    ensures promised { state.new.promised ≡ state.old.promised }
-    ensures history { state.new.history ≡ state.old.history }
-{
-    let cut = state.length();
-    if state.down() {
-        return Ok(Told::Down(cut));
-    }
-    if !is_met(alloc, querying.machine.plan(), state)? {
-        return Ok(Told::Unread(cut));
-    }
-    read(alloc, querying, limit, state, leaf, cut)
-}
-
-// What a query is told of a leaf that it reads, whose history is so long.
-fn read(
-    alloc: Global,
-    querying: &Querying,
-    limit: u64,
-    state: &mut LeafState,
-    leaf: Leaf,
-    cut: u64,
-) -> Result<Told, OutOfMemory>
-    requires moment { pos 0 ≤ℤ querying.now.moment }
-    requires limit { limit ≤ 2 ^ ROW_BITS }
-    requires readable { CanBeRead (typed_tree querying.now.machine.setting.plan.typed) state.old.history
-        (slots_of querying.now.machine.stage leaf) }
-    ensures reads { IfOk result (ReadsSo (typed_tree querying.now.machine.setting.plan.typed)
-        (slot_rows state.old.history (slots_of querying.now.machine.stage leaf)) querying.now.moment limit cut) }
-    ensures schemas { state.new.schemas ≡ state.old.schemas }
-    ensures buckets { state.new.buckets ≡ state.old.buckets }
-    ensures promised { state.new.promised ≡ state.old.promised }
-    ensures history { state.new.history ≡ state.old.history }
-{
-    state.settle()?;
     let machine = &querying.machine;
     let slots = machine.slots(leaf);
-    match eval_leaf(alloc, machine.plan(), state, slots, querying.moment, limit) {
-        Ok(answer) => Ok(Told::Read(cut, answer)),
-        Err(Refusal::Fault(over)) => Ok(Told::Over(over.load, cut)),
-        Err(Refusal::OutOfMemory) => Err(AllocError),
+    let found = visit(
+        alloc,
+        machine.plan(),
+        &mut seat.state,
+        slots,
+        querying.moment,
+        limit,
+    )?;
+    seat.meet(leaf, sight);
+    Ok(Some(visit_told(found)))
+}
+
+// What a query is told of what it found at a leaf.
+fn visit_told(found: Visit) -> Told
+    ensures told { result ≡ spec.visit_told found }
+{
+    match found {
+        Visit::Down(cut) => Told::Down(cut),
+        Visit::Unread(cut) => Told::Unread(cut),
+        Visit::Read(cut, answer) => Told::Read(cut, answer),
+        Visit::Over(load, cut) => Told::Over(load, cut),
     }
 }

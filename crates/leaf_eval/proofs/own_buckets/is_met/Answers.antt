@@ -1,8 +1,8 @@
 use Rattle.std.proofs.Common.{◌≡◌, ◌∙◌, List, ℕ, ap, map}
 use Rattle.leaf_store.specs.LeafBuckets.{key_buckets}
 use Rattle.mon_hints.specs.HistoryBuckets.{history_buckets}
-use Rattle.weave_core.proofs.LookLemmas.{met_by_words, own_word}
-use Rattle.weave_core.proofs.leaf_looks.is_met.Goals as goal
+use Rattle.leaf_eval.proofs.OwnWords.{met_by_words, own_word}
+use Rattle.leaf_eval.proofs.own_buckets.is_met.Goals as goal
 
 pub returns : goal.returns
 returns c =

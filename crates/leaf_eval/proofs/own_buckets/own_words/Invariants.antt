@@ -2,8 +2,8 @@
 use Rattle.std.proofs.Common.{◌≡◌, map, take}
 use Rattle.leaf_store.specs.LeafBuckets.{key_buckets}
 use Rattle.mon_hints.specs.HistoryBuckets.{history_buckets}
-use Rattle.weave_core.proofs.LookLemmas.{own_word}
-use Rattle.weave_core.proofs.leaf_looks.own_words.Given as goal
+use Rattle.leaf_eval.proofs.OwnWords.{own_word}
+use Rattle.leaf_eval.proofs.own_buckets.own_words.Given as goal
 
 abbrev pub invariant-loop-bucket : goal.invariant-loop-bucket
 invariant-loop-bucket l =

@@ -1,27 +1,13 @@
--- What a leaf's buckets and slots are to a query that looks at it.
+-- A leaf's own hint words: a formula holds by them where it holds of the leaf's buckets.
 use Rattle.std.proofs.Common.{◌≡◌, ◌∙◌, ◌||◌, ℕ, Bool, true, false, cond, eqb, List, [], ◌∷◌, map, refl, sym, ap}
 use Rattle.std.proofs.Common.{subst, inl, inr}
-use Rattle.std.specs.List.{AllByRecursion as All}
-use Rattle.std.proofs.lemmas.Bool.{and_parts, eqb-true, or_cases, or_left, or_parts, or_right}
-use Rattle.leaf_eval.specs.Replicas as leaf_eval
-use Rattle.leaf_eval.specs.Replicas.{ShareNoSeries, has_series}
-use Rattle.mon_meaning.specs.ApartTargets.{AreApart, ShareNoTarget, has_target}
+use Rattle.std.proofs.lemmas.Bool.{eqb-true, or_cases, or_left, or_right}
 use Rattle.mon_hints.specs.Formulas.{FormulaTrees, all_named, any_holds, formula_tree, formulas}
 use Rattle.mon_hints.specs.Listings.{AreAmong, is_among}
 use Rattle.mon_hints.specs.Words.{buckets_of_child, has_bit}
-use Rattle.mon_value.proofs.SameLemmas.{same_series-Decides}
-use Rattle.mon_value.specs.LeafHistories.{replica_rows}
-use Rattle.mon_value.specs.Same.{same_series, same_target}
-use Rattle.mon_value.specs.declared.histories.Entry.{Entry}
-use Rattle.mon_value.specs.declared.positions.RangeSlot.{RangeSlot}
-use Rattle.mon_value.specs.declared.rows.Row.{Row}
-use Rattle.mon_value.specs.declared.rows.SeriesKey.{SeriesKey}
-use Rattle.mon_value.specs.declared.rows.Target.{Target}
 use Rattle.mql_types.specs.declared.plans.Plan.{Plan}
 use Rattle.plan_split.proofs.NamedBuckets.{any_on}
 use Rattle.plan_split.specs.Meeting.{is_plan_met, lets_child_in}
-
--- ---- a leaf's own words
 
 abbrev pub own_word : List ℕ → ℕ → ℕ
 own_word own bucket = cond (is_among bucket own) 1 0
@@ -109,45 +95,3 @@ module _ (own : List ℕ) where
   met_by_words plan words listed is =
       ap (λ (words : List ℕ). lets_child_in plan words 0) is
       ∙ holds_alike (formulas (map formula_tree plan.formulas)) plan.buckets listed
-
--- ---- slots that share no target share no series
-
-itself : (target : Target) → same_target target target ≡ true
-itself target =
-    let key : SeriesKey = record { target = target; metric = []; fields = [] } in
-    (and_parts (same_target target target) true ((same_series-Decides key key).1 refl)).0
-
-series_by : (key other : SeriesKey) (b : Bool) → same_series key other ≡ b
-    → same_target other.target key.target ≡ false → b ≡ false
-series_by key other true e apart =
-    let same : key ≡ other = (same_series-Decides key other).0 e in
-    let clash : same_target other.target key.target ≡ true =
-    ap (λ (one : SeriesKey). same_target one.target key.target) (sym same) ∙ itself key.target in
-    absurd cc
-series_by key other false e apart = refl
-
-no_series : (key : SeriesKey) (others : List Row) → has_target others key.target ≡ false → has_series others key ≡ false
-no_series key [] apart = refl
-no_series key (other ∷ others) apart =
-    let parts = or_parts (same_target other.key.target key.target) (has_target others key.target) apart in
-    ap (λ b. b || has_series others key) (series_by key other.key (same_series key other.key) refl parts.0)
-    ∙ no_series key others parts.1
-
-no_series_of : (rows others : List Row) → ShareNoTarget rows others → ShareNoSeries rows others
-no_series_of [] others apart = tt
-no_series_of (row ∷ rows) others apart = (no_series row.key others apart.0, no_series_of rows others apart.1)
-
-module _ (history : List Entry) where
-  abbrev rows_of : RangeSlot → List Row
-  rows_of one = replica_rows one.range one.slot history
-
-  apart_each : (one : RangeSlot) (slots : List RangeSlot) → All (ShareNoTarget (rows_of one)) (map rows_of slots)
-      → All (λ other. ShareNoSeries (rows_of one) (rows_of other)) slots
-  apart_each one [] apart = tt
-  apart_each one (other ∷ slots) apart =
-      (no_series_of (rows_of one) (rows_of other) apart.0, apart_each one slots apart.1)
-
-  pub apart_series : (slots : List RangeSlot) → AreApart ShareNoTarget (map rows_of slots)
-      → leaf_eval.AreReplicasApart history slots
-  apart_series [] apart = tt
-  apart_series (one ∷ slots) apart = (apart_each one slots apart.0, apart_series slots apart.1)
