@@ -11,5 +11,6 @@ returns c = record {
       fresh_still typed moment from to earlier later seen more wide trace is;
   read = λ typed moment from to earlier later seen more trace plan buckets_of leaf wide is.
       read_still typed moment from to earlier later seen more wide trace is plan buckets_of leaf;
-  found = found_still;
+  found = λ from to earlier later seen more found wide is.
+      found_still from to earlier later seen more wide found is;
 }
