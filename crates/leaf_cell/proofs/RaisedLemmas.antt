@@ -29,7 +29,8 @@ module _ (buckets_of own : SeriesKey → List ℕ) (alike : buckets_of ≡ own) 
       ≡ is_among bucket (history_buckets buckets_of (history ++ entry.Put pass range slot row ∷ []))
   raised_exactly history pass range slot row before after was now bucket =
       let old = is_among bucket (history_buckets own history) in
-      let same : is_among bucket (history_buckets buckets_of history) ≡ old = ap (is_among bucket) (history_alike history) in
+      let same : is_among bucket (history_buckets buckets_of history) ≡ old =
+      ap (is_among bucket) (history_alike history) in
       now bucket
       ∙ ap (λ b. b || (is_among bucket (own row.key) && not old)) (was bucket ∙ same)
       ∙ either_way old (is_among bucket (own row.key))

@@ -190,5 +190,6 @@ may_next at.Root set so_far old now bucket may h is = tt
 may_next (at.Zone zone) set so_far old now bucket may h is = (
   may.0 ∙ sym (ap (λ l. l.zone) h.leaf),
   contained at.Root bucket now.raised (h.raised at.Root bucket
-      ∙ or_left (is_raised at.Root bucket old.raised) (same_place (at.Zone zone) at.Root && so_far bucket) (may.1 bucket is)),
+      ∙ or_left (is_raised at.Root bucket old.raised) (same_place (at.Zone zone) at.Root && so_far bucket)
+      (may.1 bucket is)),
 )

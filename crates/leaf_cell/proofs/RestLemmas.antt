@@ -70,14 +70,16 @@ module _ (setting : Setting) (raise : RaiseIdentity) (n : ℕ) where
         → IsAtRest setting raise n after gone
     rests_gone rooms after gone after_is gone_is =
         subst (λ (s : store.LeafView). IsAtRest setting raise n s gone) (sym after_is)
-        (subst (IsAtRest setting raise n (store.with_promised state (promised_after rooms state.promised))) (sym gone_is)
+        (subst (IsAtRest setting raise n (store.with_promised state (promised_after rooms state.promised)))
+        (sym gone_is)
         (record {
           leaf_is = came.leaf ∙ rest.leaf_is;
           free = refl;
           history = ap (leaf_history now.book.seen) came.leaf ∙ came.whole ∙ rest.history;
           promised = ap (promised_after rooms) promised_now;
           raised = record { root = raised_now.root; zone = raised_now.zone };
-          goes_by = alike state (store.with_promised state (promised_after rooms state.promised)) refl refl rest.goes_by;
+          goes_by = alike state (store.with_promised state (promised_after rooms state.promised)) refl refl
+              rest.goes_by;
         }))
 
     -- it put a row, whose buckets were raised before

@@ -36,8 +36,8 @@ HasVisited leaf tells found.Up before after = HasReadUp leaf tells before after
 HasVisited leaf tells (found.Down cut) before after = HasFoundDown leaf cut before.purse.rooms before after
 
 -- The rows of a replica in the beginning of what had been seen of the leaf were handed out, whether it is up or down
-pub record HasGathered (leaf : Leaf) (range : Range) (slot : Slot) (cut : ℕ) (rows : List Row) (before after : Knowledge)
-    : Type 0 where
+pub record HasGathered (leaf : Leaf) (range : Range) (slot : Slot) (cut : ℕ) (rows : List Row)
+    (before after : Knowledge) : Type 0 where
   pub history : List Entry
   pub rows_are : rows ≡ replica_rows range slot (take cut (leaf_history before.seen leaf))
   pub called : HasCalled leaf history [] before after

@@ -52,7 +52,8 @@ impl<N: Names> Model for LeafCell<N> {
 }
 
 impl<N: Names> LeafCell<N> {
-    /// A leaf under a lock of its own, by its state and its owner's seats, of which the one in the book has seen so far.
+    /// A leaf under a lock of its own, by its state and its owner's seats, of which the one in the book has seen so
+    /// far.
     pub fn new(
         alloc: Global,
         leaf: Leaf,
@@ -104,7 +105,8 @@ impl<N: Names> LeafCell<N> {
         row: Row,
     ) -> Found
         requires may { MayPut N.setting know.old (leaf_numbered self.now) range slot row }
-        ensures put { HasPut (leaf_numbered self.now) (entry.Put (pass_of know.old) range slot row) result know.old know.new }
+        ensures put { HasPut (leaf_numbered self.now) (entry.Put (pass_of know.old) range slot row) result know.old
+            know.new }
     {
         let (mut desk, key) = self.lock.lock(rt);
         let found = desk.put(tables, know, range, slot, row);
@@ -145,8 +147,8 @@ impl<N: Names> LeafCell<N> {
         self.lock.release(key, desk);
         found
     }
-    /// The rows of a replica in the beginning of what the caller had seen of the leaf, which are handed out. The leaf may
-    /// be down.
+    /// The rows of a replica in the beginning of what the caller had seen of the leaf, which are handed out. The leaf
+    /// may be down.
     pub fn gather<R: Wait>(
         &self,
         rt: &R,

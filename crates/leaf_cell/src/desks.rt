@@ -95,7 +95,8 @@ impl<N: Names> LeafDesk<N> {
         requires rest { IsAtRest N.setting N.raise self.old.owner.leaf.0 self.old.state self.old.owner }
         requires may { MayPut N.setting know.old self.old.owner.leaf range slot row }
         ensures rest { IsAtRest N.setting N.raise self.old.owner.leaf.0 self.new.state self.new.owner }
-        ensures put { HasPut self.old.owner.leaf (entry.Put (pass_of know.old) range slot row) result know.old know.new }
+        ensures put { HasPut self.old.owner.leaf (entry.Put (pass_of know.old) range slot row) result know.old
+            know.new }
     {
         let Some(pass) = know.number() else {
             unreachable!();

@@ -6,8 +6,8 @@ ghost use Rattle.leaf_store.specs.LeafBuckets.{key_buckets};
 use leaf_store::LeafState;
 use mon_value::OutOfMemory;
 
-/// Reads the state of a leaf that is up, and says how many rows it has for the caller. Contracts see what it asks of the
-/// buckets of each series and of the leaf's history, and what it tells of them then.
+/// Reads the state of a leaf that is up, and says how many rows it has for the caller. Contracts see what it asks of
+/// the buckets of each series and of the leaf's history, and what it tells of them then.
 pub trait LeafReader {
     ghost use Rattle.std.specs.Prelude.{ℕ, List};
     ghost use Rattle.mon_value.specs.declared.histories.Entry.{Entry};

@@ -1,5 +1,7 @@
 -- What a caller has once it came to a leaf's owner and went again.
-use Rattle.std.proofs.Common.{◌≡◌, ◌≢◌, ℕ, ◌+◌, ◌<◌, Bool, true, false, not, List, [], ◌∷◌, ◌++◌, length, map, filter, refl, sym, ap, subst, ◌∙◌}
+use Rattle.std.proofs.Common.{◌≡◌, ◌≢◌, ℕ, ◌+◌, ◌<◌, Bool, true, false, not, List, [], ◌∷◌, ◌++◌}
+use Rattle.std.proofs.Common.{inl, inr, length, map, filter, refl, sym, ap, subst, ◌∙◌}
+use Rattle.std.proofs.lemmas.Bool.{cases_eq}
 use Rattle.std.proofs.Common.{cond, Some, None}
 use Rattle.std.specs.Prelude.{Option, option_map}
 use Rattle.std.specs.List.{flat_map}
@@ -12,11 +14,13 @@ use Rattle.history_book.specs.declared.views.BookEntry.TheVariants as one
 use Rattle.history_book.specs.declared.views.Kept.{Kept}
 use Rattle.history_book.specs.Histories.{AreFronts, entries, is_about, leaf_entry_is_about, with_book_entry}
 use Rattle.history_book.specs.Seats.{HasGuestRoom, Owner, after_append, after_own_learn, guest_seat, is_own_range}
+use Rattle.history_book.specs.Seats.{kept_with}
 use Rattle.history_book.specs.Seats.{length_note, rooms_after, times_range, times_room, with_guest}
 use Rattle.history_book.proofs.ListLemmas.{added_else, added_here, prefix_push}
 use Rattle.know.specs.Knowledge.{Knowledge}
 use Rattle.know.specs.Lending.{back_with, lent_seat, without_purse}
 use Rattle.mon_topo.proofs.FrontLemmas.{begins_from}
+use Rattle.mon_topo.proofs.HeldLemmas.{leaf_same}
 use Rattle.mon_topo.specs.HeldHistories.{BeginsWith}
 use Rattle.mon_value.specs.Histories.{joined_histories, leaf_history}
 use Rattle.mon_value.specs.LeafHistories.{is_down}
@@ -33,7 +37,8 @@ use Rattle.raise_table.specs.Seats.{KnowsAsMuch, met, without_notes}
 use Rattle.raise_table.proofs.KnowsLemmas.{meet_knows_both}
 
 module _ {X : Type 0} (test : X → Bool) (all : (x : X) → test x ≡ true) where
-  kept_by : (x : X) (xs : List X) (b : Bool) → b ≡ true → filter test xs ≡ xs → cond b (x ∷ filter test xs) (filter test xs) ≡ x ∷ xs
+  kept_by : (x : X) (xs : List X) (b : Bool) → b ≡ true → filter test xs ≡ xs
+      → cond b (x ∷ filter test xs) (filter test xs) ≡ x ∷ xs
   kept_by x xs true is rest = ap (λ ys. x ∷ ys) rest
   kept_by x xs false is rest = absurd cc
 
@@ -102,7 +107,8 @@ module _ (leaf : Leaf) (know : Knowledge) (owner : Owner) (hints : Hints) (n : �
       whole = whole ∙ sym (append-nil found);
       here = λ range lent. ap (filter (leaf_entry_is_about range)) (sym whole)
           ∙ about_from_book range leaf seen know.seen (held range (of.Leaf leaf) lent);
-      elsewhere = λ range other lent apart. about_from_book range other seen know.seen (held range (of.Leaf other) lent);
+      elsewhere = λ range other lent apart.
+          about_from_book range other seen know.seen (held range (of.Leaf other) lent);
       notes = noted;
       own = mapped_same know.purse.own;
       met = refl;
@@ -131,13 +137,13 @@ module _ (leaf : Leaf) (know : Knowledge) (owner : Owner) (hints : Hints) (n : �
     by_grown P p = subst P (sym grown_is) p
 
     pushed_front : (other : Leaf) → IsPrefix (leaf_history know.seen other) (leaf_history grown other)
-    pushed_front other = elim (Rattle.std.proofs.lemmas.Bool.cases_eq other.0 leaf.0) [
-      | Rattle.std.proofs.Common.inl same ↦
+    pushed_front other = elim (cases_eq other.0 leaf.0) [
+      | inl same ↦
           subst (λ (l : Leaf). IsPrefix (leaf_history know.seen l) (leaf_history grown l))
-          (sym (Rattle.mon_topo.proofs.HeldLemmas.leaf_same other leaf same))
+          (sym (leaf_same other leaf same))
           (subst (IsPrefix (leaf_history know.seen leaf)) (sym (added_here leaf.0 e seen.leaves))
           (prefix_push (leaf_history know.seen leaf) (leaf_history seen leaf) e (fronts.0 leaf)))
-      | Rattle.std.proofs.Common.inr apart ↦
+      | inr apart ↦
           subst (IsPrefix (leaf_history know.seen other)) (sym (added_else leaf.0 other.0 e seen.leaves apart))
           (fronts.0 other)
     ]
@@ -155,7 +161,7 @@ module _ (leaf : Leaf) (know : Knowledge) (owner : Owner) (hints : Hints) (n : �
           (ap (filter (leaf_entry_is_about range)) (added_else leaf.0 other.0 e seen.leaves apart)
           ∙ about_from_book range other seen know.seen (held range (of.Leaf other) lent));
       notes = noted;
-      own = ap (λ h. option_map (Rattle.history_book.specs.Seats.kept_with h (one.Leaf e)) know.purse.own) is;
+      own = ap (λ h. option_map (kept_with h (one.Leaf e)) know.purse.own) is;
       met = refl;
       stock = refl;
       lost = refl;
@@ -196,12 +202,13 @@ module _ (know : Knowledge) (owner now : LeafView) (cut : ℕ) (came : HasReceiv
       → HasGone leaf (leaf_history owner.book.seen leaf) [] rooms know gone
   goes rooms alone gone left_is gone_is =
       subst (HasGone leaf (leaf_history owner.book.seen leaf) [] rooms know)
-      (sym (gone_is ∙ (λ i. back_with (without_notes now.hints.hints) (guest_seat rooms false (came.book i)) (left_is i))))
+      (sym (gone_is ∙ (λ i. back_with (without_notes now.hints.hints) (guest_seat rooms false (came.book i))
+      (left_is i))))
       (record {
         called = called leaf know owner.book (without_notes now.hints.hints) cut came.own fronts_is whole_is held_is
             (sym came.counted) refl rooms;
-        rooms_are = rooms_are leaf know owner.book (without_notes now.hints.hints) cut came.own fronts_is whole_is held_is
-            (sym came.counted) refl rooms;
+        rooms_are = rooms_are leaf know owner.book (without_notes now.hints.hints) cut came.own fronts_is whole_is
+            held_is (sym came.counted) refl rooms;
         handed = refl;
       })
 

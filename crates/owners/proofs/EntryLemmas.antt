@@ -1,5 +1,6 @@
 -- What an entry of a leaf may be, by what the holder of its range has seen, and that histories stay sound with it.
-use Rattle.std.proofs.Common.{◌≡◌, ℕ, zero, suc, ◌+◌, ◌<◌, Bool, true, false, List, [], ◌∷◌, ◌++◌, length, map, filter, set, get_or}
+use Rattle.std.proofs.Common.{◌≡◌, ℕ, zero, suc, ◌+◌, ◌<◌, Bool, true, false, List, [], ◌∷◌, ◌++◌}
+use Rattle.std.proofs.Common.{length, map, filter, set, get_or}
 use Rattle.std.proofs.Common.{refl, sym, ap, subst, ◌∙◌, arith, cond}
 use Rattle.std.specs.Prelude.{◌&&◌, ◌||◌, nat_eq}
 use Rattle.std.specs.List.{flat_map}
@@ -74,7 +75,8 @@ pub range_pushed : (r : Range) (e : RangeEntry) (seen : Histories)
 range_pushed r e seen = added_here r.0 e seen.ranges
 
 pub range_sight_with : (r : Range) (e : RangeEntry) (seen : Histories) → r.0 < length seen.ranges
-    → with_range_sight r (range_sight (range_history (with_book_entry (of.Range r) (one.Range e) seen) r)) (sight_of seen)
+    → with_range_sight r (range_sight (range_history (with_book_entry (of.Range r) (one.Range e) seen) r))
+    (sight_of seen)
     ≡ sight_of (with_book_entry (of.Range r) (one.Range e) seen)
 range_sight_with r e seen there =
     ap (λ h. with_range_sight r (range_sight h) (sight_of seen)) (range_pushed r e seen)
@@ -106,7 +108,8 @@ filter-map range (e ∷ h) = filtered_by range e h (leaf_entry_is_about range e)
 -- what was seen of all entries about a range says all of that range
 pub about_from_book : (range : Range) (l : Leaf) (mine theirs : Histories)
     → filter (is_about range) (entries mine (of.Leaf l)) ≡ filter (is_about range) (entries theirs (of.Leaf l))
-    → filter (leaf_entry_is_about range) (leaf_history mine l) ≡ filter (leaf_entry_is_about range) (leaf_history theirs l)
+    → filter (leaf_entry_is_about range) (leaf_history mine l)
+    ≡ filter (leaf_entry_is_about range) (leaf_history theirs l)
 about_from_book range l mine theirs e =
     let one_way : map (λ x. one.Leaf x) (filter (leaf_entry_is_about range) (leaf_history mine l))
     ≡ map (λ x. one.Leaf x) (filter (leaf_entry_is_about range) (leaf_history theirs l)) =
@@ -212,8 +215,10 @@ module _ (setting : Setting) (hints : Hints) (seen : Histories) (l : Leaf) (e : 
         (record {
           held = leaf_entry_held seen l e here setting.held setting.zones setting.points sound.held may home;
           covered = λ o. leaf_entry_by seen l e here
-              (λ x xs. Covers (known_bits setting hints) (zone_of_leaf setting x) x (history_buckets setting.buckets_of xs)) o
-              (covers-push (known_bits setting hints) (zone_of_leaf setting l) l setting.buckets_of (leaf_history seen l) e
+              (λ x xs. Covers (known_bits setting hints) (zone_of_leaf setting x) x
+              (history_buckets setting.buckets_of xs)) o
+              (covers-push (known_bits setting hints) (zone_of_leaf setting l) l setting.buckets_of
+              (leaf_history seen l) e
               (sound.covered l) lead)
               (sound.covered o);
         })

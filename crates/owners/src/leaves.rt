@@ -77,8 +77,8 @@ impl<N: Names> LeafOwner<N> {
         ensures whole { entries self.new.book.seen self.old.book.history
             ≡ entries self.old.book.seen self.old.book.history }
         ensures fronts { AreFronts know.old.seen self.new.book.seen }
-        ensures held { (range : a_range.Range) (history : a_history.History) → 0 < times_range range know.old.purse.holds
-            → filter (is_about range) (entries self.new.book.seen history)
+        ensures held { (range : a_range.Range) (history : a_history.History)
+            → 0 < times_range range know.old.purse.holds → filter (is_about range) (entries self.new.book.seen history)
             ≡ filter (is_about range) (entries know.old.seen history) }
         ensures promised { times_room self.old.leaf know.old.purse.rooms ≤ self.new.book.promised }
     {
@@ -149,7 +149,8 @@ impl<N: Names> LeafOwner<N> {
         requires home { AreAtHome N.setting.held N.setting.zones entry.now }
         requires leads { LeadsOn N.setting self.old.hints.hints self.old.leaf
             (leaf_history self.old.book.seen self.old.leaf) entry.now }
-        requires number { (hand_of (guest_purse self.old.book.guest)).own ≡ Some (book_entry_pass (one.Leaf entry.now)) }
+        requires number { (hand_of (guest_purse self.old.book.guest)).own
+            ≡ Some (book_entry_pass (one.Leaf entry.now)) }
         requires held { (range : a_range.Range) → IsTrue (is_about range (one.Leaf entry.now))
             → 0 < times_range range (self.old.book.held ++ (guest_purse self.old.book.guest).holds) }
         ensures appended { self.new.book ≡ after_append (one.Leaf entry.now) self.old.book }

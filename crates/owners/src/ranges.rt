@@ -1,9 +1,9 @@
 // The owner of a range's history.
-ghost use Rattle.std.specs.Prelude.{◌≡◌, ◌<◌, ◌^◌, ◌+◌, ◌++◌, length, filter, true, false, Some, None, IsTrue};
+ghost use Rattle.std.specs.Prelude.{◌≡◌, ◌<◌, ◌^◌, ◌+◌, length, filter, Some, None, IsTrue};
 ghost use Rattle.history_book.specs.declared.rooms.RoomMove.TheVariants as the_move;
 ghost use Rattle.history_book.specs.declared.views.History as a_history;
 ghost use Rattle.history_book.specs.declared.views.History.TheVariants as of;
-ghost use Rattle.history_book.specs.Histories.{AreFronts, IsFor, book_entry_pass, entries, is_about, with_book_entry};
+ghost use Rattle.history_book.specs.Histories.{AreFronts, book_entry_pass, entries, is_about, with_book_entry};
 ghost use Rattle.history_book.specs.Seats.{HoldsOwn, after_append, after_own_learn, after_parting, guest_purse};
 ghost use Rattle.history_book.specs.Seats.{guest_seat, hand_of, times_range, with_guest};
 ghost use Rattle.mon_value.specs.declared.positions.Range as a_range;
@@ -70,13 +70,14 @@ impl<N: Names> RangeOwner<N> {
         ensures hints { self.new.hints ≡ met self.old.hints (without_notes know.old.hints) }
         ensures range { self.new.range ≡ self.old.range }
         ensures left { know.new ≡ without_purse know.old }
-        ensures whole { entries self.new.book.seen self.old.book.history ≡ entries self.old.book.seen self.old.book.history }
+        ensures whole { entries self.new.book.seen self.old.book.history
+            ≡ entries self.old.book.seen self.old.book.history }
         ensures fronts { AreFronts know.old.seen self.new.book.seen }
         ensures kept { (range : a_range.Range) (history : a_history.History) → 0 < times_range range self.old.book.held
             → filter (is_about range) (entries self.new.book.seen history)
             ≡ filter (is_about range) (entries self.old.book.seen history) }
-        ensures held { (range : a_range.Range) (history : a_history.History) → 0 < times_range range know.old.purse.holds
-            → filter (is_about range) (entries self.new.book.seen history)
+        ensures held { (range : a_range.Range) (history : a_history.History)
+            → 0 < times_range range know.old.purse.holds → filter (is_about range) (entries self.new.book.seen history)
             ≡ filter (is_about range) (entries know.old.seen history) }
     {
         let (hints, book) = know.lend(tables);
@@ -93,6 +94,7 @@ impl<N: Names> RangeOwner<N> {
         ensures range { self.new.range ≡ self.old.range }
         ensures know { know.new ≡ back_with (without_notes self.old.hints)
             (guest_seat the_move.Keep hold self.old.book) know.old }
+        ensures sound { IsSound N.setting know.new.hints know.new.seen }
     {
         let hints = tables.raise.split(&mut self.hints);
         let book = tables

@@ -1,7 +1,7 @@
 use Rattle.std.proofs.Common.{◌≡◌, ◌<◌, ◌≤◌, ℕ, true, false, Some, [], ◌∷◌, ◌++◌, rules, arith, sym, ap, subst, ◌∙◌}
 use Rattle.history_book.specs.declared.rooms.RoomMove.TheVariants as move
 use Rattle.history_book.specs.declared.views.BookEntry.TheVariants as one
-use Rattle.history_book.specs.Seats.{HasGuestRoom, Owner, after_append, guest_purse, hand_of, times_range}
+use Rattle.history_book.specs.Seats.{HasGuestRoom, Owner, after_append, guest_purse, hand_of, times_range, without_one}
 use Rattle.leaf_cell.proofs.PutLemmas.{brings_unraised, holds_among}
 use Rattle.leaf_cell.proofs.RestLemmas.{rests_gone, rests_with_put}
 use Rattle.leaf_cell.specs.Raising.{HasRaisedRow}
@@ -19,6 +19,7 @@ use Rattle.owners.proofs.EntryLemmas.{may_put}
 use Rattle.owners.specs.Calls.{HasFoundUp}
 use Rattle.owners.specs.Owners as owners
 use Rattle.owners.specs.Puts.{pass_of}
+use Rattle.owners.specs.Receiving.{parted}
 use Rattle.leaf_cell.proofs.desks.LeafDesk.put.Goals as goal
 
 -- ---- the leaf is down
@@ -134,7 +135,7 @@ returns-clause-rest g c =
     c.receive-length.result c.requires.rest came c.in-Some.pass c.args.range c.args.slot c.args.row known raised
     c.enter.new.self.state c.part-2.new.self
     (c.enter.ensures.state ∙ ap (λ (s : store.LeafView). store.leaf_with_entry s e) c.raise_row.ensures.state)
-    (c.part-2.ensures.parted ∙ ap (Rattle.owners.specs.Receiving.parted move.TakeBack) then_owner)
+    (c.part-2.ensures.parted ∙ ap (parted move.TakeBack) then_owner)
 
 pub returns-clause-put : goal.returns-clause-put
 returns-clause-put g c =
@@ -145,7 +146,7 @@ returns-clause-put g c =
     let mine = c.requires.may.number in
     let same : c.in-Some.pass ≡ pass_of know = cc in
     subst (λ (pass : ℕ). HasFoundUp owner.leaf (entry.Put pass c.args.range c.args.slot c.args.row ∷ [])
-    (Rattle.history_book.specs.Seats.without_one owner.leaf know.purse.rooms) know c.part-2.new.know) same
+    (without_one owner.leaf know.purse.rooms) know c.part-2.new.know) same
     (finds_up owner.leaf (leaf_history owner.book.seen owner.leaf) (e ∷ []) move.TakeBack know c.part-2.new.know
     (goes_with know owner c.receive-length.new.self c.receive-length.result c.receive-length.ensures.received
     move.TakeBack e c.enter.new.self.owner.hints.hints c.enter.new.self.owner.book c.receive-length.new.know

@@ -1,8 +1,8 @@
-use Rattle.std.proofs.Common.{◌≡◌, ◌≤◌, ℕ, length, sym, ap, subst, ◌∙◌}
+use Rattle.std.proofs.Common.{◌≡◌, ◌≤◌, ℕ, filter, length, sym, ap, subst, ◌∙◌}
 use Rattle.std.proofs.lemmas.List.{length-map}
 use Rattle.history_book.specs.declared.views.BookEntry.TheVariants as one
 use Rattle.history_book.specs.declared.views.History.TheVariants as of
-use Rattle.history_book.specs.Histories.{AreFronts, entries}
+use Rattle.history_book.specs.Histories.{AreFronts, entries, is_about}
 use Rattle.history_book.specs.Seats.{Owner, after_own_learn, times_room}
 use Rattle.mon_value.specs.Histories.{leaf_history}
 use Rattle.mon_value.specs.declared.histories.Entry.{Entry}
@@ -34,8 +34,8 @@ returns-clause-received g c =
       counted = sym (c.learn.ensures.exact ∙ ap (λ h. length (entries seen h)) met_own
           ∙ length-map (leaf_history seen leaf) (λ (e : Entry). one.Leaf e) ∙ ap length whole);
       fronts = subst (AreFronts know.seen) (sym same_seen) c.meet.ensures.fronts;
-      held = λ range history has. ap (λ (s : Histories). Rattle.std.specs.Prelude.filter
-          (Rattle.history_book.specs.Histories.is_about range) (entries s history)) same_seen
+      held = λ range history has. ap (λ (s : Histories). filter
+          (is_about range) (entries s history)) same_seen
           ∙ c.meet.ensures.held range history has;
       promised = subst (λ (n : ℕ). times_room leaf know.purse.rooms ≤ n)
           (ap (λ (o : Owner). o.promised) c.meet.ensures.book) c.meet.ensures.promised;

@@ -30,7 +30,8 @@ invariant_of-self g c =
     (sym c.self.view_is) c.requires.sight in (
       c.note_range.ensures.noted
           ∙ (λ i. with_range_sight range (told i) (c.self.invariant.0 i))
-          ∙ ap (λ x. with_range_sight range (range_sight (range_history (with_book_entry (of.Range range) x seen) range))
+          ∙ ap (λ x. with_range_sight range
+          (range_sight (range_history (with_book_entry (of.Range range) x seen) range))
           (sight_of seen)) one_is.1
           ∙ range_sight_with range one_is.0 seen here
           ∙ ap (λ x. sight_of (with_book_entry (of.Range range) x seen)) (sym one_is.1)
