@@ -16,9 +16,31 @@ pub(crate) fn write_answer(text: &mut String, alloc: Global, given: &str) -> Don
         return Err(Trouble::Misspelled);
     };
     let texts = words_of(alloc, letters, number_in(most_letters)?)?;
+    let done = write_over(text, alloc, letters, most_signs, texts.as_slice());
+    drop(texts);
+    done
+}
+
+// Adds what comes of all patterns of so many signs on texts.
+fn write_over(
+    text: &mut String,
+    alloc: Global,
+    letters: &str,
+    most_signs: &str,
+    texts: &[String],
+) -> Done {
+    let patterns = patterns_over(alloc, letters, number_in(most_signs)?)?;
+    let done = write_pairs(text, alloc, patterns.as_slice(), texts);
+    drop(patterns);
+    done
+}
+
+// All patterns of at most so many signs: the letters, and a dot for `.*`.
+fn patterns_over(alloc: Global, letters: &str, most: u32) -> Result<Vec<String>, AllocError> {
     let signs = format!(in alloc; "{letters}.")?;
-    let patterns = words_of(alloc, signs.as_str(), number_in(most_signs)?)?;
-    write_pairs(text, alloc, patterns.as_slice(), texts.as_slice())
+    let patterns = words_of(alloc, signs.as_str(), most);
+    drop(signs);
+    patterns
 }
 
 fn write_pairs(text: &mut String, alloc: Global, patterns: &[String], texts: &[String]) -> Done {

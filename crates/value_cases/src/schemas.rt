@@ -20,14 +20,38 @@ pub(crate) fn write_answer(
     given: &str,
 ) -> Done {
     let line = text_of(alloc, given)?;
-    let (word, rest) = first_word(line.as_str());
+    let done = write_line(text, alloc, schemas, line.as_str());
+    drop(line);
+    done
+}
+
+fn write_line(text: &mut String, alloc: Global, schemas: &mut Schemas, line: &str) -> Done {
+    let (word, rest) = first_word(line);
     match word {
-        "target" => write_added(text, schemas.add_target(target_schema(alloc, rest)?)),
-        "metric" => write_added(text, schemas.add_metric(metric_schema(alloc, rest)?)),
+        "target" => add_target(text, alloc, schemas, rest),
+        "metric" => add_metric(text, alloc, schemas, rest),
         "find" => write_found(text, schemas, rest),
-        "row" => write_if(text, schemas.fits(&row_of(alloc, rest)?), "fits"),
+        "row" => write_fits(text, alloc, schemas, rest),
         _ => Err(Trouble::Misspelled),
     }
+}
+
+fn add_target(text: &mut String, alloc: Global, schemas: &mut Schemas, words: &str) -> Done {
+    let schema = target_schema(alloc, words)?;
+    write_added(text, schemas.add_target(schema))
+}
+
+fn add_metric(text: &mut String, alloc: Global, schemas: &mut Schemas, words: &str) -> Done {
+    let schema = metric_schema(alloc, words)?;
+    write_added(text, schemas.add_metric(schema))
+}
+
+// Whether a row fits.
+fn write_fits(text: &mut String, alloc: Global, schemas: &Schemas, words: &str) -> Done {
+    let row = row_of(alloc, words)?;
+    let fits = schemas.fits(&row);
+    drop(row);
+    write_if(text, fits, "fits")
 }
 
 // Whether a schema is found.
