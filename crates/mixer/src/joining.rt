@@ -123,9 +123,28 @@ fn with_groups(alloc: Global, groups: Parts, other: Piece) -> Result<Parts, OutO
     requires can { CanJoin (piece.Groups groups) other }
     ensures joined { IfOk result (λ joined. piece.Groups joined ≡ piece_joined (piece.Groups groups) other) }
 {
-    let mut groups = groups;
-    if let Piece::Groups(more) = other {
-        merge_parts(alloc, &mut groups, &more)?;
+    match other {
+        Piece::Groups(more) => merged_groups(alloc, groups, more),
+        Piece::Table(table) => {
+            drop(table);
+            Ok(groups)
+        }
     }
-    Ok(groups)
+}
+
+fn merged_groups(alloc: Global, groups: Parts, more: Parts) -> Result<Parts, OutOfMemory>
+    requires can { CanJoin (piece.Groups groups) (piece.Groups more) }
+    ensures joined { IfOk result (λ joined.
+        piece.Groups joined ≡ piece_joined (piece.Groups groups) (piece.Groups more)) }
+{
+    let mut groups = groups;
+    let merged = merge_parts(alloc, &mut groups, &more);
+    drop(more);
+    match merged {
+        Ok(()) => Ok(groups),
+        Err(stop) => {
+            drop(groups);
+            Err(stop)
+        }
+    }
 }

@@ -1,6 +1,6 @@
 -- Answers that are mixed: those of a zone's leaves make that of the zone, which goes behind those of the zones before
 -- it.
-use Rattle.std.proofs.Common.{◌≡◌, ℕ, ℤ, Bool, true, false, List, [], ◌∷◌, ◌++◌, cond, drop, sym, ap, ◌∙◌, subst}
+use Rattle.std.proofs.Common.{◌≡◌, ℕ, ℤ, Bool, true, false, List, [], ◌∷◌, ◌++◌, cond, drop, sym, subst}
 use Rattle.std.proofs.Common.{Result, Ok, Err, IfOk}
 use Rattle.std.specs.List.{AllByRecursion}
 use Rattle.mixer.specs.Divisions.{AreApart, ShareNoTarget, all_rows, together}
@@ -15,9 +15,6 @@ use Rattle.mon_value.specs.declared.rows.Row.{Row}
 use Rattle.mon_meaning.specs.Central.{IsAnswer}
 use Rattle.mon_value.specs.declared.tables.Table.{Table}
 use Rattle.mon_schema.specs.Fits.{fits}
-use Rattle.mql_types.specs.Explanations.{op_levels}
-use Rattle.mql_types.specs.declared.explanations.OpLevel.{OpLevel}
-use Rattle.query_core.specs.declared.answers.Trace.{Trace}
 use Rattle.mql_types.specs.Nodes.{TypedTree, typed_tree}
 use Rattle.mql_types.specs.declared.plans.Plan.{Plan}
 use Rattle.query_core.specs.declared.areas.Area.{Area}
@@ -26,7 +23,7 @@ use Rattle.query_core.specs.declared.stages.Stage.{Stage}
 use Rattle.query_core.specs.declared.stages.Stage.TheVariants as at
 use Rattle.query_core.specs.declared.stages.Turn.{Turn}
 use Rattle.query_core.specs.declared.stages.Turn.TheVariants as turn
-use Rattle.query_core.specs.Courses.{with_next_zone, is_entered, with_zone_answer, left, trace_of}
+use Rattle.query_core.specs.Courses.{with_next_zone, is_entered, with_zone_answer, left}
 use Rattle.query_core.specs.Loadings.{no_word}
 use Rattle.query_core.specs.Mixtures.{HasParts, IsRootMixed, IsZoneMixed, MayMixRoot, TurnSettles, root_stage, typed_of}
 use Rattle.query_core.specs.Program.{next_zone, stopped_stage}
@@ -253,13 +250,13 @@ module _ (setting : QuerySetting) (plan : Plan) (limit : ℕ) (same_plan : plan 
 
   -- ---- results
 
-  pub ended_so : (course : Course) (table : Table) (trace : Trace) (levels : List OpLevel)
-      → trace ≡ trace_of course → levels ≡ op_levels (typed_tree plan.typed)
-      → at.Ended (Ok (record { table = table; trace = trace; levels = levels })) ≡ root_stage setting course (Ok table)
-  ended_so course table trace levels same_trace same_levels =
-      ap (λ (t : Trace). at.Ended (Ok (record { table = table; trace = t; levels = levels }))) same_trace
-      ∙ ap (λ (l : List OpLevel). at.Ended (Ok (record { table = table; trace = trace_of course; levels = l })))
-      (same_levels ∙ ap (λ (p : Plan). op_levels (typed_tree p.typed)) same_plan)
+  pub root_ends : {E : Type 0} (course : Course) (answers : List ZoneAnswer) (result : Result Table (Refusal OverLimit))
+      (table : Table) (ended : Result Stage E) → answers ≡ course.answers → result ≡ Ok table
+      → MixesZones (typed_tree plan.typed) limit answers result
+      → IfOk ended (λ stage. stage ≡ root_stage setting course (Ok table)) → IfOk ended (IsRootMixed setting course)
+  root_ends course answers result table (Ok stage) same is mixes ends =
+      root_is_mixed course answers result table stage same is mixes ends
+  root_ends course answers result table (Err why) same is mixes ends = record {}
 
   pub root_stops : {E : Type 0} (course : Course) (answers : List ZoneAnswer)
       (result : Result Table (Refusal OverLimit))

@@ -1,5 +1,5 @@
 // Answers that are mixed: those of a zone's leaves, and those of all zones.
-ghost use Rattle.std.specs.Prelude.{IfOk};
+ghost use Rattle.std.specs.Prelude.{◌≡◌, IfOk, Ok};
 ghost use Rattle.mixer.specs.ZoneAnswers.{HasZoneParts};
 ghost use Rattle.mql_types.specs.Nodes.{typed_tree};
 ghost use Rattle.query_core.specs.Mixtures as spec;
@@ -11,7 +11,7 @@ use crate::settings::QuerySetting;
 use crate::stages::{Stage, Step, Turn, next_zone, stopped};
 use mixer::{ZoneAnswers, mix_root, mix_zone};
 use mon_fold::LeafAnswers;
-use mon_value::{OutOfMemory, Refusal};
+use mon_value::{OutOfMemory, Refusal, Table};
 use mql_types::op_levels;
 use std::alloc::AllocError;
 use std::mem;
@@ -87,15 +87,35 @@ fn mixed_root(setting: &QuerySetting, course: Course) -> Result<Stage, OutOfMemo
     let mut course = course;
     let answers = mem::replace(&mut course.answers, ZoneAnswers::new(alloc));
     match mix_root(alloc, setting.plan(), answers, setting.limit()) {
-        Ok(table) => Ok(Stage::Ended(Ok(Answer {
-            table,
-            trace: course.into_trace(alloc)?,
-            levels: op_levels(alloc, &setting.plan().typed)?,
-        }))),
+        Ok(table) => answered(setting, course, table),
         Err(Refusal::Fault(_over)) => stopped(setting, course),
         Err(Refusal::OutOfMemory) => {
             drop(course);
             Err(AllocError)
+        }
+    }
+}
+
+// The end of a query with its table.
+fn answered(setting: &QuerySetting, course: Course, table: Table) -> Result<Stage, OutOfMemory>
+    ensures stage { IfOk result (λ stage. stage ≡ spec.root_stage setting.now course (Ok table)) }
+{
+    match course.into_trace(setting.alloc()) {
+        Ok(trace) => match op_levels(setting.alloc(), &setting.plan().typed) {
+            Ok(levels) => Ok(Stage::Ended(Ok(Answer {
+                table,
+                trace,
+                levels,
+            }))),
+            Err(stop) => {
+                drop(trace);
+                drop(table);
+                Err(stop)
+            }
+        },
+        Err(stop) => {
+            drop(table);
+            Err(stop)
         }
     }
 }
