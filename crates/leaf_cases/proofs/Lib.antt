@@ -1,6 +1,1 @@
-mod AmongLemmas
-mod DivisionLemmas
-mod PartLemmas
-mod PlaceLemmas
-mod ReadingLemmas
 mod SessionLemmas

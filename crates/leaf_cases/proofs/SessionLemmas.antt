@@ -38,12 +38,12 @@ use Rattle.query_core.specs.Settings.{QuerySetting}
 use Rattle.query_core.specs.Visits as visit
 use Rattle.query_core.specs.Visits.{Visits, gone_on, with_look, next_leaf}
 use Rattle.mql_types.specs.Soundness.{IsQueryType}
-use Rattle.leaf_cases.specs.declared.askings.Asked.{Asked}
-use Rattle.leaf_cases.specs.Readings.{Among, AreReads, IsInBounds, ShareNoPlace, leaves_of}
+use Rattle.case_readings.specs.declared.askings.Asked.{Asked}
+use Rattle.case_readings.specs.Readings.{Among, AreReads, IsInBounds, ShareNoPlace, leaves_of}
 use Rattle.leaf_cases.specs.Sessions.{AreLeavesOf, AreZonesOf, IsGoingSo, IsPlain, IsRead, IsToldOver, StageIsOf}
-use Rattle.leaf_cases.proofs.AmongLemmas.{all_last, apart_last, front_among, last_passed, last_taken, none_among}
-use Rattle.leaf_cases.proofs.PartLemmas.{leaf_parts_more, zone_parts_more}
-use Rattle.leaf_cases.proofs.ReadingLemmas.{divided_of, leaves_share_none, leaves_typed}
+use Rattle.case_readings.proofs.AmongLemmas.{all_last, apart_last, front_among, last_passed, last_taken, none_among}
+use Rattle.case_readings.proofs.PartLemmas.{leaf_parts_more, zone_parts_more}
+use Rattle.case_readings.proofs.ReadingLemmas.{divided_of, leaves_share_none, leaves_typed}
 
 -- ---- zones more
 

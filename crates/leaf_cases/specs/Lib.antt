@@ -1,3 +1,1 @@
-pub mod Divisions
-pub mod Readings
 pub mod Sessions

@@ -16,8 +16,8 @@ use Rattle.query_core.specs.Machine.{Query}
 use Rattle.query_core.specs.Mixtures.{typed_of}
 use Rattle.query_core.specs.Settings.{QuerySetting}
 use Rattle.mql_types.specs.Soundness.{IsQueryType}
-use Rattle.leaf_cases.specs.declared.askings.Asked.{Asked}
-use Rattle.leaf_cases.specs.Readings.{Among, AreReads, IsInBounds, IsReading, ShareNoPlace, leaves_of}
+use Rattle.case_readings.specs.declared.askings.Asked.{Asked}
+use Rattle.case_readings.specs.Readings.{Among, AreReads, IsInBounds, IsReading, ShareNoPlace, leaves_of}
 
 -- ---- what a query is told
 

@@ -1,5 +1,5 @@
 // The calls of leaves and machines.
-use crate::{divided, leaf_growth, leaf_states, sessions, writes};
+use crate::{leaf_growth, leaf_states, sessions, writes};
 use case_queries::CaseSetting;
 use case_tables::{Calls, Done, Standing, Trouble};
 use std::alloc::Global;
@@ -10,7 +10,6 @@ const ALONE: &str = "write_core::WriteMachine";
 const UNDER_FILES: &[&str] = &[
     "leaf_store::LeafState",
     "leaf_store::LeafState of many puts",
-    "mon_meaning::central divided",
     "query_core::QueryMachine",
 ];
 
@@ -52,7 +51,6 @@ fn write_answer(text: &mut String, setting: &CaseSetting, call: &str, given: &st
     match call {
         "leaf_store::LeafState" => leaf_states::write_answer(text, setting, given),
         "leaf_store::LeafState of many puts" => leaf_growth::write_answer(text, setting, given),
-        "mon_meaning::central divided" => divided::write_answer(text, setting, given),
         "query_core::QueryMachine" => sessions::write_answer(text, setting, given),
         "write_core::WriteMachine" => writes::write_answer(text, setting.alloc, given),
         _ => Err(Trouble::Misspelled),

@@ -4,8 +4,8 @@ ghost use Rattle.mon_value.specs.LeafHistories.{IsWellFormed, MayFollow, brought
 ghost use Rattle.mon_value.specs.Sources.{IsSource};
 
 use crate::rows::{add_fields, add_names, add_row};
-use crate::sources::{is_source, rows_of};
 use case_queries::CaseSetting;
+use case_readings::{is_source, rows_of};
 use case_tables::{Done, Trouble, first_word, number_in, put};
 use leaf_store::{Entry, LeafState, SlotRows};
 use mon_series::KeptPoint;

@@ -3,14 +3,12 @@ ghost use Rattle.std.specs.Prelude.{◌≡◌, ◌++◌, ◌∷◌, [], IfOk, On
 ghost use Rattle.std.specs.List.{AllByRecursion};
 ghost use Rattle.mql_types.specs.Nodes.{typed_tree};
 ghost use Rattle.mql_types.specs.Soundness.{IsQueryType};
-ghost use Rattle.leaf_cases.specs.Readings.{IsInBounds, IsReading, ShareNoPlace};
+ghost use Rattle.case_readings.specs.Readings.{IsInBounds, IsReading, ShareNoPlace};
 ghost use Rattle.leaf_cases.specs.Sessions.{IsQueryGoing, IsRead, IsToldOver};
 
 use crate::apartness::lie_apart;
-use crate::askings::Asked;
-use crate::leaf_answers::leaf_answer;
-use crate::sources::{is_source, rows_of};
 use case_queries::CaseSetting;
+use case_readings::{Asked, is_source, leaf_answer, rows_of};
 use case_tables::{Done, Trouble, first_word, number_in};
 use mon_schema::Schemas;
 use mon_value::{ListOf, Refusal, RowList};

@@ -2,14 +2,14 @@
 ghost use Rattle.std.specs.Prelude.{◌≡◌, [], IfOk, OnOk};
 ghost use Rattle.query_core.specs.Program.{ask_of};
 ghost use Rattle.query_core.specs.declared.asks.Ask.TheVariants.{Finished};
-ghost use Rattle.leaf_cases.specs.Readings.{IsInBounds};
+ghost use Rattle.case_readings.specs.Readings.{IsInBounds};
 ghost use Rattle.leaf_cases.specs.Sessions.{IsQueryGoing, IsPlain};
 
-use crate::askings::{Asked, asked_of};
 use crate::session_reads::{Reads, take_read};
 use crate::session_texts::{add_ask, add_end};
 use crate::writes::replica_of;
 use case_queries::{CaseSetting, plan_of};
+use case_readings::{Asked, asked_of};
 use case_tables::{Done, Trouble, first_word, number_in, put};
 use mon_value::Range;
 use query_core::{Ask, Cuts, QueryMachine, Resolved, Resolveds, Seen, Told};

@@ -1,7 +1,7 @@
 -- it holds of all where it holds of those behind the loop
 use Rattle.std.proofs.Common.{drop}
 use Rattle.std.specs.List.{AllByRecursion}
-use Rattle.leaf_cases.specs.Readings.{ShareNoPlace}
+use Rattle.case_readings.specs.Readings.{ShareNoPlace}
 use Rattle.leaf_cases.proofs.apartness.lie_apart.Given as goal
 
 abbrev pub invariant-loop-some : goal.invariant-loop-some

@@ -1,0 +1,4 @@
+pub mod AmongLemmas
+pub mod PartLemmas
+mod PlaceLemmas
+pub mod ReadingLemmas
