@@ -1,9 +1,10 @@
 -- What a caller has to whom rows were handed out.
 use Rattle.std.proofs.Common.{◌≡◌, ℕ, ◌+◌, ◌≤◌, false, List, [], length, take, sym, ap, subst, ◌∙◌}
+use Rattle.std.proofs.Math.Seq.{take-length}
 use Rattle.std.proofs.lemmas.List.{take-append-le}
 use Rattle.history_book.specs.declared.rooms.RoomMove.TheVariants as move
 use Rattle.know.specs.Knowledge.{Knowledge, after_handing, stopped_count}
-use Rattle.leaf_cell.specs.Visits.{HasGathered, HasReadUp}
+use Rattle.leaf_cell.specs.Visits.{HasCopiedUp, HasGathered, HasReadUp}
 use Rattle.mon_topo.proofs.FrontLemmas.{begins_to}
 use Rattle.mon_topo.specs.HeldHistories.{BeginsWith}
 use Rattle.mon_value.specs.Histories.{leaf_history}
@@ -67,6 +68,20 @@ gathers leaf history range slot cut rows before mid after gone is rows_are withi
   history = history;
   rows_are = rows_are ∙ ap (replica_rows range slot)
       (front_take cut history (leaf_history before.seen leaf) gone.called.front within);
+  called = called_handed leaf history (length rows) before mid after gone is;
+  rooms_are = rooms_handed leaf history (length rows) before mid after gone is;
+  handed = count_handed leaf history (length rows) before mid after gone is;
+}
+
+pub copies : (leaf : Leaf) (history : List Entry) (range : Range) (slot : Slot) (cut : ℕ) (rows : List Row)
+    (before mid after : Knowledge) → HasGone leaf history [] move.Keep before mid
+    → after ≡ after_handing (length rows) mid → rows ≡ replica_rows range slot (take cut history)
+    → length history ≡ cut → is_down history ≡ false → HasCopiedUp leaf range slot rows before after
+copies leaf history range slot cut rows before mid after gone is rows_are counted up = record {
+  history = history;
+  up = up;
+  rows_are = rows_are ∙ ap (replica_rows range slot)
+      (ap (λ n. take n history) (sym counted) ∙ take-length history);
   called = called_handed leaf history (length rows) before mid after gone is;
   rooms_are = rooms_handed leaf history (length rows) before mid after gone is;
   handed = count_handed leaf history (length rows) before mid after gone is;

@@ -4,7 +4,7 @@ ghost use Rattle.history_book.specs.Seats.{times_room, without_one};
 ghost use Rattle.know.specs.Knowledge.{Knowledge};
 ghost use Rattle.know.specs.Sound.{IsSound};
 ghost use Rattle.leaf_cell.specs.Rest.{IsAtRest};
-ghost use Rattle.leaf_cell.specs.Visits.{HasGathered, HasVisited};
+ghost use Rattle.leaf_cell.specs.Visits.{HasCopied, HasGathered, HasVisited};
 ghost use Rattle.mon_topo.specs.Sights.{sight_of};
 ghost use Rattle.mon_value.specs.LeafHistories.{is_opened};
 ghost use Rattle.mon_value.specs.Histories.{leaf_history};
@@ -17,7 +17,7 @@ ghost use Rattle.owners.specs.Puts.{MayPut, pass_of};
 use crate::desks::LeafDesk;
 use crate::readers::LeafReader;
 use history_book::BookOwner;
-use know::{Found, Know, Names, Tables};
+use know::{Copied, Found, Know, Names, Tables};
 use leaf_store::LeafState;
 use mon_topo::Sight;
 use mon_value::{Leaf, OutOfMemory, Range, Row, RowList, Slot};
@@ -147,6 +147,26 @@ impl<N: Names> LeafCell<N> {
         self.lock.release(key, desk);
         found
     }
+    /// The rows of a replica in the whole history of the leaf, where it is up. They are handed out.
+    pub fn copy<R: Wait>(
+        &self,
+        rt: &R,
+        tables: &Tables<N>,
+        know: &mut Know<N>,
+        range: Range,
+        slot: Slot,
+    ) -> Result<Copied, OutOfMemory>
+        ensures copied { IfOk result (λ copied.
+            HasCopied (leaf_numbered self.now) range slot copied know.old know.new) }
+        ensures refused { OnErr result
+            (HasLooked (leaf_numbered self.now) know.old.purse.rooms know.old know.new) }
+    {
+        let (mut desk, key) = self.lock.lock(rt);
+        let copied = desk.copy(tables, know, range, slot);
+        self.lock.release(key, desk);
+        copied
+    }
+
     /// The rows of a replica in the beginning of what the caller had seen of the leaf, which are handed out. The leaf
     /// may be down.
     pub fn gather<R: Wait>(

@@ -8,7 +8,7 @@ ghost use Rattle.know.specs.Knowledge.{Knowledge};
 ghost use Rattle.know.specs.Sound.{IsSound, known_bits};
 ghost use Rattle.leaf_cell.specs.Raising.{HasRaisedRow};
 ghost use Rattle.leaf_cell.specs.Rest.{GoesBy, IsAtRest};
-ghost use Rattle.leaf_cell.specs.Visits.{HasGathered, HasVisited};
+ghost use Rattle.leaf_cell.specs.Visits.{HasCopied, HasGathered, HasVisited};
 ghost use Rattle.leaf_store.specs.LeafBuckets.{is_unraised};
 ghost use Rattle.leaf_store.specs.LeafStates.{leaf_with_entry};
 ghost use Rattle.mon_hints.specs.Covers.{IsRaised};
@@ -26,7 +26,7 @@ ghost use Rattle.owners.specs.Receiving.{HasGone};
 use crate::raising::raise_left;
 use crate::readers::LeafReader;
 use history_book::{NewEntry, RoomMove};
-use know::{Found, Know, Names, Tables};
+use know::{Copied, Found, Know, Names, Tables};
 use leaf_store::{Entry, LeafState};
 use mon_hints::Place;
 use mon_value::{OutOfMemory, Range, Row, RowList, SeriesKey, Slot};
@@ -184,6 +184,28 @@ impl<N: Names> LeafDesk<N> {
         let sent = reader.read(&mut self.state)?;
         know.hand(sent);
         Ok(Found::Up)
+    }
+
+    /// The rows of a replica in the whole history of a leaf that is up, which are handed out.
+    pub(crate) fn copy(
+        &mut self,
+        tables: &Tables<N>,
+        know: &mut Know<N>,
+        range: Range,
+        slot: Slot,
+    ) -> Result<Copied, OutOfMemory>
+        requires rest { IsAtRest N.setting N.raise self.old.owner.leaf.0 self.old.state self.old.owner }
+        ensures rest { IsAtRest N.setting N.raise self.old.owner.leaf.0 self.new.state self.new.owner }
+        ensures copied { IfOk result (λ copied. HasCopied self.old.owner.leaf range slot copied know.old know.new) }
+        ensures refused { OnErr result (HasLooked self.old.owner.leaf know.old.purse.rooms know.old know.new) }
+    {
+        let length = self.look(tables, know);
+        if self.state.down() {
+            return Ok(Copied::Down(length));
+        }
+        let rows = self.state.rows_at(range, slot, length)?;
+        know.hand(rows.len() as u64);
+        Ok(Copied::Rows(rows))
     }
 
     /// The rows of a replica in the beginning of the history, which are handed out.
