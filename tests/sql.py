@@ -23,9 +23,10 @@ SERIES = (
 LATER = SERIES.replace("end > 0", "end > 500 AND user = 'u1'")
 
 # Each query, and the same in SQL.
+# Without a row there is no group, which SQL says by GROUP BY NULL.
 QUERIES = [
     (ALL, SERIES),
-    (f"{ALL} | group_by [], sum(work)", f"SELECT SUM(work) AS work FROM ({SERIES})"),
+    (f"{ALL} | group_by [], sum(work)", f"SELECT SUM(work) AS work FROM ({SERIES}) GROUP BY NULL"),
     (
         f"{ALL} | group_by [cluster], sum(work)",
         f"SELECT cluster, SUM(work) AS work FROM ({SERIES}) GROUP BY cluster",
@@ -47,7 +48,7 @@ QUERIES = [
     (
         f"{{{ALL};{ALL}}}|join|group_by [], count()",
         f"WITH sums AS MATERIALIZED ({SERIES})"
-        " SELECT COUNT(*) AS count FROM sums JOIN sums AS others USING (user, job, cluster, task, work)",
+        " SELECT COUNT(*) AS count FROM sums JOIN sums AS others USING (user, job, cluster, task, work) GROUP BY NULL",
     ),
 ]
 
