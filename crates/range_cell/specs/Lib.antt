@@ -1,0 +1,6 @@
+pub mod Answers
+pub mod Writing
+pub mod Turns
+pub mod Stages
+pub mod Copies
+pub mod Rest
