@@ -5,3 +5,5 @@ pub mod StageLemmas
 pub mod RestLemmas
 pub mod OutcomeLemmas
 pub mod BeginLemmas
+pub mod MeetingLemmas
+pub mod EndingLemmas

@@ -489,7 +489,7 @@ entering_needs done left =
     cond_both (is_through next) (Acking (Marked (round_marks next))) (Entering next) (λ (s : Stage). needed s ≤ length left)
     (λ through. omega arith) (λ more. few)
 
-reserving_needs : (done left : List Mark) → needed (reserving (record { done = done; left = left })) ≤ length (done ++ left)
+pub reserving_needs : (done left : List Mark) → needed (reserving (record { done = done; left = left })) ≤ length (done ++ left)
 reserving_needs done left =
     let round : Round = record { done = done; left = left } in
     cond_both (is_through round) (entering (again round)) (Reserving round) (λ (s : Stage). needed s ≤ length (done ++ left))

@@ -4,3 +4,5 @@ pub mod Turns
 pub mod Stages
 pub mod Copies
 pub mod Rest
+pub mod Calls
+pub mod Writes

@@ -2,8 +2,11 @@
 use Rattle.std.specs.Prelude.{◌≡◌, ◌<◌, ◌≤◌, ◌+◌, ℕ, false, List, [], ◌∷◌, ◌++◌, length, map, nat_eq}
 use Rattle.std.specs.List.{AllByRecursion}
 use Rattle.know.specs.Knowledge.{Knowledge}
+use Rattle.mon_topo.specs.Locations.{LiesIn}
+use Rattle.mon_topo.specs.RangeHistories.{acknowledged_rows, serving}
 use Rattle.mon_topo.specs.Settings.{Setting}
 use Rattle.mon_topo.specs.Zones.{leaves_in}
+use Rattle.mon_value.specs.declared.histories.RangeEntry.{RangeEntry}
 use Rattle.mon_value.specs.declared.positions.Range.{Range}
 use Rattle.mon_value.specs.declared.positions.SlotLeaf.{SlotLeaf}
 use Rattle.mon_value.specs.declared.rows.Row.{Row}
@@ -78,6 +81,16 @@ module _ (range : Range) (row : Row) (pass : ℕ) (rows : List Row) (before : Kn
     pub stage_is : stage ≡ Acking (Marked marks)
     pub through : IsThrough know marks
 
+-- all replicas are decided, wherever the write began, and the row may be acknowledged
+pub record IsConcluding (setting : Setting) (range : Range) (row : Row) (history : List RangeEntry) (know : Knowledge)
+    (stage : Stage) : Type 0 where
+  pub pass : ℕ
+  pub begun : Knowledge
+  pub through : IsThroughAt range row pass (acknowledged_rows history) begun (serving history) know stage
+  pub lies : LiesIn setting.held setting.zones range row.key.target
+  pub source : IsSource (acknowledged_rows history ++ row ∷ [])
+  pub few : length (acknowledged_rows history) < setting.points
+
 -- no leaf is asked for anything next
 abbrev pub IsQuiet : WriteAsk → Type 0
 IsQuiet ask.Lock = Unit {0}
@@ -110,6 +123,13 @@ pub record IsBeginning (setting : Setting) (range : Range) (row : Row) (pass : �
   pub held : 0 < times_range range know.purse.holds
   pub home : IsAtHome setting.held setting.zones range row
   pub source : IsSource (rows ++ row ∷ [])
+
+-- (whatever it knows of them)
+pub record BeginsSomehow (setting : Setting) (range : Range) (row : Row) (replicas : List SlotLeaf) (know : Knowledge)
+    : Type 0 where
+  pub pass : ℕ
+  pub rows : List Row
+  pub begins : IsBeginning setting range row pass rows replicas know
 
 -- how many rows are still to be put at most
 abbrev pub needed : Stage → ℕ

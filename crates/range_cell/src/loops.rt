@@ -186,8 +186,8 @@ fn tell_put(alloc: Global, machine: &mut WriteMachine, slot: Slot, leaf: Leaf, f
     }
 }
 
-// A machine behind the range's lock takes no memory.
-fn tell(machine: &mut WriteMachine, told: WriteTold)
+/// A machine behind the range's lock takes no memory.
+pub(crate) fn tell(machine: &mut WriteMachine, told: WriteTold)
     requires begun { machine.old.stage ≢ Locking }
     ensures after { machine.new.stage ≡ after machine.old.stage told }
     ensures range { machine.new.range ≡ machine.old.range }
