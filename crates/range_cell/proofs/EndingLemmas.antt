@@ -1,6 +1,6 @@
 -- How a write's machine ends once all replicas are decided, and what the range's lock tells a row.
-use Rattle.std.proofs.Common.{◌≡◌, ℕ, ◌+◌, ◌≤◌, ◌<◌, Bool, true, false, List, [], ◌∷◌, ◌++◌, length, length-append, refl}
-use Rattle.std.proofs.Common.{sym, ap, subst, ◌∙◌, arith, cond, None, Some}
+use Rattle.std.proofs.Common.{◌≡◌, ℕ, ◌+◌, ◌≤◌, Bool, true, false, List, [], ◌∷◌, ◌++◌, length, length-append, refl}
+use Rattle.std.proofs.Common.{ap, subst, ◌∙◌, arith, cond, None, Some}
 use Rattle.std.specs.Prelude.{Option, Result, Ok, Err, ℤ}
 use Rattle.std.specs.List.{flat_map}
 use Rattle.leaf_store.proofs.FollowLemmas.{source_more}
@@ -90,8 +90,8 @@ pub few_taken : (marks : List Mark) → length (flat_map taken_slot marks) ≤ l
 few_taken [] = omega arith
 few_taken (mark ∷ marks) =
     let sum : length (taken_slot mark ++ flat_map taken_slot marks)
-        ≡ length (taken_slot mark) + length (flat_map taken_slot marks) =
-        length-append (taken_slot mark) (flat_map taken_slot marks) in
+    ≡ length (taken_slot mark) + length (flat_map taken_slot marks) =
+    length-append (taken_slot mark) (flat_map taken_slot marks) in
     let here : length (taken_slot mark) ≤ 1 = one_taken (has_taken mark.fate) mark in
     let rest = few_taken marks in
     omega arith
@@ -106,8 +106,8 @@ pub few_missed : (marks : List Mark) → length (flat_map missed_slot marks) ≤
 few_missed [] = omega arith
 few_missed (mark ∷ marks) =
     let sum : length (missed_slot mark ++ flat_map missed_slot marks)
-        ≡ length (missed_slot mark) + length (flat_map missed_slot marks) =
-        length-append (missed_slot mark) (flat_map missed_slot marks) in
+    ≡ length (missed_slot mark) + length (flat_map missed_slot marks) =
+    length-append (missed_slot mark) (flat_map missed_slot marks) in
     let here : length (missed_slot mark) ≤ 1 = one_missed mark mark.fate in
     let rest = few_missed marks in
     omega arith

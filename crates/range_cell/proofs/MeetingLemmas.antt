@@ -3,7 +3,7 @@ use Rattle.std.proofs.Common.{◌≡◌, ℕ, ◌+◌, ◌<◌, Bool, true, fals
 use Rattle.std.proofs.Common.{subst, ◌∙◌, inl, inr}
 use Rattle.std.proofs.lemmas.Bool.{cases_eq}
 use Rattle.std.proofs.lemmas.List.{append-nil}
-use Rattle.std.specs.Prelude.{Contains, IfOk, OnErr, Ok, Err, Result, option_map}
+use Rattle.std.specs.Prelude.{IfOk, OnErr, Ok, Err, Result, option_map}
 use mathlib.Core.List.{IsPrefix}
 use Rattle.history_book.proofs.ListLemmas.{added_else, prefix_push}
 use Rattle.history_book.specs.declared.rooms.RoomMove.TheVariants as move
@@ -17,13 +17,12 @@ use Rattle.know.specs.Lending.{back_with, lent_seat, without_purse}
 use Rattle.know.specs.Sound.{IsSound}
 use Rattle.mon_topo.proofs.HeldLemmas.{range_same}
 use Rattle.mon_topo.specs.HeldHistories.{AreHeld}
-use Rattle.mon_topo.specs.RangeHistories.{acknowledged_rows, serving}
+use Rattle.mon_topo.specs.RangeHistories.{acknowledged_rows}
 use Rattle.mon_topo.specs.Settings.{Setting}
 use Rattle.mon_topo.specs.Zones.{ranges_in}
 use Rattle.mon_value.specs.Histories.{joined_histories, leaf_history, range_history}
 use Rattle.mon_value.specs.declared.histories.Histories.{Histories}
 use Rattle.mon_value.specs.declared.histories.RangeEntry.{RangeEntry}
-use Rattle.mon_value.specs.declared.positions.Leaf.{Leaf}
 use Rattle.mon_value.specs.declared.positions.Range.{Range}
 use Rattle.mon_value.specs.declared.positions.SlotLeaf.{SlotLeaf}
 use Rattle.owners.proofs.EntryLemmas.{range_pushed, same_opened, same_range_entry, same_rows}
@@ -322,8 +321,8 @@ module _ (leaves : ℕ) (know : Knowledge) (owner now : RangeView) (own : owner.
       let seen = now.book.seen in
       let seen_is : seen ≡ joined = ap (λ (o : Owner). o.seen) came.book in
       let here : owner.range.0 < length seen.ranges =
-          subst (λ (n : ℕ). owner.range.0 < n) (sym sound.held.all_ranges)
-          (subst (λ (r : Range). r.0 < length (ranges_in setting.zones)) came.range of_range.here) in
+      subst (λ (n : ℕ). owner.range.0 < n) (sym sound.held.all_ranges)
+      (subst (λ (r : Range). r.0 < length (ranges_in setting.zones)) came.range of_range.here) in
       subst (λ (r : Range). IsSound setting now.hints (with_book_entry (of.Range r) (one.Range e) seen)) (sym came.range)
       (record {
         held = subst (AreHeld setting.held setting.zones setting.points)

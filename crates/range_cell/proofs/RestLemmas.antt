@@ -48,7 +48,7 @@ module _ (range : Range) where
       counted_more x rest ∙ ap (λ n. cond {A = ℕ} (same_range range x) 1 0 + n) same ∙ sym (counted_more x xs)
   taken_at x xs rest false is same =
       let more : times_range range (x ∷ xs) ≡ cond {A = ℕ} false 1 0 + times_range range xs =
-          counted_more x xs ∙ ap (λ b. cond {A = ℕ} b 1 0 + times_range range xs) is in
+      counted_more x xs ∙ ap (λ b. cond {A = ℕ} b 1 0 + times_range range xs) is in
       omega arith
 
   -- and it is taken back as often as it was held
@@ -59,7 +59,7 @@ module _ (range : Range) where
   pub more_held : (held xs : List Range) → 0 < times_range range held → 0 < times_range range (held ++ xs)
   more_held held xs some =
       let both : times_range range (held ++ xs) ≡ times_range range held + times_range range xs =
-          sum_by-append (λ r. cond {A = ℕ} (same_range range r) 1 0) held xs in
+      sum_by-append (λ r. cond {A = ℕ} (same_range range r) 1 0) held xs in
       omega arith
 
 -- ---- the book's entries

@@ -1,13 +1,13 @@
 -- A write goes from stage to stage.
-use Rattle.std.proofs.Common.{◌≡◌, ◌≢◌, ℕ, suc, ◌+◌, ◌<◌, ◌≤◌, Bool, true, false, List, [], ◌∷◌, ◌++◌, length, length-append, map, refl, sym, ap, subst, ◌∙◌, append_assoc}
+use Rattle.std.proofs.Common.{◌≡◌, ◌≢◌, ℕ, suc, ◌+◌, ◌<◌, ◌≤◌, Bool, true, false, List, [], ◌∷◌, ◌++◌, length}
+use Rattle.std.proofs.Common.{length-append, map, refl, sym, ap, subst, ◌∙◌, append_assoc}
 use Rattle.std.proofs.Common.{arith, cond, nat_eq, Some, None}
 use Rattle.std.specs.Prelude.{◌&&◌, Option, option_map}
 use Rattle.std.specs.List.{AllByRecursion}
 use Rattle.std.proofs.lemmas.Bool.{cond_both}
-use Rattle.std.proofs.lemmas.List.{append-nil}
 use Rattle.history_book.proofs.ListLemmas.{prefix_trans}
 use Rattle.history_book.proofs.PurseLemmas.{room_taken}
-use Rattle.history_book.specs.Seats.{hand_of, length_note, times_range, times_room, without_one}
+use Rattle.history_book.specs.Seats.{length_note, times_range, times_room, without_one}
 use Rattle.range_cell.proofs.CallLemmas.{rows_stay}
 use Rattle.history_book.specs.declared.views.Kept.{Kept}
 use Rattle.know.specs.Knowledge.{Knowledge}
@@ -18,7 +18,7 @@ use Rattle.mon_topo.specs.Settings.{Setting}
 use Rattle.mon_topo.specs.Zones.{leaves_in}
 use Rattle.mon_value.specs.Histories.{leaf_history, range_history}
 use Rattle.mon_value.specs.LeafHistories.{replica_rows}
-use Rattle.mon_value.specs.Positions.{same_leaf, same_range}
+use Rattle.mon_value.specs.Positions.{same_leaf}
 use Rattle.mon_value.specs.Sources.{IsSource}
 use Rattle.mon_value.specs.declared.positions.Leaf.{Leaf}
 use Rattle.mon_value.specs.declared.positions.Range.{Range}
@@ -26,17 +26,21 @@ use Rattle.mon_value.specs.declared.positions.Slot.{Slot}
 use Rattle.mon_value.specs.declared.positions.SlotLeaf.{SlotLeaf}
 use Rattle.mon_value.specs.declared.rows.Row.{Row}
 use Rattle.owners.specs.Calls.{HasLooked, HasPut, HasReserved, kept_with_all}
-use Rattle.range_cell.proofs.WritingLemmas.{PutNothing, all_back, all_both, all_front, has_room, put_down, put_up, puts_nothing, ready-cons, reserved_down, reserved_not, reserved_up}
+use Rattle.range_cell.proofs.WritingLemmas.{PutNothing, all_back, all_both, has_room, put_down, put_up, puts_nothing}
+use Rattle.range_cell.proofs.WritingLemmas.{ready-cons, reserved_down, reserved_not, reserved_up}
 use Rattle.owners.specs.Puts.{HasSeenOpened, MayPut, pass_of, number_or}
-use Rattle.range_cell.specs.Stages.{AreApart, ArePlaced, IsApart, IsAsking, IsAt, IsPutting, IsQuiet, IsSoFar, IsSomewhere, IsThrough, IsThroughAt, IsWithdrawing, needed}
+use Rattle.range_cell.specs.Stages.{AreApart, ArePlaced, IsApart, IsAt, IsQuiet, IsSoFar, IsSomewhere, IsThroughAt}
+use Rattle.range_cell.specs.Stages.{IsWithdrawing, needed}
 use Rattle.write_core.specs.Going.{going_marks}
 use Rattle.range_cell.specs.Turns.{after_put, told_of}
 use Rattle.range_cell.specs.Writing.{HasRows, IsFated, IsWriting, put_of, ready_count, with_put_of, with_puts}
 use Rattle.write_core.proofs.StageLemmas.{skips}
 use Rattle.write_core.specs.Invariant.{AreAll, IsAtReady, is_asked, is_decided, is_waiting}
-use Rattle.write_core.specs.Marks.{is_ready, replica_of, waiting, with_fate}
-use Rattle.write_core.specs.Program.{Acking, Ended, Entering, Inside, Locking, Marked, Not, Reserving, Stage, after, ask_of, enter, entering, inside, next_put, reserve, reserving}
-use Rattle.write_core.specs.Rounds.{Round, again, after_skip, is_no_mark_left, is_through, round_marks, round_of, round_with_look, skip_unready}
+use Rattle.write_core.specs.Marks.{is_ready, replica_of, with_fate}
+use Rattle.write_core.specs.Program.{Acking, Ended, Entering, Inside, Locking, Marked, Not, Reserving, Stage, after}
+use Rattle.write_core.specs.Program.{ask_of, enter, entering, inside, next_put, reserve, reserving}
+use Rattle.write_core.specs.Rounds.{Round, again, after_skip, is_no_mark_left, is_through, round_marks, round_with_look}
+use Rattle.write_core.specs.Rounds.{skip_unready}
 use Rattle.write_core.specs.declared.asks.WriteAsk.TheVariants as ask
 use Rattle.write_core.specs.declared.asks.WriteTold.TheVariants as told
 use Rattle.write_core.specs.declared.marks.Fate.{Fate}
@@ -311,8 +315,8 @@ module _ (range : Range) (row : Row) (pass : ℕ) (rows : List Row) (before : Kn
     by_refused done left mark so asked waits looked =
         let none = waiting_is mark.fate waits.0 in
         let w : IsWriting range row pass rows before new (done ++ mark ∷ left) =
-            subst (λ (f : Fate). IsWriting range row pass rows before new (done ++ with_fate mark f ∷ left)) (sym none)
-            (reserved_not range row pass rows before old new done left mark so.writing none looked) in
+        subst (λ (f : Fate). IsWriting range row pass rows before new (done ++ with_fate mark f ∷ left)) (sym none)
+        (reserved_not range row pass rows before old new done left mark so.writing none looked) in
         withdraws new (done ++ mark ∷ left) w so.serve
         (all_both (RowsBy new) done (mark ∷ left) (asked_rows new done asked) (waiting_rows new (mark ∷ left) waits))
         (all_both (λ (m : Mark). (kept : Kept) → with_put_of pass range row m m.fate kept ≡ kept) done (mark ∷ left)
@@ -423,8 +427,8 @@ module _ (setting : Setting) (range : Range) (row : Row) (know : Knowledge) wher
       let place : mark.slot ≡ slot = cc in
       let is = ready_is mark.fate ready in
       let has : HasRows know range mark.slot mark.leaf rows =
-          subst (λ (f : Fate). IsFated range row pass rows before know mark f) is
-          (fated_at pass rows before done left mark so.writing) in
+      subst (λ (f : Fate). IsFated range row pass rows before know mark f) is
+      (fated_at pass rows before done left mark so.writing) in
       subst (λ (l : Leaf). MayPut setting know l range slot row) same
       (subst (λ (s : Slot). MayPut setting know mark.leaf range s row) place
       (record {
@@ -599,10 +603,10 @@ module _ (range : Range) (pass : ℕ) (rows : List Row) (before : Knowledge) (re
   pub room_there : is_ready mark.fate ≡ true → 0 < times_room mark.leaf old.purse.rooms
   room_there ready =
       let one = one_more mark.leaf
-          ∙ ap (λ b. times_room mark.leaf before.purse.rooms
-            + (cond {A = ℕ} (b && same_leaf mark.leaf mark.leaf) 1 0 + ready_count mark.leaf left)) ready
-          ∙ ap (λ b. times_room mark.leaf before.purse.rooms + (cond {A = ℕ} b 1 0 + ready_count mark.leaf left))
-            (Rattle.std.proofs.Common.eq-eqb mark.leaf.0 mark.leaf.0 refl) in
+      ∙ ap (λ b. times_room mark.leaf before.purse.rooms
+      + (cond {A = ℕ} (b && same_leaf mark.leaf mark.leaf) 1 0 + ready_count mark.leaf left)) ready
+      ∙ ap (λ b. times_room mark.leaf before.purse.rooms + (cond {A = ℕ} b 1 0 + ready_count mark.leaf left))
+      (Rattle.std.proofs.Common.eq-eqb mark.leaf.0 mark.leaf.0 refl) in
       omega arith
 
   pub passed_by : is_ready mark.fate ≡ false → IsWithdrawing range pass rows before replicas old left
@@ -614,7 +618,7 @@ module _ (range : Range) (pass : ℕ) (rows : List Row) (before : Knowledge) (re
     own = w.own;
     rooms = λ l.
         let one = one_more l ∙ ap (λ b. times_room l before.purse.rooms
-            + (cond {A = ℕ} (b && same_leaf l mark.leaf) 1 0 + ready_count l left)) not_ready in
+        + (cond {A = ℕ} (b && same_leaf l mark.leaf) 1 0 + ready_count l left)) not_ready in
         omega arith;
     notes = w.notes;
     holds = w.holds;
@@ -640,10 +644,10 @@ module _ (range : Range) (pass : ℕ) (rows : List Row) (before : Knowledge) (re
     own = looked.called.own ∙ mapped_id old.purse.own ∙ w.own;
     rooms = λ l.
         let same : times_room l new.purse.rooms ≡ times_room l (without_one mark.leaf old.purse.rooms) =
-            ap (times_room l) looked.rooms_are in
+        ap (times_room l) looked.rooms_are in
         let taken = room_taken l mark.leaf old.purse.rooms (room_there ready) in
         let one = one_more l ∙ ap (λ b. times_room l before.purse.rooms
-            + (cond {A = ℕ} (b && same_leaf l mark.leaf) 1 0 + ready_count l left)) ready in
+        + (cond {A = ℕ} (b && same_leaf l mark.leaf) 1 0 + ready_count l left)) ready in
         let n : ℕ = cond {A = ℕ} (same_leaf l mark.leaf) 1 0 in
         omega arith;
     notes = (

@@ -1,5 +1,5 @@
 -- What holds of a write at each stage of its machine, between the range's lock and the acknowledgement.
-use Rattle.std.specs.Prelude.{◌≡◌, ◌<◌, ◌≤◌, ◌+◌, ℕ, false, List, [], ◌∷◌, ◌++◌, length, map, nat_eq}
+use Rattle.std.specs.Prelude.{◌≡◌, ◌<◌, ◌+◌, ℕ, false, List, [], ◌∷◌, ◌++◌, length, map, nat_eq}
 use Rattle.std.specs.List.{AllByRecursion}
 use Rattle.know.specs.Knowledge.{Knowledge}
 use Rattle.mon_topo.specs.Locations.{LiesIn}
@@ -13,7 +13,7 @@ use Rattle.mon_value.specs.declared.rows.Row.{Row}
 use Rattle.history_book.specs.Seats.{hand_of, times_range, times_room}
 use Rattle.history_book.specs.Histories.{AreFronts}
 use Rattle.history_book.specs.declared.views.LengthNote.{LengthNote}
-use Rattle.std.specs.Prelude.{Some, true}
+use Rattle.std.specs.Prelude.{Some}
 use Rattle.mon_value.specs.declared.positions.Leaf.{Leaf}
 use Rattle.range_cell.specs.Writing.{HasRows, IsWriting, ready_count}
 use Rattle.write_core.specs.Invariant.{AreAll, IsAtReady, is_asked, is_decided, is_waiting}

@@ -44,7 +44,12 @@ pub(crate) struct RangeDesk<N: Names> {
 
 impl<N: Names> RangeDesk<N> {
     /// The first replica that serves and is on none of these leaves.
-    pub(crate) fn resolve(&mut self, tables: &Tables<N>, know: &mut Know<N>, avoid: &Leaves) -> Option<SlotLeaf>
+    pub(crate) fn resolve(
+        &mut self,
+        tables: &Tables<N>,
+        know: &mut Know<N>,
+        avoid: &Leaves,
+    ) -> Option<SlotLeaf>
         requires rest { IsRangeAtRest self.old.owner.range.0 self.old.replay self.old.owner }
         requires none { know.old.purse.holds ≡ [] }
         ensures rest { IsRangeAtRest self.old.owner.range.0 self.new.replay self.new.owner }
@@ -129,7 +134,14 @@ impl<N: Names> RangeDesk<N> {
     }
 
     // A row is acknowledged: to the replay, and in the owner's history under the guest's number.
-    fn enter<E: NewEntry>(&mut self, tables: &Tables<N>, key: Shared<SeriesKey>, pass: u64, row: Row, ack: Ack)
+    fn enter<E: NewEntry>(
+        &mut self,
+        tables: &Tables<N>,
+        key: Shared<SeriesKey>,
+        pass: u64,
+        row: Row,
+        ack: Ack,
+    )
         requires named { E.entry ≡ one.Range (entry.Acked pass row ack) }
         requires key { key ≡ row.key }
         requires room { HasAckRoom self.old.replay }
@@ -173,7 +185,9 @@ impl<N: Names> RangeDesk<N> {
         ensures written { HasWritten N.book.leaves range row.now limit (pass_of know.old) know.old know.new result }
     {
         match self.begin(tables, know, row, limit) {
-            Ok(WriteTold::Slots(replicas)) => self.write_held(rt, alloc, tables, know, leaves, range, row, replicas),
+            Ok(WriteTold::Slots(replicas)) => self.write_held(
+                rt, alloc, tables, know, leaves, range, row, replicas,
+            ),
             Ok(WriteTold::OldPoint(last)) => Err(WriteFault::OldPoint(last)),
             Ok(WriteTold::RangeFull(count)) => Err(WriteFault::RangeFull(count)),
             Ok(WriteTold::Up(_) | WriteTold::Down(_) | WriteTold::Done) => unreachable!(),

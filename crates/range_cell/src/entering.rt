@@ -61,7 +61,12 @@ pub(crate) fn enter_leaves<R: Wait, N: Names, S: LeafSide<N>>(
 }
 
 // What a write takes along to these replicas.
-fn prepared(alloc: Global, range: Range, row: &Row, replicas: SlotLeaves) -> Result<Entering, OutOfMemory>
+fn prepared(
+    alloc: Global,
+    range: Range,
+    row: &Row,
+    replicas: SlotLeaves,
+) -> Result<Entering, OutOfMemory>
     ensures stage { IfOk result (λ entering. entering.machine.stage ≡ after Locking (told.Slots replicas)) }
     ensures range { IfOk result (λ entering. entering.machine.range ≡ range) }
     ensures row { IfOk result (λ entering. entering.copies.row ≡ row.now) }

@@ -6,7 +6,8 @@ ghost use Rattle.mon_value.specs.declared.positions.Range as a_range;
 ghost use Rattle.mon_value.specs.declared.positions.SlotLeaf as a_replica;
 ghost use Rattle.mon_value.specs.declared.rows.Row as a_row;
 ghost use Rattle.owners.specs.Puts.{HasSeenOpened, MayPut};
-ghost use Rattle.range_cell.specs.Stages.{AreApart, IsAt, IsQuiet, IsSomewhere, IsThrough, IsThroughAt, IsWithdrawing, IsWithdrawn};
+ghost use Rattle.range_cell.specs.Stages.{AreApart, IsAt, IsQuiet, IsSomewhere, IsThroughAt, IsWithdrawing};
+ghost use Rattle.range_cell.specs.Stages.{IsWithdrawn};
 ghost use Rattle.range_cell.specs.Stages.{needed};
 ghost use Rattle.range_cell.specs.Turns.{after_put};
 ghost use Rattle.write_core.specs.Going.{going_marks};
@@ -55,8 +56,8 @@ pub(crate) fn write_through<R: Wait, N: Names, S: LeafSide<N>>(
     }
 }
 
-/// Goes over all leaves, until memory runs out.
-pub(crate) fn go_through<R: Wait, N: Names, S: LeafSide<N>>(
+// Goes over all leaves, until memory runs out.
+fn go_through<R: Wait, N: Names, S: LeafSide<N>>(
     rt: &R,
     alloc: Global,
     machine: &mut WriteMachine,
@@ -110,11 +111,29 @@ fn turn<N: Names, S: LeafSide<N>>(
 {
     match machine.next() {
         WriteAsk::Reserve(slot, leaf) => {
-            ask_for_room(alloc, machine, know, leaves, range, slot, leaf, copies.row())?;
+            ask_for_room(
+                alloc,
+                machine,
+                know,
+                leaves,
+                range,
+                slot,
+                leaf,
+                copies.row(),
+            )?;
             Ok(true)
         }
         WriteAsk::Enter(slot, leaf) => {
-            put_at(alloc, machine, know, leaves, range, slot, leaf, copies.take());
+            put_at(
+                alloc,
+                machine,
+                know,
+                leaves,
+                range,
+                slot,
+                leaf,
+                copies.take(),
+            );
             Ok(true)
         }
         _ => Ok(false),
@@ -197,8 +216,8 @@ pub(crate) fn tell(machine: &mut WriteMachine, told: WriteTold)
     }
 }
 
-/// Gives back the rooms of the replicas that have one.
-pub(crate) fn cancel_all<N: Names, S: LeafSide<N>>(marks: &[Mark], know: &mut Know<N>, leaves: &S)
+// Gives back the rooms of the replicas that have one.
+fn cancel_all<N: Names, S: LeafSide<N>>(marks: &[Mark], know: &mut Know<N>, leaves: &S)
     requires somewhere { IsWithdrawn know.old marks.now }
     ensures back { (range : a_range.Range) (pass : ℕ) (rows : List a_row.Row) (before : Knowledge)
         (replicas : List a_replica.SlotLeaf) → IsWithdrawing range pass rows before replicas know.old marks.now

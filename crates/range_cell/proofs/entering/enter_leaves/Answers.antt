@@ -1,4 +1,4 @@
-use Rattle.std.proofs.Common.{◌≡◌, ◌≤◌, ℕ, length, sym, ap, subst, ◌∙◌}
+use Rattle.std.proofs.Common.{◌≤◌, ℕ, sym, subst}
 use Rattle.mon_value.specs.declared.rows.Row.{Row}
 use Rattle.range_cell.proofs.BeginLemmas.{begin_needs, begins_at, begins_somewhere, withdraws_at_once}
 use Rattle.range_cell.proofs.OutcomeLemmas.{any_err}

@@ -1,10 +1,9 @@
-use Rattle.std.proofs.Common.{◌≡◌, ℕ, ◌+◌, ◌<◌, true, not, List, [], ◌∷◌, refl, sym, ap, subst, ◌∙◌, arith, cond, eq-eqb}
+use Rattle.std.proofs.Common.{◌≡◌, ℕ, ◌+◌, ◌<◌, true, not, List, [], ◌∷◌, refl, sym, ap, subst, ◌∙◌, arith, cond}
+use Rattle.std.proofs.Common.{eq-eqb}
 use Rattle.std.proofs.lemmas.List.Sums.{sum_by-cons}
-use Rattle.std.specs.Prelude.{Contains}
 use Rattle.history_book.proofs.HistoryLemmas.{none_at}
 use Rattle.history_book.specs.Histories.{empty_histories}
 use Rattle.history_book.specs.Seats.{times_range}
-use Rattle.mon_topo.specs.RangeHistories.{serving}
 use Rattle.mon_value.specs.Positions.{same_range}
 use Rattle.mon_value.specs.declared.histories.RangeEntry.{RangeEntry}
 use Rattle.mon_value.specs.declared.positions.Range.{Range}
@@ -14,8 +13,8 @@ use Rattle.range_cell.proofs.laws.new_ranges_are_at_rest.Goals as goal
 held_once : (range : Range) → 0 < times_range range (range ∷ [])
 held_once range =
     let one : times_range range (range ∷ []) ≡ cond {A = ℕ} true 1 0 + times_range range [] =
-        sum_by-cons (λ r. cond {A = ℕ} (same_range range r) 1 0) range []
-        ∙ ap (λ b. cond {A = ℕ} b 1 0 + times_range range []) (eq-eqb range.0 range.0 refl) in
+    sum_by-cons (λ r. cond {A = ℕ} (same_range range r) 1 0) range []
+    ∙ ap (λ b. cond {A = ℕ} b 1 0 + times_range range []) (eq-eqb range.0 range.0 refl) in
     omega arith
 
 no_others : (range : Range) → others range (range ∷ []) ≡ []

@@ -1,9 +1,9 @@
-use Rattle.std.proofs.Common.{◌≡◌, ◌∷◌, [], ◌+◌, drop, sym, ap, subst, ◌∙◌}
+use Rattle.std.proofs.Common.{◌≡◌, ◌∷◌, [], ◌+◌, drop, subst}
 use Rattle.std.specs.Prelude.{List, slice_index_or}
 use Rattle.write_core.specs.declared.marks.Fate.TheVariants as fate
 use Rattle.std.proofs.lemmas.List.{at_drop_all, drop_more}
 use Rattle.range_cell.proofs.StageLemmas.{room_there}
-use Rattle.range_cell.specs.Stages.{IsWithdrawing, IsWithdrawn}
+use Rattle.range_cell.specs.Stages.{IsWithdrawing}
 use Rattle.write_core.specs.declared.marks.Mark.{Mark}
 use Rattle.range_cell.proofs.loops.cancel_all.Goals as goal
 
@@ -39,7 +39,7 @@ loop-mark-preserved g c =
         replicas = here.replicas;
         is = c.cancel_one.ensures.back here.range here.pass here.rows here.before here.replicas (drop (i + 1) marks)
             (subst (λ (left : List Mark). IsWithdrawing here.range here.pass here.rows here.before here.replicas
-          c.loop-mark.know left) next here.is);
+            c.loop-mark.know left) next here.is);
       };
       back = λ range pass rows before replicas w. c.cancel_one.ensures.back range pass rows before replicas (drop (i + 1) marks)
           (subst (λ (left : List Mark). IsWithdrawing range pass rows before replicas c.loop-mark.know left) next
@@ -49,7 +49,7 @@ loop-mark-preserved g c =
 pub returns : goal.returns
 returns g c =
     let none : drop c.loop-mark.mark-index c.args.marks.now ≡ [] =
-        at_drop_all (λ (m : List Mark). m) _ c.loop-mark.mark-index c.loop-mark-test.false in
+    at_drop_all (λ (m : List Mark). m) _ c.loop-mark.mark-index c.loop-mark-test.false in
     record {
       back = λ range pass rows before replicas w. subst (λ (left : List Mark). IsWithdrawing range pass rows before replicas c.loop-mark.know left) none
           (c.loop-mark.invariant.back range pass rows before replicas w);

@@ -1,4 +1,4 @@
-use Rattle.std.proofs.Common.{◌≡◌, ◌≤◌, ℕ, sym, ap, subst, ◌∙◌}
+use Rattle.std.proofs.Common.{sym, subst}
 use Rattle.mon_value.specs.declared.rows.Row.{Row}
 use Rattle.range_cell.proofs.OutcomeLemmas.{any_err}
 use Rattle.range_cell.proofs.StageLemmas.{may_put_at, may_reserve}

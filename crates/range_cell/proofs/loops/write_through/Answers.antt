@@ -1,5 +1,5 @@
-use Rattle.std.proofs.Common.{◌≡◌, sym, subst}
-use Rattle.range_cell.specs.Stages.{IsWithdrawing, IsWithdrawn}
+use Rattle.std.proofs.Common.{sym, subst}
+use Rattle.range_cell.specs.Stages.{IsWithdrawing}
 use Rattle.write_core.specs.declared.marks.Mark.{Mark}
 use Rattle.std.specs.Prelude.{List}
 use Rattle.range_cell.proofs.loops.write_through.Goals as goal

@@ -1,4 +1,4 @@
-use Rattle.std.proofs.Common.{◌≡◌, ◌<◌, ℕ, false, Some, List, [], ◌∷◌, ◌++◌, refl, sym, ap, subst, ◌∙◌}
+use Rattle.std.proofs.Common.{◌≡◌, ℕ, false, Some, [], ◌∷◌, ◌++◌, refl, sym, ap, subst, ◌∙◌}
 use Rattle.history_book.specs.declared.views.BookEntry.TheVariants as one
 use Rattle.history_book.specs.Seats.{Owner, after_append, guest_purse, hand_of}
 use Rattle.mon_value.specs.Histories.{range_history}
@@ -24,8 +24,8 @@ enter-requires g c =
     let same : c.in-Some.pass ≡ pass_of know = cc in
     let e : RangeEntry = entry.Acked c.in-Some.pass c.args.row c.args.ack in
     let may : MayEnter setting desk.owner.range desk.replay.history e know =
-        subst (λ (n : ℕ). MayEnter setting desk.owner.range desk.replay.history (entry.Acked n c.args.row c.args.ack) know)
-        (sym same) c.requires.may in
+    subst (λ (n : ℕ). MayEnter setting desk.owner.range desk.replay.history (entry.Acked n c.args.row c.args.ack) know)
+    (sym same) c.requires.may in
     record {
       named = refl;
       key = c.requires.key;
@@ -50,14 +50,14 @@ returns g c =
     let same : c.in-Some.pass ≡ pass_of know = cc in
     let e : RangeEntry = entry.Acked c.in-Some.pass c.args.row c.args.ack in
     let may : MayEnter setting desk.owner.range desk.replay.history e know =
-        subst (λ (n : ℕ). MayEnter setting desk.owner.range desk.replay.history (entry.Acked n c.args.row c.args.ack) know)
-        (sym same) c.requires.may in
+    subst (λ (n : ℕ). MayEnter setting desk.owner.range desk.replay.history (entry.Acked n c.args.row c.args.ack) know)
+    (sym same) c.requires.may in
     let entered : RangeView =
-        record { range = now.range; hints = now.hints; book = after_append (one.Range e) now.book } in
+    record { range = now.range; hints = now.hints; book = after_append (one.Range e) now.book } in
     let then_owner : c.enter.new.self.owner ≡ entered =
-        λ i. record { range = c.enter.ensures.range i; hints = c.enter.ensures.hints i; book = c.enter.ensures.book i } in
+    λ i. record { range = c.enter.ensures.range i; hints = c.enter.ensures.hints i; book = c.enter.ensures.book i } in
     let parts : c.part.new.self ≡ parted_owner false c.enter.new.self.owner =
-        λ i. record { range = c.part.ensures.range i; hints = c.part.ensures.hints i; book = c.part.ensures.book i } in
+    λ i. record { range = c.part.ensures.range i; hints = c.part.ensures.hints i; book = c.part.ensures.book i } in
     record {
       rest = rests_entered leaves know desk.owner now c.requires.held.own came desk.replay c.requires.held c.requires.holds
           e c.enter.new.self.replay

@@ -1,4 +1,4 @@
-use Rattle.std.proofs.Common.{◌≡◌, ◌<◌, ℕ, IfOk, length, sym, ap, subst, ◌∙◌}
+use Rattle.std.proofs.Common.{◌≡◌, ◌<◌, IfOk, length, sym, ap, subst, ◌∙◌}
 use Rattle.history_book.specs.Seats.{HoldsOwn}
 use Rattle.mon_topo.specs.Zones.{ranges_in}
 use Rattle.mon_value.specs.declared.positions.Range.{Range}
@@ -13,9 +13,11 @@ pub part-requires : goal.part-requires
 part-requires g c =
     let owner = c.args.self.now.owner in
     record {
-      hold = λ yes. subst HoldsOwn (sym c.receive.ensures.came.book)
-          (owner.range, c.requires.rest.own,
-          more_held owner.range owner.book.held c.args.know.now.purse.holds c.requires.rest.holds);
+      hold = λ yes. subst HoldsOwn (sym c.receive.ensures.came.book) (
+        owner.range,
+        c.requires.rest.own,
+        more_held owner.range owner.book.held c.args.know.now.purse.holds c.requires.rest.holds,
+      );
     }
 
 pub returns-clause-told : goal.returns-clause-told
@@ -33,10 +35,10 @@ returns-clause-answered g c =
     let hold = c.is_taken-hold.result in
     let asked = c.asked-told.new.replay in
     let same : asked.history ≡ desk.replay.history =
-        c.asked-told.ensures.history ∙ ap (λ (r : Replay). r.history) c.receive.ensures.replay in
+    c.asked-told.ensures.history ∙ ap (λ (r : Replay). r.history) c.receive.ensures.replay in
     let rest = rest_as desk.owner.range.0 desk.owner desk.replay asked same c.requires.rest in
     let gone : c.part.new.self ≡ parted_owner hold now =
-        λ i. record { range = c.part.ensures.range i; hints = c.part.ensures.hints i; book = c.part.ensures.book i } in
+    λ i. record { range = c.part.ensures.range i; hints = c.part.ensures.hints i; book = c.part.ensures.book i } in
     answered_so leaves desk.owner.range asked c.part.new.self know c.part.new.know c.asked-told.result hold
     c.is_taken-hold.ensures.taken
     (if_held leaves know desk.owner now c.requires.rest.own came asked rest c.requires.none hold c.part.new.self gone
@@ -53,10 +55,10 @@ returns-clause-refused g c =
     let hold = c.is_taken-hold.result in
     let asked = c.asked-told.new.replay in
     let same : asked.history ≡ desk.replay.history =
-        c.asked-told.ensures.history ∙ ap (λ (r : Replay). r.history) c.receive.ensures.replay in
+    c.asked-told.ensures.history ∙ ap (λ (r : Replay). r.history) c.receive.ensures.replay in
     let rest = rest_as desk.owner.range.0 desk.owner desk.replay asked same c.requires.rest in
     let gone : c.part.new.self ≡ parted_owner hold now =
-        λ i. record { range = c.part.ensures.range i; hints = c.part.ensures.hints i; book = c.part.ensures.book i } in
+    λ i. record { range = c.part.ensures.range i; hints = c.part.ensures.hints i; book = c.part.ensures.book i } in
     refused_so leaves desk.owner.range asked c.part.new.self know c.part.new.know c.asked-told.result hold
     c.is_taken-hold.ensures.taken
     (if_rests leaves know desk.owner now c.requires.rest.own c.receive.ensures.came asked rest c.requires.none hold

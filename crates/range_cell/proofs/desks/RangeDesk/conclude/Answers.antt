@@ -1,6 +1,5 @@
-use Rattle.std.proofs.Common.{◌≡◌, ◌≢◌, ◌<◌, ◌≤◌, ℕ, true, false, Some, List, length, arith, refl, sym, ap, subst, ◌∙◌}
+use Rattle.std.proofs.Common.{◌≡◌, ◌<◌, ◌≤◌, ℕ, Some, List, length, refl, sym, ap, subst, ◌∙◌}
 use Rattle.history_book.specs.Seats.{times_range}
-use Rattle.mon_topo.specs.RangeHistories.{serving}
 use Rattle.mon_value.specs.declared.histories.Ack.{Ack}
 use Rattle.mon_value.specs.declared.histories.RangeEntry.{RangeEntry}
 use Rattle.mon_value.specs.declared.histories.RangeEntry.TheVariants as entry
@@ -15,7 +14,6 @@ use Rattle.range_cell.specs.Rest.{HaveJust}
 use Rattle.mon_value.specs.Histories.{range_history}
 use Rattle.write_core.specs.Marks.{ack_of}
 use Rattle.write_core.specs.Program.{Acking, Locking, Marked, Stage, after, ask_of}
-use Rattle.write_core.specs.declared.asks.WriteAsk.TheVariants as ask
 use Rattle.write_core.specs.declared.asks.WriteEnd.TheVariants as end
 use Rattle.write_core.specs.declared.asks.WriteTold.TheVariants as told
 use Rattle.range_cell.proofs.desks.RangeDesk.conclude.Goals as goal
@@ -40,12 +38,12 @@ copied-answer-requires g c =
     let g0 = c.args.self.now.replay.history in
     let marks = t.marks in
     let last = ended_so range marks c.tell.new.machine.range c.args.entering.machine.stage c.tell.new.machine.stage
-        (end.Written c.in-Written.ack) t.stage_is c.tell.ensures.after
-        (c.tell.ensures.range ∙ c.requires.machine) c.in-Written.ensures.end in
+    (end.Written c.in-Written.ack) t.stage_is c.tell.ensures.after
+    (c.tell.ensures.range ∙ c.requires.machine) c.in-Written.ensures.end in
     let same = (written_end range marks c.in-Written.ack last).1 in
     let most : length marks ≡ c.args.entering.answer =
-        marks_count g.N.Names.setting range c.args.entering.copies.row c.requires.through.pass g0 c.requires.through.begun
-        c.args.know.now marks t.through ∙ sym c.requires.answer in
+    marks_count g.N.Names.setting range c.args.entering.copies.row c.requires.through.pass g0 c.requires.through.begun
+    c.args.know.now marks t.through ∙ sym c.requires.answer in
     record {
       took = subst (λ (a : Ack). length a.took ≤ c.args.entering.answer) same
           (subst (λ (n : ℕ). length (ack_of range marks).took ≤ n) most (few_taken marks));
@@ -66,13 +64,13 @@ acknowledge-requires g c =
     let marks = t.marks in
     let writing = t.through.so_far.writing in
     let last = ended_so range marks c.tell.new.machine.range c.args.entering.machine.stage c.tell.new.machine.stage
-        (end.Written c.in-Written.ack) t.stage_is c.tell.ensures.after
-        (c.tell.ensures.range ∙ c.requires.machine) c.in-Written.ensures.end in
+    (end.Written c.in-Written.ack) t.stage_is c.tell.ensures.after
+    (c.tell.ensures.range ∙ c.requires.machine) c.in-Written.ensures.end in
     let both = written_end range marks c.in-Written.ack last in
     let mine : pass_of know ≡ here.pass = ap (number_or 0) writing.number in
     let e_is : entry.Acked here.pass row (ack_of range marks)
-        ≡ entry.Acked (pass_of know) c.into_row-row.result c.in-Written.ack =
-        λ i. entry.Acked (sym mine i) (sym c.into_row-row.ensures.row i) (both.1 i) in
+    ≡ entry.Acked (pass_of know) c.into_row-row.result c.in-Written.ack =
+    λ i. entry.Acked (sym mine i) (sym c.into_row-row.ensures.row i) (both.1 i) in
     record {
       held = c.requires.held;
       holds = subst (λ (r : Range). 0 < times_range r know.purse.holds) c.requires.range writing.held;
@@ -95,13 +93,13 @@ returns-in-Written-clause-ended g c pass begun t =
     let row = c.args.entering.copies.row in
     let marks = t.marks in
     let last = ended_so range marks c.tell.new.machine.range c.args.entering.machine.stage c.tell.new.machine.stage
-        (end.Written c.in-Written.ack) t.stage_is c.tell.ensures.after
-        (c.tell.ensures.range ∙ c.requires.machine) c.in-Written.ensures.end in
+    (end.Written c.in-Written.ack) t.stage_is c.tell.ensures.after
+    (c.tell.ensures.range ∙ c.requires.machine) c.in-Written.ensures.end in
     let both = written_end range marks c.in-Written.ack last in
     let mine : pass_of know ≡ pass = ap (number_or 0) t.through.so_far.writing.number in
     let e_is : entry.Acked (pass_of know) c.into_row-row.result c.in-Written.ack
-        ≡ entry.Acked pass row c.copied-answer.result =
-        λ i. entry.Acked (mine i) (c.into_row-row.ensures.row i) (sym c.copied-answer.ensures.same i) in
+    ≡ entry.Acked pass row c.copied-answer.result =
+    λ i. entry.Acked (mine i) (c.into_row-row.ensures.row i) (sym c.copied-answer.ensures.same i) in
     record {
       mid = know;
       marks = marks;
@@ -123,8 +121,8 @@ give_back-requires g c =
     let g0 = c.args.self.now.replay.history in
     let marks = t.marks in
     let last = ended_so range marks c.tell.new.machine.range c.args.entering.machine.stage c.tell.new.machine.stage
-        (end.Unavailable c.in-Unavailable.founds) t.stage_is c.tell.ensures.after
-        (c.tell.ensures.range ∙ c.requires.machine) c.in-Unavailable.ensures.end in
+    (end.Unavailable c.in-Unavailable.founds) t.stage_is c.tell.ensures.after
+    (c.tell.ensures.range ∙ c.requires.machine) c.in-Unavailable.ensures.end in
     let both = unavailable_end range marks c.in-Unavailable.founds last in
     record {
       held = c.requires.held;
@@ -143,19 +141,21 @@ returns-in-Unavailable-clause-ended g c pass begun t =
     let g0 = c.args.self.now.replay.history in
     let marks = t.marks in
     let last = ended_so range marks c.tell.new.machine.range c.args.entering.machine.stage c.tell.new.machine.stage
-        (end.Unavailable c.in-Unavailable.founds) t.stage_is c.tell.ensures.after
-        (c.tell.ensures.range ∙ c.requires.machine) c.in-Unavailable.ensures.end in
-    let both = unavailable_end range marks c.in-Unavailable.founds last in
-    (refl, record {
-      mid = know;
-      marks = marks;
-      through = t.through;
-      none = both.0;
-      founds_are = both.1;
-      back = record {
-        met = subst (λ (r : Range). HasMetRange leaves r (others_of r know) know c.give_back.new.know)
-            (sym c.requires.range) c.give_back.ensures.met;
-        whole = subst (λ (r : Range). range_history c.give_back.new.know.seen r ≡ g0) (sym c.requires.range)
-            c.give_back.ensures.whole;
-      };
-    })
+    (end.Unavailable c.in-Unavailable.founds) t.stage_is c.tell.ensures.after
+    (c.tell.ensures.range ∙ c.requires.machine) c.in-Unavailable.ensures.end in
+    let both = unavailable_end range marks c.in-Unavailable.founds last in (
+      refl,
+      record {
+        mid = know;
+        marks = marks;
+        through = t.through;
+        none = both.0;
+        founds_are = both.1;
+        back = record {
+          met = subst (λ (r : Range). HasMetRange leaves r (others_of r know) know c.give_back.new.know)
+              (sym c.requires.range) c.give_back.ensures.met;
+          whole = subst (λ (r : Range). range_history c.give_back.new.know.seen r ≡ g0) (sym c.requires.range)
+              c.give_back.ensures.whole;
+        };
+      },
+    )

@@ -20,8 +20,8 @@ append-requires g c =
     let e : RangeEntry = entry.Acked c.args.pass c.args.row c.args.ack in
     let named : g.E.NewEntry.entry ≡ one.Range e = c.requires.named in
     let grown : range_history (with_book_entry (of.Range owner.range) (one.Range e) seen) owner.range
-        ≡ c.args.self.now.replay.history ++ e ∷ [] =
-        range_pushed owner.range e seen ∙ ap (λ h. h ++ e ∷ []) c.requires.history in
+    ≡ c.args.self.now.replay.history ++ e ∷ [] =
+    range_pushed owner.range e seen ∙ ap (λ h. h ++ e ∷ []) c.requires.history in
     record {
       room = subst (λ (h : List RangeEntry). length h < 2 ^ 62) (sym c.requires.history)
           (subst (λ (n : ℕ). n < 2 ^ 62) c.length-length.ensures.count c.length-length.ensures.short);

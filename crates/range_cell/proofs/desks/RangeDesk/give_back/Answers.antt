@@ -1,4 +1,4 @@
-use Rattle.std.proofs.Common.{◌≡◌, ℕ, false, sym, ap, subst, ◌∙◌}
+use Rattle.std.proofs.Common.{◌≡◌, false, sym, subst, ◌∙◌}
 use Rattle.range_cell.proofs.MeetingLemmas.{met_so, rests_back, whole_so}
 use Rattle.range_cell.specs.Calls.{parted_owner}
 use Rattle.range_cell.specs.Rest.{IsRangeAtRest}
@@ -13,7 +13,7 @@ returns g c =
     let now = c.receive.new.self.owner in
     let came = c.receive.ensures.came in
     let gone : c.part.new.self ≡ parted_owner false now =
-        λ i. record { range = c.part.ensures.range i; hints = c.part.ensures.hints i; book = c.part.ensures.book i } in
+    λ i. record { range = c.part.ensures.range i; hints = c.part.ensures.hints i; book = c.part.ensures.book i } in
     record {
       rest = subst (λ (r : Replay). IsRangeAtRest desk.owner.range.0 r c.part.new.self) (sym c.receive.ensures.replay)
           (rests_back leaves know desk.owner now c.requires.held.own came desk.replay c.requires.held c.requires.holds

@@ -1,4 +1,4 @@
-use Rattle.std.proofs.Common.{◌≡◌, ℕ, ◌+◌, length, filter, sym, ap, subst, ◌∙◌}
+use Rattle.std.proofs.Common.{◌≡◌, ◌+◌, length, filter, sym, ap, subst, ◌∙◌}
 use Rattle.history_book.specs.declared.views.History.TheVariants as of
 use Rattle.history_book.specs.Histories.{AreFronts, entries, is_about}
 use Rattle.history_book.specs.Seats.{Owner, after_own_learn}
@@ -17,12 +17,12 @@ returns-clause-came g c =
     let joined = joined_histories owner.book.seen know.seen in
     let seen : c.meet.new.self.book.seen ≡ joined = ap (λ (o : Owner). o.seen) c.meet.ensures.book in
     let whole : entries joined (of.Range owner.range) ≡ entries owner.book.seen (of.Range owner.range) =
-        (λ i. entries (sym seen i) (sym own i)) ∙ c.meet.ensures.whole ∙ ap (entries owner.book.seen) own in
+    (λ i. entries (sym seen i) (sym own i)) ∙ c.meet.ensures.whole ∙ ap (entries owner.book.seen) own in
     let count : c.learn.result ≡ length (range_history owner.book.seen owner.range) =
-        c.learn.ensures.exact
-        ∙ ap (λ (o : Owner). length (entries c.meet.new.self.book.seen o.history)) c.meet.ensures.book
-        ∙ ap length c.meet.ensures.whole ∙ ap (λ h. length (entries owner.book.seen h)) own
-        ∙ counted_range owner.range owner.book.seen in
+    c.learn.ensures.exact
+    ∙ ap (λ (o : Owner). length (entries c.meet.new.self.book.seen o.history)) c.meet.ensures.book
+    ∙ ap length c.meet.ensures.whole ∙ ap (λ h. length (entries owner.book.seen h)) own
+    ∙ counted_range owner.range owner.book.seen in
     record {
       range = c.learn.ensures.range ∙ c.meet.ensures.range;
       hints = c.learn.ensures.hints ∙ c.meet.ensures.hints;

@@ -1,12 +1,10 @@
-use Rattle.std.proofs.Common.{◌≡◌, ◌<◌, ℕ, Some, List, [], ◌∷◌, ◌++◌, length, refl, rules, sym, ap, subst, ◌∙◌}
+use Rattle.std.proofs.Common.{◌≡◌, ◌<◌, ℕ, Some, List, length, rules, sym, ap, subst, ◌∙◌}
 use Rattle.std.specs.Prelude.{option_map}
 use Rattle.history_book.specs.Seats.{hand_of, times_range}
 use Rattle.history_book.specs.declared.views.Kept.{Kept}
 use Rattle.mon_topo.specs.HeldHistories.{IsAtHome}
 use Rattle.range_cell.specs.Rest.{IsRangeAtRest, IsRangeHeld}
-use Rattle.know.specs.Knowledge.{Knowledge}
-use Rattle.mon_topo.specs.RangeHistories.{IsLegal, acknowledged_rows, serving}
-use Rattle.mon_value.specs.Sources.{IsSource}
+use Rattle.mon_topo.specs.RangeHistories.{IsLegal, acknowledged_rows}
 use Rattle.mon_value.specs.Histories.{range_history}
 use Rattle.mon_value.specs.declared.histories.RangeEntry.{RangeEntry}
 use Rattle.mon_value.specs.declared.positions.Range.{Range}
@@ -37,25 +35,25 @@ write_held-requires g c =
     let row = c.args.row.now in
     let is : c.in-Ok-Slots.field-0 ≡ told.Slots replicas = c.in-Ok-Slots.field-0-is in
     let both = subst (λ (x : WriteTold). HasAnswered leaves own c.begin.new.self.replay c.begin.new.self.owner x know then)
-        is c.in-Ok-Slots.ensures.answered in
+    is c.in-Ok-Slots.ensures.answered in
     let begun : HasBegun leaves own history_then know then = both.0 in
     let here : own.0 < length then.seen.ranges =
-        subst (λ (n : ℕ). own.0 < n) (sym c.begin.ensures.sound.held.all_ranges) c.begin.ensures.here in
+    subst (λ (n : ℕ). own.0 < n) (sym c.begin.ensures.sound.held.all_ranges) c.begin.ensures.here in
     let legal : IsLegal setting.held setting.zones setting.points own history_then =
-        subst (IsLegal setting.held setting.zones setting.points own) begun.whole
-        (c.begin.ensures.sound.held.legal own here) in
+    subst (IsLegal setting.held setting.zones setting.points own) begun.whole
+    (c.begin.ensures.sound.held.legal own here) in
     let same_history : history_then ≡ history = c.begin.ensures.history in
     let tells : lock_answer setting.points history_then row ≡ told.Slots replicas =
-        ap (λ (h : List RangeEntry). lock_answer setting.points h row) same_history
-        ∙ ap (λ (n : ℕ). lock_answer n history row) (sym c.requires.limit)
-        ∙ sym c.in-Ok-Slots.ensures.told ∙ is in
+    ap (λ (h : List RangeEntry). lock_answer setting.points h row) same_history
+    ∙ ap (λ (n : ℕ). lock_answer n history row) (sym c.requires.limit)
+    ∙ sym c.in-Ok-Slots.ensures.told ∙ is in
     let may : IsToldByRange setting history_then row (told.Slots replicas) =
-        subst (IsToldByRange setting history_then row) tells (taken_true setting own history_then row legal) in
+    subst (IsToldByRange setting history_then row) tells (taken_true setting own history_then row legal) in
     let number : (hand_of then.purse).own ≡ Some (pass_of know) =
-        ap (option_map (λ (kept : Kept). kept.number)) begun.met.own ∙ c.requires.number in
+    ap (option_map (λ (kept : Kept). kept.number)) begun.met.own ∙ c.requires.number in
     let pass_is : pass_of then ≡ pass_of know = ap (number_or 0) number in
     let holds : 0 < times_range own then.purse.holds =
-        subst (λ (xs : List Range). 0 < times_range own xs) (sym begun.met.holding) begun.some in
+    subst (λ (xs : List Range). 0 < times_range own xs) (sym begun.met.holding) begun.some in
     record {
       held = subst (λ (r : Range). IsRangeHeld r.0 c.begin.new.self.replay c.begin.new.self.owner)
           (sym c.begin.ensures.range) both.1;
@@ -92,22 +90,22 @@ returns-in-Ok-Slots-clause-written g c =
     let row = c.args.row.now in
     let is : c.in-Ok-Slots.field-0 ≡ told.Slots replicas = c.in-Ok-Slots.field-0-is in
     let begun : HasBegun leaves own history_then know then =
-        (subst (λ (x : WriteTold). HasAnswered leaves own c.begin.new.self.replay c.begin.new.self.owner x know then)
-        is c.in-Ok-Slots.ensures.answered).0 in
+    (subst (λ (x : WriteTold). HasAnswered leaves own c.begin.new.self.replay c.begin.new.self.owner x know then)
+    is c.in-Ok-Slots.ensures.answered).0 in
     let here : own.0 < length then.seen.ranges =
-        subst (λ (n : ℕ). own.0 < n) (sym c.begin.ensures.sound.held.all_ranges) c.begin.ensures.here in
+    subst (λ (n : ℕ). own.0 < n) (sym c.begin.ensures.sound.held.all_ranges) c.begin.ensures.here in
     let legal : IsLegal setting.held setting.zones setting.points own history_then =
-        subst (IsLegal setting.held setting.zones setting.points own) begun.whole
-        (c.begin.ensures.sound.held.legal own here) in
+    subst (IsLegal setting.held setting.zones setting.points own) begun.whole
+    (c.begin.ensures.sound.held.legal own here) in
     let tells : lock_answer c.args.limit history_then row ≡ told.Slots replicas =
-        ap (λ (h : List RangeEntry). lock_answer c.args.limit h row) c.begin.ensures.history
-        ∙ sym c.in-Ok-Slots.ensures.told ∙ is in
+    ap (λ (h : List RangeEntry). lock_answer c.args.limit h row) c.begin.ensures.history
+    ∙ sym c.in-Ok-Slots.ensures.told ∙ is in
     let may : IsToldByRange setting history_then row (told.Slots replicas) =
-        subst (IsToldByRange setting history_then row)
-        (ap (λ (n : ℕ). lock_answer n history_then row) (sym c.requires.limit) ∙ tells)
-        (taken_true setting own history_then row legal) in
+    subst (IsToldByRange setting history_then row)
+    (ap (λ (n : ℕ). lock_answer n history_then row) (sym c.requires.limit) ∙ tells)
+    (taken_true setting own history_then row legal) in
     let number : (hand_of then.purse).own ≡ Some (pass_of know) =
-        ap (option_map (λ (kept : Kept). kept.number)) begun.met.own ∙ c.requires.number in
+    ap (option_map (λ (kept : Kept). kept.number)) begun.met.own ∙ c.requires.number in
     ended_written leaves range row c.args.limit (pass_of know) know c.write_held.new.know history_then then
     (tells ∙ ap (λ (xs : List SlotLeaf). told.Slots xs) may.0)
     (subst (λ (r : Range). HasBegun leaves r history_then know then) (sym c.requires.range) begun)
@@ -129,12 +127,12 @@ returns-in-Ok-OldPoint-clause-written g c =
     let own = c.args.self.now.owner.range in
     let row = c.args.row.now in
     let met = (subst (λ (x : WriteTold). HasAnswered leaves own c.begin.new.self.replay c.begin.new.self.owner x know then)
-        c.in-Ok-OldPoint.field-0-is c.in-Ok-OldPoint.ensures.answered).0 in
+    c.in-Ok-OldPoint.field-0-is c.in-Ok-OldPoint.ensures.answered).0 in
     let why : lock_answer c.args.limit (range_history then.seen c.args.range) row ≡ told.OldPoint c.in-Ok-OldPoint.last =
-        subst (λ (r : Range). lock_answer c.args.limit (range_history then.seen r) row
-        ≡ told.OldPoint c.in-Ok-OldPoint.last) (sym c.requires.range)
-        (ap (λ (h : List RangeEntry). lock_answer c.args.limit h row) c.begin.ensures.whole
-        ∙ sym c.in-Ok-OldPoint.ensures.told ∙ c.in-Ok-OldPoint.field-0-is) in
+    subst (λ (r : Range). lock_answer c.args.limit (range_history then.seen r) row
+    ≡ told.OldPoint c.in-Ok-OldPoint.last) (sym c.requires.range)
+    (ap (λ (h : List RangeEntry). lock_answer c.args.limit h row) c.begin.ensures.whole
+    ∙ sym c.in-Ok-OldPoint.ensures.told ∙ c.in-Ok-OldPoint.field-0-is) in
     record {
       met = subst (λ (r : Range). HasMetRange leaves r know.purse.holds know then) (sym c.requires.range) met;
       why = search rules;
@@ -154,7 +152,7 @@ returns-in-Ok-RangeFull-clause-written g c =
     let own = c.args.self.now.owner.range in
     let row = c.args.row.now in
     let met = (subst (λ (x : WriteTold). HasAnswered leaves own c.begin.new.self.replay c.begin.new.self.owner x know then)
-        c.in-Ok-RangeFull.field-0-is c.in-Ok-RangeFull.ensures.answered).0 in
+    c.in-Ok-RangeFull.field-0-is c.in-Ok-RangeFull.ensures.answered).0 in
     record {
       met = subst (λ (r : Range). HasMetRange leaves r know.purse.holds know then) (sym c.requires.range) met;
       why = subst (λ (r : Range). lock_answer c.args.limit (range_history then.seen r) row

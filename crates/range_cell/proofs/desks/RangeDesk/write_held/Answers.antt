@@ -1,4 +1,4 @@
-use Rattle.std.proofs.Common.{◌≡◌, ◌<◌, ℕ, List, [], length, refl, sym, ap, subst, ◌∙◌}
+use Rattle.std.proofs.Common.{◌≡◌, ◌<◌, List, [], length, sym, ap, subst, ◌∙◌}
 use Rattle.history_book.specs.Seats.{times_range}
 use Rattle.mon_topo.specs.RangeHistories.{acknowledged_rows, serving}
 use Rattle.mon_value.specs.Histories.{range_history}
