@@ -1,0 +1,179 @@
+-- How a write's machine ends once all replicas are decided, and what the range's lock tells a row.
+use Rattle.std.proofs.Common.{◌≡◌, ℕ, ◌+◌, ◌≤◌, Bool, true, false, List, [], ◌∷◌, ◌++◌, length, length-append, refl}
+use Rattle.std.proofs.Common.{ap, subst, ◌∙◌, arith, cond, None, Some}
+use Rattle.std.specs.Prelude.{Option, Result, Ok, Err, ℤ}
+use Rattle.std.specs.List.{flat_map}
+use Rattle.leaf_store.proofs.FollowLemmas.{source_more}
+use Rattle.mon_topo.specs.RangeHistories.{IsLegal, acknowledged_rows, serving}
+use Rattle.mon_topo.specs.Settings.{Setting}
+use Rattle.mon_value.specs.declared.histories.Ack.{Ack}
+use Rattle.mon_value.specs.declared.histories.RangeEntry.{RangeEntry}
+use Rattle.mon_value.specs.declared.positions.FoundDown.{FoundDown}
+use Rattle.mon_value.specs.declared.positions.Range.{Range}
+use Rattle.mon_value.specs.declared.rows.Row.{Row}
+use Rattle.know.specs.Knowledge.{Knowledge}
+use Rattle.range_cell.specs.Calls.{HasBegun}
+use Rattle.range_cell.specs.Writes.{Behind, HasEnded, HasTriedTo, HasWritten}
+use Rattle.range_cell.specs.declared.answers.WriteFault.{WriteFault}
+use Rattle.range_cell.specs.declared.answers.WriteFault.TheVariants as fault
+use Rattle.write_core.proofs.LockLemmas.{lock_told}
+use Rattle.write_core.proofs.OpeningLemmas.{acked_source}
+use Rattle.write_core.specs.Marks.{ack_of, end_of, found_in_mark, has_taken, miss_of, missed_slot, some_took}
+use Rattle.write_core.specs.Marks.{taken_slot}
+use Rattle.write_core.specs.Program.{Acking, Ended, EndsSo, Marked, Stage, after}
+use Rattle.write_core.specs.RangeAnswers.{lock_answer, refusal, told_unless}
+use Rattle.write_core.specs.Steps.{IsToldByRange}
+use Rattle.write_core.specs.declared.asks.WriteEnd.{WriteEnd}
+use Rattle.write_core.specs.declared.asks.WriteEnd.TheVariants as end
+use Rattle.write_core.specs.declared.asks.WriteTold.{WriteTold}
+use Rattle.write_core.specs.declared.asks.WriteTold.TheVariants as told
+use Rattle.write_core.specs.declared.marks.Fate.{Fate}
+use Rattle.write_core.specs.declared.marks.Fate.TheVariants as fates
+use Rattle.write_core.specs.declared.marks.Mark.{Mark}
+use Rattle.write_core.specs.declared.refusals.Refused.{Refused}
+use Rattle.write_core.specs.declared.refusals.Refused.TheVariants as refused
+
+-- ---- the end
+
+module _ (range : Range) (marks : List Mark) where
+  abbrev end_by : Bool → WriteEnd
+  end_by b = cond b (end.Written (ack_of range marks)) (end.Unavailable (flat_map found_in_mark marks))
+
+  written_at : (ack : Ack) (b : Bool) → some_took marks ≡ b → end.Written ack ≡ end_by b
+      → (some_took marks ≡ true) × (ack_of range marks ≡ ack)
+  written_at ack true is e = (is, cc)
+  written_at ack false is e = absurd cc
+
+  -- it is written where some replica took the row
+  pub written_end : (ack : Ack) → end.Written ack ≡ end_of range marks
+      → (some_took marks ≡ true) × (ack_of range marks ≡ ack)
+  written_end ack e = written_at ack (some_took marks) refl e
+
+  unavailable_at : (founds : List FoundDown) (b : Bool) → some_took marks ≡ b → end.Unavailable founds ≡ end_by b
+      → (some_took marks ≡ false) × (flat_map found_in_mark marks ≡ founds)
+  unavailable_at founds true is e = absurd cc
+  unavailable_at founds false is e = (is, cc)
+
+  pub unavailable_end : (founds : List FoundDown) → end.Unavailable founds ≡ end_of range marks
+      → (some_took marks ≡ false) × (flat_map found_in_mark marks ≡ founds)
+  unavailable_end founds e = unavailable_at founds (some_took marks) refl e
+
+  -- what the lock refuses is no end of it
+  pub old_no_end : (last : ℤ) → end.OldPoint last ≡ end_of range marks → ⊥
+  old_no_end last e = by (some_took marks) e
+    where
+      by : (b : Bool) → end.OldPoint last ≡ end_by b → ⊥
+      by true h = cc
+      by false h = cc
+
+  pub full_no_end : (count : ℕ) → end.RangeFull count ≡ end_of range marks → ⊥
+  full_no_end count e = by (some_took marks) e
+    where
+      by : (b : Bool) → end.RangeFull count ≡ end_by b → ⊥
+      by true h = cc
+      by false h = cc
+
+  -- the machine that was told that it is done has ended so
+  pub ended_so : (other : Range) (stage next : Stage) (e : WriteEnd) → stage ≡ Acking (Marked marks)
+      → next ≡ after stage told.Done → other ≡ range → EndsSo other next e → e ≡ end_of range marks
+  ended_so other stage next e acking done same ends =
+      subst (λ (r : Range). EndsSo r (Ended (Marked marks)) e) same
+      (subst (λ (s : Stage). EndsSo other s e) (done ∙ ap (λ s. after s told.Done) acking) ends)
+
+-- ---- how many are named
+
+one_taken : (b : Bool) (mark : Mark) → length (cond b (mark.slot ∷ []) []) ≤ 1
+one_taken true mark = omega arith
+one_taken false mark = omega arith
+
+pub few_taken : (marks : List Mark) → length (flat_map taken_slot marks) ≤ length marks
+few_taken [] = omega arith
+few_taken (mark ∷ marks) =
+    let sum : length (taken_slot mark ++ flat_map taken_slot marks)
+    ≡ length (taken_slot mark) + length (flat_map taken_slot marks) =
+    length-append (taken_slot mark) (flat_map taken_slot marks) in
+    let here : length (taken_slot mark) ≤ 1 = one_taken (has_taken mark.fate) mark in
+    let rest = few_taken marks in
+    omega arith
+
+one_missed : (mark : Mark) (f : Fate) → length (miss_of mark f) ≤ 1
+one_missed mark fates.Waiting = omega arith
+one_missed mark fates.Ready = omega arith
+one_missed mark fates.Took = omega arith
+one_missed mark (fates.Missed cut) = omega arith
+
+pub few_missed : (marks : List Mark) → length (flat_map missed_slot marks) ≤ length marks
+few_missed [] = omega arith
+few_missed (mark ∷ marks) =
+    let sum : length (missed_slot mark ++ flat_map missed_slot marks)
+    ≡ length (missed_slot mark) + length (flat_map missed_slot marks) =
+    length-append (missed_slot mark) (flat_map missed_slot marks) in
+    let here : length (missed_slot mark) ≤ 1 = one_missed mark mark.fate in
+    let rest = few_missed marks in
+    omega arith
+
+-- ---- at the lock
+
+-- a row that goes in may come behind the acknowledged ones
+pub taken_true : (setting : Setting) (range : Range) (history : List RangeEntry) (row : Row)
+    → IsLegal setting.held setting.zones setting.points range history
+    → IsToldByRange setting history row (lock_answer setting.points history row)
+taken_true setting range history row legal =
+    lock_told setting range history row legal
+    (source_more (acknowledged_rows history) row
+    (acked_source setting.held setting.zones setting.points range history legal))
+
+-- it tells no other answers
+abbrev told_at_lock : WriteTold → Bool
+told_at_lock (told.Slots replicas) = true
+told_at_lock (told.OldPoint last) = true
+told_at_lock (told.RangeFull count) = true
+told_at_lock (told.Up buckets) = false
+told_at_lock (told.Down cut) = false
+told_at_lock told.Done = false
+
+lock_tells : (limit : ℕ) (history : List RangeEntry) (row : Row)
+    → told_at_lock (lock_answer limit history row) ≡ true
+lock_tells limit history row = by (refusal limit history row)
+  where
+    by : (why : Option Refused) → told_at_lock (told_unless (serving history) why) ≡ true
+    by None = refl
+    by (Some (refused.OldPoint last)) = refl
+    by (Some (refused.RangeFull count)) = refl
+
+module _ (limit : ℕ) (history : List RangeEntry) (row : Row) where
+  pub never_up : (buckets : List ℕ) → told.Up buckets ≡ lock_answer limit history row → ⊥
+  never_up buckets e = by (ap told_at_lock e ∙ lock_tells limit history row)
+    where
+      by : false ≡ true → ⊥
+      by h = cc
+
+  pub never_down : (cut : ℕ) → told.Down cut ≡ lock_answer limit history row → ⊥
+  never_down cut e = by (ap told_at_lock e ∙ lock_tells limit history row)
+    where
+      by : false ≡ true → ⊥
+      by h = cc
+
+  pub never_done : told.Done ≡ lock_answer limit history row → ⊥
+  never_done e = by (ap told_at_lock e ∙ lock_tells limit history row)
+    where
+      by : false ≡ true → ⊥
+      by h = cc
+
+-- ---- what a write gives
+
+module _ (leaves : ℕ) (range : Range) (row : Row) (limit pass : ℕ) (before after : Knowledge)
+    (history : List RangeEntry) (begun : Knowledge) (takes : lock_answer limit history row ≡ told.Slots (serving history))
+    (begins : HasBegun leaves range history before begun) where
+  tried : (result : Result Ack WriteFault) → HasEnded leaves range row history pass begun after result
+      → HasTriedTo leaves range row limit pass before after result
+  tried result ended = record { history = history; begun = begun; takes = takes; begins = begins; ends = ended }
+
+  pub ended_written : (result : Result Ack WriteFault) → HasEnded leaves range row history pass begun after result
+      → HasWritten leaves range row limit pass before after result
+  ended_written (Ok ack) ended = tried (Ok ack) ended
+  ended_written (Err fault.NoZone) ended = absurd ended
+  ended_written (Err (fault.OldPoint last)) ended = absurd ended
+  ended_written (Err (fault.RangeFull count)) ended = absurd ended
+  ended_written (Err (fault.Unavailable at founds)) ended = tried (Err (fault.Unavailable at founds)) ended
+  ended_written (Err fault.OutOfMemory) ended = Behind (tried (Err fault.OutOfMemory) ended)

@@ -1,0 +1,302 @@
+// What lies under a range's lock.
+ghost use Rattle.std.specs.Prelude.{◌≡◌, ◌<◌, ◌++◌, ◌∷◌, ℕ, [], length, None, Some, IfOk, OnErr, OnOk};
+ghost use Rattle.history_book.specs.declared.views.BookEntry.TheVariants as one;
+ghost use Rattle.history_book.specs.declared.views.History.TheVariants as of;
+ghost use Rattle.history_book.specs.Histories.{with_book_entry};
+ghost use Rattle.history_book.specs.Seats.{after_append, guest_purse, hand_of, times_range};
+ghost use Rattle.know.specs.Knowledge.{Knowledge};
+ghost use Rattle.know.specs.Lending.{without_purse};
+ghost use Rattle.know.specs.Sound.{IsSound};
+ghost use Rattle.mon_topo.specs.HeldHistories.{IsAtHome};
+ghost use Rattle.mon_topo.specs.RangeHistories.{acknowledged_rows, serving};
+ghost use Rattle.mon_topo.specs.Zones.{ranges_in};
+ghost use Rattle.mon_value.specs.Histories.{range_history};
+ghost use Rattle.mon_value.specs.declared.histories.RangeEntry.TheVariants as entry;
+ghost use Rattle.owners.specs.Owners.{IsOfRange};
+ghost use Rattle.owners.specs.Puts.{pass_of};
+ghost use Rattle.range_cell.specs.Answers.{takes};
+ghost use Rattle.range_cell.specs.Calls.{HasAnswered, HasCome, HasEntered, HasMetRange, HasResolved, MayEnter};
+ghost use Rattle.range_cell.specs.Rest.{HaveJust, IsRangeAtRest, IsRangeHeld, others};
+ghost use Rattle.range_cell.specs.Stages.{IsBeginning, IsConcluding, IsThroughAt};
+ghost use Rattle.range_cell.specs.Writes.{HasEnded, HasWritten};
+ghost use Rattle.write_core.specs.RangeAnswers.{lock_answer};
+ghost use Rattle.write_core.specs.Replays.{HasAckRoom};
+
+use crate::answers::WriteFault;
+use crate::entering::{Entering, enter_leaves};
+use crate::loops::tell;
+use crate::sides::LeafSide;
+use history_book::NewEntry;
+use know::{Know, Names, Tables};
+use mon_value::{Ack, Leaves, OutOfMemory, Range, Row, SeriesKey, Shared, SlotLeaf, SlotLeaves};
+use owners::RangeOwner;
+use std::alloc::Global;
+use std::marker::Brand;
+use std::sync::Wait;
+use write_core::{RangeReplay, WriteEnd, WriteTold};
+
+/// A range's replay and its owner.
+#[derive(Drop)]
+pub(crate) struct RangeDesk<N: Names> {
+    pub(crate) replay: RangeReplay,
+    pub(crate) owner: RangeOwner<N>,
+}
+
+impl<N: Names> RangeDesk<N> {
+    /// The first replica that serves and is on none of these leaves.
+    pub(crate) fn resolve(
+        &mut self,
+        tables: &Tables<N>,
+        know: &mut Know<N>,
+        avoid: &Leaves,
+    ) -> Option<SlotLeaf>
+        requires rest { IsRangeAtRest self.old.owner.range.0 self.old.replay self.old.owner }
+        requires none { know.old.purse.holds ≡ [] }
+        ensures rest { IsRangeAtRest self.old.owner.range.0 self.new.replay self.new.owner }
+        ensures resolved { HasResolved N.book.leaves self.old.owner.range avoid.now result know.old know.new }
+    {
+        self.receive(tables, know);
+        let told = self.replay.resolve(avoid);
+        self.owner.part(tables, know, false);
+        told
+    }
+
+    /// Asks whether a row goes in. Where it does, room is made for its acknowledgement, and the caller holds the range.
+    pub(crate) fn begin(
+        &mut self,
+        tables: &Tables<N>,
+        know: &mut Know<N>,
+        row: &Row,
+        limit: u64,
+    ) -> Result<WriteTold, OutOfMemory>
+        requires rest { IsRangeAtRest self.old.owner.range.0 self.old.replay self.old.owner }
+        requires none { know.old.purse.holds ≡ [] }
+        ensures told { IfOk result (λ told. told ≡ lock_answer limit self.old.replay.history row.now) }
+        ensures answered { IfOk result (λ told.
+            HasAnswered N.book.leaves self.old.owner.range self.new.replay self.new.owner told know.old know.new) }
+        ensures room { OnOk result (HasAckRoom self.new.replay) }
+        ensures history { self.new.replay.history ≡ self.old.replay.history }
+        ensures range { self.new.owner.range ≡ self.old.owner.range }
+        ensures sound { IsSound N.setting know.new.hints know.new.seen }
+        ensures whole { range_history know.new.seen self.old.owner.range ≡ self.old.replay.history }
+        ensures here { self.old.owner.range.0 < length (ranges_in N.setting.zones) }
+        ensures refused { OnErr result
+            (HasMetRange N.book.leaves self.old.owner.range know.old.purse.holds know.old know.new
+            × IsRangeAtRest self.old.owner.range.0 self.new.replay self.new.owner) }
+    {
+        self.receive(tables, know);
+        let told = asked(&mut self.replay, row, limit);
+        let hold = is_taken(&told);
+        self.owner.part(tables, know, hold);
+        told
+    }
+
+    /// The range is given back, and nothing was written.
+    pub(crate) fn give_back(&mut self, tables: &Tables<N>, know: &mut Know<N>)
+        requires held { IsRangeHeld self.old.owner.range.0 self.old.replay self.old.owner }
+        requires holds { 0 < times_range self.old.owner.range know.old.purse.holds }
+        requires rows { HaveJust know.old.seen self.old.owner.range self.old.replay.history }
+        ensures rest { IsRangeAtRest self.old.owner.range.0 self.new.replay self.new.owner }
+        ensures met { HasMetRange N.book.leaves self.old.owner.range
+            (others self.old.owner.range know.old.purse.holds) know.old know.new }
+        ensures whole { range_history know.new.seen self.old.owner.range ≡ self.old.replay.history }
+    {
+        self.receive(tables, know);
+        self.owner.part(tables, know, false);
+    }
+
+    /// The range is given back with the acknowledgement of a row, in room that was made before.
+    pub(crate) fn acknowledge(
+        &mut self,
+        tables: &Tables<N>,
+        know: &mut Know<N>,
+        key: Shared<SeriesKey>,
+        row: Row,
+        ack: Ack,
+    )
+        requires held { IsRangeHeld self.old.owner.range.0 self.old.replay self.old.owner }
+        requires holds { 0 < times_range self.old.owner.range know.old.purse.holds }
+        requires room { HasAckRoom self.old.replay }
+        requires key { key ≡ row.key }
+        requires number { (hand_of know.old.purse).own ≡ Some (pass_of know.old) }
+        requires may { MayEnter N.setting self.old.owner.range self.old.replay.history
+            (entry.Acked (pass_of know.old) row ack) know.old }
+        ensures rest { IsRangeAtRest self.old.owner.range.0 self.new.replay self.new.owner }
+        ensures entered { HasEntered N.book.leaves self.old.owner.range self.old.replay.history
+            (entry.Acked (pass_of know.old) row ack) know.old know.new }
+    {
+        let Some(pass) = know.number() else {
+            unreachable!();
+        };
+        self.receive(tables, know);
+        self.enter::<Brand>(tables, key, pass, row, ack);
+        self.owner.part(tables, know, false);
+    }
+
+    // A row is acknowledged: to the replay, and in the owner's history under the guest's number.
+    fn enter<E: NewEntry>(
+        &mut self,
+        tables: &Tables<N>,
+        key: Shared<SeriesKey>,
+        pass: u64,
+        row: Row,
+        ack: Ack,
+    )
+        requires named { E.entry ≡ one.Range (entry.Acked pass row ack) }
+        requires key { key ≡ row.key }
+        requires room { HasAckRoom self.old.replay }
+        requires history { range_history self.old.owner.book.seen self.old.owner.range ≡ self.old.replay.history }
+        requires number { (hand_of (guest_purse self.old.owner.book.guest)).own ≡ Some pass }
+        requires sound { IsSound N.setting self.old.owner.hints
+            (with_book_entry (of.Range self.old.owner.range) (one.Range (entry.Acked pass row ack))
+            self.old.owner.book.seen) }
+        ensures history { self.new.replay.history ≡ self.old.replay.history ++ entry.Acked pass row ack ∷ [] }
+        ensures book { self.new.owner.book ≡ after_append (one.Range (entry.Acked pass row ack)) self.old.owner.book }
+        ensures hints { self.new.owner.hints ≡ self.old.owner.hints }
+        ensures range { self.new.owner.range ≡ self.old.owner.range }
+    {
+        let length = self.replay.length();
+        prove!(length < 1 << 62);
+        self.replay.acknowledge(key, pass, row, ack);
+        self.owner.append::<E>(tables, self.replay.sight());
+    }
+
+    /// Writes a row, behind the lock of its range, which is this one. Memory is taken at the lock, and where leaves are
+    /// asked for room.
+    #[tactic(auto, using(crate::proofs::EndingLemmas::never_up, crate::proofs::EndingLemmas::never_down, crate::proofs::EndingLemmas::never_done))]
+    pub(crate) fn write<R: Wait, S: LeafSide<N>>(
+        &mut self,
+        rt: &R,
+        alloc: Global,
+        tables: &Tables<N>,
+        know: &mut Know<N>,
+        leaves: &S,
+        range: Range,
+        limit: u64,
+        row: &Row,
+    ) -> Result<Ack, WriteFault>
+        requires rest { IsRangeAtRest self.old.owner.range.0 self.old.replay self.old.owner }
+        requires range { range ≡ self.old.owner.range }
+        requires limit { limit ≡ N.setting.points }
+        requires none { know.old.purse.holds ≡ [] }
+        requires number { (hand_of know.old.purse).own ≡ Some (pass_of know.old) }
+        requires home { IsAtHome N.setting.held N.setting.zones range row.now }
+        ensures rest { IsRangeAtRest self.old.owner.range.0 self.new.replay self.new.owner }
+        ensures written { HasWritten N.book.leaves range row.now limit (pass_of know.old) know.old know.new result }
+    {
+        match self.begin(tables, know, row, limit) {
+            Ok(WriteTold::Slots(replicas)) => self.write_held(
+                rt, alloc, tables, know, leaves, range, row, replicas,
+            ),
+            Ok(WriteTold::OldPoint(last)) => Err(WriteFault::OldPoint(last)),
+            Ok(WriteTold::RangeFull(count)) => Err(WriteFault::RangeFull(count)),
+            Ok(WriteTold::Up(_) | WriteTold::Down(_) | WriteTold::Done) => unreachable!(),
+            Err(_fault) => Err(WriteFault::OutOfMemory),
+        }
+    }
+
+    // Writes a row to the replicas that serve, once the caller holds the range.
+    fn write_held<R: Wait, S: LeafSide<N>>(
+        &mut self,
+        rt: &R,
+        alloc: Global,
+        tables: &Tables<N>,
+        know: &mut Know<N>,
+        leaves: &S,
+        range: Range,
+        row: &Row,
+        replicas: SlotLeaves,
+    ) -> Result<Ack, WriteFault>
+        requires held { IsRangeHeld self.old.owner.range.0 self.old.replay self.old.owner }
+        requires range { range ≡ self.old.owner.range }
+        requires room { HasAckRoom self.old.replay }
+        requires serve { replicas ≡ serving self.old.replay.history }
+        requires begins { IsBeginning N.setting range row.now (pass_of know.old)
+            (acknowledged_rows self.old.replay.history) replicas know.old }
+        requires few { length (acknowledged_rows self.old.replay.history) < N.setting.points }
+        ensures rest { IsRangeAtRest self.old.owner.range.0 self.new.replay self.new.owner }
+        ensures ended { HasEnded N.book.leaves range row.now self.old.replay.history (pass_of know.old) know.old
+            know.new result }
+    {
+        match enter_leaves(rt, alloc, know, leaves, range, row, replicas) {
+            Ok(entering) => self.conclude(tables, know, range, entering),
+            Err(_fault) => {
+                self.give_back(tables, know);
+                Err(WriteFault::OutOfMemory)
+            }
+        }
+    }
+
+    // Acknowledges a row that some replica took, and gives the range back. No memory is taken.
+    fn conclude(
+        &mut self,
+        tables: &Tables<N>,
+        know: &mut Know<N>,
+        range: Range,
+        entering: Entering,
+    ) -> Result<Ack, WriteFault>
+        requires held { IsRangeHeld self.old.owner.range.0 self.old.replay self.old.owner }
+        requires range { range ≡ self.old.owner.range }
+        requires machine { entering.machine.range ≡ range }
+        requires room { HasAckRoom self.old.replay }
+        requires key { entering.key ≡ entering.copies.row.key }
+        requires answer { entering.answer ≡ length (serving self.old.replay.history) }
+        requires through { IsConcluding N.setting range entering.copies.row self.old.replay.history know.old
+            entering.machine.stage }
+        ensures rest { IsRangeAtRest self.old.owner.range.0 self.new.replay self.new.owner }
+        ensures ended { (pass : ℕ) (begun : Knowledge) → IsThroughAt range entering.copies.row pass
+            (acknowledged_rows self.old.replay.history) begun (serving self.old.replay.history) know.old
+            entering.machine.stage → HasEnded N.book.leaves range entering.copies.row self.old.replay.history pass begun
+            know.new result }
+    {
+        let mut machine = entering.machine;
+        let row = entering.copies.into_row();
+        tell(&mut machine, WriteTold::Done);
+        match machine.finish() {
+            WriteEnd::Written(ack) => {
+                let answer = entering.answer.copied(&ack);
+                self.acknowledge(tables, know, entering.key, row, ack);
+                Ok(answer)
+            }
+            WriteEnd::Unavailable(founds) => {
+                self.give_back(tables, know);
+                Err(WriteFault::Unavailable(range, founds))
+            }
+            WriteEnd::OldPoint(_) | WriteEnd::RangeFull(_) => unreachable!(),
+        }
+    }
+
+    // A caller comes, and notes the length of the history.
+    fn receive(&mut self, tables: &Tables<N>, know: &mut Know<N>)
+        requires free { self.old.owner.book.guest ≡ None }
+        requires own { self.old.owner.book.history ≡ of.Range self.old.owner.range }
+        ensures came { HasCome N.book.leaves know.old self.old.owner self.new.owner }
+        ensures left { know.new ≡ without_purse know.old }
+        ensures sound { IsSound N.setting self.new.owner.hints self.new.owner.book.seen }
+        ensures of_range { IsOfRange N.setting self.new.owner.range self.new.owner.book }
+        ensures replay { self.new.replay ≡ self.old.replay }
+    {
+        self.owner.meet(tables, know);
+        self.owner.learn(tables);
+    }
+}
+
+// Whether the row goes in.
+fn is_taken(told: &Result<WriteTold, OutOfMemory>) -> bool
+    ensures taken { result ≡ takes told.now }
+{
+    match told {
+        Ok(WriteTold::Slots(_)) => true,
+        _ => false,
+    }
+}
+
+// What a write is told, with room for its acknowledgement.
+fn asked(replay: &mut RangeReplay, row: &Row, limit: u64) -> Result<WriteTold, OutOfMemory>
+    ensures told { IfOk result (λ told. told ≡ lock_answer limit replay.old.history row.now) }
+    ensures history { replay.new.history ≡ replay.old.history }
+    ensures room { OnOk result (HasAckRoom replay.new) }
+{
+    replay.reserve()?;
+    replay.answer(row, limit)
+}

@@ -1,0 +1,35 @@
+// What a write does at the leaves of its range.
+ghost use Rattle.std.specs.Prelude.{◌<◌, IfOk, OnErr};
+ghost use Rattle.history_book.specs.Seats.{times_room, without_one};
+ghost use Rattle.mon_value.specs.declared.histories.Entry.TheVariants as entry;
+ghost use Rattle.owners.specs.Calls.{HasLooked, HasPut, HasReserved};
+ghost use Rattle.owners.specs.Puts.{HasSeenOpened, MayPut, pass_of};
+
+use know::{Found, Know, Names};
+use mon_value::{Leaf, OutOfMemory, Range, Row, Slot};
+
+/// The leaves of a store, as a write meets them. Each call is one section under the leaf's lock.
+pub trait LeafSide<N: Names> {
+    /// Asks for room for a row. Where memory runs out the caller has seen more, and nothing else.
+    fn reserve(
+        &self,
+        leaf: Leaf,
+        know: &mut Know<N>,
+        range: Range,
+        slot: Slot,
+        row: &Row,
+    ) -> Result<Found, OutOfMemory>
+        requires seen { HasSeenOpened N.setting know.old leaf range slot }
+        ensures reserved { IfOk result (λ found. HasReserved leaf found know.old know.new) }
+        ensures refused { OnErr result (HasLooked leaf know.old.purse.rooms know.old know.new) };
+
+    /// Puts a row where room was made, or gives the room back where the leaf is down.
+    fn put(&self, leaf: Leaf, know: &mut Know<N>, range: Range, slot: Slot, row: Row) -> Found
+        requires may { MayPut N.setting know.old leaf range slot row }
+        ensures put { HasPut leaf (entry.Put (pass_of know.old) range slot row) result know.old know.new };
+
+    /// Gives room back.
+    fn cancel(&self, leaf: Leaf, know: &mut Know<N>)
+        requires room { 0 < times_room leaf know.old.purse.rooms }
+        ensures cancelled { HasLooked leaf (without_one leaf know.old.purse.rooms) know.old know.new };
+}
