@@ -160,6 +160,9 @@ module _ (limit : ℕ) (history : List RangeEntry) (row : Row) where
       by : false ≡ true → ⊥
       by h = cc
 
+-- what no lock tells
+pub ruleset never_at_lock = (never_up, never_down, never_done)
+
 -- ---- what a write gives
 
 module _ (leaves : ℕ) (range : Range) (row : Row) (limit pass : ℕ) (before after : Knowledge)

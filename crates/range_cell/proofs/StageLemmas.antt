@@ -328,7 +328,8 @@ module _ (range : Range) (row : Row) (pass : ℕ) (rows : List Row) (before : Kn
 
         withdraws : (know : Knowledge) (marks : List Mark) → IsWriting range row pass rows before know marks
             → map replica_of marks ≡ replicas
-            → AllByRecursion (RowsBy know) marks → PutNothing pass range row marks → IsWithdrawing range pass rows before replicas know marks
+            → AllByRecursion (RowsBy know) marks → PutNothing pass range row marks
+            → IsWithdrawing range pass rows before replicas know marks
         withdraws know marks w serve has none = record {
           fronts = w.fronts;
           number = w.number;

@@ -163,7 +163,7 @@ impl<N: Names> RangeDesk<N> {
 
     /// Writes a row, behind the lock of its range, which is this one. Memory is taken at the lock, and where leaves are
     /// asked for room.
-    #[tactic(auto, using(crate::proofs::EndingLemmas::never_up, crate::proofs::EndingLemmas::never_down, crate::proofs::EndingLemmas::never_done))]
+    #[tactic(auto, using(crate::proofs::EndingLemmas::never_at_lock))]
     pub(crate) fn write<R: Wait, S: LeafSide<N>>(
         &mut self,
         rt: &R,

@@ -51,6 +51,7 @@ returns g c =
     let none : drop c.loop-mark.mark-index c.args.marks.now ≡ [] =
     at_drop_all (λ (m : List Mark). m) _ c.loop-mark.mark-index c.loop-mark-test.false in
     record {
-      back = λ range pass rows before replicas w. subst (λ (left : List Mark). IsWithdrawing range pass rows before replicas c.loop-mark.know left) none
+      back = λ range pass rows before replicas w.
+          subst (λ (left : List Mark). IsWithdrawing range pass rows before replicas c.loop-mark.know left) none
           (c.loop-mark.invariant.back range pass rows before replicas w);
     }
