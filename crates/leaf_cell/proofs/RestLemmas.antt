@@ -1,5 +1,5 @@
 -- A leaf is at rest again once its caller went, and what was added to its history is raised.
-use Rattle.std.proofs.Common.{◌≡◌, ℕ, ◌-◌, ◌≤◌, Bool, ◌||◌, List, [], ◌∷◌, ◌++◌, refl, sym, ap, subst, ◌∙◌}
+use Rattle.std.proofs.Common.{◌≡◌, ℕ, ◌-◌, Bool, ◌||◌, List, [], ◌∷◌, ◌++◌, refl, sym, ap, subst, ◌∙◌}
 use Rattle.history_book.proofs.ListLemmas.{added_here}
 use Rattle.history_book.specs.declared.rooms.RoomMove.{RoomMove}
 use Rattle.history_book.specs.declared.rooms.RoomMove.TheVariants as move
@@ -20,7 +20,6 @@ use Rattle.mon_topo.specs.Settings.{Setting}
 use Rattle.mon_value.specs.Histories.{leaf_history}
 use Rattle.mon_value.specs.declared.histories.Entry.{Entry}
 use Rattle.mon_value.specs.declared.histories.Entry.TheVariants as entry
-use Rattle.mon_value.specs.declared.limits.TheConstants.{MOST_BUCKETS}
 use Rattle.mon_value.specs.declared.positions.Range.{Range}
 use Rattle.mon_value.specs.declared.positions.Slot.{Slot}
 use Rattle.mon_value.specs.declared.rows.Row.{Row}
@@ -38,7 +37,6 @@ module _ (setting : Setting) (raise : RaiseIdentity) (n : ℕ) where
   alike state after schemas buckets by = record {
     schemas = schemas ∙ by.schemas;
     number = buckets ∙ by.number;
-    most = subst (λ (k : ℕ). k ≤ MOST_BUCKETS) (sym buckets) by.most;
     buckets = by.buckets ∙ (λ i. key_buckets (sym buckets i) (sym schemas i));
   }
 

@@ -1,5 +1,5 @@
 -- What holds of a leaf where its lock is free.
-use Rattle.std.specs.Prelude.{◌≡◌, ℕ, ◌≤◌, ◌&&◌, Bool, List, None, nat_eq}
+use Rattle.std.specs.Prelude.{◌≡◌, ℕ, ◌&&◌, Bool, List, None, nat_eq}
 use Rattle.std.specs.List.{list_any}
 use Rattle.mon_hints.specs.Places.{same_place}
 use Rattle.leaf_store.specs.LeafBuckets.{key_buckets}
@@ -9,7 +9,6 @@ use Rattle.mon_hints.specs.Listings.{is_among}
 use Rattle.mon_topo.specs.Settings.{Setting}
 use Rattle.mon_value.specs.Histories.{leaf_history}
 use Rattle.mon_value.specs.Positions.{leaf_numbered}
-use Rattle.mon_value.specs.declared.limits.TheConstants.{MOST_BUCKETS}
 use Rattle.owners.specs.Owners as owners
 use Rattle.raise_table.specs.Seats as hints
 use Rattle.raise_table.specs.Tables.{RaiseIdentity}
@@ -25,7 +24,6 @@ is_raised place bucket = list_any (λ raised. same_place raised.place place && n
 pub record GoesBy (setting : Setting) (raise : RaiseIdentity) (leaf : store.LeafView) : Type 0 where
   pub schemas : leaf.schemas ≡ setting.held
   pub number : leaf.buckets ≡ raise.buckets
-  pub most : leaf.buckets ≤ MOST_BUCKETS
   pub buckets : setting.buckets_of ≡ key_buckets leaf.buckets leaf.schemas
 
 -- the owner raised just these buckets, at the root and in its leaf's zone

@@ -147,6 +147,7 @@ impl<N: Names> LeafCell<N> {
         self.lock.release(key, desk);
         found
     }
+
     /// The rows of a replica in the whole history of the leaf, where it is up. They are handed out.
     pub fn copy<R: Wait>(
         &self,

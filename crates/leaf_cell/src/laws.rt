@@ -1,12 +1,11 @@
 // What holds of leaves whatever was called.
-ghost use Rattle.std.specs.Prelude.{◌≡◌, ◌≤◌, ℕ};
+ghost use Rattle.std.specs.Prelude.{◌≡◌, ℕ};
 ghost use Rattle.history_book.specs.declared.views.History.TheVariants as of;
 ghost use Rattle.history_book.specs.Seats as book;
 ghost use Rattle.leaf_cell.specs.Rest.{IsAtRest};
 ghost use Rattle.leaf_store.specs.LeafBuckets.{key_buckets};
 ghost use Rattle.leaf_store.specs.LeafStates.{new_leaf};
 ghost use Rattle.mon_topo.specs.Settings as a;
-ghost use Rattle.mon_value.specs.declared.limits.TheConstants.{MOST_BUCKETS};
 ghost use Rattle.mon_value.specs.declared.positions.Leaf as the;
 ghost use Rattle.owners.specs.Owners.{leaf_owner};
 ghost use Rattle.raise_table.specs.Seats as hints;
@@ -17,8 +16,7 @@ ghost use Rattle.raise_table.specs.declared.places.ZoneLeaf as bits;
 /// are those of its schemas.
 pub fn new_leaves_are_at_rest()
     ensures rest { (setting : a.Setting) (raise : table.RaiseIdentity) (leaf : the.Leaf) (bits : bits.ZoneLeaf)
-        (leaves ranges : ℕ) → raise.buckets ≤ MOST_BUCKETS
-        → setting.buckets_of ≡ key_buckets raise.buckets setting.held
+        (leaves ranges : ℕ) → setting.buckets_of ≡ key_buckets raise.buckets setting.held
         → IsAtRest setting raise leaf.0 (new_leaf setting.held raise.buckets)
         (leaf_owner leaf (hints.new_owner bits) (book.new_owner leaves ranges (of.Leaf leaf))) }
 {}

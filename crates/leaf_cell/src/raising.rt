@@ -1,12 +1,12 @@
 // How a leaf raises what a row brings.
-ghost use Rattle.std.specs.Prelude.{◌≡◌, ◌≤◌};
+ghost use Rattle.std.specs.Prelude.{◌≡◌};
 ghost use Rattle.leaf_cell.specs.Raising.{HasRaisedAt, MayRaiseAll};
 ghost use Rattle.leaf_store.specs.LeafBuckets.{is_unraised};
 
 use know::{Names, Tables};
 use leaf_store::LeafState;
 use mon_hints::Place;
-use mon_value::{MOST_BUCKETS, SeriesKey};
+use mon_value::SeriesKey;
 use owners::LeafOwner;
 
 /// Raises at a place the buckets of a series that the leaf's history lacks, from the least one up.
@@ -17,7 +17,6 @@ pub(crate) fn raise_left<N: Names>(
     place: Place,
     key: &SeriesKey,
 )
-    requires most { state.now.buckets ≤ MOST_BUCKETS }
     requires number { state.now.buckets ≡ N.raise.buckets }
     requires allowed { MayRaiseAll owner.old.hints.leaf owner.old.hints.raised place
         (is_unraised state.now.buckets state.now.schemas state.now.history key.now) }

@@ -25,7 +25,7 @@ raise-requires-clause-allowed g c =
 
 pub overflow_add-from : goal.overflow_add-from
 overflow_add-from g c =
-    omega (arith, c.in-Some.ensures.below, c.requires.most)
+    omega (arith, c.in-Some.ensures.small)
 
 pub loop-bucket-smaller : goal.loop-bucket-smaller
 loop-bucket-smaller g c =
