@@ -11,12 +11,12 @@ use Rattle.mon_run.specs.Feeds.{RecordVerdict, fault_in, refusal_of, refusals, r
 use Rattle.mon_run.specs.Feeds.{verdict_unless}
 use Rattle.mon_run.specs.Feeds.{verdict}
 use Rattle.mon_run.specs.Feeds.{verdicts}
-use Rattle.mon_store.specs.Writes.{write_fault}
-use Rattle.mon_store.specs.declared.faults.WriteFault.{WriteFault}
+use Rattle.script_store.specs.Writes.{write_fault}
+use Rattle.script_store.specs.declared.faults.WriteFault.{WriteFault}
 use Rattle.mon_run.specs.declared.outcome.RowRefused.TheVariants as refused
 use Rattle.mon_run.specs.declared.outcome.RowRefusal.{RowRefusal}
 use Rattle.mon_run.specs.declared.outcome.RowRefused.{RowRefused}
-use Rattle.mon_store.specs.Stores.{AllFit}
+use Rattle.script_store.specs.Stores.{AllFit}
 
 -- ---- records so far and records that are left
 

@@ -6,8 +6,8 @@ use Rattle.mon_config.specs.declared.config.Config.{Config}
 use Rattle.mon_points.specs.Records.{reads_of}
 use Rattle.mon_points.specs.declared.records.RowRead.{RowRead}
 use Rattle.mon_points.specs.declared.records.RowRead.TheVariants as read
-use Rattle.mon_store.specs.Writes.{write_fault}
-use Rattle.mon_store.specs.declared.faults.WriteFault.{WriteFault}
+use Rattle.script_store.specs.Writes.{write_fault}
+use Rattle.script_store.specs.declared.faults.WriteFault.{WriteFault}
 use Rattle.mon_run.specs.declared.outcome.RowRefused.{RowRefused}
 use Rattle.mon_run.specs.declared.outcome.RowRefused.TheVariants as refused
 use Rattle.mon_run.specs.declared.outcome.RowRefusal.{RowRefusal}

@@ -6,8 +6,8 @@ use Rattle.mon_config.specs.FaultTexts.{config_fault_text}
 use Rattle.mon_config.specs.declared.faults.ConfigFault.{ConfigFault}
 use Rattle.mon_points.specs.FaultTexts.{row_fault_text}
 use Rattle.mon_script.specs.declared.script.ScriptFault.{ScriptFault}
-use Rattle.mon_store.specs.declared.faults.WriteFault.{WriteFault}
-use Rattle.mon_store.specs.declared.faults.WriteFault.TheVariants as write
+use Rattle.script_store.specs.declared.faults.WriteFault.{WriteFault}
+use Rattle.script_store.specs.declared.faults.WriteFault.TheVariants as write
 use Rattle.mon_table.specs.Tables.{newline}
 use Rattle.mon_run.specs.declared.outcome.RowRefused.{RowRefused}
 use Rattle.mon_run.specs.declared.outcome.RowRefused.TheVariants as refused

@@ -1,8 +1,8 @@
 // The rows that a run accepted, as it gives them away.
 ghost use Rattle.std.specs.Prelude.{◌≡◌, length};
-ghost use Rattle.mon_store.specs.Stores.{accepted_rows};
+ghost use Rattle.script_store.specs.Stores.{accepted_rows};
 
-use mon_store::Store;
+use script_store::Store;
 use std::marker::Model;
 
 /// The rows that a run accepted, as its leaves keep them. Contracts see them as one list, in the order in which they
@@ -18,7 +18,7 @@ impl Model for Accepted {
 
     ghost Value = { List Row };
 
-    ghost use Rattle.mon_store.specs.Stores.{accepted_rows};
+    ghost use Rattle.script_store.specs.Stores.{accepted_rows};
 
     ghost view = { λ accepted. accepted_rows accepted.store };
 }

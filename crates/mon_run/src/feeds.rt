@@ -1,14 +1,14 @@
 // A feed: the records of a points file, each accepted or refused.
 ghost use Rattle.std.specs.Prelude.{◌≡◌, ◌+◌, ◌≤◌, ◌++◌, length, IfOk, OnErr, OnOk};
 ghost use Rattle.mon_run.specs.Feeds as spec;
-ghost use Rattle.mon_store.specs.Stores.{AreSound, IsStoreKept, accepted_rows};
+ghost use Rattle.script_store.specs.Stores.{AreSound, IsStoreKept, accepted_rows};
 ghost use Rattle.mon_run.specs.within.Takings.{FedAs, Front};
 
 use crate::outcome::{RowRefusal, RowRefusals, RowRefused};
 use mon_config::Config;
 use mon_points::{KeyCache, RowRead, read_rows_with};
-use mon_store::Store;
 use mon_value::{LONGEST_FILE, OutOfMemory, Refusal, Row};
+use script_store::Store;
 use std::alloc::{AllocError, Global};
 
 /// How many rows a feed accepted, and what it refused.

@@ -1,9 +1,9 @@
 // What a run came to.
 use crate::accepted::Accepted;
 use mon_points::RowFault;
-use mon_store::WriteFault;
 use mon_value::{ListOf, TryCopy};
 use query_texts::TextFault;
+use script_store::WriteFault;
 use std::alloc::{AllocError, Global};
 use std::fmt;
 

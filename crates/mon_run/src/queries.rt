@@ -4,16 +4,16 @@ ghost use Rattle.mon_value.specs.Answers.{Gives, GivesView};
 ghost use Rattle.mql_types.specs.Nodes.{typed_tree};
 ghost use Rattle.mql_types.specs.Soundness.{IsQueryType};
 ghost use Rattle.mon_run.specs.Queries as spec;
-ghost use Rattle.mon_store.specs.Stores.{AreSound, accepted_rows};
+ghost use Rattle.script_store.specs.Stores.{AreSound, accepted_rows};
 ghost use Rattle.mon_table.specs.Tables.{printed_table};
 
 use crate::outcome::{LineEnd, LineFault};
 use mon_config::Config;
-use mon_store::Store;
 use mon_table::print;
 use mon_value::{OutOfMemory, Refusal, Table, Text};
 use mql_types::Plan;
 use query_texts::plan_of;
+use script_store::Store;
 use std::alloc::{AllocError, Global};
 
 /// How a query's line ends, and what it prints.

@@ -10,7 +10,7 @@ ghost use Rattle.mon_run.specs.Endings.{Did};
 ghost use Rattle.mon_run.specs.Plans as plan;
 ghost use Rattle.mon_run.specs.Plans.{Ask, End, Write};
 ghost use Rattle.mon_config.specs.Configs.{IsLimited};
-ghost use Rattle.mon_store.specs.Stores.{AreSound, accepted_rows};
+ghost use Rattle.script_store.specs.Stores.{AreSound, accepted_rows};
 ghost use Rattle.mon_run.specs.within.Takings.{FileTaken, TakeStops};
 ghost use Rattle.mon_run.specs.within.Stops.{Between, Closes, ConfigStops, Continues, Ends, HasConfig, HasRead};
 ghost use Rattle.mon_run.specs.within.Stops.{LineRuns, LineStops, PutStops, ReadStops, StopsBetween, Weaves};
@@ -29,8 +29,8 @@ use crate::words::{Verb, command_in};
 use mon_config::{Config, read_config};
 use mon_points::KeyCache;
 use mon_script::{LineForm, ScriptLine, read_script};
-use mon_store::Store;
 use mon_value::{LONGEST_FILE, Text};
+use script_store::Store;
 use std::alloc::Global;
 
 /// What a run has come to: the rows that it accepted, as its leaves keep them, and the ends of its lines. Beside them

@@ -6,8 +6,8 @@ ghost use Rattle.mon_table.specs.Tables.{newline};
 
 use crate::outcome::{RowRefusal, RowRefusals, RowRefused};
 use crate::stop::Stop;
-use mon_store::WriteFault;
 use mon_value::OutOfMemory;
+use script_store::WriteFault;
 use std::alloc::Global;
 
 /// The text of a feed: how many records it accepted and refused, and a line for each that it refused.

@@ -18,7 +18,7 @@ use Rattle.mon_run.specs.Plans.{Ask, Command, End, Miss, Plan, Step, Write, comm
 use Rattle.mon_run.specs.Plans.{file_plan, is_too_long, line_plan, line_rows, plan_behind, read_plan, run_plan}
 use Rattle.mon_run.specs.Texts.{config_text, read_text, schedule_text, script_text, too_long_text, usage_text}
 use Rattle.mon_run.specs.declared.outcome.LineEnd.{LineEnd}
-use Rattle.mon_store.specs.Stores.{accepted_rows}
+use Rattle.script_store.specs.Stores.{accepted_rows}
 use Rattle.mon_run.specs.declared.runs.Run.{Run}
 use Rattle.mon_run.specs.declared.schedules.Woven.{Woven}
 use Rattle.mon_run.specs.declared.stop.Stop.{Stop}

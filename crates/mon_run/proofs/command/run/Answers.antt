@@ -3,7 +3,7 @@ use Rattle.mon_run.specs.Endings.{Progress, RunIs, progress}
 use Rattle.mon_run.specs.Plans.{Plan, run_plan}
 use Rattle.mon_run.specs.declared.stop.Stop.{Stop}
 use Rattle.mon_value.specs.declared.rows.Row.{Row}
-use Rattle.mon_store.specs.Stores.{accepted_rows}
+use Rattle.script_store.specs.Stores.{accepted_rows}
 use Rattle.mon_run.specs.within.Stops.{Causes, Completes, Done, Halts, Stops, seen, words_plan}
 use Rattle.mon_run.proofs.EndLemmas.{run_ended}
 use Rattle.mon_run.proofs.RunLemmas.{err_weaker, ok_weaker}

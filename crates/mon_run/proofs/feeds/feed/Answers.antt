@@ -4,7 +4,7 @@ use Rattle.std.specs.Vec.Iter.{into_iter_items}
 use Rattle.mon_points.specs.Fitting.{ReadFits}
 use Rattle.mon_points.specs.Records.{reads_of}
 use Rattle.mon_points.specs.declared.records.RowRead.{RowRead}
-use Rattle.mon_store.specs.Stores.{accepted_rows}
+use Rattle.script_store.specs.Stores.{accepted_rows}
 use Rattle.mon_run.proofs.FeedLemmas.{feeding_first, feeding_more, fit_more}
 use Rattle.mon_run.proofs.feeds.feed.Goals as goal
 

@@ -5,7 +5,7 @@ use Rattle.std.specs.Vec.Iter.{into_iter_items, into_iter_len}
 use Rattle.mon_points.specs.Fitting.{ReadFits}
 use Rattle.mon_points.specs.Records.{reads_of}
 use Rattle.mon_run.proofs.FeedLemmas.{Feeding}
-use Rattle.mon_store.specs.Stores.{AllFit, IsStoreKept, accepted_rows}
+use Rattle.script_store.specs.Stores.{AllFit, IsStoreKept, accepted_rows}
 use Rattle.mon_run.proofs.feeds.feed.Given as goal
 
 abbrev pub invariant-loop-read : goal.invariant-loop-read

@@ -1,6 +1,6 @@
 use Rattle.std.proofs.Common.{◌≡◌, ◌∙◌, sym}
 use Rattle.mon_run.specs.Feeds.{verdict}
-use Rattle.mon_store.specs.Stores.{accepted_rows}
+use Rattle.script_store.specs.Stores.{accepted_rows}
 use Rattle.mon_run.proofs.FeedLemmas.{kept_where_refused, whatever_fails}
 use Rattle.mon_run.proofs.feeds.take.Goals as goal
 

@@ -1,11 +1,11 @@
 use Rattle.std.proofs.Common.{◌∙◌, ◌++◌, List, sym, ap, subst, append-nil}
 use Rattle.mon_value.specs.Answers.{RefusesBy}
 use Rattle.mon_value.specs.declared.refusals.Refusal.{Refusal}
-use Rattle.mon_store.specs.Writes.{write_fault}
-use Rattle.mon_store.specs.declared.faults.WriteFault.{WriteFault}
+use Rattle.script_store.specs.Writes.{write_fault}
+use Rattle.script_store.specs.declared.faults.WriteFault.{WriteFault}
 use Rattle.mon_value.specs.declared.rows.Row.{Row}
 use Rattle.mon_run.specs.Feeds.{fault_in, accepted_row}
-use Rattle.mon_store.specs.Stores.{accepted_rows}
+use Rattle.script_store.specs.Stores.{accepted_rows}
 use Rattle.mon_run.proofs.FeedLemmas.{accepted, refused_for}
 use Rattle.mon_run.proofs.feeds.write.Goals as goal
 

@@ -2,7 +2,7 @@ use Rattle.std.proofs.Common.{rules, ◌≡◌, ℤ, List, subst, to_z, of_z, w6
 use Rattle.mon_value.specs.Answers.{Gives}
 use Rattle.mon_value.specs.declared.rows.Row.{Row}
 use Rattle.mql_types.specs.Nodes.{TypedTree, typed_tree}
-use Rattle.mon_store.specs.Stores.{accepted_rows}
+use Rattle.script_store.specs.Stores.{accepted_rows}
 use Rattle.mon_run.specs.Queries.{table_within}
 use Rattle.mon_run.proofs.QueryLemmas.{answered}
 use Rattle.mon_run.proofs.queries.answer.Goals as goal

@@ -1,7 +1,7 @@
 use Rattle.std.proofs.Common.{rules, ◌≡◌, ℤ, Ok, subst, to_z, of_z, w64}
 use Rattle.mon_meaning.specs.Central.{IsAnswer}
 use Rattle.mql_types.specs.Nodes.{TypedTree, typed_tree}
-use Rattle.mon_store.specs.Stores.{accepted_rows}
+use Rattle.script_store.specs.Stores.{accepted_rows}
 use Rattle.mon_run.proofs.QueryLemmas.{meant_within}
 use Rattle.mon_run.proofs.queries.table_within.Goals as goal
 

@@ -3,7 +3,7 @@ use Rattle.std.proofs.Common.{drop}
 use Rattle.std.specs.List.{AllByRecursion}
 use Rattle.mon_script.specs.Lawful.{IsLawfulLine}
 use Rattle.mon_run.specs.Folders.{Told}
-use Rattle.mon_store.specs.Stores.{AreSound}
+use Rattle.script_store.specs.Stores.{AreSound}
 use Rattle.mon_run.specs.within.Stops.{Continues, seen}
 use Rattle.mon_run.proofs.RunLemmas.{Reached}
 use Rattle.mon_run.proofs.runs.Run.lines.Given as goal

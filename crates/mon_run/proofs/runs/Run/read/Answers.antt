@@ -6,7 +6,7 @@ use Rattle.mon_run.specs.Folders.{content_of}
 use Rattle.mon_run.specs.Plans.{Ask, Miss, is_too_long}
 use Rattle.mon_run.specs.declared.stop.Stop.TheVariants as stop
 use Rattle.mon_run.specs.declared.outside.folder.FolderFault.TheVariants as fault
-use Rattle.mon_store.specs.Stores.{accepted_rows}
+use Rattle.script_store.specs.Stores.{accepted_rows}
 use Rattle.mon_run.specs.within.Stops.{ReadStops, seen}
 use Rattle.mon_run.proofs.ReadLemmas.{asks_failed, asks_starved, asks_too_long}
 use Rattle.mon_run.proofs.EndLemmas.{last_read_failed}

@@ -6,7 +6,7 @@ use Rattle.mon_script.specs.Scripts.{script_in}
 use Rattle.mon_run.specs.Endings.{Progress, progress}
 use Rattle.mon_run.specs.Plans.{script_plan}
 use Rattle.mon_run.specs.declared.stop.Stop.TheVariants as stop
-use Rattle.mon_store.specs.Stores.{AllFit, accepted_rows}
+use Rattle.script_store.specs.Stores.{AllFit, accepted_rows}
 use Rattle.mon_run.specs.within.Stops.{Halts, script_stop, seen}
 use Rattle.std.proofs.lemmas.Result.{err_from_is_err_and}
 use Rattle.mon_run.proofs.EndLemmas.{refused_script}

@@ -7,7 +7,7 @@ use Rattle.mon_run.specs.Plans.{Ask, feed_steps, plan_behind}
 use Rattle.mon_script.specs.declared.script.LineForm.TheVariants as form
 use Rattle.mon_run.specs.declared.stop.Stop.{Stop}
 use Rattle.mon_run.specs.declared.stop.Stop.TheVariants as stop
-use Rattle.mon_store.specs.Stores.{accepted_rows}
+use Rattle.script_store.specs.Stores.{accepted_rows}
 use Rattle.mon_run.specs.within.Stops.{HasRead, LineStops, ReadStops, seen}
 use Rattle.mon_run.specs.within.Takings.{Front}
 use Rattle.std.proofs.lemmas.Result.{err_from_is_err_and}
