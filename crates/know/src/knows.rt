@@ -153,6 +153,16 @@ impl<N: Names> Know<N> {
         })
     }
 
+    /// Changes nothing, and tells what holds of what comes with its seat in the book: no number stands there twice, and
+    /// the entries of a number that it has seen are the first of those that are kept. One step. No memory is taken.
+    pub fn confirm(&mut self, tables: &Tables<N>)
+        ensures kept { self.new ≡ self.old }
+        ensures borne_out { IsPurseBorneOut self.new.seen self.new.purse }
+        ensures sound { IsSound N.setting self.new.hints self.new.seen }
+    {
+        tables.book.confirm(&mut self.book);
+    }
+
     /// It has then seen and knows what either had seen and knew, and the other's number is met. No memory is taken.
     pub fn meet(&mut self, tables: &Tables<N>, other: Know<N>)
         ensures met { self.new ≡ meeting other self.old }

@@ -30,6 +30,7 @@ impl<N: Names> Know<N> {
     /// How far it has seen histories. No memory is taken.
     pub fn sight(&self) -> &Sight
         ensures sight { result.now ≡ sight_of self.now.seen }
+        ensures sound { IsSound N.setting self.now.hints self.now.seen }
     {
         &self.sight
     }
