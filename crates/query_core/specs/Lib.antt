@@ -16,6 +16,7 @@ pub mod SeenSights
 pub mod SentTold
 pub mod Sessions
 pub mod Settings
+pub mod Sides
 pub mod ToldDowns
 pub mod Traces
 pub mod Visits

@@ -15,6 +15,7 @@ mod mixing;
 mod rounds;
 mod segments;
 mod settings;
+mod sides;
 mod sights;
 mod stages;
 mod visits;
@@ -27,3 +28,4 @@ pub use laws::{
     traces_count_what_was_sent, traces_stay,
 };
 pub use machine::QueryMachine;
+pub use sides::{QuerySide, find_next};

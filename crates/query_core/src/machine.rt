@@ -1,5 +1,5 @@
 // The machine of a query.
-ghost use Rattle.std.specs.Prelude.{◌≡◌, ◌≤◌, ◌^◌, IfOk, OnErr, OnOk};
+ghost use Rattle.std.specs.Prelude.{◌≡◌, ◌≢◌, ◌≤◌, ◌^◌, false, IfOk, IsTrue, OnErr, OnOk};
 ghost use Rattle.mon_value.specs.declared.limits.TheConstants.{ROW_BITS};
 ghost use Rattle.query_core.specs.Areas.{areas_of};
 ghost use Rattle.query_core.specs.Machine as spec;
@@ -82,6 +82,20 @@ impl QueryMachine {
             Stage::Resolving(_, _, range) => Ask::Resolve(*range),
             Stage::Visiting(_, _, _, leaf) => Ask::Visit(*leaf),
             Stage::Ended(_) => Ask::Finished,
+        }
+    }
+
+    /// Whether nothing is left to do.
+    pub fn is_finished(&self) -> bool
+        ensures finished { IsTrue result → ask_of self.now.setting self.now.stage ≡ Finished }
+        ensures goes_on { result ≡ false → ask_of self.now.setting self.now.stage ≢ Finished }
+    {
+        match self.next() {
+            Ask::LoadRoot(_) => false,
+            Ask::LoadZone(_, _) => false,
+            Ask::Resolve(_) => false,
+            Ask::Visit(_) => false,
+            Ask::Finished => true,
         }
     }
 
