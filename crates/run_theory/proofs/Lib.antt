@@ -1,0 +1,10 @@
+pub mod Callers
+pub mod Exact
+pub mod InPlace
+pub mod Lists
+pub mod Marks
+pub mod Owned
+pub mod Placed
+pub mod Shares
+pub mod Tiles
+pub mod Writings

@@ -1,0 +1,64 @@
+-- No two lines share an entry.
+use Rattle.std.proofs.Common.{◌≡◌, ℕ, ◌<◌, ◌≤◌, nat_eq, Bool, true, false, ◌||◌, List, [], ◌∷◌}
+use Rattle.std.proofs.Common.{slice_get, Some, refl, sym, ◌∙◌, arith}
+use Rattle.std.specs.List.{AllByRecursion, list_any}
+use Rattle.std.proofs.lemmas.Bool.{false≢true}
+use Rattle.std.proofs.lemmas.Bool.Decides.{nat_tests}
+use Rattle.run_theory.specs.Marks.{AreApart, EachRan, Ran, RanBehind}
+use Rattle.run_theory.specs.Shares.{AreAlone}
+use Rattle.run_theory.proofs.InPlace.{any_by, any_from}
+
+either_way : (b r : Bool) → (b || r) ≡ false → (b ≡ false) × (r ≡ false)
+either_way true r e = absurd (false≢true (sym e))
+either_way false r e = (refl, e)
+
+same_by : (n m : ℕ) → n ≡ m → nat_eq n m ≡ true
+same_by n m e = grind (arith, nat_tests)
+
+none_by : (b : Bool) → (b ≡ true → ⊥) → b ≡ false
+none_by true never = absurd (never refl)
+none_by false never = refl
+
+module _ {H E R : Type 0} (under : E → ℕ) (Makes : ℕ → R → (H → List E) → Type 0)
+    (Finds : (H → List E) → (H → ℕ) → (H → ℕ) → R → Type 0) (is_of : R → H → ℕ → E → Bool) (whole : H → List E)
+    (placed : (from to : H → ℕ) (number : ℕ) (line : R) (h : H) (k : ℕ) (e : E)
+    → Ran under Makes Finds whole from to number line → slice_get (whole h) k ≡ Some e → is_of line h k e ≡ true
+    → (from h ≤ k) × (k < to h) × (under e ≡ number)) where
+  -- lines of later parts have no entry of a line
+  pub not_later : (from to : H → ℕ) (number : ℕ) (line : R) (later : List R) (h : H) (k : ℕ) (e : E)
+      → Ran under Makes Finds whole from to number line
+      → AllByRecursion (RanBehind under Makes Finds whole to) later → slice_get (whole h) k ≡ Some e
+      → is_of line h k e ≡ true → list_any (λ other. is_of other h k e) later ≡ false
+  not_later from to number line later h k e ran behind there mine =
+      let p = placed from to number line h k e ran there mine in
+      none_by (list_any (λ other. is_of other h k e) later)
+      (λ found. any_from (RanBehind under Makes Finds whole to) ⊥ (λ other. is_of other h k e) later behind
+      (λ other its is. let q = placed its.from its.to its.number other h k e its.ran there is in
+      let b = its.below h in omega arith) found)
+
+  -- nor have those that ran beside it, under other numbers
+  not_beside : (from to : H → ℕ) (numbers : List ℕ) (lines : List R) (number : ℕ) (h : H) (k : ℕ) (e : E)
+      → EachRan under Makes Finds whole from to numbers lines → list_any (nat_eq number) numbers ≡ false
+      → slice_get (whole h) k ≡ Some e → under e ≡ number → list_any (λ other. is_of other h k e) lines ≡ true → ⊥
+  not_beside from to [] [] number h k e each apart there mine found = false≢true found
+  not_beside from to [] (line ∷ lines) number h k e each apart there mine found = absurd each
+  not_beside from to (n ∷ numbers) [] number h k e each apart there mine found = absurd each
+  not_beside from to (n ∷ numbers) (line ∷ lines) number h k e each apart there mine found =
+      let two = either_way (nat_eq number n) (list_any (nat_eq number) numbers) apart in
+      any_by (is_of line h k e) (list_any (λ other. is_of other h k e) lines)
+      (λ is. let q = (placed from to n line h k e each.0 there is).2 in
+      let same : nat_eq number n ≡ true = same_by number n (sym mine ∙ q) in
+      absurd (false≢true (sym two.0 ∙ same)))
+      (not_beside from to numbers lines number h k e each.1 two.1 there mine) found
+
+  pub part_alone : (from to : H → ℕ) (numbers : List ℕ) (lines : List R)
+      → EachRan under Makes Finds whole from to numbers lines → AreApart numbers → AreAlone is_of whole lines
+  part_alone from to [] [] each apart = tt
+  part_alone from to [] (line ∷ lines) each apart = absurd each
+  part_alone from to (n ∷ numbers) [] each apart = absurd each
+  part_alone from to (n ∷ numbers) (line ∷ lines) each apart = (
+    (λ h k e there mine. none_by (list_any (λ other. is_of other h k e) lines)
+        (not_beside from to numbers lines n h k e each.1 apart.0 there
+        (placed from to n line h k e each.0 there mine).2)),
+    part_alone from to numbers lines each.1 apart.1,
+  )
