@@ -3,26 +3,19 @@ ghost use Rattle.std.specs.Prelude.{◌≡◌, ◌<◌, ◌≤◌, length, true,
 ghost use Rattle.history_book.specs.Seats.{times_room, without_one};
 ghost use Rattle.know.specs.Knowledge.{Knowledge};
 ghost use Rattle.know.specs.Sound.{IsSound};
-ghost use Rattle.leaf_cell.specs.Rest.{IsAtRest};
 ghost use Rattle.leaf_cell.specs.Visits.{HasCopied, HasGathered, HasVisited};
-ghost use Rattle.mon_topo.specs.Sights.{sight_of};
 ghost use Rattle.mon_value.specs.LeafHistories.{is_opened};
 ghost use Rattle.mon_value.specs.Histories.{leaf_history};
 ghost use Rattle.mon_value.specs.Positions.{leaf_numbered};
 ghost use Rattle.mon_value.specs.declared.histories.Entry.TheVariants as entry;
 ghost use Rattle.owners.specs.Calls.{HasLooked, HasPut, HasReserved};
-ghost use Rattle.owners.specs.Owners.{IsOfLeaf, leaf_owner};
 ghost use Rattle.owners.specs.Puts.{MayPut, pass_of};
 
 use crate::desks::LeafDesk;
+use crate::new_leaves::NewLeaf;
 use crate::readers::LeafReader;
-use history_book::BookOwner;
 use know::{Copied, Found, Know, Names, Tables};
-use leaf_store::LeafState;
-use mon_topo::Sight;
-use mon_value::{Leaf, OutOfMemory, Range, Row, RowList, Slot};
-use owners::LeafOwner;
-use raise_table::OwnerSeat;
+use mon_value::{OutOfMemory, Range, Row, RowList, Slot};
 use std::alloc::Global;
 use std::marker::{Model, PhantomData};
 use std::sync::Wait;
@@ -52,25 +45,13 @@ impl<N: Names> Model for LeafCell<N> {
 }
 
 impl<N: Names> LeafCell<N> {
-    /// A leaf under a lock of its own, by its state and its owner's seats, of which the one in the book has seen so
-    /// far.
-    pub fn new(
-        alloc: Global,
-        leaf: Leaf,
-        state: LeafState,
-        hints: OwnerSeat<N>,
-        book: BookOwner<N>,
-        sight: Sight,
-    ) -> Result<LeafCell<N>, OutOfMemory>
-        requires of_leaf { IsOfLeaf N.setting leaf hints book }
-        requires sound { IsSound N.setting hints.hints book.seen }
-        requires sight { sight ≡ sight_of book.seen }
-        requires rest { IsAtRest N.setting N.raise leaf.0 state (leaf_owner leaf hints book) }
-        ensures leaf { IfOk result (λ cell. cell ≡ leaf.0) }
+    /// A leaf under a lock of its own.
+    pub fn new(alloc: Global, leaf: NewLeaf<N>) -> Result<LeafCell<N>, OutOfMemory>
+        ensures leaf { IfOk result (λ cell. cell ≡ leaf.leaf.0) }
     {
-        let owner = LeafOwner::new(leaf, hints, book, sight);
+        let (leaf, desk) = leaf.into_parts();
         Ok(LeafCell {
-            lock: TiedLock::new(alloc, leaf.0, LeafDesk { state, owner })?,
+            lock: TiedLock::new(alloc, leaf.0, desk)?,
         })
     }
 

@@ -138,9 +138,9 @@ impl<N: Names> LeafDesk<N> {
         raise_left(tables, &mut self.owner, &self.state, Place::Zone(zone), key);
     }
 
-    // An entry goes in, to which the raised bits lead: it is appended to the owner's history under the guest's number,
-    // and comes to the state.
-    fn enter<E: NewEntry>(&mut self, tables: &Tables<N>, entry: Entry)
+    /// An entry goes in, to which the raised bits lead: it is appended to the owner's history under the guest's number,
+    /// and comes to the state.
+    pub(crate) fn enter<E: NewEntry>(&mut self, tables: &Tables<N>, entry: Entry)
         requires named { E.entry ≡ one.Leaf entry }
         requires history { leaf_history self.old.owner.book.seen self.old.owner.leaf ≡ self.old.state.history }
         requires may { MayFollow self.old.state.history entry }

@@ -4,9 +4,11 @@
 mod cells;
 mod desks;
 mod laws;
+mod new_leaves;
 mod raising;
 mod readers;
 
 pub use cells::LeafCell;
 pub use laws::new_leaves_are_at_rest;
+pub use new_leaves::NewLeaf;
 pub use readers::LeafReader;
