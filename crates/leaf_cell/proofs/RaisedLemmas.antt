@@ -20,6 +20,22 @@ module _ (buckets_of own : SeriesKey → List ℕ) (alike : buckets_of ≡ own) 
   pub history_alike : (history : List Entry) → history_buckets buckets_of history ≡ history_buckets own history
   history_alike history = ap (λ (f : SeriesKey → List ℕ). history_buckets f history) alike
 
+  -- whatever the entry
+  pub raised_with : (history : List Entry) (e : Entry) (before after : ℕ → Bool)
+      → ((bucket : ℕ) → before bucket ≡ is_among bucket (history_buckets buckets_of history))
+      → ((bucket : ℕ) → after bucket ≡ (before bucket || (is_among bucket (history_buckets own (e ∷ []))
+      && not (is_among bucket (history_buckets own history)))))
+      → (bucket : ℕ) → after bucket ≡ is_among bucket (history_buckets buckets_of (history ++ e ∷ []))
+  raised_with history e before after was now bucket =
+      let old = is_among bucket (history_buckets own history) in
+      let new = is_among bucket (history_buckets own (e ∷ [])) in
+      now bucket
+      ∙ ap (λ b. b || (new && not old)) (was bucket ∙ ap (is_among bucket) (history_alike history))
+      ∙ either_way old new
+      ∙ sym (among-append bucket (history_buckets own history) (history_buckets own (e ∷ [])))
+      ∙ ap (is_among bucket) (sym (buckets-push own history e))
+      ∙ ap (is_among bucket) (sym (history_alike (history ++ e ∷ [])))
+
   pub raised_exactly : (history : List Entry) (pass : ℕ) (range : Range) (slot : Slot) (row : Row)
       (before after : ℕ → Bool)
       → ((bucket : ℕ) → before bucket ≡ is_among bucket (history_buckets buckets_of history))

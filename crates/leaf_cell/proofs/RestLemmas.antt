@@ -1,5 +1,6 @@
 -- A leaf is at rest again once its caller went, and what was added to its history is raised.
-use Rattle.std.proofs.Common.{◌≡◌, ℕ, ◌-◌, Bool, ◌||◌, List, [], ◌∷◌, ◌++◌, refl, sym, ap, subst, ◌∙◌}
+use Rattle.std.proofs.Common.{◌≡◌, ℕ, ◌-◌, Bool, true, ◌||◌, List, [], ◌∷◌, ◌++◌, append-nil, cond}
+use Rattle.std.proofs.Common.{refl, sym, ap, subst, ◌∙◌}
 use Rattle.history_book.proofs.ListLemmas.{added_here}
 use Rattle.history_book.specs.declared.rooms.RoomMove.{RoomMove}
 use Rattle.history_book.specs.declared.rooms.RoomMove.TheVariants as move
@@ -14,15 +15,18 @@ use Rattle.leaf_cell.specs.Rest.{GoesBy, HasRaised, IsAtRest, is_raised}
 use Rattle.leaf_cell.specs.Visits.{IsAsBefore}
 use Rattle.leaf_store.specs.LeafBuckets.{is_unraised, key_buckets}
 use Rattle.leaf_store.specs.LeafStates as store
-use Rattle.mon_hints.specs.HistoryBuckets.{history_buckets}
+use Rattle.mon_hints.proofs.CoverLemmas.{buckets-push}
+use Rattle.mon_hints.specs.HistoryBuckets.{history_buckets, rows_buckets}
 use Rattle.mon_hints.specs.Listings.{is_among}
 use Rattle.mon_topo.specs.Settings.{Setting}
 use Rattle.mon_value.specs.Histories.{leaf_history}
+use Rattle.mon_value.specs.LeafHistories.{brought_rows, is_switch}
 use Rattle.mon_value.specs.declared.histories.Entry.{Entry}
 use Rattle.mon_value.specs.declared.histories.Entry.TheVariants as entry
 use Rattle.mon_value.specs.declared.positions.Range.{Range}
 use Rattle.mon_value.specs.declared.positions.Slot.{Slot}
 use Rattle.mon_value.specs.declared.rows.Row.{Row}
+use Rattle.mon_value.specs.declared.rows.SeriesKey.{SeriesKey}
 use Rattle.owners.specs.Owners as owners
 use Rattle.owners.specs.Receiving.{HasReceived, parted}
 use Rattle.raise_table.specs.Seats as hints
@@ -30,9 +34,17 @@ use Rattle.raise_table.specs.Tables.{RaiseIdentity}
 use Rattle.mon_hints.specs.declared.places.Place.TheVariants as at
 use Rattle.raise_table.specs.declared.places.ZoneLeaf.{ZoneLeaf}
 
+no_more_buckets : (buckets_of : SeriesKey → List ℕ) (history : List Entry) (e : Entry) → brought_rows e ≡ []
+    → history_buckets buckets_of history ≡ history_buckets buckets_of (history ++ e ∷ [])
+no_more_buckets buckets_of history e brings =
+    sym (append-nil (history_buckets buckets_of history))
+    ∙ ap (λ (rows : List Row). history_buckets buckets_of history ++ rows_buckets buckets_of rows)
+    (sym (ap (λ (rows : List Row). rows ++ []) brings))
+    ∙ sym (buckets-push buckets_of history e)
+
 module _ (setting : Setting) (raise : RaiseIdentity) (n : ℕ) where
   -- a state that goes by the same schemas and buckets
-  alike : (state after : store.LeafView) → after.schemas ≡ state.schemas → after.buckets ≡ state.buckets
+  pub alike : (state after : store.LeafView) → after.schemas ≡ state.schemas → after.buckets ≡ state.buckets
       → GoesBy setting raise state → GoesBy setting raise after
   alike state after schemas buckets by = record {
     schemas = schemas ∙ by.schemas;
@@ -55,11 +67,11 @@ module _ (setting : Setting) (raise : RaiseIdentity) (n : ℕ) where
 
   module _ (state : store.LeafView) (owner now : owners.LeafView) (know : Knowledge) (cut : ℕ)
       (rest : IsAtRest setting raise n state owner) (came : HasReceived know cut owner now) where
-    raised_now : HasRaised now.hints (history_buckets setting.buckets_of state.history)
+    pub raised_now : HasRaised now.hints (history_buckets setting.buckets_of state.history)
     raised_now = subst (λ (h : hints.Owner). HasRaised h (history_buckets setting.buckets_of state.history))
         (sym came.hints) (record { root = rest.raised.root; zone = rest.raised.zone })
 
-    promised_now : state.promised ≡ now.book.promised
+    pub promised_now : state.promised ≡ now.book.promised
     promised_now = rest.promised ∙ sym (ap (λ (o : Owner). o.promised) came.book)
 
     -- the caller went, with a room more or less
@@ -78,6 +90,30 @@ module _ (setting : Setting) (raise : RaiseIdentity) (n : ℕ) where
           raised = record { root = raised_now.root; zone = raised_now.zone };
           goes_by = alike state (store.with_promised state (promised_after rooms state.promised)) refl refl
               rest.goes_by;
+        }))
+
+    -- an entry without rows was added
+    pub rests_switched : (e : Entry) → is_switch e ≡ true → brought_rows e ≡ [] → (after : store.LeafView)
+        → (gone : owners.LeafView) → after ≡ store.leaf_with_entry state e
+        → gone ≡ parted move.Keep (owners.leaf_owner owner.leaf now.hints (after_append (one.Leaf e) now.book))
+        → IsAtRest setting raise n after gone
+    rests_switched e switches brings after gone after_is gone_is =
+        let own : now.book.history ≡ of.Leaf owner.leaf = ap (λ (o : Owner). o.history) came.book ∙ came.own in
+        let buckets : history_buckets setting.buckets_of state.history
+        ≡ history_buckets setting.buckets_of (state.history ++ e ∷ []) = no_more_buckets setting.buckets_of state.history e
+        brings in
+        subst (λ (s : store.LeafView). IsAtRest setting raise n s gone) (sym after_is)
+        (subst (IsAtRest setting raise n (store.leaf_with_entry state e)) (sym gone_is)
+        (record {
+          leaf_is = rest.leaf_is;
+          free = refl;
+          history =
+              (λ i. leaf_history (with_book_entry (own i) (one.Leaf e) now.book.seen) owner.leaf)
+              ∙ added_here owner.leaf.0 e now.book.seen.leaves
+              ∙ ap (λ h. h ++ e ∷ []) (came.whole ∙ rest.history);
+          promised = ap (λ (b : Bool). cond {A = ℕ} b state.promised (state.promised - 1)) switches ∙ promised_now;
+          raised = subst (HasRaised now.hints) buckets (record { root = raised_now.root; zone = raised_now.zone });
+          goes_by = alike state (store.leaf_with_entry state e) refl refl rest.goes_by;
         }))
 
     -- it put a row, whose buckets were raised before

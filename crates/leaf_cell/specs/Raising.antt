@@ -1,10 +1,15 @@
 -- What an owner is once it raised a set of buckets at a place, and what it needs for that.
 use Rattle.std.specs.Prelude.{◌≡◌, ℕ, ◌&&◌, ◌||◌, nat_lt, Bool, true, List, ◌++◌}
+use Rattle.std.specs.List.{list_any}
 use Rattle.know.specs.Sound.{is_known}
+use Rattle.leaf_store.specs.LeafBuckets.{is_unraised}
 use Rattle.mon_hints.specs.Places.{same_place}
 use Rattle.leaf_cell.specs.Rest.{is_raised}
 use Rattle.raise_table.specs.Places.{bit_of}
 use Rattle.raise_table.specs.Seats as hints
+use Rattle.mon_schema.specs.SchemaLists.{SchemaLists}
+use Rattle.mon_value.specs.declared.histories.Entry.{Entry}
+use Rattle.mon_value.specs.declared.rows.Row.{Row}
 use Rattle.mon_hints.specs.declared.places.Place.{Place}
 use Rattle.mon_hints.specs.declared.places.Place.TheVariants as at
 use Rattle.raise_table.specs.declared.places.ZoneLeaf.{ZoneLeaf}
@@ -31,9 +36,15 @@ MayRaiseAll leaf raised at.Root set = Unit {0}
 MayRaiseAll leaf raised (at.Zone zone) set =
     (zone ≡ leaf.zone) × ((bucket : ℕ) → set bucket ≡ true → is_raised at.Root bucket raised ≡ true)
 
--- Each bucket of the set was raised at the root and in the leaf's zone, and no other
+-- whether a series of some rows has a bucket that no series of a history has
+abbrev pub rows_unraised : ℕ → SchemaLists → List Entry → List Row → ℕ → Bool
+rows_unraised buckets held history rows bucket = list_any (λ row. is_unraised buckets held history row.key bucket) rows
+
+-- Each bucket of the set was raised at the root and in the leaf's zone, and no other, and nothing was forgotten
 pub record HasRaisedRow (set : ℕ → Bool) (old new : hints.Owner) : Type 0 where
   pub leaf : new.leaf ≡ old.leaf
+  pub more : List Note
+  pub known : new.hints.known ≡ old.hints.known ++ more
   pub root : (bucket : ℕ) → is_raised at.Root bucket new.raised ≡ (is_raised at.Root bucket old.raised || set bucket)
   pub zone : (bucket : ℕ) → is_raised (at.Zone old.leaf.zone) bucket new.raised
       ≡ (is_raised (at.Zone old.leaf.zone) bucket old.raised || set bucket)

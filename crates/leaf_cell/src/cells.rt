@@ -1,16 +1,19 @@
 // The locked leaf.
-ghost use Rattle.std.specs.Prelude.{◌≡◌, ◌<◌, ◌≤◌, length, true, IfOk, OnErr};
-ghost use Rattle.history_book.specs.Seats.{times_room, without_one};
+ghost use Rattle.std.specs.Prelude.{◌≡◌, ◌<◌, ◌≤◌, length, true, Some, IfOk, OnErr};
+ghost use Rattle.history_book.specs.Seats.{hand_of, times_room, without_one};
 ghost use Rattle.know.specs.Knowledge.{Knowledge};
 ghost use Rattle.know.specs.Sound.{IsSound};
+ghost use Rattle.leaf_cell.specs.Controls.{HasControlled};
 ghost use Rattle.leaf_cell.specs.Visits.{HasCopied, HasGathered, HasVisited};
 ghost use Rattle.mon_value.specs.LeafHistories.{is_opened};
 ghost use Rattle.mon_value.specs.Histories.{leaf_history};
 ghost use Rattle.mon_value.specs.Positions.{leaf_numbered};
 ghost use Rattle.mon_value.specs.declared.histories.Entry.TheVariants as entry;
 ghost use Rattle.owners.specs.Calls.{HasLooked, HasPut, HasReserved};
+ghost use Rattle.owners.specs.Openings.{HasOpened, MayOpen};
 ghost use Rattle.owners.specs.Puts.{MayPut, pass_of};
 
+use crate::controls::{Control, ControlFault};
 use crate::desks::LeafDesk;
 use crate::new_leaves::NewLeaf;
 use crate::readers::LeafReader;
@@ -147,6 +150,46 @@ impl<N: Names> LeafCell<N> {
         let copied = desk.copy(tables, know, range, slot);
         self.lock.release(key, desk);
         copied
+    }
+
+    /// Opens a replica with these rows, which it takes over. Where memory runs out nothing was opened.
+    pub fn opened<R: Wait>(
+        &self,
+        rt: &R,
+        tables: &Tables<N>,
+        know: &mut Know<N>,
+        range: Range,
+        slot: Slot,
+        rows: RowList,
+    ) -> Result<Found, OutOfMemory>
+        requires may { MayOpen N.setting know.old (leaf_numbered self.now) range slot rows }
+        ensures opened { IfOk result (λ found. HasOpened (leaf_numbered self.now)
+            (entry.Opened (pass_of know.old) range slot rows) found know.old know.new) }
+        ensures refused { OnErr result
+            (HasLooked (leaf_numbered self.now) know.old.purse.rooms know.old know.new) }
+    {
+        let (mut desk, key) = self.lock.lock(rt);
+        let found = desk.opened(tables, know, range, slot, rows);
+        self.lock.release(key, desk);
+        found
+    }
+
+    /// Takes the leaf down, or up again, and tells the new length of its history. A leaf that is down keeps its rows. No
+    /// memory is taken.
+    pub fn control<R: Wait>(
+        &self,
+        rt: &R,
+        tables: &Tables<N>,
+        know: &mut Know<N>,
+        to: Control,
+    ) -> Result<u64, ControlFault>
+        requires number { (hand_of know.old.purse).own ≡ Some (pass_of know.old) }
+        ensures controlled { HasControlled (leaf_numbered self.now) to (pass_of know.old) result know.old know.new }
+    {
+        let (mut desk, key) = self.lock.lock(rt);
+        let controlled = desk.control(tables, know, to);
+        self.lock.release(key, desk);
+        controlled
     }
 
     /// The rows of a replica in the beginning of what the caller had seen of the leaf, which are handed out. The leaf

@@ -121,8 +121,8 @@ impl<N: Names> LeafDesk<N> {
         Found::Up
     }
 
-    // Raises what the history lacks of a series' buckets: at the root, and then in the leaf's zone.
-    fn raise_row(&mut self, tables: &Tables<N>, key: &SeriesKey)
+    /// Raises what the history lacks of a series' buckets: at the root, and then in the leaf's zone.
+    pub(crate) fn raise_row(&mut self, tables: &Tables<N>, key: &SeriesKey)
         requires goes_by { GoesBy N.setting N.raise self.old.state }
         ensures raised { HasRaisedRow (is_unraised self.old.state.buckets self.old.state.schemas self.old.state.history
             key.now) self.old.owner.hints self.new.owner.hints }

@@ -2,13 +2,16 @@
 #![tactic(auto)]
 
 mod cells;
+mod controls;
 mod desks;
 mod laws;
 mod new_leaves;
+mod openings;
 mod raising;
 mod readers;
 
 pub use cells::LeafCell;
+pub use controls::{Control, ControlFault};
 pub use laws::new_leaves_are_at_rest;
 pub use new_leaves::NewLeaf;
 pub use readers::LeafReader;

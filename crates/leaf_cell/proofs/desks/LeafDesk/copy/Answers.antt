@@ -1,4 +1,4 @@
-use Rattle.std.proofs.Common.{◌≡◌, ◌≤◌, ℕ, arith, rules, length, take, sym, ap, subst, ◌∙◌}
+use Rattle.std.proofs.Common.{◌≡◌, ◌≤◌, arith, rules, length, take, sym, ap, subst, ◌∙◌}
 use Rattle.history_book.specs.declared.rooms.RoomMove.TheVariants as move
 use Rattle.know.specs.Knowledge.{after_handing}
 use Rattle.leaf_cell.proofs.VisitLemmas.{copies}
