@@ -17,28 +17,34 @@ any_from P C test [] all from found = absurd (false≢true found)
 any_from P C test (x ∷ xs) all from found =
     any_by (test x) (list_any test xs) (from x all.0) (any_from P C test xs all.1 from) found
 
-module _ {H E R : Type 0} (under : E → ℕ) (Makes : ℕ → R → (H → List E) → Type 0)
-    (Finds : (H → List E) → (H → ℕ) → (H → ℕ) → R → Type 0) (is_of : R → H → ℕ → E → Bool) (whole : H → List E)
+module _ {W H E R : Type 0} (content : W → H → List E) (under : E → ℕ)
+    (Makes : ℕ → R → (H → List E) → Type 0) (Finds : W → (H → ℕ) → (H → ℕ) → R → Type 0)
+    (is_of : R → H → ℕ → E → Bool) (whole : W)
     (placed : (from to : H → ℕ) (number : ℕ) (line : R) (h : H) (k : ℕ) (e : E)
-    → Ran under Makes Finds whole from to number line → slice_get (whole h) k ≡ Some e → is_of line h k e ≡ true
+    → Ran content under Makes Finds whole from to number line → slice_get (content whole h) k ≡ Some e
+    → is_of line h k e ≡ true
     → (from h ≤ k) × (k < to h)) where
   -- all entries of the lines that its caller had seen lie before it
   pub low_within : (from : H → ℕ) (h : H) (seen : List R)
-      → AllByRecursion (RanBefore under Makes Finds whole from) seen
-      → last_end (λ k e. list_any (λ line. is_of line h k e) seen) (whole h) ≤ from h
-  low_within from h seen before = last_end_within (λ k e. list_any (λ line. is_of line h k e) seen) (whole h) (from h)
-      (λ k e there found. any_from (RanBefore under Makes Finds whole from) (k < from h) (λ line. is_of line h k e) seen
+      → AllByRecursion (RanBefore content under Makes Finds whole from) seen
+      → last_end (λ k e. list_any (λ line. is_of line h k e) seen) (content whole h) ≤ from h
+  low_within from h seen before = last_end_within (λ k e. list_any (λ line. is_of line h k e) seen)
+      (content whole h) (from h)
+      (λ k e there found. any_from (RanBefore content under Makes Finds whole from) (k < from h)
+      (λ line. is_of line h k e) seen
       before
       (λ line ran is. let p = placed ran.from ran.to ran.number line h k e ran.ran there is in
       let b = ran.below h in omega arith) found)
 
   -- and those of the lines whose callers had seen it behind it
-  pub high_behind : (to : H → ℕ) (h : H) (later : List R) → IsWithin to whole
-      → AllByRecursion (RanBehind under Makes Finds whole to) later
-      → to h ≤ first_place (λ k e. list_any (λ line. is_of line h k e) later) (whole h)
-  high_behind to h later within behind = first_place_behind (λ k e. list_any (λ line. is_of line h k e) later) (whole h)
+  pub high_behind : (to : H → ℕ) (h : H) (later : List R) → IsWithin content to whole
+      → AllByRecursion (RanBehind content under Makes Finds whole to) later
+      → to h ≤ first_place (λ k e. list_any (λ line. is_of line h k e) later) (content whole h)
+  high_behind to h later within behind = first_place_behind (λ k e. list_any (λ line. is_of line h k e) later)
+      (content whole h)
       (to h) (within h)
-      (λ k e there found. any_from (RanBehind under Makes Finds whole to) (to h ≤ k) (λ line. is_of line h k e) later
+      (λ k e there found. any_from (RanBehind content under Makes Finds whole to) (to h ≤ k)
+      (λ line. is_of line h k e) later
       behind
       (λ line ran is. let p = placed ran.from ran.to ran.number line h k e ran.ran there is in
       let b = ran.below h in omega arith) found)

@@ -5,6 +5,8 @@ pub mod Lists
 pub mod Marks
 pub mod Owned
 pub mod Placed
+pub mod Settled
 pub mod Shares
+pub mod Stands
 pub mod Tiles
 pub mod Writings

@@ -27,7 +27,7 @@ one_or_others : (same one others : Bool) (rest : Bool) → (same || rest) ≡ tr
 one_or_others true one others rest is here there = or_left one others (here refl)
 one_or_others false one others rest is here there = or_right one others (there is)
 
-same_from : (n m : ℕ) → nat_eq n m ≡ true → n ≡ m
+pub same_from : (n m : ℕ) → nat_eq n m ≡ true → n ≡ m
 same_from n m is = grind (arith, nat_tests)
 
 module _ {X : Type 0} where
@@ -41,7 +41,7 @@ module _ {X : Type 0} where
   any_right test (x ∷ xs) ys is = or_right (test x) (list_any test (xs ++ ys)) (any_right test xs ys is)
 
   -- what holds of all between two lengths holds of what stands there
-  all_between : (P : X → Type 0) (from to : ℕ) (xs : List X) (k : ℕ) (x : X)
+  pub all_between : (P : X → Type 0) (from to : ℕ) (xs : List X) (k : ℕ) (x : X)
       → AllByRecursion P (between from to xs) → slice_get xs k ≡ Some x → from ≤ k → k < to → P x
   all_between P from zero xs k x all there low high = absurd (omega arith)
   all_between P from (suc to) [] k x all there low high = absurd cc
@@ -53,13 +53,15 @@ module _ {X : Type 0} where
   all_between P (suc from) (suc to) (y ∷ xs) (suc k) x all there low high =
       all_between P from to xs k x all there (omega arith) (omega arith)
 
-module _ {H E R : Type 0} (under : E → ℕ) (Makes : ℕ → R → (H → List E) → Type 0)
-    (Finds : (H → List E) → (H → ℕ) → (H → ℕ) → R → Type 0) (is_of : R → H → ℕ → E → Bool) (whole : H → List E)
-    (theirs : AreTheirs under Makes Finds is_of whole) where
+module _ {W H E R : Type 0} (content : W → H → List E) (under : E → ℕ)
+    (Makes : ℕ → R → (H → List E) → Type 0) (Finds : W → (H → ℕ) → (H → ℕ) → R → Type 0)
+    (is_of : R → H → ℕ → E → Bool) (whole : W)
+    (theirs : AreTheirs content under Makes Finds is_of whole) where
   -- what stands under one of the numbers is of the line of that number
   of_one : (from to : H → ℕ) (numbers : List ℕ) (lines : List R) (h : H) (k : ℕ) (e : E)
-      → EachRan under Makes Finds whole from to numbers lines → list_any (nat_eq (under e)) numbers ≡ true
-      → slice_get (whole h) k ≡ Some e → from h ≤ k → k < to h → list_any (λ line. is_of line h k e) lines ≡ true
+      → EachRan content under Makes Finds whole from to numbers lines → list_any (nat_eq (under e)) numbers ≡ true
+      → slice_get (content whole h) k ≡ Some e → from h ≤ k → k < to h
+      → list_any (λ line. is_of line h k e) lines ≡ true
   of_one from to [] lines h k e each has there low high = absurd (false≢true has)
   of_one from to (number ∷ numbers) [] h k e each has there low high = absurd each
   of_one from to (number ∷ numbers) (line ∷ lines) h k e each has there low high =
@@ -68,11 +70,13 @@ module _ {H E R : Type 0} (under : E → ℕ) (Makes : ℕ → R → (H → List
       (λ is. theirs from to number line h k e each.0 there low high (same_from (under e) number is))
       (λ rest. of_one from to numbers lines h k e each.1 rest there low high)
 
-  of_part : (from to : H → ℕ) (part : Part R) (h : H) (k : ℕ) (e : E) → PartRan under Makes Finds whole from to part
-      → slice_get (whole h) k ≡ Some e → from h ≤ k → k < to h
+  of_part : (from to : H → ℕ) (part : Part R) (h : H) (k : ℕ) (e : E)
+      → PartRan content under Makes Finds whole from to part
+      → slice_get (content whole h) k ≡ Some e → from h ≤ k → k < to h
       → list_any (λ line. is_of line h k e) (lines_of part) ≡ true
   of_part from to part h k e ran there low high = of_one from to ran.numbers (lines_of part) h k e ran.each
-      (all_between (λ x. list_any (nat_eq (under x)) ran.numbers ≡ true) (from h) (to h) (whole h) k e (ran.theirs h)
+      (all_between (λ x. list_any (nat_eq (under x)) ran.numbers ≡ true) (from h) (to h) (content whole h) k e
+      (ran.theirs h)
       there low high)
       there low high
 
@@ -84,7 +88,8 @@ module _ {H E R : Type 0} (under : E → ℕ) (Makes : ℕ → R → (H → List
 
   -- each entry from before the first line to behind the last one is of some line
   pub of_some : (from to : H → ℕ) (parts : List (Part R)) (h : H) (k : ℕ) (e : E)
-      → PartsRan under Makes Finds whole from to parts → slice_get (whole h) k ≡ Some e → from h ≤ k → k < to h
+      → PartsRan content under Makes Finds whole from to parts → slice_get (content whole h) k ≡ Some e → from h ≤ k
+      → k < to h
       → list_any (λ line. is_of line h k e) (all_lines parts) ≡ true
   of_some from to [] h k e ran there low high =
       let same : from h ≡ to h = ap (λ f. f h) ran in absurd (omega arith)

@@ -38,8 +38,9 @@ not_among : (n m : ℕ) (numbers : List ℕ) → list_any (nat_eq m) numbers ≡
     → nat_eq m n ≡ false
 not_among n m numbers has none = not_by n m numbers (nat_eq m n) refl has none
 
-module _ {H E R X : Type 0} (under : E → ℕ) (Makes : ℕ → R → (H → List E) → Type 0)
-    (Finds : (H → List E) → (H → ℕ) → (H → ℕ) → R → Type 0) (told : E → List X) (tells : ℕ → R → H → List X)
+module _ {W H E R X : Type 0} (content : W → H → List E) (under : E → ℕ)
+    (Makes : ℕ → R → (H → List E) → Type 0) (Finds : W → (H → ℕ) → (H → ℕ) → R → Type 0) (told : E → List X)
+    (tells : ℕ → R → H → List X)
     (own : (number : ℕ) (line : R) (made : H → List E) (h : H) → Makes number line made
     → flat_map told (made h) ≡ tells number line h)
     (other : (number n : ℕ) (line : R) (made : H → List E) (h : H) → Makes number line made
@@ -48,8 +49,8 @@ module _ {H E R X : Type 0} (under : E → ℕ) (Makes : ℕ → R → (H → Li
   told_under n history = flat_map told (filter (λ e. nat_eq (under e) n) history)
 
   -- lines of other numbers tell nothing
-  none_tell : (whole : H → List E) (from to : H → ℕ) (numbers : List ℕ) (lines : List R) (n : ℕ) (h : H)
-      → EachRan under Makes Finds whole from to numbers lines → list_any (nat_eq n) numbers ≡ false
+  none_tell : (whole : W) (from to : H → ℕ) (numbers : List ℕ) (lines : List R) (n : ℕ) (h : H)
+      → EachRan content under Makes Finds whole from to numbers lines → list_any (nat_eq n) numbers ≡ false
       → flat_map (λ line. tells n line h) lines ≡ []
   none_tell whole from to [] [] n h each none = refl
   none_tell whole from to [] (line ∷ lines) n h each none = absurd each
@@ -60,62 +61,64 @@ module _ {H E R X : Type 0} (under : E → ℕ) (Makes : ℕ → R → (H → Li
       (other number n line each.0.made h each.0.makes two.0)
       ∙ none_tell whole from to numbers lines n h each.1 two.1
 
-  tell_by : (whole : H → List E) (from to : H → ℕ) (number : ℕ) (numbers : List ℕ) (line : R) (lines : List R) (n : ℕ)
-      (h : H) (b : Bool) → nat_eq n number ≡ b → Ran under Makes Finds whole from to number line
-      → EachRan under Makes Finds whole from to numbers lines → list_any (nat_eq number) numbers ≡ false
+  tell_by : (whole : W) (from to : H → ℕ) (number : ℕ) (numbers : List ℕ) (line : R) (lines : List R) (n : ℕ)
+      (h : H) (b : Bool) → nat_eq n number ≡ b → Ran content under Makes Finds whole from to number line
+      → EachRan content under Makes Finds whole from to numbers lines → list_any (nat_eq number) numbers ≡ false
       → (b || list_any (nat_eq n) numbers) ≡ true
       → (list_any (nat_eq n) numbers ≡ true → flat_map (λ line. tells n line h) lines
-      ≡ told_under n (between (from h) (to h) (whole h)))
-      → tells n line h ++ flat_map (λ line. tells n line h) lines ≡ told_under n (between (from h) (to h) (whole h))
+      ≡ told_under n (between (from h) (to h) (content whole h)))
+      → tells n line h ++ flat_map (λ line. tells n line h) lines ≡ told_under n
+      (between (from h) (to h) (content whole h))
   tell_by whole from to number numbers line lines n h true e ran each apart has rest =
       let same : n ≡ number = grind (arith, nat_tests) in
       let none = none_tell whole from to numbers lines n h each
       (subst (λ w. list_any (nat_eq w) numbers ≡ false) (sym same) apart) in
       ap (λ w. tells n line h ++ w) none ∙ append-nil (tells n line h) ∙ ap (λ w. tells w line h) same
       ∙ sym (own number line ran.made h ran.makes) ∙ ap (flat_map told) (sym (ran.exact h))
-      ∙ ap (λ w. told_under w (between (from h) (to h) (whole h))) (sym same)
+      ∙ ap (λ w. told_under w (between (from h) (to h) (content whole h))) (sym same)
   tell_by whole from to number numbers line lines n h false e ran each apart has rest =
       ap (λ w. w ++ flat_map (λ line. tells n line h) lines) (other number n line ran.made h ran.makes e) ∙ rest has
 
   -- the line of a number tells all that stands there under it
-  each_tells : (whole : H → List E) (from to : H → ℕ) (numbers : List ℕ) (lines : List R) (n : ℕ) (h : H)
-      → EachRan under Makes Finds whole from to numbers lines → AreApart numbers
+  each_tells : (whole : W) (from to : H → ℕ) (numbers : List ℕ) (lines : List R) (n : ℕ) (h : H)
+      → EachRan content under Makes Finds whole from to numbers lines → AreApart numbers
       → list_any (nat_eq n) numbers ≡ true
-      → flat_map (λ line. tells n line h) lines ≡ told_under n (between (from h) (to h) (whole h))
+      → flat_map (λ line. tells n line h) lines ≡ told_under n (between (from h) (to h) (content whole h))
   each_tells whole from to [] lines n h each apart has = absurd (false≢true has)
   each_tells whole from to (number ∷ numbers) [] n h each apart has = absurd each
   each_tells whole from to (number ∷ numbers) (line ∷ lines) n h each apart has =
       tell_by whole from to number numbers line lines n h (nat_eq n number) refl each.0 each.1 apart.0 has
       (each_tells whole from to numbers lines n h each.1 apart.1)
 
-  part_by : (whole : H → List E) (from to : H → ℕ) (part : Part R) (n : ℕ) (h : H)
-      (ran : PartRan under Makes Finds whole from to part) (b : Bool) → list_any (nat_eq n) ran.numbers ≡ b
-      → flat_map (λ line. tells n line h) (lines_of part) ≡ told_under n (between (from h) (to h) (whole h))
+  part_by : (whole : W) (from to : H → ℕ) (part : Part R) (n : ℕ) (h : H)
+      (ran : PartRan content under Makes Finds whole from to part) (b : Bool) → list_any (nat_eq n) ran.numbers ≡ b
+      → flat_map (λ line. tells n line h) (lines_of part) ≡ told_under n (between (from h) (to h) (content whole h))
   part_by whole from to part n h ran true e =
       each_tells whole from to ran.numbers (lines_of part) n h ran.each ran.apart e
   part_by whole from to part n h ran false e =
       none_tell whole from to ran.numbers (lines_of part) n h ran.each e
-      ∙ ap (flat_map told) (sym (filter_none (λ e. nat_eq (under e) n) (between (from h) (to h) (whole h))
+      ∙ ap (flat_map told) (sym (filter_none (λ e. nat_eq (under e) n) (between (from h) (to h) (content whole h))
       (all_as (λ x. list_any (nat_eq (under x)) ran.numbers ≡ true) (λ x. nat_eq (under x) n ≡ false)
-      (λ x has. not_among n (under x) ran.numbers has e) (between (from h) (to h) (whole h)) (ran.theirs h))))
+      (λ x has. not_among n (under x) ran.numbers has e) (between (from h) (to h) (content whole h)) (ran.theirs h))))
 
   -- What stands under a number is what the lines of that number tell, in their order
-  pub parts_tell : (whole : H → List E) (from to : H → ℕ) (parts : List (Part R)) (n : ℕ) (h : H)
-      → PartsRan under Makes Finds whole from to parts
-      → flat_map (λ line. tells n line h) (all_lines parts) ≡ told_under n (between (from h) (to h) (whole h))
+  pub parts_tell : (whole : W) (from to : H → ℕ) (parts : List (Part R)) (n : ℕ) (h : H)
+      → PartsRan content under Makes Finds whole from to parts
+      → flat_map (λ line. tells n line h) (all_lines parts) ≡ told_under n (between (from h) (to h) (content whole h))
   parts_tell whole from to [] n h ran =
       let e : from h ≡ to h = ap (λ f. f h) ran in
-      ap (told_under n) (sym (between_same (from h) (to h) (whole h) (omega arith)))
+      ap (told_under n) (sym (between_same (from h) (to h) (content whole h) (omega arith)))
   parts_tell whole from to (part ∷ parts) n h ran =
       flat_map-append (λ line. tells n line h) (lines_of part) (all_lines parts)
       ∙ ap (λ w. w ++ flat_map (λ line. tells n line h) (all_lines parts))
       (part_by whole from ran.0 part n h ran.2 (list_any (nat_eq n) ran.2.numbers) refl)
-      ∙ ap (λ w. told_under n (between (from h) (ran.0 h) (whole h)) ++ w) (parts_tell whole ran.0 to parts n h ran.3)
-      ∙ sym (flat_map-append told (filter (λ e. nat_eq (under e) n) (between (from h) (ran.0 h) (whole h)))
-      (filter (λ e. nat_eq (under e) n) (between (ran.0 h) (to h) (whole h))))
+      ∙ ap (λ w. told_under n (between (from h) (ran.0 h) (content whole h)) ++ w)
+      (parts_tell whole ran.0 to parts n h ran.3)
+      ∙ sym (flat_map-append told (filter (λ e. nat_eq (under e) n) (between (from h) (ran.0 h) (content whole h)))
+      (filter (λ e. nat_eq (under e) n) (between (ran.0 h) (to h) (content whole h))))
       ∙ ap (flat_map told)
-      (sym (filter-append (λ e. nat_eq (under e) n) (between (from h) (ran.0 h) (whole h))
-      (between (ran.0 h) (to h) (whole h)))
+      (sym (filter-append (λ e. nat_eq (under e) n) (between (from h) (ran.0 h) (content whole h))
+      (between (ran.0 h) (to h) (content whole h)))
       ∙ ap (filter (λ e. nat_eq (under e) n))
-      (sym (between_cut (from h) (ran.0 h) (to h) (whole h) (ran.1 h)
-      (parts_below under Makes Finds whole ran.0 to parts ran.3 h))))
+      (sym (between_cut (from h) (ran.0 h) (to h) (content whole h) (ran.1 h)
+      (parts_below content under Makes Finds whole ran.0 to parts ran.3 h))))

@@ -1,7 +1,7 @@
 -- The place of a line: how far histories had been seen as it ran, against the entries of the other lines.
 use Rattle.std.specs.Prelude.{◌≡◌, ◌≤◌, ◌<◌, ℕ, Bool, true, List, slice_get, Some}
 use Rattle.std.specs.List.{AllByRecursion, list_any}
-use Rattle.run_theory.specs.Marks.{IsWithin, Ran, RanBefore, RanBehind}
+use Rattle.run_theory.specs.Marks.{AreBelow, IsWithin, Ran, RanBefore, RanBehind}
 use Rattle.run_theory.specs.Places.{first_place, last_end}
 
 module _ {H E R : Type 0} (is_of : R → H → ℕ → E → Bool) (whole : H → List E) where
@@ -13,29 +13,60 @@ module _ {H E R : Type 0} (is_of : R → H → ℕ → E → Bool) (whole : H �
   abbrev pub high : List R → H → ℕ
   high lines h = first_place (λ k e. list_any (λ line. is_of line h k e) lines) (whole h)
 
-module _ {H E R : Type 0} (under : E → ℕ) (Makes : ℕ → R → (H → List E) → Type 0)
-    (Finds : (H → List E) → (H → ℕ) → (H → ℕ) → R → Type 0) (is_of : R → H → ℕ → E → Bool) (whole : H → List E) where
+module _ {W H E R : Type 0} (content : W → H → List E) (under : E → ℕ)
+    (Makes : ℕ → R → (H → List E) → Type 0) (Finds : W → (H → ℕ) → (H → ℕ) → R → Type 0)
+    (is_of : R → H → ℕ → E → Bool) (whole : W) where
   -- an entry that is a line's stands where the line ran, under its number
   abbrev pub ArePlaced : Type 0
   ArePlaced = (from to : H → ℕ) (number : ℕ) (line : R) (h : H) (k : ℕ) (e : E)
-      → Ran under Makes Finds whole from to number line → slice_get (whole h) k ≡ Some e → is_of line h k e ≡ true
+      → Ran content under Makes Finds whole from to number line → slice_get (content whole h) k ≡ Some e
+      → is_of line h k e ≡ true
       → (from h ≤ k) × (k < to h) × (under e ≡ number)
 
   -- an entry that stands where a line ran, under its number, is the line's
   abbrev pub AreTheirs : Type 0
   AreTheirs = (from to : H → ℕ) (number : ℕ) (line : R) (h : H) (k : ℕ) (e : E)
-      → Ran under Makes Finds whole from to number line → slice_get (whole h) k ≡ Some e → from h ≤ k → k < to h
+      → Ran content under Makes Finds whole from to number line → slice_get (content whole h) k ≡ Some e
+      → from h ≤ k → k < to h
       → under e ≡ number → is_of line h k e ≡ true
 
-  -- A line ran in its place: behind every entry of the lines that its caller had seen, and before every one of those
-  -- whose callers had seen it; and these lines ran before and behind it
-  pub record RanInPlace (seen later : List R) (line : R) : Type 0 where
+  -- A line ran in its place: no sooner than the first line, behind every entry of the lines that its caller had seen,
+  -- and before every one of those whose callers had seen it; and these lines ran before and behind it
+  pub record RanInPlace (begin : H → ℕ) (seen later : List R) (line : R) : Type 0 where
     pub from : H → ℕ
     pub to : H → ℕ
     pub number : ℕ
-    pub ran : Ran under Makes Finds whole from to number line
-    pub within : IsWithin to whole
-    pub from_low : (h : H) → low is_of whole seen h ≤ from h
-    pub to_high : (h : H) → to h ≤ high is_of whole later h
-    pub before : AllByRecursion (RanBefore under Makes Finds whole from) seen
-    pub behind : AllByRecursion (RanBehind under Makes Finds whole to) later
+    pub ran : Ran content under Makes Finds whole from to number line
+    pub begun : AreBelow begin from
+    pub within : IsWithin content to whole
+    pub from_low : (h : H) → low is_of (content whole) seen h ≤ from h
+    pub to_high : (h : H) → to h ≤ high is_of (content whole) later h
+    pub before : AllByRecursion (RanBefore content under Makes Finds whole from) seen
+    pub behind : AllByRecursion (RanBehind content under Makes Finds whole to) later
+
+  -- ---- which entries may be told to be a line's
+
+  -- they are under its number
+  abbrev pub AreUnder : Type 0
+  AreUnder = (from to : H → ℕ) (number : ℕ) (line : R) (h : H) (k : ℕ) (e : E)
+      → Ran content under Makes Finds whole from to number line → is_of line h k e ≡ true → under e ≡ number
+
+  -- none of them was made by a line that ran before it, or behind it
+  abbrev pub AreDistinct : Type 0
+  AreDistinct = (a b c d : H → ℕ) (n m : ℕ) (sooner later : R) (h : H) (j k : ℕ) (e : E)
+      (one : Ran content under Makes Finds whole a b n sooner) (other : Ran content under Makes Finds whole c d m later)
+      → AreBelow b c
+      → (slice_get (one.made h) j ≡ Some e → is_of later h k e ≡ true → ⊥)
+      × (slice_get (other.made h) j ≡ Some e → is_of sooner h k e ≡ true → ⊥)
+
+  -- and none stands before the first line
+  abbrev pub AreNotFirst : (H → ℕ) → Type 0
+  AreNotFirst begin = (line : R) (h : H) (k : ℕ) (e : E) → slice_get (content whole h) k ≡ Some e → k < begin h
+      → is_of line h k e ≡ true → ⊥
+
+-- What a line found, and that each entry that is its own stands where it ran
+abbrev pub FoundThere : {W H E R : Type 0} → (W → H → List E) → (R → H → ℕ → E → Bool)
+    → (W → (H → ℕ) → (H → ℕ) → R → Type 0) → W → (H → ℕ) → (H → ℕ) → R → Type 0
+FoundThere {W} {H} {E} {R} content is_of Finds whole from to line = Finds whole from to line
+    × ((h : H) (k : ℕ) (e : E) → slice_get (content whole h) k ≡ Some e → is_of line h k e ≡ true
+    → (from h ≤ k) × (k < to h))

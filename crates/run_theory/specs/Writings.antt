@@ -2,11 +2,12 @@
 use Rattle.std.specs.Prelude.{◌≡◌, ℕ, nat_eq, true, List, [], ◌∷◌, ◌++◌, length, filter}
 use Rattle.std.specs.Bool.{⊤}
 use Rattle.std.specs.List.{AllByRecursion, list_any}
-use Rattle.run_theory.specs.Marks.{AreApart, GoesOn}
+use Rattle.run_theory.specs.Marks.{AreApart}
 use Rattle.run_theory.specs.Parts.{Part, lines_of}
 
-module _ {H E R : Type 0} (under : E → ℕ) (Makes : ℕ → R → (H → List E) → Type 0)
-    (Finds : (H → List E) → (H → ℕ) → (H → ℕ) → R → Type 0) (before after : H → List E) where
+module _ {W H E R : Type 0} (content : W → H → List E) (under : E → ℕ)
+    (Makes : ℕ → R → (H → List E) → Type 0) (Finds : W → (H → ℕ) → (H → ℕ) → R → Type 0) (grown : W → W → Type 0)
+    (before after : W) where
   abbrev pub seen_under : ℕ → List E → List E
   seen_under n = filter (λ e. nat_eq (under e) n)
 
@@ -15,9 +16,9 @@ module _ {H E R : Type 0} (under : E → ℕ) (Makes : ℕ → R → (H → List
     pub own : H → List E
     pub made : H → List E
     pub makes : Makes number line made
-    pub first : (h : H) → seen_under number (before h) ≡ own h
-    pub then : (h : H) → seen_under number (after h) ≡ own h ++ made h
-    pub found : Finds after (λ h. length (before h)) (λ h. length (after h)) line
+    pub first : (h : H) → seen_under number (content before h) ≡ own h
+    pub then : (h : H) → seen_under number (content after h) ≡ own h ++ made h
+    pub found : Finds after (λ h. length (content before h)) (λ h. length (content after h)) line
 
   abbrev pub EachWrote : List ℕ → List R → Type 0
   EachWrote [] [] = ⊤
@@ -30,8 +31,8 @@ module _ {H E R : Type 0} (under : E → ℕ) (Makes : ℕ → R → (H → List
   pub record PartWrote (part : Part R) : Type 0 where
     pub old : List ℕ
     pub numbers : List ℕ
-    pub goes : GoesOn before after
+    pub goes : grown before after
     pub each : EachWrote numbers (lines_of part)
     pub apart : AreApart numbers
-    pub same : (h : H) → AllByRecursion (λ n. seen_under n (after h) ≡ seen_under n (before h)) old
-    pub covered : (h : H) → AllByRecursion (λ e. list_any (nat_eq (under e)) (old ++ numbers) ≡ true) (after h)
+    pub same : (h : H) → AllByRecursion (λ n. seen_under n (content after h) ≡ seen_under n (content before h)) old
+    pub covered : (h : H) → AllByRecursion (λ e. list_any (nat_eq (under e)) (old ++ numbers) ≡ true) (content after h)

@@ -1,0 +1,17 @@
+-- the script so far and that of what is left is the script of the text
+use Rattle.std.proofs.Common.{◌≡◌, ◌+◌, ◌≤◌, length}
+use Rattle.mon_script.specs.Lines.{lines_of}
+use Rattle.script_lines.specs.Scripts.{script_from, script_in}
+use Rattle.script_lines.specs.declared.places.TheConstants.{MOST_LINES}
+use Rattle.script_lines.proofs.Fronts.{with_front}
+use Rattle.script_lines.proofs.script.read_script.Given as goal
+
+abbrev pub invariant-loop-line : goal.invariant-loop-line
+invariant-loop-line l = record {
+  whole : with_front l.script (script_from l.topology (l.number + 1) l.place (lines_of l.rest))
+      ≡ script_in l.topology l.text;
+  count : l.number ≤ MOST_LINES;
+}
+
+abbrev pub decreases-loop-line : goal.decreases-loop-line
+decreases-loop-line l = length l.rest
