@@ -5,7 +5,7 @@ use Rattle.weave_core.proofs.QueryStepLemmas.{at_asking, query_steps}
 use Rattle.weave_core.proofs.WriteStepLemmas.{at_work, write_steps}
 use Rattle.weave_core.specs.ActorAgreements.{IsActorSo, IsCourseSo}
 use Rattle.weave_core.specs.ActorSteps.{ActorSteps, HasStepped, IsIn, IsSomewhere, QueriedSo, WrittenSo}
-use Rattle.weave_core.specs.Core.{Core, Reader}
+use Rattle.core_theory.specs.Core.{Core, Reader}
 use Rattle.weave_core.specs.QueryTurns.{IsAskedSomewhere, IsAsking, QueriesSo}
 use Rattle.weave_core.specs.States.{Asking, Dismissed, Eventless, Role, State, Undeclared, Writing, role_fault}
 use Rattle.weave_core.specs.States.{store_of}

@@ -9,7 +9,7 @@ use Rattle.query_core.specs.Settings.{QuerySetting}
 use Rattle.query_core.specs.declared.asks.Ask.{Ask}
 use Rattle.query_core.specs.declared.asks.Ask.TheVariants as query_ask
 use Rattle.weave_core.specs.ActorAgreements.{Agrees, IsActorSo, IsCourseSo, IsQuerying, IsWriting, actor_numbered}
-use Rattle.weave_core.specs.Core.{Reader, asked_now, query_now}
+use Rattle.core_theory.specs.Core.{Reader, asked_now, query_now}
 use Rattle.weave_core.specs.Courses.{event_of, is_over}
 use Rattle.weave_core.specs.EventNames.{event_of_query, event_of_write}
 use Rattle.weave_core.specs.States as spec

@@ -18,21 +18,21 @@ use Rattle.query_core.specs.Settings.{QuerySetting}
 use Rattle.query_core.specs.declared.asks.Ask.TheVariants as query_ask
 use Rattle.query_core.specs.declared.stages.Stage.{Stage}
 use Rattle.query_texts.specs.declared.faults.TextFault.{TextFault}
-use Rattle.weave_core.proofs.CoreLemmas.{stays_woven}
-use Rattle.weave_core.proofs.HolderLemmas.{holders_changed}
+use Rattle.core_theory.proofs.CoreLemmas.{stays_woven}
+use Rattle.core_theory.proofs.HolderLemmas.{holders_changed}
 use Rattle.weave_core.proofs.NumberLemmas.{agrees_at, set_apart, set_at, shared_beside}
 use Rattle.weave_core.proofs.ReachedLemmas.{fresh_reader, part_of}
 use Rattle.weave_core.proofs.StepLemmas.{Leaves}
 use Rattle.weave_core.specs.ActorAgreements.{Agrees, HasWrittenNothing, IsActorSo, IsQuerying, IsWriting}
 use Rattle.weave_core.specs.ActorAgreements.{actor_numbered, flat}
 use Rattle.weave_core.specs.Agreements.{AreShared, IsServed, first_view}
-use Rattle.weave_core.specs.Core.{CanCome, Happens, Reader}
+use Rattle.core_theory.specs.Core.{CanCome, Happens, Reader}
 use Rattle.weave_core.specs.Declarations.{Declares, QueryBegins, WriteBegins, new_reader, with_reader}
 use Rattle.weave_core.specs.EndTexts.{no_plan_line, no_zone_line}
 use Rattle.mon_topo.specs.FirstHistories.{first_histories}
-use Rattle.weave_core.specs.Holders.{AreHolders, HoldsLeaf, HoldsRange}
+use Rattle.core_theory.specs.Holders.{AreHolders, HoldsLeaf, HoldsRange}
 use Rattle.weave_core.specs.LawfulLines.{IsLawfulCall}
-use Rattle.weave_core.specs.Licensed.{IsReader}
+use Rattle.core_theory.specs.Licensed.{IsReader}
 use Rattle.weave_core.specs.NewActors.{BeginsToWrite, IsCourseOf, IsDeclaredActor}
 use Rattle.weave_core.specs.QueryPlans.{BeginsToAsk}
 use Rattle.mon_topo.specs.Sights.{sight_of}

@@ -11,10 +11,10 @@ use Rattle.mon_value.specs.declared.histories.Histories.{Histories}
 use Rattle.mon_value.specs.Histories.{joined_histories}
 use Rattle.query_core.specs.Sessions as session
 use Rattle.query_core.specs.Sessions.{query_after}
-use Rattle.weave_core.proofs.CoreLemmas.{stays_woven}
+use Rattle.core_theory.proofs.CoreLemmas.{stays_woven}
 use Rattle.weave_core.proofs.CourseLemmas.{begun_there, is_declared, over_there}
 use Rattle.weave_core.proofs.DeclareLemmas.{stander, stands_so}
-use Rattle.weave_core.proofs.HolderLemmas.{holders_changed}
+use Rattle.core_theory.proofs.HolderLemmas.{holders_changed}
 use Rattle.weave_core.proofs.NumberLemmas.{agrees_at, set_apart, set_at, shared_beside}
 use Rattle.weave_core.proofs.ReachedLemmas.{part_of}
 use Rattle.weave_core.proofs.SeatLemmas.{parts_alike}
@@ -24,12 +24,12 @@ use Rattle.weave_core.proofs.WeaveLemmas.{numbered_there}
 use Rattle.weave_core.specs.ActorAgreements.{Agrees, IsActorSo, IsCourseSo, IsQuerying, IsWithoutEvent, IsWriting}
 use Rattle.weave_core.specs.ActorAgreements.{actor_numbered, flat}
 use Rattle.weave_core.specs.Agreements.{AreShared}
-use Rattle.weave_core.specs.Core.{CanCome, Happens, Hears, Reader, begun_with}
+use Rattle.core_theory.specs.Core.{CanCome, Happens, Hears, Reader, begun_with}
 use Rattle.weave_core.specs.Courses.{is_over}
 use Rattle.weave_core.specs.Declarations.{hearing, hearing_in}
 use Rattle.mon_topo.specs.FirstHistories.{first_histories}
-use Rattle.weave_core.specs.Holders.{HoldsLeaf, HoldsRange}
-use Rattle.weave_core.specs.Licensed.{IsWoven}
+use Rattle.core_theory.specs.Holders.{HoldsLeaf, HoldsRange}
+use Rattle.core_theory.specs.Licensed.{IsWoven}
 use Rattle.weave_core.specs.NewActors.{hearing_of}
 use Rattle.weave_core.specs.Schedules.{meet_fault}
 use Rattle.mon_topo.specs.Sights.{AreAlike, joined_sight, sight_of}

@@ -2,17 +2,14 @@ pub mod AckTurnLemmas
 pub mod ActorStepLemmas
 pub mod AskingLemmas
 pub mod AtWorkLemmas
-pub mod CoreLemmas
 pub mod CourseLemmas
 pub mod DeclareLemmas
 pub mod HearingLemmas
-pub mod HolderLemmas
 pub mod LeafAnswers
 pub mod LeafTurnLemmas
 pub mod LineRunLemmas
 pub mod LockLemmas
 pub mod LockTurnLemmas
-pub mod MeetingLemmas
 pub mod NumberLemmas
 pub mod PassedLemmas
 pub mod OpeningLemmas
@@ -28,8 +25,6 @@ pub mod RaiseLemmas
 pub mod RaiseTurnLemmas
 pub mod RangeAnswers
 pub mod ReachedLemmas
-pub mod ReaderAnswers
-pub mod ReaderLemmas
 pub mod SeatLemmas
 pub mod StepLemmas
 pub mod TurnLemmas

@@ -15,7 +15,7 @@ use Rattle.query_core.specs.declared.stages.Stage.{Stage}
 use Rattle.query_core.specs.declared.stages.Stage.TheVariants as at
 use Rattle.weave_core.specs.ActorAgreements.{IsActorSo, IsCourseSo, IsQuerying}
 use Rattle.weave_core.specs.ActorSteps.{ActorSteps, IsIn, QueriedSo}
-use Rattle.weave_core.specs.Core.{Reader, Tells, asked_now, told_on, view_told, world_then}
+use Rattle.core_theory.specs.Core.{Reader, Tells, asked_now, told_on, view_told, world_then}
 use Rattle.weave_core.specs.EndTexts.{query_text}
 use Rattle.weave_core.specs.EventNames.{event_of_query}
 use Rattle.weave_core.specs.QueryTurns.{IsAsking, QueriesSo}

@@ -12,14 +12,14 @@ use Rattle.query_core.specs.Machine.{new_query}
 use Rattle.query_core.specs.Settings.{QuerySetting}
 use Rattle.query_texts.specs.TextTypes.{text_type}
 use Rattle.query_texts.specs.declared.faults.TextFault.{TextFault}
-use Rattle.weave_core.proofs.CoreLemmas.{new_woven, stays_woven}
-use Rattle.weave_core.specs.Core.{CanCome, CoreEvent, Happens, Hears, Reader, Tells, begun_with, came, told_on}
-use Rattle.weave_core.specs.Core.{view_told}
+use Rattle.core_theory.proofs.CoreLemmas.{new_woven, stays_woven}
+use Rattle.core_theory.specs.Core.{CanCome, CoreEvent, Happens, Hears, Reader, Tells, begun_with, came, told_on}
+use Rattle.core_theory.specs.Core.{view_told}
 use Rattle.weave_core.specs.Declarations.{Declares, QueryBegins, WriteBegins, hearing, new_reader}
 use Rattle.weave_core.specs.Declarations.{with_reader}
 use Rattle.weave_core.specs.EndTexts.{no_plan_line, no_zone_line}
 use Rattle.weave_core.specs.LawfulLines.{IsLawfulCall, IsLawfulForm}
-use Rattle.weave_core.specs.Licensed.{IsReader, IsWoven}
+use Rattle.core_theory.specs.Licensed.{IsReader, IsWoven}
 use Rattle.weave_core.specs.Reached.{LinesLead}
 use Rattle.weave_core.specs.Schedules.{Does, EndsBy, ActorGoesOn, IsFirstState, Rests, StopsBeforeEvent, Went}
 use Rattle.weave_core.specs.States.{Asking, Dismissed, Eventless, Role, State, Undeclared, Writing, actor_at, store_of}

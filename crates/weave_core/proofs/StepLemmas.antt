@@ -6,12 +6,12 @@ use Rattle.query_core.specs.declared.asks.Ask.{Ask}
 use Rattle.query_core.specs.declared.asks.Ask.TheVariants as ask
 use Rattle.query_core.specs.declared.asks.Told.{Told}
 use Rattle.query_core.specs.declared.stages.Stage.{Stage as QueryStage}
-use Rattle.weave_core.proofs.CoreLemmas.{stays_woven}
-use Rattle.weave_core.proofs.HolderLemmas.{step_held}
+use Rattle.core_theory.proofs.CoreLemmas.{stays_woven}
+use Rattle.core_theory.proofs.HolderLemmas.{step_held}
 use Rattle.weave_core.proofs.QueryStepLemmas.{actors_stay}
-use Rattle.weave_core.specs.Core.{CanCome, Happens, Tells, asked_now, world_then}
-use Rattle.weave_core.specs.Holders.{AreHolders}
-use Rattle.weave_core.specs.Licensed.{IsWoven}
+use Rattle.core_theory.specs.Core.{CanCome, Happens, Tells, asked_now, world_then}
+use Rattle.core_theory.specs.Holders.{AreHolders}
+use Rattle.core_theory.specs.Licensed.{IsWoven}
 use Rattle.weave_core.specs.States.{Asking, Dismissed, Eventless, Role, State, Undeclared, Writing}
 use Rattle.weave_core.specs.Steps.{Steps, StepsIn, with_event, with_role}
 use Rattle.weave_core.specs.declared.calls.Stepped.{Stepped}

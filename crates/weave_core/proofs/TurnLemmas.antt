@@ -11,7 +11,7 @@ use Rattle.query_core.specs.Settings.{QuerySetting}
 use Rattle.query_core.specs.declared.stages.Stage.{Stage}
 use Rattle.query_core.specs.declared.stages.Stage.TheVariants as query
 use Rattle.weave_core.specs.ActorAgreements.{Agrees}
-use Rattle.weave_core.specs.Core.{query_now}
+use Rattle.core_theory.specs.Core.{query_now}
 use Rattle.weave_core.specs.EventNames.{event_of_query, event_of_write}
 use Rattle.weave_core.specs.ScheduleTurns.{GoesSo, HasGone}
 use Rattle.weave_core.specs.Schedules.{IsNextEvent, Went}

@@ -19,7 +19,7 @@ use Rattle.query_core.specs.declared.stages.Stage.{Stage}
 use Rattle.query_core.specs.declared.stages.Stage.TheVariants as at
 use Rattle.weave_core.proofs.PlaceLemmas.{zone_word_there}
 use Rattle.plan_split.proofs.PlanBuckets.{next_below}
-use Rattle.weave_core.specs.Core.{Core}
+use Rattle.core_theory.specs.Core.{Core}
 use Rattle.weave_core.specs.HintWords.{HasWord, hint_word_at}
 use Rattle.weave_core.specs.QueryLooks.{word_told}
 use Rattle.weave_core.specs.QueryTurns.{IsAnswered, IsAsking}

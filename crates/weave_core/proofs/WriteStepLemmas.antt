@@ -8,7 +8,7 @@ use Rattle.mon_topo.specs.declared.zones.ZoneSpec.{ZoneSpec}
 use Rattle.mon_value.specs.declared.positions.Range.{Range}
 use Rattle.weave_core.specs.ActorAgreements.{IsActorSo, IsCourseSo, IsWriting}
 use Rattle.weave_core.specs.ActorSteps.{ActorSteps, IsIn, WrittenSo}
-use Rattle.weave_core.specs.Core.{Happens}
+use Rattle.core_theory.specs.Core.{Happens}
 use Rattle.weave_core.specs.EndTexts.{write_end_text}
 use Rattle.weave_core.specs.EventNames.{event_of_write}
 use Rattle.weave_core.specs.States.{Asking, Dismissed, Eventless, Role, State, Undeclared, Writing, role_fault}

@@ -9,10 +9,10 @@ use Rattle.query_core.specs.Machine.{new_query}
 use Rattle.query_core.specs.Program as query
 use Rattle.query_core.specs.declared.asks.Ask.TheVariants as query_ask
 use Rattle.weave_core.specs.Agreements.{AreShared, first_view}
-use Rattle.weave_core.specs.Core.{Reader, asked_now, query_now}
+use Rattle.core_theory.specs.Core.{Reader, asked_now, query_now}
 use Rattle.mon_topo.specs.FirstHistories.{first_histories}
-use Rattle.weave_core.specs.Holders.{AreHolders}
-use Rattle.weave_core.specs.Licensed.{IsWoven}
+use Rattle.core_theory.specs.Holders.{AreHolders}
+use Rattle.core_theory.specs.Licensed.{IsWoven}
 use Rattle.weave_core.specs.PlannedQueries.{IsPlanned}
 use Rattle.mon_topo.specs.Sights.{sight_of}
 use Rattle.mon_value.specs.Parts.{is_any}

@@ -5,8 +5,8 @@ use Rattle.mon_topo.specs.declared.zones.ZoneSpec.{ZoneSpec}
 use Rattle.weave_core.specs.ActorAgreements.{IsActorSo}
 use Rattle.weave_core.specs.Agreements.{AreShared}
 use Rattle.weave_core.specs.EndTexts.{query_text, write_end_text}
-use Rattle.weave_core.specs.Holders.{AreHolders}
-use Rattle.weave_core.specs.Licensed.{IsWoven}
+use Rattle.core_theory.specs.Holders.{AreHolders}
+use Rattle.core_theory.specs.Licensed.{IsWoven}
 use Rattle.weave_core.specs.States.{State, step_fault, store_of}
 use Rattle.weave_core.specs.Steps.{Steps}
 use Rattle.weave_core.specs.declared.actors.Actor.{Actor}

@@ -12,7 +12,7 @@ use Rattle.query_core.specs.Askings.{IsAskedOf}
 use Rattle.query_core.specs.Machine.{new_query}
 use Rattle.query_core.specs.Mixtures.{typed_of}
 use Rattle.query_core.specs.Settings.{QuerySetting}
-use Rattle.weave_core.specs.Core.{CanCome, CoreEvent, Happens, Hears, Reader}
+use Rattle.core_theory.specs.Core.{CanCome, CoreEvent, Happens, Hears, Reader}
 use Rattle.query_texts.specs.TextTypes.{text_type}
 use Rattle.query_texts.specs.declared.faults.TextFault.{TextFault}
 use Rattle.weave_core.specs.EndTexts.{no_plan_line, no_zone_line}

@@ -1,17 +1,13 @@
 pub mod ActorAgreements
 pub mod ActorSteps
 pub mod Agreements
-pub mod Core
 pub mod Courses
 pub mod Declarations
 pub mod EndTexts
 pub mod EventNames
 pub mod FirstSeats
 pub mod HintWords
-pub mod Holders
 pub mod LawfulLines
-pub mod Licensed
-pub mod Meetings
 pub mod NewActors
 pub mod Openings
 pub mod PlannedQueries

@@ -11,7 +11,7 @@ use Rattle.query_core.specs.declared.answers.Answer.{Answer}
 use Rattle.query_core.specs.declared.answers.RoundFault.TheVariants as fault
 use Rattle.query_core.specs.declared.answers.Trace.{Trace}
 use Rattle.query_core.specs.declared.stages.Stage.TheVariants as at
-use Rattle.weave_core.specs.Core.{Reader, query_now}
+use Rattle.core_theory.specs.Core.{Reader, query_now}
 use Rattle.weave_core.specs.LawfulLines.{IsLawfulForm}
 use Rattle.weave_core.specs.Schedules.{Does, line_fault}
 use Rattle.weave_core.specs.States.{State, store_of}

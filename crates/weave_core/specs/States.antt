@@ -5,7 +5,7 @@ use Rattle.mon_config.specs.declared.config.Config.{Config}
 use Rattle.mon_topo.specs.Settings.{Setting}
 use Rattle.query_core.specs.declared.asks.Ask.{Ask}
 use Rattle.query_core.specs.declared.asks.Ask.TheVariants as ask
-use Rattle.weave_core.specs.Core.{Core, Reader, asked_now}
+use Rattle.core_theory.specs.Core.{Core, Reader, asked_now}
 use Rattle.weave_core.specs.EventNames.{event_of_query, event_of_write}
 use Rattle.weave_core.specs.declared.calls.WeaveFault.{WeaveFault}
 use Rattle.weave_core.specs.declared.calls.WeaveFault.TheVariants as fault

@@ -5,7 +5,7 @@ use Rattle.mon_topo.specs.declared.zones.ZoneSpec.{ZoneSpec}
 use Rattle.query_core.specs.declared.asks.Told.{Told}
 use Rattle.query_core.specs.declared.stages.Stage.{Stage}
 use Rattle.query_core.specs.declared.stages.Stage.TheVariants as query
-use Rattle.weave_core.specs.Core.{CanCome, CoreEvent, Happens, Tells, came, query_now}
+use Rattle.core_theory.specs.Core.{CanCome, CoreEvent, Happens, Tells, came, query_now}
 use Rattle.weave_core.specs.EndTexts.{query_text, write_end_text}
 use Rattle.weave_core.specs.States.{Asking, Dismissed, Eventless, Role, State, Undeclared, Writing, holder_at}
 use Rattle.weave_core.specs.declared.calls.Stepped.{Stepped}

@@ -6,7 +6,6 @@ mod actors;
 mod calls;
 mod events;
 mod kept_laws;
-mod laws;
 mod leaves;
 mod limits;
 mod lines;
@@ -24,11 +23,9 @@ mod write_events;
 mod writes;
 
 pub use calls::{Call, ScheduleFault, Stepped, WeaveFault};
+pub use core_theory::{meetings_see_as_far_as_views, queries_answer_rightly, queries_are_licensed};
 pub use events::Event;
-pub use kept_laws::{
-    locks_tell_the_truth, meetings_see_as_far_as_views, one_bit_is_raised, stores_begin_held,
-};
-pub use laws::{queries_answer_rightly, queries_are_licensed};
+pub use kept_laws::{locks_tell_the_truth, one_bit_is_raised, stores_begin_held};
 pub use leaves::LeafSeat;
 pub use limits::{LAST_ACTOR, MOST_EVENTS, MOST_LINES};
 pub use ranges::RangeSeat;

@@ -8,7 +8,7 @@ ghost use Rattle.mon_value.specs.declared.limits.TheConstants.{ROW_BITS};
 ghost use Rattle.query_core.specs.Mixtures.{MayBeTold};
 ghost use Rattle.query_core.specs.Program.{ask_of};
 ghost use Rattle.query_core.specs.declared.asks.Ask.TheVariants.{Finished};
-ghost use Rattle.weave_core.specs.Core.{Core};
+ghost use Rattle.core_theory.specs.Core.{Core};
 ghost use Rattle.weave_core.specs.HintWords.{HasWord, hint_word_at};
 ghost use Rattle.weave_core.specs.QueryLooks.{FindsAt, IsSeatedForLeaf, IsSeatedForRange, LooksAt, word_told};
 ghost use Rattle.weave_core.specs.QueryTurns.{AnswersSo, IsAskedSomewhere, IsAsking, IsTurnOf, QueriesSo, TurnsBy};

@@ -8,15 +8,15 @@ ghost use Rattle.query_core.specs.declared.answers.Answer.{Answer as AnswerOf};
 ghost use Rattle.query_core.specs.declared.answers.RoundFault.{RoundFault as FaultOf};
 ghost use Rattle.query_core.specs.declared.answers.Trace.{Trace as TraceOf};
 ghost use Rattle.query_core.specs.declared.stages.Stage.TheVariants.{Ended};
-ghost use Rattle.weave_core.specs.Core.{query_now};
-ghost use Rattle.weave_core.specs.Licensed.{IsWoven};
+ghost use Rattle.core_theory.specs.Core.{query_now};
+ghost use Rattle.core_theory.specs.Licensed.{IsWoven};
 ghost use Rattle.weave_core.specs.Reached.{AnsweredRightly, FoundNoneRightly, HasAnswered, HasFoundNone, HasStoppedSo};
 ghost use Rattle.weave_core.specs.Reached.{LinesLead, StoppedRightly, downs_heard};
 ghost use Rattle.weave_core.specs.Schedules.{IsFirstState};
 ghost use Rattle.weave_core.specs.States.{Asking, State, store_of};
 ghost use Rattle.weave_core.specs.declared.lines.LineForm.{LineForm as Form};
 
-use crate::laws::queries_answer_rightly;
+use core_theory::queries_answer_rightly;
 use query_core::ends_name_what_was_told;
 
 /// Wherever the lines of a schedule lead to, the histories are held, what each actor knows leads to all that it has

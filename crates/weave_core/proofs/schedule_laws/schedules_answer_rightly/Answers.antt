@@ -1,6 +1,6 @@
 use Rattle.query_core.specs.declared.stages.Stage.TheVariants.{Ended}
 use Rattle.weave_core.proofs.ReachedLemmas.{reached}
-use Rattle.weave_core.proofs.ReaderLemmas.{as_new, stage_is}
+use Rattle.core_theory.proofs.ReaderLemmas.{as_new, stage_is}
 use Rattle.weave_core.specs.States.{store_of}
 use Rattle.weave_core.proofs.schedule_laws.schedules_answer_rightly.Goals as goal
 

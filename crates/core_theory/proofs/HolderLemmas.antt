@@ -5,7 +5,7 @@ use Rattle.std.specs.Prelude.{option_map}
 use Rattle.std.proofs.lemmas.Option.{none-some, same_Some}
 use Rattle.mon_topo.specs.Settings.{Setting, zone_of_leaf}
 use Rattle.mon_value.specs.declared.positions.Leaf.{Leaf}
-use Rattle.weave_core.specs.Holders.{AreHolders, HoldsLeaf, HoldsRange, IsHolding, leaf_inside}
+use Rattle.core_theory.specs.Holders.{AreHolders, HoldsLeaf, HoldsRange, IsHolding, leaf_inside}
 use Rattle.write_core.proofs.KeepsLemmas.{changed_by, changed_same}
 use Rattle.write_core.specs.Program.{Acking, Ended, Entering, Inside, Locking, Marked, Reserving, Stage, Verdict}
 use Rattle.write_core.specs.Program.{after, entering, reserving}
