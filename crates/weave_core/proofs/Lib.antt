@@ -2,7 +2,7 @@ pub mod AckTurnLemmas
 pub mod ActorStepLemmas
 pub mod AskingLemmas
 pub mod AtWorkLemmas
-pub mod CourseLemmas
+pub mod BeginLemmas
 pub mod DeclareLemmas
 pub mod HearingLemmas
 pub mod LeafAnswers
@@ -11,10 +11,8 @@ pub mod LineRunLemmas
 pub mod LockLemmas
 pub mod LockTurnLemmas
 pub mod NumberLemmas
-pub mod PassedLemmas
 pub mod OpeningLemmas
-pub mod SeatingLemmas
-pub mod BeginLemmas
+pub mod PassedLemmas
 pub mod PlaceLemmas
 pub mod PutTurnLemmas
 pub mod QueryPlanLemmas
@@ -25,8 +23,10 @@ pub mod RaiseLemmas
 pub mod RaiseTurnLemmas
 pub mod RangeAnswers
 pub mod ReachedLemmas
+pub mod SeatingLemmas
 pub mod SeatLemmas
 pub mod StepLemmas
+pub mod TaskLemmas
 pub mod TurnLemmas
 pub mod WeaveLemmas
 pub mod WeaveStepLemmas

@@ -20,8 +20,8 @@ use Rattle.weave_core.specs.States.{Asking, Dismissed, Eventless, Role, State, U
 use Rattle.weave_core.specs.States.{write_asks, writes_begun}
 use Rattle.weave_core.specs.Writers.{IsWriterSo}
 use Rattle.weave_core.specs.declared.actors.Actor.{Actor}
-use Rattle.weave_core.specs.declared.actors.Course.{Course}
-use Rattle.weave_core.specs.declared.actors.Course.TheVariants as course
+use Rattle.weave_core.specs.declared.actors.Task.{Task}
+use Rattle.weave_core.specs.declared.actors.Task.TheVariants as task
 use Rattle.weave_core.specs.declared.limits.TheConstants.{LAST_ACTOR}
 use Rattle.weave_core.specs.declared.queries.Querying.{Querying}
 use Rattle.mon_topo.specs.declared.sights.Sight.{Sight}
@@ -95,24 +95,24 @@ module _ (config : Config) (i : ℕ) (doer : Doer) (reader : Reader (store_of co
     pub seen : sight ≡ sight_of reader.view.seen
 
   -- an actor of this role is so far, and has seen so much
-  abbrev pub IsCourseSo : Role → Course → Bool → Sight → Type 0
-  IsCourseSo Undeclared course begun sight = ⊥
-  IsCourseSo (Eventless text) (course.Refused own) begun sight = IsWithoutEvent text own begun sight
-  IsCourseSo (Eventless text) (course.Writes writing) begun sight = ⊥
-  IsCourseSo (Eventless text) (course.Queries querying) begun sight = ⊥
-  IsCourseSo (Eventless text) course.Ended begun sight = ⊥
-  IsCourseSo Dismissed (course.Refused own) begun sight = ⊥
-  IsCourseSo Dismissed (course.Writes writing) begun sight = ⊥
-  IsCourseSo Dismissed (course.Queries querying) begun sight = ⊥
-  IsCourseSo Dismissed course.Ended begun sight = IsDismissed sight
-  IsCourseSo Writing (course.Refused own) begun sight = ⊥
-  IsCourseSo Writing (course.Writes writing) begun sight = IsWriting writing begun sight
-  IsCourseSo Writing (course.Queries querying) begun sight = ⊥
-  IsCourseSo Writing course.Ended begun sight = HasWritten sight
-  IsCourseSo Asking (course.Refused own) begun sight = ⊥
-  IsCourseSo Asking (course.Writes writing) begun sight = ⊥
-  IsCourseSo Asking (course.Queries querying) begun sight = IsQuerying querying begun sight
-  IsCourseSo Asking course.Ended begun sight = HasQueried sight
+  abbrev pub IsTaskSo : Role → Task → Bool → Sight → Type 0
+  IsTaskSo Undeclared task begun sight = ⊥
+  IsTaskSo (Eventless text) (task.Refused own) begun sight = IsWithoutEvent text own begun sight
+  IsTaskSo (Eventless text) (task.Writes writing) begun sight = ⊥
+  IsTaskSo (Eventless text) (task.Queries querying) begun sight = ⊥
+  IsTaskSo (Eventless text) task.Ended begun sight = ⊥
+  IsTaskSo Dismissed (task.Refused own) begun sight = ⊥
+  IsTaskSo Dismissed (task.Writes writing) begun sight = ⊥
+  IsTaskSo Dismissed (task.Queries querying) begun sight = ⊥
+  IsTaskSo Dismissed task.Ended begun sight = IsDismissed sight
+  IsTaskSo Writing (task.Refused own) begun sight = ⊥
+  IsTaskSo Writing (task.Writes writing) begun sight = IsWriting writing begun sight
+  IsTaskSo Writing (task.Queries querying) begun sight = ⊥
+  IsTaskSo Writing task.Ended begun sight = HasWritten sight
+  IsTaskSo Asking (task.Refused own) begun sight = ⊥
+  IsTaskSo Asking (task.Writes writing) begun sight = ⊥
+  IsTaskSo Asking (task.Queries querying) begun sight = IsQuerying querying begun sight
+  IsTaskSo Asking task.Ended begun sight = HasQueried sight
 
   abbrev pub IsActorSo : Role → Option Actor → Type 0
   IsActorSo Undeclared None = IsUndeclared
@@ -120,7 +120,7 @@ module _ (config : Config) (i : ℕ) (doer : Doer) (reader : Reader (store_of co
   IsActorSo Dismissed None = ⊥
   IsActorSo Writing None = ⊥
   IsActorSo Asking None = ⊥
-  IsActorSo role (Some actor) = IsCourseSo role actor.course actor.begun actor.sight
+  IsActorSo role (Some actor) = IsTaskSo role actor.task actor.begun actor.sight
 
 -- ---- all actors, by their numbers; that at the place 0 is none
 

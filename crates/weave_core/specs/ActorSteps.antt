@@ -10,7 +10,7 @@ use Rattle.core_theory.specs.Licensed.{IsWoven}
 use Rattle.weave_core.specs.States.{State, step_fault, store_of}
 use Rattle.weave_core.specs.Steps.{Steps}
 use Rattle.weave_core.specs.declared.actors.Actor.{Actor}
-use Rattle.weave_core.specs.declared.actors.Course.TheVariants as course
+use Rattle.weave_core.specs.declared.actors.Task.TheVariants as task
 use Rattle.weave_core.specs.declared.calls.Stepped.{Stepped}
 use Rattle.weave_core.specs.declared.calls.Stepped.TheVariants as stepped
 use Rattle.weave_core.specs.declared.calls.WeaveFault.TheVariants.{Finished}
@@ -25,20 +25,20 @@ use Rattle.weave_core.specs.declared.writes.WriteTurn.TheVariants as write_turn
 
 abbrev pub WrittenSo : List ZoneSpec → WriteTurn → Sight → Bool → Actor → Option Stepped → Type 0
 WrittenSo zones (write_turn.Went writing) sight begun own how =
-    (own ≡ record { course = course.Writes writing; sight = sight; begun = true }) × (how ≡ Some stepped.Went)
+    (own ≡ record { task = task.Writes writing; sight = sight; begun = true }) × (how ≡ Some stepped.Went)
 WrittenSo zones (write_turn.Waits writing) sight begun own how =
-    (own ≡ record { course = course.Writes writing; sight = sight; begun = begun }) × (how ≡ Some stepped.Waits)
+    (own ≡ record { task = task.Writes writing; sight = sight; begun = begun }) × (how ≡ Some stepped.Waits)
 WrittenSo zones (write_turn.Ended range end) sight begun own how =
-    (own ≡ record { course = course.Ended; sight = sight; begun = true })
+    (own ≡ record { task = task.Ended; sight = sight; begun = true })
     × (how ≡ Some (stepped.Ended (write_end_text zones range end)))
 
 abbrev pub QueriedSo : List ZoneSpec → QueryTurn → Sight → Bool → Actor → Option Stepped → Type 0
 QueriedSo zones (query_turn.Went querying) sight begun own how =
-    (own ≡ record { course = course.Queries querying; sight = sight; begun = true }) × (how ≡ Some stepped.Went)
+    (own ≡ record { task = task.Queries querying; sight = sight; begun = true }) × (how ≡ Some stepped.Went)
 QueriedSo zones (query_turn.Waits querying) sight begun own how =
-    (own ≡ record { course = course.Queries querying; sight = sight; begun = begun }) × (how ≡ Some stepped.Waits)
+    (own ≡ record { task = task.Queries querying; sight = sight; begun = begun }) × (how ≡ Some stepped.Waits)
 QueriedSo zones (query_turn.Ended end) sight begun own how =
-    (own ≡ record { course = course.Ended; sight = sight; begun = true })
+    (own ≡ record { task = task.Ended; sight = sight; begun = true })
     × (how ≡ Some (stepped.Ended (query_text zones end)))
 
 -- ---- in a core

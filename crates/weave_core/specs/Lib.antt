@@ -1,7 +1,6 @@
 pub mod ActorAgreements
 pub mod ActorSteps
 pub mod Agreements
-pub mod Courses
 pub mod Declarations
 pub mod EndTexts
 pub mod EventNames
@@ -16,11 +15,12 @@ pub mod QueryPlans
 pub mod QueryTurns
 pub mod Reached
 pub mod ScheduleLines
-pub mod ScheduleTurns
 pub mod Schedules
+pub mod ScheduleTurns
 pub mod States
 pub mod Steps
+pub mod Tasks
 pub mod WeaveCalls
 pub mod WriteEvents
-pub mod WriteTurns
 pub mod Writers
+pub mod WriteTurns
