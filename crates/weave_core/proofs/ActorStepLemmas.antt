@@ -1,15 +1,20 @@
 -- A step of an actor that has ended, or whose call has no event; and what a step asks of a write or a query.
-use Rattle.std.proofs.Common.{◌≡◌, ℕ, Bool, true, Option, Some, List, refl, sym, ap, subst}
+use Rattle.std.proofs.Common.{◌≡◌, ◌<◌, ℕ, Bool, true, Option, Some, List, length, refl, sym, ap, subst}
 use Rattle.mon_config.specs.declared.config.Config.{Config}
+use Rattle.mon_value.specs.declared.positions.Leaf.{Leaf}
 use Rattle.weave_core.proofs.QueryStepLemmas.{at_asking, query_steps}
+use Rattle.weave_core.proofs.SwitchStepLemmas.{asks_seated, asks_there, switching_steps}
 use Rattle.weave_core.proofs.WriteStepLemmas.{at_work, write_steps}
 use Rattle.weave_core.specs.ActorAgreements.{IsActorSo, IsTaskSo}
-use Rattle.weave_core.specs.ActorSteps.{ActorSteps, HasStepped, IsIn, IsSomewhere, QueriedSo, WrittenSo}
+use Rattle.weave_core.specs.ActorSteps.{ActorSteps, HasStepped, IsIn, IsSomewhere, QueriedSo, SwitchedSo}
+use Rattle.weave_core.specs.ActorSteps.{WrittenSo}
 use Rattle.core_theory.specs.Core.{Core, Reader}
 use Rattle.weave_core.specs.QueryTurns.{IsAskedSomewhere, IsAsking, QueriesSo}
-use Rattle.weave_core.specs.States.{Asking, Dismissed, Eventless, Role, State, Undeclared, Writing, role_fault}
+use Rattle.weave_core.specs.States.{Asking, Dismissed, Eventless, Role, State, Switching, Undeclared, Writing}
+use Rattle.weave_core.specs.States.{role_fault}
 use Rattle.weave_core.specs.States.{store_of}
 use Rattle.weave_core.specs.Steps.{StepsIn, with_role}
+use Rattle.weave_core.specs.Switches.{IsSeatedToSwitch, SwitchesAt}
 use Rattle.weave_core.specs.WriteTurns.{IsAtWork, WritesSo}
 use Rattle.weave_core.specs.declared.actors.Actor.{Actor}
 use Rattle.weave_core.specs.declared.actors.Task.{Task}
@@ -21,6 +26,8 @@ use Rattle.weave_core.specs.declared.queries.QueryTurn.TheVariants as query_turn
 use Rattle.weave_core.specs.declared.queries.Querying.{Querying}
 use Rattle.mon_topo.specs.declared.sights.Sight.{Sight}
 use Rattle.weave_core.specs.declared.store.Store.{Store}
+use Rattle.weave_core.specs.declared.switches.Switched.{Switched}
+use Rattle.weave_core.specs.declared.switches.Switching.{Switching as Switch}
 use Rattle.weave_core.specs.declared.writes.WriteTurn.{WriteTurn}
 use Rattle.weave_core.specs.declared.writes.WriteTurn.TheVariants as write_turn
 use Rattle.weave_core.specs.declared.writes.Writing.{Writing as Write}
@@ -56,6 +63,7 @@ module _ (config : Config) (state : State (store_of config)) (i : ℕ) where
           (Some (record { task = task.Ended; sight = sight; begun = true })))
           (sym (changed_same state.roles i Dismissed)) (record { stands = h.stands; seen = h.seen });
     }
+    refused_by (Switching leaf down) e h = absurd h
     refused_by Dismissed e h = absurd h
     refused_by Writing e h = absurd h
     refused_by Asking e h = absurd h
@@ -109,6 +117,21 @@ query_asks_for store own querying e some =
     asks_somewhere store querying own.sight own.begun
     (subst (λ (one : Actor). IsSomewhere store one) (own_is own (task.Queries querying) e) some)
 
+-- what a switch asks for
+pub record MaySwitchThere (store : Store) (leaf : Leaf) (sight : Sight) : Type 0 where
+  pub there : leaf.0 < length store.leaves.items
+  pub seated : IsSeatedToSwitch leaf store.leaves.items sight
+
+pub switch_asks_for : (store : Store) (own : Actor) (switching : Switch) → own.task ≡ task.Switches switching
+    → IsSomewhere store own → MaySwitchThere store switching.leaf own.sight
+switch_asks_for store own switching e some =
+    let at : IsSomewhere store (record { task = task.Switches switching; sight = own.sight; begun = own.begun })
+    = subst (λ (one : Actor). IsSomewhere store one) (own_is own (task.Switches switching) e) some in
+    record {
+      there = asks_there at.config at.state at.i store switching own.sight own.begun at.is_in;
+      seated = asks_seated at.config at.state at.i store switching own.sight own.begun at.is_in;
+    }
+
 module _ (config : Config) (state : State (store_of config)) (i : ℕ) (store : Store) (own : Actor)
     (here : IsIn config state i store own) where
   as_task : (one : Task) → own.task ≡ one
@@ -120,6 +143,17 @@ module _ (config : Config) (state : State (store_of config)) (i : ℕ) (store : 
       → ActorSteps config state i store own next (Some (stepped.Ended text))
   refused_step text e next same = refused_steps config state i store text own.sight own.begun
       (as_task (task.Refused text) e) next same
+
+  pub switch_step : (switching : Switch) → own.task ≡ task.Switches switching → (new : Store) (now : Sight)
+      (what : Option Switched) (next : Actor) (how : Option Stepped)
+      → SwitchesAt switching store new own.sight now what
+      → SwitchedSo new.config.topology switching what now own.begun next how
+      → ActorSteps config state i new own next how
+  switch_step switching e new now what next how did h =
+      subst (λ (one : Actor). ActorSteps config state i new one next how)
+      (sym (own_is own (task.Switches switching) e))
+      (switching_steps config state i store switching own.sight own.begun (as_task (task.Switches switching) e) new
+      now what next how did h)
 
   pub write_step : (writing : Write) → own.task ≡ task.Writes writing → (new : Store) (now : Sight)
       (turn : WriteTurn)

@@ -8,7 +8,8 @@ use Rattle.mon_schema.specs.Fits.{fits}
 use Rattle.mon_topo.proofs.HeldLemmas.{seen_within_itself}
 use Rattle.mon_config.specs.KeyRanges.{range_of_key}
 use Rattle.mon_topo.specs.SeenHistories.{AreWithin}
-use Rattle.mon_topo.specs.Zones.{ranges_in}
+use Rattle.mon_topo.specs.Zones.{leaves_in, ranges_in}
+use Rattle.mon_value.specs.declared.positions.Leaf.{Leaf}
 use Rattle.mon_value.specs.declared.positions.Range.{Range}
 use Rattle.mon_value.specs.declared.rows.Row.{Row}
 use Rattle.mql_types.specs.Nodes.{TypedTree}
@@ -36,7 +37,8 @@ use Rattle.core_theory.specs.Licensed.{IsReader}
 use Rattle.weave_core.specs.NewActors.{BeginsToWrite, IsTaskOf, IsDeclaredActor}
 use Rattle.weave_core.specs.QueryPlans.{BeginsToAsk}
 use Rattle.mon_topo.specs.Sights.{sight_of}
-use Rattle.weave_core.specs.States.{Asking, Dismissed, Eventless, Role, State, Undeclared, Writing, declared_in}
+use Rattle.weave_core.specs.States.{Asking, Dismissed, Eventless, Role, State, Switching, Undeclared, Writing}
+use Rattle.weave_core.specs.States.{declared_in}
 use Rattle.weave_core.specs.States.{store_of, writes_begun}
 use Rattle.weave_core.specs.Steps.{with_event, with_role}
 use Rattle.weave_core.specs.WeaveCalls.{DeclaresSo, IsWeaveKept, MayDeclare}
@@ -50,6 +52,7 @@ use Rattle.weave_core.specs.declared.limits.TheConstants.{LAST_ACTOR}
 use Rattle.weave_core.specs.declared.queries.Querying.{Querying}
 use Rattle.mon_topo.specs.declared.sights.Sight.{Sight}
 use Rattle.weave_core.specs.declared.store.Store.{Store}
+use Rattle.weave_core.specs.declared.switches.Switching.{Switching as Switch}
 use Rattle.weave_core.specs.declared.weave.Weave.{Weave}
 use Rattle.weave_core.specs.declared.writes.Writing.{Writing as Write}
 use Rattle.write_core.proofs.KeepsLemmas.{changed_by, changed_other, changed_same}
@@ -139,6 +142,7 @@ module _ (config : Config) (state : State (store_of config)) (i : ℕ) where
   undeclared_by Undeclared None e h = h
   undeclared_by Undeclared (Some own) e h = absurd h
   undeclared_by (Eventless text) one e h = absurd cc
+  undeclared_by (Switching leaf down) one e h = absurd cc
   undeclared_by Dismissed one e h = absurd cc
   undeclared_by Writing one e h = absurd cc
   undeclared_by Asking one e h = absurd cc
@@ -208,6 +212,42 @@ module _ (config : Config) (state : State (store_of config)) (i : ℕ) where
       actor = as_new (task.Refused text) begun sight new seen (with_role (store_of config) state i (Eventless text))
           (eventless_so text);
     }
+
+    -- a switch
+
+    module _ (what : Call) (leaf : Leaf) (down : Bool) (there : leaf.0 < length (leaves_in config.topology))
+        (declares : Declares config state i what (with_role (store_of config) state i (Switching leaf down))) where
+      abbrev Ready : State (store_of config)
+      Ready = with_role (store_of config) state i (Switching leaf down)
+
+      abbrev Switch' : Switch
+      Switch' = record { number = i; leaf = leaf; down = down }
+
+      switch_so : IsActorSo config i Doer' Reader' (Ready.roles i)
+          (Some (record { task = task.Switches Switch'; sight = First; begun = false }))
+      switch_so = subst (λ (role : Role). IsActorSo config i Doer' Reader' role
+          (Some (record { task = task.Switches Switch'; sight = First; begun = false })))
+          (sym (changed_same state.roles i (Switching leaf down)))
+          (record { switch_is = refl; there = there; stands = stands_now; begun_is = refl; seen = first_seen })
+
+      switch_declared : (one : Task) (begun : Bool) (sight : Sight) → begun ≡ false → sight ≡ First
+          → one ≡ task.Switches Switch' → IsDeclaredSo what one begun sight
+      switch_declared one begun sight new seen is =
+          subst (λ (t : Task). IsDeclaredSo what t begun sight) (sym is) (record {
+            after = Ready;
+            declares = declares;
+            leaves = record {
+              woven = agrees.woven;
+              holders = agrees.holders;
+              others = record {
+                actor = λ j apart. refl;
+                reader = λ j apart. refl;
+                role = λ j apart. changed_other state.roles i j (Switching leaf down) apart;
+              };
+            };
+            shared = agrees.shared;
+            actor = as_new (task.Switches Switch') begun sight new seen Ready switch_so;
+          })
 
     -- a write
 
@@ -336,7 +376,7 @@ module _ (config : Config) (state : State (store_of config)) (i : ℕ) where
     -- whatever it is to do
 
     declared_by : (what : Call) (one : Task) (begun : Bool) (sight : Sight) → begun ≡ false → sight ≡ First
-        → IsLawfulCall config.schemas what → IsTaskOf config i what one → IsDeclaredSo what one begun sight
+        → IsLawfulCall config.schemas config.topology what → IsTaskOf config i what one → IsDeclaredSo what one begun sight
     declared_by (call.Write row) (task.Refused line) begun sight new seen lawful h =
         subst (λ (text : List ℕ). IsDeclaredSo (call.Write row) (task.Refused text) begun sight) (sym h.1)
         (eventless_declared (call.Write row) no_zone_line begun sight new seen
@@ -346,6 +386,7 @@ module _ (config : Config) (state : State (store_of config)) (i : ℕ) where
         subst (λ (one : Write). IsDeclaredSo (call.Write row) (task.Writes one) begun sight)
         (sym (writing_is config i row writing h))
         (write_declared row writing.range h.range_is h.there lawful begun sight new seen)
+    declared_by (call.Write row) (task.Switches switching) begun sight new seen lawful h = absurd h
     declared_by (call.Write row) (task.Queries querying) begun sight new seen lawful h = absurd h
     declared_by (call.Write row) task.Ended begun sight new seen lawful h = absurd h
     declared_by (call.Query moment text) (task.Refused line) begun sight new seen lawful h =
@@ -354,10 +395,15 @@ module _ (config : Config) (state : State (store_of config)) (i : ℕ) where
         (eventless_declared (call.Query moment text) said begun sight new seen
         (subst (λ (typed : Result TypedTree TextFault). QueryBegins config state i moment typed
         (with_role (store_of config) state i (Eventless said))) (sym h.refused) refl))
+    declared_by (call.Query moment text) (task.Switches switching) begun sight new seen lawful h = absurd h
     declared_by (call.Query moment text) (task.Writes writing) begun sight new seen lawful h = absurd h
     declared_by (call.Query moment text) (task.Queries querying) begun sight new seen lawful h =
         query_declared moment text querying h lawful begun sight new seen
     declared_by (call.Query moment text) task.Ended begun sight new seen lawful h = absurd h
+    declared_by (call.Down leaf) one begun sight new seen lawful h =
+        switch_declared (call.Down leaf) leaf true lawful refl one begun sight new seen h
+    declared_by (call.Up leaf) one begun sight new seen lawful h =
+        switch_declared (call.Up leaf) leaf false lawful refl one begun sight new seen h
 
 -- ---- a weave in which it stands at its number
 

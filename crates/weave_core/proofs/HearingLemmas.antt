@@ -8,6 +8,7 @@ use Rattle.std.proofs.lemmas.Option.{slice_get_read}
 use Rattle.mon_config.specs.declared.config.Config.{Config}
 use Rattle.mon_topo.proofs.HeldLemmas.{seen_within_through}
 use Rattle.mon_value.specs.declared.histories.Histories.{Histories}
+use Rattle.mon_value.specs.declared.positions.Leaf.{Leaf}
 use Rattle.mon_value.specs.Histories.{joined_histories}
 use Rattle.query_core.specs.Sessions as session
 use Rattle.query_core.specs.Sessions.{query_after}
@@ -21,8 +22,8 @@ use Rattle.weave_core.proofs.SeatLemmas.{parts_alike}
 use Rattle.mon_topo.proofs.SightLemmas.{joined_seen}
 use Rattle.weave_core.proofs.StepLemmas.{Leaves}
 use Rattle.weave_core.proofs.WeaveLemmas.{numbered_there}
-use Rattle.weave_core.specs.ActorAgreements.{Agrees, IsActorSo, IsTaskSo, IsQuerying, IsWithoutEvent, IsWriting}
-use Rattle.weave_core.specs.ActorAgreements.{actor_numbered, flat}
+use Rattle.weave_core.specs.ActorAgreements.{Agrees, IsActorSo, IsTaskSo, IsQuerying, IsSwitching, IsWithoutEvent}
+use Rattle.weave_core.specs.ActorAgreements.{IsWriting, actor_numbered, flat}
 use Rattle.weave_core.specs.Agreements.{AreShared}
 use Rattle.core_theory.specs.Core.{CanCome, Happens, Hears, Reader, begun_with}
 use Rattle.weave_core.specs.Tasks.{is_over}
@@ -34,7 +35,8 @@ use Rattle.weave_core.specs.NewActors.{hearing_of}
 use Rattle.weave_core.specs.Schedules.{meet_fault}
 use Rattle.mon_topo.specs.Sights.{AreAlike, joined_sight, sight_of}
 use Rattle.weave_core.specs.States as spec
-use Rattle.weave_core.specs.States.{Asking, Dismissed, Eventless, Role, State, Undeclared, Writing, begun_in}
+use Rattle.weave_core.specs.States.{Asking, Dismissed, Eventless, Role, State, Switching, Undeclared, Writing}
+use Rattle.weave_core.specs.States.{begun_in}
 use Rattle.mon_value.specs.Parts.{is_any}
 use Rattle.weave_core.specs.States.{declared_in, is_past_lock, store_of, view_at, view_in, writes_begun}
 use Rattle.weave_core.specs.Steps.{with_event}
@@ -47,6 +49,7 @@ use Rattle.weave_core.specs.declared.calls.WeaveFault.TheVariants as fault
 use Rattle.weave_core.specs.declared.queries.Querying.{Querying}
 use Rattle.mon_topo.specs.declared.sights.Sight.{Sight}
 use Rattle.weave_core.specs.declared.store.Store.{Store}
+use Rattle.weave_core.specs.declared.switches.Switching.{Switching as Switch}
 use Rattle.weave_core.specs.declared.weave.Weave.{Weave}
 use Rattle.weave_core.specs.declared.writes.Writing.{Writing as Write}
 use Rattle.write_core.proofs.KeepsLemmas.{changed_other, changed_same}
@@ -105,18 +108,27 @@ module _ (config : Config) (state : State (store_of config)) (i : ℕ) where
       → sight ≡ sight_of (view_in (store_of config) state i role).seen
   sight_so Undeclared one begun sight h = absurd h
   sight_so (Eventless text) (task.Refused own) begun sight h = h.seen
+  sight_so (Eventless text) (task.Switches switching) begun sight h = absurd h
   sight_so (Eventless text) (task.Writes writing) begun sight h = absurd h
   sight_so (Eventless text) (task.Queries querying) begun sight h = absurd h
   sight_so (Eventless text) task.Ended begun sight h = absurd h
+  sight_so (Switching leaf down) (task.Refused own) begun sight h = absurd h
+  sight_so (Switching leaf down) (task.Switches switching) begun sight h = h.seen
+  sight_so (Switching leaf down) (task.Writes writing) begun sight h = absurd h
+  sight_so (Switching leaf down) (task.Queries querying) begun sight h = absurd h
+  sight_so (Switching leaf down) task.Ended begun sight h = absurd h
   sight_so Dismissed (task.Refused own) begun sight h = absurd h
+  sight_so Dismissed (task.Switches switching) begun sight h = absurd h
   sight_so Dismissed (task.Writes writing) begun sight h = absurd h
   sight_so Dismissed (task.Queries querying) begun sight h = absurd h
   sight_so Dismissed task.Ended begun sight h = h.seen
   sight_so Writing (task.Refused own) begun sight h = absurd h
+  sight_so Writing (task.Switches switching) begun sight h = absurd h
   sight_so Writing (task.Writes writing) begun sight h = h.writer.seen
   sight_so Writing (task.Queries querying) begun sight h = absurd h
   sight_so Writing task.Ended begun sight h = h.seen
   sight_so Asking (task.Refused own) begun sight h = absurd h
+  sight_so Asking (task.Switches switching) begun sight h = absurd h
   sight_so Asking (task.Writes writing) begun sight h = absurd h
   sight_so Asking (task.Queries querying) begun sight h = h.reader_so.seen
   sight_so Asking task.Ended begun sight h = h.seen
@@ -125,6 +137,7 @@ module _ (config : Config) (state : State (store_of config)) (i : ℕ) where
       → IsPart (store_of config) state.core.world (view_in (store_of config) state i role)
   part_in Undeclared woven = part_of (store_of config) state.core.world i Doer' (woven.world.actors i)
   part_in (Eventless text) woven = part_of (store_of config) state.core.world i Doer' (woven.world.actors i)
+  part_in (Switching leaf down) woven = part_of (store_of config) state.core.world i Doer' (woven.world.actors i)
   part_in Dismissed woven = part_of (store_of config) state.core.world i Doer' (woven.world.actors i)
   part_in Writing woven = part_of (store_of config) state.core.world i Doer' (woven.world.actors i)
   part_in Asking woven = (woven.readers i).part
@@ -133,7 +146,9 @@ module _ (config : Config) (state : State (store_of config)) (i : ℕ) where
       → IsActorSo config i Doer' Reader' role one → HasOne one
   somebody Undeclared one e h = absurd cc
   somebody (Eventless text) None e h = absurd h
+  somebody (Switching leaf down) None e h = absurd h
   somebody (Eventless text) (Some own) e h = record { own = own; is = refl }
+  somebody (Switching leaf down) (Some own) e h = record { own = own; is = refl }
   somebody Dismissed None e h = absurd h
   somebody Dismissed (Some own) e h = record { own = own; is = refl }
   somebody Writing None e h = absurd h
@@ -193,6 +208,27 @@ module _ (config : Config) (state : State (store_of config)) (i : ℕ) where
           shared = learned_shared;
           actor = record {
             text_is = h.text_is;
+            stands = stands_so i (joined_view (view_of Doer') view) (Learned.core.world.actors i) now;
+            begun_is = h.begun_is;
+            seen = joined_of sight (view_of Doer').seen view.seen h.seen
+                ∙ ap (λ (d : Doer). sight_of (view_of d).seen) (sym now);
+          };
+        }
+
+    switch_hears : (leaf : Leaf) (down : Bool) (switching : Switch) (begun : Bool) (sight : Sight)
+        → IsSwitching config i Doer' Reader' leaf down switching begun sight
+        → HearsSo (Switching leaf down) (task.Switches switching) begun sight
+    switch_hears leaf down switching begun sight h =
+        let now : Learned.core.world.actors i ≡ stander i (joined_view (view_of Doer') view)
+        = wiser_now (stander i (view_of Doer')) h.stands in
+        let new : HasNotBegun Doer' = subst (λ (doer : Doer). HasNotBegun doer) (sym h.stands) tt in
+        record {
+          can = (new, part);
+          leaves = learned_left new;
+          shared = learned_shared;
+          actor = record {
+            switch_is = h.switch_is;
+            there = h.there;
             stands = stands_so i (joined_view (view_of Doer') view) (Learned.core.world.actors i) now;
             begun_is = h.begun_is;
             seen = joined_of sight (view_of Doer').seen view.seen h.seen
@@ -282,15 +318,24 @@ module _ (config : Config) (state : State (store_of config)) (i : ℕ) where
         → HearsSo role one begun sight
     hears_by Undeclared one begun sight free h = absurd h
     hears_by (Eventless text) (task.Refused own) begun sight free h = eventless_hears text own begun sight h
+    hears_by (Eventless text) (task.Switches switching) begun sight free h = absurd h
     hears_by (Eventless text) (task.Writes writing) begun sight free h = absurd h
     hears_by (Eventless text) (task.Queries querying) begun sight free h = absurd h
     hears_by (Eventless text) task.Ended begun sight free h = absurd h
+    hears_by (Switching leaf down) (task.Refused own) begun sight free h = absurd h
+    hears_by (Switching leaf down) (task.Switches switching) begun sight free h =
+        switch_hears leaf down switching begun sight h
+    hears_by (Switching leaf down) (task.Writes writing) begun sight free h = absurd h
+    hears_by (Switching leaf down) (task.Queries querying) begun sight free h = absurd h
+    hears_by (Switching leaf down) task.Ended begun sight free h = absurd h
     hears_by Dismissed one begun sight free h = absurd cc
     hears_by Writing (task.Refused own) begun sight free h = absurd h
+    hears_by Writing (task.Switches switching) begun sight free h = absurd h
     hears_by Writing (task.Writes writing) begun sight free h = write_hears writing begun sight free h
     hears_by Writing (task.Queries querying) begun sight free h = absurd h
     hears_by Writing task.Ended begun sight free h = let no : true ≡ false = sym h.begun_is ∙ free in absurd cc
     hears_by Asking (task.Refused own) begun sight free h = absurd h
+    hears_by Asking (task.Switches switching) begun sight free h = absurd h
     hears_by Asking (task.Writes writing) begun sight free h = absurd h
     hears_by Asking (task.Queries querying) begun sight free h = query_hears querying begun sight free h
     hears_by Asking task.Ended begun sight free h = let no : true ≡ false = sym h.begun_is ∙ free in absurd cc

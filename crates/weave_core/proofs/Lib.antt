@@ -17,6 +17,7 @@ pub mod PlaceLemmas
 pub mod PutTurnLemmas
 pub mod QueryPlanLemmas
 pub mod QuerySeats
+pub mod QuerySideLemmas
 pub mod QueryStepLemmas
 pub mod QueryTurnLemmas
 pub mod RaiseLemmas
@@ -26,6 +27,8 @@ pub mod ReachedLemmas
 pub mod SeatingLemmas
 pub mod SeatLemmas
 pub mod StepLemmas
+pub mod SwitchEntryLemmas
+pub mod SwitchStepLemmas
 pub mod TaskLemmas
 pub mod TurnLemmas
 pub mod WeaveLemmas

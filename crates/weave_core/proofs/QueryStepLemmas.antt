@@ -19,7 +19,8 @@ use Rattle.core_theory.specs.Core.{Reader, Tells, asked_now, told_on, view_told,
 use Rattle.weave_core.specs.EndTexts.{query_text}
 use Rattle.weave_core.specs.EventNames.{event_of_query}
 use Rattle.weave_core.specs.QueryTurns.{IsAsking, QueriesSo}
-use Rattle.weave_core.specs.States.{Asking, Dismissed, Eventless, Role, State, Undeclared, Writing, role_fault}
+use Rattle.weave_core.specs.States.{Asking, Dismissed, Eventless, Role, State, Switching, Undeclared, Writing}
+use Rattle.weave_core.specs.States.{role_fault}
 use Rattle.mon_value.specs.Parts.{is_any}
 use Rattle.weave_core.specs.States.{holder_in, step_fault, store_of}
 use Rattle.weave_core.specs.Steps.{StepsIn, query_stepped, with_event}
@@ -88,6 +89,7 @@ module _ (config : Config) (state : State (store_of config)) (i : ℕ) (store : 
   asking_by : (role : Role) → IsTaskSo config i doer reader role (task.Queries querying) begun sight → role ≡ Asking
   asking_by Undeclared h = absurd h
   asking_by (Eventless text) h = absurd h
+  asking_by (Switching leaf down) h = absurd h
   asking_by Dismissed h = absurd h
   asking_by Writing h = absurd h
   asking_by Asking h = refl

@@ -4,7 +4,7 @@ use Rattle.mon_config.specs.declared.config.Config.{Config}
 use Rattle.mon_topo.specs.declared.zones.ZoneSpec.{ZoneSpec}
 use Rattle.weave_core.specs.ActorAgreements.{IsActorSo}
 use Rattle.weave_core.specs.Agreements.{AreShared}
-use Rattle.weave_core.specs.EndTexts.{query_text, write_end_text}
+use Rattle.weave_core.specs.EndTexts.{query_text, switch_text, write_end_text}
 use Rattle.core_theory.specs.Holders.{AreHolders}
 use Rattle.core_theory.specs.Licensed.{IsWoven}
 use Rattle.weave_core.specs.States.{State, step_fault, store_of}
@@ -17,7 +17,10 @@ use Rattle.weave_core.specs.declared.calls.WeaveFault.TheVariants.{Finished}
 use Rattle.weave_core.specs.declared.queries.QueryTurn.{QueryTurn}
 use Rattle.weave_core.specs.declared.queries.QueryTurn.TheVariants as query_turn
 use Rattle.mon_topo.specs.declared.sights.Sight.{Sight}
+use Rattle.weave_core.specs.Switches.{switch_told}
 use Rattle.weave_core.specs.declared.store.Store.{Store}
+use Rattle.weave_core.specs.declared.switches.Switched.{Switched}
+use Rattle.weave_core.specs.declared.switches.Switching.{Switching}
 use Rattle.weave_core.specs.declared.writes.WriteTurn.{WriteTurn}
 use Rattle.weave_core.specs.declared.writes.WriteTurn.TheVariants as write_turn
 
@@ -40,6 +43,14 @@ QueriedSo zones (query_turn.Waits querying) sight begun own how =
 QueriedSo zones (query_turn.Ended end) sight begun own how =
     (own ≡ record { task = task.Ended; sight = sight; begun = true })
     × (how ≡ Some (stepped.Ended (query_text zones end)))
+
+-- it switched a leaf, and ends with what it was told; or it waits for the leaf
+abbrev pub SwitchedSo : List ZoneSpec → Switching → Option Switched → Sight → Bool → Actor → Option Stepped → Type 0
+SwitchedSo zones switching (Some was) sight begun own how =
+    (own ≡ record { task = task.Ended; sight = sight; begun = true })
+    × (how ≡ Some (stepped.Ended (switch_text zones switching.leaf switching.down (switch_told was))))
+SwitchedSo zones switching None sight begun own how =
+    (own ≡ record { task = task.Switches switching; sight = sight; begun = begun }) × (how ≡ Some stepped.Waits)
 
 -- ---- in a core
 

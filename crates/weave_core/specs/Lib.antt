@@ -12,6 +12,7 @@ pub mod Openings
 pub mod PlannedQueries
 pub mod QueryLooks
 pub mod QueryPlans
+pub mod QuerySides
 pub mod QueryTurns
 pub mod Reached
 pub mod ScheduleLines
@@ -19,6 +20,7 @@ pub mod Schedules
 pub mod ScheduleTurns
 pub mod States
 pub mod Steps
+pub mod Switches
 pub mod Tasks
 pub mod WeaveCalls
 pub mod WriteEvents

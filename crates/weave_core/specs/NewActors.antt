@@ -1,8 +1,9 @@
 -- Actors that have not begun: one that was declared, and one that hears what another one has seen.
-use Rattle.std.specs.Prelude.{ℕ, ◌≡◌, ◌<◌, false, length, Some, None}
+use Rattle.std.specs.Prelude.{ℕ, ◌≡◌, ◌<◌, Bool, true, false, length, Some, None}
 use Rattle.mon_config.specs.declared.config.Config.{Config}
 use Rattle.mon_config.specs.KeyRanges.{range_of_key}
 use Rattle.mon_topo.specs.Zones.{ranges_in}
+use Rattle.mon_value.specs.declared.positions.Leaf.{Leaf}
 use Rattle.mon_value.specs.declared.rows.Row.{Row}
 use Rattle.weave_core.specs.EndTexts.{no_zone_line}
 use Rattle.weave_core.specs.QueryPlans.{IsQueryTask}
@@ -31,12 +32,19 @@ abbrev pub IsWriteTask : Config → ℕ → Row → Task → Type 0
 IsWriteTask config i row (task.Writes writing) = BeginsToWrite config i row writing
 IsWriteTask config i row (task.Refused line) =
     (range_of_key config row.key ≡ None) × (line ≡ no_zone_line)
+IsWriteTask config i row (task.Switches switching) = ⊥
 IsWriteTask config i row (task.Queries querying) = ⊥
 IsWriteTask config i row task.Ended = ⊥
+
+-- a leaf is to be down, or up
+abbrev pub IsSwitchTask : ℕ → Leaf → Bool → Task → Type 0
+IsSwitchTask i leaf down one = one ≡ task.Switches (record { number = i; leaf = leaf; down = down })
 
 abbrev pub IsTaskOf : Config → ℕ → Call → Task → Type 0
 IsTaskOf config i (call.Write row) one = IsWriteTask config i row one
 IsTaskOf config i (call.Query moment text) one = IsQueryTask config moment text one
+IsTaskOf config i (call.Down leaf) one = IsSwitchTask i leaf true one
+IsTaskOf config i (call.Up leaf) one = IsSwitchTask i leaf false one
 
 -- an actor is to do what it was called for, and has seen so much
 pub record IsDeclaredActor (config : Config) (i : ℕ) (what : Call) (first : Sight) (own : Actor) : Type 0 where

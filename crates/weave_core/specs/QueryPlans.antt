@@ -43,4 +43,5 @@ abbrev pub IsQueryTask : Config → ℤ → List ℕ → Task → Type 0
 IsQueryTask config moment text (task.Queries querying) = BeginsToAsk config moment text querying
 IsQueryTask config moment text (task.Refused line) = HasNoPlan config text line
 IsQueryTask config moment text (task.Writes writing) = ⊥
+IsQueryTask config moment text (task.Switches switching) = ⊥
 IsQueryTask config moment text task.Ended = ⊥

@@ -20,7 +20,7 @@ use Rattle.weave_core.specs.declared.lines.LineForm.{LineForm}
 module _ (config : Config) where
   -- a line that is not refused leads from one state to another
   pub record LeadsBy (from : State (store_of config)) (what : LineForm) (to : State (store_of config)) : Type 0 where
-    pub lawful : IsLawfulForm config.schemas what
+    pub lawful : IsLawfulForm config.schemas config.topology what
     pub fault : line_fault (store_of config) from what ≡ None
     pub said : List ℕ
     pub does : Does config from what said to

@@ -181,7 +181,7 @@ module _ (config : Config) where
   abbrev pub RunsUnless : ℕ → Onward → State (store_of config) → List ℕ → Bool → Printed → Type 0
   RunsUnless number Rest state line true printed = Rest state printed
   RunsUnless number Rest state line false printed =
-      ScheduleLineRuns number Rest state (schedule_form config.schemas line) printed
+      ScheduleLineRuns number Rest state (schedule_form config.schemas config.topology line) printed
 
   -- a line behind the last that may be is refused, whatever it is
   abbrev pub Numbered : ℕ → Type 0 → Bool → Printed → Type 0

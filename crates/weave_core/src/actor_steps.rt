@@ -1,7 +1,7 @@
 // Steps of actors.
 ghost use Rattle.std.specs.Prelude.{◌≡◌, ℕ, IfOk};
 ghost use Rattle.mon_config.specs.declared.config.Config.{Config as ConfigOf};
-ghost use Rattle.weave_core.specs.ActorSteps.{ActorSteps, IsIn, IsSomewhere, QueriedSo, WrittenSo};
+ghost use Rattle.weave_core.specs.ActorSteps.{ActorSteps, IsIn, IsSomewhere, QueriedSo, SwitchedSo, WrittenSo};
 ghost use Rattle.weave_core.specs.States.{State, store_of};
 ghost use Rattle.weave_core.specs.declared.actors.Task.TheVariants.{Ended};
 
@@ -9,7 +9,8 @@ use crate::actors::{Actor, Task};
 use crate::calls::Stepped;
 use crate::queries::QueryTurn;
 use crate::store::Store;
-use crate::texts::{query_text, write_end_text};
+use crate::switches::{Switched, Switching};
+use crate::texts::{query_text, switch_text, write_end_text};
 use crate::writes::WriteTurn;
 use mon_topo::Sight;
 use mon_value::OutOfMemory;
@@ -29,6 +30,10 @@ pub(crate) fn step_actor(
     match task {
         Task::Ended => Ok((ended(sight, begun), None)),
         Task::Refused(text) => Ok((ended(sight, true), Some(Stepped::Ended(text)))),
+        Task::Switches(switching) => {
+            let came = store.switch(switching, &mut sight);
+            switched(store, switching, came, sight, begun)
+        }
         Task::Writes(writing) => {
             let turn = store.write(writing, &mut sight)?;
             written(store, turn, sight, begun)
@@ -48,6 +53,33 @@ fn ended(sight: Sight, begun: bool) -> Actor
         task: Task::Ended,
         sight,
         begun,
+    }
+}
+
+// An actor that switched a leaf, or waits for it, and what came of it.
+fn switched(
+    store: &Store,
+    switching: Switching,
+    came: Option<Switched>,
+    sight: Sight,
+    begun: bool,
+) -> Result<(Actor, Option<Stepped>), OutOfMemory>
+    ensures switched { IfOk result (λ pair.
+        SwitchedSo store.now.config.topology switching came sight begun pair.0 pair.1) }
+{
+    match came {
+        Some(came) => {
+            let text = switch_text(store.alloc, &store.config.topology, switching, came)?;
+            Ok((ended(sight, true), Some(Stepped::Ended(text))))
+        }
+        None => Ok((
+            Actor {
+                task: Task::Switches(switching),
+                sight,
+                begun,
+            },
+            Some(Stepped::Waits),
+        )),
     }
 }
 

@@ -1,4 +1,4 @@
-// Actors: writes and queries on their way.
+// Actors: writes, queries and switches on their way.
 ghost use Rattle.std.specs.Prelude.{◌≡◌, ◌||◌, None, IfOk};
 ghost use Rattle.weave_core.specs.Agreements.{IsServed};
 ghost use Rattle.weave_core.specs.Tasks.{event_of, is_over};
@@ -10,6 +10,7 @@ use crate::events::{Event, event_of_query, event_of_write};
 use crate::queries::Querying;
 use crate::query_plans::query_task;
 use crate::store::Store;
+use crate::switches::Switching;
 use crate::texts::no_zone;
 use crate::writes::Writing;
 use mon_topo::Sight;
@@ -22,6 +23,8 @@ use write_core::WriteMachine;
 pub(crate) enum Task {
     /// Its call has no event: it ends at its first step, with this text.
     Refused(Text),
+    /// It switches a leaf.
+    Switches(Switching),
     /// It writes.
     Writes(Writing),
     /// It queries.
@@ -58,7 +61,7 @@ impl Actor {
         ensures ended { result ≡ is_over self.now.task }
     {
         match &self.task {
-            Task::Refused(_) | Task::Writes(_) | Task::Queries(_) => false,
+            Task::Refused(_) | Task::Switches(_) | Task::Writes(_) | Task::Queries(_) => false,
             Task::Ended => true,
         }
     }
@@ -77,6 +80,7 @@ impl Actor {
         match &self.task {
             Task::Writes(writing) => event_of_write(&writing.machine.next()),
             Task::Queries(querying) => event_of_query(&querying.machine.next()),
+            Task::Switches(_) => Some(Event::Switch),
             Task::Refused(_) | Task::Ended => None,
         }
     }
@@ -90,6 +94,16 @@ fn task_of(store: &Store, number: u32, call: Call) -> Result<Task, OutOfMemory>
     match call {
         Call::Write(row) => write_task(store, number, row),
         Call::Query(moment, text) => query_task(store, moment, &text),
+        Call::Down(leaf) => Ok(Task::Switches(Switching {
+            number,
+            leaf,
+            down: true,
+        })),
+        Call::Up(leaf) => Ok(Task::Switches(Switching {
+            number,
+            leaf,
+            down: false,
+        })),
     }
 }
 

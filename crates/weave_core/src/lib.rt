@@ -1,4 +1,4 @@
-//! The core of the store: writes, recoveries and queries, whose events go one by one in any order, and what they share.
+//! A core whose writes, queries and switches go one event at a time, in any order, and the language of schedules.
 #![tactic(auto)]
 
 mod actor_steps;
@@ -16,6 +16,7 @@ mod ranges;
 mod schedule_laws;
 mod schedules;
 mod store;
+mod switches;
 mod texts;
 mod weave;
 mod words;
