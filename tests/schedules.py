@@ -1,5 +1,5 @@
-"""Makes schedules by chance: writes and queries by up to fourteen actors beside one another, over one leaf, over three
-leaves with ranges on one to three of them, and over two zones with three leaves each.
+"""Makes schedules by chance: writes, queries and switches of leaves by up to fourteen actors beside one another, over one
+leaf, over three leaves with ranges on one to three of them, and over two zones with three leaves each.
 """
 
 import weaving
@@ -62,7 +62,7 @@ class Maker:
     def is_lawful(self, line):
         word, number, *_ = line.split(" ")
         actor = self.weave.actors.get(int(number))
-        return word in ("write", "query", "meet") or actor.ended is None
+        return word in ("write", "query", "down", "up", "meet") or actor.ended is None
 
     def make(self):
         for _ in range(self.chance.randint(1, 4)):
@@ -78,10 +78,13 @@ class Maker:
     def declare(self):
         if not self.waiting:
             return
-        if self.chance.random() < 0.55:
+        how = self.chance.random()
+        if how < 0.45:
             self.declare_write()
-        else:
+        elif how < 0.8:
             self.declare_query()
+        else:
+            self.declare_switch()
 
     def declare_write(self):
         number = self.waiting.pop(0)
@@ -93,6 +96,15 @@ class Maker:
         number = self.waiting.pop(0)
         self.kinds[number] = "query"
         self.add(f"query {number} {self.query()}")
+        return number
+
+    def declare_switch(self):
+        number = self.waiting.pop(0)
+        self.kinds[number] = "switch"
+        leaf = self.chance.randrange(len(self.setting.leaf_names))
+        is_likely = self.chance.random() < 0.9
+        word = "up" if self.weave.down[leaf] == is_likely else "down"
+        self.add(f"{word} {number} {self.setting.leaf_names[leaf]}")
         return number
 
     def row(self):
@@ -119,7 +131,7 @@ class Maker:
         if not numbers:
             return
         number = self.chance.choice(numbers)
-        events = WRITE_EVENTS if self.kinds[number] == "write" else QUERY_EVENTS
+        events = {"write": WRITE_EVENTS, "query": QUERY_EVENTS, "switch": ["switch"]}[self.kinds[number]]
         how = self.chance.random()
         if how < 0.35:
             self.add(f"step {number}", self.chance.choice([1, 1, 2, 3, 5]))
@@ -139,6 +151,8 @@ class Maker:
         self.add(f"until {write} {self.chance.choice(['put', 'put', 'put', 'raise_zone', 'enter', 'ack'])}")
         if self.chance.random() < 0.3:
             self.add(f"finish {write}")
+        if self.waiting and self.chance.random() < 0.3:
+            self.add(f"finish {self.declare_switch()}")
         self.add(f"step {query}")
 
     def meet(self):
@@ -166,7 +180,7 @@ class Maker:
         number = self.chance.choice(numbers)
         other = next(other for other in range(1, weaving.MOST_ACTORS + 1) if other not in self.weave.actors)
         lines = [f"step {other}", f"until {other} put", f"meet {number} {other}", f"meet {number} {number}"]
-        lines += [f"query {number} 1 fetch T::/m", f"until {number} nothing", "step 0", "finish 65", "down 1 e1"]
+        lines += [f"query {number} 1 fetch T::/m", f"until {number} nothing", "step 0", "finish 65", f"down {other} e9"]
         ended = [number for number, actor in self.weave.actors.items() if actor.ended is not None]
         if ended:
             lines += [f"step {self.chance.choice(ended)}", f"meet {self.chance.choice(ended)} {self.chance.choice(ended)}"]

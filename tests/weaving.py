@@ -8,10 +8,11 @@ list for each replica, and a query's table is made of all rows that its visits f
 import re
 
 LAST = 2**63 - 1
+MOST_SWITCHES = 65_536
 MOST_ACTORS = 64
 MOST_LINES = 100_000
 SPAN = 60
-EVENTS = "lock reserve enter raise_root raise_zone put ack load_root load_zone resolve visit".split()
+EVENTS = "lock reserve enter raise_root raise_zone put ack load_root load_zone resolve visit switch".split()
 NUMBER = re.compile(rb"-?[0-9]{1,32}")
 TOKEN = re.compile(r'\s*("(?:\\.|[^"])*"|::|/[\w./]+|-?\d+s?|\w+|=~|==|!=|<=|>=|\|\||&&|[<>|{};\[\](),:!])')
 
@@ -70,9 +71,12 @@ class Setting:
         self.targets = {target["name"].encode(): target["fields"] for target in config["targets"]}
         self.metrics = {metric["name"].encode(): metric for metric in config["metrics"]}
         self.zones, self.leaves, self.ranges = [], [], []
+        self.leaf_names, self.range_names = [], []
         for number, zone in enumerate(config["zones"]):
             first = len(self.leaves)
             self.leaves += [(number, place) for place in range(len(zone["leaves"]))]
+            self.leaf_names += zone["leaves"]
+            self.range_names += [f"{zone['name']}/{place}" for place in range(len(zone["ranges"]))]
             ranges = []
             for bounds in zone["ranges"]:
                 ranges.append(len(self.ranges))
@@ -90,6 +94,10 @@ class Setting:
                 target = [row.schema, *row.fields]
                 return [number for number in ranges if self.ranges[number][0] <= target][-1]
         return None
+
+    def named_down(self, place, founds):
+        """A range and leaves that were found down, with their cuts."""
+        return " ".join([f"{self.range_names[place]}:", *(f"{self.leaf_names[leaf]}@{cut}" for leaf, cut in founds)])
 
     def hints(self, row):
         """The buckets of a row's series."""
@@ -446,6 +454,10 @@ class Weave:
         self.words = [[0] * setting.buckets for _ in setting.zones]
         self.raised = [set() for _ in setting.leaves]
         self.kept = {}
+        self.down = [False] * len(setting.leaves)
+        self.switches = [0] * len(setting.leaves)
+        self.lengths = [sum(leaf in replicas for _, replicas in setting.ranges) for leaf in range(len(setting.leaves))]
+        self.serving = [list(replicas) for _, replicas in setting.ranges]
         self.acked = [[] for _ in setting.ranges]
         self.holders = {}
         self.actors = {}
@@ -461,17 +473,29 @@ class Weave:
         self.holders["range", place] = number
         refused = self.refusal(place, row)
         if refused is None:
-            leaves = self.setting.ranges[place][1]
+            leaves, missed = list(self.serving[place]), {}
             for leaf in leaves:
                 yield "reserve", ("leaf", leaf)
+                if self.down[leaf]:
+                    missed[leaf] = self.lengths[leaf]
             for leaf in leaves:
-                yield from self.put(number, place, leaf, row)
+                if leaf not in missed:
+                    cut = yield from self.put(number, place, leaf, row)
+                    if cut is not None:
+                        missed[leaf] = cut
         yield "ack", None
         if refused is None:
-            self.acked[place].append(row)
-            refused = f"written: took {len(leaves)}, missed 0\n"
+            refused = self.acknowledge(place, row, leaves, missed)
         del self.holders["range", place]
         return refused
+
+    def acknowledge(self, place, row, leaves, missed):
+        """A row is acknowledged, if some replica took it; those that missed it serve no more."""
+        if len(missed) == len(leaves):
+            return f"refused: Unavailable {self.setting.named_down(place, [(leaf, missed[leaf]) for leaf in leaves])}\n"
+        self.acked[place].append(row)
+        self.serving[place] = [leaf for leaf in leaves if leaf not in missed]
+        return f"written: took {len(leaves) - len(missed)}, missed {len(missed)}\n"
 
     def refusal(self, place, row):
         ends = [other.end for other in self.acked[place] if other.series == row.series]
@@ -482,9 +506,11 @@ class Weave:
         return None
 
     def put(self, number, place, leaf, row):
-        """The events of a write within a leaf."""
+        """The events of a write within a leaf; where that is down, how long its history is."""
         zone, bit = self.setting.leaves[leaf]
         yield "enter", ("leaf", leaf)
+        if self.down[leaf]:
+            return self.lengths[leaf]
         self.holders["leaf", leaf] = number
         hints = self.setting.hints(row)
         fresh = sorted(hints - self.raised[leaf])
@@ -497,7 +523,21 @@ class Weave:
         yield "put", None
         self.raised[leaf] |= hints
         self.kept.setdefault((place, leaf), []).append(row)
+        self.lengths[leaf] += 1
         del self.holders["leaf", leaf]
+        return None
+
+    def switch(self, leaf, down):
+        """The one event by which a leaf goes down, or comes up."""
+        yield "switch", ("leaf", leaf)
+        if self.down[leaf] == down:
+            return f"refused: Already{'Down' if down else 'Up'} {self.lengths[leaf]}\n"
+        if self.switches[leaf] == MOST_SWITCHES:
+            return f"refused: SwitchesSpent {MOST_SWITCHES}\n"
+        self.down[leaf] = down
+        self.switches[leaf] += 1
+        self.lengths[leaf] += 1
+        return f"{'down' if down else 'up'} {self.setting.leaf_names[leaf]}: done\n"
 
     def query(self, number, moment, text):
         """A query, likewise."""
@@ -518,6 +558,8 @@ class Weave:
         for zone in range(len(self.setting.zones)):
             if any(holds_of(formula, root, zone) for formula in formulas):
                 found = yield from self.look(query, formulas, buckets, moment, zone)
+                if isinstance(found, str):
+                    return found
                 rows += found
                 if query.load(found, moment) > self.setting.limit:
                     break
@@ -528,21 +570,38 @@ class Weave:
         return query.text(rows, moment)
 
     def look(self, query, formulas, buckets, moment, zone):
-        """The events of a query in a zone, and the rows that it found there."""
-        _, leaves, ranges = self.setting.zones[zone]
+        """The events of a query in a zone, and the rows that it found there, or why it ends there. Where a leaf is
+        found down the zone begins again, at its first range, without that leaf."""
+        leaves = self.setting.zones[zone][1]
         words = yield from self.load(buckets, zone)
         if not any(holds_of(formula, words, place) for formula in formulas for place in range(len(leaves))):
             return []
+        founds, rows = [], None
+        while rows is None:
+            rows = yield from self.round(query, formulas, buckets, moment, zone, founds)
+        return rows
+
+    def round(self, query, formulas, buckets, moment, zone, founds):
+        """The events of a round in a zone, and the rows that it found, or why the query ends. Where it finds a leaf
+        down it notes it, and there are no rows."""
+        _, leaves, ranges = self.setting.zones[zone]
         slots = {}
         for place in ranges:
             yield "resolve", ("range", place)
-            slots.setdefault(self.setting.ranges[place][1][0], []).append(place)
+            avoided = [leaf for leaf, _ in founds]
+            first = next((leaf for leaf in self.serving[place] if leaf not in avoided), None)
+            if first is None:
+                return f"refused: NoReplica {self.setting.named_down(place, founds)}\n"
+            slots.setdefault(first, []).append(place)
         words = yield from self.load(buckets, zone)
         rows = []
         for bit, leaf in enumerate(leaves):
             if leaf not in slots or not any(holds_of(formula, words, bit) for formula in formulas):
                 continue
             yield "visit", ("leaf", leaf)
+            if self.down[leaf]:
+                founds.append((leaf, self.lengths[leaf]))
+                return None
             own = {hint: int(hint in self.raised[leaf]) for hint in buckets}
             if any(holds_of(formula, own, 0) for formula in formulas):
                 found = [row for place in slots[leaf] for row in self.kept.get((place, leaf), [])]
@@ -616,7 +675,7 @@ def run_line(weave, line):
     word, rest = cut(line)
     if word in (b"step", b"finish"):
         return go(weave, number_in(rest, 1, MOST_ACTORS), word.decode())
-    if word not in (b"write", b"query", b"meet", b"until"):
+    if word not in (b"write", b"query", b"down", b"up", b"meet", b"until"):
         raise Refused("BadLine")
     first, rest = cut(rest)
     number = number_in(first, 1, MOST_ACTORS)
@@ -628,6 +687,10 @@ def run_line(weave, line):
         return meet(weave, number, number_in(rest, 1, MOST_ACTORS))
     if word == b"write":
         events = weave.write(number, row_in(weave.setting, rest))
+    elif word in (b"down", b"up"):
+        if rest.decode() not in weave.setting.leaf_names:
+            raise Refused("BadLine")
+        events = weave.switch(weave.setting.leaf_names.index(rest.decode()), word == b"down")
     else:
         moment, text = cut(rest)
         events = weave.query(number, number_in(moment, 0, LAST), text.decode())

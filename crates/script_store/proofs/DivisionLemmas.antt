@@ -39,7 +39,8 @@ use Rattle.script_store.specs.Stores.{AllFit, AreReplicasKept, range_rows, rows_
 use Rattle.script_store.specs.within.Leaves.{first_slot, first_slots, is_on_leaf, leaf_of}
 use Rattle.script_store.proofs.DivisionPoints.{points_divided}
 use Rattle.script_store.proofs.LeafRowLemmas.{LiesOn, lie_on, no_targets}
-use Rattle.script_store.proofs.ListedLemmas.{all_append, all_flat, all_listed, all_weaker, apart_listed, map_listed}
+use Rattle.mql_types.proofs.DurationLemmas.{all_append}
+use Rattle.script_store.proofs.ListedLemmas.{all_flat, all_listed, all_weaker, apart_listed, map_listed}
 use Rattle.mon_meaning.proofs.MeaningOrderLemmas.{answer_in_order}
 use Rattle.mon_topo.proofs.PlacedRangeLemmas.{is_placed, range_known}
 use Rattle.mon_meaning.proofs.SeriesOrderLemmas.{series_in_order}

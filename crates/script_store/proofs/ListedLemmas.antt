@@ -6,6 +6,7 @@ use Rattle.std.proofs.lemmas.Bool.{cases_lt}
 use Rattle.std.proofs.lemmas.List.{map-append}
 use Rattle.mon_value.specs.declared.rows.Row.{Row}
 use Rattle.mon_meaning.specs.ApartTargets.{AreApart}
+use Rattle.mql_types.proofs.DurationLemmas.{all_append}
 use Rattle.script_store.specs.within.Divisions.{values_below}
 
 -- ---- what holds of each item
@@ -14,11 +15,6 @@ pub all_push : {A : Type 0} (P : A → Type 0) (xs : List A) (x : A) → AllByRe
     → AllByRecursion P (xs ++ x ∷ [])
 all_push P [] x all own = (own, tt)
 all_push P (y ∷ xs) x all own = (all.0, all_push P xs x all.1 own)
-
-pub all_append : {A : Type 0} (P : A → Type 0) (xs ys : List A) → AllByRecursion P xs → AllByRecursion P ys
-    → AllByRecursion P (xs ++ ys)
-all_append P [] ys all more = more
-all_append P (x ∷ xs) ys all more = (all.0, all_append P xs ys all.1 more)
 
 pub all_weaker : {A : Type 0} (P Q : A → Type 0) → ((x : A) → P x → Q x) → (xs : List A) → AllByRecursion P xs
     → AllByRecursion Q xs

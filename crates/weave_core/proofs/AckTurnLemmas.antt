@@ -14,12 +14,12 @@ use Rattle.mon_value.specs.declared.positions.FoundDown.{FoundDown}
 use Rattle.mon_value.specs.declared.positions.Leaf.{Leaf}
 use Rattle.mon_value.specs.declared.positions.Range.{Range}
 use Rattle.weave_core.proofs.AtWorkLemmas.{own, range_in_truth}
-use Rattle.weave_core.proofs.MeetingLemmas.{range_met}
+use Rattle.core_theory.proofs.MeetingLemmas.{range_met}
 use Rattle.weave_core.proofs.SeatLemmas.{shared_at_range}
 use Rattle.mon_topo.proofs.SightLemmas.{range_noted_over, range_seen}
 use Rattle.weave_core.proofs.WriteTurnLemmas.{can_come, step_is}
 use Rattle.weave_core.specs.Agreements.{AreShared, IsRangeSo}
-use Rattle.weave_core.specs.Meetings.{sight_at_range}
+use Rattle.core_theory.specs.Meetings.{sight_at_range}
 use Rattle.mon_topo.specs.Sights.{range_sight, sight_of, with_range_sight}
 use Rattle.weave_core.specs.States.{store_of}
 use Rattle.weave_core.specs.WriteEvents.{ChangesRange, LetsGo}

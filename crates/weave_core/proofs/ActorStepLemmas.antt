@@ -1,19 +1,24 @@
 -- A step of an actor that has ended, or whose call has no event; and what a step asks of a write or a query.
-use Rattle.std.proofs.Common.{◌≡◌, ℕ, Bool, true, Option, Some, List, refl, sym, ap, subst}
+use Rattle.std.proofs.Common.{◌≡◌, ◌<◌, ℕ, Bool, true, Option, Some, List, length, refl, sym, ap, subst}
 use Rattle.mon_config.specs.declared.config.Config.{Config}
+use Rattle.mon_value.specs.declared.positions.Leaf.{Leaf}
 use Rattle.weave_core.proofs.QueryStepLemmas.{at_asking, query_steps}
+use Rattle.weave_core.proofs.SwitchStepLemmas.{asks_seated, asks_there, switching_steps}
 use Rattle.weave_core.proofs.WriteStepLemmas.{at_work, write_steps}
-use Rattle.weave_core.specs.ActorAgreements.{IsActorSo, IsCourseSo}
-use Rattle.weave_core.specs.ActorSteps.{ActorSteps, HasStepped, IsIn, IsSomewhere, QueriedSo, WrittenSo}
-use Rattle.weave_core.specs.Core.{Core, Reader}
+use Rattle.weave_core.specs.ActorAgreements.{IsActorSo, IsTaskSo}
+use Rattle.weave_core.specs.ActorSteps.{ActorSteps, HasStepped, IsIn, IsSomewhere, QueriedSo, SwitchedSo}
+use Rattle.weave_core.specs.ActorSteps.{WrittenSo}
+use Rattle.core_theory.specs.Core.{Core, Reader}
 use Rattle.weave_core.specs.QueryTurns.{IsAskedSomewhere, IsAsking, QueriesSo}
-use Rattle.weave_core.specs.States.{Asking, Dismissed, Eventless, Role, State, Undeclared, Writing, role_fault}
+use Rattle.weave_core.specs.States.{Asking, Dismissed, Eventless, Role, State, Switching, Undeclared, Writing}
+use Rattle.weave_core.specs.States.{role_fault}
 use Rattle.weave_core.specs.States.{store_of}
 use Rattle.weave_core.specs.Steps.{StepsIn, with_role}
+use Rattle.weave_core.specs.Switches.{IsSeatedToSwitch, SwitchesAt}
 use Rattle.weave_core.specs.WriteTurns.{IsAtWork, WritesSo}
 use Rattle.weave_core.specs.declared.actors.Actor.{Actor}
-use Rattle.weave_core.specs.declared.actors.Course.{Course}
-use Rattle.weave_core.specs.declared.actors.Course.TheVariants as course
+use Rattle.weave_core.specs.declared.actors.Task.{Task}
+use Rattle.weave_core.specs.declared.actors.Task.TheVariants as task
 use Rattle.weave_core.specs.declared.calls.Stepped.{Stepped}
 use Rattle.weave_core.specs.declared.calls.Stepped.TheVariants as stepped
 use Rattle.weave_core.specs.declared.queries.QueryTurn.{QueryTurn}
@@ -21,6 +26,8 @@ use Rattle.weave_core.specs.declared.queries.QueryTurn.TheVariants as query_turn
 use Rattle.weave_core.specs.declared.queries.Querying.{Querying}
 use Rattle.mon_topo.specs.declared.sights.Sight.{Sight}
 use Rattle.weave_core.specs.declared.store.Store.{Store}
+use Rattle.weave_core.specs.declared.switches.Switched.{Switched}
+use Rattle.weave_core.specs.declared.switches.Switching.{Switching as Switch}
 use Rattle.weave_core.specs.declared.writes.WriteTurn.{WriteTurn}
 use Rattle.weave_core.specs.declared.writes.WriteTurn.TheVariants as write_turn
 use Rattle.weave_core.specs.declared.writes.Writing.{Writing as Write}
@@ -33,16 +40,16 @@ module _ (config : Config) (state : State (store_of config)) (i : ℕ) where
   -- ---- one whose call has no event
 
   module _ (store : Store) (text : List ℕ) (sight : Sight) (begun : Bool)
-      (here : IsIn config state i store (record { course = course.Refused text; sight = sight; begun = begun })) where
+      (here : IsIn config state i store (record { task = task.Refused text; sight = sight; begun = begun })) where
     abbrev Doer' : Doer
     Doer' = state.core.world.actors i
 
     abbrev Reader' : Reader (store_of config)
     Reader' = state.core.readers i
 
-    refused_by : (role : Role) → state.roles i ≡ role → IsCourseSo config i Doer' Reader' role (course.Refused text)
+    refused_by : (role : Role) → state.roles i ≡ role → IsTaskSo config i Doer' Reader' role (task.Refused text)
         begun sight
-        → HasStepped config state i store (record { course = course.Ended; sight = sight; begun = true })
+        → HasStepped config state i store (record { task = task.Ended; sight = sight; begun = true })
         (stepped.Ended text)
     refused_by Undeclared e h = absurd h
     refused_by (Eventless own) e h = record {
@@ -53,15 +60,16 @@ module _ (config : Config) (state : State (store_of config)) (i : ℕ) where
           (ap (λ (t : List ℕ). stepped.Ended t) h.text_is, refl);
       shared = here.shared;
       actor = subst (λ (role : Role). IsActorSo config i Doer' Reader' role
-          (Some (record { course = course.Ended; sight = sight; begun = true })))
+          (Some (record { task = task.Ended; sight = sight; begun = true })))
           (sym (changed_same state.roles i Dismissed)) (record { stands = h.stands; seen = h.seen });
     }
+    refused_by (Switching leaf down) e h = absurd h
     refused_by Dismissed e h = absurd h
     refused_by Writing e h = absurd h
     refused_by Asking e h = absurd h
 
-    pub refused_steps : (own : Actor) → own ≡ record { course = course.Ended; sight = sight; begun = true }
-        → ActorSteps config state i store (record { course = course.Refused text; sight = sight; begun = begun }) own
+    pub refused_steps : (own : Actor) → own ≡ record { task = task.Ended; sight = sight; begun = true }
+        → ActorSteps config state i store (record { task = task.Refused text; sight = sight; begun = begun }) own
         (Some (stepped.Ended text))
     refused_steps own same = subst (λ (one : Actor). HasStepped config state i store one (stepped.Ended text))
         (sym same)
@@ -70,7 +78,7 @@ module _ (config : Config) (state : State (store_of config)) (i : ℕ) where
 -- ---- what a step asks for
 
 pub asks_somewhere : (store : Store) (querying : Querying) (sight : Sight) (begun : Bool)
-    → IsSomewhere store (record { course = course.Queries querying; sight = sight; begun = begun })
+    → IsSomewhere store (record { task = task.Queries querying; sight = sight; begun = begun })
     → IsAskedSomewhere store querying sight
 asks_somewhere store querying sight begun some = record {
   config = some.config;
@@ -93,35 +101,61 @@ queried_config config core i querying new before now (query_turn.Went next) h = 
 queried_config config core i querying new before now (query_turn.Waits next) h = h.1.shared.config_is
 queried_config config core i querying new before now (query_turn.Ended end) h = h.shared.config_is
 
--- ---- by the course of an actor
+-- ---- by the task of an actor
 
-own_is : (own : Actor) (one : Course) → own.course ≡ one → own ≡ record {
-  course = one;
+own_is : (own : Actor) (one : Task) → own.task ≡ one → own ≡ record {
+  task = one;
   sight = own.sight;
   begun =
       own.begun;
 }
-own_is own one e = λ k. record { course = e k; sight = own.sight; begun = own.begun }
+own_is own one e = λ k. record { task = e k; sight = own.sight; begun = own.begun }
 
-pub query_asks_for : (store : Store) (own : Actor) (querying : Querying) → own.course ≡ course.Queries querying
+pub query_asks_for : (store : Store) (own : Actor) (querying : Querying) → own.task ≡ task.Queries querying
     → IsSomewhere store own → IsAskedSomewhere store querying own.sight
 query_asks_for store own querying e some =
     asks_somewhere store querying own.sight own.begun
-    (subst (λ (one : Actor). IsSomewhere store one) (own_is own (course.Queries querying) e) some)
+    (subst (λ (one : Actor). IsSomewhere store one) (own_is own (task.Queries querying) e) some)
+
+-- what a switch asks for
+pub record MaySwitchThere (store : Store) (leaf : Leaf) (sight : Sight) : Type 0 where
+  pub there : leaf.0 < length store.leaves.items
+  pub seated : IsSeatedToSwitch leaf store.leaves.items sight
+
+pub switch_asks_for : (store : Store) (own : Actor) (switching : Switch) → own.task ≡ task.Switches switching
+    → IsSomewhere store own → MaySwitchThere store switching.leaf own.sight
+switch_asks_for store own switching e some =
+    let at : IsSomewhere store (record { task = task.Switches switching; sight = own.sight; begun = own.begun })
+    = subst (λ (one : Actor). IsSomewhere store one) (own_is own (task.Switches switching) e) some in
+    record {
+      there = asks_there at.config at.state at.i store switching own.sight own.begun at.is_in;
+      seated = asks_seated at.config at.state at.i store switching own.sight own.begun at.is_in;
+    }
 
 module _ (config : Config) (state : State (store_of config)) (i : ℕ) (store : Store) (own : Actor)
     (here : IsIn config state i store own) where
-  as_course : (one : Course) → own.course ≡ one
-      → IsIn config state i store (record { course = one; sight = own.sight; begun = own.begun })
-  as_course one e = subst (λ (actor : Actor). IsIn config state i store actor) (own_is own one e) here
+  as_task : (one : Task) → own.task ≡ one
+      → IsIn config state i store (record { task = one; sight = own.sight; begun = own.begun })
+  as_task one e = subst (λ (actor : Actor). IsIn config state i store actor) (own_is own one e) here
 
-  pub refused_step : (text : List ℕ) → own.course ≡ course.Refused text → (next : Actor)
-      → next ≡ record { course = course.Ended; sight = own.sight; begun = true }
+  pub refused_step : (text : List ℕ) → own.task ≡ task.Refused text → (next : Actor)
+      → next ≡ record { task = task.Ended; sight = own.sight; begun = true }
       → ActorSteps config state i store own next (Some (stepped.Ended text))
   refused_step text e next same = refused_steps config state i store text own.sight own.begun
-      (as_course (course.Refused text) e) next same
+      (as_task (task.Refused text) e) next same
 
-  pub write_step : (writing : Write) → own.course ≡ course.Writes writing → (new : Store) (now : Sight)
+  pub switch_step : (switching : Switch) → own.task ≡ task.Switches switching → (new : Store) (now : Sight)
+      (what : Option Switched) (next : Actor) (how : Option Stepped)
+      → SwitchesAt switching store new own.sight now what
+      → SwitchedSo new.config.topology switching what now own.begun next how
+      → ActorSteps config state i new own next how
+  switch_step switching e new now what next how did h =
+      subst (λ (one : Actor). ActorSteps config state i new one next how)
+      (sym (own_is own (task.Switches switching) e))
+      (switching_steps config state i store switching own.sight own.begun (as_task (task.Switches switching) e) new
+      now what next how did h)
+
+  pub write_step : (writing : Write) → own.task ≡ task.Writes writing → (new : Store) (now : Sight)
       (turn : WriteTurn)
       (next : Actor) (how : Option Stepped)
       → ((at : IsAtWork config state.core.world i store writing own.sight)
@@ -129,15 +163,15 @@ module _ (config : Config) (state : State (store_of config)) (i : ℕ) (store : 
       → WrittenSo new.config.topology turn now own.begun next how → ActorSteps config state i new own next how
   write_step writing e new now turn next how writes h =
       let so : WritesSo config state.core.world i writing new own.sight now turn
-      = writes (at_work config state i store writing own.sight own.begun (as_course (course.Writes writing) e)) in
-      subst (λ (one : Actor). ActorSteps config state i new one next how) (sym (own_is own (course.Writes writing) e))
-      (write_steps config state i store writing own.sight own.begun (as_course (course.Writes writing) e)
+      = writes (at_work config state i store writing own.sight own.begun (as_task (task.Writes writing) e)) in
+      subst (λ (one : Actor). ActorSteps config state i new one next how) (sym (own_is own (task.Writes writing) e))
+      (write_steps config state i store writing own.sight own.begun (as_task (task.Writes writing) e)
       new.config.topology new
       now turn next how
       (ap (λ (c : Config). c.topology) (written_config config state.core.world i writing new own.sight now turn so)) so
       h)
 
-  pub query_step : (querying : Querying) → own.course ≡ course.Queries querying → (new : Store) (now : Sight)
+  pub query_step : (querying : Querying) → own.task ≡ task.Queries querying → (new : Store) (now : Sight)
       (turn : QueryTurn)
       (next : Actor) (how : Option Stepped)
       → ((asking : IsAsking config state.core i store querying own.sight)
@@ -145,9 +179,9 @@ module _ (config : Config) (state : State (store_of config)) (i : ℕ) (store : 
       → QueriedSo new.config.topology turn now own.begun next how → ActorSteps config state i new own next how
   query_step querying e new now turn next how queries h =
       let so : QueriesSo config state.core i querying new own.sight now turn
-      = queries (at_asking config state i store querying own.sight own.begun (as_course (course.Queries querying) e)) in
-      subst (λ (one : Actor). ActorSteps config state i new one next how) (sym (own_is own (course.Queries querying) e))
-      (query_steps config state i store querying own.sight own.begun (as_course (course.Queries querying) e)
+      = queries (at_asking config state i store querying own.sight own.begun (as_task (task.Queries querying) e)) in
+      subst (λ (one : Actor). ActorSteps config state i new one next how) (sym (own_is own (task.Queries querying) e))
+      (query_steps config state i store querying own.sight own.begun (as_task (task.Queries querying) e)
       new.config.topology
       new now turn next how
       (ap (λ (c : Config). c.topology) (queried_config config state.core i querying new own.sight now turn so)) so h)

@@ -11,11 +11,11 @@ use Rattle.query_core.specs.Sessions.{IsSeenSo}
 use Rattle.query_core.specs.Settings.{QuerySetting}
 use Rattle.query_core.specs.declared.asks.Ask.{Ask}
 use Rattle.query_core.specs.declared.asks.Told.{Told}
-use Rattle.weave_core.proofs.ReaderAnswers.{reader_may, reader_there}
+use Rattle.core_theory.proofs.ReaderAnswers.{reader_may, reader_there}
 use Rattle.query_core.proofs.SeenLemmas.{seen_told}
 use Rattle.weave_core.specs.Agreements.{AreShared}
-use Rattle.weave_core.specs.Core.{Core, IsTold, Reader, asked_now, query_now, view_then, world_then}
-use Rattle.weave_core.specs.Licensed.{IsReader}
+use Rattle.core_theory.specs.Core.{Core, IsTold, Reader, asked_now, query_now, view_then, world_then}
+use Rattle.core_theory.specs.Licensed.{IsReader}
 use Rattle.query_core.specs.SeenSights.{seen_of}
 use Rattle.weave_core.specs.QueryTurns.{IsAnswered, IsAsking, QueryWaits}
 use Rattle.mon_topo.specs.Sights.{sight_of}

@@ -12,7 +12,7 @@ use Rattle.mon_value.specs.declared.positions.Slot.{Slot}
 use Rattle.weave_core.proofs.SeatLemmas.{parts_alike}
 use Rattle.weave_core.specs.Writers.{LooksAtOne, RaisesBelow, writer_of}
 use Rattle.weave_core.specs.Agreements.{IsLeafSo, IsRangeSo}
-use Rattle.weave_core.specs.Holders.{leaf_inside}
+use Rattle.core_theory.specs.Holders.{leaf_inside}
 use Rattle.mon_topo.specs.Sights.{AreAlike, range_sight, sight_of}
 use Rattle.weave_core.specs.States.{store_of}
 use Rattle.weave_core.specs.WriteTurns.{IsAtWork}

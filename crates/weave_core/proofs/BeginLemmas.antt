@@ -34,15 +34,15 @@ use Rattle.query_core.specs.Settings.{QuerySetting}
 use Rattle.write_core.specs.Deeds.{IsUnused, acks_by, puts_by}
 use Rattle.write_core.specs.Invariant.{IsRangeSettled}
 use Rattle.mon_topo.specs.Views.{IsSound}
-use Rattle.weave_core.proofs.CoreLemmas.{new_woven}
+use Rattle.core_theory.proofs.CoreLemmas.{new_woven}
 use Rattle.mon_topo.proofs.FirstLemmas as begun
 use Rattle.mon_topo.proofs.FirstLemmas.{HasNoRow}
 use Rattle.weave_core.specs.ActorAgreements.{IsActorSo, actor_numbered}
 use Rattle.weave_core.specs.Agreements.{AreShared, IsServed, first_view}
-use Rattle.weave_core.specs.Core.{Reader}
+use Rattle.core_theory.specs.Core.{Reader}
 use Rattle.mon_topo.specs.FirstHistories.{first_histories, opened_here, opened_of, opening, openings_from}
 use Rattle.mon_topo.specs.FirstHistories.{slot_numbered}
-use Rattle.weave_core.specs.Licensed.{IsNewCore}
+use Rattle.core_theory.specs.Licensed.{IsNewCore}
 use Rattle.weave_core.specs.Openings.{first_world}
 use Rattle.weave_core.specs.Schedules.{IsFirstState}
 use Rattle.weave_core.specs.States.{State, Undeclared, store_of}

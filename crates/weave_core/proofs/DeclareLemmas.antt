@@ -8,7 +8,8 @@ use Rattle.mon_schema.specs.Fits.{fits}
 use Rattle.mon_topo.proofs.HeldLemmas.{seen_within_itself}
 use Rattle.mon_config.specs.KeyRanges.{range_of_key}
 use Rattle.mon_topo.specs.SeenHistories.{AreWithin}
-use Rattle.mon_topo.specs.Zones.{ranges_in}
+use Rattle.mon_topo.specs.Zones.{leaves_in, ranges_in}
+use Rattle.mon_value.specs.declared.positions.Leaf.{Leaf}
 use Rattle.mon_value.specs.declared.positions.Range.{Range}
 use Rattle.mon_value.specs.declared.rows.Row.{Row}
 use Rattle.mql_types.specs.Nodes.{TypedTree}
@@ -18,31 +19,32 @@ use Rattle.query_core.specs.Settings.{QuerySetting}
 use Rattle.query_core.specs.declared.asks.Ask.TheVariants as query_ask
 use Rattle.query_core.specs.declared.stages.Stage.{Stage}
 use Rattle.query_texts.specs.declared.faults.TextFault.{TextFault}
-use Rattle.weave_core.proofs.CoreLemmas.{stays_woven}
-use Rattle.weave_core.proofs.HolderLemmas.{holders_changed}
+use Rattle.core_theory.proofs.CoreLemmas.{stays_woven}
+use Rattle.core_theory.proofs.HolderLemmas.{holders_changed}
 use Rattle.weave_core.proofs.NumberLemmas.{agrees_at, set_apart, set_at, shared_beside}
 use Rattle.weave_core.proofs.ReachedLemmas.{fresh_reader, part_of}
 use Rattle.weave_core.proofs.StepLemmas.{Leaves}
 use Rattle.weave_core.specs.ActorAgreements.{Agrees, HasWrittenNothing, IsActorSo, IsQuerying, IsWriting}
 use Rattle.weave_core.specs.ActorAgreements.{actor_numbered, flat}
 use Rattle.weave_core.specs.Agreements.{AreShared, IsServed, first_view}
-use Rattle.weave_core.specs.Core.{CanCome, Happens, Reader}
+use Rattle.core_theory.specs.Core.{CanCome, Happens, Reader}
 use Rattle.weave_core.specs.Declarations.{Declares, QueryBegins, WriteBegins, new_reader, with_reader}
 use Rattle.weave_core.specs.EndTexts.{no_plan_line, no_zone_line}
 use Rattle.mon_topo.specs.FirstHistories.{first_histories}
-use Rattle.weave_core.specs.Holders.{AreHolders, HoldsLeaf, HoldsRange}
+use Rattle.core_theory.specs.Holders.{AreHolders, HoldsLeaf, HoldsRange}
 use Rattle.weave_core.specs.LawfulLines.{IsLawfulCall}
-use Rattle.weave_core.specs.Licensed.{IsReader}
-use Rattle.weave_core.specs.NewActors.{BeginsToWrite, IsCourseOf, IsDeclaredActor}
+use Rattle.core_theory.specs.Licensed.{IsReader}
+use Rattle.weave_core.specs.NewActors.{BeginsToWrite, IsTaskOf, IsDeclaredActor}
 use Rattle.weave_core.specs.QueryPlans.{BeginsToAsk}
 use Rattle.mon_topo.specs.Sights.{sight_of}
-use Rattle.weave_core.specs.States.{Asking, Dismissed, Eventless, Role, State, Undeclared, Writing, declared_in}
+use Rattle.weave_core.specs.States.{Asking, Dismissed, Eventless, Role, State, Switching, Undeclared, Writing}
+use Rattle.weave_core.specs.States.{declared_in}
 use Rattle.weave_core.specs.States.{store_of, writes_begun}
 use Rattle.weave_core.specs.Steps.{with_event, with_role}
 use Rattle.weave_core.specs.WeaveCalls.{DeclaresSo, IsWeaveKept, MayDeclare}
 use Rattle.weave_core.specs.declared.actors.Actor.{Actor}
-use Rattle.weave_core.specs.declared.actors.Course.{Course}
-use Rattle.weave_core.specs.declared.actors.Course.TheVariants as course
+use Rattle.weave_core.specs.declared.actors.Task.{Task}
+use Rattle.weave_core.specs.declared.actors.Task.TheVariants as task
 use Rattle.weave_core.specs.declared.calls.Call.{Call}
 use Rattle.weave_core.specs.declared.calls.Call.TheVariants as call
 use Rattle.weave_core.specs.declared.calls.WeaveFault.TheVariants as fault
@@ -50,6 +52,7 @@ use Rattle.weave_core.specs.declared.limits.TheConstants.{LAST_ACTOR}
 use Rattle.weave_core.specs.declared.queries.Querying.{Querying}
 use Rattle.mon_topo.specs.declared.sights.Sight.{Sight}
 use Rattle.weave_core.specs.declared.store.Store.{Store}
+use Rattle.weave_core.specs.declared.switches.Switching.{Switching as Switch}
 use Rattle.weave_core.specs.declared.weave.Weave.{Weave}
 use Rattle.weave_core.specs.declared.writes.Writing.{Writing as Write}
 use Rattle.write_core.proofs.KeepsLemmas.{changed_by, changed_other, changed_same}
@@ -139,6 +142,7 @@ module _ (config : Config) (state : State (store_of config)) (i : ℕ) where
   undeclared_by Undeclared None e h = h
   undeclared_by Undeclared (Some own) e h = absurd h
   undeclared_by (Eventless text) one e h = absurd cc
+  undeclared_by (Switching leaf down) one e h = absurd cc
   undeclared_by Dismissed one e h = absurd cc
   undeclared_by Writing one e h = absurd cc
   undeclared_by Asking one e h = absurd cc
@@ -148,13 +152,13 @@ module _ (config : Config) (state : State (store_of config)) (i : ℕ) where
     First = sight_of (first_view config).seen
 
     -- an actor is declared so, and is as it is kept
-    record IsDeclaredSo (what : Call) (one : Course) (begun : Bool) (sight : Sight) : Type 0 where
+    record IsDeclaredSo (what : Call) (one : Task) (begun : Bool) (sight : Sight) : Type 0 where
       pub after : State (store_of config)
       pub declares : Declares config state i what after
       pub leaves : Leaves (store_of config) state i after
       pub shared : AreShared config after.core.world weave.store
       pub actor : IsActorSo config i (after.core.world.actors i) (after.core.readers i) (after.roles i)
-          (Some (record { course = one; sight = sight; begun = begun }))
+          (Some (record { task = one; sight = sight; begun = begun }))
 
     stands_now : HasWrittenNothing config i Doer' Reader'
     stands_now = stands_so i (first_view config) Doer' stands
@@ -163,17 +167,17 @@ module _ (config : Config) (state : State (store_of config)) (i : ℕ) where
     first_seen = ap (λ (d : Doer). sight_of (view_of d).seen) (sym stands)
 
     -- of an actor that has not begun, and has seen what all have seen at first
-    as_new : (one : Course) (begun : Bool) (sight : Sight) → begun ≡ false → sight ≡ First
+    as_new : (one : Task) (begun : Bool) (sight : Sight) → begun ≡ false → sight ≡ First
         → (after : State (store_of config))
         → IsActorSo config i (after.core.world.actors i) (after.core.readers i) (after.roles i)
-        (Some (record { course = one; sight = First; begun = false }))
+        (Some (record { task = one; sight = First; begun = false }))
         → IsActorSo config i (after.core.world.actors i) (after.core.readers i) (after.roles i)
-        (Some (record { course = one; sight = sight; begun = begun }))
+        (Some (record { task = one; sight = sight; begun = begun }))
     as_new one begun sight new seen after h =
         subst (λ (s : Sight). IsActorSo config i (after.core.world.actors i) (after.core.readers i) (after.roles i)
-        (Some (record { course = one; sight = s; begun = begun }))) (sym seen)
+        (Some (record { task = one; sight = s; begun = begun }))) (sym seen)
         (subst (λ (b : Bool). IsActorSo config i (after.core.world.actors i) (after.core.readers i) (after.roles i)
-        (Some (record { course = one; sight = First; begun = b }))) (sym new) h)
+        (Some (record { task = one; sight = First; begun = b }))) (sym new) h)
 
     -- a call without an event
 
@@ -191,23 +195,59 @@ module _ (config : Config) (state : State (store_of config)) (i : ℕ) where
 
     eventless_so : (text : List ℕ)
         → IsActorSo config i Doer' Reader' ((with_role (store_of config) state i (Eventless text)).roles i)
-        (Some (record { course = course.Refused text; sight = First; begun = false }))
+        (Some (record { task = task.Refused text; sight = First; begun = false }))
     eventless_so text = subst (λ (role : Role). IsActorSo config i Doer' Reader' role
-        (Some (record { course = course.Refused text; sight = First; begun = false })))
+        (Some (record { task = task.Refused text; sight = First; begun = false })))
         (sym (changed_same state.roles i (Eventless text)))
         (record { text_is = refl; stands = stands_now; begun_is = refl; seen = first_seen })
 
     eventless_declared : (what : Call) (text : List ℕ) (begun : Bool) (sight : Sight) → begun ≡ false → sight ≡ First
         → Declares config state i what (with_role (store_of config) state i (Eventless text))
-        → IsDeclaredSo what (course.Refused text) begun sight
+        → IsDeclaredSo what (task.Refused text) begun sight
     eventless_declared what text begun sight new seen declares = record {
       after = with_role (store_of config) state i (Eventless text);
       declares = declares;
       leaves = eventless_left text;
       shared = agrees.shared;
-      actor = as_new (course.Refused text) begun sight new seen (with_role (store_of config) state i (Eventless text))
+      actor = as_new (task.Refused text) begun sight new seen (with_role (store_of config) state i (Eventless text))
           (eventless_so text);
     }
+
+    -- a switch
+
+    module _ (what : Call) (leaf : Leaf) (down : Bool) (there : leaf.0 < length (leaves_in config.topology))
+        (declares : Declares config state i what (with_role (store_of config) state i (Switching leaf down))) where
+      abbrev Ready : State (store_of config)
+      Ready = with_role (store_of config) state i (Switching leaf down)
+
+      abbrev Switch' : Switch
+      Switch' = record { number = i; leaf = leaf; down = down }
+
+      switch_so : IsActorSo config i Doer' Reader' (Ready.roles i)
+          (Some (record { task = task.Switches Switch'; sight = First; begun = false }))
+      switch_so = subst (λ (role : Role). IsActorSo config i Doer' Reader' role
+          (Some (record { task = task.Switches Switch'; sight = First; begun = false })))
+          (sym (changed_same state.roles i (Switching leaf down)))
+          (record { switch_is = refl; there = there; stands = stands_now; begun_is = refl; seen = first_seen })
+
+      switch_declared : (one : Task) (begun : Bool) (sight : Sight) → begun ≡ false → sight ≡ First
+          → one ≡ task.Switches Switch' → IsDeclaredSo what one begun sight
+      switch_declared one begun sight new seen is =
+          subst (λ (t : Task). IsDeclaredSo what t begun sight) (sym is) (record {
+            after = Ready;
+            declares = declares;
+            leaves = record {
+              woven = agrees.woven;
+              holders = agrees.holders;
+              others = record {
+                actor = λ j apart. refl;
+                reader = λ j apart. refl;
+                role = λ j apart. changed_other state.roles i j (Switching leaf down) apart;
+              };
+            };
+            shared = agrees.shared;
+            actor = as_new (task.Switches Switch') begun sight new seen Ready switch_so;
+          })
 
     -- a write
 
@@ -245,14 +285,14 @@ module _ (config : Config) (state : State (store_of config)) (i : ℕ) where
           ∙ ap (λ (doer : Doer). Writes (new_writer row range doer)) stands
 
       write_so : IsActorSo config i (Written.core.world.actors i) (Written.core.readers i) (Written.roles i)
-          (Some (record { course = course.Writes (writing_of i row range); sight = First; begun = false }))
+          (Some (record { task = task.Writes (writing_of i row range); sight = First; begun = false }))
       write_so = subst (λ (role : Role). IsActorSo config i (Begun.core.world.actors i) Reader' role
-          (Some (record { course = course.Writes (writing_of i row range); sight = First; begun = false })))
+          (Some (record { task = task.Writes (writing_of i row range); sight = First; begun = false })))
           (sym (changed_same state.roles i Writing))
           (new_writing config i (Begun.core.world.actors i) Reader' row range (first_view config) new_doer)
 
       write_declared : (begun : Bool) (sight : Sight) → begun ≡ false → sight ≡ First
-          → IsDeclaredSo (call.Write row) (course.Writes (writing_of i row range)) begun sight
+          → IsDeclaredSo (call.Write row) (task.Writes (writing_of i row range)) begun sight
       write_declared begun sight new seen = record {
         after = Written;
         declares = subst (λ (found : Option Range). WriteBegins config state i row found Written) (sym home)
@@ -261,7 +301,7 @@ module _ (config : Config) (state : State (store_of config)) (i : ℕ) where
         shared = shared_beside config state.core.world (with_value_at state.core.world.actors i
             (Writes (new_writer row range Doer')))
             weave.store agrees.shared;
-        actor = as_new (course.Writes (writing_of i row range)) begun sight new seen Written write_so;
+        actor = as_new (task.Writes (writing_of i row range)) begun sight new seen Written write_so;
       }
 
     -- a query
@@ -315,49 +355,55 @@ module _ (config : Config) (state : State (store_of config)) (i : ℕ) where
       }
 
       query_so : IsActorSo config i Doer' (Read.core.readers i) (Read.roles i)
-          (Some (record { course = course.Queries querying; sight = First; begun = false }))
+          (Some (record { task = task.Queries querying; sight = First; begun = false }))
       query_so = subst (λ (role : Role). IsActorSo config i Doer' (Read.core.readers i) role
-          (Some (record { course = course.Queries querying; sight = First; begun = false })))
+          (Some (record { task = task.Queries querying; sight = First; begun = false })))
           (sym (changed_same state.roles i Asking))
           (subst (λ (reader : Reader (store_of config)). IsQuerying config i Doer' reader querying false First)
           (sym (changed_same state.core.readers i Fresh)) asking_so)
 
       query_declared : (begun : Bool) (sight : Sight) → begun ≡ false → sight ≡ First
-          → IsDeclaredSo (call.Query moment text) (course.Queries querying) begun sight
+          → IsDeclaredSo (call.Query moment text) (task.Queries querying) begun sight
       query_declared begun sight new seen = record {
         after = Read;
         declares = subst (λ (typed : Result TypedTree TextFault). QueryBegins config state i moment typed Read)
             (sym asks.machine.typed_is) (Asked, asks.machine.asked, refl);
         leaves = query_left;
         shared = agrees.shared;
-        actor = as_new (course.Queries querying) begun sight new seen Read query_so;
+        actor = as_new (task.Queries querying) begun sight new seen Read query_so;
       }
 
     -- whatever it is to do
 
-    declared_by : (what : Call) (one : Course) (begun : Bool) (sight : Sight) → begun ≡ false → sight ≡ First
-        → IsLawfulCall config.schemas what → IsCourseOf config i what one → IsDeclaredSo what one begun sight
-    declared_by (call.Write row) (course.Refused line) begun sight new seen lawful h =
-        subst (λ (text : List ℕ). IsDeclaredSo (call.Write row) (course.Refused text) begun sight) (sym h.1)
+    declared_by : (what : Call) (one : Task) (begun : Bool) (sight : Sight) → begun ≡ false → sight ≡ First
+        → IsLawfulCall config.schemas config.topology what → IsTaskOf config i what one → IsDeclaredSo what one begun sight
+    declared_by (call.Write row) (task.Refused line) begun sight new seen lawful h =
+        subst (λ (text : List ℕ). IsDeclaredSo (call.Write row) (task.Refused text) begun sight) (sym h.1)
         (eventless_declared (call.Write row) no_zone_line begun sight new seen
         (subst (λ (found : Option Range). WriteBegins config state i row found
         (with_role (store_of config) state i (Eventless no_zone_line))) (sym h.0) refl))
-    declared_by (call.Write row) (course.Writes writing) begun sight new seen lawful h =
-        subst (λ (one : Write). IsDeclaredSo (call.Write row) (course.Writes one) begun sight)
+    declared_by (call.Write row) (task.Writes writing) begun sight new seen lawful h =
+        subst (λ (one : Write). IsDeclaredSo (call.Write row) (task.Writes one) begun sight)
         (sym (writing_is config i row writing h))
         (write_declared row writing.range h.range_is h.there lawful begun sight new seen)
-    declared_by (call.Write row) (course.Queries querying) begun sight new seen lawful h = absurd h
-    declared_by (call.Write row) course.Ended begun sight new seen lawful h = absurd h
-    declared_by (call.Query moment text) (course.Refused line) begun sight new seen lawful h =
+    declared_by (call.Write row) (task.Switches switching) begun sight new seen lawful h = absurd h
+    declared_by (call.Write row) (task.Queries querying) begun sight new seen lawful h = absurd h
+    declared_by (call.Write row) task.Ended begun sight new seen lawful h = absurd h
+    declared_by (call.Query moment text) (task.Refused line) begun sight new seen lawful h =
         let said : List ℕ = no_plan_line h.why in
-        subst (λ (one : List ℕ). IsDeclaredSo (call.Query moment text) (course.Refused one) begun sight) (sym h.line_is)
+        subst (λ (one : List ℕ). IsDeclaredSo (call.Query moment text) (task.Refused one) begun sight) (sym h.line_is)
         (eventless_declared (call.Query moment text) said begun sight new seen
         (subst (λ (typed : Result TypedTree TextFault). QueryBegins config state i moment typed
         (with_role (store_of config) state i (Eventless said))) (sym h.refused) refl))
-    declared_by (call.Query moment text) (course.Writes writing) begun sight new seen lawful h = absurd h
-    declared_by (call.Query moment text) (course.Queries querying) begun sight new seen lawful h =
+    declared_by (call.Query moment text) (task.Switches switching) begun sight new seen lawful h = absurd h
+    declared_by (call.Query moment text) (task.Writes writing) begun sight new seen lawful h = absurd h
+    declared_by (call.Query moment text) (task.Queries querying) begun sight new seen lawful h =
         query_declared moment text querying h lawful begun sight new seen
-    declared_by (call.Query moment text) course.Ended begun sight new seen lawful h = absurd h
+    declared_by (call.Query moment text) task.Ended begun sight new seen lawful h = absurd h
+    declared_by (call.Down leaf) one begun sight new seen lawful h =
+        switch_declared (call.Down leaf) leaf true lawful refl one begun sight new seen h
+    declared_by (call.Up leaf) one begun sight new seen lawful h =
+        switch_declared (call.Up leaf) leaf false lawful refl one begun sight new seen h
 
 -- ---- a weave in which it stands at its number
 
@@ -378,9 +424,9 @@ module _ (old : Weave) (i : ℕ) (what : Call) (new : Weave) (own : Actor) (last
   declared config state agrees may =
       let stands = undeclared_by config state i (state.roles i) (actor_numbered old.actors.items i) may.fault
       (agrees.actors.each i) in
-      let so = declared_by config state i old agrees stands what own.course own.begun own.sight fresh.begun_is
+      let so = declared_by config state i old agrees stands what own.task own.begun own.sight fresh.begun_is
       (fresh.seen ∙ agrees.shared.first) may.lawful
-      (subst (λ (c : Config). IsCourseOf c i what own.course) agrees.shared.config_is fresh.course_is) in
+      (subst (λ (c : Config). IsTaskOf c i what own.task) agrees.shared.config_is fresh.task_is) in
       record {
         after = so.after;
         declares = so.declares;

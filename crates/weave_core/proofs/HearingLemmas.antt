@@ -8,45 +8,48 @@ use Rattle.std.proofs.lemmas.Option.{slice_get_read}
 use Rattle.mon_config.specs.declared.config.Config.{Config}
 use Rattle.mon_topo.proofs.HeldLemmas.{seen_within_through}
 use Rattle.mon_value.specs.declared.histories.Histories.{Histories}
+use Rattle.mon_value.specs.declared.positions.Leaf.{Leaf}
 use Rattle.mon_value.specs.Histories.{joined_histories}
 use Rattle.query_core.specs.Sessions as session
 use Rattle.query_core.specs.Sessions.{query_after}
-use Rattle.weave_core.proofs.CoreLemmas.{stays_woven}
-use Rattle.weave_core.proofs.CourseLemmas.{begun_there, is_declared, over_there}
+use Rattle.core_theory.proofs.CoreLemmas.{stays_woven}
+use Rattle.weave_core.proofs.TaskLemmas.{begun_there, is_declared, over_there}
 use Rattle.weave_core.proofs.DeclareLemmas.{stander, stands_so}
-use Rattle.weave_core.proofs.HolderLemmas.{holders_changed}
+use Rattle.core_theory.proofs.HolderLemmas.{holders_changed}
 use Rattle.weave_core.proofs.NumberLemmas.{agrees_at, set_apart, set_at, shared_beside}
 use Rattle.weave_core.proofs.ReachedLemmas.{part_of}
 use Rattle.weave_core.proofs.SeatLemmas.{parts_alike}
 use Rattle.mon_topo.proofs.SightLemmas.{joined_seen}
 use Rattle.weave_core.proofs.StepLemmas.{Leaves}
 use Rattle.weave_core.proofs.WeaveLemmas.{numbered_there}
-use Rattle.weave_core.specs.ActorAgreements.{Agrees, IsActorSo, IsCourseSo, IsQuerying, IsWithoutEvent, IsWriting}
-use Rattle.weave_core.specs.ActorAgreements.{actor_numbered, flat}
+use Rattle.weave_core.specs.ActorAgreements.{Agrees, IsActorSo, IsTaskSo, IsQuerying, IsSwitching, IsWithoutEvent}
+use Rattle.weave_core.specs.ActorAgreements.{IsWriting, actor_numbered, flat}
 use Rattle.weave_core.specs.Agreements.{AreShared}
-use Rattle.weave_core.specs.Core.{CanCome, Happens, Hears, Reader, begun_with}
-use Rattle.weave_core.specs.Courses.{is_over}
+use Rattle.core_theory.specs.Core.{CanCome, Happens, Hears, Reader, begun_with}
+use Rattle.weave_core.specs.Tasks.{is_over}
 use Rattle.weave_core.specs.Declarations.{hearing, hearing_in}
 use Rattle.mon_topo.specs.FirstHistories.{first_histories}
-use Rattle.weave_core.specs.Holders.{HoldsLeaf, HoldsRange}
-use Rattle.weave_core.specs.Licensed.{IsWoven}
+use Rattle.core_theory.specs.Holders.{HoldsLeaf, HoldsRange}
+use Rattle.core_theory.specs.Licensed.{IsWoven}
 use Rattle.weave_core.specs.NewActors.{hearing_of}
 use Rattle.weave_core.specs.Schedules.{meet_fault}
 use Rattle.mon_topo.specs.Sights.{AreAlike, joined_sight, sight_of}
 use Rattle.weave_core.specs.States as spec
-use Rattle.weave_core.specs.States.{Asking, Dismissed, Eventless, Role, State, Undeclared, Writing, begun_in}
+use Rattle.weave_core.specs.States.{Asking, Dismissed, Eventless, Role, State, Switching, Undeclared, Writing}
+use Rattle.weave_core.specs.States.{begun_in}
 use Rattle.mon_value.specs.Parts.{is_any}
 use Rattle.weave_core.specs.States.{declared_in, is_past_lock, store_of, view_at, view_in, writes_begun}
 use Rattle.weave_core.specs.Steps.{with_event}
 use Rattle.weave_core.specs.WeaveCalls.{IsWeaveKept, MeetsSo}
 use Rattle.weave_core.specs.Writers.{writer_of}
 use Rattle.weave_core.specs.declared.actors.Actor.{Actor}
-use Rattle.weave_core.specs.declared.actors.Course.{Course}
-use Rattle.weave_core.specs.declared.actors.Course.TheVariants as course
+use Rattle.weave_core.specs.declared.actors.Task.{Task}
+use Rattle.weave_core.specs.declared.actors.Task.TheVariants as task
 use Rattle.weave_core.specs.declared.calls.WeaveFault.TheVariants as fault
 use Rattle.weave_core.specs.declared.queries.Querying.{Querying}
 use Rattle.mon_topo.specs.declared.sights.Sight.{Sight}
 use Rattle.weave_core.specs.declared.store.Store.{Store}
+use Rattle.weave_core.specs.declared.switches.Switching.{Switching as Switch}
 use Rattle.weave_core.specs.declared.weave.Weave.{Weave}
 use Rattle.weave_core.specs.declared.writes.Writing.{Writing as Write}
 use Rattle.write_core.proofs.KeepsLemmas.{changed_other, changed_same}
@@ -100,31 +103,41 @@ module _ (config : Config) (state : State (store_of config)) (i : ℕ) where
   Reader' = state.core.readers i
 
   -- what it has seen
-  sight_so : (role : Role) (one : Course) (begun : Bool) (sight : Sight)
-      → IsCourseSo config i Doer' Reader' role one begun sight
+  sight_so : (role : Role) (one : Task) (begun : Bool) (sight : Sight)
+      → IsTaskSo config i Doer' Reader' role one begun sight
       → sight ≡ sight_of (view_in (store_of config) state i role).seen
   sight_so Undeclared one begun sight h = absurd h
-  sight_so (Eventless text) (course.Refused own) begun sight h = h.seen
-  sight_so (Eventless text) (course.Writes writing) begun sight h = absurd h
-  sight_so (Eventless text) (course.Queries querying) begun sight h = absurd h
-  sight_so (Eventless text) course.Ended begun sight h = absurd h
-  sight_so Dismissed (course.Refused own) begun sight h = absurd h
-  sight_so Dismissed (course.Writes writing) begun sight h = absurd h
-  sight_so Dismissed (course.Queries querying) begun sight h = absurd h
-  sight_so Dismissed course.Ended begun sight h = h.seen
-  sight_so Writing (course.Refused own) begun sight h = absurd h
-  sight_so Writing (course.Writes writing) begun sight h = h.writer.seen
-  sight_so Writing (course.Queries querying) begun sight h = absurd h
-  sight_so Writing course.Ended begun sight h = h.seen
-  sight_so Asking (course.Refused own) begun sight h = absurd h
-  sight_so Asking (course.Writes writing) begun sight h = absurd h
-  sight_so Asking (course.Queries querying) begun sight h = h.reader_so.seen
-  sight_so Asking course.Ended begun sight h = h.seen
+  sight_so (Eventless text) (task.Refused own) begun sight h = h.seen
+  sight_so (Eventless text) (task.Switches switching) begun sight h = absurd h
+  sight_so (Eventless text) (task.Writes writing) begun sight h = absurd h
+  sight_so (Eventless text) (task.Queries querying) begun sight h = absurd h
+  sight_so (Eventless text) task.Ended begun sight h = absurd h
+  sight_so (Switching leaf down) (task.Refused own) begun sight h = absurd h
+  sight_so (Switching leaf down) (task.Switches switching) begun sight h = h.seen
+  sight_so (Switching leaf down) (task.Writes writing) begun sight h = absurd h
+  sight_so (Switching leaf down) (task.Queries querying) begun sight h = absurd h
+  sight_so (Switching leaf down) task.Ended begun sight h = absurd h
+  sight_so Dismissed (task.Refused own) begun sight h = absurd h
+  sight_so Dismissed (task.Switches switching) begun sight h = absurd h
+  sight_so Dismissed (task.Writes writing) begun sight h = absurd h
+  sight_so Dismissed (task.Queries querying) begun sight h = absurd h
+  sight_so Dismissed task.Ended begun sight h = h.seen
+  sight_so Writing (task.Refused own) begun sight h = absurd h
+  sight_so Writing (task.Switches switching) begun sight h = absurd h
+  sight_so Writing (task.Writes writing) begun sight h = h.writer.seen
+  sight_so Writing (task.Queries querying) begun sight h = absurd h
+  sight_so Writing task.Ended begun sight h = h.seen
+  sight_so Asking (task.Refused own) begun sight h = absurd h
+  sight_so Asking (task.Switches switching) begun sight h = absurd h
+  sight_so Asking (task.Writes writing) begun sight h = absurd h
+  sight_so Asking (task.Queries querying) begun sight h = h.reader_so.seen
+  sight_so Asking task.Ended begun sight h = h.seen
 
   part_in : (role : Role) → IsWoven (store_of config) state.core
       → IsPart (store_of config) state.core.world (view_in (store_of config) state i role)
   part_in Undeclared woven = part_of (store_of config) state.core.world i Doer' (woven.world.actors i)
   part_in (Eventless text) woven = part_of (store_of config) state.core.world i Doer' (woven.world.actors i)
+  part_in (Switching leaf down) woven = part_of (store_of config) state.core.world i Doer' (woven.world.actors i)
   part_in Dismissed woven = part_of (store_of config) state.core.world i Doer' (woven.world.actors i)
   part_in Writing woven = part_of (store_of config) state.core.world i Doer' (woven.world.actors i)
   part_in Asking woven = (woven.readers i).part
@@ -133,7 +146,9 @@ module _ (config : Config) (state : State (store_of config)) (i : ℕ) where
       → IsActorSo config i Doer' Reader' role one → HasOne one
   somebody Undeclared one e h = absurd cc
   somebody (Eventless text) None e h = absurd h
+  somebody (Switching leaf down) None e h = absurd h
   somebody (Eventless text) (Some own) e h = record { own = own; is = refl }
+  somebody (Switching leaf down) (Some own) e h = record { own = own; is = refl }
   somebody Dismissed None e h = absurd h
   somebody Dismissed (Some own) e h = record { own = own; is = refl }
   somebody Writing None e h = absurd h
@@ -148,11 +163,11 @@ module _ (config : Config) (state : State (store_of config)) (i : ℕ) where
     abbrev Then : Role → State (store_of config)
     Then role = with_event (store_of config) state (hearing_in (store_of config) role i view)
 
-    record HearsSo (role : Role) (one : Course) (begun : Bool) (sight : Sight) : Type 0 where
+    record HearsSo (role : Role) (one : Task) (begun : Bool) (sight : Sight) : Type 0 where
       pub can : CanCome (store_of config) state.core (hearing_in (store_of config) role i view)
       pub leaves : Leaves (store_of config) state i (Then role)
       pub shared : AreShared config (Then role).core.world weave.store
-      pub actor : IsCourseSo config i ((Then role).core.world.actors i) ((Then role).core.readers i) role one begun
+      pub actor : IsTaskSo config i ((Then role).core.world.actors i) ((Then role).core.readers i) role one begun
           (joined_sight sight (sight_of view.seen))
 
     -- who writes, or stands by
@@ -182,7 +197,7 @@ module _ (config : Config) (state : State (store_of config)) (i : ℕ) where
 
     eventless_hears : (text own : List ℕ) (begun : Bool) (sight : Sight)
         → IsWithoutEvent config i Doer' Reader' text own begun sight
-        → HearsSo (Eventless text) (course.Refused own) begun sight
+        → HearsSo (Eventless text) (task.Refused own) begun sight
     eventless_hears text own begun sight h =
         let now : Learned.core.world.actors i ≡ stander i (joined_view (view_of Doer') view)
         = wiser_now (stander i (view_of Doer')) h.stands in
@@ -200,8 +215,29 @@ module _ (config : Config) (state : State (store_of config)) (i : ℕ) where
           };
         }
 
+    switch_hears : (leaf : Leaf) (down : Bool) (switching : Switch) (begun : Bool) (sight : Sight)
+        → IsSwitching config i Doer' Reader' leaf down switching begun sight
+        → HearsSo (Switching leaf down) (task.Switches switching) begun sight
+    switch_hears leaf down switching begun sight h =
+        let now : Learned.core.world.actors i ≡ stander i (joined_view (view_of Doer') view)
+        = wiser_now (stander i (view_of Doer')) h.stands in
+        let new : HasNotBegun Doer' = subst (λ (doer : Doer). HasNotBegun doer) (sym h.stands) tt in
+        record {
+          can = (new, part);
+          leaves = learned_left new;
+          shared = learned_shared;
+          actor = record {
+            switch_is = h.switch_is;
+            there = h.there;
+            stands = stands_so i (joined_view (view_of Doer') view) (Learned.core.world.actors i) now;
+            begun_is = h.begun_is;
+            seen = joined_of sight (view_of Doer').seen view.seen h.seen
+                ∙ ap (λ (d : Doer). sight_of (view_of d).seen) (sym now);
+          };
+        }
+
     write_hears : (writing : Write) (begun : Bool) (sight : Sight) → writes_begun Doer' ≡ false
-        → IsWriting config i Doer' Reader' writing begun sight → HearsSo Writing (course.Writes writing) begun sight
+        → IsWriting config i Doer' Reader' writing begun sight → HearsSo Writing (task.Writes writing) begun sight
     write_hears writing begun sight free h =
         let now : Learned.core.world.actors i ≡ Writes (writer_of i writing (joined_view (view_of Doer') view))
         = wiser_now (Writes (writer_of i writing (view_of Doer'))) h.writer.writer in
@@ -236,7 +272,7 @@ module _ (config : Config) (state : State (store_of config)) (i : ℕ) where
     Told = begun_with (store_of config) Reader' (joined_view Reader'.view view)
 
     query_hears : (querying : Querying) (begun : Bool) (sight : Sight) → is_any Reader'.session ≡ false
-        → IsQuerying config i Doer' Reader' querying begun sight → HearsSo Asking (course.Queries querying) begun sight
+        → IsQuerying config i Doer' Reader' querying begun sight → HearsSo Asking (task.Queries querying) begun sight
     query_hears querying begun sight free h =
         let none : Reader'.session ≡ [] = none_of Reader'.session free in
         let so : IsQuerying config i Doer' Told querying begun (joined_sight sight (sight_of view.seen)) = record {
@@ -277,23 +313,32 @@ module _ (config : Config) (state : State (store_of config)) (i : ℕ) where
               (joined_sight sight (sight_of view.seen))) (sym (changed_same state.core.readers i Told)) so;
         }
 
-    hears_by : (role : Role) (one : Course) (begun : Bool) (sight : Sight)
-        → begun_in (store_of config) state i role ≡ false → IsCourseSo config i Doer' Reader' role one begun sight
+    hears_by : (role : Role) (one : Task) (begun : Bool) (sight : Sight)
+        → begun_in (store_of config) state i role ≡ false → IsTaskSo config i Doer' Reader' role one begun sight
         → HearsSo role one begun sight
     hears_by Undeclared one begun sight free h = absurd h
-    hears_by (Eventless text) (course.Refused own) begun sight free h = eventless_hears text own begun sight h
-    hears_by (Eventless text) (course.Writes writing) begun sight free h = absurd h
-    hears_by (Eventless text) (course.Queries querying) begun sight free h = absurd h
-    hears_by (Eventless text) course.Ended begun sight free h = absurd h
+    hears_by (Eventless text) (task.Refused own) begun sight free h = eventless_hears text own begun sight h
+    hears_by (Eventless text) (task.Switches switching) begun sight free h = absurd h
+    hears_by (Eventless text) (task.Writes writing) begun sight free h = absurd h
+    hears_by (Eventless text) (task.Queries querying) begun sight free h = absurd h
+    hears_by (Eventless text) task.Ended begun sight free h = absurd h
+    hears_by (Switching leaf down) (task.Refused own) begun sight free h = absurd h
+    hears_by (Switching leaf down) (task.Switches switching) begun sight free h =
+        switch_hears leaf down switching begun sight h
+    hears_by (Switching leaf down) (task.Writes writing) begun sight free h = absurd h
+    hears_by (Switching leaf down) (task.Queries querying) begun sight free h = absurd h
+    hears_by (Switching leaf down) task.Ended begun sight free h = absurd h
     hears_by Dismissed one begun sight free h = absurd cc
-    hears_by Writing (course.Refused own) begun sight free h = absurd h
-    hears_by Writing (course.Writes writing) begun sight free h = write_hears writing begun sight free h
-    hears_by Writing (course.Queries querying) begun sight free h = absurd h
-    hears_by Writing course.Ended begun sight free h = let no : true ≡ false = sym h.begun_is ∙ free in absurd cc
-    hears_by Asking (course.Refused own) begun sight free h = absurd h
-    hears_by Asking (course.Writes writing) begun sight free h = absurd h
-    hears_by Asking (course.Queries querying) begun sight free h = query_hears querying begun sight free h
-    hears_by Asking course.Ended begun sight free h = let no : true ≡ false = sym h.begun_is ∙ free in absurd cc
+    hears_by Writing (task.Refused own) begun sight free h = absurd h
+    hears_by Writing (task.Switches switching) begun sight free h = absurd h
+    hears_by Writing (task.Writes writing) begun sight free h = write_hears writing begun sight free h
+    hears_by Writing (task.Queries querying) begun sight free h = absurd h
+    hears_by Writing task.Ended begun sight free h = let no : true ≡ false = sym h.begun_is ∙ free in absurd cc
+    hears_by Asking (task.Refused own) begun sight free h = absurd h
+    hears_by Asking (task.Switches switching) begun sight free h = absurd h
+    hears_by Asking (task.Writes writing) begun sight free h = absurd h
+    hears_by Asking (task.Queries querying) begun sight free h = query_hears querying begun sight free h
+    hears_by Asking task.Ended begun sight free h = let no : true ≡ false = sym h.begun_is ∙ free in absurd cc
 
 -- ---- what a meeting asks for
 
@@ -340,7 +385,7 @@ module _ (old : Weave) (k j : ℕ) (ended : Actor) (taken : Some ended ≡ actor
 
     apart : k ≡ j → ⊥
     apart same =
-        let over : is_over ended.course ≡ true = over_there old j ended taken config state agrees ∙ facts.ended in
+        let over : is_over ended.task ≡ true = over_there old j ended taken config state agrees ∙ facts.ended in
         let begun : spec.has_begun (store_of config) state j ≡ true
         = sym (begun_there old j ended taken config state agrees) ∙ ap (λ (b : Bool). ended.begun || b) over
         ∙ or_true ended.begun in
@@ -364,12 +409,12 @@ module _ (old : Weave) (k j : ℕ) (ended : Actor) (taken : Some ended ≡ actor
         (state.roles j) one) (sym taken) (agrees.actors.each j)
 
     other_seen : ended.sight ≡ sight_of (view_at (store_of config) state j).seen
-    other_seen = sight_so config state j (state.roles j) ended.course ended.begun ended.sight other_so
+    other_seen = sight_so config state j (state.roles j) ended.task ended.begun ended.sight other_so
 
     sights_alike : AreAlike own_found.own.sight ended.sight
     sights_alike =
         let own_seen : own_found.own.sight ≡ sight_of (view_at (store_of config) state k).seen
-        = sight_so config state k (state.roles k) own_found.own.course own_found.own.begun own_found.own.sight own_so in
+        = sight_so config state k (state.roles k) own_found.own.task own_found.own.begun own_found.own.sight own_so in
         subst (λ (s : Sight). AreAlike s ended.sight) (sym own_seen)
         (subst (λ (s : Sight). AreAlike (sight_of (view_at (store_of config) state k).seen) s) (sym other_seen)
         (parts_alike (store_of config) state.core.world (view_at (store_of config) state k)
@@ -417,11 +462,11 @@ module _ (old : Weave) (k j : ℕ) (ended : Actor) (taken : Some ended ≡ actor
             ap (λ (all : List (Option Actor)). flat (slice_get all n)) items ∙ elsewhere_still n other
 
         hears : HearsSo config state k old agrees (view_at (store_of config) state j)
-            (part_in config state j (state.roles j) agrees.woven) (state.roles k) own_found.own.course
+            (part_in config state j (state.roles j) agrees.woven) (state.roles k) own_found.own.task
             own_found.own.begun
             own_found.own.sight
         hears = hears_by config state k old agrees (view_at (store_of config) state j)
-            (part_in config state j (state.roles j) agrees.woven) (state.roles k) own_found.own.course
+            (part_in config state j (state.roles j) agrees.woven) (state.roles k) own_found.own.task
             own_found.own.begun
             own_found.own.sight facts.free own_so
 
@@ -430,9 +475,9 @@ module _ (old : Weave) (k j : ℕ) (ended : Actor) (taken : Some ended ≡ actor
 
         heard_so : IsActorSo config k (Heard.core.world.actors k) (Heard.core.readers k) (Heard.roles k)
             (Some (hearing_of ended.sight own_found.own))
-        heard_so = subst (λ (s : Sight). IsCourseSo config k (Heard.core.world.actors k) (Heard.core.readers k)
+        heard_so = subst (λ (s : Sight). IsTaskSo config k (Heard.core.world.actors k) (Heard.core.readers k)
             (state.roles k)
-            own_found.own.course own_found.own.begun (joined_sight own_found.own.sight s)) (sym other_seen) hears.actor
+            own_found.own.task own_found.own.begun (joined_sight own_found.own.sight s)) (sym other_seen) hears.actor
 
         met_so : MeetsSo config state k j new
         met_so = record {

@@ -22,14 +22,14 @@ use Rattle.query_core.specs.declared.asks.Told.{Told}
 use Rattle.query_core.specs.declared.asks.Told.TheVariants as told
 use Rattle.query_core.specs.declared.stages.Stage.{Stage}
 use Rattle.query_core.specs.declared.stages.Stage.TheVariants as at
-use Rattle.weave_core.proofs.MeetingLemmas.{leaf_met}
+use Rattle.core_theory.proofs.MeetingLemmas.{leaf_met}
 use Rattle.weave_core.proofs.QuerySeats.{same_world, shared_leaf, visited_same}
-use Rattle.weave_core.proofs.ReaderAnswers.{reader_reads}
+use Rattle.core_theory.proofs.ReaderAnswers.{reader_reads}
 use Rattle.weave_core.proofs.SeatLemmas.{parts_alike}
 use Rattle.weave_core.specs.Agreements.{IsLeafSo}
-use Rattle.weave_core.specs.Core.{Core, IsLookedAt, IsTold, Reader, query_now}
-use Rattle.weave_core.specs.Holders.{HoldsLeaf}
-use Rattle.weave_core.specs.Meetings.{sight_at_leaf}
+use Rattle.core_theory.specs.Core.{Core, IsLookedAt, IsTold, Reader, query_now}
+use Rattle.core_theory.specs.Holders.{HoldsLeaf}
+use Rattle.core_theory.specs.Meetings.{sight_at_leaf}
 use Rattle.weave_core.specs.QueryLooks.{IsHeldFrom, IsSeatedForLeaf, Looks, LooksAt, visit_told}
 use Rattle.weave_core.specs.QueryTurns.{AnswersSo, IsAnswered, IsAsking, QueryWaits}
 use Rattle.mon_topo.specs.Sights.{AreAlike, sight_of}

@@ -12,14 +12,14 @@ use Rattle.mon_value.specs.declared.positions.Slot.{Slot}
 use Rattle.leaf_store.specs.LeafBuckets.{is_unraised}
 use Rattle.weave_core.proofs.AtWorkLemmas.{IsGoingOn, StandsBefore, below_entering, below_reserving, going_entering}
 use Rattle.weave_core.proofs.AtWorkLemmas.{going_inside, going_reserving, none_entering, none_reserving, own}
-use Rattle.weave_core.proofs.MeetingLemmas.{leaf_met}
+use Rattle.core_theory.proofs.MeetingLemmas.{leaf_met}
 use Rattle.weave_core.proofs.SeatLemmas.{leaf_so_then, same_at_leaf, shared_at_leaf}
 use Rattle.leaf_store.proofs.BucketLemmas.{AllBelow}
 use Rattle.weave_core.proofs.RaiseLemmas.{all_below}
 use Rattle.weave_core.proofs.WriteTurnLemmas.{can_come, not_mine_leaf, step_is, waits_so, went_so, writer_then}
 use Rattle.weave_core.specs.Agreements.{IsLeafSo}
-use Rattle.weave_core.specs.Holders.{leaf_inside}
-use Rattle.weave_core.specs.Meetings.{sight_at_leaf}
+use Rattle.core_theory.specs.Holders.{leaf_inside}
+use Rattle.core_theory.specs.Meetings.{sight_at_leaf}
 use Rattle.mon_topo.specs.Sights.{sight_of}
 use Rattle.weave_core.specs.States.{holder_for_actor, holder_for_write, store_of}
 use Rattle.weave_core.specs.WriteEvents.{ChangesLeaf, Enters, EntersIf, IsHeldUp, Reserves, ReservesIf, up_or_down}

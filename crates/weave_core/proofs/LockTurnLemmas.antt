@@ -7,13 +7,13 @@ use Rattle.mon_value.specs.declared.histories.RangeEntry.{RangeEntry}
 use Rattle.mon_value.specs.declared.positions.Range.{Range}
 use Rattle.weave_core.proofs.AtWorkLemmas.{below_locked, going_locked, none_locked, own, range_in_truth}
 use Rattle.weave_core.proofs.LockLemmas.{lock_true}
-use Rattle.weave_core.proofs.MeetingLemmas.{range_met}
+use Rattle.core_theory.proofs.MeetingLemmas.{range_met}
 use Rattle.weave_core.proofs.SeatLemmas.{same_at_range, shared_at_range}
 use Rattle.weave_core.proofs.WriteTurnLemmas.{can_come, not_mine_range, step_is, waits_so, went_so, writer_then}
 use Rattle.weave_core.specs.Writers.{writer_of}
 use Rattle.weave_core.specs.Agreements.{IsRangeSo}
-use Rattle.weave_core.specs.Holders.{HoldsRange, IsHolding, leaf_inside}
-use Rattle.weave_core.specs.Meetings.{sight_at_range}
+use Rattle.core_theory.specs.Holders.{HoldsRange, IsHolding, leaf_inside}
+use Rattle.core_theory.specs.Meetings.{sight_at_range}
 use Rattle.mon_topo.specs.Sights.{sight_of}
 use Rattle.weave_core.specs.States.{holder_for_actor, holder_for_write, store_of}
 use Rattle.weave_core.specs.WriteEvents.{ChangesRange, IsHeldUp, Locks, LocksIf}

@@ -9,7 +9,7 @@ use Rattle.weave_core.proofs.SeatLemmas.{words_stay}
 use Rattle.weave_core.proofs.StepLemmas.{Leaves}
 use Rattle.weave_core.specs.ActorAgreements.{Agrees, IsActorSo, actor_numbered}
 use Rattle.weave_core.specs.Agreements.{AreShared}
-use Rattle.weave_core.specs.Core.{Reader}
+use Rattle.core_theory.specs.Core.{Reader}
 use Rattle.weave_core.specs.States.{Role, State, store_of}
 use Rattle.weave_core.specs.declared.actors.Actor.{Actor}
 use Rattle.weave_core.specs.declared.store.Store.{Store}

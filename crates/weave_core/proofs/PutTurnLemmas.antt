@@ -13,12 +13,12 @@ use Rattle.mon_value.specs.declared.positions.Leaf.{Leaf}
 use Rattle.mon_value.specs.declared.positions.Slot.{Slot}
 use Rattle.weave_core.proofs.AtWorkLemmas.{IsGoingOn, StandsBefore, below_entering, going_entering, leaf_in_truth}
 use Rattle.weave_core.proofs.AtWorkLemmas.{none_entering, own}
-use Rattle.weave_core.proofs.MeetingLemmas.{leaf_met}
+use Rattle.core_theory.proofs.MeetingLemmas.{leaf_met}
 use Rattle.weave_core.proofs.SeatLemmas.{leaf_so_then, shared_at_leaf}
 use Rattle.mon_topo.proofs.SightLemmas.{leaf_seen, noted_over}
 use Rattle.weave_core.proofs.WriteTurnLemmas.{can_come, step_is, went_so, writer_then}
 use Rattle.weave_core.specs.Agreements.{IsLeafSo}
-use Rattle.weave_core.specs.Meetings.{sight_at_leaf}
+use Rattle.core_theory.specs.Meetings.{sight_at_leaf}
 use Rattle.mon_topo.specs.Sights.{sight_of, with_leaf_sight}
 use Rattle.weave_core.specs.States.{store_of}
 use Rattle.weave_core.specs.WriteEvents.{ChangesLeaf, Puts}

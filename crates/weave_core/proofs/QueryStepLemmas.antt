@@ -13,18 +13,19 @@ use Rattle.query_core.specs.declared.asks.Ask.TheVariants as ask
 use Rattle.query_core.specs.declared.asks.Told.{Told}
 use Rattle.query_core.specs.declared.stages.Stage.{Stage}
 use Rattle.query_core.specs.declared.stages.Stage.TheVariants as at
-use Rattle.weave_core.specs.ActorAgreements.{IsActorSo, IsCourseSo, IsQuerying}
+use Rattle.weave_core.specs.ActorAgreements.{IsActorSo, IsTaskSo, IsQuerying}
 use Rattle.weave_core.specs.ActorSteps.{ActorSteps, IsIn, QueriedSo}
-use Rattle.weave_core.specs.Core.{Reader, Tells, asked_now, told_on, view_told, world_then}
+use Rattle.core_theory.specs.Core.{Reader, Tells, asked_now, told_on, view_told, world_then}
 use Rattle.weave_core.specs.EndTexts.{query_text}
 use Rattle.weave_core.specs.EventNames.{event_of_query}
 use Rattle.weave_core.specs.QueryTurns.{IsAsking, QueriesSo}
-use Rattle.weave_core.specs.States.{Asking, Dismissed, Eventless, Role, State, Undeclared, Writing, role_fault}
+use Rattle.weave_core.specs.States.{Asking, Dismissed, Eventless, Role, State, Switching, Undeclared, Writing}
+use Rattle.weave_core.specs.States.{role_fault}
 use Rattle.mon_value.specs.Parts.{is_any}
 use Rattle.weave_core.specs.States.{holder_in, step_fault, store_of}
 use Rattle.weave_core.specs.Steps.{StepsIn, query_stepped, with_event}
 use Rattle.weave_core.specs.declared.actors.Actor.{Actor}
-use Rattle.weave_core.specs.declared.actors.Course.TheVariants as course
+use Rattle.weave_core.specs.declared.actors.Task.TheVariants as task
 use Rattle.weave_core.specs.declared.calls.Stepped.TheVariants as stepped
 use Rattle.weave_core.specs.declared.calls.WeaveFault.TheVariants as fault
 use Rattle.weave_core.specs.declared.calls.Stepped.{Stepped}
@@ -42,10 +43,10 @@ use Rattle.write_core.specs.World.{Actor as Doer, Stands, World, view_of}
 query_stays : (zones : List ZoneSpec) (setting : QuerySetting) (stage : Stage)
     → query.ask_of setting stage ≢ ask.Finished → query_stepped zones stage ≡ stepped.Went
 query_stays zones setting (at.Rooting loading) going = refl
-query_stays zones setting (at.Entering course' round loading) going = refl
-query_stays zones setting (at.Resolving course' round range) going = refl
-query_stays zones setting (at.Reloading course' round loading) going = refl
-query_stays zones setting (at.Visiting course' round visits leaf) going = refl
+query_stays zones setting (at.Entering course round loading) going = refl
+query_stays zones setting (at.Resolving course round range) going = refl
+query_stays zones setting (at.Reloading course round loading) going = refl
+query_stays zones setting (at.Visiting course round visits leaf) going = refl
 query_stays zones setting (at.Ended end) going = absurd (going refl)
 
 -- who asks for something has an event
@@ -75,9 +76,9 @@ any_pushed (y ∷ xs) x = refl
 module _ (config : Config) (state : State (store_of config)) (i : ℕ) (store : Store) (querying : Querying)
     (sight : Sight)
     (begun : Bool)
-    (here : IsIn config state i store (record { course = course.Queries querying; sight = sight; begun = begun })) where
+    (here : IsIn config state i store (record { task = task.Queries querying; sight = sight; begun = begun })) where
   abbrev before : Actor
-  before = record { course = course.Queries querying; sight = sight; begun = begun }
+  before = record { task = task.Queries querying; sight = sight; begun = begun }
 
   abbrev doer : Doer
   doer = state.core.world.actors i
@@ -85,9 +86,10 @@ module _ (config : Config) (state : State (store_of config)) (i : ℕ) (store : 
   abbrev reader : Reader (store_of config)
   reader = state.core.readers i
 
-  asking_by : (role : Role) → IsCourseSo config i doer reader role (course.Queries querying) begun sight → role ≡ Asking
+  asking_by : (role : Role) → IsTaskSo config i doer reader role (task.Queries querying) begun sight → role ≡ Asking
   asking_by Undeclared h = absurd h
   asking_by (Eventless text) h = absurd h
+  asking_by (Switching leaf down) h = absurd h
   asking_by Dismissed h = absurd h
   asking_by Writing h = absurd h
   asking_by Asking h = refl
@@ -96,7 +98,7 @@ module _ (config : Config) (state : State (store_of config)) (i : ℕ) (store : 
   role_is = asking_by (state.roles i) here.actor
 
   pub queries : IsQuerying config i doer reader querying begun sight
-  queries = subst (λ (role : Role). IsCourseSo config i doer reader role (course.Queries querying) begun sight) role_is
+  queries = subst (λ (role : Role). IsTaskSo config i doer reader role (task.Queries querying) begun sight) role_is
       here.actor
 
   pub at_asking : IsAsking config state.core i store querying sight
@@ -166,9 +168,9 @@ module _ (config : Config) (state : State (store_of config)) (i : ℕ) (store : 
         shared = went.shared;
         actor = subst (λ (one : Actor). IsActorSo config i (doer_then went.answer went.stage)
             (reader_then went.answer went.stage) (state.roles i) (Some one)) (sym h.0)
-            (subst (λ (role : Role). IsCourseSo config i (doer_then went.answer went.stage)
+            (subst (λ (role : Role). IsTaskSo config i (doer_then went.answer went.stage)
             (reader_then went.answer went.stage)
-            role (course.Queries next) true now) (sym role_is) (record {
+            role (task.Queries next) true now) (sym role_is) (record {
               reader_so = went.reader;
               planned = went.planned;
               stands = stands_then went.answer went.stage;
@@ -191,7 +193,7 @@ module _ (config : Config) (state : State (store_of config)) (i : ℕ) (store : 
         shared = waits.1.shared;
         actor = subst (λ (one : Actor). IsActorSo config i doer reader (state.roles i) (Some one))
             (sym (h.0 ∙ (λ k. record {
-              course = course.Queries (waits.0 k);
+              task = task.Queries (waits.0 k);
               sight = waits.1.sight_is k;
               begun =
                   begun;
@@ -215,8 +217,8 @@ module _ (config : Config) (state : State (store_of config)) (i : ℕ) (store : 
         shared = ended.shared;
         actor = subst (λ (one : Actor). IsActorSo config i (doer_then ended.answer (at.Ended end))
             (reader_then ended.answer (at.Ended end)) (state.roles i) (Some one)) (sym h.0)
-            (subst (λ (role : Role). IsCourseSo config i (doer_then ended.answer (at.Ended end))
-            (reader_then ended.answer (at.Ended end)) role course.Ended true now) (sym role_is) (record {
+            (subst (λ (role : Role). IsTaskSo config i (doer_then ended.answer (at.Ended end))
+            (reader_then ended.answer (at.Ended end)) role task.Ended true now) (sym role_is) (record {
               ended = ap (query.ask_of (reader_then ended.answer (at.Ended end)).setting) ended.stage_is;
               begun_is = begun_then ended.answer (at.Ended end);
               stands = stands_then ended.answer (at.Ended end);

@@ -17,9 +17,9 @@ use Rattle.query_core.specs.declared.answers.RoundFault.{RoundFault}
 use Rattle.query_core.specs.declared.asks.Told.{Told}
 use Rattle.query_core.specs.declared.stages.Stage.{Stage}
 use Rattle.query_core.specs.declared.stages.Stage.TheVariants as at
-use Rattle.weave_core.proofs.CoreLemmas.{goes}
+use Rattle.core_theory.proofs.CoreLemmas.{goes}
 use Rattle.weave_core.specs.ActorAgreements.{IsReaderSo}
-use Rattle.weave_core.specs.Core.{Core, Reader, Tells, asked_now, came, query_now, told_on, view_told}
+use Rattle.core_theory.specs.Core.{Core, Reader, Tells, asked_now, came, query_now, told_on, view_told}
 use Rattle.mon_topo.specs.FirstHistories.{first_histories}
 use Rattle.weave_core.specs.QueryTurns.{AnswersSo, IsAnswered, IsAsking, IsToldLast, IsToldOn, QueriesSo, QueryEnded}
 use Rattle.weave_core.specs.QueryTurns.{QueryWent, TurnsBy}

@@ -14,15 +14,15 @@ use Rattle.mon_topo.specs.Zones.{leaves_in}
 use Rattle.mon_value.specs.declared.positions.Leaf.{Leaf}
 use Rattle.mon_value.specs.declared.positions.Zone.{Zone}
 use Rattle.weave_core.proofs.AtWorkLemmas.{IsGoingOn, StandsInside, going_inside, leaf_in_truth, own}
-use Rattle.weave_core.proofs.MeetingLemmas.{leaf_met}
+use Rattle.core_theory.proofs.MeetingLemmas.{leaf_met}
 use Rattle.weave_core.proofs.PlaceLemmas.{one_leaf, place_below, root_there, zone_there, zone_word_there}
 use Rattle.weave_core.proofs.SeatLemmas.{leaf_so_then, leaves_at_leaf, ranges_at_leaf}
 use Rattle.weave_core.proofs.WriteTurnLemmas.{can_come, step_is, went_so, writer_then}
 use Rattle.weave_core.proofs.WordLemmas.{one_raised}
 use Rattle.weave_core.specs.Agreements.{AreWords, IsLeafSo, place_of_leaf}
 use Rattle.weave_core.specs.HintWords.{HasWord, HintTable, RaisesOne, with_child_bit, hint_word_at}
-use Rattle.weave_core.specs.Holders.{leaf_inside}
-use Rattle.weave_core.specs.Meetings.{sight_at_leaf}
+use Rattle.core_theory.specs.Holders.{leaf_inside}
+use Rattle.core_theory.specs.Meetings.{sight_at_leaf}
 use Rattle.mon_topo.specs.Sights.{sight_of}
 use Rattle.weave_core.specs.States.{store_of}
 use Rattle.weave_core.specs.WriteEvents.{RaisesBit, RaisesWord}

@@ -11,13 +11,13 @@ use Rattle.mon_topo.specs.Serving.{first_serving}
 use Rattle.query_core.specs.declared.asks.Ask.{Ask}
 use Rattle.query_core.specs.declared.asks.Ask.TheVariants as ask
 use Rattle.query_core.specs.declared.asks.Told.{Told}
-use Rattle.weave_core.proofs.MeetingLemmas.{range_met}
+use Rattle.core_theory.proofs.MeetingLemmas.{range_met}
 use Rattle.weave_core.proofs.QuerySeats.{resolved_same, same_world, shared_range}
 use Rattle.weave_core.proofs.SeatLemmas.{parts_alike}
 use Rattle.weave_core.specs.Agreements.{IsRangeSo}
-use Rattle.weave_core.specs.Core.{Core, IsTold, Reader, query_now}
-use Rattle.weave_core.specs.Holders.{HoldsRange}
-use Rattle.weave_core.specs.Meetings.{sight_at_range}
+use Rattle.core_theory.specs.Core.{Core, IsTold, Reader, query_now}
+use Rattle.core_theory.specs.Holders.{HoldsRange}
+use Rattle.core_theory.specs.Meetings.{sight_at_range}
 use Rattle.weave_core.specs.QueryLooks.{FindsReplica, FindsAt, IsHeldFrom, IsSeatedForRange, slot_told}
 use Rattle.weave_core.specs.QueryTurns.{AnswersSo, IsAnswered, IsAsking, QueryWaits}
 use Rattle.mon_topo.specs.Sights.{AreAlike, range_sight, sight_of}

@@ -1,28 +1,32 @@
 -- Lines of a schedule keep the core woven, and each of its queries is asked of the store.
-use Rattle.std.proofs.Common.{◌≡◌, ◌≤ℤ◌, ◌⊎◌, inl, inr, ℕ, ℤ, zero, suc, pos, List, [], ◌∷◌, Option, Some, None}
+use Rattle.std.proofs.Common.{Bool, true, false, ◌≡◌, ◌≤ℤ◌, ◌⊎◌, inl, inr, ℕ, ℤ, zero, suc, pos, List, [], ◌∷◌, Option, Some, None}
 use Rattle.std.proofs.Common.{Result, Ok, Err, refl, sym, subst, ◌∙◌}
 use Rattle.mon_config.specs.declared.config.Config.{Config}
 use Rattle.mon_config.specs.KeyRanges.{range_of_key}
 use Rattle.mon_topo.specs.Settings.{Setting}
+use Rattle.mon_value.specs.declared.positions.Leaf.{Leaf}
 use Rattle.mon_value.specs.declared.positions.Range.{Range}
 use Rattle.mon_value.specs.declared.rows.Row.{Row}
 use Rattle.mql_types.specs.Nodes.{TypedTree}
 use Rattle.query_core.specs.Askings.{IsAskedOf}
 use Rattle.query_core.specs.Machine.{new_query}
 use Rattle.query_core.specs.Settings.{QuerySetting}
+use Rattle.query_core.specs.declared.asks.Ask.{Ask}
+use Rattle.query_core.specs.declared.asks.Ask.TheVariants as ask
 use Rattle.query_texts.specs.TextTypes.{text_type}
 use Rattle.query_texts.specs.declared.faults.TextFault.{TextFault}
-use Rattle.weave_core.proofs.CoreLemmas.{new_woven, stays_woven}
-use Rattle.weave_core.specs.Core.{CanCome, CoreEvent, Happens, Hears, Reader, Tells, begun_with, came, told_on}
-use Rattle.weave_core.specs.Core.{view_told}
+use Rattle.core_theory.proofs.CoreLemmas.{new_woven, stays_woven}
+use Rattle.core_theory.specs.Core.{CanCome, CoreEvent, Happens, Hears, Reader, Tells, asked_now, begun_with, came}
+use Rattle.core_theory.specs.Core.{told_on, view_told, world_then}
 use Rattle.weave_core.specs.Declarations.{Declares, QueryBegins, WriteBegins, hearing, new_reader}
 use Rattle.weave_core.specs.Declarations.{with_reader}
 use Rattle.weave_core.specs.EndTexts.{no_plan_line, no_zone_line}
 use Rattle.weave_core.specs.LawfulLines.{IsLawfulCall, IsLawfulForm}
-use Rattle.weave_core.specs.Licensed.{IsReader, IsWoven}
+use Rattle.core_theory.specs.Licensed.{IsReader, IsWoven}
 use Rattle.weave_core.specs.Reached.{LinesLead}
 use Rattle.weave_core.specs.Schedules.{Does, EndsBy, ActorGoesOn, IsFirstState, Rests, StopsBeforeEvent, Went}
-use Rattle.weave_core.specs.States.{Asking, Dismissed, Eventless, Role, State, Undeclared, Writing, actor_at, store_of}
+use Rattle.weave_core.specs.States.{Asking, Dismissed, Eventless, Role, State, Switching, Undeclared, Writing}
+use Rattle.weave_core.specs.States.{actor_at, store_of}
 use Rattle.weave_core.specs.Steps.{StepsIn, with_event, with_role}
 use Rattle.weave_core.specs.declared.calls.Call.{Call}
 use Rattle.weave_core.specs.declared.calls.Call.TheVariants as call
@@ -32,8 +36,9 @@ use Rattle.weave_core.specs.declared.events.Event.{Event}
 use Rattle.weave_core.specs.declared.lines.LineForm.{LineForm}
 use Rattle.weave_core.specs.declared.lines.LineForm.TheVariants as form
 use Rattle.write_core.proofs.KeepsLemmas.{changed_by}
-use Rattle.write_core.specs.Events.{Begins, Goes}
-use Rattle.write_core.specs.Invariant.{IsActor}
+use Rattle.write_core.specs.Events.{Begins, CanRun, Event as WorldEvent, Goes, Switches, after_events}
+use Rattle.write_core.specs.Invariant.{IsActor, IsNewWorld}
+use Rattle.write_core.specs.Noted.{AreNoted}
 use Rattle.mon_topo.specs.Views.{View, joined_view}
 use Rattle.write_core.specs.World.{Actor, IsPart, Recovers, Stands, World, Writes, view_of}
 
@@ -55,7 +60,19 @@ fresh_reader store world setting moment view part = record {
   now = refl;
 }
 
-module _ (config : Config) where
+-- a query's event leaves the writes and what they noted as they were
+told_noted : (store : Setting) (setting : QuerySetting) (moment : ℤ) (world : World) (view : View) (asks : Ask)
+    → AreNoted world → AreNoted (world_then store setting moment world view asks)
+told_noted store setting moment world view (ask.LoadRoot bucket) h = h
+told_noted store setting moment world view (ask.LoadZone zone bucket) h = h
+told_noted store setting moment world view (ask.Resolve range) h = h
+told_noted store setting moment world view (ask.Visit leaf) h = h
+told_noted store setting moment world view ask.Finished h = h
+
+-- by the law that whatever is said of leaves that were down was noted
+module _ (config : Config)
+    (law : (world : World) (events : List WorldEvent) → CanRun (store_of config) world events → AreNoted world
+    → AreNoted (after_events (store_of config) world events)) where
   abbrev Store' : Setting
   Store' = store_of config
 
@@ -71,6 +88,7 @@ module _ (config : Config) where
   pub record Holds (state : State') : Type 0 where
     pub woven : IsWoven Store' state.core
     pub asked : (k : ℕ) → state.roles k ≡ Asking → IsAsked (state.core.readers k)
+    pub noted : AreNoted state.core.world
 
   -- ---- events
 
@@ -91,11 +109,20 @@ module _ (config : Config) where
       (λ is. let h = all i is in record { first = h.first; asked = h.asked; moment = h.moment })
       (λ k apart. all k)
 
+  noted_then : (state : State') (event : CoreEvent Store') → CanCome Store' state.core event
+      → AreNoted state.core.world → AreNoted (came Store' state.core event).world
+  noted_then state (Happens event) can h = law state.core.world (event ∷ []) (can, tt) h
+  noted_then state (Tells i answer stage) can h =
+      told_noted Store' (state.core.readers i).setting (state.core.readers i).moment state.core.world
+      (state.core.readers i).view (asked_now Store' (state.core.readers i)) h
+  noted_then state (Hears i view) can h = h
+
   event_holds : (state : State') (event : CoreEvent Store') → CanCome Store' state.core event → Holds state
       → Holds (with_event Store' state event)
   event_holds state event can h = record {
     woven = stays_woven Store' state.core (event ∷ []) (can, tt) h.woven;
     asked = asked_then state event h.asked;
+    noted = noted_then state event can h.noted;
   }
 
   -- ---- roles
@@ -106,6 +133,7 @@ module _ (config : Config) where
     woven = h.woven;
     asked = changed_by state.roles k role (λ (j : ℕ) (r : Role). r ≡ Asking → IsAsked (state.core.readers j))
         (λ is. absurd (other is)) (λ j apart. h.asked j);
+    noted = h.noted;
   }
 
   eventless : (text : List ℕ) → Eventless text ≡ Asking → ⊥
@@ -113,6 +141,9 @@ module _ (config : Config) where
 
   dismissed : Dismissed ≡ Asking → ⊥
   dismissed e = cc
+
+  switching : (leaf : Leaf) (down : Bool) → Switching leaf down ≡ Asking → ⊥
+  switching leaf down e = cc
 
   writing : Writing ≡ Asking → ⊥
   writing e = cc
@@ -136,6 +167,7 @@ module _ (config : Config) where
             (λ (i : ℕ) (one : Reader Store'). (state.roles i ≡ Asking ⊎ i ≡ k) → IsAsked one)
             (λ either. record { first = refl; asked = asked; moment = from })
             (λ i apart either. still i apart either) j (was j is);
+        noted = h.noted;
       }
     where
       still : (i : ℕ) → (i ≡ k → ⊥) → (state.roles i ≡ Asking ⊎ i ≡ k) → IsAsked (state.core.readers i)
@@ -156,6 +188,11 @@ module _ (config : Config) where
   steps_in Undeclared state k how after steps h = absurd steps
   steps_in (Eventless text) state k how after steps h = subst Holds (sym steps.1)
       (role_holds state k Dismissed dismissed h)
+  steps_in (Switching leaf down) state k how after (inl waits) h = subst Holds (sym waits.same) h
+  steps_in (Switching leaf down) state k how after (inr goes) h =
+      subst Holds (sym goes.becomes)
+      (role_holds (with_event Store' state (Happens (Switches k leaf down goes.answer))) k Dismissed dismissed
+      (event_holds state (Happens (Switches k leaf down goes.answer)) goes.can h))
   steps_in Dismissed state k how after steps h = absurd steps
   steps_in Writing state k how after (inl waits) h = subst Holds (sym waits.same) h
   steps_in Writing state k how after (inr goes) h =
@@ -207,14 +244,18 @@ module _ (config : Config) where
   query_holds state k moment (Ok typed) after from (setting, asked, same) h =
       subst Holds (sym same) (reader_holds state k setting moment asked.asked from h)
 
-  declare_holds : (state : State') (k : ℕ) (what : Call) (after : State') → IsLawfulCall config.schemas what
+  declare_holds : (state : State') (k : ℕ) (what : Call) (after : State') → IsLawfulCall config.schemas config.topology what
       → Declares config state k what after → Holds state → Holds after
   declare_holds state k (call.Write row) after lawful declares h =
       write_holds state k row (range_of_key config row.key) after declares h
   declare_holds state k (call.Query moment text) after lawful declares h =
       query_holds state k moment (text_type config.schemas text) after lawful declares h
+  declare_holds state k (call.Down leaf) after lawful declares h =
+      subst Holds (sym declares) (role_holds state k (Switching leaf true) (switching leaf true) h)
+  declare_holds state k (call.Up leaf) after lawful declares h =
+      subst Holds (sym declares) (role_holds state k (Switching leaf false) (switching leaf false) h)
 
-  does_hold : (state : State') (what : LineForm) (said : List ℕ) (after : State') → IsLawfulForm config.schemas what
+  does_hold : (state : State') (what : LineForm) (said : List ℕ) (after : State') → IsLawfulForm config.schemas config.topology what
       → Does config state what said after → Holds state → Holds after
   does_hold state (form.Declare k what) said after lawful does h = declare_holds state k what after lawful.1 does.1 h
   does_hold state (form.Meet k j) said after lawful does h =
@@ -230,9 +271,10 @@ module _ (config : Config) where
       leads_hold lines mid to leads (does_hold from what by.said mid by.lawful by.does h)
 
   -- what holds wherever lines lead to
-  pub reached : (first state : State') (lines : List LineForm) → IsFirstState config first
-      → LinesLead config first lines state → Holds state
-  reached first state lines is_first leads = leads_hold lines first state leads (record {
+  pub reached : ((world : World) → IsNewWorld Store' world → AreNoted world) → (first state : State')
+      (lines : List LineForm) → IsFirstState config first → LinesLead config first lines state → Holds state
+  reached begins first state lines is_first leads = leads_hold lines first state leads (record {
     woven = new_woven Store' first.core is_first.new;
     asked = λ k is. let no : Undeclared ≡ Asking = sym (is_first.roles k) ∙ is in absurd cc;
+    noted = begins first.core.world is_first.new.world;
   })

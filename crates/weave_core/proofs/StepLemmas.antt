@@ -1,22 +1,23 @@
 -- What a step leaves: the core stays woven, its holders stay true, and all other actors stay as they were.
-use Rattle.std.proofs.Common.{◌≡◌, ◌≢◌, ℕ, ℤ, List, [], ◌∷◌, refl, sym, subst, inl, inr}
+use Rattle.std.proofs.Common.{◌≡◌, ◌≢◌, ℕ, ℤ, Bool, List, [], ◌∷◌, refl, sym, subst, inl, inr}
 use Rattle.mon_topo.specs.Settings.{Setting}
+use Rattle.mon_value.specs.declared.positions.Leaf.{Leaf}
 use Rattle.query_core.specs.Settings.{QuerySetting}
 use Rattle.query_core.specs.declared.asks.Ask.{Ask}
 use Rattle.query_core.specs.declared.asks.Ask.TheVariants as ask
 use Rattle.query_core.specs.declared.asks.Told.{Told}
 use Rattle.query_core.specs.declared.stages.Stage.{Stage as QueryStage}
-use Rattle.weave_core.proofs.CoreLemmas.{stays_woven}
-use Rattle.weave_core.proofs.HolderLemmas.{step_held}
+use Rattle.core_theory.proofs.CoreLemmas.{stays_woven}
+use Rattle.core_theory.proofs.HolderLemmas.{step_held, switch_held}
 use Rattle.weave_core.proofs.QueryStepLemmas.{actors_stay}
-use Rattle.weave_core.specs.Core.{CanCome, Happens, Tells, asked_now, world_then}
-use Rattle.weave_core.specs.Holders.{AreHolders}
-use Rattle.weave_core.specs.Licensed.{IsWoven}
-use Rattle.weave_core.specs.States.{Asking, Dismissed, Eventless, Role, State, Undeclared, Writing}
+use Rattle.core_theory.specs.Core.{CanCome, Happens, Tells, asked_now, world_then}
+use Rattle.core_theory.specs.Holders.{AreHolders}
+use Rattle.core_theory.specs.Licensed.{IsWoven}
+use Rattle.weave_core.specs.States.{Asking, Dismissed, Eventless, Role, State, Switching, Undeclared, Writing}
 use Rattle.weave_core.specs.Steps.{Steps, StepsIn, with_event, with_role}
 use Rattle.weave_core.specs.declared.calls.Stepped.{Stepped}
 use Rattle.write_core.proofs.KeepsLemmas.{changed_other}
-use Rattle.write_core.specs.Events.{Goes}
+use Rattle.write_core.specs.Events.{Goes, SwitchTold, Switches, switched}
 use Rattle.write_core.specs.Program.{Acking, Ended, Entering, Inside, Locking, Reserving, Stage, after}
 use Rattle.write_core.specs.Steps.{CanGo, after_entering, gone_on_inside, after_reserving, step, step_at, after_answer}
 use Rattle.mon_topo.specs.Views.{View}
@@ -62,6 +63,13 @@ module _ (setting : Setting) (world : World) (i j : ℕ) (apart : j ≢ i) where
 
   pub step_others : (answer : WriteTold) → (step setting world i answer).actors j ≡ world.actors j
   step_others answer = by_actor (world.actors i) answer
+
+-- a switch leaves the others as they were
+switch_others : (world : World) (i j : ℕ) → j ≢ i → (actor : Actor) (leaf : Leaf) (down : Bool) (answer : SwitchTold)
+    → (switched world i actor leaf down answer).actors j ≡ world.actors j
+switch_others world i j apart (Writes writer) leaf down answer = refl
+switch_others world i j apart (Recovers recovery) leaf down answer = refl
+switch_others world i j apart (Stands stander) leaf down answer = changed_other world.actors i j _ apart
 
 -- ---- holders beside a query
 
@@ -127,6 +135,19 @@ module _ (store : Setting) (state : State store) (i : ℕ) where
         write_held (Stands stander) is =
             absurd (subst (λ (one : Actor). CanGo store state.core.world one answer) is can)
 
+    switched_left : (leaf : Leaf) (down : Bool) (answer : SwitchTold)
+        → CanCome store state.core (Happens (Switches i leaf down answer))
+        → Leaves (with_role store (with_event store state (Happens (Switches i leaf down answer))) i Dismissed)
+    switched_left leaf down answer can = record {
+      woven = stays_woven store state.core (Happens (Switches i leaf down answer) ∷ []) (can, tt) woven;
+      holders = switch_held state.core.world i leaf down answer h;
+      others = record {
+        actor = λ j apart. switch_others state.core.world i j apart (state.core.world.actors i) leaf down answer;
+        reader = λ j apart. refl;
+        role = λ j apart. changed_other state.roles i j Dismissed apart;
+      };
+    }
+
     queried_left : (answer : Told) (stage : QueryStage) → CanCome store state.core (Tells i answer stage)
         → Leaves (with_event store state (Tells i answer stage))
     queried_left answer stage can =
@@ -146,6 +167,10 @@ module _ (store : Setting) (state : State store) (i : ℕ) where
     left_by : (role : Role) (how : Stepped) (left : State store) → StepsIn store role state i how left → Leaves left
     left_by Undeclared how left s = absurd s
     left_by (Eventless text) how left s = subst Leaves (sym s.1) dismissed_left
+    left_by (Switching leaf down) how left s = elim s [
+      | inl waits ↦ subst Leaves (sym waits.same) same_left
+      | inr goes ↦ subst Leaves (sym goes.becomes) (switched_left leaf down goes.answer goes.can)
+    ]
     left_by Dismissed how left s = absurd s
     left_by Writing how left s = elim s [
       | inl waits ↦ subst Leaves (sym waits.same) same_left

@@ -11,11 +11,13 @@ use Rattle.query_core.specs.Settings.{QuerySetting}
 use Rattle.query_core.specs.declared.stages.Stage.{Stage}
 use Rattle.query_core.specs.declared.stages.Stage.TheVariants as query
 use Rattle.weave_core.specs.ActorAgreements.{Agrees}
-use Rattle.weave_core.specs.Core.{query_now}
+use Rattle.core_theory.specs.Core.{query_now}
+use Rattle.weave_core.specs.EndTexts.{switch_text}
 use Rattle.weave_core.specs.EventNames.{event_of_query, event_of_write}
 use Rattle.weave_core.specs.ScheduleTurns.{GoesSo, HasGone}
 use Rattle.weave_core.specs.Schedules.{IsNextEvent, Went}
-use Rattle.weave_core.specs.States.{Asking, Dismissed, Eventless, Role, State, Undeclared, Writing, role_fault, next_in}
+use Rattle.weave_core.specs.States.{Asking, Dismissed, Eventless, Role, State, Switching, Undeclared, Writing}
+use Rattle.weave_core.specs.States.{role_fault, next_in}
 use Rattle.weave_core.specs.States.{step_fault, store_of, write_asks}
 use Rattle.weave_core.specs.Steps.{Steps, StepsIn, query_stepped, write_stepped, writer_stepped}
 use Rattle.weave_core.specs.WeaveCalls as call
@@ -82,6 +84,7 @@ module _ (store : Setting) (k : ℕ) where
       → role_fault store after k role ≡ None
   went_in Undeclared state after steps = absurd steps
   went_in (Eventless text) state after steps = refl
+  went_in (Switching leaf down) state after steps = refl
   went_in Dismissed state after steps = absurd steps
   went_in Writing state after (inl waits) = let no : stepped.Went ≡ stepped.Waits = waits.waits in absurd cc
   went_in Writing state after (inr goes) =
@@ -96,6 +99,9 @@ module _ (store : Setting) (k : ℕ) where
       ≡ state.roles k
   same_role Undeclared state after steps = absurd steps
   same_role (Eventless text) state after steps = let no : stepped.Went ≡ stepped.Ended text = steps.0 in absurd cc
+  same_role (Switching leaf down) state after (inl waits) = ap (λ (s : State store). s.roles k) waits.same
+  same_role (Switching leaf down) state after (inr goes) =
+      let no : stepped.Went ≡ stepped.Ended (switch_text store.zones leaf down goes.answer) = goes.went in absurd cc
   same_role Dismissed state after steps = absurd steps
   same_role Writing state after (inl waits) = ap (λ (s : State store). s.roles k) waits.same
   same_role Writing state after (inr goes) = ap (λ (s : State store). s.roles k) goes.becomes
@@ -112,6 +118,7 @@ module _ (store : Setting) (k : ℕ) where
       → role_fault store state k role ≡ None
   next_free_in Undeclared state event e = absurd cc
   next_free_in (Eventless text) state event e = refl
+  next_free_in (Switching leaf down) state event e = refl
   next_free_in Dismissed state event e = absurd cc
   next_free_in Writing state event e = no_fault (is_some (next_in store state k Writing)) (ap is_some e)
   next_free_in Asking state event e = no_fault (is_some (next_in store state k Asking)) (ap is_some e)

@@ -8,7 +8,7 @@ use Rattle.mon_config.specs.declared.config.Config.{Config}
 use Rattle.weave_core.proofs.StepLemmas.{steps_leave}
 use Rattle.weave_core.specs.ActorAgreements.{Agrees, IsActorSo, actor_numbered, flat}
 use Rattle.weave_core.specs.ActorSteps.{HasStepped, IsIn}
-use Rattle.weave_core.specs.Core.{Reader}
+use Rattle.core_theory.specs.Core.{Reader}
 use Rattle.weave_core.specs.States.{Role, State, store_of}
 use Rattle.weave_core.specs.declared.actors.Actor.{Actor}
 use Rattle.weave_core.specs.declared.calls.Stepped.{Stepped}

@@ -6,7 +6,7 @@ use Rattle.std.specs.Vec.{with_items}
 use Rattle.mon_config.specs.declared.config.Config.{Config}
 use Rattle.mon_value.specs.declared.refusals.Refusal.{Refusal}
 use Rattle.mon_value.specs.declared.refusals.Refusal.TheVariants as refusal
-use Rattle.weave_core.proofs.CourseLemmas.{here, no_actor}
+use Rattle.weave_core.proofs.TaskLemmas.{here, no_actor}
 use Rattle.weave_core.proofs.WeaveLemmas.{is_in, numbered_there, stepped_agrees}
 use Rattle.weave_core.specs.ActorAgreements.{Agrees, AreActors, actor_numbered}
 use Rattle.weave_core.specs.ActorSteps.{ActorSteps, HadEnded, HasStepped, IsIn, IsSomewhere}

@@ -17,9 +17,9 @@ use Rattle.query_core.specs.declared.asks.Ask.{Ask}
 use Rattle.query_core.specs.declared.asks.Ask.TheVariants as ask
 use Rattle.query_core.specs.declared.stages.Stage.{Stage}
 use Rattle.query_core.specs.declared.stages.Stage.TheVariants as at
-use Rattle.weave_core.proofs.PlaceLemmas.{zone_word_there}
+use Rattle.weave_core.proofs.PlaceLemmas.{root_there, zone_word_there}
 use Rattle.plan_split.proofs.PlanBuckets.{next_below}
-use Rattle.weave_core.specs.Core.{Core}
+use Rattle.core_theory.specs.Core.{Core}
 use Rattle.weave_core.specs.HintWords.{HasWord, hint_word_at}
 use Rattle.weave_core.specs.QueryLooks.{word_told}
 use Rattle.weave_core.specs.QueryTurns.{IsAnswered, IsAsking}
@@ -77,6 +77,9 @@ module _ (config : Config) (core : Core (store_of config)) (k : ℕ) (store : St
     root_bucket : bucket < config.buckets
     root_bucket =
         root_below asked config.buckets asking.shared.served.limited.some next_bucket querying.machine.stage bucket e
+
+    pub root_word_there : HasWord store.words word.Root bucket
+    root_word_there = root_there config world store.words asking.shared.words bucket root_bucket
 
     pub root_answered : IsAnswered config core k store sight
         (word_told (hint_word_at store.words word.Root bucket) sight)

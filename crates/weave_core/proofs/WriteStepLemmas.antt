@@ -6,18 +6,19 @@ use Rattle.mon_config.specs.declared.config.Config.{Config}
 use Rattle.mon_topo.specs.Settings.{Setting}
 use Rattle.mon_topo.specs.declared.zones.ZoneSpec.{ZoneSpec}
 use Rattle.mon_value.specs.declared.positions.Range.{Range}
-use Rattle.weave_core.specs.ActorAgreements.{IsActorSo, IsCourseSo, IsWriting}
+use Rattle.weave_core.specs.ActorAgreements.{IsActorSo, IsTaskSo, IsWriting}
 use Rattle.weave_core.specs.ActorSteps.{ActorSteps, IsIn, WrittenSo}
-use Rattle.weave_core.specs.Core.{Happens}
+use Rattle.core_theory.specs.Core.{Happens}
 use Rattle.weave_core.specs.EndTexts.{write_end_text}
 use Rattle.weave_core.specs.EventNames.{event_of_write}
-use Rattle.weave_core.specs.States.{Asking, Dismissed, Eventless, Role, State, Undeclared, Writing, role_fault}
+use Rattle.weave_core.specs.States.{Asking, Dismissed, Eventless, Role, State, Switching, Undeclared, Writing}
+use Rattle.weave_core.specs.States.{role_fault}
 use Rattle.weave_core.specs.States.{holder_in, is_past_lock, step_fault, store_of, write_asks, writes_begun}
 use Rattle.weave_core.specs.Steps.{StepsIn, with_event, write_stepped, writer_stepped}
 use Rattle.weave_core.specs.WriteTurns.{IsAtWork, WritesSo}
 use Rattle.weave_core.specs.Writers.{writer_of}
 use Rattle.weave_core.specs.declared.actors.Actor.{Actor}
-use Rattle.weave_core.specs.declared.actors.Course.TheVariants as course
+use Rattle.weave_core.specs.declared.actors.Task.TheVariants as task
 use Rattle.weave_core.specs.declared.calls.Stepped.{Stepped}
 use Rattle.weave_core.specs.declared.calls.Stepped.TheVariants as stepped
 use Rattle.weave_core.specs.declared.calls.WeaveFault.TheVariants as fault
@@ -123,14 +124,15 @@ has_event ask.Finished going = absurd (going refl)
 
 module _ (config : Config) (state : State (store_of config)) (i : ℕ) (store : Store) (writing : Write) (sight : Sight)
     (begun : Bool)
-    (here : IsIn config state i store (record { course = course.Writes writing; sight = sight; begun = begun })) where
+    (here : IsIn config state i store (record { task = task.Writes writing; sight = sight; begun = begun })) where
   abbrev doer : Doer
   doer = state.core.world.actors i
 
-  writing_by : (role : Role) → IsCourseSo config i doer (state.core.readers i) role (course.Writes writing) begun sight
+  writing_by : (role : Role) → IsTaskSo config i doer (state.core.readers i) role (task.Writes writing) begun sight
       → role ≡ Writing
   writing_by Undeclared h = absurd h
   writing_by (Eventless text) h = absurd h
+  writing_by (Switching leaf down) h = absurd h
   writing_by Dismissed h = absurd h
   writing_by Writing h = refl
   writing_by Asking h = absurd h
@@ -139,7 +141,7 @@ module _ (config : Config) (state : State (store_of config)) (i : ℕ) (store : 
   role_is = writing_by (state.roles i) here.actor
 
   pub writes : IsWriting config i doer (state.core.readers i) writing begun sight
-  writes = subst (λ (role : Role). IsCourseSo config i doer (state.core.readers i) role (course.Writes writing) begun
+  writes = subst (λ (role : Role). IsTaskSo config i doer (state.core.readers i) role (task.Writes writing) begun
       sight)
       role_is here.actor
 
@@ -160,7 +162,7 @@ module _ (config : Config) (state : State (store_of config)) (i : ℕ) (store : 
       ∙ has_event (ask_of writing.machine.stage) writes.goes_on)
 
   abbrev before : Actor
-  before = record { course = course.Writes writing; sight = sight; begun = begun }
+  before = record { task = task.Writes writing; sight = sight; begun = begun }
 
   -- its event came
   module _ (answer : WriteTold) where
@@ -174,7 +176,7 @@ module _ (config : Config) (state : State (store_of config)) (i : ℕ) (store : 
       (how : Option Stepped)
       → zones ≡ config.topology → WritesSo config state.core.world i writing new sight now turn
       → WrittenSo zones turn now begun own how
-      → ActorSteps config state i new (record { course = course.Writes writing; sight = sight; begun = begun }) own how
+      → ActorSteps config state i new (record { task = task.Writes writing; sight = sight; begun = begun }) own how
   write_steps zones new now (turn.Went next) own how same went h =
       subst (λ (o : Option Stepped). ActorSteps config state i new before own o) (sym h.1) (record {
         fault = no_fault;
@@ -193,8 +195,8 @@ module _ (config : Config) (state : State (store_of config)) (i : ℕ) (store : 
         actor = subst (λ (one : Actor). IsActorSo config i (doer_then went.answer) (state.core.readers i)
             (state.roles i) (Some one))
             (sym h.0)
-            (subst (λ (role : Role). IsCourseSo config i (doer_then went.answer) (state.core.readers i) role
-            (course.Writes next)
+            (subst (λ (role : Role). IsTaskSo config i (doer_then went.answer) (state.core.readers i) role
+            (task.Writes next)
             true now) (sym role_is) (record {
               writer = went.writer;
               goes_on = went.goes_on;
@@ -219,7 +221,7 @@ module _ (config : Config) (state : State (store_of config)) (i : ℕ) (store : 
             }));
         shared = waits.shared;
         actor = subst (λ (one : Actor). IsActorSo config i doer (state.core.readers i) (state.roles i) (Some one))
-            (sym (h.0 ∙ (λ k. record { course = course.Writes (waits.writer k); sight = waits.seen k; begun = begun })))
+            (sym (h.0 ∙ (λ k. record { task = task.Writes (waits.writer k); sight = waits.seen k; begun = begun })))
             here.actor;
       })
   write_steps zones new now (turn.Ended range last) own how same ended h =
@@ -241,8 +243,8 @@ module _ (config : Config) (state : State (store_of config)) (i : ℕ) (store : 
         actor = subst (λ (one : Actor). IsActorSo config i (doer_then ended.answer) (state.core.readers i)
             (state.roles i) (Some one))
             (sym h.0)
-            (subst (λ (role : Role). IsCourseSo config i (doer_then ended.answer) (state.core.readers i) role
-            course.Ended true now)
+            (subst (λ (role : Role). IsTaskSo config i (doer_then ended.answer) (state.core.readers i) role
+            task.Ended true now)
             (sym role_is) (record {
               ended = ap write_asks ended.writer;
               begun_is = ap writes_begun ended.writer;

@@ -7,7 +7,7 @@ use Rattle.mon_value.specs.declared.rows.Row.{Row}
 use Rattle.weave_core.proofs.AtWorkLemmas.{looks_after}
 use Rattle.weave_core.specs.Writers.{IsWriterSo, LooksAtOne, RaisesBelow, writer_of}
 use Rattle.weave_core.specs.Agreements.{AreShared}
-use Rattle.weave_core.specs.Holders.{HoldsLeaf, HoldsRange, leaf_inside}
+use Rattle.core_theory.specs.Holders.{HoldsLeaf, HoldsRange, leaf_inside}
 use Rattle.mon_topo.specs.Sights.{sight_of}
 use Rattle.weave_core.specs.States.{holder_for_actor, store_of}
 use Rattle.weave_core.specs.WriteEvents.{IsToldSo}

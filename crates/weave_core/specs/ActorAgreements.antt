@@ -1,30 +1,33 @@
 -- What is kept of actors: how far each of them is in the core, and how far it has seen histories.
-use Rattle.std.specs.Prelude.{ℕ, ◌+◌, pos, ◌≡◌, ◌≢◌, ◌≤ℤ◌, Bool, true, false, List, length, slice_get, Option, Some}
+use Rattle.std.specs.Prelude.{ℕ, ◌+◌, pos, ◌≡◌, ◌≢◌, ◌<◌, ◌≤ℤ◌, Bool, true, false, List, length, slice_get, Option, Some}
 use Rattle.std.specs.Prelude.{None}
 use Rattle.mon_config.specs.declared.config.Config.{Config}
 use Rattle.mon_topo.specs.SeenHistories.{AreWithin}
 use Rattle.mon_topo.specs.Settings.{Setting}
+use Rattle.mon_topo.specs.Zones.{leaves_in}
+use Rattle.mon_value.specs.declared.positions.Leaf.{Leaf}
 use Rattle.query_core.specs.Askings.{IsAskedOf}
 use Rattle.query_core.specs.Machine.{new_query}
 use Rattle.query_core.specs.Program as query
 use Rattle.query_core.specs.declared.asks.Ask.TheVariants as query_ask
 use Rattle.weave_core.specs.Agreements.{AreShared, first_view}
-use Rattle.weave_core.specs.Core.{Reader, asked_now, query_now}
+use Rattle.core_theory.specs.Core.{Reader, asked_now, query_now}
 use Rattle.mon_topo.specs.FirstHistories.{first_histories}
-use Rattle.weave_core.specs.Holders.{AreHolders}
-use Rattle.weave_core.specs.Licensed.{IsWoven}
+use Rattle.core_theory.specs.Holders.{AreHolders}
+use Rattle.core_theory.specs.Licensed.{IsWoven}
 use Rattle.weave_core.specs.PlannedQueries.{IsPlanned}
 use Rattle.mon_topo.specs.Sights.{sight_of}
 use Rattle.mon_value.specs.Parts.{is_any}
-use Rattle.weave_core.specs.States.{Asking, Dismissed, Eventless, Role, State, Undeclared, Writing, store_of}
-use Rattle.weave_core.specs.States.{write_asks, writes_begun}
+use Rattle.weave_core.specs.States.{Asking, Dismissed, Eventless, Role, State, Switching, Undeclared, Writing}
+use Rattle.weave_core.specs.States.{store_of, write_asks, writes_begun}
 use Rattle.weave_core.specs.Writers.{IsWriterSo}
 use Rattle.weave_core.specs.declared.actors.Actor.{Actor}
-use Rattle.weave_core.specs.declared.actors.Course.{Course}
-use Rattle.weave_core.specs.declared.actors.Course.TheVariants as course
+use Rattle.weave_core.specs.declared.actors.Task.{Task}
+use Rattle.weave_core.specs.declared.actors.Task.TheVariants as task
 use Rattle.weave_core.specs.declared.limits.TheConstants.{LAST_ACTOR}
 use Rattle.weave_core.specs.declared.queries.Querying.{Querying}
 use Rattle.mon_topo.specs.declared.sights.Sight.{Sight}
+use Rattle.weave_core.specs.declared.switches.Switching.{Switching as Switch}
 use Rattle.weave_core.specs.declared.weave.Weave.{Weave}
 use Rattle.weave_core.specs.declared.writes.Writing.{Writing as Write}
 use Rattle.write_core.specs.Program as write
@@ -62,9 +65,17 @@ module _ (config : Config) (i : ℕ) (doer : Doer) (reader : Reader (store_of co
     pub begun_is : begun ≡ false
     pub seen : sight ≡ sight_of (view_of doer).seen
 
-  -- which it has done
+  -- it has done so, or has switched its leaf
   pub record IsDismissed (sight : Sight) : Type 0 where
     pub stands : HasWrittenNothing
+    pub seen : sight ≡ sight_of (view_of doer).seen
+
+  -- it is to switch a leaf, and has not begun
+  pub record IsSwitching (leaf : Leaf) (down : Bool) (switching : Switch) (begun : Bool) (sight : Sight) : Type 0 where
+    pub switch_is : switching ≡ record { number = i; leaf = leaf; down = down }
+    pub there : leaf.0 < length (leaves_in config.topology)
+    pub stands : HasWrittenNothing
+    pub begun_is : begun ≡ false
     pub seen : sight ≡ sight_of (view_of doer).seen
 
   -- it writes
@@ -95,32 +106,42 @@ module _ (config : Config) (i : ℕ) (doer : Doer) (reader : Reader (store_of co
     pub seen : sight ≡ sight_of reader.view.seen
 
   -- an actor of this role is so far, and has seen so much
-  abbrev pub IsCourseSo : Role → Course → Bool → Sight → Type 0
-  IsCourseSo Undeclared course begun sight = ⊥
-  IsCourseSo (Eventless text) (course.Refused own) begun sight = IsWithoutEvent text own begun sight
-  IsCourseSo (Eventless text) (course.Writes writing) begun sight = ⊥
-  IsCourseSo (Eventless text) (course.Queries querying) begun sight = ⊥
-  IsCourseSo (Eventless text) course.Ended begun sight = ⊥
-  IsCourseSo Dismissed (course.Refused own) begun sight = ⊥
-  IsCourseSo Dismissed (course.Writes writing) begun sight = ⊥
-  IsCourseSo Dismissed (course.Queries querying) begun sight = ⊥
-  IsCourseSo Dismissed course.Ended begun sight = IsDismissed sight
-  IsCourseSo Writing (course.Refused own) begun sight = ⊥
-  IsCourseSo Writing (course.Writes writing) begun sight = IsWriting writing begun sight
-  IsCourseSo Writing (course.Queries querying) begun sight = ⊥
-  IsCourseSo Writing course.Ended begun sight = HasWritten sight
-  IsCourseSo Asking (course.Refused own) begun sight = ⊥
-  IsCourseSo Asking (course.Writes writing) begun sight = ⊥
-  IsCourseSo Asking (course.Queries querying) begun sight = IsQuerying querying begun sight
-  IsCourseSo Asking course.Ended begun sight = HasQueried sight
+  abbrev pub IsTaskSo : Role → Task → Bool → Sight → Type 0
+  IsTaskSo Undeclared task begun sight = ⊥
+  IsTaskSo (Eventless text) (task.Refused own) begun sight = IsWithoutEvent text own begun sight
+  IsTaskSo (Eventless text) (task.Switches switching) begun sight = ⊥
+  IsTaskSo (Eventless text) (task.Writes writing) begun sight = ⊥
+  IsTaskSo (Eventless text) (task.Queries querying) begun sight = ⊥
+  IsTaskSo (Eventless text) task.Ended begun sight = ⊥
+  IsTaskSo (Switching leaf down) (task.Refused own) begun sight = ⊥
+  IsTaskSo (Switching leaf down) (task.Switches switching) begun sight = IsSwitching leaf down switching begun sight
+  IsTaskSo (Switching leaf down) (task.Writes writing) begun sight = ⊥
+  IsTaskSo (Switching leaf down) (task.Queries querying) begun sight = ⊥
+  IsTaskSo (Switching leaf down) task.Ended begun sight = ⊥
+  IsTaskSo Dismissed (task.Refused own) begun sight = ⊥
+  IsTaskSo Dismissed (task.Switches switching) begun sight = ⊥
+  IsTaskSo Dismissed (task.Writes writing) begun sight = ⊥
+  IsTaskSo Dismissed (task.Queries querying) begun sight = ⊥
+  IsTaskSo Dismissed task.Ended begun sight = IsDismissed sight
+  IsTaskSo Writing (task.Refused own) begun sight = ⊥
+  IsTaskSo Writing (task.Switches switching) begun sight = ⊥
+  IsTaskSo Writing (task.Writes writing) begun sight = IsWriting writing begun sight
+  IsTaskSo Writing (task.Queries querying) begun sight = ⊥
+  IsTaskSo Writing task.Ended begun sight = HasWritten sight
+  IsTaskSo Asking (task.Refused own) begun sight = ⊥
+  IsTaskSo Asking (task.Switches switching) begun sight = ⊥
+  IsTaskSo Asking (task.Writes writing) begun sight = ⊥
+  IsTaskSo Asking (task.Queries querying) begun sight = IsQuerying querying begun sight
+  IsTaskSo Asking task.Ended begun sight = HasQueried sight
 
   abbrev pub IsActorSo : Role → Option Actor → Type 0
   IsActorSo Undeclared None = IsUndeclared
   IsActorSo (Eventless text) None = ⊥
+  IsActorSo (Switching leaf down) None = ⊥
   IsActorSo Dismissed None = ⊥
   IsActorSo Writing None = ⊥
   IsActorSo Asking None = ⊥
-  IsActorSo role (Some actor) = IsCourseSo role actor.course actor.begun actor.sight
+  IsActorSo role (Some actor) = IsTaskSo role actor.task actor.begun actor.sight
 
 -- ---- all actors, by their numbers; that at the place 0 is none
 

@@ -4,20 +4,23 @@ use Rattle.mon_config.specs.declared.config.Config.{Config}
 use Rattle.mon_topo.specs.declared.zones.ZoneSpec.{ZoneSpec}
 use Rattle.weave_core.specs.ActorAgreements.{IsActorSo}
 use Rattle.weave_core.specs.Agreements.{AreShared}
-use Rattle.weave_core.specs.EndTexts.{query_text, write_end_text}
-use Rattle.weave_core.specs.Holders.{AreHolders}
-use Rattle.weave_core.specs.Licensed.{IsWoven}
+use Rattle.weave_core.specs.EndTexts.{query_text, switch_text, write_end_text}
+use Rattle.core_theory.specs.Holders.{AreHolders}
+use Rattle.core_theory.specs.Licensed.{IsWoven}
 use Rattle.weave_core.specs.States.{State, step_fault, store_of}
 use Rattle.weave_core.specs.Steps.{Steps}
 use Rattle.weave_core.specs.declared.actors.Actor.{Actor}
-use Rattle.weave_core.specs.declared.actors.Course.TheVariants as course
+use Rattle.weave_core.specs.declared.actors.Task.TheVariants as task
 use Rattle.weave_core.specs.declared.calls.Stepped.{Stepped}
 use Rattle.weave_core.specs.declared.calls.Stepped.TheVariants as stepped
 use Rattle.weave_core.specs.declared.calls.WeaveFault.TheVariants.{Finished}
 use Rattle.weave_core.specs.declared.queries.QueryTurn.{QueryTurn}
 use Rattle.weave_core.specs.declared.queries.QueryTurn.TheVariants as query_turn
 use Rattle.mon_topo.specs.declared.sights.Sight.{Sight}
+use Rattle.weave_core.specs.Switches.{switch_told}
 use Rattle.weave_core.specs.declared.store.Store.{Store}
+use Rattle.weave_core.specs.declared.switches.Switched.{Switched}
+use Rattle.weave_core.specs.declared.switches.Switching.{Switching}
 use Rattle.weave_core.specs.declared.writes.WriteTurn.{WriteTurn}
 use Rattle.weave_core.specs.declared.writes.WriteTurn.TheVariants as write_turn
 
@@ -25,21 +28,29 @@ use Rattle.weave_core.specs.declared.writes.WriteTurn.TheVariants as write_turn
 
 abbrev pub WrittenSo : List ZoneSpec → WriteTurn → Sight → Bool → Actor → Option Stepped → Type 0
 WrittenSo zones (write_turn.Went writing) sight begun own how =
-    (own ≡ record { course = course.Writes writing; sight = sight; begun = true }) × (how ≡ Some stepped.Went)
+    (own ≡ record { task = task.Writes writing; sight = sight; begun = true }) × (how ≡ Some stepped.Went)
 WrittenSo zones (write_turn.Waits writing) sight begun own how =
-    (own ≡ record { course = course.Writes writing; sight = sight; begun = begun }) × (how ≡ Some stepped.Waits)
+    (own ≡ record { task = task.Writes writing; sight = sight; begun = begun }) × (how ≡ Some stepped.Waits)
 WrittenSo zones (write_turn.Ended range end) sight begun own how =
-    (own ≡ record { course = course.Ended; sight = sight; begun = true })
+    (own ≡ record { task = task.Ended; sight = sight; begun = true })
     × (how ≡ Some (stepped.Ended (write_end_text zones range end)))
 
 abbrev pub QueriedSo : List ZoneSpec → QueryTurn → Sight → Bool → Actor → Option Stepped → Type 0
 QueriedSo zones (query_turn.Went querying) sight begun own how =
-    (own ≡ record { course = course.Queries querying; sight = sight; begun = true }) × (how ≡ Some stepped.Went)
+    (own ≡ record { task = task.Queries querying; sight = sight; begun = true }) × (how ≡ Some stepped.Went)
 QueriedSo zones (query_turn.Waits querying) sight begun own how =
-    (own ≡ record { course = course.Queries querying; sight = sight; begun = begun }) × (how ≡ Some stepped.Waits)
+    (own ≡ record { task = task.Queries querying; sight = sight; begun = begun }) × (how ≡ Some stepped.Waits)
 QueriedSo zones (query_turn.Ended end) sight begun own how =
-    (own ≡ record { course = course.Ended; sight = sight; begun = true })
+    (own ≡ record { task = task.Ended; sight = sight; begun = true })
     × (how ≡ Some (stepped.Ended (query_text zones end)))
+
+-- it switched a leaf, and ends with what it was told; or it waits for the leaf
+abbrev pub SwitchedSo : List ZoneSpec → Switching → Option Switched → Sight → Bool → Actor → Option Stepped → Type 0
+SwitchedSo zones switching (Some was) sight begun own how =
+    (own ≡ record { task = task.Ended; sight = sight; begun = true })
+    × (how ≡ Some (stepped.Ended (switch_text zones switching.leaf switching.down (switch_told was))))
+SwitchedSo zones switching None sight begun own how =
+    (own ≡ record { task = task.Switches switching; sight = sight; begun = begun }) × (how ≡ Some stepped.Waits)
 
 -- ---- in a core
 

@@ -1,5 +1,5 @@
 -- What it takes and what it does to declare an actor, and to let one that has not begun hear from one that has ended.
-use Rattle.std.specs.Prelude.{ℕ, ℤ, ◌≡◌, [], map, Option, Some, None, Result, Ok, Err}
+use Rattle.std.specs.Prelude.{ℕ, ℤ, ◌≡◌, true, false, [], map, Option, Some, None, Result, Ok, Err}
 use Rattle.mon_config.specs.declared.config.Config.{Config}
 use Rattle.mon_hints.specs.Formulas.{formula_tree}
 use Rattle.mon_config.specs.KeyRanges.{range_of_key}
@@ -12,12 +12,12 @@ use Rattle.query_core.specs.Askings.{IsAskedOf}
 use Rattle.query_core.specs.Machine.{new_query}
 use Rattle.query_core.specs.Mixtures.{typed_of}
 use Rattle.query_core.specs.Settings.{QuerySetting}
-use Rattle.weave_core.specs.Core.{CanCome, CoreEvent, Happens, Hears, Reader}
+use Rattle.core_theory.specs.Core.{CanCome, CoreEvent, Happens, Hears, Reader}
 use Rattle.query_texts.specs.TextTypes.{text_type}
 use Rattle.query_texts.specs.declared.faults.TextFault.{TextFault}
 use Rattle.weave_core.specs.EndTexts.{no_plan_line, no_zone_line}
-use Rattle.weave_core.specs.States.{Asking, Dismissed, Eventless, Role, State, Undeclared, Writing, actor_at, store_of}
-use Rattle.weave_core.specs.States.{view_at}
+use Rattle.weave_core.specs.States.{Asking, Dismissed, Eventless, Role, State, Switching, Undeclared, Writing}
+use Rattle.weave_core.specs.States.{actor_at, store_of, view_at}
 use Rattle.weave_core.specs.Steps.{with_event, with_role}
 use Rattle.weave_core.specs.declared.calls.Call.{Call}
 use Rattle.weave_core.specs.declared.calls.Call.TheVariants as call
@@ -77,6 +77,8 @@ module _ (config : Config) where
   abbrev pub Declares : State (store_of config) → ℕ → Call → State (store_of config) → Type 0
   Declares state k (call.Write row) after =
       WriteBegins state k row (range_of_key config row.key) after
+  Declares state k (call.Down leaf) after = after ≡ with_role (store_of config) state k (Switching leaf true)
+  Declares state k (call.Up leaf) after = after ≡ with_role (store_of config) state k (Switching leaf false)
   Declares state k (call.Query moment text) after = QueryBegins state k moment (text_type config.schemas text) after
 
 -- ---- meetings
@@ -85,6 +87,7 @@ module _ (store : Setting) where
   abbrev pub hearing_in : Role → ℕ → View → CoreEvent store
   hearing_in Undeclared k view = Happens (Learns k view)
   hearing_in (Eventless text) k view = Happens (Learns k view)
+  hearing_in (Switching leaf down) k view = Happens (Learns k view)
   hearing_in Dismissed k view = Happens (Learns k view)
   hearing_in Writing k view = Happens (Learns k view)
   hearing_in Asking k view = Hears k view

@@ -1,15 +1,19 @@
--- What a write or a query prints that ends.
-use Rattle.std.specs.Prelude.{ℕ, List, ◌++◌, codes, length, Result, Ok, Err}
+-- What an actor prints that ends.
+use Rattle.std.specs.Prelude.{ℕ, Bool, List, [], ◌++◌, codes, length, Result, Ok, Err, if◌then◌else◌}
 use Rattle.std.specs.Fmt.{decimal}
+use Rattle.std.specs.List.{slice_index_or}
 use Rattle.mon_table.specs.Tables.{newline, printed_table}
 use Rattle.mon_topo.specs.NameTexts.{down_text}
+use Rattle.mon_topo.specs.Zones.{leaves_in}
 use Rattle.mon_topo.specs.declared.zones.ZoneSpec.{ZoneSpec}
+use Rattle.mon_value.specs.declared.positions.Leaf.{Leaf}
 use Rattle.mon_value.specs.declared.positions.Range.{Range}
 use Rattle.query_core.specs.FaultTexts.{round_fault_text}
 use Rattle.query_core.specs.declared.answers.Answer.{Answer}
 use Rattle.query_core.specs.declared.answers.RoundFault.{RoundFault}
 use Rattle.query_texts.specs.TextTypes.{text_fault_text}
 use Rattle.query_texts.specs.declared.faults.TextFault.{TextFault}
+use Rattle.write_core.specs.Events.{SwitchTold, SwitchesSpent, WasDownAlready, WasSwitched, WasUpAlready}
 use Rattle.write_core.specs.Refusals.{no_zone_text, refused_text}
 use Rattle.write_core.specs.declared.asks.WriteEnd.{WriteEnd}
 use Rattle.write_core.specs.declared.asks.WriteEnd.TheVariants as end
@@ -27,6 +31,21 @@ write_end_text zones range (end.Written ack) =
 write_end_text zones range (end.OldPoint last) = refused_line (refused_text (refused.OldPoint last))
 write_end_text zones range (end.RangeFull limit) = refused_line (refused_text (refused.RangeFull limit))
 write_end_text zones range (end.Unavailable founds) = refused_line (codes "Unavailable " ++ down_text zones range founds)
+
+-- a leaf went down, or came up, or why it did not
+abbrev pub switch_word : Bool → List ℕ
+switch_word down = if down then codes "down" else codes "up"
+
+abbrev pub switch_done : List ZoneSpec → Leaf → Bool → List ℕ
+switch_done zones leaf down =
+    switch_word down
+    ++ (codes " " ++ (slice_index_or (leaves_in zones) leaf.0 [] ++ (codes ": done" ++ newline)))
+
+abbrev pub switch_text : List ZoneSpec → Leaf → Bool → SwitchTold → List ℕ
+switch_text zones leaf down (WasSwitched cut) = switch_done zones leaf down
+switch_text zones leaf down (WasDownAlready cut) = refused_line (codes "AlreadyDown " ++ decimal cut)
+switch_text zones leaf down (WasUpAlready cut) = refused_line (codes "AlreadyUp " ++ decimal cut)
+switch_text zones leaf down (SwitchesSpent count) = refused_line (codes "SwitchesSpent " ++ decimal count)
 
 -- a write of a row whose location no zone lists
 abbrev pub no_zone_line : List ℕ

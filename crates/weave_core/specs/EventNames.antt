@@ -1,4 +1,4 @@
--- The events of writes and queries, by their names.
+-- The events of actors, by their names.
 use Rattle.std.specs.Prelude.{ℕ, List, codes, Option, Some, None, if◌then◌else◌}
 use Rattle.mon_value.specs.Same.{same_text}
 use Rattle.query_core.specs.declared.asks.Ask.{Ask}
@@ -8,13 +8,14 @@ use Rattle.weave_core.specs.declared.events.Event.TheVariants as event
 use Rattle.write_core.specs.declared.asks.WriteAsk.{WriteAsk}
 use Rattle.write_core.specs.declared.asks.WriteAsk.TheVariants as write
 
--- the event of a query of a name
-abbrev pub query_event_named : List ℕ → Option Event
-query_event_named name =
+-- the event of a query, or of a switch, of a name
+abbrev pub other_event_named : List ℕ → Option Event
+other_event_named name =
     if same_text name (codes "load_root") then Some event.LoadRoot
     else if same_text name (codes "load_zone") then Some event.LoadZone
     else if same_text name (codes "resolve") then Some event.Resolve
     else if same_text name (codes "visit") then Some event.Visit
+    else if same_text name (codes "switch") then Some event.Switch
     else None
 
 -- the event of a name
@@ -27,7 +28,7 @@ event_named name =
     else if same_text name (codes "raise_zone") then Some event.RaiseZone
     else if same_text name (codes "put") then Some event.Put
     else if same_text name (codes "ack") then Some event.Ack
-    else query_event_named name
+    else other_event_named name
 
 -- the event that a write asks for; there is none once it has ended
 abbrev pub event_of_write : WriteAsk → Option Event

@@ -1,15 +1,16 @@
 -- Actors that have not begun: one that was declared, and one that hears what another one has seen.
-use Rattle.std.specs.Prelude.{ℕ, ◌≡◌, ◌<◌, false, length, Some, None}
+use Rattle.std.specs.Prelude.{ℕ, ◌≡◌, ◌<◌, Bool, true, false, length, Some, None}
 use Rattle.mon_config.specs.declared.config.Config.{Config}
 use Rattle.mon_config.specs.KeyRanges.{range_of_key}
 use Rattle.mon_topo.specs.Zones.{ranges_in}
+use Rattle.mon_value.specs.declared.positions.Leaf.{Leaf}
 use Rattle.mon_value.specs.declared.rows.Row.{Row}
 use Rattle.weave_core.specs.EndTexts.{no_zone_line}
-use Rattle.weave_core.specs.QueryPlans.{IsQueryCourse}
+use Rattle.weave_core.specs.QueryPlans.{IsQueryTask}
 use Rattle.mon_topo.specs.Sights.{joined_sight}
 use Rattle.weave_core.specs.declared.actors.Actor.{Actor}
-use Rattle.weave_core.specs.declared.actors.Course.{Course}
-use Rattle.weave_core.specs.declared.actors.Course.TheVariants as course
+use Rattle.weave_core.specs.declared.actors.Task.{Task}
+use Rattle.weave_core.specs.declared.actors.Task.TheVariants as task
 use Rattle.weave_core.specs.declared.calls.Call.{Call}
 use Rattle.weave_core.specs.declared.calls.Call.TheVariants as call
 use Rattle.mon_topo.specs.declared.sights.Sight.{Sight}
@@ -27,23 +28,30 @@ pub record BeginsToWrite (config : Config) (i : ℕ) (row : Row) (writing : Writ
   pub inside : writing.inside ≡ None
 
 -- a row's write begins, or no zone lists its location
-abbrev pub IsWriteCourse : Config → ℕ → Row → Course → Type 0
-IsWriteCourse config i row (course.Writes writing) = BeginsToWrite config i row writing
-IsWriteCourse config i row (course.Refused line) =
+abbrev pub IsWriteTask : Config → ℕ → Row → Task → Type 0
+IsWriteTask config i row (task.Writes writing) = BeginsToWrite config i row writing
+IsWriteTask config i row (task.Refused line) =
     (range_of_key config row.key ≡ None) × (line ≡ no_zone_line)
-IsWriteCourse config i row (course.Queries querying) = ⊥
-IsWriteCourse config i row course.Ended = ⊥
+IsWriteTask config i row (task.Switches switching) = ⊥
+IsWriteTask config i row (task.Queries querying) = ⊥
+IsWriteTask config i row task.Ended = ⊥
 
-abbrev pub IsCourseOf : Config → ℕ → Call → Course → Type 0
-IsCourseOf config i (call.Write row) one = IsWriteCourse config i row one
-IsCourseOf config i (call.Query moment text) one = IsQueryCourse config moment text one
+-- a leaf is to be down, or up
+abbrev pub IsSwitchTask : ℕ → Leaf → Bool → Task → Type 0
+IsSwitchTask i leaf down one = one ≡ task.Switches (record { number = i; leaf = leaf; down = down })
+
+abbrev pub IsTaskOf : Config → ℕ → Call → Task → Type 0
+IsTaskOf config i (call.Write row) one = IsWriteTask config i row one
+IsTaskOf config i (call.Query moment text) one = IsQueryTask config moment text one
+IsTaskOf config i (call.Down leaf) one = IsSwitchTask i leaf true one
+IsTaskOf config i (call.Up leaf) one = IsSwitchTask i leaf false one
 
 -- an actor is to do what it was called for, and has seen so much
 pub record IsDeclaredActor (config : Config) (i : ℕ) (what : Call) (first : Sight) (own : Actor) : Type 0 where
-  pub course_is : IsCourseOf config i what own.course
+  pub task_is : IsTaskOf config i what own.task
   pub seen : own.sight ≡ first
   pub begun_is : own.begun ≡ false
 
 -- an actor that has seen what someone has, too
 abbrev pub hearing_of : Sight → Actor → Actor
-hearing_of seen own = record { course = own.course; sight = joined_sight own.sight seen; begun = own.begun }
+hearing_of seen own = record { task = own.task; sight = joined_sight own.sight seen; begun = own.begun }

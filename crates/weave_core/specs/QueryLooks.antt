@@ -17,7 +17,7 @@ use Rattle.mon_meaning.specs.ReadableSlots.{CanBeRead}
 use Rattle.mon_topo.specs.Serving.{first_serving}
 use Rattle.query_core.specs.declared.asks.Told.{Told}
 use Rattle.query_core.specs.declared.asks.Told.TheVariants as told
-use Rattle.weave_core.specs.Meetings.{sight_at_leaf, sight_at_range}
+use Rattle.core_theory.specs.Meetings.{sight_at_leaf, sight_at_range}
 use Rattle.mon_topo.specs.Sights.{AreAlike}
 use Rattle.weave_core.specs.WriteEvents.{ChangesLeaf, ChangesRange, StaysThere}
 use Rattle.weave_core.specs.declared.leaves.LeafSeat.{LeafSeat}

@@ -10,8 +10,8 @@ use Rattle.query_texts.specs.TextTypes.{text_type}
 use Rattle.query_texts.specs.declared.faults.TextFault.{TextFault}
 use Rattle.weave_core.specs.Declarations.{IsAskedSo}
 use Rattle.weave_core.specs.EndTexts.{no_plan_line}
-use Rattle.weave_core.specs.declared.actors.Course.{Course}
-use Rattle.weave_core.specs.declared.actors.Course.TheVariants as course
+use Rattle.weave_core.specs.declared.actors.Task.{Task}
+use Rattle.weave_core.specs.declared.actors.Task.TheVariants as task
 use Rattle.weave_core.specs.declared.queries.Querying.{Querying}
 
 -- a machine is that of a text's typed tree, and has not begun
@@ -39,8 +39,9 @@ pub record HasNoPlan (config : Config) (text line : List ℕ) : Type 0 where
   pub line_is : line ≡ no_plan_line why
 
 -- a text's query begins, or is refused with a line
-abbrev pub IsQueryCourse : Config → ℤ → List ℕ → Course → Type 0
-IsQueryCourse config moment text (course.Queries querying) = BeginsToAsk config moment text querying
-IsQueryCourse config moment text (course.Refused line) = HasNoPlan config text line
-IsQueryCourse config moment text (course.Writes writing) = ⊥
-IsQueryCourse config moment text course.Ended = ⊥
+abbrev pub IsQueryTask : Config → ℤ → List ℕ → Task → Type 0
+IsQueryTask config moment text (task.Queries querying) = BeginsToAsk config moment text querying
+IsQueryTask config moment text (task.Refused line) = HasNoPlan config text line
+IsQueryTask config moment text (task.Writes writing) = ⊥
+IsQueryTask config moment text (task.Switches switching) = ⊥
+IsQueryTask config moment text task.Ended = ⊥

@@ -12,10 +12,10 @@ use Rattle.query_core.specs.declared.stages.Stage.{Stage}
 use Rattle.query_core.specs.declared.stages.Stage.TheVariants as at
 use Rattle.weave_core.specs.ActorAgreements.{IsReaderSo}
 use Rattle.weave_core.specs.Agreements.{AreShared}
-use Rattle.weave_core.specs.Core.{CanCome, Core, IsTold, Reader, Tells, asked_now, came, query_now, view_told}
-use Rattle.weave_core.specs.Core.{world_told}
-use Rattle.weave_core.specs.Holders.{AreHolders}
-use Rattle.weave_core.specs.Licensed.{IsWoven}
+use Rattle.core_theory.specs.Core.{CanCome, Core, IsTold, Reader, Tells, asked_now, came, query_now, view_told}
+use Rattle.core_theory.specs.Core.{world_told}
+use Rattle.core_theory.specs.Holders.{AreHolders}
+use Rattle.core_theory.specs.Licensed.{IsWoven}
 use Rattle.weave_core.specs.PlannedQueries.{IsPlanned}
 use Rattle.mon_topo.specs.Sights.{sight_of}
 use Rattle.weave_core.specs.States.{holder_for_query, store_of}

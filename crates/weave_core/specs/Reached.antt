@@ -11,7 +11,7 @@ use Rattle.query_core.specs.declared.answers.Answer.{Answer}
 use Rattle.query_core.specs.declared.answers.RoundFault.TheVariants as fault
 use Rattle.query_core.specs.declared.answers.Trace.{Trace}
 use Rattle.query_core.specs.declared.stages.Stage.TheVariants as at
-use Rattle.weave_core.specs.Core.{Reader, query_now}
+use Rattle.core_theory.specs.Core.{Reader, query_now}
 use Rattle.weave_core.specs.LawfulLines.{IsLawfulForm}
 use Rattle.weave_core.specs.Schedules.{Does, line_fault}
 use Rattle.weave_core.specs.States.{State, store_of}
@@ -20,7 +20,7 @@ use Rattle.weave_core.specs.declared.lines.LineForm.{LineForm}
 module _ (config : Config) where
   -- a line that is not refused leads from one state to another
   pub record LeadsBy (from : State (store_of config)) (what : LineForm) (to : State (store_of config)) : Type 0 where
-    pub lawful : IsLawfulForm config.schemas what
+    pub lawful : IsLawfulForm config.schemas config.topology what
     pub fault : line_fault (store_of config) from what ≡ None
     pub said : List ℕ
     pub does : Does config from what said to

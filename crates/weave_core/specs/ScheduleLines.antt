@@ -7,6 +7,9 @@ use Rattle.mon_points.specs.declared.records.RowRead.{RowRead}
 use Rattle.mon_points.specs.declared.records.RowRead.TheVariants as read
 use Rattle.mon_schema.specs.SchemaLists.{SchemaLists}
 use Rattle.mon_script.specs.Lines.{cut_at}
+use Rattle.mon_topo.specs.Zones.{leaf_named}
+use Rattle.mon_topo.specs.declared.zones.ZoneSpec.{ZoneSpec}
+use Rattle.mon_value.specs.declared.positions.Leaf.{Leaf}
 use Rattle.mon_script.specs.Scripts.{moment_of, space}
 use Rattle.mon_value.specs.Numbers.{number_of}
 use Rattle.mon_value.specs.Same.{same_text}
@@ -63,6 +66,20 @@ abbrev pub schedule_query_form : List ℕ → Option LineForm
 schedule_query_form rest =
     option_and_then (λ words. option_and_then (asked_by words.0) (moment_and_rest words.1)) (actor_and_rest rest)
 
+-- an actor, and a leaf by its name
+abbrev pub leaf_by : List ZoneSpec → ℕ × List ℕ → Option (ℕ × Leaf)
+leaf_by zones words = option_map (λ leaf. (words.0, leaf)) (leaf_named zones words.1)
+
+abbrev pub actor_and_leaf : List ZoneSpec → List ℕ → Option (ℕ × Leaf)
+actor_and_leaf zones rest = option_and_then (leaf_by zones) (actor_and_rest rest)
+
+-- a leaf that is to go down, or to come up
+abbrev pub down_form : List ZoneSpec → List ℕ → Option LineForm
+down_form zones rest = option_map (λ words. form.Declare words.0 (call.Down words.1)) (actor_and_leaf zones rest)
+
+abbrev pub up_form : List ZoneSpec → List ℕ → Option LineForm
+up_form zones rest = option_map (λ words. form.Declare words.0 (call.Up words.1)) (actor_and_leaf zones rest)
+
 abbrev pub met_by : ℕ → ℕ → Option LineForm
 met_by actor other = if nat_eq actor other then None else Some (form.Meet actor other)
 
@@ -84,15 +101,22 @@ turn_form word rest =
     else if same_text word (codes "finish") then option_map form.Finish (actor_of rest)
     else None
 
+-- which leaf is switched, or whose turn it is
+abbrev pub switch_form : List ZoneSpec → List ℕ → List ℕ → Option LineForm
+switch_form zones word rest =
+    if same_text word (codes "down") then down_form zones rest
+    else if same_text word (codes "up") then up_form zones rest
+    else turn_form word rest
+
 -- ---- lines
 
 -- by the first word
-abbrev pub schedule_form_by : SchemaLists → List ℕ × List ℕ → Option LineForm
-schedule_form_by schemas words =
+abbrev pub schedule_form_by : SchemaLists → List ZoneSpec → List ℕ × List ℕ → Option LineForm
+schedule_form_by schemas zones words =
     if same_text words.0 (codes "write") then write_form schemas words.1
     else if same_text words.0 (codes "query") then schedule_query_form words.1
-    else turn_form words.0 words.1
+    else switch_form zones words.0 words.1
 
--- what a line says, over these schemas
-abbrev pub schedule_form : SchemaLists → List ℕ → Option LineForm
-schedule_form schemas line = option_and_then (schedule_form_by schemas) (cut_at space line)
+-- what a line says, over these schemas and zones
+abbrev pub schedule_form : SchemaLists → List ZoneSpec → List ℕ → Option LineForm
+schedule_form schemas zones line = option_and_then (schedule_form_by schemas zones) (cut_at space line)

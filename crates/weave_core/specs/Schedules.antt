@@ -11,7 +11,7 @@ use Rattle.mon_value.specs.declared.refusals.Refusal.{Refusal}
 use Rattle.mon_value.specs.declared.refusals.Refusal.TheVariants as refusal
 use Rattle.weave_core.specs.Declarations.{Declares, Meets}
 use Rattle.mon_topo.specs.FirstHistories.{first_histories}
-use Rattle.weave_core.specs.Licensed.{IsNewCore}
+use Rattle.core_theory.specs.Licensed.{IsNewCore}
 use Rattle.weave_core.specs.ScheduleLines.{schedule_form}
 use Rattle.weave_core.specs.States.{State, Undeclared, has_begun, has_ended, is_declared, next_event, step_fault}
 use Rattle.weave_core.specs.States.{store_of}
@@ -181,7 +181,7 @@ module _ (config : Config) where
   abbrev pub RunsUnless : ℕ → Onward → State (store_of config) → List ℕ → Bool → Printed → Type 0
   RunsUnless number Rest state line true printed = Rest state printed
   RunsUnless number Rest state line false printed =
-      ScheduleLineRuns number Rest state (schedule_form config.schemas line) printed
+      ScheduleLineRuns number Rest state (schedule_form config.schemas config.topology line) printed
 
   -- a line behind the last that may be is refused, whatever it is
   abbrev pub Numbered : ℕ → Type 0 → Bool → Printed → Type 0

@@ -3,13 +3,15 @@ use Rattle.std.specs.Prelude.{ℕ, Bool, true, false, not, is_some, List, Option
 use Rattle.leaf_store.specs.LeafBuckets.{key_buckets}
 use Rattle.mon_config.specs.declared.config.Config.{Config}
 use Rattle.mon_topo.specs.Settings.{Setting}
+use Rattle.mon_value.specs.declared.positions.Leaf.{Leaf}
 use Rattle.query_core.specs.declared.asks.Ask.{Ask}
 use Rattle.query_core.specs.declared.asks.Ask.TheVariants as ask
-use Rattle.weave_core.specs.Core.{Core, Reader, asked_now}
+use Rattle.core_theory.specs.Core.{Core, Reader, asked_now}
 use Rattle.weave_core.specs.EventNames.{event_of_query, event_of_write}
 use Rattle.weave_core.specs.declared.calls.WeaveFault.{WeaveFault}
 use Rattle.weave_core.specs.declared.calls.WeaveFault.TheVariants as fault
 use Rattle.weave_core.specs.declared.events.Event.{Event}
+use Rattle.weave_core.specs.declared.events.Event.TheVariants as event
 use Rattle.write_core.specs.Program.{Acking, Ended, Entering, Inside, Locking, Reserving, Stage}
 use Rattle.write_core.specs.Program as write
 use Rattle.mon_topo.specs.Views.{View}
@@ -31,10 +33,12 @@ store_of config = record {
 -- ---- actors
 
 -- what an actor was declared to do: nothing so far; a call that has no event, and ends at its first step with this
--- text, or has done so; a write, or a query, which the core has under its number
+-- text; to switch a leaf down, or up, which is one event; either of these two, when it is done; a write, or a query,
+-- which the core has under its number
 pub data Role : Type 0 where
   Undeclared : Role
   Eventless : List ℕ → Role
+  Switching : Leaf → Bool → Role
   Dismissed : Role
   Writing : Role
   Asking : Role
@@ -98,6 +102,7 @@ module _ (store : Setting) (state : State store) (k : ℕ) where
   abbrev pub next_in : Role → Option Event
   next_in Undeclared = None
   next_in (Eventless text) = None
+  next_in (Switching leaf down) = Some event.Switch
   next_in Dismissed = None
   next_in Writing = event_of_write (write_asks actor_at)
   next_in Asking = event_of_query (asked_now store reader_at)
@@ -109,6 +114,7 @@ module _ (store : Setting) (state : State store) (k : ℕ) where
   abbrev pub declared_in : Role → Bool
   declared_in Undeclared = false
   declared_in (Eventless text) = true
+  declared_in (Switching leaf down) = true
   declared_in Dismissed = true
   declared_in Writing = true
   declared_in Asking = true
@@ -119,6 +125,7 @@ module _ (store : Setting) (state : State store) (k : ℕ) where
   abbrev pub ended_in : Role → Bool
   ended_in Undeclared = false
   ended_in (Eventless text) = false
+  ended_in (Switching leaf down) = false
   ended_in Dismissed = true
   ended_in Writing = not (is_some (next_in Writing))
   ended_in Asking = not (is_some (next_in Asking))
@@ -130,6 +137,7 @@ module _ (store : Setting) (state : State store) (k : ℕ) where
   abbrev pub begun_in : Role → Bool
   begun_in Undeclared = false
   begun_in (Eventless text) = false
+  begun_in (Switching leaf down) = false
   begun_in Dismissed = true
   begun_in Writing = writes_begun actor_at
   begun_in Asking = is_any reader_at.session
@@ -141,6 +149,7 @@ module _ (store : Setting) (state : State store) (k : ℕ) where
   abbrev pub role_fault : Role → Option WeaveFault
   role_fault Undeclared = Some fault.NoActor
   role_fault (Eventless text) = None
+  role_fault (Switching leaf down) = None
   role_fault Dismissed = Some fault.Finished
   role_fault Writing = if ended_in Writing then Some fault.Finished else None
   role_fault Asking = if ended_in Asking then Some fault.Finished else None
@@ -152,6 +161,7 @@ module _ (store : Setting) (state : State store) (k : ℕ) where
   abbrev pub view_in : Role → View
   view_in Undeclared = view_of actor_at
   view_in (Eventless text) = view_of actor_at
+  view_in (Switching leaf down) = view_of actor_at
   view_in Dismissed = view_of actor_at
   view_in Writing = view_of actor_at
   view_in Asking = reader_at.view
@@ -163,6 +173,7 @@ module _ (store : Setting) (state : State store) (k : ℕ) where
   abbrev pub holder_in : Role → Option ℕ
   holder_in Undeclared = None
   holder_in (Eventless text) = None
+  holder_in (Switching leaf down) = state.core.world.leaf_holder leaf.0
   holder_in Dismissed = None
   holder_in Writing = holder_for_actor state.core.world actor_at
   holder_in Asking = holder_for_query state.core.world (asked_now store reader_at)

@@ -1,16 +1,18 @@
 -- One step of one actor: an event of it and of no other, or nothing where another one is in its way.
-use Rattle.std.specs.Prelude.{ℕ, ◌≡◌, ◌≢◌, ◌⊎◌, List, [], Some}
+use Rattle.std.specs.Prelude.{ℕ, ◌≡◌, ◌≢◌, ◌⊎◌, Bool, List, [], Some}
 use Rattle.mon_topo.specs.Settings.{Setting}
 use Rattle.mon_topo.specs.declared.zones.ZoneSpec.{ZoneSpec}
+use Rattle.mon_value.specs.declared.positions.Leaf.{Leaf}
 use Rattle.query_core.specs.declared.asks.Told.{Told}
 use Rattle.query_core.specs.declared.stages.Stage.{Stage}
 use Rattle.query_core.specs.declared.stages.Stage.TheVariants as query
-use Rattle.weave_core.specs.Core.{CanCome, CoreEvent, Happens, Tells, came, query_now}
-use Rattle.weave_core.specs.EndTexts.{query_text, write_end_text}
-use Rattle.weave_core.specs.States.{Asking, Dismissed, Eventless, Role, State, Undeclared, Writing, holder_at}
+use Rattle.core_theory.specs.Core.{CanCome, CoreEvent, Happens, Tells, came, query_now}
+use Rattle.weave_core.specs.EndTexts.{query_text, switch_text, write_end_text}
+use Rattle.weave_core.specs.States.{Asking, Dismissed, Eventless, Role, State, Switching, Undeclared, Writing}
+use Rattle.weave_core.specs.States.{holder_at}
 use Rattle.weave_core.specs.declared.calls.Stepped.{Stepped}
 use Rattle.weave_core.specs.declared.calls.Stepped.TheVariants as stepped
-use Rattle.write_core.specs.Events.{Goes}
+use Rattle.write_core.specs.Events.{Goes, SwitchTold, Switches}
 use Rattle.write_core.specs.Program.{Acking, Ended, Entering, Inside, Locking, Reserving, end_of_verdict}
 use Rattle.write_core.specs.Program as write
 use Rattle.write_core.specs.World.{Actor, Recovers, Stands, Writer, Writes, with_value_at}
@@ -74,9 +76,19 @@ module _ (store : Setting) where
     pub went : how ≡ query_stepped store.zones (query_now store (after.core.readers k)).stage
     pub becomes : after ≡ with_event state (Tells k answer stage)
 
+  -- it switches a leaf that nobody holds, and ends with what it is told
+  pub record SwitchGoes (leaf : Leaf) (down : Bool) (state : State store) (k : ℕ) (how : Stepped) (after : State store)
+      : Type 0 where
+    pub answer : SwitchTold
+    pub can : CanCome store state.core (Happens (Switches k leaf down answer))
+    pub went : how ≡ stepped.Ended (switch_text store.zones leaf down answer)
+    pub becomes : after ≡ with_role (with_event state (Happens (Switches k leaf down answer))) k Dismissed
+
   abbrev pub StepsIn : Role → State store → ℕ → Stepped → State store → Type 0
   StepsIn Undeclared state k how after = ⊥
   StepsIn (Eventless text) state k how after = (how ≡ stepped.Ended text) × (after ≡ with_role state k Dismissed)
+  StepsIn (Switching leaf down) state k how after =
+      Waits state k how after ⊎ SwitchGoes leaf down state k how after
   StepsIn Dismissed state k how after = ⊥
   StepsIn Writing state k how after = Waits state k how after ⊎ WriteGoes state k how after
   StepsIn Asking state k how after = Waits state k how after ⊎ QueryGoes state k how after

@@ -33,7 +33,7 @@ pub record BeginsSo (config : Config) (weave : Weave) : Type 0 where
 
 module _ (config : Config) (state : State (store_of config)) (k : ℕ) where
   pub record MayDeclare (call : Call) : Type 0 where
-    pub lawful : IsLawfulCall config.schemas call
+    pub lawful : IsLawfulCall config.schemas config.topology call
     pub fault : declare_fault (store_of config) state k ≡ None
 
   -- an actor is declared, and the weave is as the core then

@@ -12,7 +12,7 @@ use Rattle.mon_value.specs.declared.positions.Range.{Range}
 use Rattle.mon_value.specs.declared.positions.Slot.{Slot}
 use Rattle.mon_value.specs.declared.rows.Row.{Row}
 use Rattle.weave_core.specs.HintWords.{with_child_bit}
-use Rattle.weave_core.specs.Meetings.{sight_at_leaf, sight_at_range}
+use Rattle.core_theory.specs.Meetings.{sight_at_leaf, sight_at_range}
 use Rattle.weave_core.specs.declared.leaves.LeafSeat.{LeafSeat}
 use Rattle.weave_core.specs.declared.ranges.RangeSeat.{RangeSeat}
 use Rattle.mon_topo.specs.declared.sights.Sight.{Sight}

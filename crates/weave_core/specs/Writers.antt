@@ -1,7 +1,7 @@
 -- What is kept of a write: how far it is in the core, and how far it has seen histories.
 use Rattle.std.specs.Prelude.{ℕ, ◌≡◌, ◌<◌, false}
 use Rattle.std.specs.List.{AllByRecursion}
-use Rattle.weave_core.specs.Holders.{leaf_inside}
+use Rattle.core_theory.specs.Holders.{leaf_inside}
 use Rattle.mon_topo.specs.Sights.{sight_of}
 use Rattle.mon_topo.specs.declared.sights.Sight.{Sight}
 use Rattle.weave_core.specs.declared.writes.Writing.{Writing as Write}

@@ -1,15 +1,16 @@
 // Steps of actors.
 ghost use Rattle.std.specs.Prelude.{◌≡◌, ℕ, IfOk};
 ghost use Rattle.mon_config.specs.declared.config.Config.{Config as ConfigOf};
-ghost use Rattle.weave_core.specs.ActorSteps.{ActorSteps, IsIn, IsSomewhere, QueriedSo, WrittenSo};
+ghost use Rattle.weave_core.specs.ActorSteps.{ActorSteps, IsIn, IsSomewhere, QueriedSo, SwitchedSo, WrittenSo};
 ghost use Rattle.weave_core.specs.States.{State, store_of};
-ghost use Rattle.weave_core.specs.declared.actors.Course.TheVariants.{Ended};
+ghost use Rattle.weave_core.specs.declared.actors.Task.TheVariants.{Ended};
 
-use crate::actors::{Actor, Course};
+use crate::actors::{Actor, Task};
 use crate::calls::Stepped;
 use crate::queries::QueryTurn;
 use crate::store::Store;
-use crate::texts::{query_text, write_end_text};
+use crate::switches::{Switched, Switching};
+use crate::texts::{query_text, switch_text, write_end_text};
 use crate::writes::WriteTurn;
 use mon_topo::Sight;
 use mon_value::OutOfMemory;
@@ -24,20 +25,20 @@ pub(crate) fn step_actor(
     ensures stepped { (config : ConfigOf) (state : State (store_of config)) (i : ℕ) → IsIn config state i store.old own
         → IfOk result (λ pair. ActorSteps config state i store.new own pair.0 pair.1) }
 {
-    let Actor {
-        course,
-        sight,
-        begun,
-    } = own;
+    let Actor { task, sight, begun } = own;
     let mut sight = sight;
-    match course {
-        Course::Ended => Ok((ended(sight, begun), None)),
-        Course::Refused(text) => Ok((ended(sight, true), Some(Stepped::Ended(text)))),
-        Course::Writes(writing) => {
+    match task {
+        Task::Ended => Ok((ended(sight, begun), None)),
+        Task::Refused(text) => Ok((ended(sight, true), Some(Stepped::Ended(text)))),
+        Task::Switches(switching) => {
+            let came = store.switch(switching, &mut sight);
+            switched(store, switching, came, sight, begun)
+        }
+        Task::Writes(writing) => {
             let turn = store.write(writing, &mut sight)?;
             written(store, turn, sight, begun)
         }
-        Course::Queries(querying) => {
+        Task::Queries(querying) => {
             let turn = store.query(querying, &mut sight)?;
             queried(store, turn, sight, begun)
         }
@@ -46,12 +47,39 @@ pub(crate) fn step_actor(
 
 // An actor that has ended.
 fn ended(sight: Sight, begun: bool) -> Actor
-    ensures ended { result ≡ record { course = Ended; sight = sight; begun = begun } }
+    ensures ended { result ≡ record { task = Ended; sight = sight; begun = begun } }
 {
     Actor {
-        course: Course::Ended,
+        task: Task::Ended,
         sight,
         begun,
+    }
+}
+
+// An actor that switched a leaf, or waits for it, and what came of it.
+fn switched(
+    store: &Store,
+    switching: Switching,
+    came: Option<Switched>,
+    sight: Sight,
+    begun: bool,
+) -> Result<(Actor, Option<Stepped>), OutOfMemory>
+    ensures switched { IfOk result (λ pair.
+        SwitchedSo store.now.config.topology switching came sight begun pair.0 pair.1) }
+{
+    match came {
+        Some(came) => {
+            let text = switch_text(store.alloc, &store.config.topology, switching, came)?;
+            Ok((ended(sight, true), Some(Stepped::Ended(text))))
+        }
+        None => Ok((
+            Actor {
+                task: Task::Switches(switching),
+                sight,
+                begun,
+            },
+            Some(Stepped::Waits),
+        )),
     }
 }
 
@@ -67,7 +95,7 @@ fn written(
     match turn {
         WriteTurn::Went(writing) => Ok((
             Actor {
-                course: Course::Writes(writing),
+                task: Task::Writes(writing),
                 sight,
                 begun: true,
             },
@@ -75,7 +103,7 @@ fn written(
         )),
         WriteTurn::Waits(writing) => Ok((
             Actor {
-                course: Course::Writes(writing),
+                task: Task::Writes(writing),
                 sight,
                 begun,
             },
@@ -100,7 +128,7 @@ fn queried(
     match turn {
         QueryTurn::Went(querying) => Ok((
             Actor {
-                course: Course::Queries(querying),
+                task: Task::Queries(querying),
                 sight,
                 begun: true,
             },
@@ -108,7 +136,7 @@ fn queried(
         )),
         QueryTurn::Waits(querying) => Ok((
             Actor {
-                course: Course::Queries(querying),
+                task: Task::Queries(querying),
                 sight,
                 begun,
             },

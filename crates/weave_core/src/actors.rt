@@ -1,15 +1,16 @@
-// Actors: writes and queries on their way.
+// Actors: writes, queries and switches on their way.
 ghost use Rattle.std.specs.Prelude.{◌≡◌, ◌||◌, None, IfOk};
 ghost use Rattle.weave_core.specs.Agreements.{IsServed};
-ghost use Rattle.weave_core.specs.Courses.{event_of, is_over};
-ghost use Rattle.weave_core.specs.NewActors.{IsCourseOf, IsDeclaredActor, IsWriteCourse};
+ghost use Rattle.weave_core.specs.Tasks.{event_of, is_over};
+ghost use Rattle.weave_core.specs.NewActors.{IsTaskOf, IsDeclaredActor, IsWriteTask};
 ghost use Rattle.write_core.specs.Program.{new_write as machine_of};
 
 use crate::calls::Call;
 use crate::events::{Event, event_of_query, event_of_write};
 use crate::queries::Querying;
-use crate::query_plans::query_course;
+use crate::query_plans::query_task;
 use crate::store::Store;
+use crate::switches::Switching;
 use crate::texts::no_zone;
 use crate::writes::Writing;
 use mon_topo::Sight;
@@ -17,11 +18,13 @@ use mon_value::{OutOfMemory, Range, Row, Text, TryCopy};
 use std::alloc::Global;
 use write_core::WriteMachine;
 
-/// How far an actor is.
+/// What an actor has left to do.
 #[derive(Drop)]
-pub(crate) enum Course {
+pub(crate) enum Task {
     /// Its call has no event: it ends at its first step, with this text.
     Refused(Text),
+    /// It switches a leaf.
+    Switches(Switching),
     /// It writes.
     Writes(Writing),
     /// It queries.
@@ -33,7 +36,7 @@ pub(crate) enum Course {
 /// An actor: how far it is, what it has seen, and whether some event of it went.
 #[derive(Drop)]
 pub(crate) struct Actor {
-    pub course: Course,
+    pub task: Task,
     pub sight: Sight,
     pub begun: bool,
 }
@@ -45,9 +48,9 @@ impl Actor {
         ensures new { IfOk result (IsDeclaredActor store.now.config number call store.now.first_sight) }
     {
         let sight = store.first_sight.copy(store.alloc)?;
-        let course = course_of(store, number, call)?;
+        let task = task_of(store, number, call)?;
         Ok(Actor {
-            course,
+            task,
             sight,
             begun: false,
         })
@@ -55,51 +58,62 @@ impl Actor {
 
     /// Whether it has ended.
     pub(crate) fn has_ended(&self) -> bool
-        ensures ended { result ≡ is_over self.now.course }
+        ensures ended { result ≡ is_over self.now.task }
     {
-        match &self.course {
-            Course::Refused(_) | Course::Writes(_) | Course::Queries(_) => false,
-            Course::Ended => true,
+        match &self.task {
+            Task::Refused(_) | Task::Switches(_) | Task::Writes(_) | Task::Queries(_) => false,
+            Task::Ended => true,
         }
     }
 
     /// Whether some event of it went, or it has ended.
     pub(crate) fn has_begun(&self) -> bool
-        ensures begun { result ≡ (self.now.begun || is_over self.now.course) }
+        ensures begun { result ≡ (self.now.begun || is_over self.now.task) }
     {
         self.begun || self.has_ended()
     }
 
     /// Its next event, if it has one.
     pub(crate) fn next_event(&self) -> Option<Event>
-        ensures next { result ≡ event_of self.now.course }
+        ensures next { result ≡ event_of self.now.task }
     {
-        match &self.course {
-            Course::Writes(writing) => event_of_write(&writing.machine.next()),
-            Course::Queries(querying) => event_of_query(&querying.machine.next()),
-            Course::Refused(_) | Course::Ended => None,
+        match &self.task {
+            Task::Writes(writing) => event_of_write(&writing.machine.next()),
+            Task::Queries(querying) => event_of_query(&querying.machine.next()),
+            Task::Switches(_) => Some(Event::Switch),
+            Task::Refused(_) | Task::Ended => None,
         }
     }
 }
 
 // What a call comes to that has not begun.
-fn course_of(store: &Store, number: u32, call: Call) -> Result<Course, OutOfMemory>
+fn task_of(store: &Store, number: u32, call: Call) -> Result<Task, OutOfMemory>
     requires served { IsServed store.now.config }
-    ensures course { IfOk result (IsCourseOf store.now.config number call) }
+    ensures task { IfOk result (IsTaskOf store.now.config number call) }
 {
     match call {
-        Call::Write(row) => write_course(store, number, row),
-        Call::Query(moment, text) => query_course(store, moment, &text),
+        Call::Write(row) => write_task(store, number, row),
+        Call::Query(moment, text) => query_task(store, moment, &text),
+        Call::Down(leaf) => Ok(Task::Switches(Switching {
+            number,
+            leaf,
+            down: true,
+        })),
+        Call::Up(leaf) => Ok(Task::Switches(Switching {
+            number,
+            leaf,
+            down: false,
+        })),
     }
 }
 
 // A write of a row, or the text that no zone lists its location.
-fn write_course(store: &Store, number: u32, row: Row) -> Result<Course, OutOfMemory>
-    ensures course { IfOk result (IsWriteCourse store.now.config number row) }
+fn write_task(store: &Store, number: u32, row: Row) -> Result<Task, OutOfMemory>
+    ensures task { IfOk result (IsWriteTask store.now.config number row) }
 {
     match store.config.range_of(&row.key) {
-        Some(range) => Ok(Course::Writes(new_write(store.alloc, number, row, range)?)),
-        None => Ok(Course::Refused(no_zone(store.alloc)?)),
+        Some(range) => Ok(Task::Writes(new_write(store.alloc, number, row, range)?)),
+        None => Ok(Task::Refused(no_zone(store.alloc)?)),
     }
 }
 

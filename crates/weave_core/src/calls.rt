@@ -1,5 +1,5 @@
 // What an actor is to do, and how its steps go.
-use mon_value::{Row, Text, TryCopy};
+use mon_value::{Leaf, Row, Text, TryCopy};
 use std::alloc::{AllocError, Global};
 use std::fmt;
 
@@ -10,6 +10,10 @@ pub enum Call {
     Write(Row),
     /// Ask a query's text at a moment, in seconds from the epoch.
     Query(i64, Text),
+    /// Switch a leaf down.
+    Down(Leaf),
+    /// Switch a leaf up.
+    Up(Leaf),
 }
 
 /// How a step went.
@@ -72,6 +76,8 @@ impl TryCopy for Call {
         match self {
             Call::Write(row) => Ok(Call::Write(row.copy(alloc)?)),
             Call::Query(moment, text) => Ok(Call::Query(*moment, text.copy(alloc)?)),
+            Call::Down(leaf) => Ok(Call::Down(*leaf)),
+            Call::Up(leaf) => Ok(Call::Up(*leaf)),
         }
     }
 }

@@ -1,4 +1,4 @@
-// The events of writes and queries, by their names.
+// The events of actors, by their names.
 ghost use Rattle.std.specs.Prelude.{◌≡◌};
 ghost use Rattle.weave_core.specs.EventNames as spec;
 
@@ -31,6 +31,8 @@ pub enum Event {
     Resolve,
     /// A query looks at a leaf.
     Visit,
+    /// A leaf goes down or comes up, or is found so.
+    Switch,
 }
 
 /// The event of a name.
@@ -52,13 +54,13 @@ pub(crate) fn event_named(name: &[u8]) -> Option<Event>
     } else if name == b"ack".as_slice() {
         Some(Event::Ack)
     } else {
-        query_event_named(name)
+        other_event_named(name)
     }
 }
 
-// The event of a query of a name.
-fn query_event_named(name: &[u8]) -> Option<Event>
-    ensures named { result ≡ spec.query_event_named name.now }
+// The event of a query, or of a switch, of a name.
+fn other_event_named(name: &[u8]) -> Option<Event>
+    ensures named { result ≡ spec.other_event_named name.now }
 {
     if name == b"load_root".as_slice() {
         Some(Event::LoadRoot)
@@ -68,6 +70,8 @@ fn query_event_named(name: &[u8]) -> Option<Event>
         Some(Event::Resolve)
     } else if name == b"visit".as_slice() {
         Some(Event::Visit)
+    } else if name == b"switch".as_slice() {
+        Some(Event::Switch)
     } else {
         None
     }

@@ -1,9 +1,8 @@
-// What is kept of the core tells: of sights, bits and locks, and of what a store begins with.
+// What is kept of the core tells: of bits and locks, and of what a store begins with.
 ghost use Rattle.std.specs.Prelude.{◌≡◌, ◌<◌, [], ℕ, List, length};
 ghost use Rattle.mon_topo.specs.FirstHistories.{first_histories};
 ghost use Rattle.weave_core.specs.HintWords.{HasWord, HintTable, RaisesOne};
 ghost use Rattle.mon_hints.specs.declared.places.Place.{Place as WordPlace};
-ghost use Rattle.mon_topo.specs.Sights.{sight_of};
 ghost use Rattle.mon_schema.specs.SchemaLists.{SchemaLists};
 ghost use Rattle.mon_value.specs.Histories.{leaf_history};
 ghost use Rattle.mon_topo.specs.HeldHistories.{AreHeld};
@@ -17,12 +16,8 @@ ghost use Rattle.mon_value.specs.declared.histories.RangeEntry.{RangeEntry};
 ghost use Rattle.mon_value.specs.declared.positions.Leaf.{Leaf as LeafNumber};
 ghost use Rattle.mon_value.specs.declared.positions.Range.{Range as RangeNumber};
 ghost use Rattle.mon_value.specs.declared.rows.Row.{Row as RowOf};
-ghost use Rattle.write_core.specs.Invariant.{IsKept};
 ghost use Rattle.write_core.specs.RangeAnswers.{lock_answer};
 ghost use Rattle.write_core.specs.Steps.{IsToldByRange};
-ghost use Rattle.mon_topo.specs.Views.{View, joined_view, of_leaf, of_range};
-ghost use Rattle.write_core.specs.World.{IsPart, World};
-ghost use Rattle.weave_core.specs.Meetings.{sight_at_leaf, sight_at_range};
 
 /// Setting the bit of a child in a word sets that bit and no other.
 pub fn one_bit_is_raised()
@@ -38,19 +33,6 @@ pub fn stores_begin_held()
         → AreHeld held zones points (first_histories zones) }
     ensures bare { (zones : List ZoneSpec) (leaf : LeafNumber)
         → leaf_rows (leaf_history (first_histories zones) leaf) ≡ [] }
-{}
-
-/// Who has seen a part of the truth, and keeps how far, sees by a meeting at a leaf or at a range just as far as what
-/// it has seen then, together with what was seen there.
-pub fn meetings_see_as_far_as_views()
-    ensures leaf { (store : Setting) (world : World) (view : View) (leaf : LeafNumber) → IsKept store world
-        → IsPart store world view
-        → sight_at_leaf leaf (of_leaf world.truth leaf) (sight_of view.seen) (sight_of (world.leaves leaf.0).seen)
-        ≡ sight_of (joined_view view (world.leaves leaf.0)).seen }
-    ensures range { (store : Setting) (world : World) (view : View) (range : RangeNumber) → IsKept store world
-        → IsPart store world view
-        → sight_at_range range (of_range world.truth range) (sight_of view.seen) (sight_of (world.ranges range.0).seen)
-        ≡ sight_of (joined_view view (world.ranges range.0)).seen }
 {}
 
 /// Of a history that a range can have, what a write is told by the lock is what it may be told: that its row is old,

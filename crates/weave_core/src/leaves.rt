@@ -1,7 +1,7 @@
 // What is kept of a leaf.
 ghost use Rattle.std.specs.Prelude.{◌≡◌, ◌<◌, ◌++◌, ◌∷◌, [], false, length, OnErr, OnOk};
 ghost use Rattle.mon_value.specs.LeafHistories.{IsWellFormed, is_switch};
-ghost use Rattle.weave_core.specs.Meetings.{sight_at_leaf};
+ghost use Rattle.core_theory.specs.Meetings.{sight_at_leaf};
 ghost use Rattle.mon_topo.specs.Sights.{AreAlike};
 
 use leaf_store::LeafState;

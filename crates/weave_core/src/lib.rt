@@ -1,4 +1,4 @@
-//! The core of the store: writes, recoveries and queries, whose events go one by one in any order, and what they share.
+//! A core whose writes, queries and switches go one event at a time, in any order, and the language of schedules.
 #![tactic(auto)]
 
 mod actor_steps;
@@ -6,7 +6,6 @@ mod actors;
 mod calls;
 mod events;
 mod kept_laws;
-mod laws;
 mod leaves;
 mod limits;
 mod lines;
@@ -17,6 +16,7 @@ mod ranges;
 mod schedule_laws;
 mod schedules;
 mod store;
+mod switches;
 mod texts;
 mod weave;
 mod words;
@@ -24,11 +24,9 @@ mod write_events;
 mod writes;
 
 pub use calls::{Call, ScheduleFault, Stepped, WeaveFault};
+pub use core_theory::{meetings_see_as_far_as_views, queries_answer_rightly, queries_are_licensed};
 pub use events::Event;
-pub use kept_laws::{
-    locks_tell_the_truth, meetings_see_as_far_as_views, one_bit_is_raised, stores_begin_held,
-};
-pub use laws::{queries_answer_rightly, queries_are_licensed};
+pub use kept_laws::{locks_tell_the_truth, one_bit_is_raised, stores_begin_held};
 pub use leaves::LeafSeat;
 pub use limits::{LAST_ACTOR, MOST_EVENTS, MOST_LINES};
 pub use ranges::RangeSeat;

@@ -1,9 +1,11 @@
 // What a line of a schedule says.
-ghost use Rattle.std.specs.Prelude.{◌≡◌, true, option_map, IfOk, IfSome};
+ghost use Rattle.std.specs.Prelude.{◌≡◌, ◌<◌, true, List, length, option_map, IfOk, IfSome};
 ghost use Rattle.mon_schema.specs.Fits.{fits};
 ghost use Rattle.mon_schema.specs.SchemaLists.{SchemaLists};
 ghost use Rattle.std.specs.List.{AllByRecursion};
 ghost use Rattle.mon_points.specs.Fitting.{ReadFits};
+ghost use Rattle.mon_topo.specs.Zones.{leaves_in};
+ghost use Rattle.mon_topo.specs.declared.zones.ZoneSpec.{ZoneSpec};
 ghost use Rattle.weave_core.specs.LawfulLines.{IsActorNumber, IsLawfulForm, IsMoment};
 ghost use Rattle.weave_core.specs.ScheduleLines as spec;
 
@@ -13,7 +15,8 @@ use crate::limits::LAST_ACTOR;
 use mon_points::{RowRead, RowReads, read_rows};
 use mon_schema::Schemas;
 use mon_script::{cut_at, moment_of};
-use mon_value::{OutOfMemory, Row, Text, read_number};
+use mon_topo::Topology;
+use mon_value::{Leaf, OutOfMemory, Row, Text, read_number};
 use std::alloc::Global;
 
 /// What a line says.
@@ -35,10 +38,11 @@ pub(crate) enum LineForm {
 pub(crate) fn form_of(
     alloc: Global,
     schemas: &Schemas,
+    topology: &Topology,
     line: &[u8],
 ) -> Result<Option<LineForm>, OutOfMemory>
-    ensures form { IfOk result (λ form. form ≡ spec.schedule_form schemas.now line.now) }
-    ensures lawful { IfOk result (λ form. IfSome form (IsLawfulForm schemas.now)) }
+    ensures form { IfOk result (λ form. form ≡ spec.schedule_form schemas.now topology.now line.now) }
+    ensures lawful { IfOk result (λ form. IfSome form (IsLawfulForm schemas.now topology.now)) }
 {
     let Some((word, rest)) = cut_at(line, b' ') else {
         return Ok(None);
@@ -48,7 +52,7 @@ pub(crate) fn form_of(
     } else if word == b"query".as_slice() {
         query_form(alloc, rest)
     } else {
-        Ok(turn_form(word, rest))
+        Ok(switch_form(topology, word, rest))
     }
 }
 
@@ -59,7 +63,7 @@ fn write_form(
     rest: &[u8],
 ) -> Result<Option<LineForm>, OutOfMemory>
     ensures form { IfOk result (λ form. form ≡ spec.write_form schemas.now rest.now) }
-    ensures lawful { IfOk result (λ form. IfSome form (IsLawfulForm schemas.now)) }
+    ensures lawful { (zones : List ZoneSpec) → IfOk result (λ form. IfSome form (IsLawfulForm schemas.now zones)) }
 {
     let Some((actor, record)) = actor_and_rest(rest) else {
         return Ok(None);
@@ -87,7 +91,8 @@ fn only_row(reads: RowReads) -> Option<Row>
 // A query at a moment. Its text is any text of UTF-8.
 fn query_form(alloc: Global, rest: &[u8]) -> Result<Option<LineForm>, OutOfMemory>
     ensures form { IfOk result (λ form. form ≡ spec.schedule_query_form rest.now) }
-    ensures lawful { (held : SchemaLists) → IfOk result (λ form. IfSome form (IsLawfulForm held)) }
+    ensures lawful { (held : SchemaLists) (zones : List ZoneSpec)
+        → IfOk result (λ form. IfSome form (IsLawfulForm held zones)) }
 {
     let Some((actor, rest)) = actor_and_rest(rest) else {
         return Ok(None);
@@ -101,10 +106,52 @@ fn query_form(alloc: Global, rest: &[u8]) -> Result<Option<LineForm>, OutOfMemor
     }
 }
 
+// What says which leaf is switched, or whose turn it is.
+fn switch_form(topology: &Topology, word: &[u8], rest: &[u8]) -> Option<LineForm>
+    ensures form { result ≡ spec.switch_form topology.now word.now rest.now }
+    ensures lawful { (held : SchemaLists) → IfSome result (IsLawfulForm held topology.now) }
+{
+    if word == b"down".as_slice() {
+        down_form(topology, rest)
+    } else if word == b"up".as_slice() {
+        up_form(topology, rest)
+    } else {
+        turn_form(word, rest)
+    }
+}
+
+// A leaf that is to go down.
+fn down_form(topology: &Topology, rest: &[u8]) -> Option<LineForm>
+    ensures form { result ≡ spec.down_form topology.now rest.now }
+    ensures lawful { (held : SchemaLists) → IfSome result (IsLawfulForm held topology.now) }
+{
+    let (actor, leaf) = actor_and_leaf(topology, rest)?;
+    Some(LineForm::Declare(actor, Call::Down(leaf)))
+}
+
+// A leaf that is to come up.
+fn up_form(topology: &Topology, rest: &[u8]) -> Option<LineForm>
+    ensures form { result ≡ spec.up_form topology.now rest.now }
+    ensures lawful { (held : SchemaLists) → IfSome result (IsLawfulForm held topology.now) }
+{
+    let (actor, leaf) = actor_and_leaf(topology, rest)?;
+    Some(LineForm::Declare(actor, Call::Up(leaf)))
+}
+
+// An actor, and the leaf of a name.
+fn actor_and_leaf(topology: &Topology, rest: &[u8]) -> Option<(u32, Leaf)>
+    ensures words { result ≡ spec.actor_and_leaf topology.now rest.now }
+    ensures actor { IfSome result (λ words. IsActorNumber words.0) }
+    ensures leaf { IfSome result (λ words. words.1.0 < length (leaves_in topology.now)) }
+{
+    let (actor, name) = actor_and_rest(rest)?;
+    Some((actor, topology.leaf_named(name)?))
+}
+
 // What says whose turn it is, or who meets whom.
 fn turn_form(word: &[u8], rest: &[u8]) -> Option<LineForm>
     ensures form { result ≡ spec.turn_form word.now rest.now }
-    ensures lawful { (held : SchemaLists) → IfSome result (IsLawfulForm held) }
+    ensures lawful { (held : SchemaLists) (zones : List ZoneSpec) → IfSome result (IsLawfulForm held zones) }
 {
     if word == b"meet".as_slice() {
         meet_form(rest)
@@ -122,7 +169,7 @@ fn turn_form(word: &[u8], rest: &[u8]) -> Option<LineForm>
 // Two actors that are not the same.
 fn meet_form(rest: &[u8]) -> Option<LineForm>
     ensures form { result ≡ spec.meet_form rest.now }
-    ensures lawful { (held : SchemaLists) → IfSome result (IsLawfulForm held) }
+    ensures lawful { (held : SchemaLists) (zones : List ZoneSpec) → IfSome result (IsLawfulForm held zones) }
 {
     let (actor, other) = actor_and_rest(rest)?;
     let other = actor_of(other)?;
@@ -135,7 +182,7 @@ fn meet_form(rest: &[u8]) -> Option<LineForm>
 // An actor and the name of an event.
 fn until_form(rest: &[u8]) -> Option<LineForm>
     ensures form { result ≡ spec.until_form rest.now }
-    ensures lawful { (held : SchemaLists) → IfSome result (IsLawfulForm held) }
+    ensures lawful { (held : SchemaLists) (zones : List ZoneSpec) → IfSome result (IsLawfulForm held zones) }
 {
     let (actor, name) = actor_and_rest(rest)?;
     Some(LineForm::Until(actor, event_named(name)?))

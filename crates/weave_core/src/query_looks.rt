@@ -11,12 +11,11 @@ ghost use Rattle.weave_core.specs.QueryLooks.{FindsIf, LooksIf};
 ghost use Rattle.mon_topo.specs.Sights.{AreAlike};
 
 use crate::leaves::LeafSeat;
-use crate::queries::Querying;
 use crate::ranges::RangeSeat;
 use leaf_eval::{Visit, visit};
 use mon_topo::Sight;
 use mon_value::{Leaf, Leaves, OutOfMemory, Range, SlotLeaf};
-use query_core::Told;
+use query_core::{QueryMachine, Told};
 use std::alloc::Global;
 
 /// A query finds the first replica of a range that serves on none of these leaves, unless someone holds the range.
@@ -52,7 +51,8 @@ fn slot_told(found: Option<SlotLeaf>) -> Told
 /// holds the leaf.
 pub(crate) fn look(
     alloc: Global,
-    querying: &Querying,
+    machine: &QueryMachine,
+    moment: i64,
     limit: u64,
     seat: &mut LeafSeat,
     leaf: Leaf,
@@ -60,28 +60,20 @@ pub(crate) fn look(
 ) -> Result<Option<Told>, OutOfMemory>
     requires alike { AreAlike sight.old seat.old.sight }
     requires there { leaf.0 < length seat.old.sight.leaves }
-    requires listed { AreAmong (all_named (formulas (map formula_tree querying.now.machine.setting.plan.formulas)))
-        querying.now.machine.setting.plan.buckets }
-    requires moment { pos 0 ≤ℤ querying.now.moment }
+    requires listed { AreAmong (all_named (formulas (map formula_tree machine.now.setting.plan.formulas)))
+        machine.now.setting.plan.buckets }
+    requires moment { pos 0 ≤ℤ moment }
     requires limit { limit ≤ 2 ^ ROW_BITS }
-    requires readable { seat.old.holder ≡ None → CanBeRead (typed_tree querying.now.machine.setting.plan.typed)
-        seat.old.state.history (slots_of querying.now.machine.stage leaf) }
-    ensures looks { IfOk result (LooksIf querying.now.machine.setting.plan querying.now.moment limit
-        (slots_of querying.now.machine.stage leaf) leaf seat.old seat.new sight.old sight.new) }
+    requires readable { seat.old.holder ≡ None → CanBeRead (typed_tree machine.now.setting.plan.typed)
+        seat.old.state.history (slots_of machine.now.stage leaf) }
+    ensures looks { IfOk result (LooksIf machine.now.setting.plan moment limit
+        (slots_of machine.now.stage leaf) leaf seat.old seat.new sight.old sight.new) }
 {
     if seat.holder.is_some() {
         return Ok(None);
     }
-    let machine = &querying.machine;
     let slots = machine.slots(leaf);
-    let found = visit(
-        alloc,
-        machine.plan(),
-        &mut seat.state,
-        slots,
-        querying.moment,
-        limit,
-    )?;
+    let found = visit(alloc, machine.plan(), &mut seat.state, slots, moment, limit)?;
     seat.meet(leaf, sight);
     Ok(Some(visit_told(found)))
 }

@@ -1,9 +1,9 @@
 // The machine of a query's text.
 ghost use Rattle.std.specs.Prelude.{IfOk};
 ghost use Rattle.weave_core.specs.Agreements.{IsServed};
-ghost use Rattle.weave_core.specs.QueryPlans.{IsMachineOf, IsQueryCourse};
+ghost use Rattle.weave_core.specs.QueryPlans.{IsMachineOf, IsQueryTask};
 
-use crate::actors::Course;
+use crate::actors::Task;
 use crate::queries::Querying;
 use crate::store::Store;
 use crate::texts::no_plan;
@@ -14,13 +14,13 @@ use query_texts::{TextFault, plan_of};
 use std::alloc::{AllocError, Global};
 
 /// A query's text that is asked at a moment: a query that has not begun, or the line that says why there is none.
-pub(crate) fn query_course(store: &Store, moment: i64, text: &Text) -> Result<Course, OutOfMemory>
+pub(crate) fn query_task(store: &Store, moment: i64, text: &Text) -> Result<Task, OutOfMemory>
     requires served { IsServed store.now.config }
-    ensures course { IfOk result (IsQueryCourse store.now.config moment text.now) }
+    ensures task { IfOk result (IsQueryTask store.now.config moment text.now) }
 {
     match machine_of(store.alloc, &store.config, text.as_bytes()) {
-        Ok(machine) => Ok(Course::Queries(Querying { moment, machine })),
-        Err(Refusal::Fault(fault)) => Ok(Course::Refused(no_plan(store.alloc, fault)?)),
+        Ok(machine) => Ok(Task::Queries(Querying { moment, machine })),
+        Err(Refusal::Fault(fault)) => Ok(Task::Refused(no_plan(store.alloc, fault)?)),
         Err(Refusal::OutOfMemory) => Err(AllocError),
     }
 }

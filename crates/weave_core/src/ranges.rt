@@ -1,7 +1,7 @@
 // What is kept of a range.
 ghost use Rattle.std.specs.Prelude.{◌≡◌, ◌<◌, length};
 ghost use Rattle.mon_topo.specs.Sights.{AreAlike};
-ghost use Rattle.weave_core.specs.Meetings.{sight_at_range};
+ghost use Rattle.core_theory.specs.Meetings.{sight_at_range};
 
 use mon_topo::Sight;
 use mon_value::Range;

@@ -103,7 +103,8 @@ fn run_line(
     ensures ran { (config : ConfigOf) (state : State (store_of config)) → Agrees config weave.old state
         → LineSo config state line.now result weave.new (string_bytes out.old) (string_bytes out.new) }
 {
-    match form_of(alloc, &weave.config().schemas, line)? {
+    let config = weave.config();
+    match form_of(alloc, &config.schemas, &config.topology, line)? {
         Some(form) => run_form(alloc, weave, form, out),
         None => Err(Refusal::Fault(WeaveFault::BadLine)),
     }
@@ -118,7 +119,7 @@ fn run_form(
 ) -> Result<(), Refusal<WeaveFault>>
     requires kept { IsWeaveKept weave.old }
     requires lawful { (config : ConfigOf) (state : State (store_of config)) → Agrees config weave.old state
-        → IsLawfulForm config.schemas form }
+        → IsLawfulForm config.schemas config.topology form }
     ensures kept { OnOk result (IsWeaveKept weave.new) }
     ensures ran { (config : ConfigOf) (state : State (store_of config)) → Agrees config weave.old state
         → FormSo config state form result weave.new (string_bytes out.old) (string_bytes out.new) }
@@ -137,7 +138,7 @@ fn declare(weave: &mut Weave, actor: u32, call: Call) -> Result<(), Refusal<Weav
     requires kept { IsWeaveKept weave.old }
     requires actor { IsActorNumber actor }
     requires lawful { (config : ConfigOf) (state : State (store_of config)) → Agrees config weave.old state
-        → IsLawfulCall config.schemas call }
+        → IsLawfulCall config.schemas config.topology call }
     ensures kept { OnOk result (IsWeaveKept weave.new) }
     ensures ran { (config : ConfigOf) (state : State (store_of config)) → Agrees config weave.old state
         → FormSo config state (LineForm.Declare actor call) result weave.new [] [] }

@@ -1,12 +1,16 @@
 // What an actor prints that ends.
-ghost use Rattle.std.specs.Prelude.{◌≡◌, IfOk, string_bytes};
+ghost use Rattle.std.specs.Prelude.{◌≡◌, [], IfOk, string_bytes};
+ghost use Rattle.std.specs.List.{slice_index_or};
+ghost use Rattle.mon_topo.specs.Zones.{leaves_in};
 ghost use Rattle.query_core.specs.FaultTexts.{round_fault_text};
 ghost use Rattle.weave_core.specs.EndTexts as spec;
+ghost use Rattle.weave_core.specs.Switches.{switch_told};
 ghost use Rattle.write_core.specs.Refusals.{refused_text};
 
+use crate::switches::{Switched, Switching};
 use mon_table::print;
 use mon_topo::{Topology, down_text};
-use mon_value::{OutOfMemory, Range, Text};
+use mon_value::{Leaf, OutOfMemory, Range, Text};
 use query_core::{Answer, RoundFault, fault_text};
 use query_texts::TextFault;
 use std::alloc::Global;
@@ -53,6 +57,69 @@ fn refused_line(alloc: Global, why: Refused) -> Result<String, OutOfMemory>
     ensures line { IfOk result (λ line. string_bytes line ≡ spec.refused_line (refused_text why)) }
 {
     format!(in alloc; "refused: {why}\n")
+}
+
+/// The text of a switch of which this came.
+pub(crate) fn switch_text(
+    alloc: Global,
+    topology: &Topology,
+    switching: Switching,
+    came: Switched,
+) -> Result<Text, OutOfMemory>
+    ensures text { IfOk result (λ text.
+        text ≡ spec.switch_text topology.now switching.leaf switching.down (switch_told came)) }
+{
+    Ok(Text::from_string(switch_line(alloc, topology, switching, came)?))
+}
+
+// The line of it.
+fn switch_line(
+    alloc: Global,
+    topology: &Topology,
+    switching: Switching,
+    came: Switched,
+) -> Result<String, OutOfMemory>
+    ensures line { IfOk result (λ line. string_bytes line
+        ≡ spec.switch_text topology.now switching.leaf switching.down (switch_told came)) }
+{
+    match came {
+        Switched::Done(_) => done_line(alloc, topology, switching.leaf, switching.down),
+        Switched::AlreadyDown(cut) => format!(in alloc; "refused: AlreadyDown {cut}\n"),
+        Switched::AlreadyUp(cut) => format!(in alloc; "refused: AlreadyUp {cut}\n"),
+        Switched::Spent(count) => format!(in alloc; "refused: SwitchesSpent {count}\n"),
+    }
+}
+
+// The line of a leaf that went down, or came up.
+fn done_line(
+    alloc: Global,
+    topology: &Topology,
+    leaf: Leaf,
+    down: bool,
+) -> Result<String, OutOfMemory>
+    ensures line { IfOk result (λ line. string_bytes line ≡ spec.switch_done topology.now leaf down) }
+{
+    let word = switch_word(down);
+    let name = leaf_text(topology, leaf);
+    format!(in alloc; "{word} {name}: done\n")
+}
+
+// What a switch is called.
+fn switch_word(down: bool) -> &'static str
+    ensures word { result.now ≡ spec.switch_word down }
+{
+    if down { "down" } else { "up" }
+}
+
+// The name of a leaf, if there is such a leaf.
+fn leaf_text(topology: &Topology, leaf: Leaf) -> &str
+    ensures name { result.now ≡ slice_index_or (leaves_in topology.now) leaf.0 [] }
+{
+    if leaf.0 < topology.leaves() {
+        topology.leaf_name(leaf).as_str()
+    } else {
+        ""
+    }
 }
 
 /// The text of a write of a row whose location no zone lists.

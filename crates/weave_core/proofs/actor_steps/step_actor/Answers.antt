@@ -1,7 +1,8 @@
 use Rattle.std.proofs.Common.{Option}
-use Rattle.weave_core.proofs.ActorStepLemmas.{query_asks_for, query_step, refused_step, write_step}
+use Rattle.weave_core.proofs.ActorStepLemmas.{query_asks_for, query_step, refused_step, switch_asks_for, switch_step}
+use Rattle.weave_core.proofs.ActorStepLemmas.{write_step}
 use Rattle.weave_core.proofs.QueryTurnLemmas.{if_ok_on}
-use Rattle.weave_core.specs.ActorSteps.{ActorSteps, QueriedSo, WrittenSo}
+use Rattle.weave_core.specs.ActorSteps.{ActorSteps, QueriedSo, SwitchedSo, WrittenSo}
 use Rattle.weave_core.specs.declared.actors.Actor.{Actor}
 use Rattle.weave_core.specs.declared.calls.Stepped.{Stepped}
 use Rattle.weave_core.proofs.actor_steps.step_actor.Goals as goal
@@ -9,6 +10,24 @@ use Rattle.weave_core.proofs.actor_steps.step_actor.Goals as goal
 pub query-requires : goal.query-requires
 query-requires c = record {
   asking = query_asks_for c.args.store.now c.args.own c.in-Queries.querying c.in-Queries.is c.requires.somewhere;
+}
+
+pub switch-came-requires : goal.switch-came-requires
+switch-came-requires c =
+    let may = switch_asks_for c.args.store.now c.args.own c.in-Switches.switching c.in-Switches.is
+    c.requires.somewhere in
+    record { there = may.there; seated = may.seated }
+
+pub returns-in-Switches : goal.returns-in-Switches
+returns-in-Switches c = record {
+  stepped = λ config state i here. if_ok_on
+      (λ (pair : Actor × Option Stepped). SwitchedSo c.switch-came.new.self.config.topology c.in-Switches.switching
+      c.switch-came.result c.switch-came.new.sight c.args.own.begun pair.0 pair.1)
+      (λ (pair : Actor × Option Stepped). ActorSteps config state i c.switch-came.new.self c.args.own pair.0 pair.1)
+      (λ pair h. switch_step config state i c.args.store.now c.args.own here c.in-Switches.switching c.in-Switches.is
+      c.switch-came.new.self c.switch-came.new.sight c.switch-came.result pair.0 pair.1
+      c.switch-came.ensures.switches h)
+      c.switched.result c.switched.ensures.switched;
 }
 
 pub returns-in-Refused : goal.returns-in-Refused

@@ -1,35 +1,45 @@
 use Rattle.query_core.specs.declared.stages.Stage.TheVariants.{Ended}
 use Rattle.weave_core.proofs.ReachedLemmas.{reached}
-use Rattle.weave_core.proofs.ReaderLemmas.{as_new, stage_is}
+use Rattle.core_theory.proofs.ReaderLemmas.{as_new, stage_is}
 use Rattle.weave_core.specs.States.{store_of}
 use Rattle.weave_core.proofs.schedule_laws.schedules_answer_rightly.Goals as goal
 
 pub returns : goal.returns
 returns c =
     let law = c.queries_answer_rightly.ensures in
+    let said = c.what_is_said_was_noted.ensures in
     record {
-      woven = λ config first state lines new leads. (reached config first state lines new leads).woven;
+      woven = λ config first state lines new leads.
+          (reached config (said.noted (store_of config)) (said.begins (store_of config)) first state lines new
+          leads).woven;
       answered = λ config first state lines k answer new leads is ended.
-          let h = reached config first state lines new leads in
+          let h = reached config (said.noted (store_of config)) (said.begins (store_of config)) first state lines new
+          leads in
           let own = h.asked k is in
           law.answered (store_of config) state.core.world (state.core.readers k) answer (h.woven.readers k) own.first
           own.asked own.moment ended;
       stopped = λ config first state lines k limit trace new leads is ended.
-          let h = reached config first state lines new leads in
+          let h = reached config (said.noted (store_of config)) (said.begins (store_of config)) first state lines new
+          leads in
           let own = h.asked k is in
           law.stopped (store_of config) state.core.world (state.core.readers k) limit trace (h.woven.readers k)
           own.first own.asked own.moment ended;
       no_replica = λ config first state lines k range named new leads is ended.
-          let h = reached config first state lines new leads in
+          let h = reached config (said.noted (store_of config)) (said.begins (store_of config)) first state lines new
+          leads in
           let own = h.asked k is in
           law.no_replica (store_of config) state.core.world (state.core.readers k) range named (h.woven.readers k)
           own.first own.asked own.moment ended;
       named = λ config first state lines k end new leads is ended.
-          let h = reached config first state lines new leads in
+          let h = reached config (said.noted (store_of config)) (said.begins (store_of config)) first state lines new
+          leads in
           let reader = state.core.readers k in
           let own = h.woven.readers k in
           let fresh = (h.asked k is).first in
           c.ends_name_what_was_told.ensures.named (store_of config) reader.setting reader.moment
           reader.begin reader.session end (as_new (store_of config) state.core.world reader own fresh)
           (stage_is (store_of config) state.core.world reader own fresh (Ended end) ended);
+      noted = λ config first state lines k new leads.
+          (reached config (said.noted (store_of config)) (said.begins (store_of config)) first state lines new
+          leads).noted k;
     }

@@ -10,11 +10,11 @@ pub declare-requires-clause-actor : goal.declare-requires-clause-actor
 declare-requires-clause-actor c =
     let kept = c.requires.kept in
     let lawful = c.requires.lawful kept.config kept.state kept.agrees in
-    (subst (λ (form : LineForm). IsLawfulForm kept.config.schemas form) c.in-Declare.is lawful).0
+    (subst (λ (form : LineForm). IsLawfulForm kept.config.schemas kept.config.topology form) c.in-Declare.is lawful).0
 
 pub declare-requires-clause-lawful : goal.declare-requires-clause-lawful
 declare-requires-clause-lawful c = λ config state agrees.
-    (subst (λ (form : LineForm). IsLawfulForm config.schemas form) c.in-Declare.is (c.requires.lawful config state
+    (subst (λ (form : LineForm). IsLawfulForm config.schemas config.topology form) c.in-Declare.is (c.requires.lawful config state
     agrees)).1
 
 pub returns-in-Declare-clause-ran : goal.returns-in-Declare-clause-ran

@@ -17,18 +17,18 @@ returns-in_err-form-clause-ran c = λ config state agrees.
     passed_on (λ (answer : Result Unit (Refusal WeaveFault)). LineSo config state c.args.line.now answer
     c.args.weave.now out out)
     c.from_residual.result refusal.OutOfMemory (err_from_is_err_and c.from_residual.result c.from_residual.ensures.1)
-    (line_starved config state Unit (schedule_form config.schemas c.args.line.now) c.args.weave.now out)
+    (line_starved config state Unit (schedule_form config.schemas config.topology c.args.line.now) c.args.weave.now out)
 
 pub run_form-requires-clause-lawful : goal.run_form-requires-clause-lawful
 run_form-requires-clause-lawful c = λ config state agrees.
-    let found = subst (λ (form : Option LineForm). IfSome form (IsLawfulForm c.config.result.now.schemas)) c.in-Some.is
+    let found = subst (λ (form : Option LineForm). IfSome form (IsLawfulForm c.config-config.result.now.schemas c.config-config.result.now.topology)) c.in-Some.is
     c.in_ok-form.ensures.lawful in
-    subst (λ (of : Config). IsLawfulForm of.schemas c.in-Some.form) (c.config.ensures.config config state agrees) found
+    subst (λ (of : Config). IsLawfulForm of.schemas of.topology c.in-Some.form) (c.config-config.ensures.config config state agrees) found
 
 pub returns-in-Some-clause-ran : goal.returns-in-Some-clause-ran
 returns-in-Some-clause-ran c = λ config state agrees.
-    let says : schedule_form config.schemas c.args.line.now ≡ Some c.in-Some.form =
-    ap (λ (of : Config). schedule_form of.schemas c.args.line.now) (sym (c.config.ensures.config config state agrees))
+    let says : schedule_form config.schemas config.topology c.args.line.now ≡ Some c.in-Some.form =
+    ap (λ (of : Config). schedule_form of.schemas of.topology c.args.line.now) (sym (c.config-config.ensures.config config state agrees))
     ∙ sym c.in_ok-form.ensures.form ∙ c.in-Some.is in
     subst (λ (form : Option LineForm). LineBy config state form c.run_form.result c.run_form.new.weave
     (string_bytes c.args.out.now)
@@ -36,7 +36,7 @@ returns-in-Some-clause-ran c = λ config state agrees.
 
 pub returns-in-None-clause-ran : goal.returns-in-None-clause-ran
 returns-in-None-clause-ran c = λ config state agrees.
-    let says : schedule_form config.schemas c.args.line.now ≡ None =
-    ap (λ (of : Config). schedule_form of.schemas c.args.line.now) (sym (c.config.ensures.config config state agrees))
+    let says : schedule_form config.schemas config.topology c.args.line.now ≡ None =
+    ap (λ (of : Config). schedule_form of.schemas of.topology c.args.line.now) (sym (c.config-config.ensures.config config state agrees))
     ∙ sym c.in_ok-form.ensures.form ∙ c.in-None.is in
     search rules

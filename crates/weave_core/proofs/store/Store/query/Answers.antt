@@ -1,26 +1,68 @@
-use Rattle.std.proofs.Common.{IfOk, subst}
+use Rattle.std.proofs.Common.{◌≡◌, ◌∙◌, ℤ, IfOk, None, Option, Result, Some, of_z, refl, rules, subst, to_z, w64}
+use Rattle.query_core.specs.Program.{ask_of}
+use Rattle.query_core.specs.declared.asks.Told.{Told}
 use Rattle.weave_core.proofs.AskingLemmas.{may_tell}
+use Rattle.weave_core.proofs.QuerySideLemmas.{asked_there, told_so}
 use Rattle.weave_core.proofs.QueryTurnLemmas.{answered_turns, if_ok_on}
+use Rattle.weave_core.specs.QuerySides.{TellsThere}
 use Rattle.weave_core.specs.QueryTurns.{AnswersSo}
 use Rattle.weave_core.proofs.store.Store.query.Goals as goal
+
+pub find_next-requires : goal.find_next-requires
+find_next-requires c =
+    let w = c.requires.asking in
+    record {
+      goes_on = w.asking.goes_on;
+      asked = asked_there c.args.self.now c.args.querying c.args.sight.now _ (search rules) w;
+    }
 
 pub told_on-requires : goal.told_on-requires
 told_on-requires c =
     let w = c.requires.asking in
-    let its = AnswersSo w.config w.core w.k c.answer.new.self c.args.sight.now c.answer.new.sight in
+    let passed : to_z w64 (of_z w64 c.args.querying.moment) ≡ c.args.querying.moment = search rules in
+    let tells = subst (λ answer. IfOk answer (λ (found : Option Told). TellsThere c.args.self.now c.args.sight.now
+    c.args.querying.machine (to_z w64 (of_z w64 c.args.querying.moment))
+    (ask_of c.args.querying.machine.setting c.args.querying.machine.stage) found c.find_next.new.side
+    c.find_next.new.caller)) c.in-Ok-Some.is c.find_next.ensures.told in
     record {
       may = may_tell w.config w.core w.k c.args.self.now c.args.querying c.args.sight.now w.asking c.in-Ok-Some.told
-          (subst its c.in-Ok-Some.field-0-is
-          (subst (λ answer. IfOk answer its) c.in-Ok-Some.is
-          (c.answer.ensures.answers w.config w.core w.k w.asking))).told;
+          (subst (AnswersSo w.config w.core w.k c.find_next.new.side c.args.sight.now c.find_next.new.caller)
+          c.in-Ok-Some.field-0-is
+          (told_so w.config w.core w.k c.args.self.now c.args.querying c.args.sight.now w.asking
+          (to_z w64 (of_z w64 c.args.querying.moment)) passed c.in-Ok-Some.field-0 c.find_next.new.side
+          c.find_next.new.caller tells)).told;
     }
 
 pub returns-in-Ok-Some : goal.returns-in-Ok-Some
-returns-in-Ok-Some c = record {
-  turn = λ config core k asking. if_ok_on _ _ (λ turn by.
-      answered_turns config core k c.args.self.now c.args.querying c.args.sight.now asking c.answer.new.self
-      c.answer.new.sight c.in-Ok-Some.field-0 c.in-Ok-Some.told c.in-Ok-Some.field-0-is
-      (subst (λ answer. IfOk answer
-      (AnswersSo config core k c.answer.new.self c.args.sight.now c.answer.new.sight)) c.in-Ok-Some.is
-      (c.answer.ensures.answers config core k asking)) turn by) c.told_on.result c.told_on.ensures.turns;
-}
+returns-in-Ok-Some c =
+    let passed : to_z w64 (of_z w64 c.args.querying.moment) ≡ c.args.querying.moment = search rules in
+    let tells = subst (λ answer. IfOk answer (λ (found : Option Told). TellsThere c.args.self.now c.args.sight.now
+    c.args.querying.machine (to_z w64 (of_z w64 c.args.querying.moment))
+    (ask_of c.args.querying.machine.setting c.args.querying.machine.stage) found c.find_next.new.side
+    c.find_next.new.caller)) c.in-Ok-Some.is c.find_next.ensures.told in
+    record {
+      turn = λ config core k asking. if_ok_on _ _ (λ turn by.
+          answered_turns config core k c.args.self.now c.args.querying c.args.sight.now asking c.find_next.new.side
+          c.find_next.new.caller c.in-Ok-Some.field-0 c.in-Ok-Some.told c.in-Ok-Some.field-0-is
+          (told_so config core k c.args.self.now c.args.querying c.args.sight.now asking
+          (to_z w64 (of_z w64 c.args.querying.moment)) passed c.in-Ok-Some.field-0 c.find_next.new.side
+          c.find_next.new.caller tells) turn by) c.told_on.result c.told_on.ensures.turns;
+    }
+
+pub returns-in-Ok-None : goal.returns-in-Ok-None
+returns-in-Ok-None c =
+    let passed : to_z w64 (of_z w64 c.args.querying.moment) ≡ c.args.querying.moment = search rules in
+    let tells = subst (λ answer. IfOk answer (λ (found : Option Told). TellsThere c.args.self.now c.args.sight.now
+    c.args.querying.machine (to_z w64 (of_z w64 c.args.querying.moment))
+    (ask_of c.args.querying.machine.setting c.args.querying.machine.stage) found c.find_next.new.side
+    c.find_next.new.caller)) c.in-Ok-None.is c.find_next.ensures.told in
+    record {
+      turn = λ config core k asking. (
+        refl,
+        subst (AnswersSo config core k c.find_next.new.side c.args.sight.now c.find_next.new.caller)
+            c.in-Ok-None.field-0-is
+            (told_so config core k c.args.self.now c.args.querying c.args.sight.now asking
+            (to_z w64 (of_z w64 c.args.querying.moment)) passed c.in-Ok-None.field-0 c.find_next.new.side
+            c.find_next.new.caller tells),
+      );
+    }

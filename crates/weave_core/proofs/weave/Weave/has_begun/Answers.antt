@@ -1,5 +1,5 @@
 use Rattle.std.proofs.Common.{◌∙◌}
-use Rattle.weave_core.proofs.CourseLemmas.{begun_nowhere, begun_there}
+use Rattle.weave_core.proofs.TaskLemmas.{begun_nowhere, begun_there}
 use Rattle.weave_core.proofs.weave.Weave.has_begun.Goals as goal
 
 pub returns-in-Some : goal.returns-in-Some

@@ -1,5 +1,5 @@
 use Rattle.std.proofs.Common.{◌∙◌}
-use Rattle.weave_core.proofs.CourseLemmas.{over_nowhere, over_there}
+use Rattle.weave_core.proofs.TaskLemmas.{over_nowhere, over_there}
 use Rattle.weave_core.proofs.weave.Weave.has_ended.Goals as goal
 
 pub returns-in-Some : goal.returns-in-Some

@@ -1,6 +1,6 @@
 use Rattle.std.proofs.Common.{◌≡◌, ◌∙◌, is_some, rules}
 use Rattle.std.specs.Option.{option_copied}
-use Rattle.weave_core.proofs.CourseLemmas.{is_declared, some_copied}
+use Rattle.weave_core.proofs.TaskLemmas.{is_declared, some_copied}
 use Rattle.weave_core.proofs.weave.Weave.is_declared.Goals as goal
 
 pub returns : goal.returns

@@ -1,5 +1,5 @@
 use Rattle.std.proofs.Common.{◌∙◌}
-use Rattle.weave_core.proofs.CourseLemmas.{next_nowhere, next_there}
+use Rattle.weave_core.proofs.TaskLemmas.{next_nowhere, next_there}
 use Rattle.weave_core.proofs.weave.Weave.next_event.Goals as goal
 
 pub returns-in-Some : goal.returns-in-Some

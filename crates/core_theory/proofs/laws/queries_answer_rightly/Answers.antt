@@ -3,8 +3,8 @@ use Rattle.query_core.specs.Answers.{IsAnsweredRightly, IsStoppedRightly}
 use Rattle.query_core.specs.Findings.{HasNoReplica}
 use Rattle.query_core.specs.declared.answers.RoundFault.TheVariants.{NoReplica, StepLimit}
 use Rattle.query_core.specs.declared.stages.Stage.TheVariants.{Ended}
-use Rattle.weave_core.proofs.ReaderLemmas.{as_new, seen_now, stage_is}
-use Rattle.weave_core.proofs.laws.queries_answer_rightly.Goals as goal
+use Rattle.core_theory.proofs.ReaderLemmas.{as_new, seen_now, stage_is}
+use Rattle.core_theory.proofs.laws.queries_answer_rightly.Goals as goal
 
 pub returns : goal.returns
 returns c = record {

@@ -19,10 +19,10 @@ use Rattle.query_core.specs.Sessions.{IsLicensed, IsTrueAnswer, query_after, vie
 use Rattle.mon_topo.specs.Views.{IsSound, IsViewWithin, View, joined_view, of_leaf}
 use Rattle.query_core.specs.declared.asks.Ask.TheVariants as ask
 use Rattle.query_core.specs.declared.asks.Told.{Told}
-use Rattle.weave_core.proofs.CoreLemmas.{all_looked, at_leaf, found_so, goes, sound_so, true_told}
-use Rattle.weave_core.proofs.ReaderLemmas.{as_new}
-use Rattle.weave_core.specs.Core.{IsLookedAt, IsTold, Reader, asked_now, query_now, view_told, world_told}
-use Rattle.weave_core.specs.Licensed.{IsReader}
+use Rattle.core_theory.proofs.CoreLemmas.{all_looked, at_leaf, found_so, goes, sound_so, true_told}
+use Rattle.core_theory.proofs.ReaderLemmas.{as_new}
+use Rattle.core_theory.specs.Core.{IsLookedAt, IsTold, Reader, asked_now, query_now, view_told, world_told}
+use Rattle.core_theory.specs.Licensed.{IsReader}
 use Rattle.write_core.specs.Invariant.{IsKept}
 use Rattle.write_core.specs.World.{World}
 

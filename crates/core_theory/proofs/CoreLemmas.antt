@@ -36,11 +36,11 @@ use Rattle.write_core.specs.Events.{Resolves, Visits, after_event}
 use Rattle.write_core.specs.Invariant.{IsKept}
 use Rattle.mon_topo.specs.Views.{IsSound, IsViewWithin, View, joined_view, of_leaf, of_range}
 use Rattle.write_core.specs.World.{IsPart, World}
-use Rattle.weave_core.specs.Core.{CanCome, CanGoOn, Core, CoreEvent, Happens, Hears, IsLookedAt, IsTold, MayTell}
-use Rattle.weave_core.specs.Core.{Reader, Tells, asked_now, begun_with, came, core_gone_on, query_now, root_word_bits}
-use Rattle.weave_core.specs.Core.{told_on, view_then, view_told, with_bits, world_then, world_told}
-use Rattle.weave_core.specs.Core.{zone_word_bits}
-use Rattle.weave_core.specs.Licensed.{IsNewCore, IsNewReader, IsReader, IsWoven}
+use Rattle.core_theory.specs.Core.{CanCome, CanGoOn, Core, CoreEvent, Happens, Hears, IsLookedAt, IsTold, MayTell}
+use Rattle.core_theory.specs.Core.{Reader, Tells, asked_now, begun_with, came, core_gone_on, query_now, root_word_bits}
+use Rattle.core_theory.specs.Core.{told_on, view_then, view_told, with_bits, world_then, world_told}
+use Rattle.core_theory.specs.Core.{zone_word_bits}
+use Rattle.core_theory.specs.Licensed.{IsNewCore, IsNewReader, IsReader, IsWoven}
 
 -- ---- a session with one event more
 

@@ -5,7 +5,7 @@ use Rattle.std.specs.Prelude.{option_map}
 use Rattle.std.proofs.lemmas.Option.{none-some, same_Some}
 use Rattle.mon_topo.specs.Settings.{Setting, zone_of_leaf}
 use Rattle.mon_value.specs.declared.positions.Leaf.{Leaf}
-use Rattle.weave_core.specs.Holders.{AreHolders, HoldsLeaf, HoldsRange, IsHolding, leaf_inside}
+use Rattle.core_theory.specs.Holders.{AreHolders, HoldsLeaf, HoldsRange, IsHolding, leaf_inside}
 use Rattle.write_core.proofs.KeepsLemmas.{changed_by, changed_same}
 use Rattle.write_core.specs.Program.{Acking, Ended, Entering, Inside, Locking, Marked, Reserving, Stage, Verdict}
 use Rattle.write_core.specs.Program.{after, entering, reserving}
@@ -14,7 +14,9 @@ use Rattle.write_core.specs.Marks.{waiting}
 use Rattle.write_core.specs.Steps.{CanCome, CanComeAt, CanGo, with_acknowledgement, entrant, step, step_at}
 use Rattle.write_core.specs.Steps.{after_answer, same_view}
 use Rattle.mon_topo.specs.Views.{View, joined_view, with_entry, with_root_bit, with_zone_bit}
-use Rattle.write_core.specs.World.{Actor, World, Writer, Writes, at_leaf, at_range, with_value_at, put_of, writes_on}
+use Rattle.write_core.specs.Events.{SwitchTold, after_switch, switched, switches_with}
+use Rattle.write_core.specs.World.{Actor, Recovers, Stands, World, Writer, Writes, at_leaf, at_range, put_of}
+use Rattle.write_core.specs.World.{stands_on, with_value_at, writes_on}
 use Rattle.write_core.specs.declared.asks.WriteTold.{WriteTold}
 use Rattle.write_core.specs.declared.asks.WriteTold.TheVariants as told
 use Rattle.write_core.specs.declared.marks.Fate.TheVariants as fate
@@ -27,14 +29,14 @@ holding_entering_by : (b : Bool) (round : Round) → IsHolding (cond b (Acking (
 holding_entering_by true round = tt
 holding_entering_by false round = tt
 
-holding_entering : (round : Round) → IsHolding (entering round)
+pub holding_entering : (round : Round) → IsHolding (entering round)
 holding_entering round = holding_entering_by (is_through (after_skip round)) (after_skip round)
 
 holding_reserving_by : (b : Bool) (round : Round) → IsHolding (cond b (entering (again round)) (Reserving round))
 holding_reserving_by true round = holding_entering (again round)
 holding_reserving_by false round = tt
 
-holding_reserving : (round : Round) → IsHolding (reserving round)
+pub holding_reserving : (round : Round) → IsHolding (reserving round)
 holding_reserving round = holding_reserving_by (is_through round) round
 
 -- ---- one actor is another
@@ -270,3 +272,25 @@ step_held setting world i who answer is h can =
     subst (λ (w : World). AreHolders w) (sym (ap (λ (actor : Actor). after_answer setting world i actor answer) is))
     (held_at setting world i who is h who.stage answer refl
     (subst (λ (actor : Actor). CanGo setting world actor answer) is can))
+
+-- ---- a switch
+
+-- who stands by holds nothing, and switches a leaf that nobody holds then
+switched_held : (world : World) (i : ℕ) (actor : Actor) (leaf : Leaf) (down : Bool) (answer : SwitchTold)
+    → world.actors i ≡ actor → AreHolders world → AreHolders (switched world i actor leaf down answer)
+switched_held world i (Writes writer) leaf down answer is h = h
+switched_held world i (Recovers recovery) leaf down answer is h = h
+switched_held world i (Stands who) leaf down answer is h =
+    let new : Actor = stands_on who (switches_with leaf down who.pass answer
+    (joined_view who.view (world.leaves leaf.0))) in
+    record {
+      range = range_kept world i h new
+          (λ r held. absurd (subst (λ (actor : Actor). HoldsRange r actor) is held));
+      leaf = leaf_changed world i h new leaf.0 None
+          (λ l apart held. absurd (subst (λ (actor : Actor). HoldsLeaf l actor) is held))
+          (λ j e. absurd (none-some j e));
+    }
+
+pub switch_held : (world : World) (i : ℕ) (leaf : Leaf) (down : Bool) (answer : SwitchTold) → AreHolders world
+    → AreHolders (after_switch world i leaf down answer)
+switch_held world i leaf down answer = switched_held world i (world.actors i) leaf down answer refl

@@ -6,8 +6,8 @@ use Rattle.query_core.specs.Machine.{Query, new_query}
 use Rattle.query_core.specs.Sessions as session
 use Rattle.query_core.specs.Sessions.{IsLicensed, query_after, view_after}
 use Rattle.query_core.specs.declared.stages.Stage.{Stage}
-use Rattle.weave_core.specs.Core.{Reader, query_now}
-use Rattle.weave_core.specs.Licensed.{IsReader}
+use Rattle.core_theory.specs.Core.{Reader, query_now}
+use Rattle.core_theory.specs.Licensed.{IsReader}
 use Rattle.write_core.specs.World.{World}
 
 module _ (store : Setting) (world : World) (reader : Reader store) (own : IsReader store world reader)

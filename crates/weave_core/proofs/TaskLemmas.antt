@@ -8,16 +8,17 @@ use Rattle.query_core.specs.Program as query
 use Rattle.query_core.specs.Settings.{QuerySetting}
 use Rattle.query_core.specs.declared.asks.Ask.{Ask}
 use Rattle.query_core.specs.declared.asks.Ask.TheVariants as query_ask
-use Rattle.weave_core.specs.ActorAgreements.{Agrees, IsActorSo, IsCourseSo, IsQuerying, IsWriting, actor_numbered}
-use Rattle.weave_core.specs.Core.{Reader, asked_now, query_now}
-use Rattle.weave_core.specs.Courses.{event_of, is_over}
+use Rattle.weave_core.specs.ActorAgreements.{Agrees, IsActorSo, IsTaskSo, IsQuerying, IsWriting, actor_numbered}
+use Rattle.core_theory.specs.Core.{Reader, asked_now, query_now}
+use Rattle.weave_core.specs.Tasks.{event_of, is_over}
 use Rattle.weave_core.specs.EventNames.{event_of_query, event_of_write}
 use Rattle.weave_core.specs.States as spec
-use Rattle.weave_core.specs.States.{Asking, Dismissed, Eventless, Role, State, Undeclared, Writing, begun_in}
+use Rattle.weave_core.specs.States.{Asking, Dismissed, Eventless, Role, State, Switching, Undeclared, Writing}
+use Rattle.weave_core.specs.States.{begun_in}
 use Rattle.weave_core.specs.States.{declared_in, ended_in, role_fault, next_in, store_of, write_asks}
 use Rattle.weave_core.specs.declared.actors.Actor.{Actor}
-use Rattle.weave_core.specs.declared.actors.Course.{Course}
-use Rattle.weave_core.specs.declared.actors.Course.TheVariants as course
+use Rattle.weave_core.specs.declared.actors.Task.{Task}
+use Rattle.weave_core.specs.declared.actors.Task.TheVariants as task
 use Rattle.weave_core.specs.declared.calls.WeaveFault.TheVariants as fault
 use Rattle.weave_core.specs.declared.queries.Querying.{Querying}
 use Rattle.mon_topo.specs.declared.sights.Sight.{Sight}
@@ -79,32 +80,42 @@ module _ (config : Config) (state : State (store_of config)) (i : ℕ) where
 
   -- ---- its next event
 
-  next_so : (role : Role) (one : Course) (begun : Bool) (sight : Sight) → IsCourseSo config i Doer' Reader' role one
+  next_so : (role : Role) (one : Task) (begun : Bool) (sight : Sight) → IsTaskSo config i Doer' Reader' role one
       begun sight
       → event_of one ≡ next_in (store_of config) state i role
   next_so Undeclared one begun sight h = absurd h
-  next_so (Eventless text) (course.Refused own) begun sight h = refl
-  next_so (Eventless text) (course.Writes writing) begun sight h = absurd h
-  next_so (Eventless text) (course.Queries querying) begun sight h = absurd h
-  next_so (Eventless text) course.Ended begun sight h = absurd h
-  next_so Dismissed (course.Refused own) begun sight h = absurd h
-  next_so Dismissed (course.Writes writing) begun sight h = absurd h
-  next_so Dismissed (course.Queries querying) begun sight h = absurd h
-  next_so Dismissed course.Ended begun sight h = refl
-  next_so Writing (course.Refused own) begun sight h = absurd h
-  next_so Writing (course.Writes writing) begun sight h =
+  next_so (Eventless text) (task.Refused own) begun sight h = refl
+  next_so (Eventless text) (task.Switches switching) begun sight h = absurd h
+  next_so (Eventless text) (task.Writes writing) begun sight h = absurd h
+  next_so (Eventless text) (task.Queries querying) begun sight h = absurd h
+  next_so (Eventless text) task.Ended begun sight h = absurd h
+  next_so (Switching leaf down) (task.Refused own) begun sight h = absurd h
+  next_so (Switching leaf down) (task.Switches switching) begun sight h = refl
+  next_so (Switching leaf down) (task.Writes writing) begun sight h = absurd h
+  next_so (Switching leaf down) (task.Queries querying) begun sight h = absurd h
+  next_so (Switching leaf down) task.Ended begun sight h = absurd h
+  next_so Dismissed (task.Refused own) begun sight h = absurd h
+  next_so Dismissed (task.Switches switching) begun sight h = absurd h
+  next_so Dismissed (task.Writes writing) begun sight h = absurd h
+  next_so Dismissed (task.Queries querying) begun sight h = absurd h
+  next_so Dismissed task.Ended begun sight h = refl
+  next_so Writing (task.Refused own) begun sight h = absurd h
+  next_so Writing (task.Switches switching) begun sight h = absurd h
+  next_so Writing (task.Writes writing) begun sight h =
       ap (λ (asks : WriteAsk). event_of_write asks) (write_asks_so writing begun sight h)
-  next_so Writing (course.Queries querying) begun sight h = absurd h
-  next_so Writing course.Ended begun sight h = sym (ap (λ (asks : WriteAsk). event_of_write asks) h.ended)
-  next_so Asking (course.Refused own) begun sight h = absurd h
-  next_so Asking (course.Writes writing) begun sight h = absurd h
-  next_so Asking (course.Queries querying) begun sight h =
+  next_so Writing (task.Queries querying) begun sight h = absurd h
+  next_so Writing task.Ended begun sight h = sym (ap (λ (asks : WriteAsk). event_of_write asks) h.ended)
+  next_so Asking (task.Refused own) begun sight h = absurd h
+  next_so Asking (task.Switches switching) begun sight h = absurd h
+  next_so Asking (task.Writes writing) begun sight h = absurd h
+  next_so Asking (task.Queries querying) begun sight h =
       ap (λ (asks : Ask). event_of_query asks) (query_asks_so querying begun sight h)
-  next_so Asking course.Ended begun sight h = sym (ap (λ (asks : Ask). event_of_query asks) h.ended)
+  next_so Asking task.Ended begun sight h = sym (ap (λ (asks : Ask). event_of_query asks) h.ended)
 
   no_next : (role : Role) → IsActorSo config i Doer' Reader' role None → None ≡ next_in (store_of config) state i role
   no_next Undeclared h = refl
   no_next (Eventless text) h = absurd h
+  no_next (Switching leaf down) h = absurd h
   no_next Dismissed h = absurd h
   no_next Writing h = absurd h
   no_next Asking h = absurd h
@@ -116,7 +127,9 @@ module _ (config : Config) (state : State (store_of config)) (i : ℕ) where
   declared_so Undeclared None h = refl
   declared_so Undeclared (Some own) h = absurd h
   declared_so (Eventless text) None h = absurd h
+  declared_so (Switching leaf down) None h = absurd h
   declared_so (Eventless text) (Some own) h = refl
+  declared_so (Switching leaf down) (Some own) h = refl
   declared_so Dismissed None h = absurd h
   declared_so Dismissed (Some own) h = refl
   declared_so Writing None h = absurd h
@@ -128,73 +141,94 @@ module _ (config : Config) (state : State (store_of config)) (i : ℕ) where
       → role_fault (store_of config) state i role ≡ Some fault.NoActor
   no_actor Undeclared h = refl
   no_actor (Eventless text) h = absurd h
+  no_actor (Switching leaf down) h = absurd h
   no_actor Dismissed h = absurd h
   no_actor Writing h = absurd h
   no_actor Asking h = absurd h
 
   -- ---- whether it has ended
 
-  over_so : (role : Role) (one : Course) (begun : Bool) (sight : Sight) → IsCourseSo config i Doer' Reader' role one
+  over_so : (role : Role) (one : Task) (begun : Bool) (sight : Sight) → IsTaskSo config i Doer' Reader' role one
       begun sight
       → is_over one ≡ ended_in (store_of config) state i role
   over_so Undeclared one begun sight h = absurd h
-  over_so (Eventless text) (course.Refused own) begun sight h = refl
-  over_so (Eventless text) (course.Writes writing) begun sight h = absurd h
-  over_so (Eventless text) (course.Queries querying) begun sight h = absurd h
-  over_so (Eventless text) course.Ended begun sight h = absurd h
-  over_so Dismissed (course.Refused own) begun sight h = absurd h
-  over_so Dismissed (course.Writes writing) begun sight h = absurd h
-  over_so Dismissed (course.Queries querying) begun sight h = absurd h
-  over_so Dismissed course.Ended begun sight h = refl
-  over_so Writing (course.Refused own) begun sight h = absurd h
-  over_so Writing (course.Writes writing) begun sight h =
+  over_so (Eventless text) (task.Refused own) begun sight h = refl
+  over_so (Eventless text) (task.Switches switching) begun sight h = absurd h
+  over_so (Eventless text) (task.Writes writing) begun sight h = absurd h
+  over_so (Eventless text) (task.Queries querying) begun sight h = absurd h
+  over_so (Eventless text) task.Ended begun sight h = absurd h
+  over_so (Switching leaf down) (task.Refused own) begun sight h = absurd h
+  over_so (Switching leaf down) (task.Switches switching) begun sight h = refl
+  over_so (Switching leaf down) (task.Writes writing) begun sight h = absurd h
+  over_so (Switching leaf down) (task.Queries querying) begun sight h = absurd h
+  over_so (Switching leaf down) task.Ended begun sight h = absurd h
+  over_so Dismissed (task.Refused own) begun sight h = absurd h
+  over_so Dismissed (task.Switches switching) begun sight h = absurd h
+  over_so Dismissed (task.Writes writing) begun sight h = absurd h
+  over_so Dismissed (task.Queries querying) begun sight h = absurd h
+  over_so Dismissed task.Ended begun sight h = refl
+  over_so Writing (task.Refused own) begun sight h = absurd h
+  over_so Writing (task.Switches switching) begun sight h = absurd h
+  over_so Writing (task.Writes writing) begun sight h =
       sym (ap (λ (asks : WriteAsk). not (is_some (event_of_write asks))) (sym (write_asks_so writing begun sight h))
       ∙ ap not (write_goes (write.ask_of writing.machine.stage) h.goes_on))
-  over_so Writing (course.Queries querying) begun sight h = absurd h
-  over_so Writing course.Ended begun sight h = sym (ap (λ (asks : WriteAsk). not (is_some (event_of_write asks)))
+  over_so Writing (task.Queries querying) begun sight h = absurd h
+  over_so Writing task.Ended begun sight h = sym (ap (λ (asks : WriteAsk). not (is_some (event_of_write asks)))
       h.ended)
-  over_so Asking (course.Refused own) begun sight h = absurd h
-  over_so Asking (course.Writes writing) begun sight h = absurd h
-  over_so Asking (course.Queries querying) begun sight h =
+  over_so Asking (task.Refused own) begun sight h = absurd h
+  over_so Asking (task.Switches switching) begun sight h = absurd h
+  over_so Asking (task.Writes writing) begun sight h = absurd h
+  over_so Asking (task.Queries querying) begun sight h =
       sym (ap (λ (asks : Ask). not (is_some (event_of_query asks))) (sym (query_asks_so querying begun sight h))
       ∙ ap not (query_goes (query.ask_of querying.machine.setting querying.machine.stage) h.goes_on))
-  over_so Asking course.Ended begun sight h = sym (ap (λ (asks : Ask). not (is_some (event_of_query asks))) h.ended)
+  over_so Asking task.Ended begun sight h = sym (ap (λ (asks : Ask). not (is_some (event_of_query asks))) h.ended)
 
   not_over : (role : Role) → IsActorSo config i Doer' Reader' role None → false ≡ ended_in (store_of config) state i
       role
   not_over Undeclared h = refl
   not_over (Eventless text) h = absurd h
+  not_over (Switching leaf down) h = absurd h
   not_over Dismissed h = absurd h
   not_over Writing h = absurd h
   not_over Asking h = absurd h
 
   -- ---- whether it has begun
 
-  begun_so : (role : Role) (one : Course) (begun : Bool) (sight : Sight) → IsCourseSo config i Doer' Reader' role one
+  begun_so : (role : Role) (one : Task) (begun : Bool) (sight : Sight) → IsTaskSo config i Doer' Reader' role one
       begun sight
       → (begun || is_over one) ≡ begun_in (store_of config) state i role
   begun_so Undeclared one begun sight h = absurd h
-  begun_so (Eventless text) (course.Refused own) begun sight h = or_false begun ∙ h.begun_is
-  begun_so (Eventless text) (course.Writes writing) begun sight h = absurd h
-  begun_so (Eventless text) (course.Queries querying) begun sight h = absurd h
-  begun_so (Eventless text) course.Ended begun sight h = absurd h
-  begun_so Dismissed (course.Refused own) begun sight h = absurd h
-  begun_so Dismissed (course.Writes writing) begun sight h = absurd h
-  begun_so Dismissed (course.Queries querying) begun sight h = absurd h
-  begun_so Dismissed course.Ended begun sight h = or_true begun
-  begun_so Writing (course.Refused own) begun sight h = absurd h
-  begun_so Writing (course.Writes writing) begun sight h = or_false begun ∙ h.begun_is
-  begun_so Writing (course.Queries querying) begun sight h = absurd h
-  begun_so Writing course.Ended begun sight h = or_true begun ∙ sym h.begun_is
-  begun_so Asking (course.Refused own) begun sight h = absurd h
-  begun_so Asking (course.Writes writing) begun sight h = absurd h
-  begun_so Asking (course.Queries querying) begun sight h = or_false begun ∙ h.begun_is
-  begun_so Asking course.Ended begun sight h = or_true begun ∙ sym h.begun_is
+  begun_so (Eventless text) (task.Refused own) begun sight h = or_false begun ∙ h.begun_is
+  begun_so (Eventless text) (task.Switches switching) begun sight h = absurd h
+  begun_so (Eventless text) (task.Writes writing) begun sight h = absurd h
+  begun_so (Eventless text) (task.Queries querying) begun sight h = absurd h
+  begun_so (Eventless text) task.Ended begun sight h = absurd h
+  begun_so (Switching leaf down) (task.Refused own) begun sight h = absurd h
+  begun_so (Switching leaf down) (task.Switches switching) begun sight h = or_false begun ∙ h.begun_is
+  begun_so (Switching leaf down) (task.Writes writing) begun sight h = absurd h
+  begun_so (Switching leaf down) (task.Queries querying) begun sight h = absurd h
+  begun_so (Switching leaf down) task.Ended begun sight h = absurd h
+  begun_so Dismissed (task.Refused own) begun sight h = absurd h
+  begun_so Dismissed (task.Switches switching) begun sight h = absurd h
+  begun_so Dismissed (task.Writes writing) begun sight h = absurd h
+  begun_so Dismissed (task.Queries querying) begun sight h = absurd h
+  begun_so Dismissed task.Ended begun sight h = or_true begun
+  begun_so Writing (task.Refused own) begun sight h = absurd h
+  begun_so Writing (task.Switches switching) begun sight h = absurd h
+  begun_so Writing (task.Writes writing) begun sight h = or_false begun ∙ h.begun_is
+  begun_so Writing (task.Queries querying) begun sight h = absurd h
+  begun_so Writing task.Ended begun sight h = or_true begun ∙ sym h.begun_is
+  begun_so Asking (task.Refused own) begun sight h = absurd h
+  begun_so Asking (task.Switches switching) begun sight h = absurd h
+  begun_so Asking (task.Writes writing) begun sight h = absurd h
+  begun_so Asking (task.Queries querying) begun sight h = or_false begun ∙ h.begun_is
+  begun_so Asking task.Ended begun sight h = or_true begun ∙ sym h.begun_is
 
   not_begun : (role : Role) → IsActorSo config i Doer' Reader' role None → false ≡ begun_in (store_of config) state i
       role
   not_begun Undeclared h = refl
   not_begun (Eventless text) h = absurd h
+  not_begun (Switching leaf down) h = absurd h
   not_begun Dismissed h = absurd h
   not_begun Writing h = absurd h
   not_begun Asking h = absurd h
@@ -213,16 +247,16 @@ module _ (weave : Weave) (i : ℕ) (one : Option Actor) (is : one ≡ actor_numb
 
 module _ (weave : Weave) (i : ℕ) (own : Actor) (is : Some own ≡ actor_numbered weave.actors.items i) (config : Config)
     (state : State (store_of config)) (agrees : Agrees config weave state) where
-  pub next_there : event_of own.course ≡ spec.next_event (store_of config) state i
-  next_there = next_so config state i (state.roles i) own.course own.begun own.sight
+  pub next_there : event_of own.task ≡ spec.next_event (store_of config) state i
+  next_there = next_so config state i (state.roles i) own.task own.begun own.sight
       (here weave i (Some own) is config state agrees)
 
-  pub over_there : is_over own.course ≡ spec.has_ended (store_of config) state i
-  over_there = over_so config state i (state.roles i) own.course own.begun own.sight
+  pub over_there : is_over own.task ≡ spec.has_ended (store_of config) state i
+  over_there = over_so config state i (state.roles i) own.task own.begun own.sight
       (here weave i (Some own) is config state agrees)
 
-  pub begun_there : (own.begun || is_over own.course) ≡ spec.has_begun (store_of config) state i
-  begun_there = begun_so config state i (state.roles i) own.course own.begun own.sight
+  pub begun_there : (own.begun || is_over own.task) ≡ spec.has_begun (store_of config) state i
+  begun_there = begun_so config state i (state.roles i) own.task own.begun own.sight
       (here weave i (Some own) is config state agrees)
 
 module _ (weave : Weave) (i : ℕ) (is : None ≡ actor_numbered weave.actors.items i) (config : Config)

@@ -5,7 +5,7 @@ use Rattle.query_core.specs.Sessions.{IsLicensed, view_after}
 use Rattle.mon_topo.specs.Views.{IsSound}
 use Rattle.write_core.specs.Invariant.{IsKept, IsNewWorld}
 use Rattle.write_core.specs.World.{IsPart, World}
-use Rattle.weave_core.specs.Core.{Core, Reader}
+use Rattle.core_theory.specs.Core.{Core, Reader}
 
 -- what a query's caller has seen and knows is a sound part of the truth, as it was when the query began; and its
 -- session is licensed

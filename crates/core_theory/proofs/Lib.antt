@@ -1,0 +1,5 @@
+pub mod CoreLemmas
+pub mod HolderLemmas
+pub mod MeetingLemmas
+pub mod ReaderAnswers
+pub mod ReaderLemmas

@@ -1,0 +1,4 @@
+pub mod Core
+pub mod Holders
+pub mod Licensed
+pub mod Meetings

@@ -1,0 +1,6 @@
+//! What holds of writes, recoveries and queries whose events go one by one, in any order.
+#![tactic(auto)]
+
+mod laws;
+
+pub use laws::{meetings_see_as_far_as_views, queries_answer_rightly, queries_are_licensed};

@@ -1,5 +1,0 @@
-use Rattle.weave_core.proofs.CoreLemmas.{new_woven, stays_woven}
-use Rattle.weave_core.proofs.laws.queries_are_licensed.Goals as goal
-
-pub returns : goal.returns
-returns c = record { begins = new_woven; stays = stays_woven }
