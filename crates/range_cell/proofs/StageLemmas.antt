@@ -2,7 +2,7 @@
 use Rattle.std.proofs.Common.{◌≡◌, ◌≢◌, ℕ, suc, ◌+◌, ◌<◌, ◌≤◌, Bool, true, false, List, [], ◌∷◌, ◌++◌, length}
 use Rattle.std.proofs.Common.{length-append, map, refl, sym, ap, subst, ◌∙◌, append_assoc}
 use Rattle.std.proofs.Common.{arith, cond, nat_eq, Some, None}
-use Rattle.std.specs.Prelude.{◌&&◌, Option, option_map}
+use Rattle.std.specs.Prelude.{◌&&◌, Contains, Option, option_map, zero}
 use Rattle.std.specs.List.{AllByRecursion}
 use Rattle.std.proofs.lemmas.Bool.{cond_both}
 use Rattle.history_book.proofs.ListLemmas.{prefix_trans}
@@ -13,6 +13,7 @@ use Rattle.history_book.specs.declared.views.Kept.{Kept}
 use Rattle.know.specs.Knowledge.{Knowledge}
 use Rattle.know.specs.declared.answers.Found.{Found}
 use Rattle.know.specs.declared.answers.Found.TheVariants as found
+use Rattle.mon_topo.proofs.RangeHistoryLemmas.{all_at, all_from}
 use Rattle.mon_topo.specs.HeldHistories.{IsAtHome}
 use Rattle.mon_topo.specs.Settings.{Setting}
 use Rattle.mon_topo.specs.Zones.{leaves_in}
@@ -34,6 +35,7 @@ use Rattle.range_cell.specs.Stages.{IsWithdrawing, needed}
 use Rattle.write_core.specs.Going.{going_marks}
 use Rattle.range_cell.specs.Turns.{after_put, told_of}
 use Rattle.range_cell.specs.Writing.{HasRows, IsFated, IsWriting, put_of, ready_count, with_put_of, with_puts}
+use Rattle.write_core.proofs.AckLemmas.{contains_later}
 use Rattle.write_core.proofs.StageLemmas.{skips}
 use Rattle.write_core.specs.Invariant.{AreAll, IsAtReady, is_asked, is_decided, is_waiting}
 use Rattle.write_core.specs.Marks.{is_ready, replica_of, with_fate}
@@ -46,6 +48,16 @@ use Rattle.write_core.specs.declared.asks.WriteTold.TheVariants as told
 use Rattle.write_core.specs.declared.marks.Fate.{Fate}
 use Rattle.write_core.specs.declared.marks.Fate.TheVariants as fate
 use Rattle.write_core.specs.declared.marks.Mark.{Mark}
+
+-- ---- marks
+
+contains_mark : (marks : List Mark) (mark : Mark) → Contains marks mark
+    → Contains (map replica_of marks) (replica_of mark)
+contains_mark [] mark there = absurd (omega (arith, there.1))
+contains_mark (first ∷ marks) mark (zero, l, e) = (0, omega arith, ap replica_of e)
+contains_mark (first ∷ marks) mark (suc k, l, e) =
+    contains_later (replica_of first) (replica_of mark) (map replica_of marks)
+    (contains_mark marks mark (k, omega arith, e))
 
 -- ---- fates
 
@@ -331,6 +343,8 @@ module _ (range : Range) (row : Row) (pass : ℕ) (rows : List Row) (before : Kn
             → AllByRecursion (RowsBy know) marks → PutNothing pass range row marks
             → IsWithdrawing range pass rows before replicas know marks
         withdraws know marks w serve has none = record {
+          among = subst (λ (xs : List SlotLeaf). AllByRecursion (λ (x : Mark). Contains xs (replica_of x)) marks) serve
+              (all_from (λ (x : Mark). Contains (map replica_of marks) (replica_of x)) marks (contains_mark marks));
           fronts = w.fronts;
           number = w.number;
           held = w.held;
@@ -610,8 +624,15 @@ module _ (range : Range) (pass : ℕ) (rows : List Row) (before : Knowledge) (re
       (Rattle.std.proofs.Common.eq-eqb mark.leaf.0 mark.leaf.0 refl) in
       omega arith
 
+  -- its leaf is there
+  pub leaf_there : (setting : Setting) → ArePlaced setting replicas → mark.leaf.0 < length (leaves_in setting.zones)
+  leaf_there setting placed =
+      all_at (λ (x : SlotLeaf). x.leaf.0 < length (leaves_in setting.zones)) replicas (replica_of mark) placed.there
+      w.among.0
+
   pub passed_by : is_ready mark.fate ≡ false → IsWithdrawing range pass rows before replicas old left
   passed_by not_ready = record {
+    among = w.among.1;
     fronts = w.fronts;
     number = w.number;
     held = w.held;
@@ -633,6 +654,7 @@ module _ (range : Range) (pass : ℕ) (rows : List Row) (before : Knowledge) (re
       → HasLooked mark.leaf (without_one mark.leaf old.purse.rooms) old new
       → IsWithdrawing range pass rows before replicas new left
   cancelled new ready looked = record {
+    among = w.among.1;
     fronts = (
       λ l. prefix_trans (leaf_history before.seen l) (leaf_history old.seen l) (leaf_history new.seen l)
           (w.fronts.0 l) (looked.called.fronts.0 l),

@@ -13,7 +13,7 @@ use Rattle.mon_value.specs.declared.rows.Row.{Row}
 use Rattle.history_book.specs.Seats.{hand_of, times_range, times_room}
 use Rattle.history_book.specs.Histories.{AreFronts}
 use Rattle.history_book.specs.declared.views.LengthNote.{LengthNote}
-use Rattle.std.specs.Prelude.{Some}
+use Rattle.std.specs.Prelude.{Contains, Some}
 use Rattle.mon_value.specs.declared.positions.Leaf.{Leaf}
 use Rattle.range_cell.specs.Writing.{HasRows, IsWriting, ready_count}
 use Rattle.write_core.specs.Invariant.{AreAll, IsAtReady, is_asked, is_decided, is_waiting}
@@ -144,6 +144,7 @@ needed (Ended verdict) = 0
 -- have is known as before
 pub record IsWithdrawing (range : Range) (pass : ℕ) (rows : List Row) (before : Knowledge) (replicas : List SlotLeaf)
     (know : Knowledge) (left : List Mark) : Type 0 where
+  pub among : AllByRecursion (λ mark. Contains replicas (replica_of mark)) left
   pub fronts : AreFronts before.seen know.seen
   pub number : (hand_of know.purse).own ≡ Some pass
   pub held : 0 < times_range range know.purse.holds
@@ -158,10 +159,11 @@ pub record IsWithdrawing (range : Range) (pass : ℕ) (rows : List Row) (before 
   pub lost : know.purse.lost ≡ before.purse.lost
   pub handed : know.handed ≡ before.handed
 
-pub record IsWithdrawn (know : Knowledge) (left : List Mark) : Type 0 where
+pub record IsWithdrawn (setting : Setting) (know : Knowledge) (left : List Mark) : Type 0 where
   pub range : Range
   pub pass : ℕ
   pub rows : List Row
   pub before : Knowledge
   pub replicas : List SlotLeaf
+  pub placed : ArePlaced setting replicas
   pub is : IsWithdrawing range pass rows before replicas know left

@@ -1,7 +1,8 @@
 // A write goes over the leaves of its range.
-ghost use Rattle.std.specs.Prelude.{◌≡◌, ◌≢◌, ◌≤◌, ◌<◌, ◌∷◌, [], ℕ, true, false, List, IfOk, OnErr, OnOk};
+ghost use Rattle.std.specs.Prelude.{◌≡◌, ◌≢◌, ◌≤◌, ◌<◌, ◌∷◌, [], ℕ, length, true, false, List, IfOk, OnErr, OnOk};
 ghost use Rattle.history_book.specs.Seats.{times_room};
 ghost use Rattle.know.specs.Knowledge.{Knowledge};
+ghost use Rattle.mon_topo.specs.Zones.{leaves_in};
 ghost use Rattle.mon_value.specs.declared.positions.Range as a_range;
 ghost use Rattle.mon_value.specs.declared.positions.SlotLeaf as a_replica;
 ghost use Rattle.mon_value.specs.declared.rows.Row as a_row;
@@ -218,7 +219,7 @@ pub(crate) fn tell(machine: &mut WriteMachine, told: WriteTold)
 
 // Gives back the rooms of the replicas that have one.
 fn cancel_all<N: Names, S: LeafSide<N>>(marks: &[Mark], know: &mut Know<N>, leaves: &S)
-    requires somewhere { IsWithdrawn know.old marks.now }
+    requires somewhere { IsWithdrawn N.setting know.old marks.now }
     ensures back { (range : a_range.Range) (pass : ℕ) (rows : List a_row.Row) (before : Knowledge)
         (replicas : List a_replica.SlotLeaf) → IsWithdrawing range pass rows before replicas know.old marks.now
         → IsWithdrawing range pass rows before replicas know.new [] }
@@ -230,6 +231,7 @@ fn cancel_all<N: Names, S: LeafSide<N>>(marks: &[Mark], know: &mut Know<N>, leav
 
 // Gives back the room of a replica, if it has one.
 fn cancel_one<N: Names, S: LeafSide<N>>(mark: Mark, know: &mut Know<N>, leaves: &S)
+    requires there { is_ready mark.fate ≡ true → mark.leaf.0 < length (leaves_in N.setting.zones) }
     requires room { is_ready mark.fate ≡ true → 0 < times_room mark.leaf know.old.purse.rooms }
     ensures back { (range : a_range.Range) (pass : ℕ) (rows : List a_row.Row) (before : Knowledge)
         (replicas : List a_replica.SlotLeaf) (left : List a_mark.Mark)

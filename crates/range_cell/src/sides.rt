@@ -1,6 +1,7 @@
 // What a write does at the leaves of its range.
-ghost use Rattle.std.specs.Prelude.{◌<◌, IfOk, OnErr};
+ghost use Rattle.std.specs.Prelude.{◌<◌, length, IfOk, OnErr};
 ghost use Rattle.history_book.specs.Seats.{times_room, without_one};
+ghost use Rattle.mon_topo.specs.Zones.{leaves_in};
 ghost use Rattle.mon_value.specs.declared.histories.Entry.TheVariants as entry;
 ghost use Rattle.owners.specs.Calls.{HasLooked, HasPut, HasReserved};
 ghost use Rattle.owners.specs.Puts.{HasSeenOpened, MayPut, pass_of};
@@ -30,6 +31,7 @@ pub trait LeafSide<N: Names> {
 
     /// Gives room back.
     fn cancel(&self, leaf: Leaf, know: &mut Know<N>)
+        requires there { leaf.0 < length (leaves_in N.setting.zones) }
         requires room { 0 < times_room leaf know.old.purse.rooms }
         ensures cancelled { HasLooked leaf (without_one leaf know.old.purse.rooms) know.old know.new };
 }

@@ -2,7 +2,7 @@ use Rattle.std.proofs.Common.{◌≡◌, ◌∷◌, [], ◌+◌, drop, subst}
 use Rattle.std.specs.Prelude.{List, slice_index_or}
 use Rattle.write_core.specs.declared.marks.Fate.TheVariants as fate
 use Rattle.std.proofs.lemmas.List.{at_drop_all, drop_more}
-use Rattle.range_cell.proofs.StageLemmas.{room_there}
+use Rattle.range_cell.proofs.StageLemmas.{leaf_there, room_there}
 use Rattle.range_cell.specs.Stages.{IsWithdrawing}
 use Rattle.write_core.specs.declared.marks.Mark.{Mark}
 use Rattle.range_cell.proofs.loops.cancel_all.Goals as goal
@@ -17,10 +17,13 @@ cancel_one-requires g c =
     let i = c.loop-mark.mark-index in
     let mark : Mark = slice_index_or marks i none_yet in
     let next : drop i marks ≡ mark ∷ drop (i + 1) marks = drop_more marks i none_yet c.loop-mark-test.true in
+    let is = subst (λ (left : List Mark). IsWithdrawing here.range here.pass here.rows here.before here.replicas
+    c.loop-mark.know left) next here.is in
     record {
+      there = λ ready. leaf_there here.range here.pass here.rows here.before here.replicas c.loop-mark.know mark
+          (drop (i + 1) marks) is g.N.Names.setting here.placed;
       room = room_there here.range here.pass here.rows here.before here.replicas c.loop-mark.know mark (drop (i + 1) marks)
-          (subst (λ (left : List Mark). IsWithdrawing here.range here.pass here.rows here.before here.replicas
-          c.loop-mark.know left) next here.is);
+          is;
     }
 
 pub loop-mark-preserved : goal.loop-mark-preserved
@@ -37,6 +40,7 @@ loop-mark-preserved g c =
         rows = here.rows;
         before = here.before;
         replicas = here.replicas;
+        placed = here.placed;
         is = c.cancel_one.ensures.back here.range here.pass here.rows here.before here.replicas (drop (i + 1) marks)
             (subst (λ (left : List Mark). IsWithdrawing here.range here.pass here.rows here.before here.replicas
             c.loop-mark.know left) next here.is);

@@ -9,7 +9,7 @@ use Rattle.range_cell.proofs.loops.cancel_all.Given as goal
 
 abbrev pub invariant-loop-mark : goal.invariant-loop-mark
 invariant-loop-mark g l = record {
-  somewhere : IsWithdrawn l.know (drop l.mark-index l.marks);
+  somewhere : IsWithdrawn g.N.Names.setting l.know (drop l.mark-index l.marks);
   back : (range : Range) (pass : ℕ) (rows : List Row) (before : Knowledge) (replicas : List SlotLeaf)
       → IsWithdrawing range pass rows before replicas l.fn.know l.marks
       → IsWithdrawing range pass rows before replicas l.know (drop l.mark-index l.marks);

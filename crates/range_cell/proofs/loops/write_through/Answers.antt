@@ -14,6 +14,7 @@ cancel_all-requires g c =
         rows = here.rows;
         before = here.before;
         replicas = here.replicas;
+        placed = here.placed;
         is = subst (λ (marks : List Mark). IsWithdrawing c.args.range here.pass here.rows here.before here.replicas
             c.go_through.new.know marks)
             (sym c.marks.ensures.marks)

@@ -1,0 +1,10 @@
+pub mod AddedLemmas
+pub mod CarriedLemmas
+pub mod CellLemmas
+pub mod EndedLemmas
+pub mod ListLemmas
+pub mod OwnLemmas
+pub mod PassLemmas
+pub mod RefusedLemmas
+pub mod WriteLemmas
+pub mod WrittenLemmas

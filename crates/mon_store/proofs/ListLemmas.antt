@@ -1,0 +1,109 @@
+-- Lists whose items differ, and where an item stands that was mapped, kept or put together with others.
+use Rattle.std.proofs.Common.{◌≡◌, ◌≢◌, zero, suc, Bool, true, false, List, [], ◌∷◌, ◌++◌, map}
+use Rattle.std.proofs.Common.{filter, refl, sym, ap, subst, ◌∙◌, arith, cond, inl, inr, ◌⊎◌}
+use Rattle.std.specs.Prelude.{Contains}
+use Rattle.std.specs.List.{flat_map}
+use mathlib.Core.List.{IsPrefix}
+use Rattle.std.proofs.lemmas.List.{append_assoc, append_cancel_left}
+use Rattle.std.proofs.lemmas.List.Elements.{Contains-append_cases, Contains-append_left, Contains-append_right}
+use Rattle.history_book.proofs.PurseLemmas.{contains_none}
+use Rattle.write_core.proofs.AckLemmas.{contains_later, contains_one}
+
+-- ---- where an item stands
+
+pub contains_mapped : {X Y : Type 0} (f : X → Y) (xs : List X) (x : X) → Contains xs x → Contains (map f xs) (f x)
+contains_mapped f [] x there = absurd (contains_none x there)
+contains_mapped f (y ∷ xs) x (zero, l, e) = (0, omega arith, ap f e)
+contains_mapped f (y ∷ xs) x (suc k, l, e) =
+    contains_later (f y) (f x) (map f xs) (contains_mapped f xs x (k, omega arith, e))
+
+pub contains_made : {X Y : Type 0} (f : X → List Y) (xs : List X) (x : X) (y : Y) → Contains xs x → Contains (f x) y
+    → Contains (flat_map f xs) y
+contains_made f [] x y there made = absurd (contains_none x there)
+contains_made f (z ∷ xs) x y (zero, l, e) made =
+    Contains-append_left (f z) (flat_map f xs) y (subst (λ w. Contains (f w) y) (sym e) made)
+contains_made f (z ∷ xs) x y (suc k, l, e) made =
+    Contains-append_right (f z) (flat_map f xs) y (contains_made f xs x y (k, omega arith, e) made)
+
+kept_at : {X : Type 0} (b : Bool) (x y : X) (xs : List X) → (x ≡ y → b ≡ true) → Contains xs y ⊎ (x ≡ y)
+    → Contains (cond b (x ∷ xs) xs) y
+kept_at true x y xs h (inl later) = contains_later x y xs later
+kept_at true x y xs h (inr here) = (0, omega arith, here)
+kept_at false x y xs h (inl later) = later
+kept_at false x y xs h (inr here) = absurd (by (h here))
+  where
+    by : false ≡ true → ⊥
+    by e = cc
+
+pub contains_kept : {X : Type 0} (test : X → Bool) (xs : List X) (x : X) → Contains xs x → test x ≡ true
+    → Contains (filter test xs) x
+contains_kept test [] x there yes' = absurd (contains_none x there)
+contains_kept test (y ∷ xs) x (zero, l, e) yes' =
+    kept_at (test y) y x (filter test xs) (λ same. ap test same ∙ yes') (inr e)
+contains_kept test (y ∷ xs) x (suc k, l, e) yes' =
+    kept_at (test y) y x (filter test xs) (λ same. ap test same ∙ yes')
+    (inl (contains_kept test xs x (k, omega arith, e) yes'))
+
+-- ---- items that differ
+
+module _ {X : Type 0} where
+  -- none stands in a list twice
+  abbrev pub Differ : List X → Type 0
+  Differ [] = Unit {0}
+  Differ (x ∷ xs) = ((y : X) → Contains xs y → x ≢ y) × Differ xs
+
+  pub differ-append : (xs ys : List X) → Differ xs → Differ ys
+      → ((x y : X) → Contains xs x → Contains ys y → x ≢ y) → Differ (xs ++ ys)
+  differ-append [] ys h k apart = k
+  differ-append (x ∷ xs) ys h k apart = (
+    λ y there. by y (Contains-append_cases xs ys y there),
+    differ-append xs ys h.1 k (λ a b in_a in_b. apart a b (contains_later x a xs in_a) in_b),
+  )
+    where
+      by : (y : X) → Contains xs y ⊎ Contains ys y → x ≢ y
+      by y (inl here) = h.0 y here
+      by y (inr there) = apart x y (0, omega arith, refl) there
+
+  abbrev rest : List X → List X
+  rest [] = []
+  rest (x ∷ xs) = xs
+
+  abbrev first_or : X → List X → X
+  first_or d [] = d
+  first_or d (x ∷ xs) = x
+
+  -- a beginning that has each item of a list whose items differ is all of it
+  all_there : (front all : List X) → IsPrefix front all → Differ all
+      → ((x : X) → Contains all x → Contains front x) → front ≡ all
+  all_there [] [] p d h = refl
+  all_there [] (x ∷ all) p d h = absurd (contains_none x (h x (0, omega arith, refl)))
+  all_there (x ∷ front) [] p d h = absurd cc
+  all_there (x ∷ front) (y ∷ all) p d h =
+      let same : x ≡ y = ap (first_or x) p.1 in
+      let later : front ≡ all = all_there front all (p.0, ap rest p.1) d.1
+      (λ z there. by z there (Contains-append_cases (x ∷ []) front z (h z (contains_later y z all there)))) in
+      (λ i. same i ∷ later i)
+    where
+      by : (z : X) → Contains all z → Contains (x ∷ []) z ⊎ Contains front z → Contains front z
+      by z there (inl here) = absurd (d.0 z there (sym (ap (first_or x) p.1) ∙ contains_one x z here))
+      by z there (inr later) = later
+
+  -- what begins with some items and is the beginning of them and of others that differ, all of which it has and none of
+  -- which is among the first, is all
+  pub all_came : (was now more : List X) → IsPrefix was now → IsPrefix now (was ++ more) → Differ more
+      → ((x : X) → Contains more x → Contains now x) → ((x : X) → Contains more x → Contains was x → ⊥)
+      → now ≡ was ++ more
+  all_came was now more p q d has new =
+      let front : IsPrefix p.0 more = (
+        q.0,
+        append_cancel_left was (p.0 ++ q.0) more
+            (sym (append_assoc was p.0 q.0) ∙ ap (λ (xs : List X). xs ++ q.0) p.1 ∙ q.1),
+      ) in
+      let whole : p.0 ≡ more = all_there p.0 more front d
+      (λ x there. by x there (Contains-append_cases was p.0 x (subst (λ (xs : List X). Contains xs x) (sym p.1)
+      (has x there)))) in
+      sym p.1 ∙ ap (λ (xs : List X). was ++ xs) whole
+    where
+      by : (x : X) → Contains more x → Contains was x ⊎ Contains p.0 x → Contains p.0 x
+      by x there (inl old) = absurd (new x there old)
+      by x there (inr now') = now'

@@ -1,0 +1,79 @@
+-- What a caller has seen under the numbers that it keeps, as more is seen and appended.
+use Rattle.std.proofs.Common.{◌≡◌, ℕ, ◌≤◌, Bool, List, ◌++◌, length, map, filter, drop, sym, ap}
+use Rattle.std.proofs.Common.{subst, ◌∙◌, arith}
+use Rattle.std.specs.Prelude.{Contains}
+use mathlib.Core.List.{IsPrefix}
+use Rattle.std.proofs.lemmas.List.{append_cancel_left, drop-append-le, drop_all, map-append}
+use Rattle.std.proofs.lemmas.List.Elements.{filter-append}
+use Rattle.history_book.proofs.ListLemmas.{prefix_filter, prefix_length, prefix_trans, prefix_whole}
+use Rattle.history_book.specs.Histories.{AreFronts, entries, is_under}
+use Rattle.history_book.specs.Seats.{IsPurseBorneOut, kept_in}
+use Rattle.history_book.specs.declared.views.BookEntry.{BookEntry}
+use Rattle.history_book.specs.declared.views.BookEntry.TheVariants as one
+use Rattle.history_book.specs.declared.views.History.{History}
+use Rattle.history_book.specs.declared.views.History.TheVariants as of
+use Rattle.history_book.specs.declared.views.Kept.{Kept}
+use Rattle.know.specs.Knowledge.{Knowledge}
+use Rattle.mon_topo.proofs.FrontLemmas.{begins_from}
+use Rattle.mon_topo.specs.SeenHistories.{AreWithin}
+use Rattle.mon_value.specs.Histories.{leaf_history, range_history}
+use Rattle.mon_value.specs.declared.histories.Histories.{Histories}
+use Rattle.mon_store.specs.Passes.{HasSeenItsOwn}
+
+-- ---- beginnings
+
+prefix_map : {X Y : Type 0} (f : X → Y) (xs ys : List X) → IsPrefix xs ys → IsPrefix (map f xs) (map f ys)
+prefix_map f xs ys p = (map f p.0, sym (map-append f xs p.0) ∙ ap (map f) p.1)
+
+pub entries_front : (a b : Histories) → AreFronts a b → (h : History) → IsPrefix (entries a h) (entries b h)
+entries_front a b front (of.Leaf leaf) =
+    prefix_map (λ e. one.Leaf e) (leaf_history a leaf) (leaf_history b leaf) (front.0 leaf)
+entries_front a b front (of.Range range) =
+    prefix_map (λ e. one.Range e) (range_history a range) (range_history b range) (front.1 range)
+
+pub fronts_through : (a b c : Histories) → AreFronts a b → AreFronts b c → AreFronts a c
+fronts_through a b c p q = (
+  λ leaf. prefix_trans (leaf_history a leaf) (leaf_history b leaf) (leaf_history c leaf) (p.0 leaf) (q.0 leaf),
+  λ range. prefix_trans (range_history a range) (range_history b range) (range_history c range) (p.1 range) (q.1 range),
+)
+
+pub within_front : (a b : Histories) → AreFronts a b → AreWithin a b
+within_front a b front = record {
+  leaves = λ leaf. begins_from (leaf_history b leaf) (leaf_history a leaf) (front.0 leaf).0 (sym (front.0 leaf).1);
+  ranges = λ range. begins_from (range_history b range) (range_history a range) (front.1 range).0
+      (sym (front.1 range).1);
+}
+
+module _ {X : Type 0} where
+  drop_front : (xs ys : List X) → drop (length xs) (xs ++ ys) ≡ ys
+  drop_front xs ys = drop-append-le (length xs) xs ys (omega arith)
+      ∙ ap (λ (front : List X). front ++ ys) (drop_all (length xs) xs (omega arith))
+
+  pub drop_prefix : (xs ys : List X) → (p : IsPrefix xs ys) → drop (length xs) ys ≡ p.0
+  drop_prefix xs ys p = ap (drop (length xs)) (sym p.1) ∙ drop_front xs p.0
+
+  -- what a test keeps of what came, by what it keeps of the whole
+  pub came : (test : X → Bool) (was now own more : List X) → IsPrefix was now → filter test was ≡ own
+      → filter test now ≡ own ++ more → filter test (drop (length was) now) ≡ more
+  came test was now own more p before after =
+      ap (filter test) (drop_prefix was now p)
+      ∙ append_cancel_left own (filter test p.0) more
+      (ap (λ (xs : List X). xs ++ filter test p.0) (sym before) ∙ sym (filter-append test was p.0)
+      ∙ ap (filter test) p.1 ∙ after)
+
+-- ---- numbers
+
+-- whoever had seen all that is kept under a number still has
+pub still_all : (n : ℕ) (was now own : List BookEntry) → IsPrefix was now → filter (is_under n) was ≡ own
+    → IsPrefix (filter (is_under n) now) own → filter (is_under n) now ≡ own
+still_all n was now own on all within =
+    prefix_whole (filter (is_under n) now) own within
+    (subst (λ (xs : List BookEntry). length xs ≤ length (filter (is_under n) now)) all
+    (prefix_length (filter (is_under n) was) (filter (is_under n) now) (prefix_filter (is_under n) was now on)))
+
+pub still_exact : (before after : Knowledge) → AreFronts before.seen after.seen → HasSeenItsOwn before
+    → IsPurseBorneOut after.seen after.purse → (kept : Kept) (h : History) → Contains (kept_in before.purse) kept
+    → Contains (kept_in after.purse) kept → filter (is_under kept.number) (entries after.seen h) ≡ entries kept.own h
+still_exact before after front exact borne kept h was now =
+    still_all kept.number (entries before.seen h) (entries after.seen h) (entries kept.own h)
+    (entries_front before.seen after.seen front h) (exact kept h was) (borne.exact kept h now)

@@ -1,0 +1,387 @@
+-- How a write at its range's cell ends is how a write of the store ends.
+use Rattle.std.proofs.Common.{◌≡◌, ℕ, zero, suc, ◌+◌, ◌<◌, Bool, true, List, [], ◌∷◌, ◌++◌, length}
+use Rattle.std.proofs.Common.{cond, nat_eq, refl, sym, ap, subst, ◌∙◌, arith, Some, None, inl, inr}
+use Rattle.std.proofs.Common.{◌⊎◌, ◌&&◌}
+use Rattle.std.specs.Prelude.{Contains, option_map, ℤ, ◌<ℤ◌}
+use Rattle.std.specs.List.{flat_map}
+use Rattle.std.proofs.lemmas.Bool.Decides.{nat_tests}
+use Rattle.std.proofs.lemmas.List.{append-nil, append_assoc}
+use Rattle.std.proofs.lemmas.List.Elements.{Contains-append_cases, Contains-push}
+use Rattle.std.proofs.lemmas.Int.{ints}
+use Rattle.std.proofs.lemmas.List.Sums.{sum_by-cons}
+use Rattle.history_book.proofs.ListLemmas.{prefix_contains}
+use Rattle.history_book.specs.Histories.{entries, is_under}
+use Rattle.history_book.specs.Seats.{IsPurseBorneOut, kept_with, times_room}
+use Rattle.history_book.specs.declared.views.BookEntry.{BookEntry}
+use Rattle.history_book.specs.declared.views.BookEntry.TheVariants as one
+use Rattle.history_book.specs.declared.views.History.{History}
+use Rattle.history_book.specs.declared.views.History.TheVariants as of
+use Rattle.history_book.specs.declared.views.Kept.{Kept}
+use Rattle.know.specs.Knowledge.{Knowledge}
+use Rattle.know.specs.Sound.{IsSound}
+use Rattle.mon_config.specs.KeyRanges.{range_of_key}
+use Rattle.mon_config.specs.declared.config.Config.{Config}
+use Rattle.mon_schema.specs.SchemaLists.{SchemaLists}
+use Rattle.mon_topo.proofs.FrontLemmas.{begins_push}
+use Rattle.mon_topo.proofs.RangeHistoryLemmas.{AreApart, all_at, numbered}
+use Rattle.mon_topo.specs.HeldHistories.{BeginsWith}
+use Rattle.mon_topo.specs.RangeHistories as range_spec
+use Rattle.mon_topo.specs.RangeHistories.{IsAckOf, IsLegal, acked_row, acknowledged_rows, serving}
+use Rattle.mon_topo.specs.Settings.{Setting}
+use Rattle.mon_topo.specs.Zones.{leaves_in, ranges_in}
+use Rattle.mon_topo.specs.declared.zones.ZoneSpec.{ZoneSpec}
+use Rattle.mon_value.proofs.SameLemmas.{same_series-Decides}
+use Rattle.mon_value.specs.Positions.{same_leaf}
+use Rattle.mon_value.specs.Histories.{leaf_history, range_history}
+use Rattle.mon_value.specs.LeafHistories.{entry_rows, replica_rows, same_replica}
+use Rattle.mon_value.specs.Same.{same_series}
+use Rattle.mon_value.specs.Sources.{EndsBefore, IsSource}
+use Rattle.mon_value.specs.declared.histories.Ack.{Ack}
+use Rattle.mon_value.specs.declared.histories.Entry.{Entry}
+use Rattle.mon_value.specs.declared.histories.Entry.TheVariants as entry
+use Rattle.mon_value.specs.declared.histories.Miss.{Miss}
+use Rattle.mon_value.specs.declared.histories.RangeEntry.{RangeEntry}
+use Rattle.mon_value.specs.declared.histories.RangeEntry.TheVariants as range_entry
+use Rattle.mon_value.specs.declared.positions.Leaf.{Leaf}
+use Rattle.mon_value.specs.declared.positions.Range.{Range}
+use Rattle.mon_value.specs.declared.positions.Slot.{Slot}
+use Rattle.mon_value.specs.declared.positions.SlotLeaf.{SlotLeaf}
+use Rattle.mon_value.specs.declared.rows.Row.{Row}
+use Rattle.owners.specs.Puts.{pass_of}
+use Rattle.mon_store.proofs.AddedLemmas.{ack_added, only_is, put_is, puts_added, puts_number, took_apart, took_in}
+use Rattle.mon_store.proofs.AddedLemmas.{took_of, took_slots, written_differ}
+use Rattle.mon_store.proofs.CarriedLemmas.{HasGoneOver, HasReturned, over_carried, over_down, over_found}
+use Rattle.mon_store.proofs.ListLemmas.{contains_made, contains_mapped}
+use Rattle.mon_store.proofs.WriteLemmas.{HaveCome, IsCarried, added_new, added_own, added_still, has_own, own_is}
+use Rattle.mon_store.proofs.WriteLemmas.{written_pass}
+use Rattle.mon_store.specs.Passes.{IsPass}
+use Rattle.mon_store.specs.Writes.{IsWritten, WasFoundDown, only_in, own_entries, put_in, written}
+use Rattle.range_cell.specs.Calls.{HasBegun}
+use Rattle.range_cell.specs.Stages.{IsThrough}
+use Rattle.range_cell.specs.Writes.{HasAcknowledged}
+use Rattle.range_cell.specs.Writing.{IsFated, put_of, ready_count, with_puts}
+use Rattle.write_core.proofs.AckLemmas.{contains_map, missed_in}
+use Rattle.write_core.specs.Invariant.{AreAll, is_decided}
+use Rattle.write_core.specs.Marks.{is_ready, replica_of}
+use Rattle.write_core.specs.RangeAnswers.{refusal}
+use Rattle.write_core.specs.declared.marks.Fate.{Fate}
+use Rattle.write_core.specs.declared.marks.Fate.TheVariants as fate
+use Rattle.write_core.specs.declared.marks.Mark.{Mark}
+
+-- ---- a row that may come is not there yet
+
+below_itself : (z : ℤ) → z <ℤ z → ⊥
+below_itself z h = grind (arith, ints)
+
+pub not_old : (rows : List Row) (row : Row) → IsSource (rows ++ row ∷ []) → Contains rows row → ⊥
+not_old [] row source (k, l, e) = absurd (omega arith)
+not_old (first ∷ rows) row source (zero, l, e) =
+    let ends : EndsBefore first row =
+    all_at (EndsBefore first) (rows ++ row ∷ []) row source.0 (Contains-push rows row) in
+    below_itself row.point.end
+    (subst (λ (x : Row). x.point.end <ℤ row.point.end) e
+    (ends (subst (λ (x : Row). same_series x.key row.key ≡ true) (sym e)
+    ((same_series-Decides row.key row.key).1 refl))))
+not_old (first ∷ rows) row source (suc k, l, e) = not_old rows row source.1 (k, omega arith, e)
+
+same_itself : (range : Range) (slot : Slot) → same_replica range slot range slot ≡ true
+same_itself range slot = by range.0 slot.0
+  where
+    by : (a b : ℕ) → (nat_eq a a && nat_eq b b) ≡ true
+    by a b = grind (arith, nat_tests)
+
+-- the row of a put is among its replica's
+row_of_put : (pass : ℕ) (range : Range) (slot : Slot) (row : Row) (history : List Entry)
+    → Contains history (entry.Put pass range slot row) → Contains (replica_rows range slot history) row
+row_of_put pass range slot row history there =
+    contains_made (entry_rows range slot) history (entry.Put pass range slot row) row there
+    (subst (λ b. Contains (cond b (row ∷ []) []) row) (sym (same_itself range slot)) (0, omega arith, refl))
+
+row_of_ack : (pass : ℕ) (row : Row) (ack : Ack) (history : List RangeEntry)
+    → Contains history (range_entry.Acked pass row ack) → Contains (acknowledged_rows history) row
+row_of_ack pass row ack history there =
+    contains_made acked_row history (range_entry.Acked pass row ack) row there (0, omega arith, refl)
+
+-- the last entry of a legal history may follow those before it
+module _ (held : SchemaLists) (zones : List ZoneSpec) (points : ℕ) (range : Range) where
+  last_follows : (before history : List RangeEntry) (e : RangeEntry)
+      → range_spec.GoesOn held zones points range before (history ++ e ∷ [])
+      → range_spec.MayFollow held zones points range (before ++ history) e
+  last_follows before [] e goes =
+      subst (λ (h : List RangeEntry). range_spec.MayFollow held zones points range h e) (sym (append-nil before)) goes.0
+  last_follows before (x ∷ history) e goes =
+      subst (λ (h : List RangeEntry). range_spec.MayFollow held zones points range h e)
+      (append_assoc before (x ∷ []) history) (last_follows (before ++ x ∷ []) history e goes.1)
+
+module _ (held : SchemaLists) (zones : List ZoneSpec) (points : ℕ) (range : Range) where
+  front_legal : (before history more : List RangeEntry)
+      → range_spec.GoesOn held zones points range before (history ++ more)
+      → range_spec.GoesOn held zones points range before history
+  front_legal before [] more goes = tt
+  front_legal before (x ∷ history) more goes = (goes.0, front_legal (before ++ x ∷ []) history more goes.1)
+
+both : (P : History → BookEntry → Type 0) (a b : History) (x y : BookEntry) → a ≡ b → x ≡ y → P a x → P b y
+both P a b x y e f h = subst (λ (z : BookEntry). P b z) f (subst (λ (w : History). P w x) e h)
+
+-- ---- replicas that are decided
+
+no_more : (n : ℕ) → 0 + n ≡ n
+no_more n = omega arith
+
+not_ready : (leaf : Leaf) (marks : List Mark) → AreAll is_decided marks → ready_count leaf marks ≡ 0
+not_ready leaf [] h = refl
+not_ready leaf (mark ∷ marks) h =
+    sum_by-cons (λ x. cond (is_ready x.fate && same_leaf leaf x.leaf) 1 0) mark marks ∙ by mark.fate (same_leaf leaf mark.leaf) h.0 ∙ not_ready leaf marks h.1
+  where
+    by : (f : Fate) (b : Bool) → is_decided f ≡ true
+        → cond {A = ℕ} (is_ready f && b) 1 0 + ready_count leaf marks ≡ ready_count leaf marks
+    by fate.Waiting b e = absurd cc
+    by fate.Ready b e = absurd cc
+    by fate.Took b e = no_more (ready_count leaf marks)
+    by (fate.Missed cut) b e = no_more (ready_count leaf marks)
+
+module _ (range : Range) (row : Row) (pass : ℕ) (rows : List Row) (replicas : List SlotLeaf) (begun mid : Knowledge)
+    (marks : List Mark) (through : IsThrough range row pass rows begun replicas mid marks) where
+  pub went_over : HasGoneOver begun mid
+  went_over = record {
+    fronts = through.so_far.writing.fronts;
+    rooms = λ leaf. through.so_far.writing.rooms leaf
+        ∙ ap (λ n. times_room leaf begun.purse.rooms + n) (not_ready leaf marks through.decided);
+    more = through.so_far.writing.notes.0;
+    notes = through.so_far.writing.notes.1;
+    holds = through.so_far.writing.holds;
+    met = through.so_far.writing.met;
+    stock = through.so_far.writing.stock;
+    lost = through.so_far.writing.lost;
+    handed = through.so_far.writing.handed;
+  }
+
+  fated : (mark : Mark) → Contains marks mark → (f : Fate) → mark.fate ≡ f
+      → IsFated range row pass rows begun mid mark f
+  fated mark there f e =
+      subst (λ (f' : Fate). IsFated range row pass rows begun mid mark f') e
+      (all_at (λ (x : Mark). IsFated range row pass rows begun mid x x.fate) marks mark through.so_far.writing.each
+      there)
+
+  pub went_down : (mark : Mark) (cut : ℕ) → Contains marks mark → mark.fate ≡ fate.Missed cut
+      → IsFated range row pass rows begun mid mark (fate.Missed cut)
+  went_down mark cut there e = fated mark there (fate.Missed cut) e
+
+  pub went_in : (mark : Mark) → Contains marks mark → mark.fate ≡ fate.Took
+      → Contains (leaf_history mid.seen mark.leaf) (put_of pass range row mark)
+  went_in mark there e = (fated mark there fate.Took e).1
+
+  pub serves : (mark : Mark) → Contains marks mark → Contains replicas (replica_of mark)
+  serves mark there =
+      subst (λ (xs : List SlotLeaf). Contains xs (replica_of mark)) through.so_far.serve
+      (contains_mapped replica_of marks mark there)
+
+-- ---- a row that was written
+
+module _ (setting : Setting) (config : Config) (leaves : ℕ) (range : Range) (row : Row) (before after : Knowledge)
+    (is : IsPass setting before) (borne : IsPurseBorneOut after.seen after.purse)
+    (sound : IsSound setting after.hints after.seen) (counted : leaves ≡ length (leaves_in config.topology))
+    (here : range.0 < length (ranges_in setting.zones)) (history : List RangeEntry) (begun : Knowledge)
+    (begins : HasBegun leaves range history before begun) (ack : Ack)
+    (acked : HasAcknowledged leaves range row history (pass_of before) begun after ack) where
+  abbrev pass : ℕ
+  pass = pass_of before
+
+  abbrev e : RangeEntry
+  e = range_entry.Acked pass row ack
+
+  abbrev took : List SlotLeaf
+  took = took_of acked.marks
+
+  returned : HasReturned leaves range history acked.mid after
+  returned = record {
+    fronts = acked.entered.fronts;
+    notes = acked.entered.notes;
+    met = acked.entered.met;
+    stock = acked.entered.stock;
+    lost = acked.entered.lost;
+    rooms = acked.entered.rooms;
+    holding = acked.entered.holding;
+    handed = acked.entered.handed;
+  }
+
+  over : HasGoneOver begun acked.mid
+  over = went_over range row pass (acknowledged_rows history) (serving history) begun acked.mid acked.marks acked.through
+
+  carried : IsCarried before after
+  carried = over_carried setting config leaves range before after is counted history begun acked.mid begins over returned
+
+  there : range.0 < length after.seen.ranges
+  there = subst (λ n. range.0 < n) (sym sound.held.all_ranges) here
+
+  legal : IsLegal setting.held setting.zones setting.points range (history ++ e ∷ [])
+  legal = subst (λ (h : List RangeEntry). IsLegal setting.held setting.zones setting.points range h)
+      acked.entered.whole (sound.held.legal range there)
+
+  may : range_spec.MayFollow setting.held setting.zones setting.points range history e
+  may = last_follows setting.held setting.zones setting.points range [] history e legal
+
+  took_serves : (replica : SlotLeaf) → Contains took replica → Contains (serving history) replica
+  took_serves replica in_took =
+      let found = took_in acked.marks replica in_took in
+      subst (λ (x : SlotLeaf). Contains (serving history) x) found.3
+      (serves range row pass (acknowledged_rows history) (serving history) begun acked.mid acked.marks acked.through
+      found.0 found.1)
+
+  -- what it put is seen
+  put_seen : (replica : SlotLeaf) → Contains took replica
+      → Contains (leaf_history after.seen replica.leaf) (entry.Put pass range replica.slot row)
+  put_seen replica in_took =
+      let found = took_in acked.marks replica in_took in
+      subst (λ (x : SlotLeaf). Contains (leaf_history after.seen x.leaf) (entry.Put pass range x.slot row)) found.3
+      (prefix_contains (leaf_history acked.mid.seen found.0.leaf) (leaf_history after.seen found.0.leaf)
+      (put_of pass range row found.0) (acked.entered.fronts.0 found.0.leaf)
+      (went_in range row pass (acknowledged_rows history) (serving history) begun acked.mid acked.marks acked.through
+      found.0 found.1 found.2))
+
+  -- and was not there before
+  put_new : (replica : SlotLeaf) → Contains took replica
+      → Contains (leaf_history before.seen replica.leaf) (entry.Put pass range replica.slot row) → ⊥
+  put_new replica in_took old =
+      let then = prefix_contains (leaf_history before.seen replica.leaf) (leaf_history begun.seen replica.leaf)
+      (entry.Put pass range replica.slot row) (begins.met.fronts.0 replica.leaf) old in
+      not_old (acknowledged_rows history) row may.2
+      (subst (λ (rows : List Row). Contains rows row) (begins.rows replica (took_serves replica in_took)).all
+      (row_of_put pass range replica.slot row (leaf_history begun.seen replica.leaf) then))
+
+  ack_new : Contains (range_history before.seen range) e → ⊥
+  ack_new old =
+      let then = prefix_contains (range_history before.seen range) (range_history begun.seen range) e
+      (begins.met.fronts.1 range) old in
+      not_old (acknowledged_rows history) row may.2
+      (row_of_ack pass row ack history (subst (λ (h : List RangeEntry). Contains h e) begins.whole then))
+
+  ack_seen : Contains (range_history after.seen range) e
+  ack_seen = subst (λ (h : List RangeEntry). Contains h e) (sym acked.entered.whole) (Contains-push history e)
+
+  -- ---- what came under its number
+
+  abbrev new : History → List BookEntry
+  new = written pass range row ack took
+
+  came_by : (P : History → BookEntry → Type 0)
+      → ((replica : SlotLeaf) → Contains took replica
+      → P (of.Leaf replica.leaf) (one.Leaf (entry.Put pass range replica.slot row)))
+      → P (of.Range range) (one.Range e) → (whose : History) (x : BookEntry) → Contains (new whose) x → P whose x
+  came_by P puts acks whose x in_new =
+      by (Contains-append_cases (flat_map (put_in pass range row whose) took) (only_in (of.Range range) (one.Range e) whose)
+      x in_new)
+    where
+      by : Contains (flat_map (put_in pass range row whose) took) x ⊎ Contains (only_in (of.Range range) (one.Range e) whose) x
+          → P whose x
+      by (inl put) =
+          let found = put_is pass range row whose took x put in
+          both P (of.Leaf found.0.leaf) whose (one.Leaf (entry.Put pass range found.0.slot row)) x found.2 found.3
+          (puts found.0 found.1)
+      by (inr acked') =
+          let found = only_is (of.Range range) (one.Range e) x whose acked' in
+          both P (of.Range range) whose (one.Range e) x found.0 found.1 acks
+
+  abbrev leaf_entry : BookEntry → Entry → Entry
+  leaf_entry (one.Leaf x) d = x
+  leaf_entry (one.Range x) d = d
+
+  abbrev range_entry_of : BookEntry → RangeEntry → RangeEntry
+  range_entry_of (one.Leaf x) d = d
+  range_entry_of (one.Range x) d = x
+
+  here_again : (n : ℕ) → nat_eq n n ≡ true
+  here_again n = grind (arith, nat_tests)
+
+  come : HaveCome setting before after is carried borne new
+  come = record {
+    differ = λ whose. written_differ pass range row whose ack took
+        (took_apart acked.marks (subst AreApart (sym acked.through.so_far.serve)
+        (numbered setting.held setting.zones setting.points range history
+        (front_legal setting.held setting.zones setting.points range [] history (e ∷ []) legal)).apart));
+    seen = came_by (λ whose x. Contains (entries after.seen whose) x)
+        (λ replica in_took. contains_mapped (λ x. one.Leaf x) (leaf_history after.seen replica.leaf)
+        (entry.Put pass range replica.slot row) (put_seen replica in_took))
+        (contains_mapped (λ x. one.Range x) (range_history after.seen range) e ack_seen);
+    under = came_by (λ whose x. is_under pass x ≡ true) (λ replica in_took. here_again pass) (here_again pass);
+    unseen = came_by (λ whose x. Contains (entries before.seen whose) x → ⊥)
+        (λ replica in_took old.
+        let found = contains_map (λ x. one.Leaf x) (leaf_history before.seen replica.leaf)
+        (one.Leaf (entry.Put pass range replica.slot row)) old in
+        let put = entry.Put pass range replica.slot row in
+        put_new replica in_took
+        (subst (λ (x : Entry). Contains (leaf_history before.seen replica.leaf) x)
+        (ap (λ x. leaf_entry x put) found.2) found.1))
+        (λ old.
+        let found = contains_map (λ x. one.Range x) (range_history before.seen range) (one.Range e) old in
+        ack_new
+        (subst (λ (x : RangeEntry). Contains (range_history before.seen range) x)
+        (ap (λ x. range_entry_of x e) found.2) found.1));
+  }
+
+  -- ---- what is kept under it
+
+  abbrev first : Kept
+  first = (has_own before is.number).kept
+
+  abbrev puts : Kept → Kept
+  puts = with_puts pass range row acked.marks
+
+  abbrev last : Kept
+  last = kept_with (of.Range range) (one.Range e) (puts first)
+
+  own : after.purse.own ≡ Some last
+  own =
+      acked.entered.own
+      ∙ ap (option_map (kept_with (of.Range range) (one.Range e)))
+      (acked.through.so_far.writing.own ∙ ap (option_map puts)
+      (begins.met.own ∙ (has_own before is.number).is))
+
+  number : last.number ≡ pass
+  number = puts_number pass range row acked.marks first ∙ (has_own before is.number).number
+
+  added : (whose : History) → entries last.own whose ≡ own_entries before.purse.own whose ++ new whose
+  added whose =
+      let puts_here = flat_map (put_in pass range row whose) took in
+      let ack_here = only_in (of.Range range) (one.Range e) whose in
+      ack_added pass range row ack whose (puts first).own
+      ∙ ap (λ (xs : List BookEntry). xs ++ ack_here)
+      (puts_added pass range row whose acked.marks first
+      ∙ ap (λ (xs : List BookEntry). xs ++ puts_here)
+      (sym (own_is before.purse.own first whose (has_own before is.number).is)))
+      ∙ append_assoc (own_entries before.purse.own whose) puts_here ack_here
+
+  -- ---- the whole
+
+  pub acknowledged_pass : IsPass setting after
+  acknowledged_pass = written_pass setting before after is carried borne new come last own number added
+
+  found_down : (miss : Miss) → Contains ack.missed miss → WasFoundDown before after miss.leaf miss.cut
+  found_down miss in_missed =
+      let mark = missed_in acked.marks miss
+      (subst (λ (a : Ack). Contains a.missed miss) (sym acked.ack_is) in_missed) in
+      let down = went_down range row pass (acknowledged_rows history) (serving history) begun acked.mid acked.marks
+      acked.through mark.0 mark.2 mark.1 mark.3 in
+      subst (λ (m : Miss). WasFoundDown before after m.leaf m.cut) mark.4
+      (over_down setting config leaves range before after is counted history begun acked.mid begins over returned
+      mark.0.leaf mark.2 down.1 down.2)
+
+  pub is_written : range_of_key config row.key ≡ Some range → refusal config.range_points history row ≡ None
+      → IsWritten config row before after ack
+  is_written in_range free = record {
+    range = range;
+    in_range = in_range;
+    history = history;
+    found = over_found setting config leaves range before after is counted history begun acked.mid begins over returned
+        (subst (λ (h : List RangeEntry). BeginsWith h history) (sym acked.entered.whole) (begins_push history e));
+    free = free;
+    named = may.0;
+    took = took;
+    took_are = took_slots acked.marks ∙ ap (λ (a : Ack). a.took) acked.ack_is;
+    served = took_serves;
+    acknowledged = acked.entered.whole;
+    own = added_own setting before after is carried borne new come last own number added;
+    new = added_new setting before after is carried borne new come last own number added;
+    missed = found_down;
+    still = added_still setting before after is carried borne new come last own number added;
+  }

@@ -1,0 +1,41 @@
+// The store.
+ghost use Rattle.std.specs.Prelude.{◌≡◌, ◌<◌, length};
+ghost use Rattle.mon_topo.specs.Zones.{ranges_in};
+
+use know::{Names, Tables};
+use leaf_cell::LeafCell;
+use mon_config::Config;
+use mon_value::Range;
+use range_cell::RangeCell;
+use std::marker::Model;
+
+/// The store that threads share, under the name of its tables. Contracts see its configuration.
+#[derive(Drop)]
+pub struct Store<N: Names> {
+    pub(crate) config: Config,
+    pub(crate) tables: Tables<N>,
+    pub(crate) leaves: Vec<LeafCell<N>>,
+    pub(crate) ranges: Vec<RangeCell<N>>,
+}
+
+impl<N: Names> Model for Store<N> {
+    ghost use Rattle.mon_config.specs.declared.config.Config as a_config;
+    ghost use Rattle.mon_store.specs.Stores.{AreLeafCells, AreRangeCells, IsSetUp};
+
+    ghost Value = { a_config.Config };
+
+    ghost view = { λ store. store.config };
+
+    ghost invariant = { λ store. IsSetUp N.setting N.raise store.config
+        × AreLeafCells N.setting store.leaves.items × AreRangeCells N.setting store.ranges.items };
+}
+
+impl<N: Names> Store<N> {
+    /// The cell of a range.
+    pub(crate) fn range_cell(&self, range: Range) -> &RangeCell<N>
+        requires there { range.0 < length (ranges_in N.setting.zones) }
+        ensures cell { result.now ≡ range.0 }
+    {
+        &self.ranges.as_slice()[range.0 as usize]
+    }
+}
