@@ -110,7 +110,7 @@ impl<N: Names> LeafCell<N> {
     }
 
     /// Looks at the leaf: where it is up, it is read, and what the reader has for the caller is handed out.
-    pub fn visit<R: Wait, P: LeafReader>(
+    pub fn read<R: Wait, P: LeafReader>(
         &self,
         rt: &R,
         tables: &Tables<N>,

@@ -7,6 +7,7 @@ mod desks;
 mod laws;
 mod new_leaves;
 mod openings;
+mod plan_reader;
 mod raising;
 mod readers;
 
@@ -14,4 +15,5 @@ pub use cells::LeafCell;
 pub use controls::{Control, ControlFault};
 pub use laws::new_leaves_are_at_rest;
 pub use new_leaves::NewLeaf;
+pub use plan_reader::{VisitFault, Visited};
 pub use readers::LeafReader;
