@@ -1,0 +1,9 @@
+pub mod AnswerLemmas
+pub mod EndLemmas
+pub mod FoundLemmas
+pub mod FunctionLemmas
+pub mod GoingLemmas
+pub mod LastLemmas
+pub mod StepLemmas
+pub mod TellingLemmas
+pub mod ViewLemmas

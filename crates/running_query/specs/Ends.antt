@@ -1,0 +1,76 @@
+-- How a query ends, by what its caller had seen and noted at entry, and has at exit.
+use Rattle.std.specs.Prelude.{◌≡◌, ◌≤◌, ℕ, ℤ, List, [], ◌∷◌, ◌++◌, length, Contains, Result, Ok, Err}
+use Rattle.std.specs.List.{AllByRecursion, sum}
+use Rattle.history_book.specs.Seats.{length_note}
+use Rattle.history_book.specs.declared.views.LengthNote.{LengthNote}
+use Rattle.know.specs.Knowledge.{Knowledge}
+use Rattle.mon_topo.specs.RangeHistories.{serving}
+use Rattle.mon_topo.specs.Settings.{Setting}
+use Rattle.mon_value.specs.Histories.{leaf_history, range_history}
+use Rattle.mon_value.specs.LeafHistories.{IsDownAt}
+use Rattle.mon_value.specs.declared.positions.FoundDown.{FoundDown}
+use Rattle.mon_value.specs.declared.positions.Leaf.{Leaf}
+use Rattle.mon_value.specs.declared.positions.Range.{Range}
+use Rattle.mon_value.specs.declared.positions.SlotLeaf.{SlotLeaf}
+use Rattle.query_core.specs.Answers.{IsAnsweredRightly, IsStoppedRightly}
+use Rattle.query_core.specs.Findings.{HasNoReplica}
+use Rattle.query_core.specs.Settings.{QuerySetting}
+use Rattle.query_core.specs.declared.answers.Answer.{Answer}
+use Rattle.query_core.specs.declared.answers.RoundFault.{RoundFault}
+use Rattle.query_core.specs.declared.answers.RoundFault.TheVariants as fault
+use Rattle.query_core.specs.declared.answers.Trace.{Trace}
+use Rattle.running_query.specs.Notes.{IsHanded, range_number}
+
+-- ---- what was found in a call
+
+-- A leaf was found down in the call: a length was noted in it, no less than what had been seen of the leaf before, at
+-- which the leaf was down
+pub record WasFoundDown (before after : Knowledge) (leaf : Leaf) (cut : ℕ) : Type 0 where
+  pub more : List LengthNote
+  pub notes : after.purse.notes ≡ before.purse.notes ++ more
+  pub noted : Contains more (length_note leaf.0 cut)
+  pub from : length (leaf_history before.seen leaf) ≤ cut
+  pub down : IsDownAt (leaf_history after.seen leaf) cut
+
+abbrev pub WereFoundDown : Knowledge → Knowledge → List FoundDown → Type 0
+WereFoundDown before after founds =
+    AllByRecursion (λ (found : FoundDown). WasFoundDown before after found.leaf found.cut) founds
+
+-- a leaf was, at some length
+pub record IsFoundDown (before after : Knowledge) (leaf : Leaf) : Type 0 where
+  pub cut : ℕ
+  pub was : WasFoundDown before after leaf cut
+
+-- At the last length that the call noted, each replica of a range that serves is on a leaf that was found down in it
+pub record IsLeftWithout (store : Setting) (before after : Knowledge) (range : Range) : Type 0 where
+  pub more : List LengthNote
+  pub notes : after.purse.notes ≡ before.purse.notes ++ more
+      ++ length_note (range_number store range) (length (range_history after.seen range)) ∷ []
+  pub all_down : (replica : SlotLeaf) → Contains (serving (range_history after.seen range)) replica
+      → IsFoundDown before after replica.leaf
+
+-- ---- the ends
+
+module _ (store : Setting) (setting : QuerySetting) (moment : ℤ) (entry exit : Knowledge) where
+  -- a table is what the query means over the rows of its trace; the leaves of its trace that are down were found so in
+  -- the call; where none is, as much was handed out as the trace says
+  pub record HasAnswered (answer : Answer) : Type 0 where
+    pub rightly : IsAnsweredRightly store setting moment entry.seen exit.seen answer
+    pub down : WereFoundDown entry exit answer.trace.down
+    pub handed : answer.trace.down ≡ [] → IsHanded entry.handed (sum answer.trace.sent) exit.handed
+
+  -- a query stops for its load only where the load over the rows of its trace is above the limit
+  pub record HasStopped (limit : ℕ) (trace : Trace) : Type 0 where
+    pub rightly : IsStoppedRightly store setting moment entry.seen exit.seen limit trace
+    pub down : WereFoundDown entry exit trace.down
+
+  -- it finds no replica of a range only where each that serves is on a leaf that was found down in the call
+  pub record HasFoundNone (range : Range) (named : List FoundDown) : Type 0 where
+    pub rightly : HasNoReplica store.zones entry.seen exit.seen range named
+    pub down : WereFoundDown entry exit named
+    pub last : IsLeftWithout store entry exit range
+
+  abbrev pub EndsRightly : Result Answer RoundFault → Type 0
+  EndsRightly (Ok answer) = HasAnswered answer
+  EndsRightly (Err (fault.StepLimit limit trace)) = HasStopped limit trace
+  EndsRightly (Err (fault.NoReplica range named)) = HasFoundNone range named

@@ -1,0 +1,5 @@
+pub mod Asking
+pub mod Ends
+pub mod Looks
+pub mod Notes
+pub mod Telling
