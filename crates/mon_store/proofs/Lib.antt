@@ -2,6 +2,7 @@ pub mod AddedLemmas
 pub mod CarriedLemmas
 pub mod CellLemmas
 pub mod EndedLemmas
+pub mod GatherLemmas
 pub mod ListLemmas
 pub mod OwnLemmas
 pub mod PassLemmas

@@ -1,3 +1,4 @@
+pub mod Gathers
 pub mod Passes
 pub mod Stores
 pub mod Writes

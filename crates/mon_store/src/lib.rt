@@ -2,6 +2,7 @@
 #![tactic(auto)]
 
 mod gates;
+mod gathering;
 mod leaves;
 mod passes;
 mod stores;
@@ -9,5 +10,6 @@ mod writing;
 
 pub use gates::{Gate, HoldGate, OpenGate};
 pub use passes::Pass;
+pub use query_core::{Resolved, Trace};
 pub use range_cell::WriteFault;
 pub use stores::Store;

@@ -1,11 +1,11 @@
 // The store.
 ghost use Rattle.std.specs.Prelude.{◌≡◌, ◌<◌, length};
-ghost use Rattle.mon_topo.specs.Zones.{ranges_in};
+ghost use Rattle.mon_topo.specs.Zones.{leaves_in, ranges_in};
 
 use know::{Names, Tables};
 use leaf_cell::LeafCell;
 use mon_config::Config;
-use mon_value::Range;
+use mon_value::{Leaf, Range};
 use range_cell::RangeCell;
 use std::marker::Model;
 
@@ -31,6 +31,14 @@ impl<N: Names> Model for Store<N> {
 }
 
 impl<N: Names> Store<N> {
+    /// The cell of a leaf.
+    pub(crate) fn leaf_cell(&self, leaf: Leaf) -> &LeafCell<N>
+        requires there { leaf.0 < length (leaves_in N.setting.zones) }
+        ensures cell { result.now ≡ leaf.0 }
+    {
+        &self.leaves.as_slice()[leaf.0 as usize]
+    }
+
     /// The cell of a range.
     pub(crate) fn range_cell(&self, range: Range) -> &RangeCell<N>
         requires there { range.0 < length (ranges_in N.setting.zones) }
