@@ -4,6 +4,7 @@ import json
 import re
 from dataclasses import dataclass
 
+import made
 from runs import Run
 
 CONFIG, SCRIPT, POINTS = "c.json", "s.txt", "p.csv"
@@ -217,6 +218,14 @@ def predicates(case):
     return of_filter(case, expanded(predicate), record, config)
 
 
+def inputs(case):
+    """`N`; the first record of the points that are made from it. The run prints the whole input, as its rules say."""
+    text = made.printed(int(case.given)).encode()
+    if text.split(b"\n== p0.csv ==\n")[1].split(b"\n")[0] != case.wanted:
+        raise Misspelled("the record is another one")
+    return Run({}, ("gen", case.given)), b"0\n" + text
+
+
 def of_filter(case, predicate, record, config=None):
     """The run that counts the one point that is fed where a filter takes it."""
     script = b"feed p.csv\nquery 10 fetch T::/m | filter %s | group_by [], count()\n" % predicate
@@ -239,5 +248,5 @@ def quoted(text):
     return b'"%s"' % text.replace(b'"', b'""')
 
 
-LIST = (runs, schedules, configurations, scripts, queries, points, meanings, patterns, predicates)
+LIST = (runs, schedules, configurations, scripts, queries, points, meanings, patterns, predicates, inputs)
 KINDS = {kind.__name__: kind for kind in LIST}

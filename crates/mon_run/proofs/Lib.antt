@@ -2,6 +2,7 @@ mod ContentLemmas
 mod EndLemmas
 mod FeedLemmas
 mod LimitLemmas
+mod MadeLemmas
 mod QueryLemmas
 mod ReadLemmas
 mod RunLemmas

@@ -22,7 +22,8 @@ use Rattle.mon_run.specs.Folders.{Files, FolderState, Told, content_of}
 use Rattle.mon_run.specs.Sinks.{SinkState, written_then}
 use Rattle.mon_run.specs.Plans.{Accept, Ask, Command, End, IsRunWoven, IsWovenBy, Plan, Step, Write, command_of}
 use Rattle.mon_run.specs.Plans.{command_plan, config_plan, end_status, ending, feed_steps, file_plan, is_refused}
-use Rattle.mon_run.specs.Plans.{is_too_long, line_plan, line_rows, lines_plan, plan, plan_behind, query_steps}
+use Rattle.mon_run.specs.Plans.{is_too_long, line_plan, line_rows, lines_plan, made_number, made_plan, number_plan}
+use Rattle.mon_run.specs.Plans.{plan, plan_behind, query_steps}
 use Rattle.mon_run.specs.Plans.{read_plan, reply_steps, schedule_end, schedule_plan, script_plan}
 use Rattle.mon_run.specs.Queries.{query_answer, reply_of}
 use Rattle.mon_run.specs.Texts.{feed_text, too_long_text}
@@ -462,13 +463,16 @@ named_weave read verb name text ended {before} {mid} after file did counts weave
 
 -- the words are a command, which ended
 pub words_weave : (words : List (List ℕ)) (what : Command) (ended : Result Bool Stop) {before after : Progress}
-    → Some what ≡ command_of words → Weaves (files_plan what) (IsWovenBy what) ended before after
+    → made_number words ≡ None → Some what ≡ command_of words
+    → Weaves (files_plan what) (IsWovenBy what) ended before after
     → Weaves (words_plan words) (IsRunWoven words) ended before after
-words_weave words what ended {before} {after} is weaves = record {
+words_weave words what ended {before} {after} none is weaves = record {
   woven = weaves.woven;
   printed = λ files told. by weaves.woven files (weaves.printed files told);
-  ends = subst (λ (c : Option Command). Ends (λ files. command_plan weaves.woven files c) ended before after) is
-      weaves.ends;
+  ends = subst (λ (number : Option ℕ). Ends (λ files. number_plan weaves.woven files number (command_of words)) ended
+      before after) (sym none)
+      (subst (λ (c : Option Command). Ends (λ files. command_plan weaves.woven files c) ended before after) is
+      weaves.ends);
 }
   where
     by : (woven : Option Printed) (files : Files) → IfSome woven (IsWovenBy what files)
@@ -479,10 +483,21 @@ words_weave words what ended {before} {after} is weaves = record {
         let e : what ≡ other = cc in
         subst (λ (c : Command). IsWovenBy c files woven) e printed
 
+-- the words ask for the input of a number
+pub words_made : (words : List (List ℕ)) (number : ℕ) (ended : Result Bool Stop) {before after : Progress}
+    → Some number ≡ made_number words → Ends (λ files. made_plan number) ended before after
+    → Weaves (words_plan words) (IsRunWoven words) ended before after
+words_made words number ended {before} {after} is ends = record {
+  woven = None;
+  printed = λ files told. tt;
+  ends = subst (λ (n : Option ℕ). Ends (λ files. number_plan None files n (command_of words)) ended before after) is
+      ends;
+}
+
 -- the words are none
-pub words_refused : (words : List (List ℕ)) (p : Progress) → command_of words ≡ None → Weaves (words_plan words)
-    (IsRunWoven words) (Err stop.Usage) p p
-words_refused words p none = record {
+pub words_refused : (words : List (List ℕ)) (p : Progress) → made_number words ≡ None → command_of words ≡ None
+    → Weaves (words_plan words) (IsRunWoven words) (Err stop.Usage) p p
+words_refused words p number none = record {
   woven = None;
   printed = λ files told. tt;
   ends = record {
@@ -490,7 +505,8 @@ words_refused words p none = record {
     halts = record {
       told = λ files told. record {
         done = [];
-        split = ap (command_plan None files) none;
+        split = ap (λ (n : Option ℕ). number_plan None files n (command_of words)) number
+            ∙ ap (command_plan None files) none;
         did =
             did_none p;
       };

@@ -1,12 +1,15 @@
 -- What a run does, step by step, where no read and no write fails and memory is there.
-use Rattle.std.specs.Prelude.{◌≡◌, ℕ, ℤ, nat_lt, ◌||◌, Bool, true, false, List, [], ◌∷◌, ◌++◌, map, length, codes}
-use Rattle.std.specs.Prelude.{Option, Some, None, option_map, Result, Ok, Err, if◌then◌else◌}
+use Rattle.std.specs.Prelude.{◌≡◌, ◌^◌, ℕ, ℤ, nat_lt, ◌&&◌, ◌||◌, Bool, true, false, List, [], ◌∷◌, ◌++◌, map, length}
+use Rattle.std.specs.Prelude.{codes, Option, Some, None, option_map, Result, Ok, Err, if◌then◌else◌}
+use Rattle.std.specs.Str.{all_ascii_digits}
+use Rattle.std.specs.Str.Parse.{digits_value}
 use Rattle.mon_value.specs.declared.limits.TheConstants.{LONGEST_FILE}
 use Rattle.mon_value.specs.Same.{same_text}
 use Rattle.mon_value.specs.declared.rows.Row.{Row}
 use Rattle.mon_config.specs.Configs.{config_in}
 use Rattle.mon_config.specs.declared.config.Config.{Config}
 use Rattle.mon_config.specs.declared.faults.ConfigFault.{ConfigFault}
+use Rattle.mon_script.specs.Made.{made_pieces}
 use Rattle.mon_script.specs.Scripts.{script_in}
 use Rattle.mon_script.specs.declared.script.LineForm.{LineForm}
 use Rattle.mon_script.specs.declared.script.LineForm.TheVariants as form
@@ -145,6 +148,23 @@ IsWovenBy what files woven =
 abbrev pub IsRunWoven : List (List ℕ) → Files → Printed → Type 0
 IsRunWoven words files woven = (what : Command) → command_of words ≡ Some what → IsWovenBy what files woven
 
+-- ---- made input
+
+-- the number that a word of one or more digits spells, where that is below 2 ^ 64
+abbrev pub number_in : List ℕ → Option ℕ
+number_in word =
+    if nat_lt 0 (length word) && (all_ascii_digits word && nat_lt (digits_value 10 word) (2 ^ 64))
+    then Some (digits_value 10 word) else None
+
+-- `gen` and a number
+abbrev pub made_number : List (List ℕ) → Option ℕ
+made_number (word ∷ number ∷ []) = if same_text word (codes "gen") then number_in number else None
+made_number words = None
+
+-- the input of a number is written, piece by piece
+abbrev pub made_plan : ℕ → Plan
+made_plan number = plan (map (λ piece. Write piece) (made_pieces number)) (end_status false)
+
 -- ---- the whole run, where its schedule, if it has one, printed this
 
 abbrev pub script_plan : Config → Files → Result (List ScriptLine) ScriptFault → Plan
@@ -166,6 +186,10 @@ command_plan woven files None = ending 1 usage_text
 command_plan woven files (Some what) =
     read_plan files what.config (config_plan woven files what (config_in (content_of files what.config)))
 
+abbrev pub number_plan : Option Printed → Files → Option ℕ → Option Command → Plan
+number_plan woven files (Some number) what = made_plan number
+number_plan woven files None what = command_plan woven files what
+
 -- what a run of these words on these files does
 abbrev pub run_plan : Option Printed → Files → List (List ℕ) → Plan
-run_plan woven files words = command_plan woven files (command_of words)
+run_plan woven files words = number_plan woven files (made_number words) (command_of words)

@@ -10,9 +10,10 @@ use crate::outside::{Folder, Sink};
 use crate::runs::{Log, Run};
 use std::alloc::Global;
 
-/// Runs a command: `run` or `weave`, the name of a configuration, and the name of a script or of a schedule. The
-/// lines of a script run in order, and each one's text goes to the sink before the next one begins; the text of a
-/// schedule goes there as one. A run that ends before its last line says why in a line of its own.
+/// Runs a command: `run` or `weave`, the name of a configuration, and the name of a script or of a schedule; or `gen`
+/// and a number, whose input it writes piece by piece. The lines of a script run in order, and each one's text goes to
+/// the sink before the next one begins; the text of a schedule goes there as one. A run that ends before its last line
+/// says why in a line of its own.
 pub fn run<F: Folder, O: Sink>(
     alloc: Global,
     words: &[String],

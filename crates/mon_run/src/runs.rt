@@ -1,5 +1,5 @@
 // A run: where it reads and writes, and what it has come to.
-ghost use Rattle.std.specs.Prelude.{◌≡◌, ◌≤◌, ◌∷◌, ◌||◌, [], false, length, map, IfErr, IfOk, OnErr, OnOk};
+ghost use Rattle.std.specs.Prelude.{◌≡◌, ◌≤◌, ◌∷◌, ◌||◌, [], false, length, map, IfErr, IfOk, None, OnErr, OnOk};
 ghost use Rattle.std.specs.Prelude.{string_bytes};
 ghost use Rattle.std.specs.List.{AllByRecursion};
 ghost use Rattle.mon_config.specs.Numbers.{AreLawful};
@@ -25,10 +25,10 @@ use crate::queries::reply_to;
 use crate::schedules::weave;
 use crate::stop::Stop;
 use crate::texts::{feed_text, own_text};
-use crate::words::{Verb, command_in};
+use crate::words::{Verb, command_in, made_number};
 use mon_config::{Config, read_config};
 use mon_points::KeyCache;
-use mon_script::{LineForm, ScriptLine, read_script};
+use mon_script::{LineForm, MadeInput, ScriptLine, read_script};
 use mon_value::{LONGEST_FILE, Text};
 use script_store::Store;
 use std::alloc::Global;
@@ -68,6 +68,32 @@ pub(crate) struct Run<'f, 'o, 'l, F: Folder, O: Sink> {
 impl<'f, 'o, 'l, F: Folder, O: Sink> Run<'f, 'o, 'l, F, O> {
     /// Runs the command that the words say, and says whether a line of a script was refused.
     pub fn command(&mut self, words: &[String]) -> Result<bool, Stop>
+        requires fresh { accepted_rows self.old.log.now.store ≡ [] }
+        ensures continues { Continues F.state O.state self.old self.new }
+        ensures ended { Between F.state O.state (Weaves (words_plan (map string_bytes words.now))
+            (plan.IsRunWoven (map string_bytes words.now)) result) self.old self.new }
+    {
+        match made_number(words) {
+            Some(number) => self.made(number),
+            None => self.stored(words),
+        }
+    }
+
+    // Writes the input of a number, piece by piece.
+    fn made(&mut self, number: u64) -> Result<bool, Stop>
+        ensures continues { Continues F.state O.state self.old self.new }
+        ensures ended { Between F.state O.state (Ends (λ files. plan.made_plan number) result) self.old self.new }
+    {
+        let mut input = MadeInput::new(number);
+        while let Some(piece) = input.next(self.alloc)? {
+            self.write(piece.as_bytes())?;
+        }
+        Ok(false)
+    }
+
+    // Runs a command over stored files.
+    fn stored(&mut self, words: &[String]) -> Result<bool, Stop>
+        requires none { plan.made_number (map string_bytes words.now) ≡ None }
         requires fresh { accepted_rows self.old.log.now.store ≡ [] }
         ensures continues { Continues F.state O.state self.old self.new }
         ensures ended { Between F.state O.state (Weaves (words_plan (map string_bytes words.now))

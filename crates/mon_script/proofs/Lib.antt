@@ -1,3 +1,5 @@
 mod Fronts
 mod LawfulLemmas
 mod LineLemmas
+pub mod MadeLemmas
+pub mod MadePlaceLemmas

@@ -1,3 +1,5 @@
 pub mod Lawful
 pub mod Lines
+pub mod Made
+pub mod MadePlaces
 pub mod Scripts
