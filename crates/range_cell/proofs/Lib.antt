@@ -7,3 +7,5 @@ pub mod OutcomeLemmas
 pub mod BeginLemmas
 pub mod MeetingLemmas
 pub mod EndingLemmas
+pub mod NewRangeLemmas
+pub mod FirstReplicaLemmas

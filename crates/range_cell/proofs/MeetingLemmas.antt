@@ -197,7 +197,7 @@ module _ (leaves : ℕ) (know : Knowledge) (owner now : RangeView) (own : owner.
   module _ (replay : Replay) (held : IsRangeHeld owner.range.0 replay owner)
       (holds : 0 < times_range owner.range know.purse.holds) where
     -- what the replicas have, as the caller knew it
-    rows_brought : (history : List RangeEntry) → HaveJust know.seen owner.range history
+    pub rows_brought : (history : List RangeEntry) → HaveJust know.seen owner.range history
         → HaveJust joined owner.range history
     rows_brought history rows replica there =
         just_same owner.range joined know.seen replica history (came.held owner.range replica.leaf holds)
@@ -209,11 +209,11 @@ module _ (leaves : ℕ) (know : Knowledge) (owner now : RangeView) (own : owner.
     then_is : held_then ≡ filter (is_own_range (of.Range owner.range)) know.purse.holds
     then_is = λ i. held_after false (own i) (held.lent i) know.purse.holds
 
-    holds_then : 0 < times_range owner.range held_then
+    pub holds_then : 0 < times_range owner.range held_then
     holds_then = subst (λ xs. 0 < times_range owner.range xs) (sym then_is)
         (subst (λ n. 0 < n) (sym (taken_back owner.range know.purse.holds)) holds)
 
-    only_then : others owner.range held_then ≡ []
+    pub only_then : others owner.range held_then ≡ []
     only_then = ap (others owner.range) then_is ∙ others_rest owner.range [] know.purse.holds refl
 
     pub rests_back : HaveJust know.seen owner.range replay.history → (back : RangeView)

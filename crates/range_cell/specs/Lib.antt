@@ -6,3 +6,4 @@ pub mod Copies
 pub mod Rest
 pub mod Calls
 pub mod Writes
+pub mod NewRanges

@@ -266,8 +266,8 @@ impl<N: Names> RangeDesk<N> {
         }
     }
 
-    // A caller comes, and notes the length of the history.
-    fn receive(&mut self, tables: &Tables<N>, know: &mut Know<N>)
+    /// A caller comes, and notes the length of the history.
+    pub(crate) fn receive(&mut self, tables: &Tables<N>, know: &mut Know<N>)
         requires free { self.old.owner.book.guest ≡ None }
         requires own { self.old.owner.book.history ≡ of.Range self.old.owner.range }
         ensures came { HasCome N.book.leaves know.old self.old.owner self.new.owner }

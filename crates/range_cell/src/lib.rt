@@ -8,10 +8,12 @@ mod desks;
 mod entering;
 mod laws;
 mod loops;
+mod new_ranges;
 mod sides;
 mod turns;
 
 pub use answers::WriteFault;
 pub use cells::RangeCell;
 pub use laws::new_ranges_are_at_rest;
+pub use new_ranges::NewRange;
 pub use sides::LeafSide;
