@@ -1,5 +1,5 @@
-"""Makes schedules by chance: writes, queries and switches of leaves by up to fourteen actors beside one another, over one
-leaf, over three leaves with ranges on one to three of them, and over two zones with three leaves each.
+"""Makes schedules by chance: writes, queries and switches of leaves by up to fourteen actors beside one another, over
+one leaf, over three leaves with ranges on one to three of them, and over two zones with three leaves each.
 """
 
 import weaving

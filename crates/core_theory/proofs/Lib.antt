@@ -1,4 +1,5 @@
 pub mod CoreLemmas
+pub mod EndedLemmas
 pub mod HolderLemmas
 pub mod MeetingLemmas
 pub mod ReaderAnswers

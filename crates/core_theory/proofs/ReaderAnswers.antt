@@ -13,7 +13,6 @@ use Rattle.query_core.specs.Machine.{Query, new_query, slots_at}
 use Rattle.query_core.specs.Mixtures.{MayBeTold, typed_of}
 use Rattle.query_core.specs.Program.{ask_of}
 use Rattle.mon_meaning.specs.ReadableSlots.{CanBeRead}
-use Rattle.query_core.specs.Sessions as session
 use Rattle.query_core.specs.Traces.{IsBetween}
 use Rattle.query_core.specs.Sessions.{IsLicensed, IsTrueAnswer, query_after, view_after}
 use Rattle.mon_topo.specs.Views.{IsSound, IsViewWithin, View, joined_view, of_leaf}

@@ -3,7 +3,6 @@ use Rattle.mon_topo.specs.Views.{View}
 use Rattle.std.proofs.Common.{◌≡◌, sym, ap, subst, ◌∙◌}
 use Rattle.mon_topo.specs.Settings.{Setting}
 use Rattle.query_core.specs.Machine.{Query, new_query}
-use Rattle.query_core.specs.Sessions as session
 use Rattle.query_core.specs.Sessions.{IsLicensed, query_after, view_after}
 use Rattle.query_core.specs.declared.stages.Stage.{Stage}
 use Rattle.core_theory.specs.Core.{Reader, query_now}

@@ -1,4 +1,5 @@
 pub mod Core
+pub mod FoundDown
 pub mod Holders
 pub mod Licensed
 pub mod Meetings

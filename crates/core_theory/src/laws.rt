@@ -15,12 +15,14 @@ ghost use Rattle.query_core.specs.declared.answers.RoundFault.TheVariants.{NoRep
 ghost use Rattle.query_core.specs.declared.answers.Trace.{Trace as TraceOf};
 ghost use Rattle.query_core.specs.declared.stages.Stage.TheVariants.{Ended};
 ghost use Rattle.core_theory.specs.Core.{CanGoOn, Core, CoreEvent, Reader, core_gone_on, query_now};
+ghost use Rattle.core_theory.specs.FoundDown.{FindsWhatItSays};
 ghost use Rattle.core_theory.specs.Licensed.{IsNewCore, IsReader, IsWoven};
 ghost use Rattle.core_theory.specs.Meetings.{sight_at_leaf, sight_at_range};
 ghost use Rattle.write_core.specs.Invariant.{IsKept};
 ghost use Rattle.write_core.specs.World.{IsPart, World};
 
 use query_core::sessions_answer_rightly;
+use write_core::what_is_said_was_noted;
 
 /// Whichever writes, recoveries and queries go on, in whatever order, and whatever they are told of the world as it
 /// stands, each query's session stays licensed, and what its caller has seen and knows stays a sound part of the
@@ -55,6 +57,17 @@ pub fn queries_answer_rightly()
         → HasNoReplica store.zones reader.begin.seen reader.view.seen range named }
 {
     sessions_answer_rightly();
+}
+
+/// Whatever goes on, in whatever order: each leaf of which a write that has ended says that its replica there missed
+/// the row, it found down by an event of its own, at that cut. So where no replica took the row, each leaf that the
+/// write names is one that it found down.
+pub fn writes_name_what_they_found()
+    ensures found { (store : Setting) (core : Core store) (events : List (CoreEvent store)) (i : ℕ)
+        → IsNewCore store core → CanGoOn store core events
+        → FindsWhatItSays (core_gone_on store core events).world i }
+{
+    what_is_said_was_noted();
 }
 
 /// Who has seen a part of the truth, and keeps how far, sees by a meeting at a leaf or at a range just as far as what

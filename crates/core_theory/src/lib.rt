@@ -3,4 +3,7 @@
 
 mod laws;
 
-pub use laws::{meetings_see_as_far_as_views, queries_answer_rightly, queries_are_licensed};
+pub use laws::{
+    meetings_see_as_far_as_views, queries_answer_rightly, queries_are_licensed,
+    writes_name_what_they_found,
+};

@@ -376,7 +376,8 @@ module _ (config : Config) (state : State (store_of config)) (i : ℕ) where
     -- whatever it is to do
 
     declared_by : (what : Call) (one : Task) (begun : Bool) (sight : Sight) → begun ≡ false → sight ≡ First
-        → IsLawfulCall config.schemas config.topology what → IsTaskOf config i what one → IsDeclaredSo what one begun sight
+        → IsLawfulCall config.schemas config.topology what → IsTaskOf config i what one
+        → IsDeclaredSo what one begun sight
     declared_by (call.Write row) (task.Refused line) begun sight new seen lawful h =
         subst (λ (text : List ℕ). IsDeclaredSo (call.Write row) (task.Refused text) begun sight) (sym h.1)
         (eventless_declared (call.Write row) no_zone_line begun sight new seen

@@ -46,13 +46,14 @@ module _ (config : Config) (number : ℕ) where
 
     -- a line that is no remark
     runs_by : (lines : List (List ℕ)) (printed : Printed) → nat_lt MOST_LINES number ≡ false → is_remark line ≡ false
-        → ScheduleLineRuns config number (RunsFrom config (number + 1) lines) state (schedule_form config.schemas config.topology line)
-        printed → RunsFrom config number (line ∷ lines) state printed
+        → ScheduleLineRuns config number (RunsFrom config (number + 1) lines) state
+        (schedule_form config.schemas config.topology line) printed → RunsFrom config number (line ∷ lines) state printed
     runs_by lines printed few text runs = within_most _ printed few
         (subst (λ (b : Bool). RunsUnless config number (RunsFrom config (number + 1) lines) state line b printed)
         (sym text) runs)
 
-    done_runs : (what : LineForm) (new : Weave) (before after : List ℕ) → schedule_form config.schemas config.topology line ≡ Some what
+    done_runs : (what : LineForm) (new : Weave) (before after : List ℕ)
+        → schedule_form config.schemas config.topology line ≡ Some what
         → nat_lt MOST_LINES number ≡ false → is_remark line ≡ false → IsDone config state what new before after
         → HasRun config state number line new before after
     done_runs what new before after says few text done = record {
@@ -72,8 +73,8 @@ module _ (config : Config) (number : ℕ) where
       prints = done.prints;
     }
 
-    refused_stops : (what : LineForm) (why : WeaveFault) (before after : List ℕ) → schedule_form config.schemas config.topology line
-        ≡ Some what
+    refused_stops : (what : LineForm) (why : WeaveFault) (before after : List ℕ)
+        → schedule_form config.schemas config.topology line ≡ Some what
         → nat_lt MOST_LINES number ≡ false → is_remark line ≡ false → IsLineRefused config state what why before after
         → HasStopped config state number line (record { line = number; fault = why }) before after
     refused_stops what why before after says few text refused = record {
@@ -103,13 +104,14 @@ module _ (config : Config) (number : ℕ) where
 
     module _ (new : Weave) (before after : List ℕ) (few : nat_lt MOST_LINES number ≡ false) (text : is_remark line
         ≡ false) where
-      pub line_ran : (X : Type 0) (x : X) (form : Option LineForm) → schedule_form config.schemas config.topology line ≡ form
+      pub line_ran : (X : Type 0) (x : X) (form : Option LineForm)
+          → schedule_form config.schemas config.topology line ≡ form
           → LineBy config state form {X = X} (Ok x) new before after → HasRun config state number line new before after
       line_ran X x None says so = absurd so
       line_ran X x (Some what) says so = done_runs what new before after says few text so
 
-      pub line_stopped : (X : Type 0) (form : Option LineForm) (why : WeaveFault) → schedule_form config.schemas config.topology line
-          ≡ form
+      pub line_stopped : (X : Type 0) (form : Option LineForm) (why : WeaveFault)
+          → schedule_form config.schemas config.topology line ≡ form
           → LineBy config state form {X = X} (Err (refusal.Fault why)) new before after
           → HasStopped config state number line (record { line = number; fault = why }) before after
       line_stopped X None why says so =

@@ -8,7 +8,6 @@ use Rattle.mon_topo.proofs.PartLemmas.{part_at, zone_of_part}
 use Rattle.mon_topo.specs.Settings.{zone_of_leaf}
 use Rattle.mon_value.specs.Positions.{zone_numbered}
 use Rattle.mon_topo.specs.Zones.{first_leaf, leaf_zones, leaves_in, no_zone}
-use Rattle.mon_topo.specs.declared.places.Place.TheVariants as fault
 use Rattle.mon_topo.specs.declared.zones.ZoneSpec.{ZoneSpec}
 use Rattle.mon_value.specs.declared.positions.Leaf.{Leaf}
 use Rattle.mon_value.specs.declared.positions.Zone.{Zone}

@@ -1,6 +1,6 @@
 -- Lines of a schedule keep the core woven, and each of its queries is asked of the store.
-use Rattle.std.proofs.Common.{Bool, true, false, ◌≡◌, ◌≤ℤ◌, ◌⊎◌, inl, inr, ℕ, ℤ, zero, suc, pos, List, [], ◌∷◌, Option, Some, None}
-use Rattle.std.proofs.Common.{Result, Ok, Err, refl, sym, subst, ◌∙◌}
+use Rattle.std.proofs.Common.{◌≡◌, ◌≤ℤ◌, ◌⊎◌, inl, inr, ℕ, ℤ, zero, suc, pos, Bool, true, false, List, [], ◌∷◌, Option}
+use Rattle.std.proofs.Common.{Some, None, Result, Ok, Err, refl, sym, subst, ◌∙◌}
 use Rattle.mon_config.specs.declared.config.Config.{Config}
 use Rattle.mon_config.specs.KeyRanges.{range_of_key}
 use Rattle.mon_topo.specs.Settings.{Setting}
@@ -11,13 +11,12 @@ use Rattle.mql_types.specs.Nodes.{TypedTree}
 use Rattle.query_core.specs.Askings.{IsAskedOf}
 use Rattle.query_core.specs.Machine.{new_query}
 use Rattle.query_core.specs.Settings.{QuerySetting}
-use Rattle.query_core.specs.declared.asks.Ask.{Ask}
-use Rattle.query_core.specs.declared.asks.Ask.TheVariants as ask
 use Rattle.query_texts.specs.TextTypes.{text_type}
 use Rattle.query_texts.specs.declared.faults.TextFault.{TextFault}
 use Rattle.core_theory.proofs.CoreLemmas.{new_woven, stays_woven}
-use Rattle.core_theory.specs.Core.{CanCome, CoreEvent, Happens, Hears, Reader, Tells, asked_now, begun_with, came}
-use Rattle.core_theory.specs.Core.{told_on, view_told, world_then}
+use Rattle.core_theory.proofs.EndedLemmas.{Finds, came_finds, new_finds}
+use Rattle.core_theory.specs.Core.{CanCome, CoreEvent, Happens, Hears, Reader, Tells, begun_with, came, told_on}
+use Rattle.core_theory.specs.Core.{view_told}
 use Rattle.weave_core.specs.Declarations.{Declares, QueryBegins, WriteBegins, hearing, new_reader}
 use Rattle.weave_core.specs.Declarations.{with_reader}
 use Rattle.weave_core.specs.EndTexts.{no_plan_line, no_zone_line}
@@ -60,15 +59,6 @@ fresh_reader store world setting moment view part = record {
   now = refl;
 }
 
--- a query's event leaves the writes and what they noted as they were
-told_noted : (store : Setting) (setting : QuerySetting) (moment : ℤ) (world : World) (view : View) (asks : Ask)
-    → AreNoted world → AreNoted (world_then store setting moment world view asks)
-told_noted store setting moment world view (ask.LoadRoot bucket) h = h
-told_noted store setting moment world view (ask.LoadZone zone bucket) h = h
-told_noted store setting moment world view (ask.Resolve range) h = h
-told_noted store setting moment world view (ask.Visit leaf) h = h
-told_noted store setting moment world view ask.Finished h = h
-
 -- by the law that whatever is said of leaves that were down was noted
 module _ (config : Config)
     (law : (world : World) (events : List WorldEvent) → CanRun (store_of config) world events → AreNoted world
@@ -88,7 +78,7 @@ module _ (config : Config)
   pub record Holds (state : State') : Type 0 where
     pub woven : IsWoven Store' state.core
     pub asked : (k : ℕ) → state.roles k ≡ Asking → IsAsked (state.core.readers k)
-    pub noted : AreNoted state.core.world
+    pub found : Finds state.core.world
 
   -- ---- events
 
@@ -109,20 +99,12 @@ module _ (config : Config)
       (λ is. let h = all i is in record { first = h.first; asked = h.asked; moment = h.moment })
       (λ k apart. all k)
 
-  noted_then : (state : State') (event : CoreEvent Store') → CanCome Store' state.core event
-      → AreNoted state.core.world → AreNoted (came Store' state.core event).world
-  noted_then state (Happens event) can h = law state.core.world (event ∷ []) (can, tt) h
-  noted_then state (Tells i answer stage) can h =
-      told_noted Store' (state.core.readers i).setting (state.core.readers i).moment state.core.world
-      (state.core.readers i).view (asked_now Store' (state.core.readers i)) h
-  noted_then state (Hears i view) can h = h
-
   event_holds : (state : State') (event : CoreEvent Store') → CanCome Store' state.core event → Holds state
       → Holds (with_event Store' state event)
   event_holds state event can h = record {
     woven = stays_woven Store' state.core (event ∷ []) (can, tt) h.woven;
     asked = asked_then state event h.asked;
-    noted = noted_then state event can h.noted;
+    found = came_finds Store' law state.core event can h.woven h.found;
   }
 
   -- ---- roles
@@ -133,7 +115,7 @@ module _ (config : Config)
     woven = h.woven;
     asked = changed_by state.roles k role (λ (j : ℕ) (r : Role). r ≡ Asking → IsAsked (state.core.readers j))
         (λ is. absurd (other is)) (λ j apart. h.asked j);
-    noted = h.noted;
+    found = h.found;
   }
 
   eventless : (text : List ℕ) → Eventless text ≡ Asking → ⊥
@@ -167,7 +149,7 @@ module _ (config : Config)
             (λ (i : ℕ) (one : Reader Store'). (state.roles i ≡ Asking ⊎ i ≡ k) → IsAsked one)
             (λ either. record { first = refl; asked = asked; moment = from })
             (λ i apart either. still i apart either) j (was j is);
-        noted = h.noted;
+        found = h.found;
       }
     where
       still : (i : ℕ) → (i ≡ k → ⊥) → (state.roles i ≡ Asking ⊎ i ≡ k) → IsAsked (state.core.readers i)
@@ -244,7 +226,8 @@ module _ (config : Config)
   query_holds state k moment (Ok typed) after from (setting, asked, same) h =
       subst Holds (sym same) (reader_holds state k setting moment asked.asked from h)
 
-  declare_holds : (state : State') (k : ℕ) (what : Call) (after : State') → IsLawfulCall config.schemas config.topology what
+  declare_holds : (state : State') (k : ℕ) (what : Call) (after : State')
+      → IsLawfulCall config.schemas config.topology what
       → Declares config state k what after → Holds state → Holds after
   declare_holds state k (call.Write row) after lawful declares h =
       write_holds state k row (range_of_key config row.key) after declares h
@@ -255,7 +238,8 @@ module _ (config : Config)
   declare_holds state k (call.Up leaf) after lawful declares h =
       subst Holds (sym declares) (role_holds state k (Switching leaf false) (switching leaf false) h)
 
-  does_hold : (state : State') (what : LineForm) (said : List ℕ) (after : State') → IsLawfulForm config.schemas config.topology what
+  does_hold : (state : State') (what : LineForm) (said : List ℕ) (after : State')
+      → IsLawfulForm config.schemas config.topology what
       → Does config state what said after → Holds state → Holds after
   does_hold state (form.Declare k what) said after lawful does h = declare_holds state k what after lawful.1 does.1 h
   does_hold state (form.Meet k j) said after lawful does h =
@@ -276,5 +260,5 @@ module _ (config : Config)
   reached begins first state lines is_first leads = leads_hold lines first state leads (record {
     woven = new_woven Store' first.core is_first.new;
     asked = λ k is. let no : Undeclared ≡ Asking = sym (is_first.roles k) ∙ is in absurd cc;
-    noted = begins first.core.world is_first.new.world;
+    found = new_finds Store' law begins first.core.world is_first.new.world;
   })

@@ -1,6 +1,6 @@
 -- A step of an actor that switches a leaf.
 use Rattle.std.proofs.Common.{◌≡◌, ◌≢◌, ◌∙◌, ◌<◌, ◌+◌, ℕ, Bool, true, Option, Some, None, List, [], ◌∷◌, ◌++◌, length}
-use Rattle.std.proofs.Common.{refl, sym, ap, subst, inl, inr, arith, length-append}
+use Rattle.std.proofs.Common.{refl, sym, ap, subst, inl, inr, length-append}
 use Rattle.std.specs.Prelude.{slice_get}
 use Rattle.std.proofs.lemmas.List.{length-map}
 use Rattle.mon_config.specs.declared.config.Config.{Config}
@@ -47,7 +47,7 @@ use Rattle.write_core.proofs.ViewLemmas.{joined_whole_leaf}
 use Rattle.write_core.specs.Events.{IsToldOfSwitch, MaySwitch, SwitchTold, Switches, SwitchesSpent, WasDownAlready}
 use Rattle.write_core.specs.Events.{WasSwitched, WasUpAlready, after_switch, switch_of, switched, switches_with}
 use Rattle.write_core.specs.Invariant.{IsKept}
-use Rattle.write_core.specs.World.{Actor as Doer, IsPart, Stander, World, at_leaf, met_at_leaf, stands_on, view_of}
+use Rattle.write_core.specs.World.{Actor as Doer, IsPart, World, at_leaf, met_at_leaf, stands_on, view_of}
 
 -- ---- what a switch changes
 

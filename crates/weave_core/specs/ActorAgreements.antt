@@ -1,6 +1,6 @@
 -- What is kept of actors: how far each of them is in the core, and how far it has seen histories.
-use Rattle.std.specs.Prelude.{ℕ, ◌+◌, pos, ◌≡◌, ◌≢◌, ◌<◌, ◌≤ℤ◌, Bool, true, false, List, length, slice_get, Option, Some}
-use Rattle.std.specs.Prelude.{None}
+use Rattle.std.specs.Prelude.{ℕ, ◌+◌, pos, ◌≡◌, ◌≢◌, ◌<◌, ◌≤ℤ◌, Bool, true, false, List, length, slice_get, Option}
+use Rattle.std.specs.Prelude.{Some, None}
 use Rattle.mon_config.specs.declared.config.Config.{Config}
 use Rattle.mon_topo.specs.SeenHistories.{AreWithin}
 use Rattle.mon_topo.specs.Settings.{Setting}

@@ -61,7 +61,8 @@ module _ (config : Config) (state : State (store_of config)) where
   LineBy (Some what) result new before after = FormSo what result new before after
 
   abbrev pub LineSo : List ℕ → {X : Type 0} → Result X (Refusal WeaveFault) → Weave → List ℕ → List ℕ → Type 0
-  LineSo line result new before after = LineBy (schedule_form config.schemas config.topology line) result new before after
+  LineSo line result new before after =
+      LineBy (schedule_form config.schemas config.topology line) result new before after
 
   -- ---- a line of a number
 

@@ -24,7 +24,10 @@ mod write_events;
 mod writes;
 
 pub use calls::{Call, ScheduleFault, Stepped, WeaveFault};
-pub use core_theory::{meetings_see_as_far_as_views, queries_answer_rightly, queries_are_licensed};
+pub use core_theory::{
+    meetings_see_as_far_as_views, queries_answer_rightly, queries_are_licensed,
+    writes_name_what_they_found,
+};
 pub use events::Event;
 pub use kept_laws::{locks_tell_the_truth, one_bit_is_raised, stores_begin_held};
 pub use leaves::LeafSeat;

@@ -9,13 +9,13 @@ ghost use Rattle.query_core.specs.declared.answers.RoundFault.{RoundFault as Fau
 ghost use Rattle.query_core.specs.declared.answers.Trace.{Trace as TraceOf};
 ghost use Rattle.query_core.specs.declared.stages.Stage.TheVariants.{Ended};
 ghost use Rattle.core_theory.specs.Core.{query_now};
+ghost use Rattle.core_theory.specs.FoundDown.{FindsWhatItSays};
 ghost use Rattle.core_theory.specs.Licensed.{IsWoven};
 ghost use Rattle.weave_core.specs.Reached.{AnsweredRightly, FoundNoneRightly, HasAnswered, HasFoundNone, HasStoppedSo};
 ghost use Rattle.weave_core.specs.Reached.{LinesLead, StoppedRightly, downs_heard};
 ghost use Rattle.weave_core.specs.Schedules.{IsFirstState};
 ghost use Rattle.weave_core.specs.States.{Asking, State, store_of};
 ghost use Rattle.weave_core.specs.declared.lines.LineForm.{LineForm as Form};
-ghost use Rattle.write_core.specs.Noted.{IsNotedBy};
 
 use core_theory::queries_answer_rightly;
 use query_core::ends_name_what_was_told;
@@ -24,8 +24,8 @@ use write_core::what_is_said_was_noted;
 /// Wherever the lines of a schedule lead to, the histories are held, what each actor knows leads to all that it has
 /// seen, and each query's session is licensed. So each query that ended has answered rightly, or stopped for its load
 /// rightly, or found that a range has no replica; and each leaf that its end names as down it was told so at a visit,
-/// with that cut. Each leaf of which a write says that a replica there missed its row it was told so of by an event of
-/// its own, at that cut.
+/// with that cut. Each leaf of which a write that has ended says that its replica there missed the row it found down by
+/// an event of its own, at that cut.
 pub fn schedules_answer_rightly()
     ensures woven { (config : ConfigOf) (first state : State (store_of config)) (lines : List Form)
         → IsFirstState config first → LinesLead config first lines state → IsWoven (store_of config) state.core }
@@ -44,9 +44,8 @@ pub fn schedules_answer_rightly()
         (end : Result AnswerOf FaultOf) → IsFirstState config first → LinesLead config first lines state
         → state.roles k ≡ Asking → (query_now (store_of config) (state.core.readers k)).stage ≡ Ended end
         → EndNames (Contains (downs_heard config (state.core.readers k))) end }
-    ensures noted { (config : ConfigOf) (first state : State (store_of config)) (lines : List Form) (k : ℕ)
-        → IsFirstState config first → LinesLead config first lines state
-        → IsNotedBy (state.core.world.notes k) (state.core.world.actors k) }
+    ensures found { (config : ConfigOf) (first state : State (store_of config)) (lines : List Form) (k : ℕ)
+        → IsFirstState config first → LinesLead config first lines state → FindsWhatItSays state.core.world k }
 {
     queries_answer_rightly();
     ends_name_what_was_told();

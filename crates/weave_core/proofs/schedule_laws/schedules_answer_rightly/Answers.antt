@@ -1,5 +1,6 @@
 use Rattle.query_core.specs.declared.stages.Stage.TheVariants.{Ended}
 use Rattle.weave_core.proofs.ReachedLemmas.{reached}
+use Rattle.core_theory.proofs.EndedLemmas.{finds_all}
 use Rattle.core_theory.proofs.ReaderLemmas.{as_new, stage_is}
 use Rattle.weave_core.specs.States.{store_of}
 use Rattle.weave_core.proofs.schedule_laws.schedules_answer_rightly.Goals as goal
@@ -39,7 +40,8 @@ returns c =
           c.ends_name_what_was_told.ensures.named (store_of config) reader.setting reader.moment
           reader.begin reader.session end (as_new (store_of config) state.core.world reader own fresh)
           (stage_is (store_of config) state.core.world reader own fresh (Ended end) ended);
-      noted = λ config first state lines k new leads.
+      found = λ config first state lines k new leads.
+          finds_all state.core.world
           (reached config (said.noted (store_of config)) (said.begins (store_of config)) first state lines new
-          leads).noted k;
+          leads).found k;
     }

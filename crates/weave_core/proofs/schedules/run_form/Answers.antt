@@ -14,8 +14,8 @@ declare-requires-clause-actor c =
 
 pub declare-requires-clause-lawful : goal.declare-requires-clause-lawful
 declare-requires-clause-lawful c = λ config state agrees.
-    (subst (λ (form : LineForm). IsLawfulForm config.schemas config.topology form) c.in-Declare.is (c.requires.lawful config state
-    agrees)).1
+    (subst (λ (form : LineForm). IsLawfulForm config.schemas config.topology form) c.in-Declare.is
+    (c.requires.lawful config state agrees)).1
 
 pub returns-in-Declare-clause-ran : goal.returns-in-Declare-clause-ran
 returns-in-Declare-clause-ran c = λ config state agrees.

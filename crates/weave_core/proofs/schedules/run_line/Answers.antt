@@ -21,14 +21,17 @@ returns-in_err-form-clause-ran c = λ config state agrees.
 
 pub run_form-requires-clause-lawful : goal.run_form-requires-clause-lawful
 run_form-requires-clause-lawful c = λ config state agrees.
-    let found = subst (λ (form : Option LineForm). IfSome form (IsLawfulForm c.config-config.result.now.schemas c.config-config.result.now.topology)) c.in-Some.is
+    let own : Config = c.config-config.result.now in
+    let found = subst (λ (form : Option LineForm). IfSome form (IsLawfulForm own.schemas own.topology)) c.in-Some.is
     c.in_ok-form.ensures.lawful in
-    subst (λ (of : Config). IsLawfulForm of.schemas of.topology c.in-Some.form) (c.config-config.ensures.config config state agrees) found
+    subst (λ (of : Config). IsLawfulForm of.schemas of.topology c.in-Some.form)
+    (c.config-config.ensures.config config state agrees) found
 
 pub returns-in-Some-clause-ran : goal.returns-in-Some-clause-ran
 returns-in-Some-clause-ran c = λ config state agrees.
     let says : schedule_form config.schemas config.topology c.args.line.now ≡ Some c.in-Some.form =
-    ap (λ (of : Config). schedule_form of.schemas of.topology c.args.line.now) (sym (c.config-config.ensures.config config state agrees))
+    ap (λ (of : Config). schedule_form of.schemas of.topology c.args.line.now)
+    (sym (c.config-config.ensures.config config state agrees))
     ∙ sym c.in_ok-form.ensures.form ∙ c.in-Some.is in
     subst (λ (form : Option LineForm). LineBy config state form c.run_form.result c.run_form.new.weave
     (string_bytes c.args.out.now)
@@ -37,6 +40,7 @@ returns-in-Some-clause-ran c = λ config state agrees.
 pub returns-in-None-clause-ran : goal.returns-in-None-clause-ran
 returns-in-None-clause-ran c = λ config state agrees.
     let says : schedule_form config.schemas config.topology c.args.line.now ≡ None =
-    ap (λ (of : Config). schedule_form of.schemas of.topology c.args.line.now) (sym (c.config-config.ensures.config config state agrees))
+    ap (λ (of : Config). schedule_form of.schemas of.topology c.args.line.now)
+    (sym (c.config-config.ensures.config config state agrees))
     ∙ sym c.in_ok-form.ensures.form ∙ c.in-None.is in
     search rules

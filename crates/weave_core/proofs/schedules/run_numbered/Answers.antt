@@ -22,7 +22,8 @@ returns-in-Ok-clause-ran c = λ config state agrees.
     let text : is_remark c.args.line.now ≡ false = search rules in
     line_ran config c.args.number state c.args.line.now c.run_line.new.weave (string_bytes c.args.out.now)
     (string_bytes c.run_line.new.out) few text
-    Unit tt (schedule_form config.schemas config.topology c.args.line.now) refl (c.in-Ok.ensures.ran config state agrees)
+    Unit tt (schedule_form config.schemas config.topology c.args.line.now) refl
+    (c.in-Ok.ensures.ran config state agrees)
 
 pub returns-in-Err-Fault-clause-ran : goal.returns-in-Err-Fault-clause-ran
 returns-in-Err-Fault-clause-ran c = λ config state agrees.

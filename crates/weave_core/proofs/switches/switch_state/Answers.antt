@@ -1,4 +1,4 @@
-use Rattle.std.proofs.Common.{◌≡◌, ◌<◌, arith}
+use Rattle.std.proofs.Common.{◌<◌, arith}
 use Rattle.std.specs.List.{count_by}
 use Rattle.mon_value.specs.LeafHistories.{is_switch}
 use Rattle.mon_value.specs.declared.limits.TheConstants.{MOST_SWITCHES}

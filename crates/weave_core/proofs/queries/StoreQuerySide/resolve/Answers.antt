@@ -1,4 +1,4 @@
-use Rattle.std.proofs.Common.{◌≡◌, ◌<◌, List, Some, length, slice_get, refl, rules, subst}
+use Rattle.std.proofs.Common.{◌≡◌, List, Some, length, slice_get, refl, rules, subst}
 use Rattle.std.proofs.lemmas.Option.{slice_get_read}
 use Rattle.weave_core.proofs.RangeAnswers.{range_answers, range_seated, range_there}
 use Rattle.mon_value.specs.declared.positions.Leaf.{Leaf}

@@ -1,4 +1,4 @@
-use Rattle.std.proofs.Common.{◌≡◌, ◌<◌, ◌≤ℤ◌, ℤ, pos, Some, length, of_z, slice_get, to_z, w64, refl, rules, subst, sym}
+use Rattle.std.proofs.Common.{◌≡◌, ◌≤ℤ◌, ℤ, pos, Some, length, of_z, slice_get, to_z, w64, refl, rules, subst, sym}
 use Rattle.std.proofs.lemmas.Option.{slice_get_read}
 use Rattle.weave_core.proofs.LeafAnswers.{leaf_answers, leaf_seated, leaf_there}
 use Rattle.weave_core.proofs.QueryTurnLemmas.{if_ok_on}

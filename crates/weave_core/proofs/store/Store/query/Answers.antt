@@ -1,4 +1,4 @@
-use Rattle.std.proofs.Common.{◌≡◌, ◌∙◌, ℤ, IfOk, None, Option, Result, Some, of_z, refl, rules, subst, to_z, w64}
+use Rattle.std.proofs.Common.{◌≡◌, IfOk, Option, of_z, refl, rules, subst, to_z, w64}
 use Rattle.query_core.specs.Program.{ask_of}
 use Rattle.query_core.specs.declared.asks.Told.{Told}
 use Rattle.weave_core.proofs.AskingLemmas.{may_tell}

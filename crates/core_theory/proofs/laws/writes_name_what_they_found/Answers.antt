@@ -1,0 +1,14 @@
+use Rattle.core_theory.proofs.CoreLemmas.{new_woven}
+use Rattle.core_theory.proofs.EndedLemmas.{finds_all, go_on_finds, new_finds}
+use Rattle.core_theory.specs.Core.{core_gone_on}
+use Rattle.core_theory.proofs.laws.writes_name_what_they_found.Goals as goal
+
+pub returns : goal.returns
+returns c =
+    let said = c.what_is_said_was_noted.ensures in
+    record {
+      found = λ store core events i new can.
+          finds_all (core_gone_on store core events).world
+          (go_on_finds store (said.noted store) core events can (new_woven store core new)
+          (new_finds store (said.noted store) (said.begins store) core.world new.world)) i;
+    }
