@@ -7,7 +7,7 @@ ghost use Rattle.mon_topo.specs.Zones.{leaves_in};
 ghost use Rattle.mon_value.specs.Histories.{leaf_history};
 ghost use Rattle.mon_value.specs.LeafHistories.{replica_rows};
 ghost use Rattle.query_core.specs.Traces.{source_of};
-ghost use Rattle.mon_store.specs.Gathers.{HasSeenTrace};
+ghost use Rattle.mon_store.specs.Gathers.{HasBeenHanded, HasSeenTrace};
 ghost use Rattle.mon_store.specs.Passes.{OwnsTheSame};
 
 use crate::passes::Pass;
@@ -28,9 +28,9 @@ impl<N: Names> Store<N> {
         p: &mut Pass<N>,
         trace: &Trace,
     ) -> Result<RowList, OutOfMemory>
-        requires seen { HasSeenTrace self.now p.old trace.now }
+        requires seen { HasSeenTrace self.now.topology p.old trace.now }
         ensures rows { IfOk result (λ rows. rows ≡ source_of p.old.seen trace.now) }
-        ensures handed { IfOk result (λ rows. p.new.handed ≡ stopped_count (p.old.handed + length rows)) }
+        ensures handed { IfOk result (λ rows. HasBeenHanded (length rows) p.old p.new) }
         ensures same { OwnsTheSame p.old p.new }
     {
         self.gather_in(rt, alloc, &mut p.know, trace)
@@ -43,14 +43,15 @@ impl<N: Names> Store<N> {
         know: &mut Know<N>,
         trace: &Trace,
     ) -> Result<RowList, OutOfMemory>
-        requires seen { HasSeenTrace self.now know.old trace.now }
+        requires seen { HasSeenTrace self.now.topology know.old trace.now }
         ensures rows { IfOk result (λ rows. rows ≡ source_of know.old.seen trace.now) }
-        ensures handed { IfOk result (λ rows. know.new.handed ≡ stopped_count (know.old.handed + length rows)) }
+        ensures handed { IfOk result (λ rows. HasBeenHanded (length rows) know.old know.new) }
         ensures same { OwnsTheSame know.old know.new }
         ensures borne_out { IsPurseBorneOut know.new.seen know.new.purse }
     {
+        let tables = &self.tables;
         let gathered = self.gathered(rt, alloc, know, trace);
-        know.confirm(&self.tables);
+        know.confirm(tables);
         gathered
     }
 
@@ -61,9 +62,9 @@ impl<N: Names> Store<N> {
         know: &mut Know<N>,
         trace: &Trace,
     ) -> Result<RowList, OutOfMemory>
-        requires seen { HasSeenTrace self.now know.old trace.now }
+        requires seen { HasSeenTrace N.setting.zones know.old trace.now }
         ensures rows { IfOk result (λ rows. rows ≡ source_of know.old.seen trace.now) }
-        ensures handed { IfOk result (λ rows. know.new.handed ≡ stopped_count (know.old.handed + length rows)) }
+        ensures handed { IfOk result (λ rows. HasBeenHanded (length rows) know.old know.new) }
         ensures same { OwnsTheSame know.old know.new }
     {
         let mut rows = Vec::new(alloc);
