@@ -83,7 +83,8 @@ module _ (owner now : owners.LeafView) (know : Knowledge) (cut : ℕ) (came : Ha
       (book_is : book ≡ after_append (one.Leaf e) now.book) (left : alone ≡ without_purse know)
       (gone_is : gone ≡ back_with (without_notes known) (guest_seat move.Keep false book) alone)
       (back_is : back ≡ parted move.Keep (owners.leaf_owner owner.leaf now.hints book)) where
-    seen_then : book.seen ≡ with_book_entry (of.Leaf owner.leaf) (one.Leaf e) (joined_histories owner.book.seen know.seen)
+    seen_then : book.seen
+        ≡ with_book_entry (of.Leaf owner.leaf) (one.Leaf e) (joined_histories owner.book.seen know.seen)
     seen_then = ap (λ (o : Owner). o.seen) book_is
         ∙ (λ i. with_book_entry (own i) (one.Leaf e) (came.book i).seen)
 

@@ -85,7 +85,8 @@ module _ (r : Range) (es : List RangeEntry) where
   same_number o = number_with o.guest
 
   module _ (e : RangeEntry) where
-    kept_push : (o : Option Kept) → option_map (kept_with (of.Range r) (one.Range e)) (option_map (kept_with_entries r es) o)
+    kept_push : (o : Option Kept)
+        → option_map (kept_with (of.Range r) (one.Range e)) (option_map (kept_with_entries r es) o)
         ≡ option_map (kept_with_entries r (es ++ e ∷ [])) o
     kept_push None = refl
     kept_push (Some kept) =
@@ -93,7 +94,8 @@ module _ (r : Range) (es : List RangeEntry) where
         Some (record { number = kept.number; own = record { leaves = kept.own.leaves; ranges = xss } }))
         (added_all_push r.0 es e kept.own.ranges)
 
-    guest_push : (g : Option Purse) → option_map (purse_with (of.Range r) (one.Range e)) (option_map (purse_with_entries r es) g)
+    guest_push : (g : Option Purse)
+        → option_map (purse_with (of.Range r) (one.Range e)) (option_map (purse_with_entries r es) g)
         ≡ option_map (purse_with_entries r (es ++ e ∷ [])) g
     guest_push None = refl
     guest_push (Some purse) =

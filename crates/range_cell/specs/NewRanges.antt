@@ -1,4 +1,5 @@
--- A range before it has a lock, whose first caller holds it; and what the caller has once the first replicas are opened.
+-- A range before it has a lock, whose first caller holds it; and what the caller has once its first replicas are
+-- opened.
 use Rattle.std.specs.Prelude.{◌≡◌, ℕ, List, [], ◌∷◌, ◌++◌, ◌+◌, option_map}
 use Rattle.history_book.specs.Histories.{AreFronts, added_at}
 use Rattle.history_book.specs.Seats.{Owner, length_note}

@@ -49,8 +49,8 @@ impl<N: Names> Model for NewRange<N> {
 }
 
 impl<N: Names> NewRange<N> {
-    /// A range by its owner's seats, of which the one in the book has seen so far. The caller comes to it, and goes with
-    /// the range. No memory is taken.
+    /// A range by its owner's seats, of which the one in the book has seen so far. The caller comes to it, and goes
+    /// with the range. No memory is taken.
     pub fn new(
         alloc: Global,
         tables: &Tables<N>,

@@ -1,4 +1,5 @@
-use Rattle.std.proofs.Common.{◌≡◌, ◌<◌, ◌≤◌, ◌^◌, ◌+◌, ◌++◌, ◌∷◌, List, [], Some, refl, sym, ap, subst, ◌∙◌, arith, length}
+use Rattle.std.proofs.Common.{◌≡◌, ◌<◌, ◌≤◌, ◌^◌, ◌+◌, ◌++◌, ◌∷◌, List, [], Some, refl, sym, ap, subst, ◌∙◌}
+use Rattle.std.proofs.Common.{arith, length}
 use Rattle.std.proofs.Common.{get_or, slice_get, take}
 use Rattle.std.proofs.lemmas.List.{length-take-le, take_all}
 use Rattle.history_book.specs.declared.views.BookEntry.TheVariants as one
@@ -48,8 +49,8 @@ append_opening-requires g c =
     let e : RangeEntry = entry.Opened 0 (slot_numbered k) leaf in
     let es : List RangeEntry = openings_from 0 (take k first) in
     let whole : range_history owner.book.seen start.range ≡ openings_from 0 (take k firsts) =
-    whole_so_far setting start owner first c.requires.first c.requires.replicas k leaf at c.requires.none c.requires.here
-    c.requires.borne_out inv.book inv.range in
+    whole_so_far setting start owner first c.requires.first c.requires.replicas k leaf at c.requires.none
+    c.requires.here c.requires.borne_out inv.book inv.range in
     let few : length firsts ≤ 3 = c.requires.replicas.few in
     let many : length first ≡ length firsts = ap length c.requires.first in
     let count : length (range_history owner.book.seen start.range) ≡ k =

@@ -47,7 +47,8 @@ returns-clause-rest g c =
     let es = openings_from 0 (first_replicas zones desk.owner.range.0) in
     let first : c.as_slice-2.result.now ≡ first_replicas zones desk.owner.range.0 =
     c.as_slice-2.ensures.items ∙ c.requires.first in
-    let then_owner : c.append_openings.new.self.owner ≡ opened_owner leaves know desk.owner now c.requires.held.own came es now =
+    let then_owner : c.append_openings.new.self.owner
+    ≡ opened_owner leaves know desk.owner now c.requires.held.own came es now =
     λ i. record {
       range = c.append_openings.ensures.range i;
       hints = c.append_openings.ensures.hints i;
