@@ -101,21 +101,21 @@ module _ {W H E R : Type 0} (content : W → H → List E) (under : E → ℕ)
 
   module _ (whole : W) (begin : H → ℕ) (claim : List R → List R → R → Type 0)
       (holds : (from to : H → ℕ) (number : ℕ) (line : R) (seen later : List R) → AreBelow begin from
-      → IsWithin content to whole
+      → AreBelow from to → IsWithin content to whole
       → Ran content under Makes Finds whole from to number line
       → AllByRecursion (RanBefore content under Makes Finds whole from) seen
       → AllByRecursion (RanBehind content under Makes Finds whole to) later → claim seen later line) where
     each_holds : (from to : H → ℕ) (numbers : List ℕ) (lines seen later : List R) → AreBelow begin from
-        → IsWithin content to whole
+        → AreBelow from to → IsWithin content to whole
         → EachRan content under Makes Finds whole from to numbers lines
         → AllByRecursion (RanBefore content under Makes Finds whole from) seen
         → AllByRecursion (RanBehind content under Makes Finds whole to) later → AllByRecursion (claim seen later) lines
-    each_holds from to [] [] seen later begun within each a b = tt
-    each_holds from to [] (line ∷ lines) seen later begun within each a b = absurd each
-    each_holds from to (number ∷ numbers) [] seen later begun within each a b = tt
-    each_holds from to (number ∷ numbers) (line ∷ lines) seen later begun within each a b = (
-      holds from to number line seen later begun within each.0 a b,
-      each_holds from to numbers lines seen later begun within each.1 a b,
+    each_holds from to [] [] seen later begun forth within each a b = tt
+    each_holds from to [] (line ∷ lines) seen later begun forth within each a b = absurd each
+    each_holds from to (number ∷ numbers) [] seen later begun forth within each a b = tt
+    each_holds from to (number ∷ numbers) (line ∷ lines) seen later begun forth within each a b = (
+      holds from to number line seen later begun forth within each.0 a b,
+      each_holds from to numbers lines seen later begun forth within each.1 a b,
     )
 
     -- what follows for a line from its marks, with those of the lines that its caller had seen before them and those of
@@ -126,7 +126,7 @@ module _ {W H E R : Type 0} (content : W → H → List E) (under : E → ℕ)
         → PartsRan content under Makes Finds whole from to parts → Each claim seen parts
     each_from from to seen [] begun within before ran = tt
     each_from from to seen (part ∷ parts) begun within before ran = (
-      each_holds from ran.0 ran.2.numbers (lines_of part) seen (all_lines parts) begun
+      each_holds from ran.0 ran.2.numbers (lines_of part) seen (all_lines parts) begun ran.1
           (within_before whole ran.0 to (parts_below whole ran.0 to parts ran.3) within)
           ran.2.each
           before (all_behind whole ran.0 to parts ran.3),

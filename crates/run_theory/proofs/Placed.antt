@@ -21,17 +21,18 @@ module _ {W H E R : Type 0} (content : W → H → List E) (under : E → ℕ)
       let p = placed from to number line h k e ran there is in (p.0, p.1)
 
   in_place : (begin from to : H → ℕ) (number : ℕ) (line : R) (seen later : List R) → AreBelow begin from
-      → IsWithin content to whole
+      → AreBelow from to → IsWithin content to whole
       → Ran content under Makes Finds whole from to number line
       → AllByRecursion (RanBefore content under Makes Finds whole from) seen
       → AllByRecursion (RanBehind content under Makes Finds whole to) later
       → RanInPlace content under Makes Finds is_of whole begin seen later line
-  in_place begin from to number line seen later begun within ran before behind = record {
+  in_place begin from to number line seen later begun forth within ran before behind = record {
     from = from;
     to = to;
     number = number;
     ran = ran;
     begun = begun;
+    forth = forth;
     within = within;
     from_low = λ h. low_within content under Makes Finds is_of whole between_marks from h seen before;
     to_high = λ h. high_behind content under Makes Finds is_of whole between_marks to h later within behind;
@@ -48,11 +49,11 @@ module _ {W H E R : Type 0} (content : W → H → List E) (under : E → ℕ)
       within tt ran
 
   alone : (begin from to : H → ℕ) (number : ℕ) (line : R) (seen later : List R) → AreBelow begin from
-      → IsWithin content to whole
+      → AreBelow from to → IsWithin content to whole
       → Ran content under Makes Finds whole from to number line
       → AllByRecursion (RanBefore content under Makes Finds whole from) seen
       → AllByRecursion (RanBehind content under Makes Finds whole to) later → IsAlone is_of (content whole) line later
-  alone begin from to number line seen later begun within ran before behind = λ h k e there mine.
+  alone begin from to number line seen later begun forth within ran before behind = λ h k e there mine.
       not_later content under Makes Finds is_of whole placed from to number line later h k e ran behind there mine
 
   -- no line has an entry of one whose caller had seen it

@@ -38,7 +38,7 @@ module _ {X : Type 0} where
   kept_later p x xs y false at = at
 
   -- what stands in a list and passes stands in what the test keeps
-  kept_stands : (p : X → Bool) (xs : List X) (k : ℕ) (y : X) → slice_get xs k ≡ Some y → p y ≡ true
+  pub kept_stands : (p : X → Bool) (xs : List X) (k : ℕ) (y : X) → slice_get xs k ≡ Some y → p y ≡ true
       → Stands (filter p xs) y
   kept_stands p [] k y there passes = get_nothing k y (Stands (filter p (nil_of X)) y) there
   kept_stands p (x ∷ xs) zero y there passes =
@@ -48,7 +48,7 @@ module _ {X : Type 0} where
       kept_later p x xs y (p x) (kept_stands p xs k y there passes)
 
   -- what stands between two lengths stands in what lies there
-  between_stands : (from to : ℕ) (xs : List X) (k : ℕ) (y : X) → slice_get xs k ≡ Some y → from ≤ k → k < to
+  pub between_stands : (from to : ℕ) (xs : List X) (k : ℕ) (y : X) → slice_get xs k ≡ Some y → from ≤ k → k < to
       → Stands (between from to xs) y
   between_stands from zero xs k y there low high = absurd (omega arith)
   between_stands from (suc to) [] k y there low high =
@@ -60,7 +60,7 @@ module _ {X : Type 0} where
   between_stands (suc from) (suc to) (x ∷ xs) (suc k) y there low high =
       between_stands from to xs k y there (omega arith) (omega arith)
 
-same_to : (n m : ℕ) → n ≡ m → nat_eq n m ≡ true
+pub same_to : (n m : ℕ) → n ≡ m → nat_eq n m ≡ true
 same_to n m is = grind (arith, nat_tests)
 
 either_by : {C : Type 0} (b r : Bool) → (b || r) ≡ true → (b ≡ true → C) → (r ≡ true → C) → C

@@ -38,6 +38,7 @@ module _ {W H E R : Type 0} (content : W → H → List E) (under : E → ℕ)
     pub number : ℕ
     pub ran : Ran content under Makes Finds whole from to number line
     pub begun : AreBelow begin from
+    pub forth : AreBelow from to
     pub within : IsWithin content to whole
     pub from_low : (h : H) → low is_of (content whole) seen h ≤ from h
     pub to_high : (h : H) → to h ≤ high is_of (content whole) later h

@@ -1,0 +1,308 @@
+-- Why lines and records were refused, at lengths in their places.
+use Rattle.std.proofs.Common.{◌≡◌, ℕ, zero, suc, ◌+◌, ◌<◌, ◌≤◌, nat_eq, nat_le, ◌&&◌, ◌||◌, Bool, true, false, List}
+use Rattle.std.proofs.Common.{[], ◌∷◌, ◌++◌, length, take, drop, slice_get, Some, refl, ap, ◌∙◌, arith}
+use Rattle.std.specs.Prelude.{ℤ}
+use Rattle.std.specs.List.{list_any}
+use Rattle.std.proofs.lemmas.Bool.{false≢true}
+use Rattle.std.proofs.lemmas.List.{take_all}
+use Rattle.history_book.specs.Histories.{book_entry_pass, entries}
+use Rattle.history_book.specs.declared.views.BookEntry.{BookEntry}
+use Rattle.history_book.specs.declared.views.BookEntry.TheVariants as one
+use Rattle.history_book.specs.declared.views.History.{History}
+use Rattle.history_book.specs.declared.views.History.TheVariants as of
+use Rattle.mon_config.specs.declared.config.Config.{Config}
+use Rattle.mon_points.specs.Records.{reads_of}
+use Rattle.mon_points.specs.declared.records.RowRead.{RowRead}
+use Rattle.mon_points.specs.declared.records.RowRead.TheVariants as read
+use Rattle.mon_value.specs.Histories.{leaf_history, range_history}
+use Rattle.mon_value.specs.declared.histories.Entry.TheVariants as entry
+use Rattle.mon_value.specs.declared.histories.Histories.{Histories}
+use Rattle.mon_value.specs.declared.histories.RangeEntry.TheVariants as range_entry
+use Rattle.mon_value.specs.declared.positions.FoundDown.{FoundDown}
+use Rattle.mon_value.specs.declared.positions.Range.{Range}
+use Rattle.mon_value.specs.declared.rows.Row.{Row}
+use Rattle.mql_types.specs.Nodes.{TypedTree}
+use Rattle.query_core.specs.Findings.{IsFoundBetween}
+use Rattle.query_core.specs.Traces.{AreWider, IsBetween, IsTraceBetween, Lengths}
+use Rattle.query_core.specs.declared.answers.Trace.{Trace}
+use Rattle.range_cell.specs.declared.answers.WriteFault.{WriteFault}
+use Rattle.range_cell.specs.declared.answers.WriteFault.TheVariants as unwritten
+use Rattle.run_theory.specs.InPlace as theory
+use Rattle.run_theory.specs.Marks.{RanBefore, RanBehind}
+use Rattle.run_theory.proofs.Lists.{first_place_behind, last_end_within}
+use Rattle.run_traces.specs.LineCauses.{HasCause, HasNoneUp, HasRowCause, IsCaused, IsRefusedByRange}
+use Rattle.run_traces.specs.LineCauses.{IsUnwritten, LineIsCaused}
+use Rattle.run_traces.specs.LineCauses.{RowHasCause, RowsHaveCauses, fed, rows_before}
+use Rattle.run_traces.specs.LineClaims.{HasFound, Makes, RowFound, RowsFound, marked}
+use Rattle.run_traces.specs.LinePlaces.{first_length, high, highs, is_entry_of, is_fed, is_row, is_traced, low, lows}
+use Rattle.run_traces.specs.LineTables.{moment_of, text_of}
+use Rattle.run_traces.specs.RanLines.{RanLine}
+use Rattle.run_traces.specs.declared.traces.LineFault.{LineFault}
+use Rattle.run_traces.specs.declared.traces.LineFault.TheVariants as why
+use Rattle.run_traces.specs.declared.traces.LineTrace.{LineTrace}
+use Rattle.run_traces.specs.declared.traces.LineTrace.TheVariants as came
+use Rattle.run_traces.specs.declared.traces.RowRefusal.{RowRefusal}
+use Rattle.run_traces.specs.declared.traces.RowRefused.{RowRefused}
+use Rattle.run_traces.specs.declared.traces.RowRefused.TheVariants as refused
+use Rattle.write_core.specs.declared.refusals.Refused.{Refused}
+use Rattle.write_core.specs.declared.refusals.Refused.TheVariants as ranged
+use Rattle.run_traces.proofs.ListFacts.{all_as, all_at, any_at}
+use Rattle.run_traces.proofs.RunFacts.{InPlace, There, book_length, greater_by, range_length, wider}
+
+-- ---- tests of lists
+
+or_either : (a b : Bool) (C : Type 0) → (a || b) ≡ true → (a ≡ true → C) → (b ≡ true → C) → C
+or_either true b C is here there = here refl
+or_either false b C is here there = there is
+
+module _ {X : Type 0} (test : X → Bool) where
+  any_split : (xs ys : List X) (C : Type 0) → list_any test (xs ++ ys) ≡ true → (list_any test xs ≡ true → C)
+      → (list_any test ys ≡ true → C) → C
+  any_split [] ys C is here there = there is
+  any_split (x ∷ xs) ys C is here there = or_either (test x) (list_any test (xs ++ ys)) C is
+      (λ one. here (ap (λ b. b || list_any test xs) one))
+      (λ more. any_split xs ys C more (λ rest. here (or_right (test x) (list_any test xs) rest)) there)
+    where
+      or_right : (a b : Bool) → b ≡ true → (a || b) ≡ true
+      or_right true b is = refl
+      or_right false b is = is
+
+  any_front : (n : ℕ) (xs : List X) → list_any test (take n xs) ≡ true → list_any test xs ≡ true
+  any_front zero xs is = absurd (false≢true is)
+  any_front (suc n) [] is = absurd (false≢true is)
+  any_front (suc n) (x ∷ xs) is = more_of (test x) (list_any test (take n xs)) (list_any test xs) is (any_front n xs)
+    where
+      more_of : (a b c : Bool) → (a || b) ≡ true → (b ≡ true → c ≡ true) → (a || c) ≡ true
+      more_of true b c is more = refl
+      more_of false b c is more = more is
+
+  any_rest : (n : ℕ) (xs : List X) → list_any test (drop n xs) ≡ true → list_any test xs ≡ true
+  any_rest zero xs is = is
+  any_rest (suc n) [] is = absurd (false≢true is)
+  any_rest (suc n) (x ∷ xs) is = or_last (test x) (list_any test xs) (any_rest n xs is)
+    where
+      or_last : (a b : Bool) → b ≡ true → (a || b) ≡ true
+      or_last true b is = refl
+      or_last false b is = is
+
+and_parts : (a b : Bool) → (a && b) ≡ true → (a ≡ true) × (b ≡ true)
+and_parts true b is = (refl, is)
+and_parts false b is = absurd (false≢true is)
+
+and_both : (a b : Bool) → a ≡ true → b ≡ true → (a && b) ≡ true
+and_both true b x y = y
+and_both false b x y = absurd (false≢true x)
+
+-- an entry of some of a feed's rows is one of all of them
+fed_more : (pass : ℕ) (some rows : List Row)
+    → ((w : Row) → list_any (is_row w) some ≡ true → list_any (is_row w) rows ≡ true) → (e : BookEntry)
+    → is_fed pass some e ≡ true → is_fed pass rows e ≡ true
+fed_more pass some rows more (one.Leaf (entry.Opened by range slot held)) is = is
+fed_more pass some rows more (one.Leaf (entry.Put by range slot row)) is =
+    let two = and_parts (nat_eq by pass) (list_any (is_row row) some) is in
+    and_both (nat_eq by pass) (list_any (is_row row) rows) two.0 (more row two.1)
+fed_more pass some rows more (one.Leaf (entry.Down by)) is = is
+fed_more pass some rows more (one.Leaf (entry.Up by)) is = is
+fed_more pass some rows more (one.Range (range_entry.Opened by slot leaf)) is = is
+fed_more pass some rows more (one.Range (range_entry.Acked by row ack)) is =
+    let two = and_parts (nat_eq by pass) (list_any (is_row row) some) is in
+    and_both (nat_eq by pass) (list_any (is_row row) rows) two.0 (more row two.1)
+
+module _ (widen : (typed : TypedTree) (moment : ℤ) (from to earlier later : Lengths) (seen more : Histories)
+    (trace : Trace) → AreWider from to earlier later seen more → IsTraceBetween typed moment from to seen trace
+    → IsTraceBetween typed moment earlier later more trace)
+    (find : (from to earlier later : Lengths) (seen more : Histories) (found : FoundDown)
+    → AreWider from to earlier later seen more → IsFoundBetween from to seen found
+    → IsFoundBetween earlier later more found)
+    (config : Config) (ended : Histories) where
+  -- ---- causes at wider moments
+
+  module _ (from to first last : Lengths) (wide : AreWider from to first last ended ended) where
+    length_wider : (range : Range) (found : ℕ) → IsBetween (from.ranges range) (to.ranges range) found
+        → IsBetween (first.ranges range) (last.ranges range) found
+    length_wider range found between = record {
+      from = let a = wide.sooner.ranges range in let b = between.from in omega arith;
+      to = let a = wide.later.ranges range in let b = between.to in omega arith;
+    }
+
+    none_wider : (range : Range) (founds : List FoundDown) → HasNoneUp config ended from to range founds
+        → HasNoneUp config ended first last range founds
+    none_wider range founds none = record {
+      were_found = all_as (IsFoundBetween from to ended) (IsFoundBetween first last ended)
+          (λ found is. find from to first last ended ended found wide is) founds none.were_found;
+      found = none.found;
+      between = length_wider range none.found none.between;
+      all_down = none.all_down;
+    }
+
+    line_wider : (text : List ℕ) (moment : ℤ) (fault : LineFault) → HasCause config ended from to text moment fault
+        → HasCause config ended first last text moment fault
+    line_wider text moment (why.Parse parse) cause = cause
+    line_wider text moment (why.Typing typing) cause = cause
+    line_wider text moment (why.NoReplica range founds) cause = none_wider range founds cause
+    line_wider text moment (why.StepLimit limit trace) cause = record {
+      typed = cause.typed;
+      type_is = cause.type_is;
+      of = widen cause.typed moment from to first last ended ended trace wide cause.of;
+      limit_is = cause.limit_is;
+      above = cause.above;
+    }
+
+    range_wider : (row : Row) (told : Refused) → IsRefusedByRange config ended from to row told
+        → IsRefusedByRange config ended first last row told
+    range_wider row told cause = record {
+      range = cause.range;
+      in_range = cause.in_range;
+      found = cause.found;
+      between = length_wider cause.range cause.found cause.between;
+      refused = cause.refused;
+    }
+
+    write_wider : (row : Row) (fault : WriteFault) → IsUnwritten config ended from to row fault
+        → IsUnwritten config ended first last row fault
+    write_wider row unwritten.NoZone cause = cause
+    write_wider row (unwritten.OldPoint end) cause = range_wider row (ranged.OldPoint end) cause
+    write_wider row (unwritten.RangeFull limit) cause = range_wider row (ranged.RangeFull limit) cause
+    write_wider row (unwritten.Unavailable range founds) cause = record {
+      in_range = cause.in_range;
+      none_up = none_wider range founds cause.none_up;
+    }
+    write_wider row unwritten.OutOfMemory cause = cause
+
+    row_wider : (one : RowRead) (fault : RowRefused) → HasRowCause config ended from to one fault
+        → HasRowCause config ended first last one fault
+    row_wider (read.Fault fault) (refused.Read told) cause = cause
+    row_wider (read.Fault fault) (refused.Write told) cause = cause
+    row_wider (read.Row row) (refused.Read told) cause = cause
+    row_wider (read.Row row) (refused.Write told) cause = write_wider row told cause
+
+  -- ---- records in their places
+
+  module _ (seen later : List RanLine) (line : RanLine) (place : InPlace config ended seen later line) (pass : ℕ)
+      (accepted : List Row) (refusals : List RowRefusal) (is : line.trace ≡ came.Fed pass accepted refusals) where
+    -- an entry of the feed stands where it ran
+    there : (h : History) (k : ℕ) (e : BookEntry) → slice_get (entries ended h) k ≡ Some e
+        → is_fed pass accepted e ≡ true → (place.from h ≤ k) × (k < place.to h)
+    there h k e at fed_is = place.ran.found.1 h k e at (ap (λ (trace : LineTrace). is_traced trace e) is ∙ fed_is)
+
+    module _ (reads : List RowRead) (others : ℕ) (refusal : RowRefusal)
+        (found : RowFound config ended place.from place.to reads pass accepted others refusal) where
+      abbrev front : List Row
+      front = take (rows_before others refusal) accepted
+
+      abbrev rest : List Row
+      rest = drop (rows_before others refusal) accepted
+
+      stands_before : (h : History) (k : ℕ) (e : BookEntry) → slice_get (entries ended h) k ≡ Some e
+          → list_any (λ other. is_entry_of other h k e) (seen ++ fed line pass front ∷ []) ≡ true → k < found.since h
+      stands_before h k e at any = any_split (λ (other : RanLine). is_entry_of other h k e) seen
+          (fed line pass front ∷ []) (k < found.since h) any
+          (λ some. any_at (λ (other : RanLine). is_entry_of other h k e) seen (k < found.since h) some
+          (λ j other stands its.
+          let before = all_at (RanBefore entries book_entry_pass (Makes config) (There config ended) ended
+          place.from) seen
+          j other place.before stands in
+          let p = before.ran.found.1 h k e at its in let b = before.below h in let l = found.low h in omega arith))
+          (λ own. or_either (is_fed pass front e) false (k < found.since h) own
+          (λ mine.
+          let p = there h k e at (fed_more pass front accepted
+          (λ w. any_front (is_row w) (rows_before others refusal) accepted) e mine) in
+          found.before h k (e, at, p.0, p.1, mine))
+          (λ never. absurd (false≢true never)))
+
+      stands_behind : (h : History) (k : ℕ) (e : BookEntry) → slice_get (entries ended h) k ≡ Some e
+          → list_any (λ other. is_entry_of other h k e) (fed line pass rest ∷ later) ≡ true → found.until h ≤ k
+      stands_behind h k e at any = or_either (is_fed pass rest e)
+          (list_any (λ (other : RanLine). is_entry_of other h k e) later) (found.until h ≤ k) any
+          (λ mine.
+          let p = there h k e at (fed_more pass rest accepted
+          (λ w. any_rest (is_row w) (rows_before others refusal) accepted) e mine) in
+          found.behind h k (e, at, p.0, p.1, mine))
+          (λ some. any_at (λ (other : RanLine). is_entry_of other h k e) later (found.until h ≤ k) some
+          (λ j other stands its.
+          let behind = all_at (RanBehind entries book_entry_pass (Makes config) (There config ended) ended place.to)
+          later j
+          other place.behind stands in
+          let p = behind.ran.found.1 h k e at its in let b = behind.below h in let l = found.high h in omega arith))
+
+      since_low : (h : History) → low config.topology ended (seen ++ fed line pass front ∷ []) h ≤ found.since h
+      since_low h = greater_by (first_length config.topology ended h)
+          (theory.low is_entry_of (entries ended) (seen ++ fed line pass front ∷ []) h) (found.since h)
+          (nat_le (first_length config.topology ended h)
+          (theory.low is_entry_of (entries ended) (seen ++ fed line pass front ∷ []) h))
+          (let a = place.begun h in let b = found.low h in omega arith)
+          (last_end_within (λ k e. list_any (λ other. is_entry_of other h k e) (seen ++ fed line pass front ∷ []))
+          (entries ended h) (found.since h) (stands_before h))
+
+      until_within : (h : History) → found.until h ≤ length (entries ended h)
+      until_within h = let a = found.high h in let b = place.within h in omega arith
+
+      until_high : (h : History) → found.until h ≤ high config.topology ended (fed line pass rest ∷ later) h
+      until_high h = first_place_behind
+          (λ k e. list_any (λ other. is_entry_of other h k e) (fed line pass rest ∷ later)) (entries ended h)
+          (found.until h) (until_within h) (stands_behind h)
+
+      row_place : AreWider (marked found.since) (marked found.until)
+          (lows config.topology ended (seen ++ fed line pass front ∷ []))
+          (highs config.topology ended (fed line pass rest ∷ later)) ended ended
+      row_place = record {
+        sooner = record {
+          leaves = λ leaf. since_low (of.Leaf leaf);
+          ranges = λ range. since_low (of.Range range);
+        };
+        later = record {
+          leaves = λ leaf. until_high (of.Leaf leaf);
+          ranges = λ range. until_high (of.Range range);
+        };
+        begun = record {
+          leaves = λ leaf.
+              let a = found.forth (of.Leaf leaf) in let b = until_within (of.Leaf leaf) in
+              let e = book_length ended leaf in omega arith;
+          ranges = λ range.
+              let a = found.forth (of.Range range) in let b = until_within (of.Range range) in
+              let e = range_length ended range in omega arith;
+        };
+        within = record {
+          leaves = λ leaf. let b = until_within (of.Leaf leaf) in let e = book_length ended leaf in omega arith;
+          ranges = λ range. let b = until_within (of.Range range) in let e = range_length ended range in omega arith;
+        };
+        grown = record {
+          leaves = λ leaf. take_all (length (leaf_history ended leaf)) (leaf_history ended leaf) (omega arith);
+          ranges = λ range. take_all (length (range_history ended range)) (range_history ended range) (omega arith);
+        };
+        leaves = refl;
+        ranges = refl;
+      }
+
+      row_cause : RowHasCause config ended seen later line pass reads accepted others refusal
+      row_cause = record {
+        read = found.read;
+        read_is = found.read_is;
+        cause = row_wider (marked found.since) (marked found.until)
+            (lows config.topology ended (seen ++ fed line pass front ∷ []))
+            (highs config.topology ended (fed line pass rest ∷ later)) row_place found.read refusal.fault found.cause;
+      }
+
+    rows_caused : (reads : List RowRead) (others : ℕ) (some : List RowRefusal)
+        → RowsFound config ended place.from place.to reads pass accepted others some
+        → RowsHaveCauses config ended seen later line pass reads accepted others some
+    rows_caused reads others [] found = tt
+    rows_caused reads others (refusal ∷ some) found =
+        (row_cause reads others refusal found.0, rows_caused reads (others + 1) some found.1)
+
+  -- ---- lines
+
+  module _ (seen later : List RanLine) (line : RanLine) (place : InPlace config ended seen later line) where
+    caused_by : (trace : LineTrace) → line.trace ≡ trace → HasFound config ended place.from place.to line trace
+        → IsCaused config ended seen later line trace
+    caused_by (came.Fed pass rows refusals) is found =
+        rows_caused seen later line place pass rows refusals is (reads_of config.schemas line.content) 0 refusals
+        found.refused
+    caused_by (came.Asked moment trace) is found = tt
+    caused_by (came.Refused fault) is found = line_wider (marked place.from) (marked place.to)
+        (lows config.topology ended seen) (highs config.topology ended later)
+        (wider config ended seen later line place) (text_of line.what) (moment_of line.what) fault found
+    caused_by came.Done is found = tt
+
+    pub is_caused : LineIsCaused config ended seen later line
+    is_caused = caused_by line.trace refl place.ran.found.0.found

@@ -1,0 +1,7 @@
+pub mod Acks
+pub mod Causes
+pub mod ListFacts
+pub mod Owners
+pub mod RowFacts
+pub mod RunFacts
+pub mod Whole

@@ -1,0 +1,86 @@
+-- What holds of a whole run.
+use Rattle.std.proofs.Common.{◌≡◌, ℕ, zero, suc, ◌<◌, List, [], ◌∷◌, length, slice_get, Some, refl, arith}
+use Rattle.std.specs.Prelude.{ℤ}
+use Rattle.history_book.specs.Histories.{AreFronts, book_entry_pass, entries}
+use Rattle.history_book.specs.declared.views.History.{History}
+use Rattle.mon_config.specs.declared.config.Config.{Config}
+use Rattle.mon_topo.specs.FirstHistories.{first_histories}
+use Rattle.mon_value.specs.declared.histories.Histories.{Histories}
+use Rattle.mon_value.specs.declared.positions.FoundDown.{FoundDown}
+use Rattle.mql_types.specs.Nodes.{TypedTree}
+use Rattle.query_core.specs.Findings.{IsFoundBetween}
+use Rattle.query_core.specs.Traces.{AreWider, IsTraceBetween, Lengths}
+use Rattle.query_core.specs.declared.answers.Trace.{Trace}
+use Rattle.run_theory.specs.Marks.{RanBehind}
+use Rattle.run_theory.specs.Parts.{Each, Part, all_lines}
+use Rattle.run_theory.proofs.Marks.{all_behind}
+use Rattle.run_theory.proofs.Owned.{of_some}
+use Rattle.run_theory.proofs.Settled.{alone_beside, alone_later, placed_in_run}
+use Rattle.run_traces.specs.Headline.{RunHolds}
+use Rattle.run_traces.specs.LineCauses.{LineIsCaused}
+use Rattle.run_traces.specs.LineClaims.{AllRan, Finds, Makes}
+use Rattle.run_traces.specs.LineFeeds.{LineIsTold}
+use Rattle.run_traces.specs.LineFreshness.{LineIsFresh}
+use Rattle.run_traces.specs.LinePlaces.{first_length, is_entry_of}
+use Rattle.run_traces.specs.LineReads.{LineIsRead}
+use Rattle.run_traces.specs.LineTables.{LineIsTabled}
+use Rattle.run_traces.specs.RanLines.{RanLine}
+use Rattle.run_traces.proofs.Acks.{acknowledged}
+use Rattle.run_traces.proofs.Causes.{is_caused}
+use Rattle.run_traces.proofs.ListFacts.{all_as, no_item}
+use Rattle.run_traces.proofs.Owners.{are_distinct, are_not_first, are_theirs, are_under}
+use Rattle.run_traces.proofs.RunFacts.{InPlace, each_as, is_fresh, is_read, is_tabled}
+
+in_list : {X : Type 0} (xs : List X) (k : ℕ) (x : X) → slice_get xs k ≡ Some x → k < length xs
+in_list [] k x there = absurd (no_item k x there)
+in_list (y ∷ xs) zero x there = omega arith
+in_list (y ∷ xs) (suc k) x there = let l = in_list xs k x there in omega arith
+
+module _ (widen : (typed : TypedTree) (moment : ℤ) (from to earlier later : Lengths) (seen more : Histories)
+    (trace : Trace) → AreWider from to earlier later seen more → IsTraceBetween typed moment from to seen trace
+    → IsTraceBetween typed moment earlier later more trace)
+    (find : (from to earlier later : Lengths) (seen more : Histories) (found : FoundDown)
+    → AreWider from to earlier later seen more → IsFoundBetween from to seen found
+    → IsFoundBetween earlier later more found)
+    (config : Config) (ended : Histories) (parts : List (Part RanLine))
+    (begun : AreFronts (first_histories config.topology) ended) (ran : AllRan config ended parts) where
+  abbrev end : History → ℕ
+  end h = length (entries ended h)
+
+  places : Each (InPlace config ended) [] parts
+  places = placed_in_run entries book_entry_pass (Makes config) (Finds config) is_entry_of ended
+      (first_length config.topology ended) end (are_under config ended) (are_distinct config ended)
+      (are_not_first config ended begun) (λ h. refl) parts ran
+
+  pub run_holds : RunHolds config ended parts
+  run_holds = record {
+    tables = each_as (InPlace config ended) (LineIsTabled config ended)
+        (λ seen later line place. is_tabled config ended seen later line place widen) [] parts places;
+    fresh = each_as (InPlace config ended) (LineIsFresh ended)
+        (λ seen later line place. is_fresh config ended seen later line place) [] parts places;
+    read = each_as (InPlace config ended) (LineIsRead config ended)
+        (λ seen later line place. is_read config ended seen later line place) [] parts places;
+    told = all_as
+        (RanBehind entries book_entry_pass (Makes config) (Finds config) ended (first_length config.topology ended))
+        (LineIsTold config) (λ line behind. behind.ran.found.told) (all_lines parts)
+        (all_behind entries book_entry_pass (Makes config) (Finds config) ended (first_length config.topology ended) end
+        parts ran);
+    acknowledged = acknowledged config ended parts begun ran;
+    made = record {
+      begun = begun;
+      made = λ history place e there low. of_some entries book_entry_pass (Makes config) (Finds config) is_entry_of
+          ended
+          (are_theirs config ended) (first_length config.topology ended) end parts history place e ran there low
+          (in_list (entries ended history) place e there);
+    };
+    apart = record {
+      later = alone_later entries book_entry_pass (Makes config) (Finds config) is_entry_of ended
+          (first_length config.topology ended) end (are_under config ended) (are_distinct config ended)
+          (are_not_first config ended begun) (λ h. refl) parts ran;
+      beside = alone_beside entries book_entry_pass (Makes config) (Finds config) is_entry_of ended
+          (first_length config.topology ended) end (are_under config ended) (are_distinct config ended)
+          (are_not_first config ended begun) (λ h. refl) parts ran;
+    };
+    causes = each_as (InPlace config ended) (LineIsCaused config ended)
+        (λ seen later line place. is_caused widen find config ended seen later line place) [] parts places;
+  }

@@ -1,0 +1,8 @@
+use Rattle.run_traces.proofs.Whole.{run_holds}
+use Rattle.run_traces.proofs.laws.runs_hold.Goals as goal
+
+pub returns : goal.returns
+returns c = record {
+  holds = λ config ended parts begun ran.
+      run_holds c.traces_stay.ensures.of c.traces_stay.ensures.found config ended parts begun ran;
+}

@@ -1,0 +1,25 @@
+-- What holds of a run's lines and of the histories at its end.
+use Rattle.std.specs.Prelude.{List, []}
+use Rattle.std.specs.List.{AllByRecursion}
+use Rattle.mon_config.specs.declared.config.Config.{Config}
+use Rattle.mon_value.specs.declared.histories.Histories.{Histories}
+use Rattle.run_theory.specs.Parts.{Each, Part, all_lines}
+use Rattle.run_traces.specs.LineCauses.{LineIsCaused}
+use Rattle.run_traces.specs.LineFeeds.{AreAcknowledged, AreOfLines, LineIsTold, ShareNoEntry}
+use Rattle.run_traces.specs.LineFreshness.{LineIsFresh}
+use Rattle.run_traces.specs.LineReads.{LineIsRead}
+use Rattle.run_traces.specs.LineTables.{LineIsTabled}
+use Rattle.run_traces.specs.RanLines.{RanLine}
+
+-- Each table stands on replicas and cuts in its place, on all that had been accepted before, and on every leaf that
+-- the query wants; each accepted row is acknowledged once, under its line's number; nothing else was made; and whatever
+-- was refused has its cause in its place
+pub record RunHolds (config : Config) (ended : Histories) (parts : List (Part RanLine)) : Type 0 where
+  pub tables : Each (LineIsTabled config ended) [] parts
+  pub fresh : Each (LineIsFresh ended) [] parts
+  pub read : Each (LineIsRead config ended) [] parts
+  pub told : AllByRecursion (LineIsTold config) (all_lines parts)
+  pub acknowledged : AreAcknowledged config ended (all_lines parts)
+  pub made : AreOfLines config ended (all_lines parts)
+  pub apart : ShareNoEntry ended parts
+  pub causes : Each (LineIsCaused config ended) [] parts

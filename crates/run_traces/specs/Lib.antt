@@ -1,0 +1,11 @@
+pub mod Headline
+pub mod LineCauses
+pub mod LineClaims
+pub mod LineFeeds
+pub mod LineFreshness
+pub mod LinePlaces
+pub mod LineReads
+pub mod LineStatuses
+pub mod LineTables
+pub mod LineTexts
+pub mod RanLines

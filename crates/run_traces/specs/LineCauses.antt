@@ -1,0 +1,133 @@
+-- Why lines and rows were refused: each has its cause in the histories at the end, at lengths in its place.
+use Rattle.std.specs.Prelude.{◌≡◌, ◌<◌, ◌+◌, ◌-◌, ◌∷◌, ◌++◌, ℕ, ℤ, true, List, [], take, drop, slice_get}
+use Rattle.std.specs.Prelude.{Some, None, Ok, Err}
+use Rattle.std.specs.List.{AllByRecursion}
+use Rattle.mon_config.specs.KeyRanges.{range_of_key}
+use Rattle.mon_config.specs.declared.config.Config.{Config}
+use Rattle.mon_points.specs.Records.{reads_of}
+use Rattle.mon_points.specs.declared.records.RowRead.{RowRead}
+use Rattle.mon_points.specs.declared.records.RowRead.TheVariants as read
+use Rattle.mon_topo.specs.RangeHistories.{serving}
+use Rattle.mon_topo.specs.Serving.{is_avoided}
+use Rattle.mon_value.specs.Histories.{range_history}
+use Rattle.mon_value.specs.declared.histories.Histories.{Histories}
+use Rattle.mon_value.specs.declared.positions.FoundDown.{FoundDown}
+use Rattle.mon_value.specs.declared.positions.Range.{Range}
+use Rattle.mon_value.specs.declared.rows.Row.{Row}
+use Rattle.mql_types.specs.Loads.{load}
+use Rattle.mql_types.specs.Nodes.{TypedTree}
+use Rattle.query_core.specs.Findings.{IsFoundBetween}
+use Rattle.query_core.specs.Traces.{IsBetween, IsTraceBetween, Lengths, found_leaves, source_of}
+use Rattle.query_core.specs.declared.answers.Trace.{Trace}
+use Rattle.query_texts.specs.TextTypes.{text_type}
+use Rattle.query_texts.specs.declared.faults.TextFault.TheVariants as fault
+use Rattle.range_cell.specs.declared.answers.WriteFault.{WriteFault}
+use Rattle.range_cell.specs.declared.answers.WriteFault.TheVariants as unwritten
+use Rattle.run_traces.specs.LinePlaces.{highs, lows}
+use Rattle.run_traces.specs.LineTables.{moment_of, text_of}
+use Rattle.run_traces.specs.RanLines.{RanLine}
+use Rattle.run_traces.specs.declared.traces.LineFault.{LineFault}
+use Rattle.run_traces.specs.declared.traces.LineFault.TheVariants as why
+use Rattle.run_traces.specs.declared.traces.LineTrace.{LineTrace}
+use Rattle.run_traces.specs.declared.traces.LineTrace.TheVariants as came
+use Rattle.run_traces.specs.declared.traces.RowRefusal.{RowRefusal}
+use Rattle.run_traces.specs.declared.traces.RowRefused.{RowRefused}
+use Rattle.run_traces.specs.declared.traces.RowRefused.TheVariants as refused
+use Rattle.write_core.specs.RangeAnswers.{refusal}
+use Rattle.write_core.specs.declared.refusals.Refused.{Refused}
+use Rattle.write_core.specs.declared.refusals.Refused.TheVariants as ranged
+
+-- ---- causes between two moments
+
+module _ (config : Config) (ended : Histories) (from to : Lengths) where
+  -- at a length of the range's history between them each replica that serves is on one of these leaves, and each of
+  -- these was found down between them
+  pub record HasNoneUp (range : Range) (founds : List FoundDown) : Type 0 where
+    pub were_found : AllByRecursion (IsFoundBetween from to ended) founds
+    pub found : ℕ
+    pub between : IsBetween (from.ranges range) (to.ranges range) found
+    pub all_down : AllByRecursion (λ replica. is_avoided (found_leaves founds) replica ≡ true)
+        (serving (take found (range_history ended range)))
+
+  -- the load over the rows of what was looked at is above the limit
+  pub record IsOverLimit (text : List ℕ) (moment : ℤ) (limit : ℕ) (trace : Trace) : Type 0 where
+    pub typed : TypedTree
+    pub type_is : text_type config.schemas text ≡ Ok typed
+    pub of : IsTraceBetween typed moment from to ended trace
+    pub limit_is : limit ≡ config.limit
+    pub above : config.limit < load typed (source_of ended trace) moment
+
+  -- why a line is refused
+  abbrev pub HasCause : List ℕ → ℤ → LineFault → Type 0
+  HasCause text moment (why.Parse parse) = text_type config.schemas text ≡ Err (fault.Parse parse)
+  HasCause text moment (why.Typing typing) = text_type config.schemas text ≡ Err (fault.Typing typing)
+  HasCause text moment (why.NoReplica range founds) = HasNoneUp range founds
+  HasCause text moment (why.StepLimit limit trace) = IsOverLimit text moment limit trace
+
+  -- the range's history at a length between them refuses the row so
+  pub record IsRefusedByRange (row : Row) (told : Refused) : Type 0 where
+    pub range : Range
+    pub in_range : range_of_key config row.key ≡ Some range
+    pub found : ℕ
+    pub between : IsBetween (from.ranges range) (to.ranges range) found
+    pub refused : refusal config.range_points (take found (range_history ended range)) row ≡ Some told
+
+  -- no replica of the row's range was up
+  pub record IsUnavailable (row : Row) (range : Range) (founds : List FoundDown) : Type 0 where
+    pub in_range : range_of_key config row.key ≡ Some range
+    pub none_up : HasNoneUp range founds
+
+  abbrev pub IsUnwritten : Row → WriteFault → Type 0
+  IsUnwritten row unwritten.NoZone = range_of_key config row.key ≡ None
+  IsUnwritten row (unwritten.OldPoint last) = IsRefusedByRange row (ranged.OldPoint last)
+  IsUnwritten row (unwritten.RangeFull limit) = IsRefusedByRange row (ranged.RangeFull limit)
+  IsUnwritten row (unwritten.Unavailable range founds) = IsUnavailable row range founds
+  IsUnwritten row unwritten.OutOfMemory = ⊥
+
+  -- why a record is refused, by what it was read as
+  abbrev pub HasRowCause : RowRead → RowRefused → Type 0
+  HasRowCause (read.Fault fault) (refused.Read told) = told ≡ fault
+  HasRowCause (read.Fault fault) (refused.Write told) = ⊥
+  HasRowCause (read.Row row) (refused.Read told) = ⊥
+  HasRowCause (read.Row row) (refused.Write told) = IsUnwritten row told
+
+-- ---- rows in their places
+
+-- a feed with some of the rows that it accepted
+abbrev pub fed : RanLine → ℕ → List Row → RanLine
+fed line pass rows = record { what = line.what; content = line.content; trace = came.Fed pass rows [] }
+
+-- how many rows a feed had accepted before a record of this number, of which so many before it were refused
+abbrev pub rows_before : ℕ → RowRefusal → ℕ
+rows_before others refusal = refusal.number - 1 - others
+
+module _ (config : Config) (ended : Histories) (seen later : List RanLine) (line : RanLine) (pass : ℕ) where
+  -- the record was refused behind the rows that its feed had accepted before it, and before the others
+  pub record RowHasCause (reads : List RowRead) (accepted : List Row) (others : ℕ) (refusal : RowRefusal) : Type 0 where
+    pub read : RowRead
+    pub read_is : slice_get reads (refusal.number - 1) ≡ Some read
+    pub cause : HasRowCause config ended
+        (lows config.topology ended (seen ++ fed line pass (take (rows_before others refusal) accepted) ∷ []))
+        (highs config.topology ended (fed line pass (drop (rows_before others refusal) accepted) ∷ later))
+        read refusal.fault
+
+  abbrev pub RowsHaveCauses : List RowRead → List Row → ℕ → List RowRefusal → Type 0
+  RowsHaveCauses reads accepted others [] = Unit {0}
+  RowsHaveCauses reads accepted others (refusal ∷ refusals) =
+      RowHasCause reads accepted others refusal × RowsHaveCauses reads accepted (others + 1) refusals
+
+-- ---- of each line
+
+module _ (config : Config) (ended : Histories) where
+  -- a refused line has its cause in its place, and so has each record of a feed that was refused
+  abbrev pub IsCaused : List RanLine → List RanLine → RanLine → LineTrace → Type 0
+  IsCaused seen later line (came.Fed pass accepted refusals) =
+      RowsHaveCauses config ended seen later line pass (reads_of config.schemas line.content) accepted 0 refusals
+  IsCaused seen later line (came.Asked moment trace) = Unit {0}
+  IsCaused seen later line (came.Refused fault) =
+      HasCause config ended (lows config.topology ended seen) (highs config.topology ended later) (text_of line.what)
+      (moment_of line.what) fault
+  IsCaused seen later line came.Done = Unit {0}
+
+  abbrev pub LineIsCaused : List RanLine → List RanLine → RanLine → Type 0
+  LineIsCaused seen later line = IsCaused seen later line line.trace

@@ -1,0 +1,145 @@
+-- What a run owes of each line as the line ends: which entries it made, and what it found between two lengths of each
+-- history. The rest follows for all lines together.
+use Rattle.std.specs.Prelude.{◌≡◌, ◌<◌, ◌≤◌, ◌+◌, ◌-◌, ◌∷◌, ℕ, ℤ, true, false, List, [], Ok, Some, filter, length}
+use Rattle.std.specs.Prelude.{take, drop, slice_get}
+use Rattle.std.specs.List.{AllByRecursion, flat_map}
+use Rattle.history_book.specs.Histories.{book_entry_pass, entries}
+use Rattle.history_book.specs.declared.views.BookEntry.{BookEntry}
+use Rattle.history_book.specs.declared.views.BookEntry.TheVariants as one
+use Rattle.history_book.specs.declared.views.History.{History}
+use Rattle.history_book.specs.declared.views.History.TheVariants as of
+use Rattle.mon_config.specs.declared.config.Config.{Config}
+use Rattle.mon_topo.specs.RangeHistories.{acked_row, acknowledged_rows}
+use Rattle.mon_topo.specs.SeenHistories.{AreWithin}
+use Rattle.mon_value.specs.Histories.{range_history}
+use Rattle.mon_value.specs.declared.histories.Histories.{Histories}
+use Rattle.mon_value.specs.declared.positions.Leaf.{Leaf}
+use Rattle.mon_value.specs.declared.positions.Range.{Range}
+use Rattle.mon_value.specs.declared.rows.Row.{Row}
+use Rattle.mql_types.specs.Nodes.{TypedTree}
+use Rattle.query_core.specs.Traces.{IsBetween, IsFreshSince, IsTraceBetween, Lengths}
+use Rattle.query_core.specs.declared.answers.Trace.{Trace}
+use Rattle.query_texts.specs.TextTypes.{text_type}
+use Rattle.mon_points.specs.Records.{reads_of}
+use Rattle.mon_points.specs.declared.records.RowRead.{RowRead}
+use Rattle.run_theory.specs.Marks.{AreBelow, PartsRan}
+use Rattle.run_theory.specs.Parts.{Part}
+use Rattle.run_traces.specs.LineCauses.{HasCause, HasRowCause, rows_before}
+use Rattle.run_traces.specs.LineFeeds.{IsTold, lies_in}
+use Rattle.run_traces.specs.LineFreshness.{cuts_named}
+use Rattle.run_traces.specs.LinePlaces.{first_length, is_fed, is_row}
+use Rattle.run_traces.specs.LineReads.{IsReadByPlan}
+use Rattle.run_traces.specs.LineTables.{moment_of, text_of}
+use Rattle.run_traces.specs.RanLines.{RanLine}
+use Rattle.run_traces.specs.declared.traces.LineTrace.{LineTrace}
+use Rattle.run_traces.specs.declared.traces.RowRefusal.{RowRefusal}
+use Rattle.run_traces.specs.declared.traces.LineTrace.TheVariants as came
+
+-- histories that are seen later: each goes on, and there are as many
+pub record HaveGrown (seen more : Histories) : Type 0 where
+  pub within : AreWithin seen more
+  pub leaves : length more.leaves ≡ length seen.leaves
+  pub ranges : length more.ranges ≡ length seen.ranges
+
+-- a length of each history, as one of each leaf's and of each range's
+abbrev pub marked : (History → ℕ) → Lengths
+marked mark = record { leaves = λ leaf. mark (of.Leaf leaf); ranges = λ range. mark (of.Range range) }
+
+-- ---- what a line made
+
+-- the row that an entry acknowledges
+abbrev pub book_row : BookEntry → List Row
+book_row (one.Leaf e) = []
+book_row (one.Range e) = acked_row e
+
+module _ (config : Config) where
+  -- a feed made acknowledgements of the rows that it accepted, in each range of those that lie in it, and puts of them
+  pub record FeedMade (pass : ℕ) (accepted : List Row) (made : History → List BookEntry) : Type 0 where
+    pub own : (history : History) → AllByRecursion (λ e. is_fed pass accepted e ≡ true) (made history)
+    pub puts : (leaf : Leaf) → flat_map book_row (made (of.Leaf leaf)) ≡ []
+    pub acks : (range : Range) → flat_map book_row (made (of.Range range)) ≡ filter (lies_in config range) accepted
+
+  abbrev pub HasMade : ℕ → LineTrace → (History → List BookEntry) → Type 0
+  HasMade n (came.Fed pass accepted refused) made = (pass ≡ n) × FeedMade pass accepted made
+  HasMade n (came.Asked moment trace) made = (history : History) → made history ≡ []
+  HasMade n (came.Refused why) made = (history : History) → made history ≡ []
+  HasMade n came.Done made = (history : History) → made history ≡ []
+
+  abbrev pub Makes : ℕ → RanLine → (History → List BookEntry) → Type 0
+  Makes n line made = HasMade n line.trace made
+
+-- ---- what a line found
+
+module _ (config : Config) (seen : Histories) (from to : History → ℕ) where
+  -- a row lies in a range of the store
+  pub record HasRange (row : Row) : Type 0 where
+    pub range : Range
+    pub there : range.0 < length seen.ranges
+    pub lies : lies_in config range row ≡ true
+
+  -- no row of its series with its end had been acknowledged before
+  abbrev pub IsNewIn : Range → Row → Type 0
+  IsNewIn range row = lies_in config range row ≡ true
+      → AllByRecursion (λ old. is_row row old ≡ false)
+      (acknowledged_rows (take (from (of.Range range)) (range_history seen range)))
+
+  -- an entry of one of these rows stands between two lengths of a history
+  abbrev pub StandsAmong : ℕ → List Row → History → ℕ → Type 0
+  StandsAmong pass rows history place = (e : BookEntry) × (slice_get (entries seen history) place ≡ Some e)
+      × (from history ≤ place) × (place < to history) × (is_fed pass rows e ≡ true)
+
+  -- a record was refused, behind all entries of the rows that were accepted before it and before those of the others
+  pub record RowFound (reads : List RowRead) (pass : ℕ) (accepted : List Row) (others : ℕ) (refusal : RowRefusal)
+      : Type 0 where
+    pub read : RowRead
+    pub read_is : slice_get reads (refusal.number - 1) ≡ Some read
+    pub since : History → ℕ
+    pub until : History → ℕ
+    pub low : AreBelow from since
+    pub forth : AreBelow since until
+    pub high : AreBelow until to
+    pub before : (history : History) (place : ℕ)
+        → StandsAmong pass (take (rows_before others refusal) accepted) history place → place < since history
+    pub behind : (history : History) (place : ℕ)
+        → StandsAmong pass (drop (rows_before others refusal) accepted) history place → until history ≤ place
+    pub cause : HasRowCause config seen (marked since) (marked until) read refusal.fault
+
+  abbrev pub RowsFound : List RowRead → ℕ → List Row → ℕ → List RowRefusal → Type 0
+  RowsFound reads pass accepted others [] = Unit {0}
+  RowsFound reads pass accepted others (refusal ∷ refusals) =
+      RowFound reads pass accepted others refusal × RowsFound reads pass accepted (others + 1) refusals
+
+  pub record FeedFound (content : List ℕ) (pass : ℕ) (accepted : List Row) (refusals : List RowRefusal) : Type 0 where
+    pub ranged : AllByRecursion HasRange accepted
+    pub new : (range : Range) → AllByRecursion (IsNewIn range) accepted
+    pub refused : RowsFound (reads_of config.schemas content) pass accepted 0 refusals
+
+  -- what was looked at for a table
+  pub record LookFound (text : List ℕ) (moment : ℤ) (trace : Trace) : Type 0 where
+    pub typed : TypedTree
+    pub type_is : text_type config.schemas text ≡ Ok typed
+    pub of : IsTraceBetween typed moment (marked from) (marked to) seen trace
+    pub fresh : IsFreshSince (marked from) seen trace
+    pub read : IsReadByPlan config seen text trace
+
+  abbrev pub HasFound : RanLine → LineTrace → Type 0
+  HasFound line (came.Fed pass accepted refused) = FeedFound line.content pass accepted refused
+  HasFound line (came.Asked moment trace) = LookFound (text_of line.what) moment trace
+  HasFound line (came.Refused why) =
+      HasCause config seen (marked from) (marked to) (text_of line.what) (moment_of line.what) why
+  HasFound line came.Done = Unit {0}
+
+  -- and each cut that a line names lies between
+  abbrev pub CutsLieBetween : LineTrace → Leaf → Type 0
+  CutsLieBetween trace leaf =
+      AllByRecursion (IsBetween (from (of.Leaf leaf)) (to (of.Leaf leaf))) (cuts_named leaf trace)
+
+  pub record Finds (line : RanLine) : Type 0 where
+    pub told : IsTold config line.content line.trace
+    pub cuts : (leaf : Leaf) → leaf.0 < length seen.leaves → CutsLieBetween line.trace leaf
+    pub found : HasFound line line.trace
+
+-- the parts of a script ran one after another, from the first replicas to the end of each history
+abbrev pub AllRan : Config → Histories → List (Part RanLine) → Type 0
+AllRan config ended parts = PartsRan entries book_entry_pass (Makes config) (Finds config) ended
+    (first_length config.topology ended) (λ history. length (entries ended history)) parts

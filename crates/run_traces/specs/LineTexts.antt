@@ -1,0 +1,157 @@
+-- What each line prints, by the script, the files, what the lines came to and the histories at the end.
+use Rattle.std.specs.Prelude.{ℕ, ℤ, ◌+◌, Bool, false, List, [], ◌∷◌, ◌++◌, codes, length, get_or, Result, Ok, Err}
+use Rattle.std.specs.Prelude.{if◌then◌else◌}
+use Rattle.std.specs.Fmt.{decimal}
+use Rattle.std.specs.List.{flat_map}
+use Rattle.mon_config.specs.declared.config.Config.{Config}
+use Rattle.mon_points.specs.FaultTexts.{row_fault_text}
+use Rattle.mon_table.specs.Tables.{newline, table_text}
+use Rattle.mon_topo.specs.NameTexts.{down_text}
+use Rattle.mon_topo.specs.Zones.{leaves_in}
+use Rattle.mon_topo.specs.declared.zones.ZoneSpec.{ZoneSpec}
+use Rattle.mon_value.specs.Columns.{column_names}
+use Rattle.mon_value.specs.declared.histories.Histories.{Histories}
+use Rattle.mql_parse.specs.FaultTexts.{parse_fault_text}
+use Rattle.mql_types.specs.Explanations.{op_levels}
+use Rattle.mql_types.specs.FaultTexts.{limit_text, type_fault_text}
+use Rattle.mql_types.specs.Meaning.{meaning}
+use Rattle.mql_types.specs.Nodes.{TypedTree, columns_of}
+use Rattle.mql_types.specs.declared.explanations.OpLevel.{OpLevel}
+use Rattle.mql_types.specs.declared.explanations.OpWord.{OpWord}
+use Rattle.mql_types.specs.declared.explanations.OpWord.TheVariants as word
+use Rattle.mql_types.specs.declared.levels.Level.{Level}
+use Rattle.mql_types.specs.declared.levels.Level.TheVariants as level
+use Rattle.query_core.specs.Traces.{source_of}
+use Rattle.query_core.specs.declared.answers.Trace.{Trace}
+use Rattle.query_texts.specs.TextTypes.{text_type}
+use Rattle.query_texts.specs.declared.faults.TextFault.{TextFault}
+use Rattle.range_cell.specs.declared.answers.WriteFault.{WriteFault}
+use Rattle.range_cell.specs.declared.answers.WriteFault.TheVariants as unwritten
+use Rattle.run_traces.specs.LineTables.{text_of}
+use Rattle.run_traces.specs.RanLines.{RanLine}
+use Rattle.run_traces.specs.declared.traces.LineFault.{LineFault}
+use Rattle.run_traces.specs.declared.traces.LineFault.TheVariants as why
+use Rattle.run_traces.specs.declared.traces.LineTrace.{LineTrace}
+use Rattle.run_traces.specs.declared.traces.LineTrace.TheVariants as came
+use Rattle.run_traces.specs.declared.traces.RowRefusal.{RowRefusal}
+use Rattle.run_traces.specs.declared.traces.RowRefused.{RowRefused}
+use Rattle.run_traces.specs.declared.traces.RowRefused.TheVariants as refused
+use Rattle.script_lines.specs.declared.forms.LineForm.{LineForm}
+use Rattle.script_lines.specs.declared.forms.LineForm.TheVariants as form
+use Rattle.write_core.specs.Refusals.{no_zone_text, refused_text}
+use Rattle.write_core.specs.declared.refusals.Refused.TheVariants as ranged
+
+-- ---- feeds
+
+abbrev pub unwritten_text : List ZoneSpec → WriteFault → List ℕ
+unwritten_text zones unwritten.NoZone = no_zone_text
+unwritten_text zones (unwritten.OldPoint last) = refused_text (ranged.OldPoint last)
+unwritten_text zones (unwritten.RangeFull limit) = refused_text (ranged.RangeFull limit)
+unwritten_text zones (unwritten.Unavailable range founds) = codes "Unavailable " ++ down_text zones range founds
+unwritten_text zones unwritten.OutOfMemory = []
+
+abbrev pub row_refused_text : List ZoneSpec → RowRefused → List ℕ
+row_refused_text zones (refused.Read fault) = row_fault_text fault
+row_refused_text zones (refused.Write fault) = unwritten_text zones fault
+
+abbrev pub refusal_line : List ZoneSpec → RowRefusal → List ℕ
+refusal_line zones refusal =
+    codes "row " ++ (decimal refusal.number ++ (codes ": " ++ (row_refused_text zones refusal.fault ++ newline)))
+
+abbrev pub feed_summary : List ℕ → ℕ → ℕ → List ℕ
+feed_summary name accepted refused =
+    codes "feed " ++ (name ++ (codes ": " ++ (decimal accepted
+    ++ (codes " accepted, " ++ (decimal refused ++ (codes " refused" ++ newline))))))
+
+-- how many records were accepted and refused, and a line for each that was refused
+abbrev pub feed_text : List ZoneSpec → List ℕ → ℕ → List RowRefusal → List ℕ
+feed_text zones name accepted refused =
+    feed_summary name accepted (length refused) ++ flat_map (refusal_line zones) refused
+
+-- the name of a line's file, if it has one
+abbrev pub file_of : LineForm → List ℕ
+file_of (form.Feed name) = name
+file_of (form.Query moment text) = []
+file_of (form.Check moment text) = []
+file_of (form.Explain moment text) = []
+file_of form.Together = []
+file_of form.End = []
+
+-- ---- explanations
+
+abbrev pub word_text : OpWord → List ℕ
+word_text word.Fetch = codes "fetch"
+word_text word.Filter = codes "filter"
+word_text word.Align = codes "align"
+word_text word.GroupBy = codes "group_by"
+word_text word.Value = codes "value"
+word_text word.Top = codes "top"
+word_text word.Join = codes "join"
+word_text word.Union = codes "union"
+
+abbrev pub level_text : Level → List ℕ
+level_text level.Leaf = codes "leaf"
+level_text level.Zone = codes "zone"
+level_text level.Root = codes "root"
+
+abbrev pub op_line : OpLevel → List ℕ
+op_line one = word_text one.word ++ (codes " " ++ (level_text one.level ++ newline))
+
+-- a leaf that was read, with how much it sent; or one that was not
+abbrev pub leaf_line : List ℕ → Bool → ℕ → List ℕ
+leaf_line name read sent =
+    codes "leaf " ++ (name ++ ((if read then codes " read " ++ decimal sent else codes " unread 0") ++ newline))
+
+-- leaves of these names, numbered on from one
+abbrev pub leaf_lines : Trace → ℕ → List (List ℕ) → List ℕ
+leaf_lines trace n [] = []
+leaf_lines trace n (name ∷ names) =
+    leaf_line name (get_or trace.read n false) (get_or trace.sent n 0) ++ leaf_lines trace (n + 1) names
+
+abbrev pub explanation : List ZoneSpec → TypedTree → Trace → List ℕ
+explanation zones typed trace = flat_map op_line (op_levels typed) ++ leaf_lines trace 0 (leaves_in zones)
+
+-- ---- lines
+
+abbrev pub line_fault_text : List ZoneSpec → LineFault → List ℕ
+line_fault_text zones (why.Parse fault) = codes "Parse " ++ parse_fault_text fault
+line_fault_text zones (why.Typing fault) = codes "Typing " ++ type_fault_text fault
+line_fault_text zones (why.NoReplica range founds) = codes "NoReplica " ++ down_text zones range founds
+line_fault_text zones (why.StepLimit limit trace) = limit_text limit
+
+abbrev pub refused_line : List ZoneSpec → LineFault → List ℕ
+refused_line zones fault = codes "refused: " ++ (line_fault_text zones fault ++ newline)
+
+module _ (config : Config) (ended : Histories) where
+  -- the table of a typed query: what it means over the rows of its trace
+  abbrev pub trace_table : TypedTree → ℤ → Trace → List ℕ
+  trace_table typed moment trace =
+      table_text (column_names (columns_of typed.tree)) (meaning typed (source_of ended trace) moment)
+
+  abbrev pub typed_text : LineForm → ℤ → Trace → TypedTree → List ℕ
+  typed_text (form.Feed name) moment trace typed = []
+  typed_text (form.Query at text) moment trace typed = trace_table typed moment trace
+  typed_text (form.Check at text) moment trace typed = trace_table typed moment trace
+  typed_text (form.Explain at text) moment trace typed =
+      trace_table typed moment trace ++ explanation config.topology typed trace
+  typed_text form.Together moment trace typed = []
+  typed_text form.End moment trace typed = []
+
+  abbrev pub asked_text : LineForm → ℤ → Trace → Result TypedTree TextFault → List ℕ
+  asked_text what moment trace (Ok typed) = typed_text what moment trace typed
+  asked_text what moment trace (Err fault) = []
+
+  abbrev pub text_by : LineForm → List ℕ → LineTrace → List ℕ
+  text_by what text (came.Fed pass accepted refused) =
+      feed_text config.topology (file_of what) (length accepted) refused
+  text_by what text (came.Asked moment trace) = asked_text what moment trace (text_type config.schemas text)
+  text_by what text (came.Refused fault) = refused_line config.topology fault
+  text_by what text came.Done = []
+
+  -- what a line prints
+  abbrev pub line_text : RanLine → List ℕ
+  line_text line = text_by line.what (text_of line.what) line.trace
+
+  -- what all lines print, one after another
+  abbrev pub lines_text : List RanLine → List ℕ
+  lines_text = flat_map line_text

@@ -1,0 +1,76 @@
+-- The lines of a script that ran, and its parts: lines one after another, and blocks whose lines run beside each other.
+use Rattle.std.specs.Prelude.{ℕ, List, [], ◌∷◌, ◌++◌, Option, Some, None}
+use Rattle.mon_value.specs.declared.rows.Row.{Row}
+use Rattle.run_theory.specs.Parts.{Alone, Beside, Part}
+use Rattle.run_traces.specs.declared.traces.LineTrace.{LineTrace}
+use Rattle.run_traces.specs.declared.traces.LineTrace.TheVariants as came
+use Rattle.script_lines.specs.Places.{mark_of}
+use Rattle.script_lines.specs.declared.forms.LineForm.{LineForm}
+use Rattle.script_lines.specs.declared.forms.LineForm.TheVariants as form
+use Rattle.script_lines.specs.declared.places.Mark.{Mark}
+use Rattle.script_lines.specs.declared.places.Mark.TheVariants as mark
+use Rattle.script_lines.specs.declared.script.ScriptLine.{ScriptLine}
+
+-- a line that ran: what it says, what its file holds, and what it came to
+pub record RanLine : Type 0 where
+  pub what : LineForm
+  pub content : List ℕ
+  pub trace : LineTrace
+
+-- what the file of a line holds, if the line names one
+abbrev pub content_for : (List ℕ → List ℕ) → LineForm → List ℕ
+content_for contents (form.Feed name) = contents name
+content_for contents (form.Query moment text) = []
+content_for contents (form.Check moment text) = []
+content_for contents (form.Explain moment text) = []
+content_for contents form.Together = []
+content_for contents form.End = []
+
+-- the lines of a script that have a trace, over files of these contents
+abbrev pub ran_lines : (List ℕ → List ℕ) → List ScriptLine → List LineTrace → List RanLine
+ran_lines contents [] traces = []
+ran_lines contents (line ∷ lines) [] = []
+ran_lines contents (line ∷ lines) (trace ∷ traces) =
+    record { what = line.what; content = content_for contents line.what; trace = trace }
+    ∷ ran_lines contents lines traces
+
+-- ---- parts
+
+-- the block that is under way, if one is
+abbrev pub Block : Type 0
+Block = Option (List RanLine)
+
+-- the part that ends with a line, by what that does to blocks
+abbrev pub part_at : Block → RanLine → Mark → List (Part RanLine)
+part_at block line mark.Opens = []
+part_at None line mark.Closes = []
+part_at (Some lines) line mark.Closes = Beside lines ∷ []
+part_at None line mark.Acts = Alone line ∷ []
+part_at (Some lines) line mark.Acts = []
+
+-- the block that is under way behind it
+abbrev pub block_behind : Block → RanLine → Mark → Block
+block_behind block line mark.Opens = Some []
+block_behind block line mark.Closes = None
+block_behind None line mark.Acts = None
+block_behind (Some lines) line mark.Acts = Some (lines ++ line ∷ [])
+
+abbrev pub parts_from : Block → List RanLine → List (Part RanLine)
+parts_from block [] = []
+parts_from block (line ∷ lines) =
+    part_at block line (mark_of line.what) ++ parts_from (block_behind block line (mark_of line.what)) lines
+
+-- the parts of a script whose lines ran
+abbrev pub parts_of : List RanLine → List (Part RanLine)
+parts_of = parts_from None
+
+-- ---- what a line accepted
+
+abbrev pub trace_rows : LineTrace → List Row
+trace_rows (came.Fed pass accepted refused) = accepted
+trace_rows (came.Asked moment trace) = []
+trace_rows (came.Refused fault) = []
+trace_rows came.Done = []
+
+abbrev pub accepted_rows : RanLine → List Row
+accepted_rows line = trace_rows line.trace

@@ -1,0 +1,22 @@
+// What holds of every run.
+ghost use Rattle.std.specs.Prelude.{List};
+ghost use Rattle.history_book.specs.Histories.{AreFronts};
+ghost use Rattle.mon_config.specs.declared.config.Config.{Config as ConfigOf};
+ghost use Rattle.mon_topo.specs.FirstHistories.{first_histories};
+ghost use Rattle.mon_value.specs.declared.histories.Histories.{Histories};
+ghost use Rattle.run_theory.specs.Parts.{Part};
+ghost use Rattle.run_traces.specs.Headline.{RunHolds};
+ghost use Rattle.run_traces.specs.LineClaims.{AllRan};
+ghost use Rattle.run_traces.specs.RanLines.{RanLine};
+
+use query_core::traces_stay;
+
+/// Where the parts of a script ran one after another, each line with what it made and found, the tables, the rows, the
+/// refusals and the histories at the end are as an operator reads them.
+pub fn runs_hold()
+    ensures holds { (config : ConfigOf) (ended : Histories) (parts : List (Part RanLine))
+        → AreFronts (first_histories config.topology) ended → AllRan config ended parts
+        → RunHolds config ended parts }
+{
+    traces_stay();
+}

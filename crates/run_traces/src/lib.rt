@@ -1,0 +1,8 @@
+//! What the lines of a script came to, and what that says of the histories at the end of the run.
+#![tactic(auto)]
+
+mod laws;
+mod traces;
+
+pub use laws::runs_hold;
+pub use traces::{LineFault, LineTrace, LineTraces, RowRefusal, RowRefusals, RowRefused};
