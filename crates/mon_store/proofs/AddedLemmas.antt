@@ -27,7 +27,7 @@ use Rattle.mon_store.proofs.ListLemmas.{Differ, contains_mapped, differ-append}
 use Rattle.mon_store.specs.Writes.{only_in, put_in, written}
 use Rattle.range_cell.specs.Writing.{put_of, with_put_of, with_puts}
 use Rattle.write_core.proofs.AckLemmas.{contains_flat, contains_one}
-use Rattle.write_core.specs.Marks.{replica_of, taken_slot}
+use Rattle.write_core.specs.Marks.{replica_of, taken_slot, with_fate}
 use Rattle.write_core.specs.declared.marks.Fate.{Fate}
 use Rattle.write_core.specs.declared.marks.Fate.TheVariants as fate
 use Rattle.write_core.specs.declared.marks.Mark.{Mark}
@@ -61,13 +61,12 @@ took_mark mark = took_at mark mark.fate
 abbrev pub took_of : List Mark → List SlotLeaf
 took_of = flat_map took_mark
 
-slot_at : (mark : Mark) (f : Fate) → mark.fate ≡ f
-    → map (λ (replica : SlotLeaf). replica.slot) (took_at mark f) ≡ taken_slot mark
-slot_at mark fate.Waiting e = ap (λ (f : Fate). taken_slot (record { slot = mark.slot; leaf = mark.leaf; fate = f })) (sym e)
-slot_at mark fate.Ready e = ap (λ (f : Fate). taken_slot (record { slot = mark.slot; leaf = mark.leaf; fate = f })) (sym e)
-slot_at mark fate.Took e = ap (λ (f : Fate). taken_slot (record { slot = mark.slot; leaf = mark.leaf; fate = f })) (sym e)
-slot_at mark (fate.Missed cut) e =
-    ap (λ (f : Fate). taken_slot (record { slot = mark.slot; leaf = mark.leaf; fate = f })) (sym e)
+slot_at : (mark : Mark) (f : Fate)
+    → map (λ (replica : SlotLeaf). replica.slot) (took_at mark f) ≡ taken_slot (with_fate mark f)
+slot_at mark fate.Waiting = refl
+slot_at mark fate.Ready = refl
+slot_at mark fate.Took = refl
+slot_at mark (fate.Missed cut) = refl
 
 map_both : {X Y : Type 0} (f : X → Y) (xs ys : List X) → map f (xs ++ ys) ≡ map f xs ++ map f ys
 map_both f [] ys = refl
@@ -79,7 +78,7 @@ pub took_slots : (marks : List Mark) → map (λ (replica : SlotLeaf). replica.s
 took_slots [] = refl
 took_slots (mark ∷ marks) =
     map_both (λ (replica : SlotLeaf). replica.slot) (took_mark mark) (took_of marks)
-    ∙ (λ i. slot_at mark mark.fate refl i ++ took_slots marks i)
+    ∙ (λ i. slot_at mark mark.fate i ++ took_slots marks i)
 
 took_here : (mark : Mark) (f : Fate) (replica : SlotLeaf) → Contains (took_at mark f) replica
     → (f ≡ fate.Took) × (replica_of mark ≡ replica)

@@ -1,9 +1,11 @@
 -- How a write ends, by what its range's cell answers: what its caller has is again that of a caller between its calls.
-use Rattle.std.proofs.Common.{◌≡◌, ℕ, ◌<◌, length, sym, subst, Some}
+use Rattle.std.proofs.Common.{◌≡◌, ℕ, ◌<◌, length, sym, ap, subst, ◌∙◌, Some}
 use Rattle.std.specs.Prelude.{Result, Ok, Err, IfOk, IfErr, OnErr}
+use Rattle.history_book.specs.Books.{BookIdentity}
 use Rattle.history_book.specs.Seats.{IsPurseBorneOut}
 use Rattle.know.specs.Knowledge.{Knowledge}
 use Rattle.know.specs.Sound.{IsSound}
+use Rattle.know.specs.Tables.{AreTablesOf}
 use Rattle.mon_config.specs.KeyRanges.{range_of_key}
 use Rattle.mon_config.specs.declared.config.Config.{Config}
 use Rattle.mon_topo.specs.Settings.{Setting}
@@ -19,16 +21,33 @@ use Rattle.mon_store.proofs.RefusedLemmas.{up_carried, up_own}
 use Rattle.mon_store.proofs.WriteLemmas.{IsCarried, same_pass, unwritten}
 use Rattle.mon_store.proofs.WrittenLemmas.{acknowledged_pass, is_written}
 use Rattle.mon_store.specs.Passes.{IsPass}
+use Rattle.mon_store.specs.Stores.{IsSetUp}
 use Rattle.mon_store.specs.Writes.{IsRefused, IsUnwritten, IsWritten}
+use Rattle.raise_table.specs.Tables.{RaiseIdentity}
 use Rattle.range_cell.specs.Writes.{HasNotWritten, HasWritten, AtLock, Behind}
 use Rattle.range_cell.specs.declared.answers.WriteFault.{WriteFault}
 use Rattle.range_cell.specs.declared.answers.WriteFault.TheVariants as fault
 
-module _ (setting : Setting) (config : Config) (leaves limit : ℕ) (range : Range) (row : Row) (before after : Knowledge)
+module _ (setting : Setting) (raise : RaiseIdentity) (book : BookIdentity) (config : Config) (range : Range) (row : Row)
+    (before after : Knowledge) (set : IsSetUp setting raise config) (sized : AreTablesOf setting raise book)
     (is : IsPass setting before) (borne : IsPurseBorneOut after.seen after.purse)
-    (sound : IsSound setting after.hints after.seen) (counted : leaves ≡ length (leaves_in config.topology))
-    (few : limit ≡ config.range_points) (here : range.0 < length (ranges_in setting.zones))
+    (sound : IsSound setting after.hints after.seen) (there : range.0 < length (ranges_in config.topology))
     (in_range : range_of_key config row.key ≡ Some range) where
+  abbrev leaves : ℕ
+  leaves = book.leaves
+
+  abbrev limit : ℕ
+  limit = setting.points
+
+  counted : leaves ≡ length (leaves_in config.topology)
+  counted = sized.leaves ∙ ap (λ (s : Setting). length (leaves_in s.zones)) set.setting_is
+
+  few : limit ≡ config.range_points
+  few = ap (λ (s : Setting). s.points) set.setting_is
+
+  here : range.0 < length (ranges_in setting.zones)
+  here = subst (λ (s : Setting). range.0 < length (ranges_in s.zones)) (sym set.setting_is) there
+
   -- what every refusal leaves
   record IsLeft : Type 0 where
     carried : IsCarried before after
@@ -91,8 +110,8 @@ module _ (setting : Setting) (config : Config) (leaves limit : ℕ) (range : Ran
   }
   refused_so (fault.Unavailable at founds) h =
       subst (λ (r : Range). IsRefused config row before after (fault.Unavailable r founds)) (sym h.ends.0)
-      (none_refused_as setting config leaves range row before after is counted h.history h.begun h.begins founds h.ends.1
-      in_range (goes_in limit config.range_points few h.history row _ h.takes))
+      (none_refused_as setting config leaves range row before after is counted h.history h.begun h.begins founds
+      h.ends.1 in_range (goes_in limit config.range_points few h.history row _ h.takes))
   refused_so fault.OutOfMemory h = tt
 
   pub ended_refused : (result : Result Ack WriteFault)

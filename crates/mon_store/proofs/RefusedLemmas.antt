@@ -65,8 +65,8 @@ count_in (told.Up buckets) = 0
 count_in (told.Down cut) = 0
 count_in told.Done = 0
 
-old_refused : (replicas : List SlotLeaf) (why : Option Refused) (last : ℤ) → told_unless replicas why ≡ told.OldPoint last
-    → why ≡ Some (refused.OldPoint last)
+old_refused : (replicas : List SlotLeaf) (why : Option Refused) (last : ℤ)
+    → told_unless replicas why ≡ told.OldPoint last → why ≡ Some (refused.OldPoint last)
 old_refused replicas None last e = absurd cc
 old_refused replicas (Some (refused.OldPoint other)) last e =
     ap (λ z. Some (refused.OldPoint z)) (ap (λ t. last_in t last) e)

@@ -131,7 +131,8 @@ no_more n = omega arith
 not_ready : (leaf : Leaf) (marks : List Mark) → AreAll is_decided marks → ready_count leaf marks ≡ 0
 not_ready leaf [] h = refl
 not_ready leaf (mark ∷ marks) h =
-    sum_by-cons (λ x. cond (is_ready x.fate && same_leaf leaf x.leaf) 1 0) mark marks ∙ by mark.fate (same_leaf leaf mark.leaf) h.0 ∙ not_ready leaf marks h.1
+    sum_by-cons (λ x. cond (is_ready x.fate && same_leaf leaf x.leaf) 1 0) mark marks
+    ∙ by mark.fate (same_leaf leaf mark.leaf) h.0 ∙ not_ready leaf marks h.1
   where
     by : (f : Fate) (b : Bool) → is_decided f ≡ true
         → cond {A = ℕ} (is_ready f && b) 1 0 + ready_count leaf marks ≡ ready_count leaf marks
@@ -206,10 +207,12 @@ module _ (setting : Setting) (config : Config) (leaves : ℕ) (range : Range) (r
   }
 
   over : HasGoneOver begun acked.mid
-  over = went_over range row pass (acknowledged_rows history) (serving history) begun acked.mid acked.marks acked.through
+  over = went_over range row pass (acknowledged_rows history) (serving history) begun acked.mid acked.marks
+      acked.through
 
   carried : IsCarried before after
-  carried = over_carried setting config leaves range before after is counted history begun acked.mid begins over returned
+  carried =
+      over_carried setting config leaves range before after is counted history begun acked.mid begins over returned
 
   there : range.0 < length after.seen.ranges
   there = subst (λ n. range.0 < n) (sym sound.held.all_ranges) here
@@ -269,11 +272,12 @@ module _ (setting : Setting) (config : Config) (leaves : ℕ) (range : Range) (r
       → P (of.Leaf replica.leaf) (one.Leaf (entry.Put pass range replica.slot row)))
       → P (of.Range range) (one.Range e) → (whose : History) (x : BookEntry) → Contains (new whose) x → P whose x
   came_by P puts acks whose x in_new =
-      by (Contains-append_cases (flat_map (put_in pass range row whose) took) (only_in (of.Range range) (one.Range e) whose)
+      by (Contains-append_cases (flat_map (put_in pass range row whose) took)
+      (only_in (of.Range range) (one.Range e) whose)
       x in_new)
     where
-      by : Contains (flat_map (put_in pass range row whose) took) x ⊎ Contains (only_in (of.Range range) (one.Range e) whose) x
-          → P whose x
+      by : Contains (flat_map (put_in pass range row whose) took) x
+          ⊎ Contains (only_in (of.Range range) (one.Range e) whose) x → P whose x
       by (inl put) =
           let found = put_is pass range row whose took x put in
           both P (of.Leaf found.0.leaf) whose (one.Leaf (entry.Put pass range found.0.slot row)) x found.2 found.3

@@ -1,5 +1,6 @@
 -- How a write ends, and what its caller has then.
-use Rattle.std.specs.Prelude.{◌≡◌, ◌≤◌, ◌+◌, ℕ, List, [], ◌∷◌, ◌++◌, length, map, filter, drop, Option, Some, None, Contains}
+use Rattle.std.specs.Prelude.{◌≡◌, ◌≤◌, ◌+◌, ℕ, List, [], ◌∷◌, ◌++◌, length, map, filter, drop, Option, Some, None}
+use Rattle.std.specs.Prelude.{Contains}
 use Rattle.std.specs.Prelude.{if◌then◌else◌}
 use Rattle.std.specs.List.{flat_map}
 use Rattle.history_book.specs.Histories.{AreFronts, entries, is_under, same_history}

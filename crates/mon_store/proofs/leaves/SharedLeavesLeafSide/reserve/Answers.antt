@@ -8,7 +8,8 @@ use Rattle.owners.specs.Calls.{HasLooked, HasReserved}
 
 pub reserve-requires : goal.reserve-requires
 reserve-requires g c = record {
-  opened = subst (λ (n : ℕ). is_opened c.args.range c.args.slot (leaf_history c.args.know.now.seen (leaf_numbered n)) ≡ true)
+  opened = subst (λ (n : ℕ).
+      is_opened c.args.range c.args.slot (leaf_history c.args.know.now.seen (leaf_numbered n)) ≡ true)
       (sym c.cell.ensures.cell) c.requires.seen.opened;
 }
 

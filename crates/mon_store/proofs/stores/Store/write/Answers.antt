@@ -1,75 +1,49 @@
-use Rattle.std.proofs.Common.{◌≡◌, ◌<◌, rules, sym, ap, subst, ◌∙◌, Some}
-use Rattle.std.specs.Prelude.{length, IfErr, IfOk, OnErr}
+use Rattle.std.proofs.Common.{◌≡◌, rules, subst, Some}
+use Rattle.std.specs.Prelude.{IfErr, IfOk, OnErr}
 use Rattle.know.specs.Knowledge.{Knowledge}
 use Rattle.mon_config.specs.KeyRanges.{range_of_key}
 use Rattle.mon_config.specs.declared.config.Config.{Config}
-use Rattle.mon_topo.specs.Settings.{Setting}
-use Rattle.mon_topo.specs.Zones.{leaves_in, ranges_in}
 use Rattle.mon_store.proofs.EndedLemmas.{ended_pass, ended_refused, ended_unwritten, ended_written}
 use Rattle.mon_store.proofs.stores.Store.write.Goals as goal
 use Rattle.mon_store.specs.Writes.{IsRefused, IsUnwritten, IsWritten}
 
 pub invariant_of-p : goal.invariant_of-p
 invariant_of-p g c =
-    let set = c.self.invariant.0 in
-    let config = c.self.inside.config in
-    let counted : g.N.BookName.book.leaves ≡ length (leaves_in config.topology) =
-    c.self.inside.tables.sized.leaves ∙ ap (λ (s : Setting). length (leaves_in s.zones)) set.setting_is in
-    let few : g.N.Names.setting.points ≡ config.range_points = ap (λ (s : Setting). s.points) set.setting_is in
-    let here : c.in-Some.range.0 < length (ranges_in g.N.Names.setting.zones) =
-    subst (λ (s : Setting). c.in-Some.range.0 < length (ranges_in s.zones)) (sym set.setting_is) c.in-Some.ensures.there in
-    let in_range : range_of_key config c.args.row.now.key ≡ Some c.in-Some.range = search rules in
-    ended_pass g.N.Names.setting config g.N.BookName.book.leaves g.N.Names.setting.points c.in-Some.range c.args.row.now
-    c.p.inside.know c.write_in.new.know c.p.invariant c.write_in.ensures.borne_out c.write_in.ensures.sound counted few here
-    in_range c.write_in.result c.write_in.ensures.written
+    let in_range : range_of_key c.self.inside.config c.args.row.now.key ≡ Some c.in-Some.range = search rules in
+    ended_pass g.N.Names.setting g.N.RaiseName.raise g.N.BookName.book c.self.inside.config c.in-Some.range
+    c.args.row.now c.p.inside.know c.write_in.new.know c.self.invariant.0 c.self.inside.tables.sized c.p.invariant
+    c.write_in.ensures.borne_out c.write_in.ensures.sound c.in-Some.ensures.there in_range c.write_in.result
+    c.write_in.ensures.written
 
 pub returns-in-Some-clause-written : goal.returns-in-Some-clause-written
 returns-in-Some-clause-written g c =
-    let set = c.self.invariant.0 in
-    let config = c.self.inside.config in
-    let counted : g.N.BookName.book.leaves ≡ length (leaves_in config.topology) =
-    c.self.inside.tables.sized.leaves ∙ ap (λ (s : Setting). length (leaves_in s.zones)) set.setting_is in
-    let few : g.N.Names.setting.points ≡ config.range_points = ap (λ (s : Setting). s.points) set.setting_is in
-    let here : c.in-Some.range.0 < length (ranges_in g.N.Names.setting.zones) =
-    subst (λ (s : Setting). c.in-Some.range.0 < length (ranges_in s.zones)) (sym set.setting_is) c.in-Some.ensures.there in
-    let in_range : range_of_key config c.args.row.now.key ≡ Some c.in-Some.range = search rules in
-    subst (λ (before : Knowledge). IfOk c.write_in.result (IsWritten c.args.self.now c.args.row.now before
-    c.write_in.new.know)) c.p.view_is
-    (subst (λ (seen : Config). IfOk c.write_in.result (IsWritten seen c.args.row.now c.p.inside.know
-    c.write_in.new.know)) c.self.view_is
-    (ended_written g.N.Names.setting config g.N.BookName.book.leaves g.N.Names.setting.points c.in-Some.range
-    c.args.row.now c.p.inside.know c.write_in.new.know c.p.invariant c.write_in.ensures.borne_out
-    c.write_in.ensures.sound counted few here in_range c.write_in.result c.write_in.ensures.written))
+    let in_range : range_of_key c.self.inside.config c.args.row.now.key ≡ Some c.in-Some.range = search rules in
+    subst (λ (before : Knowledge).
+    IfOk c.write_in.result (IsWritten c.args.self.now c.args.row.now before c.write_in.new.know)) c.p.view_is
+    (subst (λ (config : Config).
+    IfOk c.write_in.result (IsWritten config c.args.row.now c.p.inside.know c.write_in.new.know)) c.self.view_is
+    (ended_written g.N.Names.setting g.N.RaiseName.raise g.N.BookName.book c.self.inside.config c.in-Some.range
+    c.args.row.now c.p.inside.know c.write_in.new.know c.self.invariant.0 c.self.inside.tables.sized c.p.invariant
+    c.write_in.ensures.borne_out c.write_in.ensures.sound c.in-Some.ensures.there in_range c.write_in.result
+    c.write_in.ensures.written))
 
 pub returns-in-Some-clause-refused : goal.returns-in-Some-clause-refused
 returns-in-Some-clause-refused g c =
-    let set = c.self.invariant.0 in
-    let config = c.self.inside.config in
-    let counted : g.N.BookName.book.leaves ≡ length (leaves_in config.topology) =
-    c.self.inside.tables.sized.leaves ∙ ap (λ (s : Setting). length (leaves_in s.zones)) set.setting_is in
-    let few : g.N.Names.setting.points ≡ config.range_points = ap (λ (s : Setting). s.points) set.setting_is in
-    let here : c.in-Some.range.0 < length (ranges_in g.N.Names.setting.zones) =
-    subst (λ (s : Setting). c.in-Some.range.0 < length (ranges_in s.zones)) (sym set.setting_is) c.in-Some.ensures.there in
-    let in_range : range_of_key config c.args.row.now.key ≡ Some c.in-Some.range = search rules in
-    subst (λ (before : Knowledge). IfErr c.write_in.result (IsRefused c.args.self.now c.args.row.now before
-    c.write_in.new.know)) c.p.view_is
-    (subst (λ (seen : Config). IfErr c.write_in.result (IsRefused seen c.args.row.now c.p.inside.know
-    c.write_in.new.know)) c.self.view_is
-    (ended_refused g.N.Names.setting config g.N.BookName.book.leaves g.N.Names.setting.points c.in-Some.range
-    c.args.row.now c.p.inside.know c.write_in.new.know c.p.invariant c.write_in.ensures.borne_out
-    c.write_in.ensures.sound counted few here in_range c.write_in.result c.write_in.ensures.written))
+    let in_range : range_of_key c.self.inside.config c.args.row.now.key ≡ Some c.in-Some.range = search rules in
+    subst (λ (before : Knowledge).
+    IfErr c.write_in.result (IsRefused c.args.self.now c.args.row.now before c.write_in.new.know)) c.p.view_is
+    (subst (λ (config : Config).
+    IfErr c.write_in.result (IsRefused config c.args.row.now c.p.inside.know c.write_in.new.know)) c.self.view_is
+    (ended_refused g.N.Names.setting g.N.RaiseName.raise g.N.BookName.book c.self.inside.config c.in-Some.range
+    c.args.row.now c.p.inside.know c.write_in.new.know c.self.invariant.0 c.self.inside.tables.sized c.p.invariant
+    c.write_in.ensures.borne_out c.write_in.ensures.sound c.in-Some.ensures.there in_range c.write_in.result
+    c.write_in.ensures.written))
 
 pub returns-in-Some-clause-nothing : goal.returns-in-Some-clause-nothing
 returns-in-Some-clause-nothing g c =
-    let set = c.self.invariant.0 in
-    let config = c.self.inside.config in
-    let counted : g.N.BookName.book.leaves ≡ length (leaves_in config.topology) =
-    c.self.inside.tables.sized.leaves ∙ ap (λ (s : Setting). length (leaves_in s.zones)) set.setting_is in
-    let few : g.N.Names.setting.points ≡ config.range_points = ap (λ (s : Setting). s.points) set.setting_is in
-    let here : c.in-Some.range.0 < length (ranges_in g.N.Names.setting.zones) =
-    subst (λ (s : Setting). c.in-Some.range.0 < length (ranges_in s.zones)) (sym set.setting_is) c.in-Some.ensures.there in
-    let in_range : range_of_key config c.args.row.now.key ≡ Some c.in-Some.range = search rules in
+    let in_range : range_of_key c.self.inside.config c.args.row.now.key ≡ Some c.in-Some.range = search rules in
     subst (λ (before : Knowledge). OnErr c.write_in.result (IsUnwritten before c.write_in.new.know)) c.p.view_is
-    (ended_unwritten g.N.Names.setting config g.N.BookName.book.leaves g.N.Names.setting.points c.in-Some.range
-    c.args.row.now c.p.inside.know c.write_in.new.know c.p.invariant c.write_in.ensures.borne_out
-    c.write_in.ensures.sound counted few here in_range c.write_in.result c.write_in.ensures.written)
+    (ended_unwritten g.N.Names.setting g.N.RaiseName.raise g.N.BookName.book c.self.inside.config c.in-Some.range
+    c.args.row.now c.p.inside.know c.write_in.new.know c.self.invariant.0 c.self.inside.tables.sized c.p.invariant
+    c.write_in.ensures.borne_out c.write_in.ensures.sound c.in-Some.ensures.there in_range c.write_in.result
+    c.write_in.ensures.written)

@@ -13,8 +13,9 @@ write-written-requires-clause-home g c =
 
 pub returns-clause-written : goal.returns-clause-written
 returns-clause-written g c =
-    subst (λ (know : Knowledge). HasWritten g.N.BookName.book.leaves c.args.range c.args.row.now g.N.Names.setting.points
-    (pass_of c.args.know.now) c.args.know.now know c.write-written.result)
+    subst (λ (know : Knowledge).
+    HasWritten g.N.BookName.book.leaves c.args.range c.args.row.now g.N.Names.setting.points (pass_of c.args.know.now)
+    c.args.know.now know c.write-written.result)
     (sym c.confirm.ensures.kept)
     (subst (λ (n : ℕ). HasWritten g.N.BookName.book.leaves (range_numbered n) c.args.row.now g.N.Names.setting.points
     (pass_of c.args.know.now) c.args.know.now c.write-written.new.know c.write-written.result)
