@@ -1,8 +1,9 @@
 -- Why lines and records were refused, at lengths in their places.
 use Rattle.std.proofs.Common.{◌≡◌, ℕ, zero, suc, ◌+◌, ◌<◌, ◌≤◌, nat_eq, nat_le, ◌&&◌, ◌||◌, Bool, true, false, List}
 use Rattle.std.proofs.Common.{[], ◌∷◌, ◌++◌, length, take, drop, slice_get, Some, refl, ap, ◌∙◌, arith}
+use Rattle.std.proofs.Common.{subst, sym}
 use Rattle.std.specs.Prelude.{ℤ}
-use Rattle.std.specs.List.{list_any}
+use Rattle.std.specs.List.{AllByRecursion, list_any}
 use Rattle.std.proofs.lemmas.Bool.{false≢true}
 use Rattle.std.proofs.lemmas.List.{take_all}
 use Rattle.history_book.specs.Histories.{book_entry_pass, entries}
@@ -14,6 +15,8 @@ use Rattle.mon_config.specs.declared.config.Config.{Config}
 use Rattle.mon_points.specs.Records.{reads_of}
 use Rattle.mon_points.specs.declared.records.RowRead.{RowRead}
 use Rattle.mon_points.specs.declared.records.RowRead.TheVariants as read
+use Rattle.mon_topo.specs.RangeHistories.{serving}
+use Rattle.mon_topo.specs.Serving.{is_avoided}
 use Rattle.mon_value.specs.Histories.{leaf_history, range_history}
 use Rattle.mon_value.specs.declared.histories.Entry.TheVariants as entry
 use Rattle.mon_value.specs.declared.histories.Histories.{Histories}
@@ -21,9 +24,10 @@ use Rattle.mon_value.specs.declared.histories.RangeEntry.TheVariants as range_en
 use Rattle.mon_value.specs.declared.positions.FoundDown.{FoundDown}
 use Rattle.mon_value.specs.declared.positions.Range.{Range}
 use Rattle.mon_value.specs.declared.rows.Row.{Row}
+use Rattle.mql_types.specs.Loads.{load}
 use Rattle.mql_types.specs.Nodes.{TypedTree}
 use Rattle.query_core.specs.Findings.{IsFoundBetween}
-use Rattle.query_core.specs.Traces.{AreWider, IsBetween, IsTraceBetween, Lengths}
+use Rattle.query_core.specs.Traces.{AreWider, IsBetween, IsTraceBetween, Lengths, found_leaves, source_of}
 use Rattle.query_core.specs.declared.answers.Trace.{Trace}
 use Rattle.range_cell.specs.declared.answers.WriteFault.{WriteFault}
 use Rattle.range_cell.specs.declared.answers.WriteFault.TheVariants as unwritten
@@ -44,10 +48,19 @@ use Rattle.run_traces.specs.declared.traces.LineTrace.TheVariants as came
 use Rattle.run_traces.specs.declared.traces.RowRefusal.{RowRefusal}
 use Rattle.run_traces.specs.declared.traces.RowRefused.{RowRefused}
 use Rattle.run_traces.specs.declared.traces.RowRefused.TheVariants as refused
+use Rattle.write_core.specs.RangeAnswers.{refusal}
 use Rattle.write_core.specs.declared.refusals.Refused.{Refused}
 use Rattle.write_core.specs.declared.refusals.Refused.TheVariants as ranged
 use Rattle.run_traces.proofs.ListFacts.{all_as, all_at, any_at}
 use Rattle.run_traces.proofs.RunFacts.{InPlace, There, book_length, greater_by, range_length, wider}
+
+-- ---- lists
+
+pub take_front : {X : Type 0} (n m : ℕ) (xs : List X) → n ≤ m → take n (take m xs) ≡ take n xs
+take_front zero m xs le = refl
+take_front (suc n) zero xs le = absurd (omega arith)
+take_front (suc n) (suc m) [] le = refl
+take_front (suc n) (suc m) (x ∷ xs) le = ap (λ w. x ∷ w) (take_front n m xs (omega arith))
 
 -- ---- tests of lists
 
@@ -114,10 +127,13 @@ module _ (widen : (typed : TypedTree) (moment : ℤ) (from to earlier later : Le
     (find : (from to earlier later : Lengths) (seen more : Histories) (found : FoundDown)
     → AreWider from to earlier later seen more → IsFoundBetween from to seen found
     → IsFoundBetween earlier later more found)
-    (config : Config) (ended : Histories) where
+    (rows : (typed : TypedTree) (moment : ℤ) (from to earlier later : Lengths) (seen more : Histories) (trace : Trace)
+    → AreWider from to earlier later seen more → IsTraceBetween typed moment from to seen trace
+    → source_of more trace ≡ source_of seen trace)
+    (config : Config) where
   -- ---- causes at wider moments
 
-  module _ (from to first last : Lengths) (wide : AreWider from to first last ended ended) where
+  module _ (seen more : Histories) (from to first last : Lengths) (wide : AreWider from to first last seen more) where
     length_wider : (range : Range) (found : ℕ) → IsBetween (from.ranges range) (to.ranges range) found
         → IsBetween (first.ranges range) (last.ranges range) found
     length_wider range found between = record {
@@ -125,41 +141,52 @@ module _ (widen : (typed : TypedTree) (moment : ℤ) (from to earlier later : Le
       to = let a = wide.later.ranges range in let b = between.to in omega arith;
     }
 
-    none_wider : (range : Range) (founds : List FoundDown) → HasNoneUp config ended from to range founds
-        → HasNoneUp config ended first last range founds
+    -- what stood there by then still does
+    front_stays : (range : Range) (found : ℕ) → IsBetween (from.ranges range) (to.ranges range) found
+        → take found (range_history seen range) ≡ take found (range_history more range)
+    front_stays range found between =
+        sym (ap (take found) (wide.grown.ranges range))
+        ∙ take_front found (length (range_history seen range)) (range_history more range)
+        (let a = wide.within.ranges range in let b = between.to in omega arith)
+
+    none_wider : (range : Range) (founds : List FoundDown) → HasNoneUp config seen from to range founds
+        → HasNoneUp config more first last range founds
     none_wider range founds none = record {
-      were_found = all_as (IsFoundBetween from to ended) (IsFoundBetween first last ended)
-          (λ found is. find from to first last ended ended found wide is) founds none.were_found;
+      were_found = all_as (IsFoundBetween from to seen) (IsFoundBetween first last more)
+          (λ found is. find from to first last seen more found wide is) founds none.were_found;
       found = none.found;
       between = length_wider range none.found none.between;
-      all_down = none.all_down;
+      all_down = subst (λ w. AllByRecursion (λ replica. is_avoided (found_leaves founds) replica ≡ true) (serving w))
+          (front_stays range none.found none.between) none.all_down;
     }
 
-    line_wider : (text : List ℕ) (moment : ℤ) (fault : LineFault) → HasCause config ended from to text moment fault
-        → HasCause config ended first last text moment fault
+    pub line_wider : (text : List ℕ) (moment : ℤ) (fault : LineFault) → HasCause config seen from to text moment fault
+        → HasCause config more first last text moment fault
     line_wider text moment (why.Parse parse) cause = cause
     line_wider text moment (why.Typing typing) cause = cause
     line_wider text moment (why.NoReplica range founds) cause = none_wider range founds cause
     line_wider text moment (why.StepLimit limit trace) cause = record {
       typed = cause.typed;
       type_is = cause.type_is;
-      of = widen cause.typed moment from to first last ended ended trace wide cause.of;
+      of = widen cause.typed moment from to first last seen more trace wide cause.of;
       limit_is = cause.limit_is;
-      above = cause.above;
+      above = subst (λ w. config.limit < load cause.typed w moment)
+          (sym (rows cause.typed moment from to first last seen more trace wide cause.of)) cause.above;
     }
 
-    range_wider : (row : Row) (told : Refused) → IsRefusedByRange config ended from to row told
-        → IsRefusedByRange config ended first last row told
+    range_wider : (row : Row) (told : Refused) → IsRefusedByRange config seen from to row told
+        → IsRefusedByRange config more first last row told
     range_wider row told cause = record {
       range = cause.range;
       in_range = cause.in_range;
       found = cause.found;
       between = length_wider cause.range cause.found cause.between;
-      refused = cause.refused;
+      refused = ap (λ w. refusal config.range_points w row)
+          (sym (front_stays cause.range cause.found cause.between)) ∙ cause.refused;
     }
 
-    write_wider : (row : Row) (fault : WriteFault) → IsUnwritten config ended from to row fault
-        → IsUnwritten config ended first last row fault
+    write_wider : (row : Row) (fault : WriteFault) → IsUnwritten config seen from to row fault
+        → IsUnwritten config more first last row fault
     write_wider row unwritten.NoZone cause = cause
     write_wider row (unwritten.OldPoint end) cause = range_wider row (ranged.OldPoint end) cause
     write_wider row (unwritten.RangeFull limit) cause = range_wider row (ranged.RangeFull limit) cause
@@ -169,8 +196,8 @@ module _ (widen : (typed : TypedTree) (moment : ℤ) (from to earlier later : Le
     }
     write_wider row unwritten.OutOfMemory cause = cause
 
-    row_wider : (one : RowRead) (fault : RowRefused) → HasRowCause config ended from to one fault
-        → HasRowCause config ended first last one fault
+    pub row_wider : (one : RowRead) (fault : RowRefused) → HasRowCause config seen from to one fault
+        → HasRowCause config more first last one fault
     row_wider (read.Fault fault) (refused.Read told) cause = cause
     row_wider (read.Fault fault) (refused.Write told) cause = cause
     row_wider (read.Row row) (refused.Read told) cause = cause
@@ -178,7 +205,8 @@ module _ (widen : (typed : TypedTree) (moment : ℤ) (from to earlier later : Le
 
   -- ---- records in their places
 
-  module _ (seen later : List RanLine) (line : RanLine) (place : InPlace config ended seen later line) (pass : ℕ)
+  module _ (ended : Histories) (seen later : List RanLine) (line : RanLine)
+      (place : InPlace config ended seen later line) (pass : ℕ)
       (accepted : List Row) (refusals : List RowRefusal) (is : line.trace ≡ came.Fed pass accepted refusals) where
     -- an entry of the feed stands where it ran
     there : (h : History) (k : ℕ) (e : BookEntry) → slice_get (entries ended h) k ≡ Some e
@@ -278,7 +306,7 @@ module _ (widen : (typed : TypedTree) (moment : ℤ) (from to earlier later : Le
       row_cause = record {
         read = found.read;
         read_is = found.read_is;
-        cause = row_wider (marked found.since) (marked found.until)
+        cause = row_wider ended ended (marked found.since) (marked found.until)
             (lows config.topology ended (seen ++ fed line pass front ∷ []))
             (highs config.topology ended (fed line pass rest ∷ later)) row_place found.read refusal.fault found.cause;
       }
@@ -292,14 +320,15 @@ module _ (widen : (typed : TypedTree) (moment : ℤ) (from to earlier later : Le
 
   -- ---- lines
 
-  module _ (seen later : List RanLine) (line : RanLine) (place : InPlace config ended seen later line) where
+  module _ (ended : Histories) (seen later : List RanLine) (line : RanLine)
+      (place : InPlace config ended seen later line) where
     caused_by : (trace : LineTrace) → line.trace ≡ trace → HasFound config ended place.from place.to line trace
         → IsCaused config ended seen later line trace
     caused_by (came.Fed pass rows refusals) is found =
-        rows_caused seen later line place pass rows refusals is (reads_of config.schemas line.content) 0 refusals
+        rows_caused ended seen later line place pass rows refusals is (reads_of config.schemas line.content) 0 refusals
         found.refused
     caused_by (came.Asked moment trace) is found = tt
-    caused_by (came.Refused fault) is found = line_wider (marked place.from) (marked place.to)
+    caused_by (came.Refused fault) is found = line_wider ended ended (marked place.from) (marked place.to)
         (lows config.topology ended seen) (highs config.topology ended later)
         (wider config ended seen later line place) (text_of line.what) (moment_of line.what) fault found
     caused_by came.Done is found = tt

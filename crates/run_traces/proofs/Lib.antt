@@ -1,5 +1,6 @@
 pub mod Acks
 pub mod Causes
+pub mod Growth
 pub mod ListFacts
 pub mod Owners
 pub mod RowFacts

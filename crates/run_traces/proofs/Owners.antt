@@ -197,7 +197,7 @@ in_front P [] rest k x all there less = absurd (omega arith)
 in_front P (y ∷ front) rest zero x all there less = let same : y ≡ x = cc in subst P same all.0
 in_front P (y ∷ front) rest (suc k) x all there less = in_front P front rest k x all.1 there (omega arith)
 
-map_front : {X Y : Type 0} (f : X → Y) (xs ys : List X) → IsPrefix xs ys → IsPrefix (map f xs) (map f ys)
+pub map_front : {X Y : Type 0} (f : X → Y) (xs ys : List X) → IsPrefix xs ys → IsPrefix (map f xs) (map f ys)
 map_front f xs ys p = (map f p.0, sym (map-append f xs p.0) ∙ ap (map f) p.1)
 
 -- each history begins with its first entries

@@ -9,7 +9,7 @@ use Rattle.mon_value.specs.declared.histories.Histories.{Histories}
 use Rattle.mon_value.specs.declared.positions.FoundDown.{FoundDown}
 use Rattle.mql_types.specs.Nodes.{TypedTree}
 use Rattle.query_core.specs.Findings.{IsFoundBetween}
-use Rattle.query_core.specs.Traces.{AreWider, IsTraceBetween, Lengths}
+use Rattle.query_core.specs.Traces.{AreWider, IsTraceBetween, Lengths, source_of}
 use Rattle.query_core.specs.declared.answers.Trace.{Trace}
 use Rattle.run_theory.specs.Marks.{RanBehind}
 use Rattle.run_theory.specs.Parts.{Each, Part, all_lines}
@@ -42,6 +42,9 @@ module _ (widen : (typed : TypedTree) (moment : ℤ) (from to earlier later : Le
     (find : (from to earlier later : Lengths) (seen more : Histories) (found : FoundDown)
     → AreWider from to earlier later seen more → IsFoundBetween from to seen found
     → IsFoundBetween earlier later more found)
+    (rows : (typed : TypedTree) (moment : ℤ) (from to earlier later : Lengths) (seen more : Histories) (trace : Trace)
+    → AreWider from to earlier later seen more → IsTraceBetween typed moment from to seen trace
+    → source_of more trace ≡ source_of seen trace)
     (config : Config) (ended : Histories) (parts : List (Part RanLine))
     (begun : AreFronts (first_histories config.topology) ended) (ran : AllRan config ended parts) where
   abbrev end : History → ℕ
@@ -82,5 +85,5 @@ module _ (widen : (typed : TypedTree) (moment : ℤ) (from to earlier later : Le
           (are_not_first config ended begun) (λ h. refl) parts ran;
     };
     causes = each_as (InPlace config ended) (LineIsCaused config ended)
-        (λ seen later line place. is_caused widen find config ended seen later line place) [] parts places;
+        (λ seen later line place. is_caused widen find rows config ended seen later line place) [] parts places;
   }

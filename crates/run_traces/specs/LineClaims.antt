@@ -24,6 +24,7 @@ use Rattle.mon_points.specs.Records.{reads_of}
 use Rattle.mon_points.specs.declared.records.RowRead.{RowRead}
 use Rattle.run_theory.specs.Marks.{AreBelow, PartsRan}
 use Rattle.run_theory.specs.Parts.{Part}
+use Rattle.run_theory.specs.Writings.{PartWrote}
 use Rattle.run_traces.specs.LineCauses.{HasCause, HasRowCause, rows_before}
 use Rattle.run_traces.specs.LineFeeds.{IsTold, lies_in}
 use Rattle.run_traces.specs.LineFreshness.{cuts_named}
@@ -135,9 +136,14 @@ module _ (config : Config) (seen : Histories) (from to : History → ℕ) where
       AllByRecursion (IsBetween (from (of.Leaf leaf)) (to (of.Leaf leaf))) (cuts_named leaf trace)
 
   pub record Finds (line : RanLine) : Type 0 where
+    pub forth : AreBelow from to
     pub told : IsTold config line.content line.trace
     pub cuts : (leaf : Leaf) → leaf.0 < length seen.leaves → CutsLieBetween line.trace leaf
     pub found : HasFound line line.trace
+
+-- a part more wrote, over what the script's caller had seen before it and has seen behind it
+abbrev pub HasWritten : Config → Histories → Histories → Part RanLine → Type 0
+HasWritten config = PartWrote entries book_entry_pass (Makes config) (Finds config) HaveGrown
 
 -- the parts of a script ran one after another, from the first replicas to the end of each history
 abbrev pub AllRan : Config → Histories → List (Part RanLine) → Type 0

@@ -1,15 +1,26 @@
 // What holds of every run.
-ghost use Rattle.std.specs.Prelude.{List};
+ghost use Rattle.std.specs.Prelude.{List, [], ◌∷◌, ◌++◌};
 ghost use Rattle.history_book.specs.Histories.{AreFronts};
 ghost use Rattle.mon_config.specs.declared.config.Config.{Config as ConfigOf};
 ghost use Rattle.mon_topo.specs.FirstHistories.{first_histories};
 ghost use Rattle.mon_value.specs.declared.histories.Histories.{Histories};
 ghost use Rattle.run_theory.specs.Parts.{Part};
 ghost use Rattle.run_traces.specs.Headline.{RunHolds};
-ghost use Rattle.run_traces.specs.LineClaims.{AllRan};
+ghost use Rattle.run_traces.specs.LineClaims.{AllRan, HasWritten};
 ghost use Rattle.run_traces.specs.RanLines.{RanLine};
 
 use query_core::traces_stay;
+
+/// No line has run where the caller has seen the first replicas alone. And a part more ran behind the others, where
+/// its lines made and found what they owe over what the script's caller had seen before it and has seen behind it.
+pub fn runs_go_on()
+    ensures begun { (config : ConfigOf) → AllRan config (first_histories config.topology) [] }
+    ensures more { (config : ConfigOf) (before after : Histories) (parts : List (Part RanLine)) (part : Part RanLine)
+        → AllRan config before parts → HasWritten config before after part
+        → AllRan config after (parts ++ part ∷ []) }
+{
+    traces_stay();
+}
 
 /// Where the parts of a script ran one after another, each line with what it made and found, the tables, the rows, the
 /// refusals and the histories at the end are as an operator reads them.
