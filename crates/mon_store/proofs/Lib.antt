@@ -6,6 +6,7 @@ pub mod GatherLemmas
 pub mod ListLemmas
 pub mod OwnLemmas
 pub mod PassLemmas
+pub mod QueryLemmas
 pub mod RefusedLemmas
 pub mod WriteLemmas
 pub mod WrittenLemmas

@@ -1,4 +1,5 @@
 pub mod Gathers
 pub mod Passes
+pub mod Queries
 pub mod Stores
 pub mod Writes
