@@ -1,0 +1,4 @@
+pub mod CountLemmas
+pub mod DueLemmas
+pub mod MarkLemmas
+pub mod NameLemmas

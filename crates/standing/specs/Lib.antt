@@ -1,0 +1,4 @@
+pub mod Adding
+pub mod DueLists
+pub mod StandingFields
+pub mod StandingStates

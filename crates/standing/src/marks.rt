@@ -1,0 +1,90 @@
+// When which queries are due.
+ghost use Rattle.std.specs.Prelude.{◌≡◌, ◌≤◌, ◌<◌, ◌+◌, ◌*◌, ◌^◌, ◌++◌, ◌≤ℤ◌, ℕ, pos, map, IfOk, OnOk};
+ghost use Rattle.std.specs.List.{AllByRecursion, range_with_len};
+ghost use Rattle.standing.specs.DueLists as spec;
+
+use crate::queries::StandingQuery;
+use mon_value::OutOfMemory;
+use std::alloc::Global;
+
+/// When a query is due, and its number in the order of adding.
+pub(crate) type Mark = (i64, usize);
+
+/// The marks of the queries that are due, by time and then by adding.
+pub(crate) fn due_marks(
+    alloc: Global,
+    last: Option<i64>,
+    moment: i64,
+    queries: &[StandingQuery],
+) -> Result<Vec<Mark>, OutOfMemory>
+    requires lawful { AllByRecursion spec.HasPeriod queries.now }
+    requires moment { pos 0 ≤ℤ moment }
+    ensures marks { IfOk result (λ marks. marks.items ≡ spec.due_marks last moment queries.now) }
+{
+    let mut marks = all_marks(alloc, last, moment, queries)?;
+    marks.sort_unstable();
+    Ok(marks)
+}
+
+// The marks query by query.
+fn all_marks(
+    alloc: Global,
+    last: Option<i64>,
+    moment: i64,
+    queries: &[StandingQuery],
+) -> Result<Vec<Mark>, OutOfMemory>
+    requires lawful { AllByRecursion spec.HasPeriod queries.now }
+    requires moment { pos 0 ≤ℤ moment }
+    ensures marks { IfOk result (λ marks. marks.items ≡ spec.marks_from 0 last moment queries.now) }
+{
+    let mut marks = Vec::new(alloc);
+    for (number, query) in queries.iter().enumerate() {
+        push_marks(&mut marks, last, moment, query, number)?;
+    }
+    Ok(marks)
+}
+
+// Adds the marks of a query, by its number.
+fn push_marks(
+    marks: &mut Vec<Mark>,
+    last: Option<i64>,
+    moment: i64,
+    query: &StandingQuery,
+    number: usize,
+) -> Result<(), OutOfMemory>
+    requires lawful { spec.HasPeriod query.now }
+    requires moment { pos 0 ≤ℤ moment }
+    ensures marks { OnOk result (marks.new.items ≡ marks.old.items
+        ++ spec.marked number (spec.due_times last moment (spec.seconds query.now.period))) }
+{
+    let period = query.period.unsigned_abs();
+    let newest = moment.unsigned_abs() / period;
+    match last {
+        Some(last) => {
+            let before = last.unsigned_abs() / period;
+            let count = newest.saturating_sub(before);
+            push_multiples(marks, period, before + 1, count, number)
+        }
+        None => push_multiples(marks, period, newest, 1, number),
+    }
+}
+
+// Adds marks at so many multiples of a period, from the first one on.
+fn push_multiples(
+    marks: &mut Vec<Mark>,
+    period: u64,
+    first: u64,
+    count: u64,
+    number: usize,
+) -> Result<(), OutOfMemory>
+    requires small { (k : ℕ) → first ≤ k → k < first + count → period * k < 2 ^ 63 }
+    requires fits { first + count < 2 ^ 64 }
+    ensures marks { OnOk result (marks.new.items ≡ marks.old.items
+        ++ spec.marked number (map (λ k. pos (period * k)) (range_with_len first count))) }
+{
+    for i in 0..count {
+        let time = period * (first + i);
+        marks.push((time as i64, number))?;
+    }
+    Ok(())
+}
