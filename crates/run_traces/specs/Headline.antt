@@ -1,5 +1,5 @@
 -- What holds of a run's lines and of the histories at its end.
-use Rattle.std.specs.Prelude.{List, []}
+use Rattle.std.specs.Prelude.{ℕ, List, []}
 use Rattle.std.specs.List.{AllByRecursion}
 use Rattle.mon_config.specs.declared.config.Config.{Config}
 use Rattle.mon_value.specs.declared.histories.Histories.{Histories}
@@ -9,7 +9,9 @@ use Rattle.run_traces.specs.LineFeeds.{AreAcknowledged, AreOfLines, LineIsTold, 
 use Rattle.run_traces.specs.LineFreshness.{LineIsFresh}
 use Rattle.run_traces.specs.LineReads.{LineIsRead}
 use Rattle.run_traces.specs.LineTables.{LineIsTabled}
-use Rattle.run_traces.specs.RanLines.{RanLine}
+use Rattle.run_traces.specs.RanLines.{RanLine, parts_of, ran_lines}
+use Rattle.run_traces.specs.declared.traces.LineTrace.{LineTrace}
+use Rattle.script_lines.specs.declared.script.ScriptLine.{ScriptLine}
 
 -- Each table stands on replicas and cuts in its place, on all that had been accepted before, and on every leaf that
 -- the query wants; each accepted row is acknowledged once, under its line's number; nothing else was made; and whatever
@@ -23,3 +25,8 @@ pub record RunHolds (config : Config) (ended : Histories) (parts : List (Part Ra
   pub made : AreOfLines config ended (all_lines parts)
   pub apart : ShareNoEntry ended parts
   pub causes : Each (LineIsCaused config ended) [] parts
+
+-- The same of a script whose lines came to these traces, over files of these contents
+abbrev pub ScriptHolds : Config → (List ℕ → List ℕ) → Histories → List ScriptLine → List LineTrace → Type 0
+ScriptHolds config contents ended script traces =
+    RunHolds config ended (parts_of (ran_lines contents script traces))

@@ -1,5 +1,5 @@
 -- The lines of a script that ran, and its parts: lines one after another, and blocks whose lines run beside each other.
-use Rattle.std.specs.Prelude.{ℕ, List, [], ◌∷◌, ◌++◌, Option, Some, None}
+use Rattle.std.specs.Prelude.{ℕ, Bool, true, false, List, [], ◌∷◌, ◌++◌, Option, Some, None}
 use Rattle.mon_value.specs.declared.rows.Row.{Row}
 use Rattle.run_theory.specs.Parts.{Alone, Beside, Part}
 use Rattle.run_traces.specs.declared.traces.LineTrace.{LineTrace}
@@ -50,19 +50,30 @@ part_at (Some lines) line mark.Acts = []
 
 -- the block that is under way behind it
 abbrev pub block_behind : Block → RanLine → Mark → Block
-block_behind block line mark.Opens = Some []
+block_behind None line mark.Opens = Some []
+block_behind (Some lines) line mark.Opens = Some lines
 block_behind block line mark.Closes = None
 block_behind None line mark.Acts = None
 block_behind (Some lines) line mark.Acts = Some (lines ++ line ∷ [])
 
 abbrev pub parts_from : Block → List RanLine → List (Part RanLine)
-parts_from block [] = []
+parts_from None [] = []
+parts_from (Some lines) [] = Beside lines ∷ []
 parts_from block (line ∷ lines) =
     part_at block line (mark_of line.what) ++ parts_from (block_behind block line (mark_of line.what)) lines
 
 -- the parts of a script whose lines ran
 abbrev pub parts_of : List RanLine → List (Part RanLine)
 parts_of = parts_from None
+
+-- whether a line does more than to begin a block or to end it
+abbrev pub acts_by : Mark → Bool
+acts_by mark.Opens = false
+acts_by mark.Closes = false
+acts_by mark.Acts = true
+
+abbrev pub acts : RanLine → Bool
+acts line = acts_by (mark_of line.what)
 
 -- ---- what a line accepted
 

@@ -1,15 +1,20 @@
 // What holds of every run.
-ghost use Rattle.std.specs.Prelude.{List, [], ◌∷◌, ◌++◌};
+ghost use Rattle.std.specs.Prelude.{◌≡◌, ◌∷◌, ◌++◌, List, [], filter};
 ghost use Rattle.history_book.specs.Histories.{AreFronts};
 ghost use Rattle.mon_config.specs.declared.config.Config.{Config as ConfigOf};
 ghost use Rattle.mon_topo.specs.FirstHistories.{first_histories};
 ghost use Rattle.mon_value.specs.declared.histories.Histories.{Histories};
-ghost use Rattle.run_theory.specs.Parts.{Part};
+ghost use Rattle.run_theory.specs.Parts.{Part, all_lines};
 ghost use Rattle.run_traces.specs.Headline.{RunHolds};
 ghost use Rattle.run_traces.specs.LineClaims.{AllRan, HasWritten};
-ghost use Rattle.run_traces.specs.RanLines.{RanLine};
+ghost use Rattle.run_traces.specs.RanLines.{RanLine, acts, parts_of};
 
 use query_core::traces_stay;
+
+/// The parts of a script hold each line that does more than to begin a block or to end it, once and in order.
+pub fn parts_keep_the_lines()
+    ensures kept { (lines : List RanLine) → all_lines (parts_of lines) ≡ filter acts lines }
+{}
 
 /// No line has run where the caller has seen the first replicas alone. And a part more ran behind the others, where
 /// its lines made and found what they owe over what the script's caller had seen before it and has seen behind it.
