@@ -1,15 +1,19 @@
 //! The store that threads share: callers with numbers of their own write rows to it, read them and meet.
 #![tactic(auto)]
 
+mod blanks;
 mod cells;
+mod filling;
 mod gates;
 mod gathering;
 mod leaves;
+mod opening;
 mod passes;
 mod queries;
 mod stores;
 mod writing;
 
+pub use blanks::StoreBlank;
 pub use gates::{Gate, HoldGate, OpenGate};
 pub use passes::Pass;
 pub use queries::QueryFault;
