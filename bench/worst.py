@@ -160,10 +160,10 @@ def text_that_is_no_query(size):
 # ---- points
 
 def points_of_long_texts(size):
-    """Rows of new series with 15 texts of 1,024 different bytes each."""
+    """Rows of new series with 15 texts of 1,000 different bytes each; few, since each takes seconds so far."""
     config = a_config(text_fields(15), [gauge()])
     cell = lambda row, field: "".join(chr(33 + (row * 7919 + field * 104_729 + at * at * 31 + at) % 90 ) for at in range(1_000)).replace(",", ";").replace('"', "'")
-    return feed(config, rows(f"T,/m,1,1,1,{','.join(cell(row, field) for field in range(15))},e" for row in range(16 * size)))
+    return feed(config, rows(f"T,/m,1,1,1,{','.join(cell(row, field) for field in range(15))},e" for row in range(2 * size)))
 
 
 def points_of_new_series(size):
