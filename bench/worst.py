@@ -11,6 +11,7 @@ of a case has about a megabyte, but for those whose name says how many points th
 import json
 import os
 import pathlib
+import random
 import subprocess
 import sys
 import tempfile
@@ -160,10 +161,12 @@ def text_that_is_no_query(size):
 # ---- points
 
 def points_of_long_texts(size):
-    """Rows of new series with 15 texts of 1,000 different bytes each; few, since each takes seconds so far."""
-    config = a_config(text_fields(15), [gauge()])
-    cell = lambda row, field: "".join(chr(33 + (row * 7919 + field * 104_729 + at * at * 31 + at) % 90 ) for at in range(1_000)).replace(",", ";").replace('"', "'")
-    return feed(config, rows(f"T,/m,1,1,1,{','.join(cell(row, field) for field in range(15))},e" for row in range(2 * size)))
+    """Rows of new series with 15 texts of 1,000 bytes by chance each, over as many buckets as there may be."""
+    config = a_config(text_fields(15), [gauge()], buckets=4_096)
+    letters = [chr(byte) for byte in range(35, 127) if chr(byte) != ","]
+    chance = random.Random(1)
+    texts = lambda: ",".join("".join(chance.choices(letters, k=1_000)) for _ in range(15))
+    return feed(config, rows(f"T,/m,1,1,1,{texts()},e" for _ in range(4 * size)))
 
 
 def points_of_new_series(size):
