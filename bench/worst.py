@@ -5,9 +5,9 @@
 
 A case is one kind of file, or one operation of the query language, at its worst: long texts, wide tables, deep chains,
 many series. For each it prints the processor seconds and the peak memory of the largest run, and by how much the cost
-grew from one size to twice that size, at its worst. Seconds of a run that takes next to none are not compared. At the
-end it names the cases that grow faster than their input, or that take more than SECONDS or MEBIBYTES. The largest input
-of a case has about a megabyte, but for those whose name says how many points they feed."""
+grew from one size to twice that size, at its worst. Seconds of a run that takes next to none are not compared. A star
+marks the cases that grow faster than their input, or that take more than SECONDS or MEBIBYTES, and the last line counts
+them. The largest input of a case has a megabyte at most."""
 import json
 import os
 import pathlib
@@ -107,7 +107,7 @@ def chain(part, count, start="fetch T::/m"):
 
 
 def text_of_conditions(size):
-    return ask(ONE_FIELD, series(100), "fetch T::/m | filter " + " || ".join(f'f0=="{n}"' for n in range(1_200 * size)))
+    return ask(ONE_FIELD, series(100), "fetch T::/m | filter " + " || ".join(f'f0=="{n}"' for n in range(1_000 * size)))
 
 
 def text_of_patterns(size):
@@ -184,7 +184,7 @@ def points_of_three_replicas(size):
 
 
 def points_that_are_refused(size):
-    return feed(ONE_FIELD, rows(f"T,/m,1,1,{number},s,q" for number in range(16_000 * size)))
+    return feed(ONE_FIELD, rows(f"T,/m,1,1,{number},s,q" for number in range(12_000 * size)))
 
 
 def points_of_few_cells(size):
