@@ -8,22 +8,32 @@ use mon_value::MOST_BUCKETS;
 // How many words have a bit for each bucket.
 const WORDS: usize = 64;
 
-/// A set of buckets: a bit for each, on the stack.
+/// A set of buckets: a bit for each, in words of 64, on the stack. Whoever has the set of a series' buckets can go over
+/// them in ascending order without reading the series again.
 #[derive(Drop)]
-pub(crate) struct BucketSet {
-    pub(crate) words: [u64; WORDS],
+pub struct BucketSet {
+    /// The bit of a bucket is that of its remainder by 64, in the word of its quotient.
+    pub words: [u64; WORDS],
 }
 
 impl BucketSet {
     /// The set of no bucket.
-    pub(crate) fn new() -> Self
+    pub fn new() -> Self
         ensures none { is_set result.words ≡ no_bucket }
     {
         BucketSet { words: [0; WORDS] }
     }
 
+    /// Whether a bucket is in the set.
+    pub fn has(&self, bucket: u32) -> bool
+        ensures has { result ≡ is_set self.now.words bucket }
+    {
+        let word = self.words.get((bucket / 64) as usize).copied().unwrap_or(0);
+        (word >> (bucket % 64)) & 1 == 1
+    }
+
     /// Adds a bucket.
-    pub(crate) fn insert(&mut self, bucket: u32)
+    pub fn insert(&mut self, bucket: u32)
         requires { bucket < MOST_BUCKETS }
         ensures added { is_set self.new.words ≡ with_bucket (is_set self.old.words) bucket }
     {
@@ -31,7 +41,7 @@ impl BucketSet {
     }
 
     /// The least bucket at or above a number.
-    pub(crate) fn next(&self, from: u32) -> Option<u32>
+    pub fn next(&self, from: u32) -> Option<u32>
         ensures below { IfSome result (λ bucket. bucket < MOST_BUCKETS) }
         ensures least { IfSome result (λ bucket. IsNext (is_set self.now.words) from bucket) }
         ensures none { IfNone result (HasNone (is_set self.now.words) from) }

@@ -56,8 +56,8 @@ pub fn next_bucket(
     series_set(key, target, metric, buckets).next(from)
 }
 
-// The set of a series' buckets.
-fn series_set(
+/// The set of a series' buckets, among so many, by one pass over its excerpts. No memory is taken.
+pub fn series_set(
     key: &SeriesKey,
     target: &TargetSchema,
     metric: &MetricSchema,

@@ -10,12 +10,13 @@ mod laws;
 mod masks;
 mod places;
 
+pub use bucket_sets::BucketSet;
 pub use excerpts::{
     BACK_MARK, Excerpt, Excerpts, FRONT_MARK, Pieces, excerpts_of, excerpts_of_value,
 };
 pub use fingerprints::{Buckets, bucket_of};
 pub use formulas::{Formula, buckets_of_all};
-pub use hints::{hints_of, next_bucket};
+pub use hints::{hints_of, next_bucket, series_set};
 pub use laws::{formulas_stay_true, patterns_are_in_texts};
 pub use masks::{Words, mask};
 pub use places::Place;
