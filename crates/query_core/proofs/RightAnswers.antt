@@ -225,6 +225,8 @@ module _ (store : Setting) (setting : QuerySetting) (moment : ℤ) (asked : IsAs
       record {
         of = trace_of_histories store setting moment view.seen exit held Anybody trace is
             (λ leaf within. over_sends store setting asked moment from exit.seen held trace so.1 in_zones leaf);
+        since = (trace_fresh store setting moment view.seen exit held Anybody trace is
+            (seen_since store setting moment events view (new_query setting) licensed)).cuts;
         down = is.founds.were_found;
         limit_is = so.0;
         above = above store setting asked moment from exit.seen held trace so.1 in_zones;

@@ -40,7 +40,8 @@ ghost use Rattle.query_core.specs.declared.stages.Stage.TheVariants.{Ended};
 /// evaluated in one place, over the rows of the trace: each target's are those of one replica at one cut of its
 /// leaf's history. The trace is of the histories that were seen; it holds each row that had been acknowledged by the
 /// time of the first event; and a leaf that was not read has no row there that the query wants. The query stops for
-/// its load only where the load over the rows of its trace is above the limit. Where it ends because a range has no
+/// its load only where the load over the rows of its trace is above the limit, and looks at no leaf before the first
+/// event, also at none that it had not come to. Where it ends because a range has no
 /// replica, each slot that served at a length of the range's history that was found in the session is on a leaf of
 /// the range's zone that was found down in it, and all these are named.
 pub fn sessions_answer_rightly()
