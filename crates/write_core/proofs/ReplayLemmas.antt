@@ -5,7 +5,7 @@ use Rattle.std.specs.Map.{lookup}
 use Rattle.std.proofs.lemmas.List.{append-nil, map-append}
 use Rattle.std.proofs.lemmas.List.Elements.{filter-append}
 use Rattle.mon_topo.proofs.RangeHistoryLemmas.{acknowledged_rows-push, serving-push}
-use Rattle.mon_topo.specs.RangeHistories.{acknowledged_rows}
+use Rattle.mon_topo.specs.RangeHistories.{acknowledged_rows, opened_slots}
 use Rattle.mon_value.proofs.SameLemmas.{eq-same_series, same_series-Decides}
 use Rattle.mon_value.specs.Same.{same_series}
 use Rattle.mon_value.specs.Sources.{last_end, points_of, rows_of}
@@ -16,7 +16,7 @@ use Rattle.mon_value.specs.declared.rows.Point.{Point}
 use Rattle.mon_value.specs.declared.rows.Row.{Row}
 use Rattle.mon_value.specs.declared.rows.SeriesKey.{SeriesKey}
 use Rattle.write_core.specs.Replays.{TellsLasts}
-use Rattle.write_core.proofs.OpeningLemmas.{acked-opened, serving-opened}
+use Rattle.write_core.proofs.OpeningLemmas.{acked-opened, opened-acked, opened-opened, serving-opened}
 
 -- ---- the end of the last row of each series
 
@@ -74,4 +74,10 @@ acked_few [] = omega arith
 acked_few (entry.Opened pass slot leaf ∷ history) = let few = acked_few history in omega arith
 acked_few (entry.Acked pass row ack ∷ history) = let few = acked_few history in omega arith
 
-pub ruleset ranges = (serving-opened, serving-push, acked-opened, acknowledged_rows-push)
+-- nor more replicas opened
+pub opened_few : (history : List RangeEntry) → length (opened_slots history) ≤ length history
+opened_few [] = omega arith
+opened_few (entry.Opened pass slot leaf ∷ history) = let few = opened_few history in omega arith
+opened_few (entry.Acked pass row ack ∷ history) = let few = opened_few history in omega arith
+
+pub ruleset ranges = (serving-opened, serving-push, acked-opened, acknowledged_rows-push, opened-opened, opened-acked)

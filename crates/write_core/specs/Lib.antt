@@ -7,6 +7,7 @@ pub mod Going
 pub mod Invariant
 pub mod Marks
 pub mod Noted
+pub mod Openings
 pub mod Phases
 pub mod Program
 pub mod RangeAnswers

@@ -1,21 +1,25 @@
 // The replay of a range's history.
-ghost use Rattle.std.specs.Prelude.{◌≡◌, ◌<◌, ◌^◌, ◌+◌, ◌++◌, ◌∷◌, [], List, filter, length, not, slice_get, IfOk};
+ghost use Rattle.std.specs.Prelude.{◌≡◌, ◌<◌, ◌^◌, ◌+◌, ◌++◌, ◌∷◌, [], List, filter, length, not, slice_get, None, IfOk};
 ghost use Rattle.std.specs.Prelude.{OnErr, OnOk};
 ghost use Rattle.std.specs.List.{list_any};
 ghost use Rattle.indexmap.specs.IndexMap.{spare};
-ghost use Rattle.mon_topo.specs.RangeHistories.{acknowledged_rows, is_missed};
+ghost use Rattle.mon_topo.specs.RangeHistories.{acknowledged_rows, is_missed, is_on, opened_slots, serving};
 ghost use Rattle.mon_topo.specs.Sights.{range_sight};
 ghost use Rattle.mon_value.specs.Positions.{same_leaf};
 ghost use Rattle.mon_value.specs.Sources.{last_end, points_of};
 ghost use Rattle.mon_value.specs.declared.rows.Row as a_row;
 ghost use Rattle.write_core.specs.RangeAnswers.{lock_answer};
-ghost use Rattle.write_core.specs.Replays.{HasAckRoom, TellsLasts};
+ghost use Rattle.mon_topo.specs.declared.limits.TheConstants.{MOST_SLOTS};
+ghost use Rattle.write_core.specs.CopySteps.{next_slot};
+ghost use Rattle.write_core.specs.Openings.{denial_of, denied_by};
+ghost use Rattle.write_core.specs.Replays.{HasAckRoom, HasReplicaRoom, TellsLasts};
 ghost use Rattle.mon_topo.specs.Serving.{first_serving, is_avoided};
 
 use crate::asks::WriteTold;
+use crate::copies::Denial;
 use crate::refusals::Refused;
 use indexmap::IndexMap;
-use mon_topo::RangeSight;
+use mon_topo::{MOST_REPLICAS, MOST_SLOTS, RangeSight};
 use mon_value::{
     Ack, Leaf, Leaves, Miss, OutOfMemory, RangeEntry, RoomListOf, Row, SeriesKey, Shared, Slot,
     SlotLeaf, SlotLeaves,
@@ -26,8 +30,8 @@ use std::marker::Model;
 /// The end of the last row of each series.
 type Lasts = IndexMap<Shared<SeriesKey>, i64>;
 
-/// The replay of a range's history: the replicas that serve, how many rows were acknowledged, and the end of the last
-/// one of each series. Contracts see the history, and the room that was made for more of it.
+/// The replay of a range's history: the replicas that serve, how many were opened, how many rows were acknowledged, and
+/// the end of the last one of each series. Contracts see the history, and the room that was made for more of it.
 #[derive(Drop)]
 pub struct RangeReplay {
     alloc: Global,
@@ -35,10 +39,11 @@ pub struct RangeReplay {
     serving: Vec<SlotLeaf>,
     lasts: Lasts,
     count: u64,
+    opened: u64,
 }
 
 impl Model for RangeReplay {
-    ghost use Rattle.std.specs.Prelude.{◌≡◌, length};
+    ghost use Rattle.std.specs.Prelude.{◌≡◌, ◌-◌, length, vec_capacity};
     ghost use Rattle.indexmap.specs.IndexMap.{spare};
     ghost use Rattle.mon_topo.specs.RangeHistories as histories;
     ghost use Rattle.write_core.specs.Replays.{Replay, TellsLasts};
@@ -49,11 +54,13 @@ impl Model for RangeReplay {
       history = replay.history.items;
       entry_room = replay.history.spare;
       series_room = spare replay.lasts;
+      replica_room = vec_capacity replay.serving - length replay.serving.items;
     } };
 
     ghost invariant = { λ replay. record {
       serve : replay.serving.items ≡ histories.serving replay.history.items;
       count : replay.count ≡ length (histories.acknowledged_rows replay.history.items);
+      opened : replay.opened ≡ length (histories.opened_slots replay.history.items);
       lasts : TellsLasts replay.lasts.entries (histories.acknowledged_rows replay.history.items);
     } };
 }
@@ -69,19 +76,64 @@ impl RangeReplay {
             serving: Vec::new(alloc),
             lasts: Lasts::new(alloc),
             count: 0,
+            opened: 0,
         }
     }
 
     /// A replica is opened on a leaf. Where memory runs out nothing changes.
-    #[tactic(auto, using(crate::proofs::ReplayLemmas::ranges))]
     pub fn open(&mut self, pass: u64, slot: Slot, leaf: Leaf) -> Result<(), OutOfMemory>
         ensures opened { OnOk result (self.new.history ≡ self.old.history ++ RangeEntry.Opened pass slot leaf ∷ []) }
         ensures kept { OnErr result (self.new.history ≡ self.old.history) }
     {
-        self.history.reserve_one()?;
-        self.serving.push(SlotLeaf { slot, leaf })?;
-        self.history.push(RangeEntry::Opened { pass, slot, leaf });
+        self.reserve_replica()?;
+        self.open_in_room(pass, slot, leaf);
         Ok(())
+    }
+
+    /// Makes room for one replica more.
+    pub fn reserve_replica(&mut self) -> Result<(), OutOfMemory>
+        ensures history { self.new.history ≡ self.old.history }
+        ensures room { OnOk result (HasReplicaRoom self.new) }
+    {
+        self.history.reserve_one()?;
+        self.serving.reserve(1)?;
+        Ok(())
+    }
+
+    /// A replica is opened on a leaf, in room that was made before.
+    #[tactic(auto, using(crate::proofs::ReplayLemmas::ranges))]
+    pub fn open_in_room(&mut self, pass: u64, slot: Slot, leaf: Leaf)
+        requires room { HasReplicaRoom self.old }
+        ensures opened { self.new.history ≡ self.old.history ++ RangeEntry.Opened pass slot leaf ∷ [] }
+    {
+        self.serving.push_reserved(SlotLeaf { slot, leaf });
+        self.opened = one_slot_more(self.opened, self.history.as_slice());
+        self.history.push(RangeEntry::Opened { pass, slot, leaf });
+    }
+
+    /// Why no replica is opened on a leaf, if there is a reason.
+    pub fn denial(&self, leaf: Leaf) -> Option<Denial>
+        ensures why { result ≡ denial_of self.now.history leaf }
+    {
+        match first_on(self.serving.as_slice(), leaf) {
+            Some(replica) => Some(Denial::ServesThere(replica.slot)),
+            None => denied_by_count(self.serving.as_slice().len(), self.opened),
+        }
+    }
+
+    /// The slot of the next replica.
+    pub fn next_slot(&self) -> Slot
+        requires free { length (opened_slots self.now.history) < MOST_SLOTS }
+        ensures slot { result ≡ next_slot self.now.history }
+    {
+        Slot(self.opened as u32)
+    }
+
+    /// The replicas that serve.
+    pub fn serving(&self) -> Result<SlotLeaves, OutOfMemory>
+        ensures serve { IfOk result (λ replicas. replicas ≡ serving self.now.history) }
+    {
+        Ok(SlotLeaves::from_vec(self.serving.as_slice().to_vec(self.alloc)?))
     }
 
     /// What a write of a row is told that takes the lock, of a range that holds so many rows at most.
@@ -168,6 +220,41 @@ fn one_more(count: u64, history: &[RangeEntry]) -> u64
     let entries = history.len() as u64;
     prove!(count <= entries);
     count + 1
+}
+
+// One replica more than those that this history opens.
+fn one_slot_more(opened: u64, history: &[RangeEntry]) -> u64
+    requires opened { opened ≡ length (opened_slots history.now) }
+    ensures more { result ≡ opened + 1 }
+{
+    let entries = history.len() as u64;
+    prove!(opened <= entries);
+    opened + 1
+}
+
+// Why no replica more is opened where none serves on the leaf, if there is a reason.
+fn denied_by_count(serve: usize, opened: u64) -> Option<Denial>
+    ensures why { result ≡ denied_by None serve opened }
+{
+    if serve >= MOST_REPLICAS {
+        return Some(Denial::ServesFully);
+    }
+    if opened >= MOST_SLOTS as u64 {
+        return Some(Denial::SlotsSpent(MOST_SLOTS as u64));
+    }
+    None
+}
+
+// The first of these replicas that is on a leaf.
+fn first_on(serving: &[SlotLeaf], leaf: Leaf) -> Option<SlotLeaf>
+    ensures first { result ≡ slice_get (filter (is_on leaf) serving.now) 0 }
+{
+    for replica in serving {
+        if replica.leaf.0 == leaf.0 {
+            return Some(*replica);
+        }
+    }
+    None
 }
 
 // Takes out the replicas that missed a row.

@@ -1,9 +1,10 @@
 use Rattle.std.proofs.Common.{◌≡◌, ◌+◌, ap, sym, subst, ◌∙◌, ◌∷◌, [], length, length-append, rules, to_z, of_z, w64}
 use Rattle.mon_topo.proofs.RangeHistoryLemmas.{acknowledged_rows-push, serving-push}
-use Rattle.mon_topo.specs.RangeHistories.{acknowledged_rows, is_missed, serving}
+use Rattle.mon_topo.specs.RangeHistories.{acknowledged_rows, is_missed, opened_slots, serving}
 use Rattle.mon_value.specs.declared.histories.RangeEntry.{RangeEntry}
 use Rattle.mon_value.specs.declared.positions.SlotLeaf.{SlotLeaf}
 use Rattle.mon_value.specs.declared.rows.Row.{Row}
+use Rattle.write_core.proofs.OpeningLemmas.{opened-acked}
 use Rattle.write_core.specs.Replays.{TellsLasts}
 use Rattle.std.specs.Prelude.{List, filter, not}
 use Rattle.write_core.proofs.replays.RangeReplay.acknowledge.Goals as goal
@@ -27,6 +28,9 @@ invariant_of-self c =
           ∙ sym (length-append rows (row ∷ []))
           ∙ ap length (sym more)
           ∙ ap (λ h. length (acknowledged_rows h)) (sym grown);
+      opened = c.self.invariant.opened
+          ∙ ap length (sym (opened-acked old c.args.pass row c.args.ack))
+          ∙ ap (λ h. length (opened_slots h)) (sym grown);
       lasts = subst (λ (h : List RangeEntry). TellsLasts c.note_last.new.lasts.entries (acknowledged_rows h))
           (sym grown)
           (subst (λ (rs : List Row). TellsLasts c.note_last.new.lasts.entries rs) (sym more)
