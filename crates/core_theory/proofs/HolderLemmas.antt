@@ -43,19 +43,19 @@ holding_reserving round = holding_reserving_by (is_through round) round
 
 -- what holds of holders where one actor and one holder are changed
 module _ (world : World) (i : ℕ) (h : AreHolders world) (new : Actor) where
-  range_kept : ((r : ℕ) → HoldsRange r (world.actors i) → HoldsRange r new) → (r j : ℕ) → world.range_holder r ≡ Some j
+  pub range_kept : ((r : ℕ) → HoldsRange r (world.actors i) → HoldsRange r new) → (r j : ℕ) → world.range_holder r ≡ Some j
       → HoldsRange r (with_value_at world.actors i new j)
   range_kept keeps r j e =
       changed_by world.actors i new (λ k actor. world.range_holder r ≡ Some k → HoldsRange r actor)
       (λ own. keeps r (h.range r i own)) (λ k apart held. h.range r k held) j e
 
-  leaf_kept : ((l : ℕ) → HoldsLeaf l (world.actors i) → HoldsLeaf l new) → (l j : ℕ) → world.leaf_holder l ≡ Some j
+  pub leaf_kept : ((l : ℕ) → HoldsLeaf l (world.actors i) → HoldsLeaf l new) → (l j : ℕ) → world.leaf_holder l ≡ Some j
       → HoldsLeaf l (with_value_at world.actors i new j)
   leaf_kept keeps l j e =
       changed_by world.actors i new (λ k actor. world.leaf_holder l ≡ Some k → HoldsLeaf l actor)
       (λ own. keeps l (h.leaf l i own)) (λ k apart held. h.leaf l k held) j e
 
-  range_changed : (range : ℕ) (holder : Option ℕ) → ((r : ℕ) → r ≢ range → HoldsRange r (world.actors i)
+  pub range_changed : (range : ℕ) (holder : Option ℕ) → ((r : ℕ) → r ≢ range → HoldsRange r (world.actors i)
       → HoldsRange r new)
       → ((j : ℕ) → holder ≡ Some j → (j ≡ i) × HoldsRange range new) → (r j : ℕ)
       → with_value_at world.range_holder range holder r ≡ Some j → HoldsRange r (with_value_at world.actors i new j)
@@ -67,7 +67,7 @@ module _ (world : World) (i : ℕ) (h : AreHolders world) (new : Actor) where
       (λ n apart e. changed_by world.actors i new (λ k actor. world.range_holder n ≡ Some k → HoldsRange n actor)
       (λ own. elsewhere n apart (h.range n i own)) (λ k other held. h.range n k held) j e) r
 
-  leaf_changed : (leaf : ℕ) (holder : Option ℕ) → ((l : ℕ) → l ≢ leaf → HoldsLeaf l (world.actors i) → HoldsLeaf l new)
+  pub leaf_changed : (leaf : ℕ) (holder : Option ℕ) → ((l : ℕ) → l ≢ leaf → HoldsLeaf l (world.actors i) → HoldsLeaf l new)
       → ((j : ℕ) → holder ≡ Some j → (j ≡ i) × HoldsLeaf leaf new) → (l j : ℕ)
       → with_value_at world.leaf_holder leaf holder l ≡ Some j → HoldsLeaf l (with_value_at world.actors i new j)
   leaf_changed leaf holder elsewhere here l j =

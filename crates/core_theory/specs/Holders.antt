@@ -1,8 +1,9 @@
--- Who holds ranges and leaves: only writes do, each its own range, from its lock to its acknowledgement, and the leaf
--- that it is inside of.
+-- Who holds ranges and leaves: only writes and recoveries do, each its own range, from its lock to its acknowledgement,
+-- and the leaf that it is inside of.
 use Rattle.std.specs.Prelude.{ℕ, ◌≡◌, option_map, Option, Some, None}
 use Rattle.mon_value.specs.declared.positions.Leaf.{Leaf}
 use Rattle.write_core.specs.Program.{Acking, Ended, Entering, Inside, Locking, Reserving, Stage}
+use Rattle.write_core.specs.Recovering.{Beginning, Carrying, CopyStage, Copying, Nearing, Over, Telling, Within}
 use Rattle.write_core.specs.Rounds.{first_left}
 use Rattle.write_core.specs.World.{Actor, Recovers, Stands, World, Writes}
 
@@ -24,14 +25,34 @@ IsHolding (Inside round at_root in_zone) = Unit {0}
 IsHolding (Acking verdict) = Unit {0}
 IsHolding (Ended verdict) = ⊥
 
+-- whether a recovery does
+abbrev pub IsCopyHolding : CopyStage → Type 0
+IsCopyHolding Beginning = ⊥
+IsCopyHolding (Copying founds sources) = Unit {0}
+IsCopyHolding (Carrying rows) = Unit {0}
+IsCopyHolding (Nearing rows) = Unit {0}
+IsCopyHolding (Within rows at_root in_zone) = Unit {0}
+IsCopyHolding (Telling outcome) = Unit {0}
+IsCopyHolding (Over outcome) = ⊥
+
+-- whether it is inside of its leaf
+abbrev pub IsCopyInside : CopyStage → Type 0
+IsCopyInside Beginning = ⊥
+IsCopyInside (Copying founds sources) = ⊥
+IsCopyInside (Carrying rows) = ⊥
+IsCopyInside (Nearing rows) = ⊥
+IsCopyInside (Within rows at_root in_zone) = Unit {0}
+IsCopyInside (Telling outcome) = ⊥
+IsCopyInside (Over outcome) = ⊥
+
 abbrev pub HoldsRange : ℕ → Actor → Type 0
 HoldsRange range (Writes writer) = (writer.range.0 ≡ range) × IsHolding writer.stage
-HoldsRange range (Recovers recovery) = ⊥
+HoldsRange range (Recovers recovery) = (recovery.range.0 ≡ range) × IsCopyHolding recovery.stage
 HoldsRange range (Stands stander) = ⊥
 
 abbrev pub HoldsLeaf : ℕ → Actor → Type 0
 HoldsLeaf leaf (Writes writer) = option_map (λ (inside : Leaf). inside.0) (leaf_inside writer.stage) ≡ Some leaf
-HoldsLeaf leaf (Recovers recovery) = ⊥
+HoldsLeaf leaf (Recovers recovery) = (recovery.leaf.0 ≡ leaf) × IsCopyInside recovery.stage
 HoldsLeaf leaf (Stands stander) = ⊥
 
 pub record AreHolders (world : World) : Type 0 where

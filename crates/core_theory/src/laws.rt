@@ -15,7 +15,7 @@ ghost use Rattle.query_core.specs.declared.answers.RoundFault.TheVariants.{NoRep
 ghost use Rattle.query_core.specs.declared.answers.Trace.{Trace as TraceOf};
 ghost use Rattle.query_core.specs.declared.stages.Stage.TheVariants.{Ended};
 ghost use Rattle.core_theory.specs.Core.{CanGoOn, Core, CoreEvent, Reader, core_gone_on, query_now};
-ghost use Rattle.core_theory.specs.FoundDown.{FindsWhatItSays};
+ghost use Rattle.core_theory.specs.FoundDown.{FindsAllDown, FindsWhatItSays, RecoversAsItSays};
 ghost use Rattle.core_theory.specs.Licensed.{IsNewCore, IsReader, IsWoven};
 ghost use Rattle.core_theory.specs.Meetings.{sight_at_leaf, sight_at_range};
 ghost use Rattle.write_core.specs.Invariant.{IsKept};
@@ -61,11 +61,25 @@ pub fn queries_answer_rightly()
 
 /// Whatever goes on, in whatever order: each leaf of which a write that has ended says that its replica there missed
 /// the row, it found down by an event of its own, at that cut. So where no replica took the row, each leaf that the
-/// write names is one that it found down.
+/// write names is one that it found down; and these are the leaves of all replicas that serve, in order.
 pub fn writes_name_what_they_found()
     ensures found { (store : Setting) (core : Core store) (events : List (CoreEvent store)) (i : ℕ)
         → IsNewCore store core → CanGoOn store core events
         → FindsWhatItSays (core_gone_on store core events).world i }
+    ensures all { (store : Setting) (core : Core store) (events : List (CoreEvent store)) (i : ℕ)
+        → IsNewCore store core → CanGoOn store core events → FindsAllDown (core_gone_on store core events).world i }
+{
+    what_is_said_was_noted();
+}
+
+/// Whatever goes on, in whatever order: where a recovery has ended with a slot, its leaf's history opened the replica
+/// with the rows that were acknowledged before, and then its range's history, which is legal. Where it has ended
+/// without one, it has seen what was in its way, and each leaf that it names it found down by an event of its own, at
+/// that cut.
+pub fn recoveries_come_out_rightly()
+    ensures recovered { (store : Setting) (core : Core store) (events : List (CoreEvent store)) (i : ℕ)
+        → IsNewCore store core → CanGoOn store core events
+        → RecoversAsItSays store (core_gone_on store core events).world i }
 {
     what_is_said_was_noted();
 }

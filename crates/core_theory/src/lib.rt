@@ -5,5 +5,5 @@ mod laws;
 
 pub use laws::{
     meetings_see_as_far_as_views, queries_answer_rightly, queries_are_licensed,
-    writes_name_what_they_found,
+    recoveries_come_out_rightly, writes_name_what_they_found,
 };

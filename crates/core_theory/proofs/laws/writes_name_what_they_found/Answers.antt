@@ -1,5 +1,6 @@
-use Rattle.core_theory.proofs.CoreLemmas.{new_woven}
+use Rattle.core_theory.proofs.CoreLemmas.{new_woven, stays_woven}
 use Rattle.core_theory.proofs.EndedLemmas.{finds_all, go_on_finds, new_finds}
+use Rattle.core_theory.proofs.RecoveredLemmas.{finds_all_down}
 use Rattle.core_theory.specs.Core.{core_gone_on}
 use Rattle.core_theory.proofs.laws.writes_name_what_they_found.Goals as goal
 
@@ -11,4 +12,7 @@ returns c =
           finds_all (core_gone_on store core events).world
           (go_on_finds store (said.noted store) core events can (new_woven store core new)
           (new_finds store (said.noted store) (said.begins store) core.world new.world)) i;
+      all = λ store core events i new can.
+          finds_all_down store (core_gone_on store core events).world
+          (stays_woven store core events can (new_woven store core new)).world i;
     }
