@@ -1,7 +1,7 @@
 pub mod AckLemmas
 pub mod BucketLemmas
 pub mod ChangeLemmas
-mod CopyAnswers
+pub mod CopyAnswers
 pub mod CopyAsking
 pub mod CopyEnds
 pub mod CopyPlaces
