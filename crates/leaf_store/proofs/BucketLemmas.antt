@@ -6,12 +6,12 @@ use Rattle.std.proofs.lemmas.Bool.{and_parts}
 use Rattle.std.proofs.lemmas.Bool.Decides.{nat_tests}
 use Rattle.std.proofs.lemmas.List.Concat.{flat_map-append}
 use Rattle.std.proofs.lemmas.Nat.{mod_below}
-use Rattle.mon_hints.specs.BucketSets.{IsNext}
+use Rattle.mon_hints.proofs.TruthLemmas.{or_false}
+use Rattle.mon_hints.specs.BucketSets.{HasNone, IsNext}
 use Rattle.mon_hints.specs.Excerpts.{value_excerpts}
 use Rattle.mon_hints.specs.Fingerprints.{bucket_of, fingerprint_of}
 use Rattle.mon_hints.specs.Hints.{field_buckets, series_buckets, value_buckets}
 use Rattle.mon_hints.specs.Listings.{is_among}
-use Rattle.mon_value.specs.declared.limits.TheConstants.{MOST_BUCKETS}
 use Rattle.mon_schema.specs.SchemaLists.{SchemaLists, metric_named, target_named}
 use Rattle.mon_value.specs.declared.histories.Entry.{Entry}
 use Rattle.mon_value.specs.declared.rows.Row.{Row}
@@ -88,28 +88,40 @@ module _ (buckets bucket : ℕ) (held : SchemaLists) (key : SeriesKey) (some : 0
       key_below (and_parts (is_among bucket (key_buckets buckets held key))
       (not (is_among bucket (history_buckets (key_buckets buckets held) history))) found).0
 
-pub next_among : (found : Option ℕ) (buckets from : ℕ) (target : TargetSchema) (metric : MetricSchema)
-    (key : SeriesKey) → 0 < buckets
-    → IfSome found (λ next. IsNext (λ bucket. is_among bucket (series_buckets buckets target metric key)) from next)
-    → IfSome found (λ bucket. bucket < buckets)
-next_among None buckets from target metric key some least = tt
-next_among (Some next) buckets from target metric key some least =
-    bucket_below buckets next target metric key some least.among
+-- the least of a set that is below a bound
+pub next_within : (found : Option ℕ) (set : ℕ → Bool) (from bound : ℕ) → IfSome found (λ next. IsNext set from next)
+    → ((bucket : ℕ) → set bucket ≡ true → bucket < bound) → IfSome found (λ next. next < bound)
+next_within None set from bound least below = tt
+next_within (Some next) set from bound least below = below next least.among
 
-pub next_below : (found : Option ℕ) (buckets from : ℕ) (target : TargetSchema) (metric : MetricSchema)
-    (key : SeriesKey) → 0 < buckets → buckets ≤ MOST_BUCKETS
-    → IfSome found (λ next. IsNext (λ bucket. is_among bucket (series_buckets buckets target metric key)) from next)
-    → IfSome found (λ bucket. bucket < MOST_BUCKETS)
-next_below None buckets from target metric key some most least = tt
-next_below (Some next) buckets from target metric key some most least =
-    let below = bucket_below buckets next target metric key some least.among in omega (arith, below, most)
+-- ---- the buckets of a series by what is found of its schemas
+
+pub none_without_target : (buckets bucket : ℕ) (held : SchemaLists) (key : SeriesKey)
+    → target_named key.target.schema held.targets ≡ None → is_among bucket (key_buckets buckets held key) ≡ false
+none_without_target buckets bucket held key none =
+    ap (λ (target : Option TargetSchema).
+    is_among bucket (buckets_by buckets target (metric_named key.metric held.metrics) key)) none
+
+pub none_without_metric : (buckets bucket : ℕ) (held : SchemaLists) (key : SeriesKey) (target : TargetSchema)
+    → target_named key.target.schema held.targets ≡ Some target → metric_named key.metric held.metrics ≡ None
+    → is_among bucket (key_buckets buckets held key) ≡ false
+none_without_metric buckets bucket held key target found none =
+    λ i. is_among bucket (buckets_by buckets (found i) (none i) key)
+
+pub found_buckets : (buckets : ℕ) (held : SchemaLists) (key : SeriesKey) (target : TargetSchema) (metric : MetricSchema)
+    → target_named key.target.schema held.targets ≡ Some target
+    → metric_named key.metric held.metrics ≡ Some metric
+    → key_buckets buckets held key ≡ series_buckets buckets target metric key
+found_buckets buckets held key target metric found here = λ i. buckets_by buckets (found i) (here i) key
 
 -- ---- sets that grow
 
--- the buckets of a series below a number are in the set
-abbrev pub AddsBelow : (ℕ → Bool) → (ℕ → Bool) → List ℕ → ℕ → Type 0
-AddsBelow old new buckets from = (bucket : ℕ) → new bucket
-    ≡ (old bucket || (nat_lt bucket from && is_among bucket buckets))
+-- the numbers of a set that are below one came to another set
+abbrev pub AddsBelow : (ℕ → Bool) → (ℕ → Bool) → (ℕ → Bool) → ℕ → Type 0
+AddsBelow old new own from = (bucket : ℕ) → new bucket ≡ (old bucket || (nat_lt bucket from && own bucket))
+
+below_none : (bucket : ℕ) → nat_lt bucket 0 ≡ false
+below_none bucket = grind (arith, nat_tests)
 
 one_more : (bucket next from : ℕ) (old among : Bool) (t1 t2 t3 : Bool) → nat_lt bucket from ≡ t1 → (bucket == next)
     ≡ t2 → nat_lt bucket (next + 1) ≡ t3 →
@@ -129,19 +141,26 @@ one_more bucket next from old among false false true low same high reached here 
     ap (λ b. old || b) (sym none)
 one_more bucket next from old among false false false low same high reached here between = refl
 
-pub adds_next : (old set new : ℕ → Bool) (buckets : List ℕ) (from next : ℕ) → AddsBelow old set buckets from
-    → IsNext (λ bucket. is_among bucket buckets) from next →
-    new ≡ (λ bucket. (bucket == next) || set bucket) → AddsBelow old new buckets (next + 1)
-adds_next old set new buckets from next adds is added bucket =
+pub adds_next : (old set new own : ℕ → Bool) (from next : ℕ) → AddsBelow old set own from → IsNext own from next
+    → new ≡ (λ bucket. (bucket == next) || set bucket) → AddsBelow old new own (next + 1)
+adds_next old set new own from next adds is added bucket =
     ap (λ (f : ℕ → Bool). f bucket) added ∙ ap (λ b. (bucket == next) || b) (adds bucket)
-    ∙ one_more bucket next from (old bucket) (is_among bucket buckets) (nat_lt bucket from) (bucket == next)
+    ∙ one_more bucket next from (old bucket) (own bucket) (nat_lt bucket from) (bucket == next)
     (nat_lt bucket (next + 1)) refl refl refl is.reached
-    (λ same. ap (λ n. is_among n buckets) same ∙ is.among) (is.least bucket)
+    (λ same. ap own same ∙ is.among) (is.least bucket)
 
 all_below : (bucket from : ℕ) (old among : Bool) (t : Bool) → nat_lt bucket from ≡ t → (from ≤ bucket → among ≡ false)
     → (old || (t && among)) ≡ (old || among)
 all_below bucket from old among true below none = refl
 all_below bucket from old among false below none = ap (λ b. old || b) (sym (none (grind (arith, nat_tests))))
+
+pub adds_nothing : (old own : ℕ → Bool) → AddsBelow old old own 0
+adds_nothing old own bucket = sym (ap (λ low. old bucket || (low && own bucket)) (below_none bucket) ∙ or_false (old bucket))
+
+pub adds_all : (old new own : ℕ → Bool) (from : ℕ) → AddsBelow old new own from → HasNone own from
+    → (bucket : ℕ) → new bucket ≡ (old bucket || own bucket)
+adds_all old new own from adds none bucket =
+    adds bucket ∙ all_below bucket from (old bucket) (own bucket) (nat_lt bucket from) refl (none bucket)
 
 -- ---- buckets of rows
 

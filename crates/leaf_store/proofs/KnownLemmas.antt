@@ -1,6 +1,6 @@
 -- A series that a replica has brings no bucket more.
 use Rattle.std.proofs.Common.{◌≡◌, ◌∙◌, ℕ, Bool, true, false, cond, ◌||◌, ◌==◌, Some, None, List, [], ◌∷◌, ◌++◌, map}
-use Rattle.std.proofs.Common.{Option, refl, sym, ap, subst, inl, inr}
+use Rattle.std.proofs.Common.{Option, ℤ, IfSome, not, ◌&&◌, option_map, refl, sym, ap, subst, inl, inr}
 use Rattle.std.specs.Prelude.{is_some}
 use Rattle.std.proofs.lemmas.Bool.{or_left, or_right, or_cases}
 use Rattle.std.proofs.lemmas.List.Concat.{flat_map-append}
@@ -8,6 +8,7 @@ use Rattle.std.proofs.lemmas.List.Folds.{list_any-append}
 use Rattle.mon_hints.proofs.TruthLemmas.{or_false}
 use Rattle.mon_hints.specs.HistoryBuckets.{history_buckets, rows_buckets}
 use Rattle.mon_hints.specs.Listings.{is_among}
+use Rattle.mon_series.specs.declared.kept_rows.KeptSeries.{KeptSeries}
 use Rattle.mon_value.proofs.SameLemmas.{same_series-Decides}
 use Rattle.mon_value.specs.LeafHistories.{brought_rows, entry_rows, is_opened, leaf_rows, replica_rows, same_replica}
 use Rattle.mon_value.specs.Same.{same_series}
@@ -35,6 +36,20 @@ put_series replicas replica row known can is told = (
   can.1,
   sym (ap (λ (held : Option (List Row)). has_row_of row.key (rows_if_kept held)) can.1) ∙ sym is ∙ told,
 )
+
+pub found_known : {X : Type 0} (found : Option X) (Known : Type 0) → IfSome found (λ x. Known) → is_some found ≡ true
+    → Known
+found_known None Known known some = absurd cc
+found_known (Some x) Known known some = known
+
+pub told_of_end : (found : Option KeptSeries) (last : Option ℤ) → option_map (λ found. found.last) found ≡ last
+    → is_some found ≡ is_some last
+told_of_end None last is = ap is_some is
+told_of_end (Some found) last is = ap is_some is
+
+none_left : (own raised : Bool) → (own ≡ true → raised ≡ true) → (own && not raised) ≡ false
+none_left true raised all = ap not (all refl)
+none_left false raised all = refl
 
 module _ (buckets_of : SeriesKey → List ℕ) where
   rows_both : (xs ys : List Row) → rows_buckets buckets_of (xs ++ ys) ≡ rows_buckets buckets_of xs
@@ -141,3 +156,12 @@ module _ (buckets_of : SeriesKey → List ℕ) where
       (sym (among_both bucket (buckets_of row.key) [] ∙ or_false (is_among bucket (buckets_of row.key))) ∙ among)))
   known_adds replicas set (entry.Down pass) holds known bucket = absurd known
   known_adds replicas set (entry.Up pass) holds known bucket = absurd known
+
+  -- no bucket of a series that a replica has is left
+  pub known_left : (replicas : Replicas) (set : ℕ → Bool) (replica : Replica) (key : SeriesKey)
+      → HoldsBuckets replicas buckets_of set → HasSeries replicas replica key → (bucket : ℕ)
+      → (is_among bucket (buckets_of key) && not (set bucket)) ≡ false
+  known_left replicas set replica key holds known bucket =
+      none_left (is_among bucket (buckets_of key)) (set bucket)
+      (λ among. holds replica.range replica.slot known.0 known.1 bucket
+      (series_among key known.0 bucket known.2 among))

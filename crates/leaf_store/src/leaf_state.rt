@@ -1,10 +1,10 @@
 // The state of a leaf.
 ghost use Rattle.std.specs.Prelude.{◌≡◌, ◌++◌, ◌∷◌, ◌-◌, ◌<◌, ◌≤◌, ◌+◌, ◌^◌, Bool, is_some, [], length, take};
-ghost use Rattle.std.specs.Prelude.{drop, false};
+ghost use Rattle.std.specs.Prelude.{drop, false, ℕ};
 ghost use Rattle.std.specs.Prelude.{true, IfOk, IfSome, IfNone, OnOk, OnErr, IsTrue, vec_capacity};
 ghost use Rattle.std.specs.List.{count_by};
 ghost use Rattle.std.specs.Option.{option_copied};
-ghost use Rattle.mon_hints.specs.BucketSets.{HasNone, IsNext};
+ghost use Rattle.mon_hints.specs.BucketSets.{HasNone, IsNext, is_set};
 ghost use Rattle.mon_hints.specs.Listings.{is_among};
 ghost use Rattle.mon_value.specs.LeafHistories.{IsWellFormed, MayFollow, brought_rows, is_down, is_down_after};
 ghost use Rattle.mon_value.specs.LeafHistories.{is_opened, is_switch, replica_rows};
@@ -16,17 +16,17 @@ ghost use Rattle.leaf_store.specs.LeafStates.{with_settled};
 ghost use Rattle.leaf_store.specs.within.Follows.{CanTakeRow};
 
 use crate::kept::{Kept, KeptEntries};
-use crate::raised::{Raised, raise};
+use crate::raised::{add_row, key_set, left_of, raise};
 use crate::replays::{push_all_brought, push_held, rows_kept, settle_entries};
-use crate::replicas::{Replica, Replicas, find_series, is_new, put, rows_of, takes};
+use crate::replicas::{Replica, Replicas, find_next, is_new, put, rows_of, takes};
 use crate::slot_rows::SlotRows;
-use mon_hints::Buckets;
+use mon_hints::{BucketSet, Buckets};
 use mon_schema::Schemas;
 use mon_value::{
     Entry, Leaf, MOST_BUCKETS, MOST_SWITCHES, OutOfMemory, Range, Row, RowList, SeriesKey, Shared,
     Slot, TryCopy,
 };
-use std::alloc::Global;
+use std::alloc::{AllocError, Global};
 use std::marker::Model;
 
 /// The state of a leaf: what it is after its history. Entries come in room that was made for them; those with rows are
@@ -41,7 +41,7 @@ pub struct LeafState {
     fresh: Vec<Entry>,
     moved: usize,
     settled: bool,
-    raised: Raised,
+    raised: BucketSet,
     down: bool,
     switches_left: usize,
     promised: usize,
@@ -85,7 +85,7 @@ impl LeafState {
             fresh: Vec::with_capacity(alloc, MOST_SWITCHES as usize)?,
             moved: 0,
             settled: true,
-            raised: Raised::new(),
+            raised: BucketSet::new(),
             down: false,
             switches_left: MOST_SWITCHES as usize,
             promised: 0,
@@ -94,13 +94,20 @@ impl LeafState {
         })
     }
 
-    /// Promises the place of one entry for a row of a replica. Where memory runs out nothing changes.
+    /// Promises the place of one entry for a row of a replica, and brings all that was applied into the series of their
+    /// replicas, so that few entries ever wait. Where memory runs out nothing changes.
     pub fn reserve(&mut self, range: Range, slot: Slot, _row: &Row) -> Result<(), OutOfMemory>
         requires opened { is_opened range slot self.old.history ≡ true }
-        ensures promised { OnOk result (self.new ≡ with_promised self.old (self.old.promised + 1)) }
+        ensures promised { OnOk result
+            (self.new ≡ with_settled (with_promised self.old (self.old.promised + 1))) }
         ensures kept { OnErr result (self.new ≡ self.old) }
     {
-        self.promise()
+        self.promise()?;
+        if self.settle().is_err() {
+            self.cancel();
+            return Err(AllocError);
+        }
+        Ok(())
     }
 
     /// Promises the place of one entry by which a replica begins with some rows. Where memory runs out nothing changes.
@@ -170,14 +177,37 @@ impl LeafState {
         ensures kept { self.new ≡ self.old }
     {
         let replica = Replica { range, slot };
-        let Some(found) = find_series(&self.replicas, replica, key, self.next) else {
+        let Some(found) = find_next(
+            &self.replicas,
+            replica,
+            key,
+            &mut self.guess,
+            &mut self.next,
+        ) else {
             return None;
         };
-        self.next = found
-            .number
-            .wrapping_add(found.number.wrapping_sub(self.guess));
-        self.guess = found.number;
         Some(found.last)
+    }
+
+    /// Whether a row of a series was brought into its replica's series, so that none of the series' buckets is left to
+    /// raise. Of a replica whose rows all were brought there it tells just which series have a row. A row of a known
+    /// series that comes next finds it without looking it up. No memory is taken.
+    pub fn knows(&mut self, range: Range, slot: Slot, key: &Shared<SeriesKey>) -> bool
+        ensures raised { IsTrue result → (bucket : ℕ) →
+            is_unraised self.old.buckets self.old.schemas self.old.history key.now bucket ≡ false }
+        ensures exact { IsTrue self.old.settled → is_opened range slot self.old.history ≡ true →
+            result ≡ is_some (last_end (points_of key.now (replica_rows range slot self.old.history))) }
+        ensures kept { self.new ≡ self.old }
+    {
+        let replica = Replica { range, slot };
+        let found = find_next(
+            &self.replicas,
+            replica,
+            key,
+            &mut self.guess,
+            &mut self.next,
+        );
+        found.is_some()
     }
 
     /// Whether an entry may come next, whose rows are in the order of their series' points.
@@ -307,8 +337,13 @@ impl LeafState {
         self.kept.reserve_one()?;
         let replica = Replica { range, slot };
         let put = put(self.alloc, &mut self.replicas, replica, row, self.guess)?;
-        self.raised
-            .add_row(&self.schemas, self.buckets, row, put.known);
+        add_row(
+            &mut self.raised,
+            &self.schemas,
+            self.buckets,
+            row,
+            put.known,
+        );
         self.kept.push(Kept::Put {
             pass,
             replica: put.replica,
@@ -338,6 +373,16 @@ impl LeafState {
         Ok(())
     }
 
+    /// The set of a series' buckets that no series of the history has, by one pass over the series. No memory is taken.
+    pub fn unraised_set(&self, key: &SeriesKey) -> BucketSet
+        ensures set { is_set result.words
+            ≡ is_unraised self.now.buckets self.now.schemas self.now.history key.now }
+        ensures below { (bucket : ℕ) → is_set result.words bucket ≡ true → bucket < self.now.buckets }
+    {
+        let own = key_set(&self.schemas, self.buckets, key);
+        left_of(&self.raised, &own)
+    }
+
     /// The least bucket of a series, at or above a number, that no series of the history has. It is one of the leaf's
     /// buckets. No memory is taken.
     pub fn next_unraised(&self, key: &SeriesKey, from: u32) -> Option<u32>
@@ -348,23 +393,17 @@ impl LeafState {
         ensures below { IfSome result (λ next. next < self.now.buckets) }
         ensures small { IfSome result (λ next. next < MOST_BUCKETS) }
     {
-        let Some(target) = self.schemas.target(key.target.schema.as_bytes()) else {
-            return None;
-        };
-        let Some(metric) = self.schemas.metric(key.metric.as_bytes()) else {
-            return None;
-        };
-        self.raised
-            .next_left(key, target, metric, self.buckets, from)
+        self.unraised_set(key).next(from)
     }
 
     /// The buckets of a series that no series of the history has.
     pub fn unraised(&self, alloc: Global, key: &SeriesKey) -> Result<Buckets, OutOfMemory>
         ensures unraised { IfOk result (AreToRaise self.now key.now) }
     {
+        let set = self.unraised_set(key);
         let mut buckets = Buckets::new(alloc);
         let mut from = 0;
-        while let Some(bucket) = self.next_unraised(key, from) {
+        while let Some(bucket) = set.next(from) {
             buckets.push(bucket)?;
             from = bucket + 1;
         }

@@ -86,6 +86,25 @@ pub(crate) fn find_series(
     }
 }
 
+/// The series of a key in a replica, if it has a row there. The number that comes next is guessed first; a series that
+/// is found is the next guess, and the one that is as far from it as it is from the last guess comes next.
+pub(crate) fn find_next(
+    replicas: &Replicas,
+    replica: Replica,
+    key: &Shared<SeriesKey>,
+    guess: &mut u32,
+    next: &mut u32,
+) -> Option<KeptSeries>
+    ensures has { IfSome result (λ found. HasSeries replicas.now.entries replica key.now) }
+    ensures last { option_map (λ found. found.last) result ≡ last_end
+        (points_of key.now (rows_if_kept (rows_held replicas.now.entries replica.range replica.slot))) }
+{
+    let found = find_series(replicas, replica, key, *next)?;
+    *next = found.number.wrapping_add(found.number.wrapping_sub(*guess));
+    *guess = found.number;
+    Some(found)
+}
+
 /// The rows of the replica of a number, where it is a certain one.
 pub(crate) fn own_rows(replicas: &Replicas, number: u32, replica: Replica) -> Option<&SlotRows>
     ensures own { option_copied result

@@ -1,4 +1,4 @@
--- Sets of buckets, and the buckets that are not in one.
+-- How the set of raised buckets grows, and which buckets are left.
 use Rattle.std.specs.Prelude.{◌≡◌, ℕ, Bool, true, not, ◌&&◌, ◌||◌, List, Some}
 use Rattle.mon_hints.specs.HistoryBuckets.{rows_buckets}
 use Rattle.mon_hints.specs.Listings.{is_among}
@@ -21,9 +21,9 @@ AddsBuckets old new buckets = (bucket : ℕ) → new bucket ≡ (old bucket || i
 abbrev pub AddsEntry : ℕ → SchemaLists → Entry → (ℕ → Bool) → (ℕ → Bool) → Type 0
 AddsEntry buckets schemas e old new = AddsBuckets old new (rows_buckets (key_buckets buckets schemas) (brought_rows e))
 
--- whether a bucket of a list is not in a set
-abbrev pub is_left : (ℕ → Bool) → List ℕ → ℕ → Bool
-is_left set buckets bucket = is_among bucket buckets && not (set bucket)
+-- whether a bucket of a set is not in the set of those that are raised
+abbrev pub is_left : (ℕ → Bool) → (ℕ → Bool) → ℕ → Bool
+is_left raised own bucket = own bucket && not (raised bucket)
 
 -- the buckets of the replicas' rows are in a set
 abbrev pub HoldsBuckets : Replicas → (SeriesKey → List ℕ) → (ℕ → Bool) → Type 0

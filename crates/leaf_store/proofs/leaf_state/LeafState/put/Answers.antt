@@ -102,7 +102,7 @@ invariant_of-self-2 c =
     let all : shown_entries new c.push.new.self.items ++ drop moved fresh ≡ history ++ e ∷ [] =
     ap (λ (these : List Kept). shown_entries new these ++ drop moved fresh) pushed ∙ step.1 in
     let set = is_set leaf.raised.words in
-    let more = is_set c.add_row.new.self.words in
+    let more = is_set c.add_row.new.raised.words in
     let buckets_of = key_buckets leaf.buckets leaf.schemas in
     let can = can_put replicas c.args.pass replica c.args.row.now (can_settle replicas ks e [] two) in
     let before = holds_buckets buckets_of replicas set (shown_entries replicas ks) (drop moved fresh) holds.holds

@@ -4,8 +4,8 @@ use Rattle.mon_hints.specs.BucketSets.{is_set}
 use Rattle.mon_hints.specs.HistoryBuckets.{rows_buckets}
 use Rattle.leaf_store.specs.LeafBuckets.{key_buckets}
 use Rattle.leaf_store.specs.within.Raises.{AddsBuckets}
-use Rattle.leaf_store.proofs.raised.Raised.add_rows.Given as goal
+use Rattle.leaf_store.proofs.raised.add_rows.Given as goal
 
 abbrev pub invariant-loop-row : goal.invariant-loop-row
-invariant-loop-row l = AddsBuckets (is_set l.fn.self.words) (is_set l.self.words)
+invariant-loop-row l = AddsBuckets (is_set l.fn.raised.words) (is_set l.raised.words)
     (rows_buckets (key_buckets l.buckets l.schemas) (take l.row-index l.rows))
