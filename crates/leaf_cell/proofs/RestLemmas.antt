@@ -1,5 +1,5 @@
 -- A leaf is at rest again once its caller went, and what was added to its history is raised.
-use Rattle.std.proofs.Common.{◌≡◌, ℕ, ◌-◌, Bool, true, ◌||◌, List, [], ◌∷◌, ◌++◌, append-nil, cond}
+use Rattle.std.proofs.Common.{◌≡◌, ℕ, ◌+◌, ◌-◌, Bool, true, ◌||◌, List, [], ◌∷◌, ◌++◌, append-nil, cond}
 use Rattle.std.proofs.Common.{refl, sym, ap, subst, ◌∙◌}
 use Rattle.history_book.proofs.ListLemmas.{added_here}
 use Rattle.history_book.specs.declared.rooms.RoomMove.{RoomMove}
@@ -91,6 +91,16 @@ module _ (setting : Setting) (raise : RaiseIdentity) (n : ℕ) where
           goes_by = alike state (store.with_promised state (promised_after rooms state.promised)) refl refl
               rest.goes_by;
         }))
+
+    -- the caller went with a room more, and all that was applied is settled
+    pub rests_reserved : (after : store.LeafView) (gone : owners.LeafView)
+        → after ≡ store.with_settled (store.with_promised state (state.promised + 1)) → gone ≡ parted move.Make now
+        → IsAtRest setting raise n after gone
+    rests_reserved after gone after_is gone_is =
+        let reserved : store.LeafView = store.with_promised state (state.promised + 1) in
+        subst (λ (s : store.LeafView). IsAtRest setting raise n s gone) (sym after_is)
+        (rests_read reserved (store.with_settled reserved) gone (rests_gone move.Make reserved gone refl gone_is)
+        (record { schemas = refl; buckets = refl; history = refl; promised = refl }))
 
     -- an entry without rows was added
     pub rests_switched : (e : Entry) → is_switch e ≡ true → brought_rows e ≡ [] → (after : store.LeafView)

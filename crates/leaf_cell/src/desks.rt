@@ -11,6 +11,7 @@ ghost use Rattle.leaf_cell.specs.Rest.{GoesBy, IsAtRest};
 ghost use Rattle.leaf_cell.specs.Visits.{HasCopied, HasGathered, HasVisited};
 ghost use Rattle.leaf_store.specs.LeafBuckets.{is_unraised};
 ghost use Rattle.leaf_store.specs.LeafStates.{leaf_with_entry};
+ghost use Rattle.mon_hints.specs.BucketSets.{is_set};
 ghost use Rattle.mon_hints.specs.Covers.{IsRaised};
 ghost use Rattle.mon_topo.specs.HeldHistories.{AreAtHome};
 ghost use Rattle.mon_topo.specs.Settings.{zone_of_leaf};
@@ -23,13 +24,13 @@ ghost use Rattle.owners.specs.Entries.{LeadsOn};
 ghost use Rattle.owners.specs.Puts.{MayPut, pass_of};
 ghost use Rattle.owners.specs.Receiving.{HasGone};
 
-use crate::raising::raise_left;
+use crate::raising::raise_at;
 use crate::readers::LeafReader;
 use history_book::{NewEntry, RoomMove};
 use know::{Copied, Found, Know, Names, Tables};
 use leaf_store::{Entry, LeafState};
-use mon_hints::Place;
-use mon_value::{OutOfMemory, Range, Row, RowList, SeriesKey, Slot};
+use mon_hints::{BucketSet, Place};
+use mon_value::{OutOfMemory, Range, Row, RowList, SeriesKey, Shared, Slot};
 use owners::LeafOwner;
 use std::alloc::AllocError;
 use std::marker::Brand;
@@ -107,7 +108,7 @@ impl<N: Names> LeafDesk<N> {
             self.owner.part(tables, know, RoomMove::TakeBack);
             return Found::Down(length);
         }
-        self.raise_row(tables, &row.key);
+        self.raise_unknown(tables, range, slot, &row.key);
         self.enter::<Brand>(
             tables,
             Entry::Put {
@@ -121,7 +122,31 @@ impl<N: Names> LeafDesk<N> {
         Found::Up
     }
 
-    /// Raises what the history lacks of a series' buckets: at the root, and then in the leaf's zone.
+    // Raises what the history lacks of the buckets of a row's series. It lacks none where the state knows the series.
+    fn raise_unknown(
+        &mut self,
+        tables: &Tables<N>,
+        range: Range,
+        slot: Slot,
+        key: &Shared<SeriesKey>,
+    )
+        requires goes_by { GoesBy N.setting N.raise self.old.state }
+        ensures raised { HasRaisedRow (is_unraised self.old.state.buckets self.old.state.schemas self.old.state.history
+            key.now) self.old.owner.hints self.new.owner.hints }
+        ensures leads { (bucket : ℕ) → is_unraised self.old.state.buckets self.old.state.schemas self.old.state.history
+            key.now bucket ≡ true → IsRaised (known_bits N.setting self.new.owner.hints.hints)
+            (zone_of_leaf N.setting self.new.owner.leaf) self.new.owner.leaf bucket }
+        ensures book { self.new.owner.book ≡ self.old.owner.book }
+        ensures leaf { self.new.owner.leaf ≡ self.old.owner.leaf }
+        ensures state { self.new.state ≡ self.old.state }
+    {
+        if self.state.knows(range, slot, key) {
+            return;
+        }
+        self.raise_row(tables, key);
+    }
+
+    /// Raises what the history lacks of a series' buckets.
     pub(crate) fn raise_row(&mut self, tables: &Tables<N>, key: &SeriesKey)
         requires goes_by { GoesBy N.setting N.raise self.old.state }
         ensures raised { HasRaisedRow (is_unraised self.old.state.buckets self.old.state.schemas self.old.state.history
@@ -133,9 +158,24 @@ impl<N: Names> LeafDesk<N> {
         ensures leaf { self.new.owner.leaf ≡ self.old.owner.leaf }
         ensures state { self.new.state ≡ self.old.state }
     {
-        raise_left(tables, &mut self.owner, &self.state, Place::Root, key);
+        let set = self.state.unraised_set(key);
+        self.raise_set(tables, &set);
+    }
+
+    // Raises the buckets of a set: at the root, and then in the leaf's zone.
+    fn raise_set(&mut self, tables: &Tables<N>, set: &BucketSet)
+        requires below { (bucket : ℕ) → is_set set.now.words bucket ≡ true → bucket < N.raise.buckets }
+        ensures raised { HasRaisedRow (is_set set.now.words) self.old.owner.hints self.new.owner.hints }
+        ensures leads { (bucket : ℕ) → is_set set.now.words bucket ≡ true
+            → IsRaised (known_bits N.setting self.new.owner.hints.hints)
+            (zone_of_leaf N.setting self.new.owner.leaf) self.new.owner.leaf bucket }
+        ensures book { self.new.owner.book ≡ self.old.owner.book }
+        ensures leaf { self.new.owner.leaf ≡ self.old.owner.leaf }
+        ensures state { self.new.state ≡ self.old.state }
+    {
+        raise_at(tables, &mut self.owner, Place::Root, set);
         let zone = self.owner.zone();
-        raise_left(tables, &mut self.owner, &self.state, Place::Zone(zone), key);
+        raise_at(tables, &mut self.owner, Place::Zone(zone), set);
     }
 
     /// An entry goes in, to which the raised bits lead: it is appended to the owner's history under the guest's number,

@@ -1,6 +1,6 @@
 use Rattle.std.proofs.Common.{◌≡◌, [], refl, rules, sym, ap, ◌∙◌}
 use Rattle.history_book.specs.declared.rooms.RoomMove.TheVariants as move
-use Rattle.leaf_cell.proofs.RestLemmas.{rests_gone}
+use Rattle.leaf_cell.proofs.RestLemmas.{rests_gone, rests_reserved}
 use Rattle.mon_topo.proofs.FrontLemmas.{begins_to}
 use Rattle.mon_value.proofs.LeafHistoryLemmas.{is_opened-append}
 use Rattle.mon_value.specs.Histories.{leaf_history}
@@ -67,9 +67,9 @@ pub returns-clause-rest : goal.returns-clause-rest
 returns-clause-rest g c =
     let state = c.args.self.now.state in
     let owner = c.args.self.now.owner in
-    rests_gone g.N.Names.setting g.N.RaiseName.raise owner.leaf.0 state owner c.receive-length.new.self
-    c.args.know.now c.receive-length.result c.requires.rest c.receive-length.ensures.received move.Make
-    c.reserve.new.self c.part-2.new.self (search rules) c.part-2.ensures.parted
+    rests_reserved g.N.Names.setting g.N.RaiseName.raise owner.leaf.0 state owner c.receive-length.new.self
+    c.args.know.now c.receive-length.result c.requires.rest c.receive-length.ensures.received c.reserve.new.self
+    c.part-2.new.self (search rules) c.part-2.ensures.parted
 
 pub returns-clause-reserved : goal.returns-clause-reserved
 returns-clause-reserved g c =
