@@ -25,6 +25,7 @@ use Rattle.leaf_store.specs.LeafLists.{IsChanged}
 use Rattle.script_store.specs.within.Leaves.{AllKeep, AreLeavesOpened, HasEntry, Keeps, MayComeToLeaf, histories}
 use Rattle.script_store.specs.within.Leaves.{is_on_leaf}
 use Rattle.script_store.specs.within.Leaves.{is_slot_before, leaf_of, nowhere, opened_slot_before, with_promise}
+use Rattle.script_store.specs.within.Leaves.{with_room}
 use Rattle.script_store.specs.within.Leaves as store
 
 -- ---- leaves that change
@@ -113,6 +114,10 @@ more_behind leaf last old mid new same changed =
 pub promise_keeps : (leaf : Leaf) (old new : List LeafView) → IsChanged leaf with_promise old new → histories new
     ≡ histories old
 promise_keeps leaf old new changed = histories_kept leaf with_promise old new changed (λ state. refl)
+
+pub room_keeps : (leaf : Leaf) (old new : List LeafView) → IsChanged leaf with_room old new → histories new
+    ≡ histories old
+room_keeps leaf old new changed = histories_kept leaf with_room old new changed (λ state. refl)
 
 may_by : (last : Entry) (o : Option LeafView) → IfSome o (λ state. IsWellFormed (state.history ++ last ∷ []))
     → IfSome (option_map with_promise o) (MayComeToLeaf last)

@@ -25,7 +25,7 @@ use Rattle.script_store.proofs.KeepLemmas.{all_alike, all_put}
 use Rattle.leaf_store.specs.LeafLists.{IsChanged}
 use Rattle.script_store.specs.within.Leaves.{AllKeep, AreReplicasAlike, HasEntry, MayComeToLeaf, Untouched}
 use Rattle.script_store.specs.within.Leaves.{first_replica_rows}
-use Rattle.script_store.specs.within.Leaves.{histories, is_on_leaf, leaf_of, with_promise, with_replica_row}
+use Rattle.script_store.specs.within.Leaves.{histories, is_on_leaf, leaf_of, with_room, with_replica_row}
 use Rattle.script_store.specs.within.Leaves.{with_row_from}
 
 abbrev slot_at : ℕ → Slot
@@ -176,10 +176,10 @@ apart_later (x ∷ xs) (suc n) leaf distinct at =
     ap (λ k. list_any (λ (other : Leaf). nat_eq leaf.0 other.0) (drop k (x ∷ xs))) place
     ∙ apart_later xs n leaf (IsDistinct-tail same_leaf x xs distinct) at
 
-promised : (o : Option LeafView) (state : LeafView) → option_map with_promise o ≡ Some state → 1 ≤ state.promised
+promised : (o : Option LeafView) (state : LeafView) → option_map with_room o ≡ Some state → 1 ≤ state.promised
 promised None state e = absurd cc
 promised (Some before) state e =
-    let is : with_promise before ≡ state = cc in
+    let is : with_room before ≡ state = cc in
     subst (λ (s : LeafView). 1 ≤ s.promised) is (omega arith)
 
 -- a put may come where room was made, and later replicas have the row
@@ -187,7 +187,7 @@ pub may_put : (zones : List ZoneSpec) (rows : Range → List Row) (old reserved 
     (place : ℕ) (leaf : Leaf) (row : Row)
     → AllKeep (leaf_of zones) (with_row_from rows range (place + 1) row) (histories mid) → leaf_of zones range
     (slot_at place) ≡ Some leaf
-    → IsSource (rows range ++ row ∷ []) → IsChanged leaf with_promise old reserved → slice_get mid leaf.0
+    → IsSource (rows range ++ row ∷ []) → IsChanged leaf with_room old reserved → slice_get mid leaf.0
     ≡ slice_get reserved leaf.0
     → IfSome (slice_get mid leaf.0) (MayComeToLeaf (entry.Put 0 range (slot_at place) row))
 may_put zones rows old reserved mid range place leaf row keep at source changed same =
@@ -202,7 +202,7 @@ may_put zones rows old reserved mid range place leaf row keep at source changed 
             (source_at (rows range) row (same_range range range) (nat_le (place + 1) place) (not_le place) source),
       );
       promised = λ e. promised (slice_get old leaf.0) state
-          (sym (changed leaf.0 ∙ ap (λ b. cond b (option_map with_promise (slice_get old leaf.0))
+          (sym (changed leaf.0 ∙ ap (λ b. cond b (option_map with_room (slice_get old leaf.0))
           (slice_get old leaf.0)) (eq_itself leaf.0)) ∙ sym same ∙ there);
     })
 

@@ -204,7 +204,7 @@ impl LeafStates {
         self.states[leaf.0 as usize].apply(entry);
     }
 
-    // Makes room for a row of a replica on a leaf.
+    // Makes room for a row of a replica on a leaf, and settles what came before it.
     fn reserve(
         &mut self,
         leaf: Leaf,
@@ -216,7 +216,7 @@ impl LeafStates {
         requires opened { IfSome (slice_get self.old.states.items leaf.0)
             (λ state. is_opened range slot state.history ≡ true) }
         ensures count { length self.new.states.items ≡ length self.old.states.items }
-        ensures promised { OnOk result (IsChanged leaf spec.with_promise self.old.states.items self.new.states.items) }
+        ensures promised { OnOk result (IsChanged leaf spec.with_room self.old.states.items self.new.states.items) }
         ensures kept { OnErr result (self.new.states.items ≡ self.old.states.items) }
     {
         self.states[leaf.0 as usize].reserve(range, slot, row)

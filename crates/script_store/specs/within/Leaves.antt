@@ -14,7 +14,7 @@ use Rattle.mon_value.specs.declared.values.Value.TheVariants as value
 use Rattle.mon_topo.specs.declared.zones.ZoneSpec.{ZoneSpec}
 use Rattle.mon_value.specs.Positions.{range_numbered, same_range}
 use Rattle.mon_topo.specs.Zones.{first_replicas, leaves_in}
-use Rattle.leaf_store.specs.LeafStates.{LeafView, with_promised}
+use Rattle.leaf_store.specs.LeafStates.{LeafView, with_promised, with_settled}
 
 -- ---- rows in the order in which they came
 
@@ -100,6 +100,10 @@ Untouched n leaves old new = list_any (λ leaf. nat_eq n leaf.0) leaves ≡ fals
 -- a leaf has room for one entry more
 abbrev pub with_promise : LeafView → LeafView
 with_promise leaf = with_promised leaf (leaf.promised + 1)
+
+-- a leaf that has room for a row more, and whose rows all are in their series
+abbrev pub with_room : LeafView → LeafView
+with_room leaf = with_settled (with_promise leaf)
 
 -- what an entry must be to come to a leaf
 pub record MayComeToLeaf (entry : Entry) (leaf : LeafView) : Type 0 where

@@ -5,7 +5,7 @@ use Rattle.mon_value.specs.declared.histories.Entry.TheVariants as entry
 use Rattle.mon_topo.specs.Zones.{first_replicas}
 use Rattle.script_store.specs.within.Leaves.{AllKeep, HasEntry, MayComeToLeaf, first_replica_rows, histories, leaf_of}
 use Rattle.script_store.specs.within.Leaves.{with_row_from}
-use Rattle.script_store.proofs.OpenLemmas.{histories_more, histories_put, promise_keeps, replica_there}
+use Rattle.script_store.proofs.OpenLemmas.{histories_more, histories_put, replica_there, room_keeps}
 use Rattle.script_store.proofs.PutLemmas.{alike_kept, apart_later, is_there, may_put, put_more, put_none, untouched_first}
 use Rattle.script_store.proofs.PutLemmas.{either_way, may_follow, none_there, untouched_rest, whatever_fails, where_ok}
 use Rattle.leaf_store.specs.LeafStates.{LeafView}
@@ -31,7 +31,7 @@ reserve-requires-clause-opened t c =
 
 pub returns-in_err-own-clause-kept : goal.returns-in_err-own-clause-kept
 returns-in_err-own-clause-kept t c =
-    whatever_fails c.from_residual-in_err-own.result _ (promise_keeps c.in-Some.leaf c.args.self.now.states.items
+    whatever_fails c.from_residual-in_err-own.result _ (room_keeps c.in-Some.leaf c.args.self.now.states.items
     c.reserve.new.self.states.items c.in_ok-reserve.ensures.promised)
 
 pub returns-in_err-own-clause-others : goal.returns-in_err-own-clause-others
@@ -51,7 +51,7 @@ pub put-requires : goal.put-requires
 put-requires t c =
     let old = c.args.self.now.states.items in
     let mid = c.reserve.new.self.states.items in
-    let same = promise_keeps c.in-Some.leaf old mid c.in_ok-reserve.ensures.promised in
+    let same = room_keeps c.in-Some.leaf old mid c.in_ok-reserve.ensures.promised in
     let within = slice_get_within (first_replicas c.args.topology.now c.args.range.0) c.args.slot c.in-Some.leaf
     (sym c.leaf_at.ensures.leaf ∙ c.in-Some.is) in (
       omega arith,
@@ -71,7 +71,7 @@ put-requires t c =
 pub returns-in_err-put-clause-kept : goal.returns-in_err-put-clause-kept
 returns-in_err-put-clause-kept t c =
     whatever_fails c.from_residual-in_err-put.result _ (c.in_err-put.ensures.kept
-    ∙ promise_keeps c.in-Some.leaf c.args.self.now.states.items c.reserve.new.self.states.items
+    ∙ room_keeps c.in-Some.leaf c.args.self.now.states.items c.reserve.new.self.states.items
     c.in_ok-reserve.ensures.promised)
 
 pub returns-in_err-put-clause-others : goal.returns-in_err-put-clause-others
@@ -98,7 +98,7 @@ apply-requires-clause-may t c =
     let mid = c.reserve.new.self.states.items in
     let new = c.put.new.self.states.items in
     let at = sym c.leaf_at.ensures.leaf ∙ c.in-Some.is in
-    let same = promise_keeps c.in-Some.leaf old mid c.in_ok-reserve.ensures.promised in
+    let same = room_keeps c.in-Some.leaf old mid c.in_ok-reserve.ensures.promised in
     let keep = subst (λ h. AllKeep (leaf_of zones) (with_row_from (first_replica_rows h) c.args.range (c.args.slot + 1)
     c.args.row.now) (histories new)) same c.in_ok-put.ensures.put in
     subst (λ row. IfSome (slice_get new c.in-Some.leaf.0)
@@ -117,7 +117,7 @@ returns-clause-put t c =
     let put = c.put.new.self.states.items in
     let new = c.apply.new.self.states.items in
     let at = sym c.leaf_at.ensures.leaf ∙ c.in-Some.is in
-    let same = promise_keeps c.in-Some.leaf old mid c.in_ok-reserve.ensures.promised in
+    let same = room_keeps c.in-Some.leaf old mid c.in_ok-reserve.ensures.promised in
     let keep = subst (λ h. AllKeep (leaf_of zones) (with_row_from (first_replica_rows h) c.args.range (c.args.slot + 1)
     c.args.row.now) (histories put)) same c.in_ok-put.ensures.put in
     let more = subst (λ row. HasEntry c.in-Some.leaf (entry.Put 0 c.args.range (record { 0 = c.args.slot }) row)
