@@ -28,7 +28,8 @@ pub(crate) fn write_answer(text: &mut String, setting: &CaseSetting, given: &str
     add_replicas(text, setting.alloc, &leaves, replicas)
 }
 
-// Two states of the same history: one that is settled only where a line says so, and one that is before each entry.
+// Two states of the same history: one that is settled only where a line says so or a row is put, and one that is before
+// each entry.
 #[derive(Drop)]
 struct Leaves {
     late: LeafState,
