@@ -11,9 +11,13 @@ use Rattle.core_theory.proofs.HolderLemmas.{leaf_changed, leaf_kept, range_chang
 use Rattle.core_theory.specs.Holders.{AreHolders, HoldsLeaf, HoldsRange, IsCopyHolding, IsCopyInside}
 use Rattle.write_core.specs.CopySteps.{CanCopy, CanCopyAt, CanRecover, after_copy_event, copied_in, copy_at, copy_of}
 use Rattle.write_core.specs.CopySteps.{copy_step, newcomer, next_slot, told_range}
-use Rattle.write_core.specs.Recovering.{Admits, Beginning, Carrying, CopyStage, CopyTold, Copying, Denies, Gives}
-use Rattle.write_core.specs.Recovering.{HasRoom, Nearing, Opens, Outcome, Over, Sources, Telling, WasDone, WasDown}
-use Rattle.write_core.specs.Recovering.{WasOpened, Within, copied_after, copying, found_on}
+use Rattle.write_core.specs.Recovering.{Beginning, Carrying, CopyStage, Copying, Nearing, Over, Telling, Within}
+use Rattle.write_core.specs.Recovering.{copied_after, copying, found_on}
+use Rattle.write_core.specs.declared.copies.CopyTold.{CopyTold}
+use Rattle.write_core.specs.declared.copies.CopyTold.TheVariants.{Admits, Denies, Gives, HasRoom, Sources, WasDone}
+use Rattle.write_core.specs.declared.copies.CopyTold.TheVariants.{WasDown, WasOpened}
+use Rattle.write_core.specs.declared.copies.Outcome.{Outcome}
+use Rattle.write_core.specs.declared.copies.Outcome.TheVariants.{Opens}
 use Rattle.write_core.specs.Steps.{same_view}
 use Rattle.write_core.specs.World.{Actor, Recovers, Recovery, World, at_leaf, at_range, recovers_on}
 

@@ -12,7 +12,9 @@ use Rattle.write_core.proofs.KeptLemmas.{ended_unavailable, over_comes_out}
 use Rattle.write_core.proofs.StepLemmas.{recovery_of}
 use Rattle.write_core.specs.Invariant.{ComesOut, IsKept, IsRecovery}
 use Rattle.write_core.specs.Noted.{AreNoted, CopySo, FoundsSo, HasNoted, IsNotedBy, OutcomeSo}
-use Rattle.write_core.specs.Recovering.{CopyStage, Denied, NoSource, NoTarget, Opens, Outcome, Over}
+use Rattle.write_core.specs.Recovering.{CopyStage, Over}
+use Rattle.write_core.specs.declared.copies.Outcome.{Outcome}
+use Rattle.write_core.specs.declared.copies.Outcome.TheVariants.{Denied, NoSource, NoTarget, Opens}
 use Rattle.write_core.specs.World.{Actor, Recovers, Recovery, World}
 
 module _ (setting : Setting) (world : World) (i : ℕ) (view : View) (within : IsViewWithin view world.truth) where

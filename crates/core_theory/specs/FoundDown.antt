@@ -10,7 +10,8 @@ use Rattle.write_core.specs.Invariant.{ComesOut, HaveFound}
 use Rattle.write_core.specs.Marks.{found_in_mark, some_took}
 use Rattle.write_core.specs.Noted.{HasNoted, MarkSo, OutcomeSo}
 use Rattle.write_core.specs.Program.{Ended, Marked}
-use Rattle.write_core.specs.Recovering.{Outcome, Over}
+use Rattle.write_core.specs.Recovering.{Over}
+use Rattle.write_core.specs.declared.copies.Outcome.{Outcome}
 use Rattle.write_core.specs.World.{Recovers, Recovery, World, Writer, Writes}
 use Rattle.write_core.specs.declared.marks.Mark.{Mark}
 
