@@ -1,12 +1,15 @@
 -- Every event of every actor keeps the invariant.
-use Rattle.std.proofs.Common.{◌≡◌, ◌<◌, ℕ, true, Some, None, List, [], ◌∷◌, refl, sym, ap, subst, ◌∙◌}
+use Rattle.std.proofs.Common.{◌≡◌, ◌<◌, ℕ, true, false, Some, None, List, [], ◌∷◌, refl, sym, ap, subst, ◌∙◌}
 use Rattle.std.specs.Prelude.{Contains}
+use Rattle.std.specs.List.{flat_map}
 use Rattle.mon_value.specs.declared.histories.RangeEntry.TheVariants as range_entry
 use Rattle.mon_value.specs.declared.positions.Slot.{Slot}
 use Rattle.write_core.specs.Deeds.{HasDone}
-use Rattle.write_core.specs.Invariant.{ComesOut, HasCause, IsAcked, IsAcking, IsAcknowledged, IsActor, IsAt, IsCopyAt}
-use Rattle.write_core.specs.Invariant.{IsEntering, IsInFirst, IsKept, IsNewWorld, IsNewActor, IsRecovered, IsReserving}
-use Rattle.write_core.specs.Marks.{ack_of, some_took}
+use Rattle.mon_topo.specs.RangeHistories.{serving}
+use Rattle.write_core.specs.Invariant.{ComesOut, HasCause, HaveFound, IsAcked, IsAcking, IsAcknowledged, IsActor, IsAt}
+use Rattle.write_core.specs.Invariant.{IsCopyAt, IsEntering, IsInFirst, IsKept, IsNewWorld, IsNewActor, IsRecovered}
+use Rattle.write_core.specs.Invariant.{IsReserving}
+use Rattle.write_core.specs.Marks.{ack_of, found_in_mark, some_took}
 use Rattle.write_core.specs.Program.{Acking, Ended, Entering, Inside, Locking, Marked, Not, Reserving, Stage, Verdict}
 use Rattle.write_core.specs.Program.{after}
 use Rattle.write_core.specs.Steps.{CanComeAt, CanEnter, CanGo, CanReserve, IsToldByRange, with_acknowledgement}
@@ -226,7 +229,7 @@ module _ (setting : Setting) (world : World) (i : ℕ) (writer : Writer) (kept :
       let held = own.part.sound.held in
       let at : IsAcked writer (Marked marks) = subst (λ (stage : Stage). IsAt setting world i writer stage) ended
       own.at in
-      let found : Contains (of_range writer.view writer.range) entry = at took in
+      let found : Contains (of_range writer.view writer.range) entry = at.0 took in
       let here = get_there (of_range writer.view writer.range) found.0 entry found.1 found.2 in
       let there = subst (λ (n : ℕ). writer.range.0 < n) (kept.truth.held.all_ranges ∙ sym held.all_ranges)
       own.lawful.there in
@@ -236,6 +239,15 @@ module _ (setting : Setting) (world : World) (i : ℕ) (writer : Writer) (kept :
         there = here;
         borne_out = (held.borne_out writer.range there).borne_out found.0 entry here;
       }
+
+  -- one that none took has found down the leaf of each replica that serves
+  pub ended_unavailable : (marks : List Mark) → writer.stage ≡ Ended (Marked marks) → some_took marks ≡ false
+      → HaveFound writer.view (serving (of_range writer.view writer.range)) (flat_map found_in_mark marks)
+  ended_unavailable marks ended none =
+      let own = writer_of setting world i writer kept is in
+      let at : IsAcked writer (Marked marks) = subst (λ (stage : Stage). IsAt setting world i writer stage) ended
+      own.at in
+      at.1 none
 
   -- the histories have just what a write has done
   pub has_done : HasDone world.truth writer writer.stage

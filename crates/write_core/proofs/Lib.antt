@@ -22,4 +22,5 @@ pub mod RoundLemmas
 pub mod StageLemmas
 pub mod StepLemmas
 pub mod SwitchLemmas
+mod UnavailableLemmas
 pub mod ViewLemmas

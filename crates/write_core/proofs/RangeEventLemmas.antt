@@ -2,6 +2,7 @@
 use Rattle.std.proofs.Common.{◌≡◌, ℕ, zero, suc, ◌<◌, Bool, true, false, not, cond, Some, None, List, [], ◌∷◌, ◌++◌}
 use Rattle.std.proofs.Common.{length, map, refl, sym, ap, subst, ◌∙◌, arith, inl, inr}
 use Rattle.std.specs.Prelude.{Contains}
+use Rattle.std.specs.List.{flat_map}
 use Rattle.std.proofs.lemmas.Bool.{both_ways, cases_Bool}
 use Rattle.std.proofs.lemmas.List.{length-set, take_at}
 use Rattle.std.proofs.lemmas.List.Elements.{Contains-push}
@@ -19,9 +20,9 @@ use Rattle.mon_topo.specs.HeldHistories.{BeginsWith, IsBorneOut, IsMissed, IsTak
 use Rattle.mon_topo.specs.RangeHistories as range_spec
 use Rattle.mon_topo.specs.RangeHistories.{acknowledged_rows, is_missed, opened_slots, serving}
 use Rattle.write_core.specs.Deeds.{HasDone}
-use Rattle.write_core.specs.Invariant.{HasMissed, HasRows, HasSeen, HasTaken, IsDecided, IsUnopened, IsKept, IsMark}
-use Rattle.write_core.specs.Invariant.{IsRefused, IsRangeSettled, IsWriter, is_decided, is_waiting, rows_after}
-use Rattle.write_core.specs.Marks.{ack_of, has_taken, replica_of, some_took, waiting}
+use Rattle.write_core.specs.Invariant.{HasMissed, HasRows, HasSeen, HasTaken, HaveFound, IsDecided, IsUnopened}
+use Rattle.write_core.specs.Invariant.{IsKept, IsMark, IsRefused, IsRangeSettled, IsWriter, is_decided, is_waiting, rows_after}
+use Rattle.write_core.specs.Marks.{ack_of, found_in_mark, has_taken, replica_of, some_took, waiting}
 use Rattle.write_core.specs.Program.{Acking, Ended, Locking, Marked, Not, Stage, reserving}
 use Rattle.write_core.specs.Rounds.{round_of}
 use Rattle.write_core.specs.Steps.{with_acknowledgement, same_view}
@@ -34,6 +35,7 @@ use Rattle.write_core.specs.declared.marks.Mark.{Mark}
 use Rattle.write_core.specs.declared.refusals.Refused.{Refused}
 use Rattle.write_core.proofs.AckLemmas.{all_map_from, contains_filter, contains_map, is_named_missed, missed_in, named}
 use Rattle.write_core.proofs.AckLemmas.{none_took, some_taken, taken_in, took_from}
+use Rattle.write_core.proofs.CopyAsking.{found_moves}
 use Rattle.write_core.proofs.ChangeLemmas.{range_entry_sound, range_entry_up, range_entry_within}
 use Rattle.write_core.proofs.DeedLemmas.{acks_stay, anothers_ack, done_acked, done_locked, done_none}
 use Rattle.write_core.proofs.MeetLemmas as meet
@@ -44,6 +46,7 @@ use Rattle.mon_topo.proofs.RangeHistoryLemmas.{serving-push}
 use Rattle.write_core.proofs.OpeningLemmas.{opened-acked}
 use Rattle.write_core.proofs.StageLemmas.{at_reserving}
 use Rattle.write_core.proofs.StepLemmas.{IsStep, ChangesRange, write_at_range, writer_of}
+use Rattle.write_core.proofs.UnavailableLemmas.{all_found}
 use Rattle.write_core.proofs.ViewLemmas.{within_itself}
 
 some_is_not_none : (i : ℕ) → Some i ≡ None → ⊥
@@ -168,12 +171,18 @@ module _ (setting : Setting) (world : World) (i : ℕ) (who : Writer) (is : worl
       fresh = at.going.fresh;
     }
 
+    -- and the leaf of each one that serves was found down
+    all_asked : some_took marks ≡ false → HaveFound met (serving (of_range met r)) (flat_map found_in_mark marks)
+    all_asked none = found_moves who.view met met_up (serving (of_range met r)) (flat_map found_in_mark marks)
+        (all_found world who marks (serving (of_range met r)) (at.going.serve ∙ ap serving (sym met_whole))
+        at.going.each at.decided none)
+
     ack_none : some_took marks ≡ false → IsStep setting world (at_range world i who.view r same_view None
         (writes_on who stage))
     ack_none none =
         write_at_range setting world i who is kept r same_view None stage quiet_range (inr at.going.holds.holder)
         (λ x. settled_none none)
-        (λ some. absurd (both_ways (some_took marks) none some))
+        (λ some. absurd (both_ways (some_took marks) none some), λ x. all_asked none)
         (done_none world.truth who marks none deeds)
 
     -- ---- some replica took it
@@ -348,9 +357,11 @@ module _ (setting : Setting) (world : World) (i : ℕ) (who : Writer) (is : worl
       ack_some =
           write_at_range setting world i who is kept r (with_range_entry r e) None stage changes
           (inr at.going.holds.holder)
-          (λ x. settled_then)
-          (λ x. subst (λ (history : List RangeEntry). Contains history e)
-          (sym (range_entry_same met.seen r e there_met)) (Contains-push (of_range met r) e))
+          (λ x. settled_then) (
+            λ x. subst (λ (history : List RangeEntry). Contains history e)
+                (sym (range_entry_same met.seen r e there_met)) (Contains-push (of_range met r) e),
+            λ none. absurd (both_ways (some_took marks) none some),
+          )
           (done_acked world.truth who marks some there_truth deeds)
 
     pub ack_marked : IsStep setting world (at_range world i who.view r (with_acknowledgement who (Marked marks)) None

@@ -1,7 +1,7 @@
 -- What every interleaving of writes and recoveries keeps.
 use Rattle.std.specs.Prelude.{ℕ, suc, ◌≡◌, ◌<◌, ◌≤◌, ◌||◌, Bool, true, false, List, [], ◌∷◌, ◌++◌, length, map}
 use Rattle.std.specs.Prelude.{slice_get, Some, None, Contains, if◌then◌else◌}
-use Rattle.std.specs.List.{AllByRecursion}
+use Rattle.std.specs.List.{AllByRecursion, flat_map}
 use Rattle.mon_hints.specs.Listings.{is_among}
 use Rattle.mon_value.specs.LeafHistories.{IsDownAt, is_down, is_opened, replica_rows}
 use Rattle.mon_value.specs.Sources.{IsSource}
@@ -19,7 +19,7 @@ use Rattle.mon_hints.specs.HistoryBuckets.{rows_buckets}
 use Rattle.write_core.specs.CopySteps.{IsDeniedFor, MayOpen, copy_of, new_replica, next_slot}
 use Rattle.write_core.specs.Recovering.{Beginning, Carrying, CopyStage, Copying, Denied, Nearing, NoSource, NoTarget}
 use Rattle.write_core.specs.Recovering.{Opens, Outcome, Over, Telling, Within}
-use Rattle.write_core.specs.Marks.{ack_of, is_ready, has_taken, replica_of, some_took}
+use Rattle.write_core.specs.Marks.{ack_of, found_in_mark, is_ready, has_taken, replica_of, some_took}
 use Rattle.write_core.specs.Program.{Acking, Ended, Entering, Inside, Locking, Marked, Not, Reserving, Stage, Verdict}
 use Rattle.write_core.specs.Rounds.{Round, round_marks}
 use Rattle.write_core.specs.Deeds.{HasDone, IsUnused}
@@ -173,13 +173,21 @@ abbrev pub IsAcking : World → ℕ → Setting → Writer → Verdict → Type 
 IsAcking world i setting writer (Not why) = IsRefused world i writer
 IsAcking world i setting writer (Marked marks) = IsDecided world i setting writer marks
 
--- an ended write that some replica took has seen its acknowledgement in its range's history
+-- the leaves of these replicas were found down, in their order
+pub record HaveFound (view : View) (replicas : List SlotLeaf) (founds : List FoundDown) : Type 0 where
+  pub leaves : map (λ found. found.leaf) founds ≡ map (λ replica. replica.leaf) replicas
+  pub down : AllByRecursion (λ found. IsDownAt (of_leaf view found.leaf) found.cut) founds
+
+-- an ended write that some replica took has seen its acknowledgement in its range's history; one that none took has
+-- found down the leaf of each replica that serves
 abbrev pub IsAcked : Writer → Verdict → Type 0
 IsAcked writer (Not why) = Unit {0}
 IsAcked writer (Marked marks) =
-    some_took marks ≡ true
+    (some_took marks ≡ true
     → Contains (of_range writer.view writer.range)
-    (range_entry.Acked writer.pass writer.row (ack_of writer.range marks))
+    (range_entry.Acked writer.pass writer.row (ack_of writer.range marks)))
+    × (some_took marks ≡ false
+    → HaveFound writer.view (serving (of_range writer.view writer.range)) (flat_map found_in_mark marks))
 
 -- what holds of a write that is so far
 abbrev pub IsAt : Setting → World → ℕ → Writer → Stage → Type 0
@@ -236,11 +244,6 @@ pub record HasOpened (setting : Setting) (world : World) (i : ℕ) (recovery : R
       (of_leaf recovery.view recovery.leaf)) (acknowledged_rows (of_range world.truth recovery.range))
   pub entered : Contains (of_leaf recovery.view recovery.leaf)
       (copy_of recovery (of_range world.truth recovery.range) (acknowledged_rows (of_range world.truth recovery.range)))
-
--- the leaves of these replicas were found down, in their order
-pub record HaveFound (view : View) (replicas : List SlotLeaf) (founds : List FoundDown) : Type 0 where
-  pub leaves : map (λ found. found.leaf) founds ≡ map (λ replica. replica.leaf) replicas
-  pub down : AllByRecursion (λ found. IsDownAt (of_leaf view found.leaf) found.cut) founds
 
 -- of the replicas that serve it has asked some, whose leaves were down, and is to ask the others
 pub record IsAskingSources (world : World) (recovery : Recovery) (founds : List FoundDown) (sources : List SlotLeaf)

@@ -1,6 +1,7 @@
 // A recovery on its way: what it does next, what it is told of that, and how it comes out.
 ghost use Rattle.std.specs.Prelude.{◌≡◌, IfOk, OnErr, drop};
-ghost use Rattle.write_core.specs.CopyPhases.{CopyEndsSo, copy_ask_of, copy_stage_of};
+ghost use Rattle.std.specs.Option.{option_copied};
+ghost use Rattle.write_core.specs.CopyPhases.{CopyEndsSo, copy_ask_of, copy_stage_of, rows_copied};
 ghost use Rattle.write_core.specs.declared.copies.CopyAsk.TheVariants.{Finished};
 ghost use Rattle.write_core.specs.Recovering as spec;
 ghost use Rattle.write_core.specs.Recovering.{Beginning, Copying, SaysDown, copied_after};
@@ -173,6 +174,18 @@ impl CopyMachine {
             }
             CopyPhase::Telling(_) => CopyAsk::Ack,
             CopyPhase::Over(_) => CopyAsk::Finished,
+        }
+    }
+
+    /// The rows that it has copied, until its replica is opened with them.
+    pub fn rows(&self) -> Option<&RowList>
+        ensures rows { option_copied result ≡ rows_copied self.now }
+    {
+        match &self.phase {
+            CopyPhase::Carrying(rows) => Some(rows),
+            CopyPhase::Nearing(rows) => Some(rows),
+            CopyPhase::Within(rows, _, _, _) => Some(rows),
+            _ => None,
         }
     }
 

@@ -1,6 +1,6 @@
 // What holds of every write, and of any writes side by side.
 ghost use Rattle.std.specs.Prelude.{◌≡◌, ◌<◌, ◌≤◌, ℕ, true, false, List, length};
-ghost use Rattle.std.specs.List.{list_any};
+ghost use Rattle.std.specs.List.{flat_map, list_any};
 ghost use Rattle.mon_topo.specs.RangeHistories.{IsInZoneOf, is_on, opened_slots, serving};
 ghost use Rattle.mon_topo.specs.Zones.{first_replicas};
 ghost use Rattle.mon_topo.specs.declared.limits.TheConstants.{MOST_REPLICAS, MOST_SLOTS};
@@ -8,14 +8,14 @@ ghost use Rattle.mon_value.specs.declared.histories.RangeEntry.{RangeEntry};
 ghost use Rattle.write_core.specs.CopySteps.{IsDeniedFor, MayOpen};
 ghost use Rattle.write_core.specs.Deeds.{HasDone};
 ghost use Rattle.write_core.specs.Courses.{EndsDecided, Leg, RunsItsCourse, after_all};
-ghost use Rattle.write_core.specs.Invariant.{ComesOut, IsAcknowledged, IsKept, IsNewWorld};
-ghost use Rattle.write_core.specs.Marks.{some_took};
+ghost use Rattle.write_core.specs.Invariant.{ComesOut, HaveFound, IsAcknowledged, IsKept, IsNewWorld};
+ghost use Rattle.write_core.specs.Marks.{found_in_mark, some_took};
 ghost use Rattle.write_core.specs.Noted.{AreNoted};
 ghost use Rattle.write_core.specs.Program.{Ended, Locking, Marked};
 ghost use Rattle.write_core.specs.Events.{CanRun, Event, after_events};
 ghost use Rattle.mon_topo.specs.Settings.{Setting};
 ghost use Rattle.write_core.specs.Recovering.{Denial, Outcome, Over};
-ghost use Rattle.mon_topo.specs.Views.{View, joined_view};
+ghost use Rattle.mon_topo.specs.Views.{View, joined_view, of_range};
 ghost use Rattle.write_core.specs.World.{IsPart, Recovers, Recovery, World, Writer, Writes};
 ghost use Rattle.write_core.specs.declared.asks.WriteTold.{WriteTold};
 ghost use Rattle.write_core.specs.declared.marks.Mark.{Mark};
@@ -56,10 +56,11 @@ pub fn what_is_said_was_noted()
 /// Whichever writes and recoveries go on, in whatever order, and whatever they are told, while leaves go down and
 /// come up, the invariant stays; it holds before any of them has begun; what someone has seen stays a sound part of
 /// the truth, also together with what another one has; a write that has ended, and that some replica took, stands
-/// acknowledged in a legal history; and the histories have one put of a write for each replica that took its row, on
-/// that replica's leaf and on no other, and one acknowledgement once it ended, if some replica took the row. A
-/// recovery that opened its replica has that in a legal history, and the replica's leaf took over the rows that were
-/// acknowledged before; any other has seen what was in its way.
+/// acknowledged in a legal history, and one that none took has found down the leaf of each replica that serves; and the
+/// histories have one put of a write for each replica that took its row, on that replica's leaf and on no other, and
+/// one acknowledgement once it ended, if some replica took the row. A recovery that opened its replica has that in a
+/// legal history, and the replica's leaf took over the rows that were acknowledged before; any other has seen what was
+/// in its way.
 pub fn writes_keep_the_invariant()
     ensures begins { (setting : Setting) (world : World) → IsNewWorld setting world → IsKept setting world }
     ensures stays { (setting : Setting) (world : World) (events : List Event) → CanRun setting world events
@@ -72,6 +73,10 @@ pub fn writes_keep_the_invariant()
     ensures ended { (setting : Setting) (world : World) (i : ℕ) (writer : Writer) → IsKept setting world
         → world.actors i ≡ Writes writer → (marks : List Mark) → writer.stage ≡ Ended (Marked marks)
         → some_took marks ≡ true → IsAcknowledged setting writer marks }
+    ensures unavailable { (setting : Setting) (world : World) (i : ℕ) (writer : Writer) → IsKept setting world
+        → world.actors i ≡ Writes writer → (marks : List Mark) → writer.stage ≡ Ended (Marked marks)
+        → some_took marks ≡ false
+        → HaveFound writer.view (serving (of_range writer.view writer.range)) (flat_map found_in_mark marks) }
     ensures deeds { (setting : Setting) (world : World) (i : ℕ) (writer : Writer) → IsKept setting world
         → world.actors i ≡ Writes writer → HasDone world.truth writer writer.stage }
     ensures recovered { (setting : Setting) (world : World) (i : ℕ) (recovery : Recovery) → IsKept setting world
