@@ -4,7 +4,8 @@ use Rattle.std.proofs.Math.Seq.{take-length}
 use Rattle.std.proofs.lemmas.List.{take-append-le}
 use Rattle.history_book.specs.declared.rooms.RoomMove.TheVariants as move
 use Rattle.know.specs.Knowledge.{Knowledge, after_handing, stopped_count}
-use Rattle.leaf_cell.specs.Visits.{HasCopiedUp, HasGathered, HasReadUp}
+use Rattle.leaf_cell.specs.Visits.{HasGathered, HasReadUp}
+use Rattle.owners.specs.Copies.{HasCopiedUp}
 use Rattle.mon_topo.proofs.FrontLemmas.{begins_to}
 use Rattle.mon_topo.specs.HeldHistories.{BeginsWith}
 use Rattle.mon_value.specs.Histories.{leaf_history}

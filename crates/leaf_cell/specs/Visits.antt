@@ -1,8 +1,6 @@
 -- What a look at a leaf gives its caller.
 use Rattle.std.specs.Prelude.{◌≡◌, ℕ, ◌+◌, false, List, [], length, take}
 use Rattle.know.specs.Knowledge.{Knowledge, stopped_count}
-use Rattle.know.specs.declared.answers.Copied.{Copied}
-use Rattle.know.specs.declared.answers.Copied.TheVariants as copied
 use Rattle.know.specs.declared.answers.Found.{Found}
 use Rattle.know.specs.declared.answers.Found.TheVariants as found
 use Rattle.leaf_store.specs.LeafStates as store
@@ -45,18 +43,3 @@ pub record HasGathered (leaf : Leaf) (range : Range) (slot : Slot) (cut : ℕ) (
   pub called : HasCalled leaf history [] before after
   pub rooms_are : after.purse.rooms ≡ before.purse.rooms
   pub handed : after.handed ≡ stopped_count (before.handed + length rows)
-
--- The leaf was up, and the rows of a replica in its whole history were handed out
-pub record HasCopiedUp (leaf : Leaf) (range : Range) (slot : Slot) (rows : List Row) (before after : Knowledge)
-    : Type 0 where
-  pub history : List Entry
-  pub up : is_down history ≡ false
-  pub rows_are : rows ≡ replica_rows range slot history
-  pub called : HasCalled leaf history [] before after
-  pub rooms_are : after.purse.rooms ≡ before.purse.rooms
-  pub handed : after.handed ≡ stopped_count (before.handed + length rows)
-
--- by the answer
-abbrev pub HasCopied : Leaf → Range → Slot → Copied → Knowledge → Knowledge → Type 0
-HasCopied leaf range slot (copied.Rows rows) before after = HasCopiedUp leaf range slot rows before after
-HasCopied leaf range slot (copied.Down cut) before after = HasFoundDown leaf cut before.purse.rooms before after

@@ -4,12 +4,13 @@ ghost use Rattle.history_book.specs.Seats.{hand_of, times_room, without_one};
 ghost use Rattle.know.specs.Knowledge.{Knowledge};
 ghost use Rattle.know.specs.Sound.{IsSound};
 ghost use Rattle.leaf_cell.specs.Controls.{HasControlled};
-ghost use Rattle.leaf_cell.specs.Visits.{HasCopied, HasGathered, HasVisited};
+ghost use Rattle.leaf_cell.specs.Visits.{HasGathered, HasVisited};
 ghost use Rattle.mon_value.specs.LeafHistories.{is_opened};
 ghost use Rattle.mon_value.specs.Histories.{leaf_history};
 ghost use Rattle.mon_value.specs.Positions.{leaf_numbered};
 ghost use Rattle.mon_value.specs.declared.histories.Entry.TheVariants as entry;
 ghost use Rattle.owners.specs.Calls.{HasLooked, HasPut, HasReserved};
+ghost use Rattle.owners.specs.Copies.{HasCopied};
 ghost use Rattle.owners.specs.Openings.{HasOpened, MayOpen};
 ghost use Rattle.owners.specs.Puts.{MayPut, pass_of};
 

@@ -1,4 +1,5 @@
 pub mod Calls
+pub mod Copies
 pub mod Entries
 pub mod Openings
 pub mod Owners

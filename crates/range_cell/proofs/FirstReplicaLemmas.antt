@@ -38,7 +38,7 @@ pub length-openings : (slot : ℕ) (leaves : List Leaf) → length (openings_fro
 length-openings slot [] = refl
 length-openings slot (leaf ∷ leaves) = ap suc (length-openings (slot + 1) leaves)
 
-opened_count : (slot : ℕ) (leaves : List Leaf) → length (opened_slots (openings_from slot leaves)) ≡ length leaves
+pub opened_count : (slot : ℕ) (leaves : List Leaf) → length (opened_slots (openings_from slot leaves)) ≡ length leaves
 opened_count slot [] = refl
 opened_count slot (leaf ∷ leaves) = ap suc (opened_count (slot + 1) leaves)
 

@@ -9,3 +9,6 @@ pub mod MeetingLemmas
 pub mod EndingLemmas
 pub mod NewRangeLemmas
 pub mod FirstReplicaLemmas
+pub mod LookingLemmas
+pub mod ReplicaLemmas
+pub mod HoldingLemmas

@@ -17,12 +17,13 @@ use Rattle.know.specs.Lending.{back_with, lent_seat, without_purse}
 use Rattle.know.specs.Sound.{IsSound}
 use Rattle.mon_topo.proofs.HeldLemmas.{range_same}
 use Rattle.mon_topo.specs.HeldHistories.{AreHeld}
-use Rattle.mon_topo.specs.RangeHistories.{acknowledged_rows}
+use Rattle.mon_topo.specs.RangeHistories.{acknowledged_rows, opened_slots}
 use Rattle.mon_topo.specs.Settings.{Setting}
 use Rattle.mon_topo.specs.Zones.{ranges_in}
 use Rattle.mon_value.specs.Histories.{joined_histories, leaf_history, range_history}
 use Rattle.mon_value.specs.declared.histories.Histories.{Histories}
 use Rattle.mon_value.specs.declared.histories.RangeEntry.{RangeEntry}
+use Rattle.mon_value.specs.declared.positions.Leaf.{Leaf}
 use Rattle.mon_value.specs.declared.positions.Range.{Range}
 use Rattle.mon_value.specs.declared.positions.SlotLeaf.{SlotLeaf}
 use Rattle.owners.proofs.EntryLemmas.{range_pushed, same_opened, same_range_entry, same_rows}
@@ -34,7 +35,7 @@ use Rattle.range_cell.proofs.RestLemmas.{more_held, others_rest, taken_back}
 use Rattle.range_cell.specs.Answers.{takes, takes_so}
 use Rattle.range_cell.specs.Calls.{HasAnswered, HasBegun, HasCome, HasEntered, HasMetRange, MayEnter}
 use Rattle.range_cell.specs.Calls.{parted_owner}
-use Rattle.range_cell.specs.Rest.{HasJust, HaveJust, IsRangeAtRest, IsRangeHeld, others}
+use Rattle.range_cell.specs.Rest.{AreUnopened, HasJust, HaveJust, IsRangeAtRest, IsRangeHeld, others}
 use Rattle.write_core.specs.Replays.{Replay}
 use Rattle.write_core.specs.declared.asks.WriteTold.{WriteTold}
 use Rattle.write_core.specs.declared.asks.WriteTold.TheVariants as told
@@ -50,6 +51,14 @@ just_same range mine theirs replica history about was = record {
   all = same_rows range replica.slot (leaf_history mine replica.leaf) (leaf_history theirs replica.leaf) about
       ∙ was.all;
 }
+
+-- and which leaves have none of its replicas
+pub unopened_same : (range : Range) (mine theirs : Histories) (from : ℕ)
+    → ((leaf : Leaf) → filter (leaf_entry_is_about range) (leaf_history mine leaf)
+    ≡ filter (leaf_entry_is_about range) (leaf_history theirs leaf))
+    → AreUnopened theirs range from → AreUnopened mine range from
+unopened_same range mine theirs from about was slot leaf past =
+    same_opened range slot (leaf_history mine leaf) (leaf_history theirs leaf) (about leaf) ∙ was slot leaf past
 
 -- a replay with other room, of the same history
 pub rest_as : (n : ℕ) (owner : RangeView) (replay other : Replay) → other.history ≡ replay.history
@@ -124,9 +133,12 @@ module _ (leaves : ℕ) (know : Knowledge) (owner now : RangeView) (own : owner.
   -- what the replicas have, as the owner knew it
   module _ (replay : Replay) (rest : IsRangeAtRest owner.range.0 replay owner) where
     pub rows_kept : HaveJust joined owner.range replay.history
-    rows_kept replica there =
-        just_same owner.range joined owner.book.seen replica replay.history
-        (came.kept owner.range replica.leaf rest.holds) (rest.rows replica there)
+    rows_kept = record {
+      rows = λ replica there. just_same owner.range joined owner.book.seen replica replay.history
+          (came.kept owner.range replica.leaf rest.holds) (rest.rows.rows replica there);
+      fresh = unopened_same owner.range joined owner.book.seen (length (opened_slots replay.history))
+          (λ leaf. came.kept owner.range leaf rest.holds) rest.rows.fresh;
+    }
 
     -- it went, and the range is at rest again
     pub rests : (back : RangeView) → back ≡ parted_owner false now → IsRangeAtRest owner.range.0 replay back
@@ -199,9 +211,12 @@ module _ (leaves : ℕ) (know : Knowledge) (owner now : RangeView) (own : owner.
     -- what the replicas have, as the caller knew it
     pub rows_brought : (history : List RangeEntry) → HaveJust know.seen owner.range history
         → HaveJust joined owner.range history
-    rows_brought history rows replica there =
-        just_same owner.range joined know.seen replica history (came.held owner.range replica.leaf holds)
-        (rows replica there)
+    rows_brought history rows = record {
+      rows = λ replica there. just_same owner.range joined know.seen replica history
+          (came.held owner.range replica.leaf holds) (rows.rows replica there);
+      fresh = unopened_same owner.range joined know.seen (length (opened_slots history))
+          (λ leaf. came.held owner.range leaf holds) rows.fresh;
+    }
 
     abbrev held_then : List Range
     held_then = held_after false owner.book.history owner.book.held know.purse.holds
@@ -280,9 +295,14 @@ module _ (leaves : ℕ) (know : Knowledge) (owner now : RangeView) (own : owner.
         where
           rows_grown : (history : List RangeEntry) → HaveJust know.seen owner.range history
               → HaveJust grown owner.range history
-          rows_grown history has replica there =
-              let was = rows_brought history has replica there in
-              record { opened = was.opened; all = was.all }
+          rows_grown history has =
+              let was = rows_brought history has in
+              record {
+                rows = λ replica there.
+                    let one = was.rows replica there in
+                    record { opened = one.opened; all = one.all };
+                fresh = was.fresh;
+              }
 
       entered_with : (hints : Hints) → hints.notes ≡ []
           → HasEntered leaves owner.range replay.history e know

@@ -31,7 +31,7 @@ use Rattle.range_cell.proofs.MeetingLemmas.{holds_then, now_is, only_then, rows_
 use Rattle.range_cell.specs.Calls.{HasCome, parted_owner}
 use Rattle.range_cell.specs.NewRanges.{HasOpenedFirst, added_all, after_entries, kept_with_entries, new_range_of}
 use Rattle.range_cell.specs.NewRanges.{purse_with_entries, with_entries}
-use Rattle.range_cell.specs.Rest.{HaveJust, IsRangeAtRest, IsRangeHeld, others}
+use Rattle.range_cell.specs.Rest.{AreUnopened, HaveJust, IsRangeAtRest, IsRangeHeld, others}
 use Rattle.write_core.specs.Replays.{Replay}
 
 -- ---- entries one after another
@@ -166,16 +166,17 @@ module _ (r : Range) where
 -- a range to which nothing happened is at rest
 pub rests_new : (range : Range) (known : Hints) (book : Owner) (replay : Replay) → book.history ≡ of.Range range
     → book.guest ≡ None → 0 < times_range range book.held → others range book.held ≡ []
-    → range_history book.seen range ≡ [] → replay.history ≡ []
+    → range_history book.seen range ≡ [] → AreUnopened book.seen range 0 → replay.history ≡ []
     → IsRangeAtRest range.0 replay (range_owner range known book)
-rests_new range known book replay own free holds only none empty = record {
+rests_new range known book replay own free holds only none fresh empty = record {
   range_is = refl;
   own = own;
   free = free;
   holds = holds;
   only = only;
   history = none ∙ sym empty;
-  rows = subst (HaveJust book.seen range) (sym empty) (λ replica there. absurd (omega (arith, there.1)));
+  rows = subst (HaveJust book.seen range) (sym empty)
+      (record { rows = λ replica there. absurd (omega (arith, there.1)); fresh = fresh });
 }
 
 module _ (leaves : ℕ) (know : Knowledge) (owner now : RangeView) (own : owner.book.history ≡ of.Range owner.range)
@@ -219,9 +220,13 @@ module _ (leaves : ℕ) (know : Knowledge) (owner now : RangeView) (own : owner.
           only = only_then leaves know owner now own came replay held holds;
           history = whole ∙ sym grown;
           rows = subst (HaveJust (with_entries owner.range es joined) owner.range) (sym grown)
-              (λ replica there.
-              let was = rows_brought leaves know owner now own came replay held holds es rows replica there in
-              record { opened = was.opened; all = was.all });
+              (let was = rows_brought leaves know owner now own came replay held holds es rows in
+              record {
+                rows = λ replica there.
+                    let one = was.rows replica there in
+                    record { opened = one.opened; all = one.all };
+                fresh = was.fresh;
+              });
         })
 
     front_by : (other : Range)

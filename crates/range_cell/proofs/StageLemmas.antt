@@ -8,7 +8,7 @@ use Rattle.std.proofs.lemmas.Bool.{cond_both}
 use Rattle.history_book.proofs.ListLemmas.{prefix_trans}
 use Rattle.history_book.proofs.PurseLemmas.{room_taken}
 use Rattle.history_book.specs.Seats.{length_note, times_range, times_room, without_one}
-use Rattle.range_cell.proofs.CallLemmas.{rows_stay}
+use Rattle.range_cell.proofs.CallLemmas.{opened_stay, rows_stay}
 use Rattle.history_book.specs.declared.views.Kept.{Kept}
 use Rattle.know.specs.Knowledge.{Knowledge}
 use Rattle.know.specs.declared.answers.Found.{Found}
@@ -348,6 +348,7 @@ module _ (range : Range) (row : Row) (pass : ℕ) (rows : List Row) (before : Kn
           fronts = w.fronts;
           number = w.number;
           held = w.held;
+          opened = w.opened;
           each = subst (AllByRecursion (λ (x : SlotLeaf). HasRows know range x.slot x.leaf rows)) serve
               (rows_of know marks w.each has);
           own = w.own ∙ same_own (with_puts pass range row marks) (puts_nothing pass range row marks none) before.purse.own;
@@ -636,6 +637,7 @@ module _ (range : Range) (pass : ℕ) (rows : List Row) (before : Knowledge) (re
     fronts = w.fronts;
     number = w.number;
     held = w.held;
+    opened = w.opened;
     each = w.each;
     own = w.own;
     rooms = λ l.
@@ -663,6 +665,8 @@ module _ (range : Range) (pass : ℕ) (rows : List Row) (before : Knowledge) (re
     );
     number = ap (option_map (λ (kept : Kept). kept.number)) (looked.called.own ∙ mapped_id old.purse.own) ∙ w.number;
     held = subst (λ holds. 0 < times_range range holds) (sym looked.called.holds) w.held;
+    opened = λ slot l. opened_stay mark.leaf looked.history [] old new looked.called range w.held (λ s. refl) slot l
+        ∙ w.opened slot l;
     each = stay replicas w.each;
     own = looked.called.own ∙ mapped_id old.purse.own ∙ w.own;
     rooms = λ l.

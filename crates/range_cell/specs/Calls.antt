@@ -68,13 +68,19 @@ pub record HasMetRange (leaves : ℕ) (range : Range) (holds : List Range) (befo
 abbrev pub others_of : Range → Knowledge → List Range
 others_of range know = others range know.purse.holds
 
+-- The range came back as it was
+pub record HasGivenBack (leaves : ℕ) (range : Range) (history : List RangeEntry) (before after : Knowledge)
+    : Type 0 where
+  pub met : HasMetRange leaves range (others_of range before) before after
+  pub whole : range_history after.seen range ≡ history
+
 -- it was told the first replica that serves then
 pub record HasResolved (leaves : ℕ) (range : Range) (avoid : List Leaf) (told : Option SlotLeaf)
     (before after : Knowledge) : Type 0 where
   pub met : HasMetRange leaves range before.purse.holds before after
   pub first : first_serving avoid (range_history after.seen range) ≡ told
 
--- it holds the range, and knows of the replicas that serve what they have
+-- it holds the range, and knows of the replicas that serve what they have, and of no other that was opened
 pub record HasBegun (leaves : ℕ) (range : Range) (history : List RangeEntry) (before after : Knowledge) : Type 0 where
   pub lent : List Range
   pub met : HasMetRange leaves range (lent ++ before.purse.holds) before after

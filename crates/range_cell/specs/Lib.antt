@@ -3,6 +3,8 @@ pub mod Writing
 pub mod Turns
 pub mod Stages
 pub mod Copies
+pub mod Copying
+pub mod Recoveries
 pub mod Rest
 pub mod Calls
 pub mod Writes

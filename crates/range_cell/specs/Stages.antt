@@ -3,7 +3,7 @@ use Rattle.std.specs.Prelude.{◌≡◌, ◌<◌, ◌+◌, ℕ, false, List, [],
 use Rattle.std.specs.List.{AllByRecursion}
 use Rattle.know.specs.Knowledge.{Knowledge}
 use Rattle.mon_topo.specs.Locations.{LiesIn}
-use Rattle.mon_topo.specs.RangeHistories.{acknowledged_rows, serving}
+use Rattle.mon_topo.specs.RangeHistories.{acknowledged_rows, opened_slots, serving}
 use Rattle.mon_topo.specs.Settings.{Setting}
 use Rattle.mon_topo.specs.Zones.{leaves_in}
 use Rattle.mon_value.specs.declared.histories.RangeEntry.{RangeEntry}
@@ -15,7 +15,8 @@ use Rattle.history_book.specs.Histories.{AreFronts}
 use Rattle.history_book.specs.declared.views.LengthNote.{LengthNote}
 use Rattle.std.specs.Prelude.{Contains, Some}
 use Rattle.mon_value.specs.declared.positions.Leaf.{Leaf}
-use Rattle.range_cell.specs.Writing.{HasRows, IsWriting, ready_count}
+use Rattle.range_cell.specs.Rest.{AreUnopened}
+use Rattle.range_cell.specs.Writing.{HasRows, HaveSameOpened, IsWriting, ready_count}
 use Rattle.write_core.specs.Invariant.{AreAll, IsAtReady, is_asked, is_decided, is_waiting}
 use Rattle.write_core.specs.Marks.{replica_of}
 use Rattle.write_core.specs.Program.{Acking, Ended, Entering, Inside, Locking, Marked, Not, Reserving, Stage, Verdict}
@@ -87,6 +88,7 @@ pub record IsConcluding (setting : Setting) (range : Range) (row : Row) (history
   pub pass : ℕ
   pub begun : Knowledge
   pub through : IsThroughAt range row pass (acknowledged_rows history) begun (serving history) know stage
+  pub fresh : AreUnopened begun.seen range (length (opened_slots history))
   pub lies : LiesIn setting.held setting.zones range row.key.target
   pub source : IsSource (acknowledged_rows history ++ row ∷ [])
   pub few : length (acknowledged_rows history) < setting.points
@@ -148,6 +150,7 @@ pub record IsWithdrawing (range : Range) (pass : ℕ) (rows : List Row) (before 
   pub fronts : AreFronts before.seen know.seen
   pub number : (hand_of know.purse).own ≡ Some pass
   pub held : 0 < times_range range know.purse.holds
+  pub opened : HaveSameOpened range before.seen know.seen
   pub each : AllByRecursion (λ replica. HasRows know range replica.slot replica.leaf rows) replicas
   pub own : know.purse.own ≡ before.purse.own
   pub rooms : (leaf : Leaf) → times_room leaf know.purse.rooms

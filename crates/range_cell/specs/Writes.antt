@@ -10,7 +10,7 @@ use Rattle.mon_value.specs.declared.histories.RangeEntry.TheVariants as entry
 use Rattle.mon_value.specs.declared.positions.FoundDown.{FoundDown}
 use Rattle.mon_value.specs.declared.positions.Range.{Range}
 use Rattle.mon_value.specs.declared.rows.Row.{Row}
-use Rattle.range_cell.specs.Calls.{HasBegun, HasEntered, HasMetRange, others_of}
+use Rattle.range_cell.specs.Calls.{HasBegun, HasEntered, HasGivenBack, HasMetRange}
 use Rattle.range_cell.specs.Stages.{IsThrough, IsWithdrawing}
 use Rattle.range_cell.specs.declared.answers.WriteFault.{WriteFault}
 use Rattle.range_cell.specs.declared.answers.WriteFault.TheVariants as fault
@@ -22,11 +22,6 @@ use Rattle.write_core.specs.declared.marks.Mark.{Mark}
 -- ---- behind the lock: `begun` is what the caller had once it held the range, whose history this is
 
 module _ (leaves : ℕ) (range : Range) (row : Row) (history : List RangeEntry) (pass : ℕ) (begun after : Knowledge) where
-  -- the range came back as it was
-  pub record HasGivenBack (mid : Knowledge) : Type 0 where
-    pub met : HasMetRange leaves range (others_of range mid) mid after
-    pub whole : range_history after.seen range ≡ history
-
   -- Each replica took the row or was found down, some took it, and this is acknowledged
   pub record HasAcknowledged (ack : Ack) : Type 0 where
     pub mid : Knowledge
@@ -43,13 +38,13 @@ module _ (leaves : ℕ) (range : Range) (row : Row) (history : List RangeEntry) 
     pub through : IsThrough range row pass (acknowledged_rows history) begun (serving history) mid marks
     pub none : some_took marks ≡ false
     pub founds_are : flat_map found_in_mark marks ≡ founds
-    pub back : HasGivenBack mid
+    pub back : HasGivenBack leaves range history mid after
 
   -- It was given up for want of memory: nothing was written, and no room is left
   pub record HasGivenUp : Type 0 where
     pub mid : Knowledge
     pub withdrawn : IsWithdrawing range pass (acknowledged_rows history) begun (serving history) mid []
-    pub back : HasGivenBack mid
+    pub back : HasGivenBack leaves range history mid after
 
   abbrev pub HasFailed : WriteFault → Type 0
   HasFailed fault.NoZone = ⊥

@@ -1,4 +1,4 @@
-// What a write answers.
+// What a write and a recovery answer.
 ghost use Rattle.std.specs.Prelude.{◌≡◌, ◌≤◌, [], length, vec_capacity, IfOk};
 
 use mon_value::{Ack, Founds, Miss, Misses, OutOfMemory, Range, Slot, Slots};
@@ -16,6 +16,23 @@ pub enum WriteFault {
     RangeFull(u64),
     /// Each replica of its range that serves was found down, on these leaves.
     Unavailable(Range, Founds),
+    /// Memory ran out.
+    OutOfMemory,
+}
+
+/// Why no replica is opened on a leaf.
+#[derive(PartialEq, Eq, Drop)]
+pub enum RecoverFault {
+    /// One of the range serves there, in this slot.
+    Serving(Slot),
+    /// As many replicas serve as may, which are three.
+    ThreeServing,
+    /// As many were opened as may be, which is this number.
+    SlotsSpent(u32),
+    /// The leaf of each replica that serves was found down, these in slot order.
+    SourceDown(Founds),
+    /// The leaf was found down, with so many entries in its history.
+    TargetDown(u64),
     /// Memory ran out.
     OutOfMemory,
 }

@@ -8,7 +8,7 @@ ghost use Rattle.know.specs.Knowledge.{Knowledge};
 ghost use Rattle.know.specs.Lending.{without_purse};
 ghost use Rattle.know.specs.Sound.{IsSound};
 ghost use Rattle.mon_topo.specs.HeldHistories.{IsAtHome};
-ghost use Rattle.mon_topo.specs.RangeHistories.{acknowledged_rows, serving};
+ghost use Rattle.mon_topo.specs.RangeHistories.{acknowledged_rows, opened_slots, serving};
 ghost use Rattle.mon_topo.specs.Zones.{ranges_in};
 ghost use Rattle.mon_value.specs.Histories.{range_history};
 ghost use Rattle.mon_value.specs.declared.histories.RangeEntry.TheVariants as entry;
@@ -16,7 +16,7 @@ ghost use Rattle.owners.specs.Owners.{IsOfRange};
 ghost use Rattle.owners.specs.Puts.{pass_of};
 ghost use Rattle.range_cell.specs.Answers.{takes};
 ghost use Rattle.range_cell.specs.Calls.{HasAnswered, HasCome, HasEntered, HasMetRange, HasResolved, MayEnter};
-ghost use Rattle.range_cell.specs.Rest.{HaveJust, IsRangeAtRest, IsRangeHeld, others};
+ghost use Rattle.range_cell.specs.Rest.{AreUnopened, HaveJust, IsRangeAtRest, IsRangeHeld, others};
 ghost use Rattle.range_cell.specs.Stages.{IsBeginning, IsConcluding, IsThroughAt};
 ghost use Rattle.range_cell.specs.Writes.{HasEnded, HasWritten};
 ghost use Rattle.write_core.specs.RangeAnswers.{lock_answer};
@@ -213,6 +213,7 @@ impl<N: Names> RangeDesk<N> {
         requires serve { replicas ≡ serving self.old.replay.history }
         requires begins { IsBeginning N.setting range row.now (pass_of know.old)
             (acknowledged_rows self.old.replay.history) replicas know.old }
+        requires fresh { AreUnopened know.old.seen range (length (opened_slots self.old.replay.history)) }
         requires few { length (acknowledged_rows self.old.replay.history) < N.setting.points }
         ensures rest { IsRangeAtRest self.old.owner.range.0 self.new.replay self.new.owner }
         ensures ended { HasEnded N.book.leaves range row.now self.old.replay.history (pass_of know.old) know.old

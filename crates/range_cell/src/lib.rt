@@ -1,4 +1,4 @@
-//! The ranges of a store, each under its lock: how a write goes over the leaves of its range.
+//! The ranges of a store, each under its lock: how a write and a recovery go over the leaves of their range.
 #![tactic(auto)]
 
 mod answers;
@@ -9,10 +9,11 @@ mod entering;
 mod laws;
 mod loops;
 mod new_ranges;
+mod recovering;
 mod sides;
 mod turns;
 
-pub use answers::WriteFault;
+pub use answers::{RecoverFault, WriteFault};
 pub use cells::RangeCell;
 pub use laws::new_ranges_are_at_rest;
 pub use new_ranges::NewRange;

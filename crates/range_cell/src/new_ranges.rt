@@ -14,7 +14,7 @@ ghost use Rattle.mon_value.specs.Histories.{range_history};
 ghost use Rattle.mon_value.specs.declared.histories.RangeEntry.TheVariants as entry;
 ghost use Rattle.owners.specs.Owners.{IsOfRange};
 ghost use Rattle.range_cell.specs.NewRanges.{HasBeenLent, HasOpenedFirst, after_entries, new_range_of};
-ghost use Rattle.range_cell.specs.Rest.{HaveJust, IsRangeAtRest, IsRangeHeld, others};
+ghost use Rattle.range_cell.specs.Rest.{AreUnopened, HaveJust, IsRangeAtRest, IsRangeHeld, others};
 
 use crate::desks::RangeDesk;
 use history_book::{BookOwner, NewEntry};
@@ -67,6 +67,7 @@ impl<N: Names> NewRange<N> {
         requires holds { 0 < times_range range book.held }
         requires only { others range book.held ≡ [] }
         requires none { range_history book.seen range ≡ [] }
+        requires fresh { AreUnopened book.seen range 0 }
         ensures lent { HasBeenLent N.book.leaves range book.seen result know.old know.new }
         ensures sound { IsSound N.setting know.new.hints know.new.seen }
     {

@@ -1,15 +1,17 @@
-// What a write does at the leaves of its range.
+// What writes and recoveries do at the leaves of their range.
 ghost use Rattle.std.specs.Prelude.{◌<◌, length, IfOk, OnErr};
 ghost use Rattle.history_book.specs.Seats.{times_room, without_one};
 ghost use Rattle.mon_topo.specs.Zones.{leaves_in};
 ghost use Rattle.mon_value.specs.declared.histories.Entry.TheVariants as entry;
 ghost use Rattle.owners.specs.Calls.{HasLooked, HasPut, HasReserved};
+ghost use Rattle.owners.specs.Copies.{HasCopied};
+ghost use Rattle.owners.specs.Openings.{HasOpened, MayOpen};
 ghost use Rattle.owners.specs.Puts.{HasSeenOpened, MayPut, pass_of};
 
-use know::{Found, Know, Names};
-use mon_value::{Leaf, OutOfMemory, Range, Row, Slot};
+use know::{Copied, Found, Know, Names};
+use mon_value::{Leaf, OutOfMemory, Range, Row, RowList, Slot};
 
-/// The leaves of a store, as a write meets them. Each call is one section under the leaf's lock.
+/// The leaves of a store, as writes and recoveries meet them. Each call is one section under the leaf's lock.
 pub trait LeafSide<N: Names> {
     /// Asks for room for a row. Where memory runs out the caller has seen more, and nothing else.
     fn reserve(
@@ -34,4 +36,30 @@ pub trait LeafSide<N: Names> {
         requires there { leaf.0 < length (leaves_in N.setting.zones) }
         requires room { 0 < times_room leaf know.old.purse.rooms }
         ensures cancelled { HasLooked leaf (without_one leaf know.old.purse.rooms) know.old know.new };
+
+    /// The rows of a replica in the whole history of its leaf, where that is up. They are handed out.
+    fn copy(
+        &self,
+        leaf: Leaf,
+        know: &mut Know<N>,
+        range: Range,
+        slot: Slot,
+    ) -> Result<Copied, OutOfMemory>
+        requires there { leaf.0 < length (leaves_in N.setting.zones) }
+        ensures copied { IfOk result (λ copied. HasCopied leaf range slot copied know.old know.new) }
+        ensures refused { OnErr result (HasLooked leaf know.old.purse.rooms know.old know.new) };
+
+    /// Opens a replica with these rows, which it takes over. Where memory runs out nothing was opened.
+    fn opened(
+        &self,
+        leaf: Leaf,
+        know: &mut Know<N>,
+        range: Range,
+        slot: Slot,
+        rows: RowList,
+    ) -> Result<Found, OutOfMemory>
+        requires may { MayOpen N.setting know.old leaf range slot rows }
+        ensures opened { IfOk result (λ found. HasOpened leaf (entry.Opened (pass_of know.old) range slot rows) found
+            know.old know.new) }
+        ensures refused { OnErr result (HasLooked leaf know.old.purse.rooms know.old know.new) };
 }

@@ -4,6 +4,7 @@ use Rattle.std.proofs.lemmas.List.Sums.{sum_by-cons}
 use Rattle.history_book.proofs.HistoryLemmas.{none_at}
 use Rattle.history_book.specs.Histories.{empty_histories}
 use Rattle.history_book.specs.Seats.{times_range}
+use Rattle.mon_value.specs.LeafHistories.{is_opened}
 use Rattle.mon_value.specs.Positions.{same_range}
 use Rattle.mon_value.specs.declared.histories.RangeEntry.{RangeEntry}
 use Rattle.mon_value.specs.declared.positions.Range.{Range}
@@ -21,7 +22,10 @@ no_others : (range : Range) → others range (range ∷ []) ≡ []
 no_others range = ap (λ b. cond (not b) (range ∷ []) []) (eq-eqb range.0 range.0 refl)
 
 none_serve : (leaves ranges : ℕ) (range : Range) → HaveJust (empty_histories leaves ranges) range []
-none_serve leaves ranges range replica there = absurd (omega (arith, there.1))
+none_serve leaves ranges range = record {
+  rows = λ replica there. absurd (omega (arith, there.1));
+  fresh = λ slot leaf past. ap (is_opened range slot) (none_at leaves leaf.0);
+}
 
 pub returns : goal.returns
 returns c = record {

@@ -43,7 +43,7 @@ copied-answer-requires g c =
     let same = (written_end range marks c.in-Written.ack last).1 in
     let most : length marks ≡ c.args.entering.answer =
     marks_count g.N.Names.setting range c.args.entering.copies.row c.requires.through.pass g0 c.requires.through.begun
-    c.args.know.now marks t.through ∙ sym c.requires.answer in
+    c.args.know.now marks t.through c.requires.through.fresh ∙ sym c.requires.answer in
     record {
       took = subst (λ (a : Ack). length a.took ≤ c.args.entering.answer) same
           (subst (λ (n : ℕ). length (ack_of range marks).took ≤ n) most (few_taken marks));
@@ -80,8 +80,8 @@ acknowledge-requires g c =
       may = subst (λ (r : Range). MayEnter setting r g0 (entry.Acked (pass_of know) c.into_row-row.result c.in-Written.ack)
           know) c.requires.range
           (subst (λ (e : RangeEntry). MayEnter setting range g0 e know) e_is
-          (may_acknowledge setting range row here.pass g0 here.begun know marks t.through both.0 here.lies here.source
-          here.few));
+          (may_acknowledge setting range row here.pass g0 here.begun know marks t.through here.fresh both.0 here.lies
+          here.source here.few));
     }
 
 pub returns-in-Written-clause-ended : goal.returns-in-Written-clause-ended
@@ -130,7 +130,7 @@ give_back-requires g c =
           t.through.so_far.writing.held;
       rows = subst (λ (r : Range). HaveJust know.seen r g0) c.requires.range
           (none_taken g.N.Names.setting range c.args.entering.copies.row here.pass g0 here.begun know marks t.through
-          both.0);
+          here.fresh both.0);
     }
 
 pub returns-in-Unavailable-clause-ended : goal.returns-in-Unavailable-clause-ended

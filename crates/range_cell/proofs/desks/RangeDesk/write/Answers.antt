@@ -3,8 +3,8 @@ use Rattle.std.specs.Prelude.{option_map}
 use Rattle.history_book.specs.Seats.{hand_of, times_range}
 use Rattle.history_book.specs.declared.views.Kept.{Kept}
 use Rattle.mon_topo.specs.HeldHistories.{IsAtHome}
-use Rattle.range_cell.specs.Rest.{IsRangeAtRest, IsRangeHeld}
-use Rattle.mon_topo.specs.RangeHistories.{IsLegal, acknowledged_rows}
+use Rattle.range_cell.specs.Rest.{AreUnopened, IsRangeAtRest, IsRangeHeld}
+use Rattle.mon_topo.specs.RangeHistories.{IsLegal, acknowledged_rows, opened_slots}
 use Rattle.mon_value.specs.Histories.{range_history}
 use Rattle.mon_value.specs.declared.histories.RangeEntry.{RangeEntry}
 use Rattle.mon_value.specs.declared.positions.Range.{Range}
@@ -68,6 +68,8 @@ write_held-requires g c =
           (pass_of then) (number ∙ ap (λ (n : ℕ). Some n) (sym pass_is)) holds
           (subst (λ (r : Range). IsAtHome setting.held setting.zones r row)
           c.requires.range c.requires.home) may.1));
+      fresh = subst (λ (r : Range). AreUnopened then.seen r (length (opened_slots history_then))) (sym c.requires.range)
+          begun.rows.fresh;
       few = may.2;
     }
 

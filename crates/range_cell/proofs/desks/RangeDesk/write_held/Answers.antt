@@ -47,6 +47,7 @@ conclude-requires g c =
             through = subst (λ (replicas : List SlotLeaf). IsThroughAt range c.args.row.now pass rows know replicas
                 c.enter_leaves.new.know entering.machine.stage) c.requires.serve
                 (went.through pass rows c.requires.begins);
+            fresh = c.requires.fresh;
             lies = c.requires.begins.home.1;
             source = c.requires.begins.source;
             few = c.requires.few;
@@ -84,7 +85,7 @@ give_back-requires g c =
       rows = subst (λ (r : Range). HaveJust gone.seen r history) c.requires.range
           (withdrawn_rows c.args.range pass history know gone
           (subst (λ (replicas : List SlotLeaf). IsWithdrawing c.args.range pass (acknowledged_rows history) know replicas
-          gone []) c.requires.serve w));
+          gone []) c.requires.serve w) c.requires.fresh);
     }
 
 pub returns-in-Err-clause-ended : goal.returns-in-Err-clause-ended
