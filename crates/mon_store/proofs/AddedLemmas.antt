@@ -38,7 +38,7 @@ by_test : (h g : History) (e : BookEntry) (xs : List BookEntry) → same_history
     → xs ≡ xs ++ only_in h e g
 by_test h g e xs f = sym (append-nil xs) ∙ ap (λ b. xs ++ cond b (e ∷ []) []) (sym f)
 
-entries_with : (h g : History) (e : BookEntry) (a : Histories) → IsFor h e
+pub entries_with : (h g : History) (e : BookEntry) (a : Histories) → IsFor h e
     → entries (with_book_entry h e a) g ≡ entries a g ++ only_in h e g
 entries_with h g e a fits =
     elim (same_cases h g) [

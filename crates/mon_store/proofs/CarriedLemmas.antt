@@ -23,7 +23,8 @@ use Rattle.mon_value.specs.declared.positions.Range.{Range}
 use Rattle.mon_store.proofs.OwnLemmas.{fronts_through}
 use Rattle.mon_store.proofs.WriteLemmas.{IsCarried, no_rooms}
 use Rattle.mon_store.specs.Passes.{IsPass}
-use Rattle.mon_store.specs.Writes.{WasFoundDown, WasFoundSo}
+use Rattle.mon_store.specs.Writes.{WasFoundSo}
+use Rattle.running_query.specs.Ends.{WasFoundDown}
 use Rattle.range_cell.specs.Calls.{HasBegun, HasMetRange}
 use Rattle.range_cell.specs.Rest.{others}
 use Rattle.range_cell.specs.Writing.{IsNotedSince}
@@ -51,7 +52,7 @@ pub record HasReturned (leaves : ℕ) (range : Range) (history : List RangeEntry
   pub holding : after.purse.holds ≡ others range mid.purse.holds
   pub handed : after.handed ≡ mid.handed
 
-front_begins : {X : Type 0} (now was : List X) → IsPrefix was now → BeginsWith now was
+pub front_begins : {X : Type 0} (now was : List X) → IsPrefix was now → BeginsWith now was
 front_begins now was p = begins_from now was p.0 (sym p.1)
 
 -- ---- a call that only asked

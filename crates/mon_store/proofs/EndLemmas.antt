@@ -13,7 +13,7 @@ use Rattle.history_book.specs.declared.views.History.{History}
 use Rattle.history_book.specs.declared.views.History.TheVariants as of
 use Rattle.history_book.specs.declared.views.Kept.{Kept}
 use Rattle.history_book.specs.Histories.{entries, is_under}
-use Rattle.history_book.specs.Seats.{hand_of, kept_in}
+use Rattle.history_book.specs.Seats.{IsPurseBorneOut, hand_of, kept_in}
 use Rattle.know.specs.Knowledge.{Knowledge}
 use Rattle.mon_config.specs.declared.config.Config.{Config}
 use Rattle.mon_topo.proofs.FirstLemmas.{HasNoRow, leaf_bare, leaf_count, leaf_is, range_count, range_is}
@@ -148,12 +148,13 @@ module _ (setting : Setting) (know : Knowledge) (is : IsOpener know) (none : kno
       ∙ first_under setting.zones history
       ∙ ap (λ (s : Histories). entries s history) (sym seen) ∙ sym (own_in history))
 
-  pub is_pass : IsPass setting know
-  is_pass = record {
+  pub is_pass : IsPurseBorneOut know.seen know.purse → IsPass setting know
+  is_pass borne = record {
     number = number ∙ sym (ap (λ o. Some (number_or 0 o)) number);
     holds = none;
     rooms = is.rooms;
     begun = subst (AreWithin (first_histories setting.zones)) (sym seen)
         (seen_within_itself (first_histories setting.zones));
     exact = exact;
+    borne_out = borne;
   }

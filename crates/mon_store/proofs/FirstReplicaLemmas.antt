@@ -1,22 +1,22 @@
 -- What the histories of leaves say of a range whose first replicas are all opened.
 use Rattle.std.proofs.Common.{◌≡◌, ℕ, zero, suc, ◌+◌, ◌≤◌, Bool, true, false, cond, ◌||◌, ◌&&◌, List, [], ◌∷◌}
-use Rattle.std.proofs.Common.{◌++◌}
+use Rattle.std.proofs.Common.{◌++◌, inl, inr}
 use Rattle.std.proofs.Common.{length, take, refl, sym, ap, subst, ◌∙◌, arith, slice_get, Some, append-nil, append_assoc}
 use Rattle.std.specs.Prelude.{Contains}
 use Rattle.std.specs.List.{flat_map, range_with_len}
-use Rattle.std.proofs.lemmas.Bool.{eq-eqb, or_right}
-use Rattle.std.proofs.lemmas.List.{take_all}
+use Rattle.std.proofs.lemmas.Bool.{cases_lt, eq-eqb, or_right}
+use Rattle.std.proofs.lemmas.List.{get_or_past, take_all}
 use Rattle.std.proofs.lemmas.List.Concat.{flat_map-append}
 use Rattle.std.proofs.lemmas.List.Elements.{Contains-append_left, Contains-append_right, Contains-get_or}
 use Rattle.std.proofs.lemmas.Option.{slice_get_within}
 use Rattle.mon_topo.proofs.FirstLemmas.{no_acks}
-use Rattle.mon_topo.proofs.FirstOpenings.{replica_there}
-use Rattle.mon_topo.specs.FirstHistories.{first_range_history, opened_here, opened_of, opened_up_to, opening}
-use Rattle.mon_topo.specs.FirstHistories.{openings_from, slot_numbered}
+use Rattle.mon_topo.proofs.FirstOpenings.{open_up_to, replica_there}
+use Rattle.mon_topo.specs.FirstHistories.{first_range_history, opened_before, opened_here, opened_of, opened_up_to}
+use Rattle.mon_topo.specs.FirstHistories.{opening, openings_from, slot_numbered}
 use Rattle.mon_topo.specs.HeldHistories.{BeginsWith, IsBorneOut, IsHeldBy}
-use Rattle.mon_topo.specs.RangeHistories.{acknowledged_rows, serving_after}
+use Rattle.mon_topo.specs.RangeHistories.{acknowledged_rows, opened_slots, serving_after}
 use Rattle.mon_topo.specs.Replicas.{HasReplicas}
-use Rattle.mon_topo.specs.Zones.{first_replicas}
+use Rattle.mon_topo.specs.Zones.{first_replicas, leaves_in}
 use Rattle.mon_topo.specs.declared.zones.ZoneSpec.{ZoneSpec}
 use Rattle.mon_value.specs.Histories.{leaf_history}
 use Rattle.mon_value.specs.LeafHistories.{entry_rows, is_opened, replica_rows, same_replica}
@@ -31,7 +31,8 @@ use Rattle.mon_value.specs.declared.positions.Range.{Range}
 use Rattle.mon_value.specs.declared.positions.Slot.{Slot}
 use Rattle.mon_value.specs.declared.positions.SlotLeaf.{SlotLeaf}
 use Rattle.mon_value.specs.declared.rows.Row.{Row}
-use Rattle.range_cell.specs.Rest.{HasJust, HaveJust}
+use Rattle.range_cell.proofs.FirstReplicaLemmas.{opened_count}
+use Rattle.range_cell.specs.Rest.{AreUnopened, HasJust, HaveJust}
 use Rattle.mon_store.specs.Openings.{IsOpenedUpTo}
 
 -- ---- an opening that stands in a history
@@ -215,11 +216,32 @@ module _ (zones : List ZoneSpec) (range : Range) (has : HasReplicas zones range)
         all = none_there replica.leaf at.j replica.slot at.there ∙ sym (no_acks 0 firsts);
       }
 
-  -- each of its first replicas is opened, and has no rows
-  pub first_just : HaveJust seen range (first_range_history zones range.0)
-  first_just replica there =
-      just_at replica (in_slot firsts 0 replica
-      (subst (λ (xs : List SlotLeaf). Contains xs replica) (serve_all [] 0 firsts) there))
+  -- and no replica behind them
+  none_behind : length seen.leaves ≡ length (leaves_in zones)
+      → AreUnopened seen range (length (opened_slots (first_range_history zones range.0)))
+  none_behind all_leaves slot leaf past = elim (cases_lt leaf.0 (length (leaves_in zones))) [
+    | inl here ↦
+        let open_all = open_up_to zones leaf.0 range.0 (length firsts) (omega arith) in
+        let same : take (length firsts) firsts ≡ take place firsts =
+        take_all (length firsts) firsts (omega arith) ∙ sym (take_all place firsts all) in
+        let before : List Entry = opened_before zones range.0 leaf.0 in
+        let whole : leaf_history seen leaf ≡ opened_up_to zones range.0 (length firsts) leaf.0 =
+        opened.leaves leaf.0 here
+        ∙ ap (λ (l : List Leaf). before ++ opened_here leaf range 0 l) (sym same) in
+        let count = opened_count 0 firsts in
+        ap (is_opened range slot) whole ∙ open_all.here slot.0 (omega (arith, past, count))
+    | inr beyond ↦
+        ap (is_opened range slot) (get_or_past seen.leaves leaf.0 [] (omega (arith, beyond, all_leaves)))
+  ]
+
+  -- each of its first replicas is opened, and has no rows, and no other is
+  pub first_just : length seen.leaves ≡ length (leaves_in zones)
+      → HaveJust seen range (first_range_history zones range.0)
+  first_just all_leaves = record {
+    rows = λ replica there. just_at replica (in_slot firsts 0 replica
+        (subst (λ (xs : List SlotLeaf). Contains xs replica) (serve_all [] 0 firsts) there));
+    fresh = none_behind all_leaves;
+  }
 
   borne_by : (k : ℕ) (e : RangeEntry) → slice_get (openings_from 0 firsts) k ≡ Some e
       → IsBorneOut seen range (first_range_history zones range.0) k e

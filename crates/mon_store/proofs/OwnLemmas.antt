@@ -14,7 +14,8 @@ use Rattle.history_book.specs.declared.views.History.{History}
 use Rattle.history_book.specs.declared.views.History.TheVariants as of
 use Rattle.history_book.specs.declared.views.Kept.{Kept}
 use Rattle.know.specs.Knowledge.{Knowledge}
-use Rattle.mon_topo.proofs.FrontLemmas.{begins_from}
+use Rattle.mon_topo.proofs.FrontLemmas.{begins_from, begins_to, behind}
+use Rattle.mon_topo.specs.HeldHistories.{BeginsWith}
 use Rattle.mon_topo.specs.SeenHistories.{AreWithin}
 use Rattle.mon_value.specs.Histories.{leaf_history, range_history}
 use Rattle.mon_value.specs.declared.histories.Histories.{Histories}
@@ -24,6 +25,10 @@ use Rattle.mon_store.specs.Passes.{HasSeenItsOwn}
 
 prefix_map : {X Y : Type 0} (f : X → Y) (xs ys : List X) → IsPrefix xs ys → IsPrefix (map f xs) (map f ys)
 prefix_map f xs ys p = (map f p.0, sym (map-append f xs p.0) ∙ ap (map f) p.1)
+
+-- what begins with a list, mapped, has that list mapped as its front
+pub prefix_from : {X Y : Type 0} (f : X → Y) (xs ys : List X) → BeginsWith ys xs → IsPrefix (map f xs) (map f ys)
+prefix_from f xs ys front = prefix_map f xs ys (behind ys xs, sym (begins_to ys xs front))
 
 pub entries_front : (a b : Histories) → AreFronts a b → (h : History) → IsPrefix (entries a h) (entries b h)
 entries_front a b front (of.Leaf leaf) =

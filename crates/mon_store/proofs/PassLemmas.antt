@@ -37,16 +37,20 @@ numbered_pass setting know h borne = record {
       (borne.exact kept history there)
       (subst (λ (xs : List BookEntry). length xs ≤ length (filter (is_under kept.number) (entries know.seen history)))
       (sym none) (omega arith));
+  borne_out = borne;
 }
 
 -- and the one that it was split off is as before
-pub after_pass : (setting : Setting) (know : Knowledge) → IsPass setting know → IsPass setting (after_numbering know)
-after_pass setting know h = record {
+pub after_pass : (setting : Setting) (know : Knowledge) → IsPass setting know
+    → IsPurseBorneOut (after_numbering know).seen (after_numbering know).purse
+    → IsPass setting (after_numbering know)
+after_pass setting know h borne = record {
   number = h.number;
   holds = h.holds;
   rooms = h.rooms;
   begun = h.begun;
   exact = h.exact;
+  borne_out = borne;
 }
 
 both_none : {X : Type 0} (xs ys : List X) → xs ≡ [] → ys ≡ [] → xs ++ ys ≡ []
@@ -69,6 +73,7 @@ met_pass setting other know theirs mine front front' borne = record {
         | inl here ↦ still_exact know (meeting other know) front mine.exact borne kept history here there
         | inr here ↦ still_exact other (meeting other know) front' theirs.exact borne kept history here there
       ];
+  borne_out = borne;
 }
 
 pub number_still : (a b : Option ℕ) (n : ℕ) → a ≡ b → b ≡ Some n → a ≡ Some (number_or 0 a)
@@ -86,6 +91,7 @@ same_owner setting before after is h borne = record {
       (within_front before.seen after.seen h.fronts);
   exact = λ kept whose there. still_exact before after h.fronts is.exact borne kept whose
       (subst (λ (xs : List Kept). Contains xs kept) all there) there;
+  borne_out = borne;
 }
   where
     all : kept_in after.purse ≡ kept_in before.purse

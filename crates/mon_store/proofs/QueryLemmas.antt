@@ -101,6 +101,7 @@ queried_pass store before after is goes borne =
       exact = λ kept history there.
           still_exact before after goes.fronts is.exact borne kept history
           (subst (λ (xs : List Kept). Contains xs kept) all there) there;
+      borne_out = borne;
     }
 
 -- ---- what is told

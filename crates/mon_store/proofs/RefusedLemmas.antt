@@ -24,9 +24,10 @@ use Rattle.mon_store.proofs.CarriedLemmas.{over_down, over_found}
 use Rattle.mon_store.proofs.WriteLemmas.{IsCarried}
 use Rattle.mon_store.proofs.WrittenLemmas.{went_down, went_over}
 use Rattle.mon_store.specs.Passes.{IsPass}
-use Rattle.mon_store.specs.Writes.{AreAllDown, IsRefusedAs, WasFoundDown}
-use Rattle.range_cell.specs.Calls.{HasBegun}
-use Rattle.range_cell.specs.Writes.{HasFoundNone, HasGivenBack, HasGivenUp}
+use Rattle.mon_store.specs.Writes.{AreAllDown, IsRefusedAs}
+use Rattle.running_query.specs.Ends.{WasFoundDown}
+use Rattle.range_cell.specs.Calls.{HasBegun, HasGivenBack}
+use Rattle.range_cell.specs.Writes.{HasFoundNone, HasGivenUp}
 use Rattle.range_cell.specs.Writing.{with_put_of, with_puts}
 use Rattle.write_core.proofs.AckLemmas.{contains_flat, contains_one}
 use Rattle.history_book.proofs.PurseLemmas.{contains_none}
@@ -96,10 +97,9 @@ module _ (limit points : ℕ) (same : limit ≡ points) (history : List RangeEnt
 
 -- ---- the range was given back
 
-given_back : (leaves : ℕ) (range : Range) (row : Row) (history : List RangeEntry) (pass : ℕ)
-    (begun after mid : Knowledge) → HasGivenBack leaves range row history pass begun after mid
-    → HasReturned leaves range history mid after
-given_back leaves range row history pass begun after mid back = record {
+pub given_back : (leaves : ℕ) (range : Range) (history : List RangeEntry) (mid after : Knowledge)
+    → HasGivenBack leaves range history mid after → HasReturned leaves range history mid after
+given_back leaves range history mid after back = record {
   fronts = back.met.fronts;
   notes = back.met.notes
       ∙ ap (λ (h : List RangeEntry). mid.purse.notes ++ length_note (leaves + range.0) (length h) ∷ []) back.whole;
@@ -181,7 +181,7 @@ module _ (setting : Setting) (config : Config) (leaves : ℕ) (range : Range) (r
 
   module _ (founds : List FoundDown) (none : HasFoundNone leaves range row history pass begun after founds) where
     returned : HasReturned leaves range history none.mid after
-    returned = given_back leaves range row history pass begun after none.mid none.back
+    returned = given_back leaves range history none.mid after none.back
 
     over : HasGoneOver begun none.mid
     over = went_over range row pass (acknowledged_rows history) (serving history) begun none.mid none.marks none.through
@@ -240,7 +240,7 @@ module _ (setting : Setting) (config : Config) (leaves : ℕ) (range : Range) (r
     pub up_carried : IsCarried before after
     up_carried =
         over_carried setting config leaves range before after is counted history begun up.mid begins up_over
-        (given_back leaves range row history pass begun after up.mid up.back)
+        (given_back leaves range history up.mid after up.back)
 
     pub up_own : after.purse.own ≡ before.purse.own
     up_own = up.back.met.own ∙ up.withdrawn.own ∙ begins.met.own

@@ -1,5 +1,5 @@
 -- What a caller has once a call at a range came to its end: it is between its calls again.
-use Rattle.std.proofs.Common.{◌≡◌, ℕ, zero, suc, ◌+◌, true, List, [], ◌∷◌, ◌++◌, filter}
+use Rattle.std.proofs.Common.{◌≡◌, ◌≤◌, ℕ, zero, suc, ◌+◌, true, List, [], ◌∷◌, ◌++◌, filter, length}
 use Rattle.std.proofs.Common.{refl, sym, ap, subst, ◌∙◌, arith, Option, Some, None, inl, inr, ◌⊎◌, cond}
 use Rattle.std.proofs.Common.{eq-eqb}
 use Rattle.std.specs.Prelude.{Contains, option_map, option_to_list}
@@ -7,7 +7,7 @@ use mathlib.Core.List.{IsPrefix}
 use Rattle.std.proofs.lemmas.List.{append-nil}
 use Rattle.std.proofs.lemmas.List.Elements.{Contains-append_right}
 use Rattle.std.proofs.lemmas.List.Sums.{sum_by-cons}
-use Rattle.history_book.proofs.ListLemmas.{prefix_filter}
+use Rattle.history_book.proofs.ListLemmas.{prefix_filter, prefix_whole}
 use Rattle.history_book.specs.Histories.{AreFronts, entries, is_under}
 use Rattle.history_book.specs.Seats.{IsPurseBorneOut, hand_of, kept_in, times_room}
 use Rattle.history_book.specs.declared.views.BookEntry.{BookEntry}
@@ -146,30 +146,51 @@ module _ (setting : Setting) (before after : Knowledge) (is : IsPass setting bef
     pub under : (whose : History) (e : BookEntry) → Contains (new whose) e → is_under (pass_of before) e ≡ true
     pub unseen : (whose : History) (e : BookEntry) → Contains (new whose) e → Contains (entries before.seen whose) e → ⊥
 
-  module _ (new : History → List BookEntry) (come : HaveCome new) (kept : Kept) (own : after.purse.own ≡ Some kept)
+  module _ (new : History → List BookEntry) (kept : Kept) (own : after.purse.own ≡ Some kept)
       (number : kept.number ≡ pass_of before)
       (added : (whose : History) → entries kept.own whose ≡ own_entries before.purse.own whose ++ new whose) where
-    whole : (whose : History) → filter (is_under (pass_of before)) (entries after.seen whose) ≡ entries kept.own whose
-    whole whose =
+    -- it has seen no more under its number than it keeps
+    front_of : (whose : History)
+        → IsPrefix (filter (is_under (pass_of before)) (entries after.seen whose)) (entries kept.own whose)
+    front_of whose =
+        subst (λ n. IsPrefix (filter (is_under n) (entries after.seen whose)) (entries kept.own whose)) number
+        (borne.exact kept whose (kept_first after.purse.own after.purse.met kept own))
+
+    pub all_come : HaveCome new → (whose : History)
+        → filter (is_under (pass_of before)) (entries after.seen whose) ≡ entries kept.own whose
+    all_come come whose =
         let test = is_under (pass_of before) in
         let was = filter test (entries before.seen whose) in
         let now = filter test (entries after.seen whose) in
         let had : was ≡ own_entries before.purse.own whose = own_exact setting before is whose in
         let both : entries kept.own whose ≡ was ++ new whose =
         added whose ∙ ap (λ (xs : List BookEntry). xs ++ new whose) (sym had) in
-        let front : IsPrefix now (entries kept.own whose) =
-        subst (λ n. IsPrefix (filter (is_under n) (entries after.seen whose)) (entries kept.own whose)) number
-        (borne.exact kept whose (kept_first after.purse.own after.purse.met kept own)) in
         all_came was now (new whose)
         (prefix_filter test (entries before.seen whose) (entries after.seen whose)
         (entries_front before.seen after.seen carried.fronts whose))
-        (subst (λ (xs : List BookEntry). IsPrefix now xs) both front)
+        (subst (λ (xs : List BookEntry). IsPrefix now xs) both (front_of whose))
         (come.differ whose)
         (λ e there. contains_kept test (entries after.seen whose) e (come.seen whose e there)
         (come.under whose e there))
         (λ e there old. come.unseen whose e there (contains_filter test (entries before.seen whose) e old).0)
         ∙ sym both
 
+    -- or as many are seen as it keeps
+    pub all_counted : ((whose : History) → length (own_entries before.purse.own whose ++ new whose)
+        ≤ length (filter (is_under (pass_of before)) (entries after.seen whose))) → (whose : History)
+        → filter (is_under (pass_of before)) (entries after.seen whose) ≡ entries kept.own whose
+    all_counted many whose =
+        prefix_whole (filter (is_under (pass_of before)) (entries after.seen whose)) (entries kept.own whose)
+        (front_of whose)
+        (subst (λ (xs : List BookEntry).
+        length xs ≤ length (filter (is_under (pass_of before)) (entries after.seen whose))) (sym (added whose))
+        (many whose))
+
+  module _ (new : History → List BookEntry) (kept : Kept) (own : after.purse.own ≡ Some kept)
+      (number : kept.number ≡ pass_of before)
+      (added : (whose : History) → entries kept.own whose ≡ own_entries before.purse.own whose ++ new whose)
+      (whole : (whose : History)
+      → filter (is_under (pass_of before)) (entries after.seen whose) ≡ entries kept.own whose) where
     pub new_number : (hand_of after.purse).own ≡ (hand_of before.purse).own
     new_number = ap (λ o. option_map (λ (k : Kept). k.number) o) own ∙ ap Some number ∙ sym is.number
 
@@ -185,6 +206,7 @@ module _ (setting : Setting) (before after : Knowledge) (is : IsPass setting bef
           (within_front before.seen after.seen carried.fronts);
       exact = λ other whose there. by other whose there (first_or_later kept other after.purse.met
           (subst (λ (o : Option Kept). Contains (option_to_list o ++ after.purse.met) other) own there));
+      borne_out = borne;
     }
       where
         by : (other : Kept) (whose : History) → Contains (kept_in after.purse) other

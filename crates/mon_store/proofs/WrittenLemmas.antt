@@ -1,7 +1,7 @@
 -- How a write at its range's cell ends is how a write of the store ends.
 use Rattle.std.proofs.Common.{◌≡◌, ℕ, zero, suc, ◌+◌, ◌<◌, Bool, true, List, [], ◌∷◌, ◌++◌, length}
 use Rattle.std.proofs.Common.{cond, nat_eq, refl, sym, ap, subst, ◌∙◌, arith, Some, None, inl, inr}
-use Rattle.std.proofs.Common.{◌⊎◌, ◌&&◌}
+use Rattle.std.proofs.Common.{◌⊎◌, ◌&&◌, filter}
 use Rattle.std.specs.Prelude.{Contains, option_map, ℤ, ◌<ℤ◌}
 use Rattle.std.specs.List.{flat_map}
 use Rattle.std.proofs.lemmas.Bool.Decides.{nat_tests}
@@ -52,10 +52,11 @@ use Rattle.mon_store.proofs.AddedLemmas.{ack_added, only_is, put_is, puts_added,
 use Rattle.mon_store.proofs.AddedLemmas.{took_of, took_slots, written_differ}
 use Rattle.mon_store.proofs.CarriedLemmas.{HasGoneOver, HasReturned, over_carried, over_down, over_found}
 use Rattle.mon_store.proofs.ListLemmas.{contains_made, contains_mapped}
-use Rattle.mon_store.proofs.WriteLemmas.{HaveCome, IsCarried, added_new, added_own, added_still, has_own, own_is}
-use Rattle.mon_store.proofs.WriteLemmas.{written_pass}
+use Rattle.mon_store.proofs.WriteLemmas.{HaveCome, IsCarried, added_new, added_own, added_still, all_come, has_own}
+use Rattle.mon_store.proofs.WriteLemmas.{own_is, written_pass}
 use Rattle.mon_store.specs.Passes.{IsPass}
-use Rattle.mon_store.specs.Writes.{IsWritten, WasFoundDown, only_in, own_entries, put_in, written}
+use Rattle.mon_store.specs.Writes.{IsWritten, only_in, own_entries, put_in, written}
+use Rattle.running_query.specs.Ends.{WasFoundDown}
 use Rattle.range_cell.specs.Calls.{HasBegun}
 use Rattle.range_cell.specs.Stages.{IsThrough}
 use Rattle.range_cell.specs.Writes.{HasAcknowledged}
@@ -249,7 +250,7 @@ module _ (setting : Setting) (config : Config) (leaves : ℕ) (range : Range) (r
       let then = prefix_contains (leaf_history before.seen replica.leaf) (leaf_history begun.seen replica.leaf)
       (entry.Put pass range replica.slot row) (begins.met.fronts.0 replica.leaf) old in
       not_old (acknowledged_rows history) row may.2
-      (subst (λ (rows : List Row). Contains rows row) (begins.rows replica (took_serves replica in_took)).all
+      (subst (λ (rows : List Row). Contains rows row) (begins.rows.rows replica (took_serves replica in_took)).all
       (row_of_put pass range replica.slot row (leaf_history begun.seen replica.leaf) then))
 
   ack_new : Contains (range_history before.seen range) e → ⊥
@@ -357,8 +358,11 @@ module _ (setting : Setting) (config : Config) (leaves : ℕ) (range : Range) (r
 
   -- ---- the whole
 
+  all_seen : (whose : History) → filter (is_under pass) (entries after.seen whose) ≡ entries last.own whose
+  all_seen = all_come setting before after is carried borne new last own number added come
+
   pub acknowledged_pass : IsPass setting after
-  acknowledged_pass = written_pass setting before after is carried borne new come last own number added
+  acknowledged_pass = written_pass setting before after is carried borne new last own number added all_seen
 
   found_down : (miss : Miss) → Contains ack.missed miss → WasFoundDown before after miss.leaf miss.cut
   found_down miss in_missed =
@@ -384,8 +388,8 @@ module _ (setting : Setting) (config : Config) (leaves : ℕ) (range : Range) (r
     took_are = took_slots acked.marks ∙ ap (λ (a : Ack). a.took) acked.ack_is;
     served = took_serves;
     acknowledged = acked.entered.whole;
-    own = added_own setting before after is carried borne new come last own number added;
-    new = added_new setting before after is carried borne new come last own number added;
+    own = added_own setting before after is carried borne new last own number added all_seen;
+    new = added_new setting before after is carried borne new last own number added all_seen;
     missed = found_down;
-    still = added_still setting before after is carried borne new come last own number added;
+    still = added_still setting before after is carried borne new last own number added all_seen;
   }

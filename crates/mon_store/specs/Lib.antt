@@ -4,5 +4,7 @@ pub mod Gathers
 pub mod Openings
 pub mod Passes
 pub mod Queries
+pub mod Recoveries
 pub mod Stores
+pub mod Switches
 pub mod Writes

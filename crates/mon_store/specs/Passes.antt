@@ -1,7 +1,7 @@
 -- What holds of a caller of a store between its calls.
 use Rattle.std.specs.Prelude.{◌≡◌, [], filter, Some, Contains}
 use Rattle.history_book.specs.Histories.{AreFronts, entries, is_under}
-use Rattle.history_book.specs.Seats.{hand_of, kept_in}
+use Rattle.history_book.specs.Seats.{IsPurseBorneOut, hand_of, kept_in}
 use Rattle.history_book.specs.declared.views.History.{History}
 use Rattle.history_book.specs.declared.views.Kept.{Kept}
 use Rattle.know.specs.Knowledge.{Knowledge}
@@ -15,14 +15,15 @@ abbrev pub HasSeenItsOwn : Knowledge → Type 0
 HasSeenItsOwn know = (kept : Kept) (history : History) → Contains (kept_in know.purse) kept
     → filter (is_under kept.number) (entries know.seen history) ≡ entries kept.own history
 
--- It has a number, holds no range and no room at a leaf, has seen each range opened on its first replicas, and has seen
--- just the entries that it keeps
+-- It has a number, holds no range and no room at a leaf, has seen each range opened on its first replicas, has seen just
+-- the entries that it keeps, and what it has seen bears out its purse
 pub record IsPass (setting : Setting) (know : Knowledge) : Type 0 where
   pub number : (hand_of know.purse).own ≡ Some (pass_of know)
   pub holds : know.purse.holds ≡ []
   pub rooms : know.purse.rooms ≡ []
   pub begun : AreWithin (first_histories setting.zones) know.seen
   pub exact : HasSeenItsOwn know
+  pub borne_out : IsPurseBorneOut know.seen know.purse
 
 -- A caller owns what it owned, and has seen at least as much
 pub record OwnsTheSame (before after : Knowledge) : Type 0 where

@@ -1,5 +1,5 @@
 -- How a write ends, and what its caller has then.
-use Rattle.std.specs.Prelude.{◌≡◌, ◌≤◌, ◌+◌, ℕ, List, [], ◌∷◌, ◌++◌, length, map, filter, drop, Option, Some, None}
+use Rattle.std.specs.Prelude.{◌≡◌, ◌+◌, ℕ, List, [], ◌∷◌, ◌++◌, length, map, filter, drop, Option, Some, None}
 use Rattle.std.specs.Prelude.{Contains}
 use Rattle.std.specs.Prelude.{if◌then◌else◌}
 use Rattle.std.specs.List.{flat_map}
@@ -17,33 +17,24 @@ use Rattle.mon_config.specs.declared.config.Config.{Config}
 use Rattle.mon_topo.specs.HeldHistories.{BeginsWith}
 use Rattle.mon_topo.specs.RangeHistories.{IsAckOf, serving}
 use Rattle.mon_topo.specs.Zones.{leaves_in}
-use Rattle.mon_value.specs.Histories.{leaf_history, range_history}
-use Rattle.mon_value.specs.LeafHistories.{IsDownAt}
+use Rattle.mon_value.specs.Histories.{range_history}
 use Rattle.mon_value.specs.declared.histories.Ack.{Ack}
 use Rattle.mon_value.specs.declared.histories.Entry.TheVariants as entry
 use Rattle.mon_value.specs.declared.histories.Miss.{Miss}
 use Rattle.mon_value.specs.declared.histories.RangeEntry.{RangeEntry}
 use Rattle.mon_value.specs.declared.histories.RangeEntry.TheVariants as range_entry
 use Rattle.mon_value.specs.declared.positions.FoundDown.{FoundDown}
-use Rattle.mon_value.specs.declared.positions.Leaf.{Leaf}
 use Rattle.mon_value.specs.declared.positions.Range.{Range}
 use Rattle.mon_value.specs.declared.positions.SlotLeaf.{SlotLeaf}
 use Rattle.mon_value.specs.declared.rows.Row.{Row}
 use Rattle.owners.specs.Puts.{pass_of}
 use Rattle.range_cell.specs.declared.answers.WriteFault.{WriteFault}
 use Rattle.range_cell.specs.declared.answers.WriteFault.TheVariants as fault
+use Rattle.running_query.specs.Ends.{WasFoundDown}
 use Rattle.write_core.specs.RangeAnswers.{refusal}
 use Rattle.write_core.specs.declared.refusals.Refused.TheVariants as refused
 
 -- ---- what was found in a call
-
--- A leaf was found down: a length was noted, no less than what had been seen of it before, at which it was down
-pub record WasFoundDown (before after : Knowledge) (leaf : Leaf) (cut : ℕ) : Type 0 where
-  pub more : List LengthNote
-  pub notes : after.purse.notes ≡ before.purse.notes ++ more
-  pub noted : Contains more (length_note leaf.0 cut)
-  pub from : length (leaf_history before.seen leaf) ≤ cut
-  pub down : IsDownAt (leaf_history after.seen leaf) cut
 
 -- A range was found with this history: its length was noted last, and it goes on from what had been seen of it before
 pub record WasFoundSo (config : Config) (range : Range) (history : List RangeEntry) (before after : Knowledge)

@@ -63,6 +63,7 @@ impl<N: Names> Opening<N> {
     {
         self.make_leaves(alloc, config)?;
         self.open_ranges(alloc, config)?;
+        self.know.confirm(&self.tables);
         Ok(())
     }
 
@@ -231,6 +232,7 @@ impl<N: Names> Opening<N> {
         ensures ranges { OnOk result (self.new.ranges.items ≡ self.old.ranges.items ++ range.0 ∷ []) }
     {
         ranges_have_replicas(&config.topology);
+        let _sight = self.know.sight();
         let first = config.topology.first_replicas(range);
         let cell = RangeCell::new(
             alloc,

@@ -1,11 +1,11 @@
-// The leaves of a store, as a write meets them.
+// The leaves of a store, as writes and recoveries meet them.
 ghost use Rattle.std.specs.Prelude.{◌≡◌, ◌<◌, length};
 ghost use Rattle.mon_topo.specs.Zones.{leaves_in};
 ghost use Rattle.mon_store.specs.Stores.{AreLeafCells};
 
-use know::{Found, Know, Names, Tables};
+use know::{Copied, Found, Know, Names, Tables};
 use leaf_cell::LeafCell;
-use mon_value::{Leaf, OutOfMemory, Range, Row, Slot};
+use mon_value::{Leaf, OutOfMemory, Range, Row, RowList, Slot};
 use range_cell::LeafSide;
 use std::sync::Wait;
 
@@ -49,5 +49,28 @@ impl<'a, N: Names, R: Wait> LeafSide<N> for SharedLeaves<'a, N, R> {
 
     fn cancel(&self, leaf: Leaf, know: &mut Know<N>) {
         self.cell(leaf).cancel(self.rt, self.tables, know);
+    }
+
+    fn copy(
+        &self,
+        leaf: Leaf,
+        know: &mut Know<N>,
+        range: Range,
+        slot: Slot,
+    ) -> Result<Copied, OutOfMemory> {
+        self.cell(leaf)
+            .copy(self.rt, self.tables, know, range, slot)
+    }
+
+    fn opened(
+        &self,
+        leaf: Leaf,
+        know: &mut Know<N>,
+        range: Range,
+        slot: Slot,
+        rows: RowList,
+    ) -> Result<Found, OutOfMemory> {
+        self.cell(leaf)
+            .opened(self.rt, self.tables, know, range, slot, rows)
     }
 }

@@ -1,10 +1,12 @@
 // The callers of a store.
 ghost use Rattle.std.specs.Prelude.{◌≡◌, IfOk, OnOk, OnErr};
 ghost use Rattle.history_book.specs.Histories.{AreFronts};
-ghost use Rattle.history_book.specs.Seats.{hand_of};
+ghost use Rattle.history_book.specs.Seats.{IsPurseBorneOut, hand_of};
 ghost use Rattle.know.specs.Knowledge.{after_numbering, meeting, numbered_knowledge, numbers_fault};
+ghost use Rattle.know.specs.Sound.{IsSound};
 ghost use Rattle.mon_topo.specs.HeldHistories.{AreHeld};
 ghost use Rattle.mon_value.specs.Answers.{AnswersBy};
+ghost use Rattle.owners.specs.Puts.{pass_of};
 ghost use Rattle.mon_store.specs.Passes.{IsPass};
 
 use crate::stores::Store;
@@ -31,6 +33,17 @@ impl<N: Names> Model for Pass<N> {
 }
 
 impl<N: Names> Pass<N> {
+    /// Does nothing, and tells what holds of each caller between its calls: what it has seen is held, the bits that it
+    /// knows lead to all of it, and it bears out the caller's purse.
+    pub fn is_sound(&self)
+        ensures held { AreHeld N.setting.held N.setting.zones N.setting.points self.now.seen }
+        ensures sound { IsSound N.setting self.now.hints self.now.seen }
+        ensures borne_out { IsPurseBorneOut self.now.seen self.now.purse }
+        ensures pass { IsPass N.setting self.now }
+    {
+        let _sight = self.know.sight();
+    }
+
     /// What is left of it, in a type without the store's name. No memory is taken.
     pub fn finish(self) -> Ended
         ensures number { result.number ≡ (hand_of self.purse).own }
@@ -38,6 +51,16 @@ impl<N: Names> Pass<N> {
         ensures held { AreHeld N.setting.held N.setting.zones N.setting.points result.seen }
     {
         self.know.unname()
+    }
+
+    /// The caller's number.
+    pub fn number(&self) -> u64
+        ensures number { result ≡ pass_of self.now }
+    {
+        match self.know.number() {
+            Some(number) => number,
+            None => 0,
+        }
     }
 }
 
@@ -51,6 +74,7 @@ impl<N: Names> Store<N> {
         ensures kept { OnErr result (p.new ≡ p.old) }
     {
         let know = p.know.split_numbered(alloc, &self.tables)?;
+        p.know.confirm(&self.tables);
         Ok(Pass { know })
     }
 

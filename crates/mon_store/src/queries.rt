@@ -3,6 +3,7 @@ ghost use Rattle.std.specs.Prelude.{◌≡◌, ◌<◌, ◌≤◌, ◌≤ℤ◌,
 ghost use Rattle.history_book.specs.Seats.{IsPurseBorneOut};
 ghost use Rattle.know.specs.Sound.{IsSound};
 ghost use Rattle.mon_config.specs.Configs.{IsLimited};
+ghost use Rattle.mon_store.specs.Gathers.{HasSeenTrace};
 ghost use Rattle.mon_store.specs.Passes.{IsPass};
 ghost use Rattle.mon_store.specs.Queries as spec;
 ghost use Rattle.mon_store.specs.Queries.{IsEnded, IsQueried, IsServed};
@@ -46,7 +47,8 @@ pub enum QueryFault {
 
 impl<N: Names> Store<N> {
     /// Asks a query's text at a moment, with a limit of its load. The text is read and typed first; then words, ranges
-    /// and leaves are looked at, one after another, each under its own lock. Nothing is written.
+    /// and leaves are looked at, one after another, each under its own lock. Nothing is written. What a table stands on
+    /// the caller has then seen, so that it can be gathered.
     pub fn query<R: Wait>(
         &self,
         rt: &R,
@@ -60,6 +62,7 @@ impl<N: Names> Store<N> {
         requires limit { limit ≤ 2 ^ ROW_BITS }
         ensures queried { IsQueried self.now text.now moment limit p.old p.new result }
         ensures still { GoesOn N.setting p.old p.new }
+        ensures seen { IfOk result (λ answer. HasSeenTrace self.now.topology p.new answer.trace) }
     {
         self.query_in(rt, alloc, &mut p.know, text, moment, limit)
     }
@@ -79,6 +82,7 @@ impl<N: Names> Store<N> {
         requires pass { IsPass N.setting know.old }
         ensures queried { IsQueried self.now text.now moment limit know.old know.new result }
         ensures still { GoesOn N.setting know.old know.new }
+        ensures seen { IfOk result (λ answer. HasSeenTrace self.now.topology know.new answer.trace) }
         ensures pass { IsPass N.setting know.new }
     {
         let _sight = know.sight();

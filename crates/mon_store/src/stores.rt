@@ -1,5 +1,7 @@
 // The store.
 ghost use Rattle.std.specs.Prelude.{◌≡◌, ◌<◌, length};
+ghost use Rattle.mon_config.specs.Configs.{IsLimited};
+ghost use Rattle.mon_store.specs.Stores.{setting_of};
 ghost use Rattle.mon_topo.specs.Zones.{leaves_in, ranges_in};
 
 use know::{Names, Tables};
@@ -31,6 +33,22 @@ impl<N: Names> Model for Store<N> {
 }
 
 impl<N: Names> Store<N> {
+    /// What it is set up with. No memory is taken.
+    pub fn config(&self) -> &Config
+        ensures config { result.now ≡ self.now }
+    {
+        &self.config
+    }
+
+    /// Does nothing, and tells what holds of each store: its name means its configuration, whose numbers are within
+    /// their limits.
+    pub fn is_set_up(&self)
+        ensures setting { setting_of self.now ≡ N.setting }
+        ensures limited { IsLimited self.now }
+    {
+        let _config = &self.config;
+    }
+
     /// The cell of a leaf.
     pub(crate) fn leaf_cell(&self, leaf: Leaf) -> &LeafCell<N>
         requires there { leaf.0 < length (leaves_in N.setting.zones) }

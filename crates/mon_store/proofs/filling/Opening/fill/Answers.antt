@@ -1,6 +1,6 @@
 use Rattle.std.proofs.Common.{◌≡◌, ◌+◌, sym, ap, subst, ◌∙◌, arith}
 use Rattle.std.specs.List.{range_with_len}
-use Rattle.history_book.specs.Seats.{first_seat}
+use Rattle.history_book.specs.Seats.{IsPurseBorneOut, first_seat}
 use Rattle.know.proofs.FirstLemmas.{nothing_is_sound}
 use Rattle.know.specs.Knowledge.{Knowledge, from_seats}
 use Rattle.know.specs.Sound.{IsSound}
@@ -11,6 +11,8 @@ use Rattle.raise_table.specs.Seats as raising
 use Rattle.mon_store.proofs.EndLemmas.{is_first, is_pass, seen_first}
 use Rattle.mon_store.proofs.StartLemmas.{begins, numbered_from}
 use Rattle.mon_store.proofs.filling.Opening.fill.Goals as goal
+use Rattle.mon_store.specs.Beginnings.{IsFirst}
+use Rattle.mon_store.specs.Passes.{IsPass}
 
 pub open_ranges-requires : goal.open_ranges-requires
 open_ranges-requires g c =
@@ -37,13 +39,17 @@ returns g c =
     let setting = g.N.Names.setting in
     let told = c.in_ok-open_ranges.ensures in
     let know = c.open_ranges.new.self.know in
+    let kept : c.confirm.new.self ≡ know = c.confirm.ensures.kept in
+    let borne : IsPurseBorneOut know.seen know.purse =
+    subst (λ (k : Knowledge). IsPurseBorneOut k.seen k.purse) kept c.confirm.ensures.borne_out in
     let leaves = c.open_ranges.new.self.leaves.items in
     let seen : know.seen ≡ first_histories setting.zones =
     seen_first setting.zones know.seen told.sound.held.all_leaves told.sound.held.all_ranges told.opening.seen in
     record {
-      first = is_first setting know told.opening.opener told.none seen c.args.config.now
-          (sym (ap (λ (s : Setting). s.zones) c.requires.setup.setting_is));
-      pass = is_pass setting know told.opening.opener told.none seen;
+      first = subst (IsFirst c.args.config.now) (sym kept)
+          (is_first setting know told.opening.opener told.none seen c.args.config.now
+          (sym (ap (λ (s : Setting). s.zones) c.requires.setup.setting_is)));
+      pass = subst (IsPass setting) (sym kept) (is_pass setting know told.opening.opener told.none seen borne);
       leaves = numbered_from 0 leaves (λ n leaf there.
           let number : n ≡ 0 + n = omega arith in
           (told.opening.new.each n leaf there).leaf_is ∙ ap leaf_numbered number)

@@ -36,7 +36,8 @@ new-requires g c =
           ∙ ap (λ n. Some n) c.requires.opening.opener.number;
       holds = subst (λ (r : Range). 0 < times_range r know.purse.holds) (sym same) c.requires.holds.some;
       opened = subst (λ (r : Range). HaveJust know.seen r (first_range_history zones r.0)) (sym same)
-          (first_just zones range has place (omega arith) know.seen c.requires.opening.seen);
+          (first_just zones range has place (omega arith) know.seen c.requires.opening.seen
+          c.sight-sight.ensures.sound.held.all_leaves);
       borne_out = subst (λ (r : Range). IsHeldBy know.seen r (first_range_history zones r.0)) (sym same)
           (first_borne_out zones range has place (omega arith) know.seen c.requires.opening.seen);
     }

@@ -11,7 +11,8 @@ use Rattle.mon_topo.specs.Settings.{Setting}
 use Rattle.mon_topo.specs.Sights.{no_sight, sight_of}
 use Rattle.mon_topo.specs.Zones.{leaves_in, ranges_in}
 use Rattle.mon_topo.specs.declared.zones.ZoneSpec.{ZoneSpec}
-use Rattle.mon_value.specs.Histories.{range_history}
+use Rattle.mon_value.specs.Histories.{leaf_history, range_history}
+use Rattle.mon_value.specs.LeafHistories.{is_opened}
 use Rattle.mon_value.specs.declared.histories.Histories.{Histories}
 use Rattle.range_cell.specs.Rest.{others}
 use Rattle.mon_store.proofs.OpeningLemmas.{holds_lent, opening_lent}
@@ -54,6 +55,8 @@ new-new-requires g c =
       holds = subst (λ (o : Owner). 0 < times_range range o.held) (sym is) (held_once range);
       only = ap (λ (o : Owner). others range o.held) is ∙ no_others range;
       none = ap (λ (o : Owner). range_history o.seen range) is ∙ none_at book.ranges range.0;
+      fresh = λ slot leaf past. ap (λ (o : Owner). is_opened range slot (leaf_history o.seen leaf)) is
+          ∙ ap (is_opened range slot) (none_at book.leaves leaf.0);
     }
 
 pub open_replicas-requires : goal.open_replicas-requires

@@ -4,6 +4,7 @@ use Rattle.query_texts.specs.Plans.{IsPlanOver, plan_type}
 use Rattle.query_texts.specs.TextTypes.{text_type}
 use Rattle.running_query.proofs.GoingLemmas.{same_goes}
 use Rattle.mon_store.proofs.QueryLemmas.{queried}
+use Rattle.mon_store.proofs.SeenTraceLemmas.{answer_seen}
 use Rattle.mon_store.specs.Queries.{EndsIf, areas_in}
 use Rattle.mon_store.specs.Stores.{setting_of}
 use Rattle.mon_store.proofs.stores.Store.query_in.Goals as goal
@@ -19,6 +20,13 @@ returns-in-Ok-clause-queried g c =
     (subst (λ (m : ℤ). EndsIf (setting_of c.args.self.now)
     (record { plan = c.in-Ok.plan; areas = areas_in c.args.self.now; limit = c.args.limit }) m c.args.know.now
     c.ask.new.know c.ask.result) same c.ask.ensures.ended)
+
+pub returns-in-Ok-clause-seen : goal.returns-in-Ok-clause-seen
+returns-in-Ok-clause-seen g c =
+    answer_seen c.args.self.now g.N.Names.setting c.args.text.now c.args.moment c.args.limit c.args.know.now
+    c.ask.new.know
+    (subst (λ (config : Config). g.N.Names.setting ≡ setting_of config) c.self.view_is c.self.invariant.0.setting_is)
+    c.ask.ensures.still c.ask.result (returns-in-Ok-clause-queried g c)
 
 pub returns-in-Err-Fault-Parse-clause-still : goal.returns-in-Err-Fault-Parse-clause-still
 returns-in-Err-Fault-Parse-clause-still g c = same_goes g.N.Names.setting c.args.know.now c.sight-sight.ensures.sound
