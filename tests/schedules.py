@@ -1,5 +1,5 @@
-"""Makes schedules by chance: writes, queries and switches of leaves by up to fourteen actors beside one another, over
-one leaf, over three leaves with ranges on one to three of them, and over two zones with three leaves each.
+"""Makes schedules by chance: writes, queries, switches of leaves and recoveries by up to fourteen actors beside one
+another, over one leaf, over three leaves with ranges on one to three of them, and over two zones with three leaves each.
 """
 
 import weaving
@@ -8,6 +8,7 @@ import weaving
 SETTINGS = [("one_leaf.json", "e", 1), ("three_leaves.json", "e", 2), ("six_leaves.json", "efw", 3)]
 USERS = ["alpha", "gamma", "kappa", "omega", "psi", "tau", ""]
 WRITE_EVENTS = ["reserve", "enter", "raise_root", "raise_zone", "put", "ack"]
+RECOVERY_EVENTS = ["reserve", "reserve", "enter", "raise_root", "raise_zone", "put", "ack"]
 QUERY_EVENTS = ["load_zone", "resolve", "visit", "visit", "visit"]
 
 QUERIES = [
@@ -62,7 +63,7 @@ class Maker:
     def is_lawful(self, line):
         word, number, *_ = line.split(" ")
         actor = self.weave.actors.get(int(number))
-        return word in ("write", "query", "down", "up", "meet") or actor.ended is None
+        return word in ("write", "query", "down", "up", "recover", "meet") or actor.ended is None
 
     def make(self):
         for _ in range(self.chance.randint(1, 4)):
@@ -79,12 +80,14 @@ class Maker:
         if not self.waiting:
             return
         how = self.chance.random()
-        if how < 0.45:
+        if how < 0.4:
             self.declare_write()
-        elif how < 0.8:
+        elif how < 0.7:
             self.declare_query()
-        else:
+        elif how < 0.87:
             self.declare_switch()
+        else:
+            self.declare_recovery()
 
     def declare_write(self):
         number = self.waiting.pop(0)
@@ -105,6 +108,16 @@ class Maker:
         is_likely = self.chance.random() < 0.9
         word = "up" if self.weave.down[leaf] == is_likely else "down"
         self.add(f"{word} {number} {self.setting.leaf_names[leaf]}")
+        return number
+
+    def declare_recovery(self):
+        number = self.waiting.pop(0)
+        self.kinds[number] = "recovery"
+        _, leaves, ranges = self.chance.choice(self.setting.zones)
+        place = self.chance.choice(ranges)
+        others = [leaf for leaf in leaves if leaf not in self.weave.serving[place]]
+        leaf = self.chance.choice(others if others and self.chance.random() < 0.8 else leaves)
+        self.add(f"recover {number} {self.setting.range_names[place]} {self.setting.leaf_names[leaf]}")
         return number
 
     def row(self):
@@ -131,7 +144,8 @@ class Maker:
         if not numbers:
             return
         number = self.chance.choice(numbers)
-        events = {"write": WRITE_EVENTS, "query": QUERY_EVENTS, "switch": ["switch"]}[self.kinds[number]]
+        kinds = {"write": WRITE_EVENTS, "query": QUERY_EVENTS, "switch": ["switch"], "recovery": RECOVERY_EVENTS}
+        events = kinds[self.kinds[number]]
         how = self.chance.random()
         if how < 0.35:
             self.add(f"step {number}", self.chance.choice([1, 1, 2, 3, 5]))
@@ -181,6 +195,7 @@ class Maker:
         other = next(other for other in range(1, weaving.MOST_ACTORS + 1) if other not in self.weave.actors)
         lines = [f"step {other}", f"until {other} put", f"meet {number} {other}", f"meet {number} {number}"]
         lines += [f"query {number} 1 fetch T::/m", f"until {number} nothing", "step 0", "finish 65", f"down {other} e9"]
+        lines += [f"recover {other} {self.setting.range_names[0]} e9", f"recover {other} east/9 e1"]
         ended = [number for number, actor in self.weave.actors.items() if actor.ended is not None]
         if ended:
             lines += [f"step {self.chance.choice(ended)}", f"meet {self.chance.choice(ended)} {self.chance.choice(ended)}"]

@@ -10,6 +10,8 @@ import re
 LAST = 2**63 - 1
 MOST_SWITCHES = 65_536
 MOST_ACTORS = 64
+MOST_REPLICAS = 3
+MOST_SLOTS = 64
 MOST_LINES = 100_000
 SPAN = 60
 EVENTS = "lock reserve enter raise_root raise_zone put ack load_root load_zone resolve visit switch".split()
@@ -95,9 +97,9 @@ class Setting:
                 return [number for number in ranges if self.ranges[number][0] <= target][-1]
         return None
 
-    def named_down(self, place, founds):
-        """A range and leaves that were found down, with their cuts."""
-        return " ".join([f"{self.range_names[place]}:", *(f"{self.leaf_names[leaf]}@{cut}" for leaf, cut in founds)])
+    def named_down(self, name, founds):
+        """Leaves that were found down, with their cuts, behind a name."""
+        return " ".join([f"{name}:", *(f"{self.leaf_names[leaf]}@{cut}" for leaf, cut in founds)])
 
     def hints(self, row):
         """The buckets of a row's series."""
@@ -458,6 +460,7 @@ class Weave:
         self.switches = [0] * len(setting.leaves)
         self.lengths = [sum(leaf in replicas for _, replicas in setting.ranges) for leaf in range(len(setting.leaves))]
         self.serving = [list(replicas) for _, replicas in setting.ranges]
+        self.slots = [list(replicas) for _, replicas in setting.ranges]
         self.acked = [[] for _ in setting.ranges]
         self.holders = {}
         self.actors = {}
@@ -492,7 +495,8 @@ class Weave:
     def acknowledge(self, place, row, leaves, missed):
         """A row is acknowledged, if some replica took it; those that missed it serve no more."""
         if len(missed) == len(leaves):
-            return f"refused: Unavailable {self.setting.named_down(place, [(leaf, missed[leaf]) for leaf in leaves])}\n"
+            name = self.setting.range_names[place]
+            return f"refused: Unavailable {self.setting.named_down(name, [(leaf, missed[leaf]) for leaf in leaves])}\n"
         self.acked[place].append(row)
         self.serving[place] = [leaf for leaf in leaves if leaf not in missed]
         return f"written: took {len(leaves) - len(missed)}, missed {len(missed)}\n"
@@ -507,12 +511,20 @@ class Weave:
 
     def put(self, number, place, leaf, row):
         """The events of a write within a leaf; where that is down, how long its history is."""
+        cut = yield from self.inside(number, leaf, [row])
+        if cut is None:
+            self.kept.setdefault((place, leaf), []).append(row)
+        return cut
+
+    def inside(self, number, leaf, rows):
+        """The events by which rows come to a leaf at once, up to and with the put; where the leaf is down, how long its
+        history is."""
         zone, bit = self.setting.leaves[leaf]
         yield "enter", ("leaf", leaf)
         if self.down[leaf]:
             return self.lengths[leaf]
         self.holders["leaf", leaf] = number
-        hints = self.setting.hints(row)
+        hints = set().union(*map(self.setting.hints, rows))
         fresh = sorted(hints - self.raised[leaf])
         for hint in fresh:
             yield "raise_root", None
@@ -522,9 +534,56 @@ class Weave:
             self.words[zone][hint] |= 1 << bit
         yield "put", None
         self.raised[leaf] |= hints
-        self.kept.setdefault((place, leaf), []).append(row)
         self.lengths[leaf] += 1
         del self.holders["leaf", leaf]
+        return None
+
+    def recover(self, number, place, leaf):
+        """A recovery of a range onto a leaf, which gives each event and whom it needs before it does it."""
+        yield "lock", ("range", place)
+        self.holders["range", place] = number
+        told = self.denial(place, leaf)
+        if told is None:
+            told = yield from self.copy(number, place, leaf)
+        yield "ack", None
+        if told is None:
+            told = f"recover {self.setting.range_names[place]} {self.setting.leaf_names[leaf]}: "
+            told += f"slot {len(self.slots[place])}\n"
+            self.serving[place].append(leaf)
+            self.slots[place].append(leaf)
+        del self.holders["range", place]
+        return told
+
+    def denial(self, place, leaf):
+        """Why a range opens no replica on a leaf, by what serves there now."""
+        if leaf in self.serving[place]:
+            slot = max(slot for slot, other in enumerate(self.slots[place]) if other == leaf)
+            return f"refused: Serving {slot}\n"
+        if len(self.serving[place]) == MOST_REPLICAS:
+            return "refused: ThreeServing\n"
+        if len(self.slots[place]) == MOST_SLOTS:
+            return f"refused: SlotsSpent {MOST_SLOTS}\n"
+        return None
+
+    def copy(self, number, place, leaf):
+        """The events of a recovery between its lock and its end: the rows of the first replica whose leaf is up come to
+        the leaf at once. Where that can't be, why."""
+        founds = []
+        for source in self.serving[place]:
+            yield "reserve", ("leaf", source)
+            if not self.down[source]:
+                rows = list(self.kept.get((place, source), []))
+                break
+            founds.append((source, self.lengths[source]))
+        else:
+            return f"refused: {self.setting.named_down('SourceDown', founds)}\n"
+        yield "reserve", ("leaf", leaf)
+        cut = self.lengths[leaf] if self.down[leaf] else None
+        if cut is None:
+            cut = yield from self.inside(number, leaf, rows)
+        if cut is not None:
+            return f"refused: TargetDown {cut}\n"
+        self.kept[place, leaf] = rows
         return None
 
     def switch(self, leaf, down):
@@ -591,7 +650,7 @@ class Weave:
             avoided = [leaf for leaf, _ in founds]
             first = next((leaf for leaf in self.serving[place] if leaf not in avoided), None)
             if first is None:
-                return f"refused: NoReplica {self.setting.named_down(place, founds)}\n"
+                return f"refused: NoReplica {self.setting.named_down(self.setting.range_names[place], founds)}\n"
             slots.setdefault(first, []).append(place)
         words = yield from self.load(buckets, zone)
         rows = []
@@ -675,7 +734,7 @@ def run_line(weave, line):
     word, rest = cut(line)
     if word in (b"step", b"finish"):
         return go(weave, number_in(rest, 1, MOST_ACTORS), word.decode())
-    if word not in (b"write", b"query", b"down", b"up", b"meet", b"until"):
+    if word not in (b"write", b"query", b"down", b"up", b"recover", b"meet", b"until"):
         raise Refused("BadLine")
     first, rest = cut(rest)
     number = number_in(first, 1, MOST_ACTORS)
@@ -691,6 +750,8 @@ def run_line(weave, line):
         if rest.decode() not in weave.setting.leaf_names:
             raise Refused("BadLine")
         events = weave.switch(weave.setting.leaf_names.index(rest.decode()), word == b"down")
+    elif word == b"recover":
+        events = weave.recover(number, *range_and_leaf(weave.setting, rest))
     else:
         moment, text = cut(rest)
         events = weave.query(number, number_in(moment, 0, LAST), text.decode())
@@ -704,6 +765,17 @@ def cut(line):
     if b" " not in line:
         raise Refused("BadLine")
     return line.split(b" ", 1)
+
+
+def range_and_leaf(setting, text):
+    """A range and a leaf of its zone, by their names."""
+    place, leaf = (part.decode() for part in cut(text))
+    if place not in setting.range_names or leaf not in setting.leaf_names:
+        raise Refused("BadLine")
+    place, leaf = setting.range_names.index(place), setting.leaf_names.index(leaf)
+    if not any(leaf in leaves and place in ranges for _, leaves, ranges in setting.zones):
+        raise Refused("BadLine")
+    return place, leaf
 
 
 def meet(weave, number, other):

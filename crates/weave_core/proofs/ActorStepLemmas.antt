@@ -3,14 +3,17 @@ use Rattle.std.proofs.Common.{◌≡◌, ◌<◌, ℕ, Bool, true, Option, Some,
 use Rattle.mon_config.specs.declared.config.Config.{Config}
 use Rattle.mon_value.specs.declared.positions.Leaf.{Leaf}
 use Rattle.weave_core.proofs.QueryStepLemmas.{at_asking, query_steps}
+use Rattle.weave_core.proofs.RecoveryStepLemmas.{opens, recover_steps}
 use Rattle.weave_core.proofs.SwitchStepLemmas.{asks_seated, asks_there, switching_steps}
 use Rattle.weave_core.proofs.WriteStepLemmas.{at_work, write_steps}
 use Rattle.weave_core.specs.ActorAgreements.{IsActorSo, IsTaskSo}
-use Rattle.weave_core.specs.ActorSteps.{ActorSteps, HasStepped, IsIn, IsSomewhere, QueriedSo, SwitchedSo}
-use Rattle.weave_core.specs.ActorSteps.{WrittenSo}
+use Rattle.weave_core.specs.ActorSteps.{ActorSteps, HasStepped, IsIn, IsSomewhere, QueriedSo, RecoveredSo}
+use Rattle.weave_core.specs.ActorSteps.{SwitchedSo, WrittenSo}
 use Rattle.core_theory.specs.Core.{Core, Reader}
 use Rattle.weave_core.specs.QueryTurns.{IsAskedSomewhere, IsAsking, QueriesSo}
-use Rattle.weave_core.specs.States.{Asking, Dismissed, Eventless, Role, State, Switching, Undeclared, Writing}
+use Rattle.weave_core.specs.RecoverTurns.{IsOpening, IsOpeningSomewhere, RecoversSo}
+use Rattle.weave_core.specs.States.{Asking, Dismissed, Eventless, Recovering, Role, State, Switching, Undeclared}
+use Rattle.weave_core.specs.States.{Writing}
 use Rattle.weave_core.specs.States.{role_fault}
 use Rattle.weave_core.specs.States.{store_of}
 use Rattle.weave_core.specs.Steps.{StepsIn, with_role}
@@ -24,6 +27,9 @@ use Rattle.weave_core.specs.declared.calls.Stepped.TheVariants as stepped
 use Rattle.weave_core.specs.declared.queries.QueryTurn.{QueryTurn}
 use Rattle.weave_core.specs.declared.queries.QueryTurn.TheVariants as query_turn
 use Rattle.weave_core.specs.declared.queries.Querying.{Querying}
+use Rattle.weave_core.specs.declared.recoveries.RecoverTurn.{RecoverTurn}
+use Rattle.weave_core.specs.declared.recoveries.RecoverTurn.TheVariants as recover_turn
+use Rattle.weave_core.specs.declared.recoveries.Recovering.{Recovering as Recover}
 use Rattle.mon_topo.specs.declared.sights.Sight.{Sight}
 use Rattle.weave_core.specs.declared.store.Store.{Store}
 use Rattle.weave_core.specs.declared.switches.Switched.{Switched}
@@ -65,6 +71,7 @@ module _ (config : Config) (state : State (store_of config)) (i : ℕ) where
     }
     refused_by (Switching leaf down) e h = absurd h
     refused_by Dismissed e h = absurd h
+    refused_by Recovering e h = absurd h
     refused_by Writing e h = absurd h
     refused_by Asking e h = absurd h
 
@@ -95,6 +102,13 @@ written_config config world i writing new before now (write_turn.Went next) h = 
 written_config config world i writing new before now (write_turn.Waits next) h = h.shared.config_is
 written_config config world i writing new before now (write_turn.Ended range end) h = h.came.shared.config_is
 
+recovered_config : (config : Config) (world : World) (i : ℕ) (recovering : Recover) (new : Store) (before now : Sight)
+    (turn : RecoverTurn) → RecoversSo config world i recovering new before now turn → new.config ≡ config
+recovered_config config world i recovering new before now (recover_turn.Went next) h = h.came.shared.config_is
+recovered_config config world i recovering new before now (recover_turn.Waits next) h = h.1.shared.config_is
+recovered_config config world i recovering new before now (recover_turn.Ended range leaf outcome) h =
+    h.came.shared.config_is
+
 queried_config : (config : Config) (core : Core (store_of config)) (i : ℕ) (querying : Querying) (new : Store)
     (before now : Sight) (turn : QueryTurn) → QueriesSo config core i querying new before now turn → new.config ≡ config
 queried_config config core i querying new before now (query_turn.Went next) h = h.shared.config_is
@@ -116,6 +130,18 @@ pub query_asks_for : (store : Store) (own : Actor) (querying : Querying) → own
 query_asks_for store own querying e some =
     asks_somewhere store querying own.sight own.begun
     (subst (λ (one : Actor). IsSomewhere store one) (own_is own (task.Queries querying) e) some)
+
+pub recover_asks_for : (store : Store) (own : Actor) (recovering : Recover) → own.task ≡ task.Recovers recovering
+    → IsSomewhere store own → IsOpeningSomewhere store recovering own.sight
+recover_asks_for store own recovering e some =
+    let at : IsSomewhere store (record { task = task.Recovers recovering; sight = own.sight; begun = own.begun })
+    = subst (λ (one : Actor). IsSomewhere store one) (own_is own (task.Recovers recovering) e) some in
+    record {
+      config = at.config;
+      world = at.state.core.world;
+      i = at.i;
+      opening = opens at.config at.state at.i store recovering own.sight own.begun at.is_in;
+    }
 
 -- what a switch asks for
 pub record MaySwitchThere (store : Store) (leaf : Leaf) (sight : Sight) : Type 0 where
@@ -154,6 +180,21 @@ module _ (config : Config) (state : State (store_of config)) (i : ℕ) (store : 
       (sym (own_is own (task.Switches switching) e))
       (switching_steps config state i store switching own.sight own.begun (as_task (task.Switches switching) e) new
       now what next how did h)
+
+  pub recover_step : (recovering : Recover) → own.task ≡ task.Recovers recovering → (new : Store) (now : Sight)
+      (turn : RecoverTurn) (next : Actor) (how : Option Stepped)
+      → ((at : IsOpening config state.core.world i store recovering own.sight)
+      → RecoversSo config state.core.world i recovering new own.sight now turn)
+      → RecoveredSo new.config.topology turn now own.begun next how → ActorSteps config state i new own next how
+  recover_step recovering e new now turn next how recovers h =
+      let so : RecoversSo config state.core.world i recovering new own.sight now turn
+      = recovers (opens config state i store recovering own.sight own.begun (as_task (task.Recovers recovering) e)) in
+      subst (λ (one : Actor). ActorSteps config state i new one next how)
+      (sym (own_is own (task.Recovers recovering) e))
+      (recover_steps config state i store recovering own.sight own.begun (as_task (task.Recovers recovering) e)
+      new.config.topology new now turn next how
+      (ap (λ (c : Config). c.topology)
+      (recovered_config config state.core.world i recovering new own.sight now turn so)) so h)
 
   pub write_step : (writing : Write) → own.task ≡ task.Writes writing → (new : Store) (now : Sight)
       (turn : WriteTurn)

@@ -148,7 +148,7 @@ module _ (range : Range) (slot : Slot) where
 
 -- ---- what a range has
 
-opened_count : (slot : ℕ) (leaves : List Leaf) → length (opened_slots (openings_from slot leaves)) ≡ length leaves
+pub opened_count : (slot : ℕ) (leaves : List Leaf) → length (opened_slots (openings_from slot leaves)) ≡ length leaves
 opened_count slot [] = refl
 opened_count slot (leaf ∷ leaves) = ap suc (opened_count (slot + 1) leaves)
 

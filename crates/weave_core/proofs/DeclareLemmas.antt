@@ -24,7 +24,7 @@ use Rattle.core_theory.proofs.HolderLemmas.{holders_changed}
 use Rattle.weave_core.proofs.NumberLemmas.{agrees_at, set_apart, set_at, shared_beside}
 use Rattle.weave_core.proofs.ReachedLemmas.{fresh_reader, part_of}
 use Rattle.weave_core.proofs.StepLemmas.{Leaves}
-use Rattle.weave_core.specs.ActorAgreements.{Agrees, HasWrittenNothing, IsActorSo, IsQuerying, IsWriting}
+use Rattle.weave_core.specs.ActorAgreements.{Agrees, HasWrittenNothing, IsActorSo, IsQuerying, IsRecovering, IsWriting}
 use Rattle.weave_core.specs.ActorAgreements.{actor_numbered, flat}
 use Rattle.weave_core.specs.Agreements.{AreShared, IsServed, first_view}
 use Rattle.core_theory.specs.Core.{CanCome, Happens, Reader}
@@ -32,13 +32,14 @@ use Rattle.weave_core.specs.Declarations.{Declares, QueryBegins, WriteBegins, ne
 use Rattle.weave_core.specs.EndTexts.{no_plan_line, no_zone_line}
 use Rattle.mon_topo.specs.FirstHistories.{first_histories}
 use Rattle.core_theory.specs.Holders.{AreHolders, HoldsLeaf, HoldsRange}
-use Rattle.weave_core.specs.LawfulLines.{IsLawfulCall}
+use Rattle.weave_core.specs.LawfulLines.{IsLawfulCall, IsRecoverable}
 use Rattle.core_theory.specs.Licensed.{IsReader}
 use Rattle.weave_core.specs.NewActors.{BeginsToWrite, IsTaskOf, IsDeclaredActor}
 use Rattle.weave_core.specs.QueryPlans.{BeginsToAsk}
 use Rattle.mon_topo.specs.Sights.{sight_of}
-use Rattle.weave_core.specs.States.{Asking, Dismissed, Eventless, Role, State, Switching, Undeclared, Writing}
-use Rattle.weave_core.specs.States.{declared_in}
+use Rattle.weave_core.specs.States.{Asking, Dismissed, Eventless, Recovering, Role, State, Switching, Undeclared}
+use Rattle.weave_core.specs.States.{Writing}
+use Rattle.weave_core.specs.States.{declared_in, recovers_begun}
 use Rattle.weave_core.specs.States.{store_of, writes_begun}
 use Rattle.weave_core.specs.Steps.{with_event, with_role}
 use Rattle.weave_core.specs.WeaveCalls.{DeclaresSo, IsWeaveKept, MayDeclare}
@@ -50,17 +51,20 @@ use Rattle.weave_core.specs.declared.calls.Call.TheVariants as call
 use Rattle.weave_core.specs.declared.calls.WeaveFault.TheVariants as fault
 use Rattle.weave_core.specs.declared.limits.TheConstants.{LAST_ACTOR}
 use Rattle.weave_core.specs.declared.queries.Querying.{Querying}
+use Rattle.weave_core.specs.declared.recoveries.Recovering.{Recovering as Recover}
 use Rattle.mon_topo.specs.declared.sights.Sight.{Sight}
 use Rattle.weave_core.specs.declared.store.Store.{Store}
 use Rattle.weave_core.specs.declared.switches.Switching.{Switching as Switch}
 use Rattle.weave_core.specs.declared.weave.Weave.{Weave}
 use Rattle.weave_core.specs.declared.writes.Writing.{Writing as Write}
 use Rattle.write_core.proofs.KeepsLemmas.{changed_by, changed_other, changed_same}
-use Rattle.write_core.specs.Events.{Begins, CanBegin, new_writer}
+use Rattle.write_core.specs.Events.{Aims, Begins, CanAim, CanBegin, new_recovery, new_writer}
 use Rattle.write_core.specs.Program.{Locking, new_write}
+use Rattle.write_core.specs.Recovering.{Beginning}
 use Rattle.mon_topo.specs.Views.{View}
-use Rattle.write_core.specs.World.{Actor as Doer, Stands, Writes, with_value_at, view_of}
+use Rattle.write_core.specs.World.{Actor as Doer, Recovers, Stands, Writes, with_value_at, view_of}
 use Rattle.write_core.specs.declared.asks.WriteAsk.TheVariants as write_ask
+use Rattle.write_core.specs.declared.copies.CopyAsk.TheVariants as copy_ask
 
 -- ---- who stands by
 
@@ -117,6 +121,35 @@ writing_is config i row writing h = λ k. record {
   inside = h.inside k;
 }
 
+-- ---- a recovery that has not begun
+
+abbrev pub at_beginning : ℕ → Range → Leaf → View → Doer
+at_beginning i range leaf view =
+    Recovers (record { pass = i; range = range; leaf = leaf; stage = Beginning; view = view })
+
+abbrev recovering_of : ℕ → Range → Leaf → Recover
+recovering_of i range leaf = record { number = i; range = range; leaf = leaf; machine = Beginning }
+
+opens_first : copy_ask.Lock ≡ copy_ask.Finished → ⊥
+opens_first e = cc
+
+new_recovering : (config : Config) (i : ℕ) (doer : Doer) (reader : Reader (store_of config)) (range : Range)
+    (leaf : Leaf) → doer ≡ at_beginning i range leaf (first_view config)
+    → IsRecovering config i doer reader (recovering_of i range leaf) false (sight_of (first_view config).seen)
+new_recovering config i doer reader range leaf e = record {
+  recoverer = record {
+    number = refl;
+    recovers = e ∙ ap (λ (v : View). at_beginning i range leaf v) (sym (ap (λ (d : Doer). view_of d) e));
+    asks = tt;
+    below = tt;
+    since = λ at. subst (λ (d : Doer). AreWithin (first_histories config.topology) (view_of d).seen) (sym e)
+        (seen_within_itself (first_histories config.topology));
+    seen = ap (λ (d : Doer). sight_of (view_of d).seen) (sym e);
+  };
+  goes_on = opens_first;
+  begun_is = ap (λ (d : Doer). recovers_begun d) (sym e);
+}
+
 -- ---- a query that has not begun
 
 loads_first : (setting : QuerySetting) (stage : Stage) → stage ≡ (new_query setting).stage
@@ -144,6 +177,7 @@ module _ (config : Config) (state : State (store_of config)) (i : ℕ) where
   undeclared_by (Eventless text) one e h = absurd cc
   undeclared_by (Switching leaf down) one e h = absurd cc
   undeclared_by Dismissed one e h = absurd cc
+  undeclared_by Recovering one e h = absurd cc
   undeclared_by Writing one e h = absurd cc
   undeclared_by Asking one e h = absurd cc
 
@@ -247,6 +281,57 @@ module _ (config : Config) (state : State (store_of config)) (i : ℕ) where
             };
             shared = agrees.shared;
             actor = as_new (task.Switches Switch') begun sight new seen Ready switch_so;
+          })
+
+    -- a recovery
+
+    module _ (range : Range) (leaf : Leaf) (may : IsRecoverable config.topology range leaf) where
+      abbrev Aimed : State (store_of config)
+      Aimed = with_event (store_of config) state (Happens (Aims i range leaf))
+
+      abbrev Recovered : State (store_of config)
+      Recovered = with_role (store_of config) Aimed i Recovering
+
+      aims : CanCome (store_of config) state.core (Happens (Aims i range leaf))
+      aims = subst (λ (doer : Doer). CanAim (store_of config) range leaf doer) (sym stands)
+          (record { range_there = may.range_there; leaf_there = may.leaf_there; zoned = may.zoned })
+
+      recover_left : Leaves (store_of config) state i Recovered
+      recover_left = record {
+        woven = stays_woven (store_of config) state.core (Happens (Aims i range leaf) ∷ []) (aims, tt) agrees.woven;
+        holders = holders_changed state.core.world i (Recovers (new_recovery range leaf Doer')) agrees.holders
+            (λ r held. absurd (subst (λ (doer : Doer). HoldsRange r doer) stands held))
+            (λ l held. absurd (subst (λ (doer : Doer). HoldsLeaf l doer) stands held));
+        others = record {
+          actor = λ j apart. changed_other state.core.world.actors i j (Recovers (new_recovery range leaf Doer')) apart;
+          reader = λ j apart. refl;
+          role = λ j apart. changed_other state.roles i j Recovering apart;
+        };
+      }
+
+      new_recoverer : Aimed.core.world.actors i ≡ at_beginning i range leaf (first_view config)
+      new_recoverer = changed_same state.core.world.actors i (Recovers (new_recovery range leaf Doer'))
+          ∙ ap (λ (doer : Doer). Recovers (new_recovery range leaf doer)) stands
+
+      recover_so : IsActorSo config i (Recovered.core.world.actors i) (Recovered.core.readers i) (Recovered.roles i)
+          (Some (record { task = task.Recovers (recovering_of i range leaf); sight = First; begun = false }))
+      recover_so = subst (λ (role : Role). IsActorSo config i (Aimed.core.world.actors i) Reader' role
+          (Some (record { task = task.Recovers (recovering_of i range leaf); sight = First; begun = false })))
+          (sym (changed_same state.roles i Recovering))
+          (new_recovering config i (Aimed.core.world.actors i) Reader' range leaf new_recoverer)
+
+      recover_declared : (one : Task) (begun : Bool) (sight : Sight) → begun ≡ false → sight ≡ First
+          → one ≡ task.Recovers (recovering_of i range leaf)
+          → IsDeclaredSo (call.Recover range leaf) one begun sight
+      recover_declared one begun sight new seen is =
+          subst (λ (t : Task). IsDeclaredSo (call.Recover range leaf) t begun sight) (sym is) (record {
+            after = Recovered;
+            declares = (aims, refl);
+            leaves = recover_left;
+            shared = shared_beside config state.core.world (with_value_at state.core.world.actors i
+                (Recovers (new_recovery range leaf Doer')))
+                weave.store agrees.shared;
+            actor = as_new (task.Recovers (recovering_of i range leaf)) begun sight new seen Recovered recover_so;
           })
 
     -- a write
@@ -388,6 +473,7 @@ module _ (config : Config) (state : State (store_of config)) (i : ℕ) where
         (sym (writing_is config i row writing h))
         (write_declared row writing.range h.range_is h.there lawful begun sight new seen)
     declared_by (call.Write row) (task.Switches switching) begun sight new seen lawful h = absurd h
+    declared_by (call.Write row) (task.Recovers recovering) begun sight new seen lawful h = absurd h
     declared_by (call.Write row) (task.Queries querying) begun sight new seen lawful h = absurd h
     declared_by (call.Write row) task.Ended begun sight new seen lawful h = absurd h
     declared_by (call.Query moment text) (task.Refused line) begun sight new seen lawful h =
@@ -397,6 +483,7 @@ module _ (config : Config) (state : State (store_of config)) (i : ℕ) where
         (subst (λ (typed : Result TypedTree TextFault). QueryBegins config state i moment typed
         (with_role (store_of config) state i (Eventless said))) (sym h.refused) refl))
     declared_by (call.Query moment text) (task.Switches switching) begun sight new seen lawful h = absurd h
+    declared_by (call.Query moment text) (task.Recovers recovering) begun sight new seen lawful h = absurd h
     declared_by (call.Query moment text) (task.Writes writing) begun sight new seen lawful h = absurd h
     declared_by (call.Query moment text) (task.Queries querying) begun sight new seen lawful h =
         query_declared moment text querying h lawful begun sight new seen
@@ -405,6 +492,8 @@ module _ (config : Config) (state : State (store_of config)) (i : ℕ) where
         switch_declared (call.Down leaf) leaf true lawful refl one begun sight new seen h
     declared_by (call.Up leaf) one begun sight new seen lawful h =
         switch_declared (call.Up leaf) leaf false lawful refl one begun sight new seen h
+    declared_by (call.Recover range leaf) one begun sight new seen lawful h =
+        recover_declared range leaf lawful one begun sight new seen h
 
 -- ---- a weave in which it stands at its number
 

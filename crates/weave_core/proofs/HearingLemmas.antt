@@ -7,6 +7,7 @@ use Rattle.std.proofs.lemmas.List.{length-set}
 use Rattle.std.proofs.lemmas.Option.{slice_get_read}
 use Rattle.mon_config.specs.declared.config.Config.{Config}
 use Rattle.mon_topo.proofs.HeldLemmas.{seen_within_through}
+use Rattle.mon_topo.specs.SeenHistories.{AreWithin}
 use Rattle.mon_value.specs.declared.histories.Histories.{Histories}
 use Rattle.mon_value.specs.declared.positions.Leaf.{Leaf}
 use Rattle.mon_value.specs.Histories.{joined_histories}
@@ -22,7 +23,8 @@ use Rattle.weave_core.proofs.SeatLemmas.{parts_alike}
 use Rattle.mon_topo.proofs.SightLemmas.{joined_seen}
 use Rattle.weave_core.proofs.StepLemmas.{Leaves}
 use Rattle.weave_core.proofs.WeaveLemmas.{numbered_there}
-use Rattle.weave_core.specs.ActorAgreements.{Agrees, IsActorSo, IsTaskSo, IsQuerying, IsSwitching, IsWithoutEvent}
+use Rattle.weave_core.specs.ActorAgreements.{Agrees, IsActorSo, IsRecovering, IsTaskSo, IsQuerying, IsSwitching}
+use Rattle.weave_core.specs.ActorAgreements.{IsWithoutEvent}
 use Rattle.weave_core.specs.ActorAgreements.{IsWriting, actor_numbered, flat}
 use Rattle.weave_core.specs.Agreements.{AreShared}
 use Rattle.core_theory.specs.Core.{CanCome, Happens, Hears, Reader, begun_with}
@@ -35,8 +37,10 @@ use Rattle.weave_core.specs.NewActors.{hearing_of}
 use Rattle.weave_core.specs.Schedules.{meet_fault}
 use Rattle.mon_topo.specs.Sights.{AreAlike, joined_sight, sight_of}
 use Rattle.weave_core.specs.States as spec
-use Rattle.weave_core.specs.States.{Asking, Dismissed, Eventless, Role, State, Switching, Undeclared, Writing}
-use Rattle.weave_core.specs.States.{begun_in}
+use Rattle.weave_core.specs.Recoverers.{recovery_of}
+use Rattle.weave_core.specs.States.{Asking, Dismissed, Eventless, Recovering, Role, State, Switching, Undeclared}
+use Rattle.weave_core.specs.States.{Writing}
+use Rattle.weave_core.specs.States.{begun_in, is_copy_past_lock, recovers_begun}
 use Rattle.mon_value.specs.Parts.{is_any}
 use Rattle.weave_core.specs.States.{declared_in, is_past_lock, store_of, view_at, view_in, writes_begun}
 use Rattle.weave_core.specs.Steps.{with_event}
@@ -47,6 +51,7 @@ use Rattle.weave_core.specs.declared.actors.Task.{Task}
 use Rattle.weave_core.specs.declared.actors.Task.TheVariants as task
 use Rattle.weave_core.specs.declared.calls.WeaveFault.TheVariants as fault
 use Rattle.weave_core.specs.declared.queries.Querying.{Querying}
+use Rattle.weave_core.specs.declared.recoveries.Recovering.{Recovering as Recover}
 use Rattle.mon_topo.specs.declared.sights.Sight.{Sight}
 use Rattle.weave_core.specs.declared.store.Store.{Store}
 use Rattle.weave_core.specs.declared.switches.Switching.{Switching as Switch}
@@ -56,6 +61,7 @@ use Rattle.write_core.proofs.KeepsLemmas.{changed_other, changed_same}
 use Rattle.write_core.proofs.ViewLemmas.{joined_first}
 use Rattle.write_core.specs.Events.{HasNotBegun, Learns}
 use Rattle.write_core.specs.Program.{Acking, Ended, Entering, Inside, Locking, Reserving, Stage}
+use Rattle.write_core.specs.Recovering.{Beginning, Carrying, CopyStage, Copying, Nearing, Over, Telling, Within}
 use Rattle.mon_topo.specs.Views.{View, joined_view}
 use Rattle.write_core.specs.World.{Actor as Doer, IsPart, Recovers, Stands, Writes, with_value_at, view_of, wiser}
 
@@ -78,6 +84,15 @@ locking (Entering round) e = absurd cc
 locking (Inside round at_root in_zone) e = absurd cc
 locking (Acking verdict) e = absurd cc
 locking (Ended verdict) e = absurd cc
+
+beginning : (stage : CopyStage) → is_copy_past_lock stage ≡ false → stage ≡ Beginning
+beginning Beginning e = refl
+beginning (Copying founds sources) e = absurd cc
+beginning (Carrying rows) e = absurd cc
+beginning (Nearing rows) e = absurd cc
+beginning (Within rows at_root in_zone) e = absurd cc
+beginning (Telling outcome) e = absurd cc
+beginning (Over outcome) e = absurd cc
 
 none_of : {X : Type 0} (xs : List X) → is_any xs ≡ false → xs ≡ []
 none_of [] e = refl
@@ -109,26 +124,37 @@ module _ (config : Config) (state : State (store_of config)) (i : ℕ) where
   sight_so Undeclared one begun sight h = absurd h
   sight_so (Eventless text) (task.Refused own) begun sight h = h.seen
   sight_so (Eventless text) (task.Switches switching) begun sight h = absurd h
+  sight_so (Eventless text) (task.Recovers recovering) begun sight h = absurd h
   sight_so (Eventless text) (task.Writes writing) begun sight h = absurd h
   sight_so (Eventless text) (task.Queries querying) begun sight h = absurd h
   sight_so (Eventless text) task.Ended begun sight h = absurd h
   sight_so (Switching leaf down) (task.Refused own) begun sight h = absurd h
   sight_so (Switching leaf down) (task.Switches switching) begun sight h = h.seen
+  sight_so (Switching leaf down) (task.Recovers recovering) begun sight h = absurd h
   sight_so (Switching leaf down) (task.Writes writing) begun sight h = absurd h
   sight_so (Switching leaf down) (task.Queries querying) begun sight h = absurd h
   sight_so (Switching leaf down) task.Ended begun sight h = absurd h
   sight_so Dismissed (task.Refused own) begun sight h = absurd h
   sight_so Dismissed (task.Switches switching) begun sight h = absurd h
+  sight_so Dismissed (task.Recovers recovering) begun sight h = absurd h
   sight_so Dismissed (task.Writes writing) begun sight h = absurd h
   sight_so Dismissed (task.Queries querying) begun sight h = absurd h
   sight_so Dismissed task.Ended begun sight h = h.seen
+  sight_so Recovering (task.Refused own) begun sight h = absurd h
+  sight_so Recovering (task.Switches switching) begun sight h = absurd h
+  sight_so Recovering (task.Recovers recovering) begun sight h = h.recoverer.seen
+  sight_so Recovering (task.Writes writing) begun sight h = absurd h
+  sight_so Recovering (task.Queries querying) begun sight h = absurd h
+  sight_so Recovering task.Ended begun sight h = h.seen
   sight_so Writing (task.Refused own) begun sight h = absurd h
   sight_so Writing (task.Switches switching) begun sight h = absurd h
+  sight_so Writing (task.Recovers recovering) begun sight h = absurd h
   sight_so Writing (task.Writes writing) begun sight h = h.writer.seen
   sight_so Writing (task.Queries querying) begun sight h = absurd h
   sight_so Writing task.Ended begun sight h = h.seen
   sight_so Asking (task.Refused own) begun sight h = absurd h
   sight_so Asking (task.Switches switching) begun sight h = absurd h
+  sight_so Asking (task.Recovers recovering) begun sight h = absurd h
   sight_so Asking (task.Writes writing) begun sight h = absurd h
   sight_so Asking (task.Queries querying) begun sight h = h.reader_so.seen
   sight_so Asking task.Ended begun sight h = h.seen
@@ -139,6 +165,7 @@ module _ (config : Config) (state : State (store_of config)) (i : ℕ) where
   part_in (Eventless text) woven = part_of (store_of config) state.core.world i Doer' (woven.world.actors i)
   part_in (Switching leaf down) woven = part_of (store_of config) state.core.world i Doer' (woven.world.actors i)
   part_in Dismissed woven = part_of (store_of config) state.core.world i Doer' (woven.world.actors i)
+  part_in Recovering woven = part_of (store_of config) state.core.world i Doer' (woven.world.actors i)
   part_in Writing woven = part_of (store_of config) state.core.world i Doer' (woven.world.actors i)
   part_in Asking woven = (woven.readers i).part
 
@@ -151,6 +178,8 @@ module _ (config : Config) (state : State (store_of config)) (i : ℕ) where
   somebody (Switching leaf down) (Some own) e h = record { own = own; is = refl }
   somebody Dismissed None e h = absurd h
   somebody Dismissed (Some own) e h = record { own = own; is = refl }
+  somebody Recovering None e h = absurd h
+  somebody Recovering (Some own) e h = record { own = own; is = refl }
   somebody Writing None e h = absurd h
   somebody Writing (Some own) e h = record { own = own; is = refl }
   somebody Asking None e h = absurd h
@@ -233,6 +262,43 @@ module _ (config : Config) (state : State (store_of config)) (i : ℕ) where
             begun_is = h.begun_is;
             seen = joined_of sight (view_of Doer').seen view.seen h.seen
                 ∙ ap (λ (d : Doer). sight_of (view_of d).seen) (sym now);
+          };
+        }
+
+    recover_hears : (recovering : Recover) (begun : Bool) (sight : Sight) → recovers_begun Doer' ≡ false
+        → IsRecovering config i Doer' Reader' recovering begun sight
+        → HearsSo Recovering (task.Recovers recovering) begun sight
+    recover_hears recovering begun sight free h =
+        let now : Learned.core.world.actors i
+        ≡ Recovers (recovery_of i recovering (joined_view (view_of Doer') view))
+        = wiser_now (Recovers (recovery_of i recovering (view_of Doer'))) h.recoverer.recovers in
+        let first : recovering.machine ≡ Beginning
+        = beginning recovering.machine (sym (ap (λ (d : Doer). recovers_begun d) h.recoverer.recovers) ∙ free) in
+        let new : HasNotBegun Doer' = subst (λ (doer : Doer). HasNotBegun doer) (sym h.recoverer.recovers) first in
+        let mine : IsPart (store_of config) state.core.world (view_of Doer')
+        = part_of (store_of config) state.core.world i Doer' (agrees.woven.world.actors i) in
+        record {
+          can = (new, part);
+          leaves = learned_left new;
+          shared = learned_shared;
+          actor = record {
+            recoverer = record {
+              number = h.recoverer.number;
+              recovers = now
+                  ∙ ap (λ (v : View). Recovers (recovery_of i recovering v)) (sym (ap (λ (d : Doer). view_of d) now));
+              asks = h.recoverer.asks;
+              below = h.recoverer.below;
+              since = λ at. subst (λ (d : Doer). AreWithin (first_histories config.topology) (view_of d).seen)
+                  (sym now)
+                  (seen_within_through (first_histories config.topology) (view_of Doer').seen
+                  (joined_view (view_of Doer') view).seen (h.recoverer.since at)
+                  (joined_first (view_of Doer') view state.core.world.truth mine.within part.within).seen);
+              seen = joined_of sight (view_of Doer').seen view.seen h.recoverer.seen
+                  ∙ ap (λ (d : Doer). sight_of (view_of d).seen) (sym now);
+            };
+            goes_on = h.goes_on;
+            begun_is = h.begun_is ∙ ap (λ (d : Doer). recovers_begun d) h.recoverer.recovers
+                ∙ sym (ap (λ (d : Doer). recovers_begun d) now);
           };
         }
 
@@ -319,23 +385,33 @@ module _ (config : Config) (state : State (store_of config)) (i : ℕ) where
     hears_by Undeclared one begun sight free h = absurd h
     hears_by (Eventless text) (task.Refused own) begun sight free h = eventless_hears text own begun sight h
     hears_by (Eventless text) (task.Switches switching) begun sight free h = absurd h
+    hears_by (Eventless text) (task.Recovers recovering) begun sight free h = absurd h
     hears_by (Eventless text) (task.Writes writing) begun sight free h = absurd h
     hears_by (Eventless text) (task.Queries querying) begun sight free h = absurd h
     hears_by (Eventless text) task.Ended begun sight free h = absurd h
     hears_by (Switching leaf down) (task.Refused own) begun sight free h = absurd h
     hears_by (Switching leaf down) (task.Switches switching) begun sight free h =
         switch_hears leaf down switching begun sight h
+    hears_by (Switching leaf down) (task.Recovers recovering) begun sight free h = absurd h
     hears_by (Switching leaf down) (task.Writes writing) begun sight free h = absurd h
     hears_by (Switching leaf down) (task.Queries querying) begun sight free h = absurd h
     hears_by (Switching leaf down) task.Ended begun sight free h = absurd h
     hears_by Dismissed one begun sight free h = absurd cc
+    hears_by Recovering (task.Refused own) begun sight free h = absurd h
+    hears_by Recovering (task.Switches switching) begun sight free h = absurd h
+    hears_by Recovering (task.Recovers recovering) begun sight free h = recover_hears recovering begun sight free h
+    hears_by Recovering (task.Writes writing) begun sight free h = absurd h
+    hears_by Recovering (task.Queries querying) begun sight free h = absurd h
+    hears_by Recovering task.Ended begun sight free h = let no : true ≡ false = sym h.begun_is ∙ free in absurd cc
     hears_by Writing (task.Refused own) begun sight free h = absurd h
     hears_by Writing (task.Switches switching) begun sight free h = absurd h
+    hears_by Writing (task.Recovers recovering) begun sight free h = absurd h
     hears_by Writing (task.Writes writing) begun sight free h = write_hears writing begun sight free h
     hears_by Writing (task.Queries querying) begun sight free h = absurd h
     hears_by Writing task.Ended begun sight free h = let no : true ≡ false = sym h.begun_is ∙ free in absurd cc
     hears_by Asking (task.Refused own) begun sight free h = absurd h
     hears_by Asking (task.Switches switching) begun sight free h = absurd h
+    hears_by Asking (task.Recovers recovering) begun sight free h = absurd h
     hears_by Asking (task.Writes writing) begun sight free h = absurd h
     hears_by Asking (task.Queries querying) begun sight free h = query_hears querying begun sight free h
     hears_by Asking task.Ended begun sight free h = let no : true ≡ false = sym h.begun_is ∙ free in absurd cc

@@ -12,6 +12,7 @@ pub mod LockLemmas
 pub mod LockTurnLemmas
 pub mod NumberLemmas
 pub mod OpeningLemmas
+pub mod OpeningToldLemmas
 pub mod PassedLemmas
 pub mod PlaceLemmas
 pub mod PutTurnLemmas
@@ -23,9 +24,18 @@ pub mod QueryTurnLemmas
 pub mod RaiseLemmas
 pub mod RaiseTurnLemmas
 pub mod RangeAnswers
+pub mod RangeTextLemmas
 pub mod ReachedLemmas
-pub mod SeatingLemmas
+pub mod RecoveryBuckets
+pub mod RecoveryLeafLemmas
+pub mod RecoveryLemmas
+pub mod RecoveryRangeLemmas
+pub mod RecoveryReturns
+pub mod RecoveryStepLemmas
+pub mod RecoveryTurnLemmas
 pub mod SeatLemmas
+pub mod SeatingLemmas
+pub mod SharedZoneLemmas
 pub mod StepLemmas
 pub mod SwitchEntryLemmas
 pub mod SwitchStepLemmas

@@ -19,7 +19,8 @@ use Rattle.core_theory.specs.Core.{Reader, Tells, asked_now, told_on, view_told,
 use Rattle.weave_core.specs.EndTexts.{query_text}
 use Rattle.weave_core.specs.EventNames.{event_of_query}
 use Rattle.weave_core.specs.QueryTurns.{IsAsking, QueriesSo}
-use Rattle.weave_core.specs.States.{Asking, Dismissed, Eventless, Role, State, Switching, Undeclared, Writing}
+use Rattle.weave_core.specs.States.{Asking, Dismissed, Eventless, Recovering, Role, State, Switching, Undeclared}
+use Rattle.weave_core.specs.States.{Writing}
 use Rattle.weave_core.specs.States.{role_fault}
 use Rattle.mon_value.specs.Parts.{is_any}
 use Rattle.weave_core.specs.States.{holder_in, step_fault, store_of}
@@ -91,6 +92,7 @@ module _ (config : Config) (state : State (store_of config)) (i : ℕ) (store : 
   asking_by (Eventless text) h = absurd h
   asking_by (Switching leaf down) h = absurd h
   asking_by Dismissed h = absurd h
+  asking_by Recovering h = absurd h
   asking_by Writing h = absurd h
   asking_by Asking h = refl
 

@@ -20,7 +20,7 @@ first_by x rest false same = absurd (grind (arith, nat_tests))
 first_among : (x : ℕ) (xs : List ℕ) → is_among x (x ∷ xs) ≡ true
 first_among x xs = first_by x (is_among x xs) (x == x) refl
 
-all_among : (count : ℕ) (xs : List ℕ) → ((x : ℕ) → is_among x xs ≡ true → x < count) → AllBelow count xs
+pub all_among : (count : ℕ) (xs : List ℕ) → ((x : ℕ) → is_among x xs ≡ true → x < count) → AllBelow count xs
 all_among count [] h = tt
 all_among count (x ∷ xs) h =
     (h x (first_among x xs), all_among count xs (λ y e. h y (later_among (y == x) (is_among y xs) e)))

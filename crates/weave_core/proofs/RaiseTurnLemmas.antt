@@ -90,7 +90,7 @@ module _ (config : Config) (world next : World) (words : HintTable) (are : AreWo
     count_raised = length-set words.words _ _
 
   -- the zone's bit at the root
-  root_words : (zone : ℕ) → zone < 64
+  pub root_words : (zone : ℕ) → zone < 64
       → ((z b : ℕ) → next.truth.bits.root z b ≡ with_bit world.truth.bits.root zone bucket z b)
       → ((leaf b : ℕ) → next.truth.bits.zone leaf b ≡ world.truth.bits.zone leaf b)
       → AreWords config next (with_child_bit words word.Root zone bucket)
@@ -116,7 +116,7 @@ module _ (config : Config) (world next : World) (words : HintTable) (are : AreWo
       }
 
   -- the leaf's bit in its zone
-  zone_words : (leaf : Leaf) → leaf.0 < length (leaves_in config.topology) → place_of_leaf (store_of config) leaf < 64
+  pub zone_words : (leaf : Leaf) → leaf.0 < length (leaves_in config.topology) → place_of_leaf (store_of config) leaf < 64
       → ((z b : ℕ) → next.truth.bits.root z b ≡ world.truth.bits.root z b)
       → ((n b : ℕ) → next.truth.bits.zone n b ≡ with_bit world.truth.bits.zone leaf.0 bucket n b)
       → AreWords config next

@@ -17,14 +17,15 @@ use Rattle.core_theory.proofs.CoreLemmas.{new_woven, stays_woven}
 use Rattle.core_theory.proofs.EndedLemmas.{Finds, came_finds, new_finds}
 use Rattle.core_theory.specs.Core.{CanCome, CoreEvent, Happens, Hears, Reader, Tells, begun_with, came, told_on}
 use Rattle.core_theory.specs.Core.{view_told}
-use Rattle.weave_core.specs.Declarations.{Declares, QueryBegins, WriteBegins, hearing, new_reader}
+use Rattle.weave_core.specs.Declarations.{Declares, QueryBegins, RecoveryBegins, WriteBegins, hearing, new_reader}
 use Rattle.weave_core.specs.Declarations.{with_reader}
 use Rattle.weave_core.specs.EndTexts.{no_plan_line, no_zone_line}
 use Rattle.weave_core.specs.LawfulLines.{IsLawfulCall, IsLawfulForm}
 use Rattle.core_theory.specs.Licensed.{IsReader, IsWoven}
 use Rattle.weave_core.specs.Reached.{LinesLead}
 use Rattle.weave_core.specs.Schedules.{Does, EndsBy, ActorGoesOn, IsFirstState, Rests, StopsBeforeEvent, Went}
-use Rattle.weave_core.specs.States.{Asking, Dismissed, Eventless, Role, State, Switching, Undeclared, Writing}
+use Rattle.weave_core.specs.States.{Asking, Dismissed, Eventless, Recovering, Role, State, Switching, Undeclared}
+use Rattle.weave_core.specs.States.{Writing}
 use Rattle.weave_core.specs.States.{actor_at, store_of}
 use Rattle.weave_core.specs.Steps.{StepsIn, with_event, with_role}
 use Rattle.weave_core.specs.declared.calls.Call.{Call}
@@ -35,7 +36,7 @@ use Rattle.weave_core.specs.declared.events.Event.{Event}
 use Rattle.weave_core.specs.declared.lines.LineForm.{LineForm}
 use Rattle.weave_core.specs.declared.lines.LineForm.TheVariants as form
 use Rattle.write_core.proofs.KeepsLemmas.{changed_by}
-use Rattle.write_core.specs.Events.{Begins, CanRun, Event as WorldEvent, Goes, Switches, after_events}
+use Rattle.write_core.specs.Events.{Aims, Begins, CanRun, Copies, Event as WorldEvent, Goes, Switches, after_events}
 use Rattle.write_core.specs.Invariant.{IsActor, IsNewWorld}
 use Rattle.write_core.specs.Noted.{AreNoted}
 use Rattle.mon_topo.specs.Views.{View, joined_view}
@@ -127,6 +128,9 @@ module _ (config : Config)
   switching : (leaf : Leaf) (down : Bool) → Switching leaf down ≡ Asking → ⊥
   switching leaf down e = cc
 
+  recovering : Recovering ≡ Asking → ⊥
+  recovering e = cc
+
   writing : Writing ≡ Asking → ⊥
   writing e = cc
 
@@ -176,6 +180,9 @@ module _ (config : Config)
       (role_holds (with_event Store' state (Happens (Switches k leaf down goes.answer))) k Dismissed dismissed
       (event_holds state (Happens (Switches k leaf down goes.answer)) goes.can h))
   steps_in Dismissed state k how after steps h = absurd steps
+  steps_in Recovering state k how after (inl waits) h = subst Holds (sym waits.same) h
+  steps_in Recovering state k how after (inr goes) h =
+      subst Holds (sym goes.becomes) (event_holds state (Happens (Copies k goes.answer)) goes.can h)
   steps_in Writing state k how after (inl waits) h = subst Holds (sym waits.same) h
   steps_in Writing state k how after (inr goes) h =
       subst Holds (sym goes.becomes) (event_holds state (Happens (Goes k goes.answer)) goes.can h)
@@ -217,6 +224,13 @@ module _ (config : Config)
       (role_holds (with_event Store' state (Happens (Begins k row range))) k Writing writing
       (event_holds state (Happens (Begins k row range)) begins.0 h))
 
+  recover_holds : (state : State') (k : ℕ) (range : Range) (leaf : Leaf) (after : State')
+      → RecoveryBegins config state k range leaf after → Holds state → Holds after
+  recover_holds state k range leaf after begins h =
+      subst Holds (sym begins.1)
+      (role_holds (with_event Store' state (Happens (Aims k range leaf))) k Recovering recovering
+      (event_holds state (Happens (Aims k range leaf)) begins.0 h))
+
   query_holds : (state : State') (k : ℕ) (moment : ℤ) (typed : Result TypedTree TextFault) (after : State')
       → pos 0 ≤ℤ moment
       → QueryBegins config state k moment typed after → Holds state → Holds after
@@ -237,6 +251,8 @@ module _ (config : Config)
       subst Holds (sym declares) (role_holds state k (Switching leaf true) (switching leaf true) h)
   declare_holds state k (call.Up leaf) after lawful declares h =
       subst Holds (sym declares) (role_holds state k (Switching leaf false) (switching leaf false) h)
+  declare_holds state k (call.Recover range leaf) after lawful declares h =
+      recover_holds state k range leaf after declares h
 
   does_hold : (state : State') (what : LineForm) (said : List ℕ) (after : State')
       → IsLawfulForm config.schemas config.topology what

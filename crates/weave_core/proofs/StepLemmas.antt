@@ -8,20 +8,26 @@ use Rattle.query_core.specs.declared.asks.Ask.TheVariants as ask
 use Rattle.query_core.specs.declared.asks.Told.{Told}
 use Rattle.query_core.specs.declared.stages.Stage.{Stage as QueryStage}
 use Rattle.core_theory.proofs.CoreLemmas.{stays_woven}
+use Rattle.core_theory.proofs.CopyHolderLemmas.{copy_held}
 use Rattle.core_theory.proofs.HolderLemmas.{step_held, switch_held}
 use Rattle.weave_core.proofs.QueryStepLemmas.{actors_stay}
 use Rattle.core_theory.specs.Core.{CanCome, Happens, Tells, asked_now, world_then}
 use Rattle.core_theory.specs.Holders.{AreHolders}
 use Rattle.core_theory.specs.Licensed.{IsWoven}
-use Rattle.weave_core.specs.States.{Asking, Dismissed, Eventless, Role, State, Switching, Undeclared, Writing}
+use Rattle.weave_core.specs.States.{Asking, Dismissed, Eventless, Recovering, Role, State, Switching, Undeclared}
+use Rattle.weave_core.specs.States.{Writing}
 use Rattle.weave_core.specs.Steps.{Steps, StepsIn, with_event, with_role}
 use Rattle.weave_core.specs.declared.calls.Stepped.{Stepped}
 use Rattle.write_core.proofs.KeepsLemmas.{changed_other}
-use Rattle.write_core.specs.Events.{Goes, SwitchTold, Switches, switched}
+use Rattle.write_core.specs.CopySteps.{CanRecover, after_copy_event, copy_at, copy_step}
+use Rattle.write_core.specs.Events.{Copies, Goes, SwitchTold, Switches, switched}
 use Rattle.write_core.specs.Program.{Acking, Ended, Entering, Inside, Locking, Reserving, Stage, after}
 use Rattle.write_core.specs.Steps.{CanGo, after_entering, gone_on_inside, after_reserving, step, step_at, after_answer}
 use Rattle.mon_topo.specs.Views.{View}
-use Rattle.write_core.specs.World.{Actor, Recovers, Stands, World, Writer, Writes}
+use Rattle.write_core.specs.Recovering.{Beginning, Carrying, CopyStage, Copying, Nearing, Over, Telling}
+use Rattle.write_core.specs.declared.copies.CopyTold.{CopyTold}
+use Rattle.write_core.specs.Recovering as copy
+use Rattle.write_core.specs.World.{Actor, Recovers, Recovery, Stands, World, Writer, Writes}
 use Rattle.write_core.specs.declared.asks.WriteTold.{WriteTold}
 use Rattle.write_core.specs.declared.marks.Mark.{Mark}
 
@@ -63,6 +69,30 @@ module _ (setting : Setting) (world : World) (i j : ℕ) (apart : j ≢ i) where
 
   pub step_others : (answer : WriteTold) → (step setting world i answer).actors j ≡ world.actors j
   step_others answer = by_actor (world.actors i) answer
+
+-- so does a recovery's event
+module _ (setting : Setting) (world : World) (i j : ℕ) (apart : j ≢ i) where
+  at_copy : (who : Recovery) (stage : CopyStage) (answer : CopyTold)
+      → (copy_at setting world i who stage answer).actors j ≡ world.actors j
+  at_copy who Beginning answer = changed_other world.actors i j _ apart
+  at_copy who (Copying founds []) answer = refl
+  at_copy who (Copying founds (source ∷ left)) answer = changed_other world.actors i j _ apart
+  at_copy who (Carrying rows) answer = changed_other world.actors i j _ apart
+  at_copy who (Nearing rows) answer = changed_other world.actors i j _ apart
+  at_copy who (copy.Within rows (bucket ∷ at_root) in_zone) answer = changed_other world.actors i j _ apart
+  at_copy who (copy.Within rows [] (bucket ∷ in_zone)) answer = changed_other world.actors i j _ apart
+  at_copy who (copy.Within rows [] []) answer = changed_other world.actors i j _ apart
+  at_copy who (Telling outcome) answer = changed_other world.actors i j _ apart
+  at_copy who (Over outcome) answer = refl
+
+  copier : (actor : Actor) (answer : CopyTold) → (after_copy_event setting world i actor answer).actors j
+      ≡ world.actors j
+  copier (Writes writer) answer = refl
+  copier (Recovers recovery) answer = at_copy recovery recovery.stage answer
+  copier (Stands stander) answer = refl
+
+  pub copy_others : (answer : CopyTold) → (copy_step setting world i answer).actors j ≡ world.actors j
+  copy_others answer = copier (world.actors i) answer
 
 -- a switch leaves the others as they were
 switch_others : (world : World) (i j : ℕ) → j ≢ i → (actor : Actor) (leaf : Leaf) (down : Bool) (answer : SwitchTold)
@@ -135,6 +165,26 @@ module _ (store : Setting) (state : State store) (i : ℕ) where
         write_held (Stands stander) is =
             absurd (subst (λ (one : Actor). CanGo store state.core.world one answer) is can)
 
+    recovered_left : (answer : CopyTold) → CanCome store state.core (Happens (Copies i answer))
+        → Leaves (with_event store state (Happens (Copies i answer)))
+    recovered_left answer can = record {
+      woven = stays_woven store state.core (Happens (Copies i answer) ∷ []) (can, tt) woven;
+      holders = recover_held (state.core.world.actors i) refl;
+      others = record {
+        actor = λ j apart. copy_others store state.core.world i j apart answer;
+        reader = λ j apart. refl;
+        role = λ j apart. refl;
+      };
+    }
+      where
+        recover_held : (actor : Actor) → state.core.world.actors i ≡ actor
+            → AreHolders (copy_step store state.core.world i answer)
+        recover_held (Recovers who) is = copy_held store state.core.world i who answer is h can
+        recover_held (Writes writer) is =
+            absurd (subst (λ (one : Actor). CanRecover store state.core.world one answer) is can)
+        recover_held (Stands stander) is =
+            absurd (subst (λ (one : Actor). CanRecover store state.core.world one answer) is can)
+
     switched_left : (leaf : Leaf) (down : Bool) (answer : SwitchTold)
         → CanCome store state.core (Happens (Switches i leaf down answer))
         → Leaves (with_role store (with_event store state (Happens (Switches i leaf down answer))) i Dismissed)
@@ -172,6 +222,10 @@ module _ (store : Setting) (state : State store) (i : ℕ) where
       | inr goes ↦ subst Leaves (sym goes.becomes) (switched_left leaf down goes.answer goes.can)
     ]
     left_by Dismissed how left s = absurd s
+    left_by Recovering how left s = elim s [
+      | inl waits ↦ subst Leaves (sym waits.same) same_left
+      | inr goes ↦ subst Leaves (sym goes.becomes) (recovered_left goes.answer goes.can)
+    ]
     left_by Writing how left s = elim s [
       | inl waits ↦ subst Leaves (sym waits.same) same_left
       | inr goes ↦ subst Leaves (sym goes.becomes) (written_left goes.answer goes.can)

@@ -29,7 +29,8 @@ use Rattle.weave_core.specs.ActorSteps.{ActorSteps, HasStepped, IsIn, SwitchedSo
 use Rattle.weave_core.specs.Agreements.{AreShared, IsLeafSo}
 use Rattle.weave_core.specs.EndTexts.{switch_text}
 use Rattle.weave_core.specs.QueryLooks.{IsHeldFrom}
-use Rattle.weave_core.specs.States.{Asking, Dismissed, Eventless, Role, State, Switching, Undeclared, Writing}
+use Rattle.weave_core.specs.States.{Asking, Dismissed, Eventless, Recovering, Role, State, Switching, Undeclared}
+use Rattle.weave_core.specs.States.{Writing}
 use Rattle.weave_core.specs.States.{holder_in, role_fault, store_of}
 use Rattle.weave_core.specs.Steps.{StepsIn, with_event, with_role}
 use Rattle.weave_core.specs.Switches.{IsSeatedToSwitch, SwitchesAt, SwitchesLeaf, history_switched, switch_told}
@@ -303,6 +304,7 @@ module _ (config : Config) (i : ℕ) (doer : Doer) (reader : Reader (store_of co
   switch_role (Eventless text) h = absurd h
   switch_role (Switching leaf down) h = record { leaf = leaf; down = down; is = refl; so = h }
   switch_role Dismissed h = absurd h
+  switch_role Recovering h = absurd h
   switch_role Writing h = absurd h
   switch_role Asking h = absurd h
 

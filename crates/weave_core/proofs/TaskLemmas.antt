@@ -8,26 +8,32 @@ use Rattle.query_core.specs.Program as query
 use Rattle.query_core.specs.Settings.{QuerySetting}
 use Rattle.query_core.specs.declared.asks.Ask.{Ask}
 use Rattle.query_core.specs.declared.asks.Ask.TheVariants as query_ask
-use Rattle.weave_core.specs.ActorAgreements.{Agrees, IsActorSo, IsTaskSo, IsQuerying, IsWriting, actor_numbered}
+use Rattle.weave_core.proofs.RecoveryStepLemmas.{recovery_has_event}
+use Rattle.weave_core.specs.ActorAgreements.{Agrees, IsActorSo, IsRecovering, IsTaskSo, IsQuerying, IsWriting}
+use Rattle.weave_core.specs.ActorAgreements.{actor_numbered}
 use Rattle.core_theory.specs.Core.{Reader, asked_now, query_now}
 use Rattle.weave_core.specs.Tasks.{event_of, is_over}
-use Rattle.weave_core.specs.EventNames.{event_of_query, event_of_write}
+use Rattle.weave_core.specs.EventNames.{event_of_copy, event_of_query, event_of_write}
 use Rattle.weave_core.specs.States as spec
-use Rattle.weave_core.specs.States.{Asking, Dismissed, Eventless, Role, State, Switching, Undeclared, Writing}
-use Rattle.weave_core.specs.States.{begun_in}
+use Rattle.weave_core.specs.States.{Asking, Dismissed, Eventless, Recovering, Role, State, Switching, Undeclared}
+use Rattle.weave_core.specs.States.{Writing}
+use Rattle.weave_core.specs.States.{begun_in, copy_asks}
 use Rattle.weave_core.specs.States.{declared_in, ended_in, role_fault, next_in, store_of, write_asks}
 use Rattle.weave_core.specs.declared.actors.Actor.{Actor}
 use Rattle.weave_core.specs.declared.actors.Task.{Task}
 use Rattle.weave_core.specs.declared.actors.Task.TheVariants as task
 use Rattle.weave_core.specs.declared.calls.WeaveFault.TheVariants as fault
 use Rattle.weave_core.specs.declared.queries.Querying.{Querying}
+use Rattle.weave_core.specs.declared.recoveries.Recovering.{Recovering as Recover}
 use Rattle.mon_topo.specs.declared.sights.Sight.{Sight}
 use Rattle.weave_core.specs.declared.weave.Weave.{Weave}
 use Rattle.weave_core.specs.declared.writes.Writing.{Writing as Write}
+use Rattle.write_core.specs.CopyPhases.{copy_ask_of}
 use Rattle.write_core.specs.Program as write
 use Rattle.write_core.specs.World.{Actor as Doer}
 use Rattle.write_core.specs.declared.asks.WriteAsk.{WriteAsk}
 use Rattle.write_core.specs.declared.asks.WriteAsk.TheVariants as write_ask
+use Rattle.write_core.specs.declared.copies.CopyAsk.{CopyAsk}
 
 write_goes : (asks : WriteAsk) → asks ≢ write_ask.Finished → is_some (event_of_write asks) ≡ true
 write_goes write_ask.Lock on = refl
@@ -70,6 +76,10 @@ module _ (config : Config) (state : State (store_of config)) (i : ℕ) where
       → write.ask_of writing.machine.stage ≡ write_asks Doer'
   write_asks_so writing begun sight h = sym (ap (λ (who : Doer). write_asks who) h.writer.writer)
 
+  copy_asks_so : (recovering : Recover) (begun : Bool) (sight : Sight)
+      → IsRecovering config i Doer' Reader' recovering begun sight → copy_ask_of recovering.machine ≡ copy_asks Doer'
+  copy_asks_so recovering begun sight h = sym (ap (λ (who : Doer). copy_asks who) h.recoverer.recovers)
+
   query_asks_so : (querying : Querying) (begun : Bool) (sight : Sight)
       → IsQuerying config i Doer' Reader' querying begun sight
       → query.ask_of querying.machine.setting querying.machine.stage ≡ asked_now (store_of config) Reader'
@@ -86,27 +96,39 @@ module _ (config : Config) (state : State (store_of config)) (i : ℕ) where
   next_so Undeclared one begun sight h = absurd h
   next_so (Eventless text) (task.Refused own) begun sight h = refl
   next_so (Eventless text) (task.Switches switching) begun sight h = absurd h
+  next_so (Eventless text) (task.Recovers recovering) begun sight h = absurd h
   next_so (Eventless text) (task.Writes writing) begun sight h = absurd h
   next_so (Eventless text) (task.Queries querying) begun sight h = absurd h
   next_so (Eventless text) task.Ended begun sight h = absurd h
   next_so (Switching leaf down) (task.Refused own) begun sight h = absurd h
   next_so (Switching leaf down) (task.Switches switching) begun sight h = refl
+  next_so (Switching leaf down) (task.Recovers recovering) begun sight h = absurd h
   next_so (Switching leaf down) (task.Writes writing) begun sight h = absurd h
   next_so (Switching leaf down) (task.Queries querying) begun sight h = absurd h
   next_so (Switching leaf down) task.Ended begun sight h = absurd h
   next_so Dismissed (task.Refused own) begun sight h = absurd h
   next_so Dismissed (task.Switches switching) begun sight h = absurd h
+  next_so Dismissed (task.Recovers recovering) begun sight h = absurd h
   next_so Dismissed (task.Writes writing) begun sight h = absurd h
   next_so Dismissed (task.Queries querying) begun sight h = absurd h
   next_so Dismissed task.Ended begun sight h = refl
+  next_so Recovering (task.Refused own) begun sight h = absurd h
+  next_so Recovering (task.Switches switching) begun sight h = absurd h
+  next_so Recovering (task.Recovers recovering) begun sight h =
+      ap (λ (asks : CopyAsk). event_of_copy asks) (copy_asks_so recovering begun sight h)
+  next_so Recovering (task.Writes writing) begun sight h = absurd h
+  next_so Recovering (task.Queries querying) begun sight h = absurd h
+  next_so Recovering task.Ended begun sight h = sym (ap (λ (asks : CopyAsk). event_of_copy asks) h.ended)
   next_so Writing (task.Refused own) begun sight h = absurd h
   next_so Writing (task.Switches switching) begun sight h = absurd h
+  next_so Writing (task.Recovers recovering) begun sight h = absurd h
   next_so Writing (task.Writes writing) begun sight h =
       ap (λ (asks : WriteAsk). event_of_write asks) (write_asks_so writing begun sight h)
   next_so Writing (task.Queries querying) begun sight h = absurd h
   next_so Writing task.Ended begun sight h = sym (ap (λ (asks : WriteAsk). event_of_write asks) h.ended)
   next_so Asking (task.Refused own) begun sight h = absurd h
   next_so Asking (task.Switches switching) begun sight h = absurd h
+  next_so Asking (task.Recovers recovering) begun sight h = absurd h
   next_so Asking (task.Writes writing) begun sight h = absurd h
   next_so Asking (task.Queries querying) begun sight h =
       ap (λ (asks : Ask). event_of_query asks) (query_asks_so querying begun sight h)
@@ -117,6 +139,7 @@ module _ (config : Config) (state : State (store_of config)) (i : ℕ) where
   no_next (Eventless text) h = absurd h
   no_next (Switching leaf down) h = absurd h
   no_next Dismissed h = absurd h
+  no_next Recovering h = absurd h
   no_next Writing h = absurd h
   no_next Asking h = absurd h
 
@@ -132,6 +155,8 @@ module _ (config : Config) (state : State (store_of config)) (i : ℕ) where
   declared_so (Switching leaf down) (Some own) h = refl
   declared_so Dismissed None h = absurd h
   declared_so Dismissed (Some own) h = refl
+  declared_so Recovering None h = absurd h
+  declared_so Recovering (Some own) h = refl
   declared_so Writing None h = absurd h
   declared_so Writing (Some own) h = refl
   declared_so Asking None h = absurd h
@@ -143,6 +168,7 @@ module _ (config : Config) (state : State (store_of config)) (i : ℕ) where
   no_actor (Eventless text) h = absurd h
   no_actor (Switching leaf down) h = absurd h
   no_actor Dismissed h = absurd h
+  no_actor Recovering h = absurd h
   no_actor Writing h = absurd h
   no_actor Asking h = absurd h
 
@@ -154,21 +180,34 @@ module _ (config : Config) (state : State (store_of config)) (i : ℕ) where
   over_so Undeclared one begun sight h = absurd h
   over_so (Eventless text) (task.Refused own) begun sight h = refl
   over_so (Eventless text) (task.Switches switching) begun sight h = absurd h
+  over_so (Eventless text) (task.Recovers recovering) begun sight h = absurd h
   over_so (Eventless text) (task.Writes writing) begun sight h = absurd h
   over_so (Eventless text) (task.Queries querying) begun sight h = absurd h
   over_so (Eventless text) task.Ended begun sight h = absurd h
   over_so (Switching leaf down) (task.Refused own) begun sight h = absurd h
   over_so (Switching leaf down) (task.Switches switching) begun sight h = refl
+  over_so (Switching leaf down) (task.Recovers recovering) begun sight h = absurd h
   over_so (Switching leaf down) (task.Writes writing) begun sight h = absurd h
   over_so (Switching leaf down) (task.Queries querying) begun sight h = absurd h
   over_so (Switching leaf down) task.Ended begun sight h = absurd h
   over_so Dismissed (task.Refused own) begun sight h = absurd h
   over_so Dismissed (task.Switches switching) begun sight h = absurd h
+  over_so Dismissed (task.Recovers recovering) begun sight h = absurd h
   over_so Dismissed (task.Writes writing) begun sight h = absurd h
   over_so Dismissed (task.Queries querying) begun sight h = absurd h
   over_so Dismissed task.Ended begun sight h = refl
+  over_so Recovering (task.Refused own) begun sight h = absurd h
+  over_so Recovering (task.Switches switching) begun sight h = absurd h
+  over_so Recovering (task.Recovers recovering) begun sight h =
+      sym (ap (λ (asks : CopyAsk). not (is_some (event_of_copy asks))) (sym (copy_asks_so recovering begun sight h))
+      ∙ ap not (recovery_has_event (copy_ask_of recovering.machine) h.goes_on))
+  over_so Recovering (task.Writes writing) begun sight h = absurd h
+  over_so Recovering (task.Queries querying) begun sight h = absurd h
+  over_so Recovering task.Ended begun sight h = sym (ap (λ (asks : CopyAsk). not (is_some (event_of_copy asks)))
+      h.ended)
   over_so Writing (task.Refused own) begun sight h = absurd h
   over_so Writing (task.Switches switching) begun sight h = absurd h
+  over_so Writing (task.Recovers recovering) begun sight h = absurd h
   over_so Writing (task.Writes writing) begun sight h =
       sym (ap (λ (asks : WriteAsk). not (is_some (event_of_write asks))) (sym (write_asks_so writing begun sight h))
       ∙ ap not (write_goes (write.ask_of writing.machine.stage) h.goes_on))
@@ -177,6 +216,7 @@ module _ (config : Config) (state : State (store_of config)) (i : ℕ) where
       h.ended)
   over_so Asking (task.Refused own) begun sight h = absurd h
   over_so Asking (task.Switches switching) begun sight h = absurd h
+  over_so Asking (task.Recovers recovering) begun sight h = absurd h
   over_so Asking (task.Writes writing) begun sight h = absurd h
   over_so Asking (task.Queries querying) begun sight h =
       sym (ap (λ (asks : Ask). not (is_some (event_of_query asks))) (sym (query_asks_so querying begun sight h))
@@ -189,6 +229,7 @@ module _ (config : Config) (state : State (store_of config)) (i : ℕ) where
   not_over (Eventless text) h = absurd h
   not_over (Switching leaf down) h = absurd h
   not_over Dismissed h = absurd h
+  not_over Recovering h = absurd h
   not_over Writing h = absurd h
   not_over Asking h = absurd h
 
@@ -200,26 +241,37 @@ module _ (config : Config) (state : State (store_of config)) (i : ℕ) where
   begun_so Undeclared one begun sight h = absurd h
   begun_so (Eventless text) (task.Refused own) begun sight h = or_false begun ∙ h.begun_is
   begun_so (Eventless text) (task.Switches switching) begun sight h = absurd h
+  begun_so (Eventless text) (task.Recovers recovering) begun sight h = absurd h
   begun_so (Eventless text) (task.Writes writing) begun sight h = absurd h
   begun_so (Eventless text) (task.Queries querying) begun sight h = absurd h
   begun_so (Eventless text) task.Ended begun sight h = absurd h
   begun_so (Switching leaf down) (task.Refused own) begun sight h = absurd h
   begun_so (Switching leaf down) (task.Switches switching) begun sight h = or_false begun ∙ h.begun_is
+  begun_so (Switching leaf down) (task.Recovers recovering) begun sight h = absurd h
   begun_so (Switching leaf down) (task.Writes writing) begun sight h = absurd h
   begun_so (Switching leaf down) (task.Queries querying) begun sight h = absurd h
   begun_so (Switching leaf down) task.Ended begun sight h = absurd h
   begun_so Dismissed (task.Refused own) begun sight h = absurd h
   begun_so Dismissed (task.Switches switching) begun sight h = absurd h
+  begun_so Dismissed (task.Recovers recovering) begun sight h = absurd h
   begun_so Dismissed (task.Writes writing) begun sight h = absurd h
   begun_so Dismissed (task.Queries querying) begun sight h = absurd h
   begun_so Dismissed task.Ended begun sight h = or_true begun
+  begun_so Recovering (task.Refused own) begun sight h = absurd h
+  begun_so Recovering (task.Switches switching) begun sight h = absurd h
+  begun_so Recovering (task.Recovers recovering) begun sight h = or_false begun ∙ h.begun_is
+  begun_so Recovering (task.Writes writing) begun sight h = absurd h
+  begun_so Recovering (task.Queries querying) begun sight h = absurd h
+  begun_so Recovering task.Ended begun sight h = or_true begun ∙ sym h.begun_is
   begun_so Writing (task.Refused own) begun sight h = absurd h
   begun_so Writing (task.Switches switching) begun sight h = absurd h
+  begun_so Writing (task.Recovers recovering) begun sight h = absurd h
   begun_so Writing (task.Writes writing) begun sight h = or_false begun ∙ h.begun_is
   begun_so Writing (task.Queries querying) begun sight h = absurd h
   begun_so Writing task.Ended begun sight h = or_true begun ∙ sym h.begun_is
   begun_so Asking (task.Refused own) begun sight h = absurd h
   begun_so Asking (task.Switches switching) begun sight h = absurd h
+  begun_so Asking (task.Recovers recovering) begun sight h = absurd h
   begun_so Asking (task.Writes writing) begun sight h = absurd h
   begun_so Asking (task.Queries querying) begun sight h = or_false begun ∙ h.begun_is
   begun_so Asking task.Ended begun sight h = or_true begun ∙ sym h.begun_is
@@ -230,6 +282,7 @@ module _ (config : Config) (state : State (store_of config)) (i : ℕ) where
   not_begun (Eventless text) h = absurd h
   not_begun (Switching leaf down) h = absurd h
   not_begun Dismissed h = absurd h
+  not_begun Recovering h = absurd h
   not_begun Writing h = absurd h
   not_begun Asking h = absurd h
 

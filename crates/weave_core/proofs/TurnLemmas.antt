@@ -13,13 +13,15 @@ use Rattle.query_core.specs.declared.stages.Stage.TheVariants as query
 use Rattle.weave_core.specs.ActorAgreements.{Agrees}
 use Rattle.core_theory.specs.Core.{query_now}
 use Rattle.weave_core.specs.EndTexts.{switch_text}
-use Rattle.weave_core.specs.EventNames.{event_of_query, event_of_write}
+use Rattle.weave_core.specs.EventNames.{event_of_copy, event_of_query, event_of_write}
 use Rattle.weave_core.specs.ScheduleTurns.{GoesSo, HasGone}
 use Rattle.weave_core.specs.Schedules.{IsNextEvent, Went}
-use Rattle.weave_core.specs.States.{Asking, Dismissed, Eventless, Role, State, Switching, Undeclared, Writing}
-use Rattle.weave_core.specs.States.{role_fault, next_in}
+use Rattle.weave_core.specs.States.{Asking, Dismissed, Eventless, Recovering, Role, State, Switching, Undeclared}
+use Rattle.weave_core.specs.States.{Writing}
+use Rattle.weave_core.specs.States.{copy_asks, role_fault, next_in}
 use Rattle.weave_core.specs.States.{step_fault, store_of, write_asks}
-use Rattle.weave_core.specs.Steps.{Steps, StepsIn, query_stepped, write_stepped, writer_stepped}
+use Rattle.weave_core.specs.Steps.{Steps, StepsIn, query_stepped, recover_stepped, recovery_stepped, write_stepped}
+use Rattle.weave_core.specs.Steps.{writer_stepped}
 use Rattle.weave_core.specs.WeaveCalls as call
 use Rattle.weave_core.specs.declared.calls.Stepped.{Stepped}
 use Rattle.weave_core.specs.declared.calls.Stepped.TheVariants as stepped
@@ -30,7 +32,10 @@ use Rattle.weave_core.specs.declared.limits.TheConstants.{MOST_EVENTS}
 use Rattle.weave_core.specs.declared.weave.Weave.{Weave}
 use Rattle.write_core.specs.Program.{Acking, Ended, Entering, Inside, Locking, Reserving, enter, inside, reserve}
 use Rattle.write_core.specs.Program as write
-use Rattle.write_core.specs.World.{Actor, Recovers, Stands, Writer, Writes}
+use Rattle.write_core.specs.CopyPhases.{copy_ask_of}
+use Rattle.write_core.specs.Recovering.{Beginning, Carrying, CopyStage, Copying, Nearing, Over, Telling}
+use Rattle.write_core.specs.Recovering as copy
+use Rattle.write_core.specs.World.{Actor, Recovers, Recovery, Stands, Writer, Writes}
 use Rattle.write_core.specs.declared.marks.Mark.{Mark}
 
 -- ---- a step that went leaves a next event
@@ -66,6 +71,25 @@ write_on zones (Writes writer) e = writer_on zones writer writer.stage e
 write_on zones (Recovers recovery) e = absurd cc
 write_on zones (Stands stander) e = absurd cc
 
+recovery_on : (zones : List ZoneSpec) (recovery : Recovery) (stage : CopyStage)
+    → stepped.Went ≡ recovery_stepped zones recovery stage → is_some (event_of_copy (copy_ask_of stage)) ≡ true
+recovery_on zones recovery Beginning e = refl
+recovery_on zones recovery (Copying founds []) e = refl
+recovery_on zones recovery (Copying founds (source ∷ left)) e = refl
+recovery_on zones recovery (Carrying rows) e = refl
+recovery_on zones recovery (Nearing rows) e = refl
+recovery_on zones recovery (copy.Within rows (bucket ∷ at_root) in_zone) e = refl
+recovery_on zones recovery (copy.Within rows [] (bucket ∷ in_zone)) e = refl
+recovery_on zones recovery (copy.Within rows [] []) e = refl
+recovery_on zones recovery (Telling outcome) e = refl
+recovery_on zones recovery (Over outcome) e = absurd cc
+
+recover_on : (zones : List ZoneSpec) (actor : Actor) → stepped.Went ≡ recover_stepped zones actor
+    → is_some (event_of_copy (copy_asks actor)) ≡ true
+recover_on zones (Writes writer) e = absurd cc
+recover_on zones (Recovers recovery) e = recovery_on zones recovery recovery.stage e
+recover_on zones (Stands stander) e = absurd cc
+
 query_on : (zones : List ZoneSpec) (setting : QuerySetting) (stage : Stage) → stepped.Went ≡ query_stepped zones stage
     → is_some (event_of_query (ask_of setting stage)) ≡ true
 query_on zones setting (query.Rooting loading) e = refl
@@ -86,6 +110,10 @@ module _ (store : Setting) (k : ℕ) where
   went_in (Eventless text) state after steps = refl
   went_in (Switching leaf down) state after steps = refl
   went_in Dismissed state after steps = absurd steps
+  went_in Recovering state after (inl waits) = let no : stepped.Went ≡ stepped.Waits = waits.waits in absurd cc
+  went_in Recovering state after (inr goes) =
+      no_fault (is_some (next_in store after k Recovering))
+      (recover_on store.zones (after.core.world.actors k) goes.went)
   went_in Writing state after (inl waits) = let no : stepped.Went ≡ stepped.Waits = waits.waits in absurd cc
   went_in Writing state after (inr goes) =
       no_fault (is_some (next_in store after k Writing)) (write_on store.zones (after.core.world.actors k) goes.went)
@@ -103,6 +131,8 @@ module _ (store : Setting) (k : ℕ) where
   same_role (Switching leaf down) state after (inr goes) =
       let no : stepped.Went ≡ stepped.Ended (switch_text store.zones leaf down goes.answer) = goes.went in absurd cc
   same_role Dismissed state after steps = absurd steps
+  same_role Recovering state after (inl waits) = ap (λ (s : State store). s.roles k) waits.same
+  same_role Recovering state after (inr goes) = ap (λ (s : State store). s.roles k) goes.becomes
   same_role Writing state after (inl waits) = ap (λ (s : State store). s.roles k) waits.same
   same_role Writing state after (inr goes) = ap (λ (s : State store). s.roles k) goes.becomes
   same_role Asking state after (inl waits) = ap (λ (s : State store). s.roles k) waits.same
@@ -120,6 +150,7 @@ module _ (store : Setting) (k : ℕ) where
   next_free_in (Eventless text) state event e = refl
   next_free_in (Switching leaf down) state event e = refl
   next_free_in Dismissed state event e = absurd cc
+  next_free_in Recovering state event e = no_fault (is_some (next_in store state k Recovering)) (ap is_some e)
   next_free_in Writing state event e = no_fault (is_some (next_in store state k Writing)) (ap is_some e)
   next_free_in Asking state event e = no_fault (is_some (next_in store state k Asking)) (ap is_some e)
 

@@ -11,7 +11,8 @@ use Rattle.weave_core.specs.ActorSteps.{ActorSteps, IsIn, WrittenSo}
 use Rattle.core_theory.specs.Core.{Happens}
 use Rattle.weave_core.specs.EndTexts.{write_end_text}
 use Rattle.weave_core.specs.EventNames.{event_of_write}
-use Rattle.weave_core.specs.States.{Asking, Dismissed, Eventless, Role, State, Switching, Undeclared, Writing}
+use Rattle.weave_core.specs.States.{Asking, Dismissed, Eventless, Recovering, Role, State, Switching, Undeclared}
+use Rattle.weave_core.specs.States.{Writing}
 use Rattle.weave_core.specs.States.{role_fault}
 use Rattle.weave_core.specs.States.{holder_in, is_past_lock, step_fault, store_of, write_asks, writes_begun}
 use Rattle.weave_core.specs.Steps.{StepsIn, with_event, write_stepped, writer_stepped}
@@ -134,6 +135,7 @@ module _ (config : Config) (state : State (store_of config)) (i : ℕ) (store : 
   writing_by (Eventless text) h = absurd h
   writing_by (Switching leaf down) h = absurd h
   writing_by Dismissed h = absurd h
+  writing_by Recovering h = absurd h
   writing_by Writing h = refl
   writing_by Asking h = absurd h
 

@@ -18,21 +18,25 @@ use Rattle.core_theory.specs.Licensed.{IsWoven}
 use Rattle.weave_core.specs.PlannedQueries.{IsPlanned}
 use Rattle.mon_topo.specs.Sights.{sight_of}
 use Rattle.mon_value.specs.Parts.{is_any}
-use Rattle.weave_core.specs.States.{Asking, Dismissed, Eventless, Role, State, Switching, Undeclared, Writing}
-use Rattle.weave_core.specs.States.{store_of, write_asks, writes_begun}
+use Rattle.weave_core.specs.Recoverers.{IsRecovererSo}
+use Rattle.weave_core.specs.States.{Asking, Dismissed, Eventless, Recovering, Role, State, Switching, Undeclared}
+use Rattle.weave_core.specs.States.{Writing, copy_asks, recovers_begun, store_of, write_asks, writes_begun}
 use Rattle.weave_core.specs.Writers.{IsWriterSo}
 use Rattle.weave_core.specs.declared.actors.Actor.{Actor}
 use Rattle.weave_core.specs.declared.actors.Task.{Task}
 use Rattle.weave_core.specs.declared.actors.Task.TheVariants as task
 use Rattle.weave_core.specs.declared.limits.TheConstants.{LAST_ACTOR}
 use Rattle.weave_core.specs.declared.queries.Querying.{Querying}
+use Rattle.weave_core.specs.declared.recoveries.Recovering.{Recovering as Recovery}
 use Rattle.mon_topo.specs.declared.sights.Sight.{Sight}
 use Rattle.weave_core.specs.declared.switches.Switching.{Switching as Switch}
 use Rattle.weave_core.specs.declared.weave.Weave.{Weave}
 use Rattle.weave_core.specs.declared.writes.Writing.{Writing as Write}
+use Rattle.write_core.specs.CopyPhases.{copy_ask_of}
 use Rattle.write_core.specs.Program as write
 use Rattle.write_core.specs.World.{Actor as Doer, Stands, view_of}
 use Rattle.write_core.specs.declared.asks.WriteAsk.TheVariants as write_ask
+use Rattle.write_core.specs.declared.copies.CopyAsk.TheVariants as copy_ask
 
 -- ---- a query
 
@@ -78,6 +82,18 @@ module _ (config : Config) (i : ℕ) (doer : Doer) (reader : Reader (store_of co
     pub begun_is : begun ≡ false
     pub seen : sight ≡ sight_of (view_of doer).seen
 
+  -- it recovers a range
+  pub record IsRecovering (recovering : Recovery) (begun : Bool) (sight : Sight) : Type 0 where
+    pub recoverer : IsRecovererSo config i doer recovering sight
+    pub goes_on : copy_ask_of recovering.machine ≢ copy_ask.Finished
+    pub begun_is : begun ≡ recovers_begun doer
+
+  -- its recovery has ended
+  pub record HasRecovered (sight : Sight) : Type 0 where
+    pub ended : copy_asks doer ≡ copy_ask.Finished
+    pub begun_is : recovers_begun doer ≡ true
+    pub seen : sight ≡ sight_of (view_of doer).seen
+
   -- it writes
   pub record IsWriting (writing : Write) (begun : Bool) (sight : Sight) : Type 0 where
     pub writer : IsWriterSo config.buckets i doer writing sight
@@ -110,26 +126,37 @@ module _ (config : Config) (i : ℕ) (doer : Doer) (reader : Reader (store_of co
   IsTaskSo Undeclared task begun sight = ⊥
   IsTaskSo (Eventless text) (task.Refused own) begun sight = IsWithoutEvent text own begun sight
   IsTaskSo (Eventless text) (task.Switches switching) begun sight = ⊥
+  IsTaskSo (Eventless text) (task.Recovers recovering) begun sight = ⊥
   IsTaskSo (Eventless text) (task.Writes writing) begun sight = ⊥
   IsTaskSo (Eventless text) (task.Queries querying) begun sight = ⊥
   IsTaskSo (Eventless text) task.Ended begun sight = ⊥
   IsTaskSo (Switching leaf down) (task.Refused own) begun sight = ⊥
   IsTaskSo (Switching leaf down) (task.Switches switching) begun sight = IsSwitching leaf down switching begun sight
+  IsTaskSo (Switching leaf down) (task.Recovers recovering) begun sight = ⊥
   IsTaskSo (Switching leaf down) (task.Writes writing) begun sight = ⊥
   IsTaskSo (Switching leaf down) (task.Queries querying) begun sight = ⊥
   IsTaskSo (Switching leaf down) task.Ended begun sight = ⊥
   IsTaskSo Dismissed (task.Refused own) begun sight = ⊥
   IsTaskSo Dismissed (task.Switches switching) begun sight = ⊥
+  IsTaskSo Dismissed (task.Recovers recovering) begun sight = ⊥
   IsTaskSo Dismissed (task.Writes writing) begun sight = ⊥
   IsTaskSo Dismissed (task.Queries querying) begun sight = ⊥
   IsTaskSo Dismissed task.Ended begun sight = IsDismissed sight
+  IsTaskSo Recovering (task.Refused own) begun sight = ⊥
+  IsTaskSo Recovering (task.Switches switching) begun sight = ⊥
+  IsTaskSo Recovering (task.Recovers recovering) begun sight = IsRecovering recovering begun sight
+  IsTaskSo Recovering (task.Writes writing) begun sight = ⊥
+  IsTaskSo Recovering (task.Queries querying) begun sight = ⊥
+  IsTaskSo Recovering task.Ended begun sight = HasRecovered sight
   IsTaskSo Writing (task.Refused own) begun sight = ⊥
   IsTaskSo Writing (task.Switches switching) begun sight = ⊥
+  IsTaskSo Writing (task.Recovers recovering) begun sight = ⊥
   IsTaskSo Writing (task.Writes writing) begun sight = IsWriting writing begun sight
   IsTaskSo Writing (task.Queries querying) begun sight = ⊥
   IsTaskSo Writing task.Ended begun sight = HasWritten sight
   IsTaskSo Asking (task.Refused own) begun sight = ⊥
   IsTaskSo Asking (task.Switches switching) begun sight = ⊥
+  IsTaskSo Asking (task.Recovers recovering) begun sight = ⊥
   IsTaskSo Asking (task.Writes writing) begun sight = ⊥
   IsTaskSo Asking (task.Queries querying) begun sight = IsQuerying querying begun sight
   IsTaskSo Asking task.Ended begun sight = HasQueried sight
@@ -139,6 +166,7 @@ module _ (config : Config) (i : ℕ) (doer : Doer) (reader : Reader (store_of co
   IsActorSo (Eventless text) None = ⊥
   IsActorSo (Switching leaf down) None = ⊥
   IsActorSo Dismissed None = ⊥
+  IsActorSo Recovering None = ⊥
   IsActorSo Writing None = ⊥
   IsActorSo Asking None = ⊥
   IsActorSo role (Some actor) = IsTaskSo role actor.task actor.begun actor.sight

@@ -4,7 +4,7 @@ use Rattle.mon_config.specs.declared.config.Config.{Config}
 use Rattle.mon_topo.specs.declared.zones.ZoneSpec.{ZoneSpec}
 use Rattle.weave_core.specs.ActorAgreements.{IsActorSo}
 use Rattle.weave_core.specs.Agreements.{AreShared}
-use Rattle.weave_core.specs.EndTexts.{query_text, switch_text, write_end_text}
+use Rattle.weave_core.specs.EndTexts.{query_text, recover_text, switch_text, write_end_text}
 use Rattle.core_theory.specs.Holders.{AreHolders}
 use Rattle.core_theory.specs.Licensed.{IsWoven}
 use Rattle.weave_core.specs.States.{State, step_fault, store_of}
@@ -16,6 +16,8 @@ use Rattle.weave_core.specs.declared.calls.Stepped.TheVariants as stepped
 use Rattle.weave_core.specs.declared.calls.WeaveFault.TheVariants.{Finished}
 use Rattle.weave_core.specs.declared.queries.QueryTurn.{QueryTurn}
 use Rattle.weave_core.specs.declared.queries.QueryTurn.TheVariants as query_turn
+use Rattle.weave_core.specs.declared.recoveries.RecoverTurn.{RecoverTurn}
+use Rattle.weave_core.specs.declared.recoveries.RecoverTurn.TheVariants as recover_turn
 use Rattle.mon_topo.specs.declared.sights.Sight.{Sight}
 use Rattle.weave_core.specs.Switches.{switch_told}
 use Rattle.weave_core.specs.declared.store.Store.{Store}
@@ -24,7 +26,16 @@ use Rattle.weave_core.specs.declared.switches.Switching.{Switching}
 use Rattle.weave_core.specs.declared.writes.WriteTurn.{WriteTurn}
 use Rattle.weave_core.specs.declared.writes.WriteTurn.TheVariants as write_turn
 
--- ---- an actor and what its step came to, by the turn of its write or of its query
+-- ---- an actor and what its step came to, by the turn of its recovery, of its write or of its query
+
+abbrev pub RecoveredSo : List ZoneSpec → RecoverTurn → Sight → Bool → Actor → Option Stepped → Type 0
+RecoveredSo zones (recover_turn.Went recovering) sight begun own how =
+    (own ≡ record { task = task.Recovers recovering; sight = sight; begun = true }) × (how ≡ Some stepped.Went)
+RecoveredSo zones (recover_turn.Waits recovering) sight begun own how =
+    (own ≡ record { task = task.Recovers recovering; sight = sight; begun = begun }) × (how ≡ Some stepped.Waits)
+RecoveredSo zones (recover_turn.Ended range leaf outcome) sight begun own how =
+    (own ≡ record { task = task.Ended; sight = sight; begun = true })
+    × (how ≡ Some (stepped.Ended (recover_text zones range leaf outcome)))
 
 abbrev pub WrittenSo : List ZoneSpec → WriteTurn → Sight → Bool → Actor → Option Stepped → Type 0
 WrittenSo zones (write_turn.Went writing) sight begun own how =

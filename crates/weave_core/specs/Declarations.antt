@@ -4,6 +4,7 @@ use Rattle.mon_config.specs.declared.config.Config.{Config}
 use Rattle.mon_hints.specs.Formulas.{formula_tree}
 use Rattle.mon_config.specs.KeyRanges.{range_of_key}
 use Rattle.mon_topo.specs.Settings.{Setting}
+use Rattle.mon_value.specs.declared.positions.Leaf.{Leaf}
 use Rattle.mon_value.specs.declared.positions.Range.{Range}
 use Rattle.mon_value.specs.declared.rows.Row.{Row}
 use Rattle.mql_types.specs.Nodes.{TypedTree}
@@ -16,12 +17,12 @@ use Rattle.core_theory.specs.Core.{CanCome, CoreEvent, Happens, Hears, Reader}
 use Rattle.query_texts.specs.TextTypes.{text_type}
 use Rattle.query_texts.specs.declared.faults.TextFault.{TextFault}
 use Rattle.weave_core.specs.EndTexts.{no_plan_line, no_zone_line}
-use Rattle.weave_core.specs.States.{Asking, Dismissed, Eventless, Role, State, Switching, Undeclared, Writing}
-use Rattle.weave_core.specs.States.{actor_at, store_of, view_at}
+use Rattle.weave_core.specs.States.{Asking, Dismissed, Eventless, Recovering, Role, State, Switching, Undeclared}
+use Rattle.weave_core.specs.States.{Writing, actor_at, store_of, view_at}
 use Rattle.weave_core.specs.Steps.{with_event, with_role}
 use Rattle.weave_core.specs.declared.calls.Call.{Call}
 use Rattle.weave_core.specs.declared.calls.Call.TheVariants as call
-use Rattle.write_core.specs.Events.{Begins, Learns}
+use Rattle.write_core.specs.Events.{Aims, Begins, Learns}
 use Rattle.mon_topo.specs.Views.{View}
 use Rattle.write_core.specs.World.{with_value_at, view_of}
 
@@ -73,12 +74,20 @@ module _ (config : Config) where
       × (after ≡ with_reader (store_of config) state k
       (new_reader (store_of config) setting moment (view_of (actor_at (store_of config) state k))))
 
+  -- a recovery of a range onto a leaf of its zone begins
+  abbrev pub RecoveryBegins : State (store_of config) → ℕ → Range → Leaf → State (store_of config) → Type 0
+  RecoveryBegins state k range leaf after =
+      CanCome (store_of config) state.core (Happens (Aims k range leaf))
+      × (after ≡ with_role (store_of config) (with_event (store_of config) state (Happens (Aims k range leaf))) k
+      Recovering)
+
   -- an actor is declared, and this is left
   abbrev pub Declares : State (store_of config) → ℕ → Call → State (store_of config) → Type 0
   Declares state k (call.Write row) after =
       WriteBegins state k row (range_of_key config row.key) after
   Declares state k (call.Down leaf) after = after ≡ with_role (store_of config) state k (Switching leaf true)
   Declares state k (call.Up leaf) after = after ≡ with_role (store_of config) state k (Switching leaf false)
+  Declares state k (call.Recover range leaf) after = RecoveryBegins state k range leaf after
   Declares state k (call.Query moment text) after = QueryBegins state k moment (text_type config.schemas text) after
 
 -- ---- meetings
@@ -89,6 +98,7 @@ module _ (store : Setting) where
   hearing_in (Eventless text) k view = Happens (Learns k view)
   hearing_in (Switching leaf down) k view = Happens (Learns k view)
   hearing_in Dismissed k view = Happens (Learns k view)
+  hearing_in Recovering k view = Happens (Learns k view)
   hearing_in Writing k view = Happens (Learns k view)
   hearing_in Asking k view = Hears k view
 

@@ -3,17 +3,22 @@ use Rattle.std.specs.Prelude.{ℕ, Bool, List, [], ◌++◌, codes, length, Resu
 use Rattle.std.specs.Fmt.{decimal}
 use Rattle.std.specs.List.{slice_index_or}
 use Rattle.mon_table.specs.Tables.{newline, printed_table}
-use Rattle.mon_topo.specs.NameTexts.{down_text}
+use Rattle.mon_topo.specs.NameTexts.{down_text, founds_text, range_text}
 use Rattle.mon_topo.specs.Zones.{leaves_in}
 use Rattle.mon_topo.specs.declared.zones.ZoneSpec.{ZoneSpec}
 use Rattle.mon_value.specs.declared.positions.Leaf.{Leaf}
 use Rattle.mon_value.specs.declared.positions.Range.{Range}
+use Rattle.mon_value.specs.declared.positions.Slot.{Slot}
 use Rattle.query_core.specs.FaultTexts.{round_fault_text}
 use Rattle.query_core.specs.declared.answers.Answer.{Answer}
 use Rattle.query_core.specs.declared.answers.RoundFault.{RoundFault}
 use Rattle.query_texts.specs.TextTypes.{text_fault_text}
 use Rattle.query_texts.specs.declared.faults.TextFault.{TextFault}
 use Rattle.write_core.specs.Events.{SwitchTold, SwitchesSpent, WasDownAlready, WasSwitched, WasUpAlready}
+use Rattle.write_core.specs.declared.copies.Denial.{Denial}
+use Rattle.write_core.specs.declared.copies.Denial.TheVariants.{ServesFully, ServesThere, SlotsSpent}
+use Rattle.write_core.specs.declared.copies.Outcome.{Outcome}
+use Rattle.write_core.specs.declared.copies.Outcome.TheVariants.{Denied, NoSource, NoTarget, Opens}
 use Rattle.write_core.specs.Refusals.{no_zone_text, refused_text}
 use Rattle.write_core.specs.declared.asks.WriteEnd.{WriteEnd}
 use Rattle.write_core.specs.declared.asks.WriteEnd.TheVariants as end
@@ -46,6 +51,27 @@ switch_text zones leaf down (WasSwitched cut) = switch_done zones leaf down
 switch_text zones leaf down (WasDownAlready cut) = refused_line (codes "AlreadyDown " ++ decimal cut)
 switch_text zones leaf down (WasUpAlready cut) = refused_line (codes "AlreadyUp " ++ decimal cut)
 switch_text zones leaf down (SwitchesSpent count) = refused_line (codes "SwitchesSpent " ++ decimal count)
+
+-- a range was recovered onto a leaf, in this slot
+abbrev pub opened_line : List ZoneSpec → Range → Leaf → Slot → List ℕ
+opened_line zones range leaf slot =
+    codes "recover "
+    ++ (range_text zones range
+    ++ (codes " "
+    ++ (slice_index_or (leaves_in zones) leaf.0 [] ++ (codes ": slot " ++ (decimal slot.0 ++ newline)))))
+
+-- or the range opens no replica there
+abbrev pub denied_line : Denial → List ℕ
+denied_line (ServesThere slot) = refused_line (codes "Serving " ++ decimal slot.0)
+denied_line ServesFully = refused_line (codes "ThreeServing")
+denied_line (SlotsSpent count) = refused_line (codes "SlotsSpent " ++ decimal count)
+
+-- how a recovery came out
+abbrev pub recover_text : List ZoneSpec → Range → Leaf → Outcome → List ℕ
+recover_text zones range leaf (Opens slot) = opened_line zones range leaf slot
+recover_text zones range leaf (Denied why) = denied_line why
+recover_text zones range leaf (NoSource founds) = refused_line (codes "SourceDown:" ++ founds_text zones founds)
+recover_text zones range leaf (NoTarget cut) = refused_line (codes "TargetDown " ++ decimal cut)
 
 -- a write of a row whose location no zone lists
 abbrev pub no_zone_line : List ℕ

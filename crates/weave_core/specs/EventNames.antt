@@ -7,6 +7,8 @@ use Rattle.weave_core.specs.declared.events.Event.{Event}
 use Rattle.weave_core.specs.declared.events.Event.TheVariants as event
 use Rattle.write_core.specs.declared.asks.WriteAsk.{WriteAsk}
 use Rattle.write_core.specs.declared.asks.WriteAsk.TheVariants as write
+use Rattle.write_core.specs.declared.copies.CopyAsk.{CopyAsk}
+use Rattle.write_core.specs.declared.copies.CopyAsk.TheVariants as copy
 
 -- the event of a query, or of a switch, of a name
 abbrev pub other_event_named : List ℕ → Option Event
@@ -40,6 +42,18 @@ event_of_write (write.RaiseZone bucket) = Some event.RaiseZone
 event_of_write (write.Put slot leaf) = Some event.Put
 event_of_write write.Ack = Some event.Ack
 event_of_write write.Finished = None
+
+-- that a recovery asks for
+abbrev pub event_of_copy : CopyAsk → Option Event
+event_of_copy copy.Lock = Some event.Lock
+event_of_copy (copy.Copy slot leaf) = Some event.Reserve
+event_of_copy copy.Reserve = Some event.Reserve
+event_of_copy copy.Enter = Some event.Enter
+event_of_copy (copy.RaiseRoot bucket) = Some event.RaiseRoot
+event_of_copy (copy.RaiseZone bucket) = Some event.RaiseZone
+event_of_copy copy.Put = Some event.Put
+event_of_copy copy.Ack = Some event.Ack
+event_of_copy copy.Finished = None
 
 -- and that a query asks for
 abbrev pub event_of_query : Ask → Option Event

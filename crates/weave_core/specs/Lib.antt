@@ -15,6 +15,9 @@ pub mod QueryPlans
 pub mod QuerySides
 pub mod QueryTurns
 pub mod Reached
+pub mod Recoverers
+pub mod RecoverTurns
+pub mod RecoveryEvents
 pub mod ScheduleLines
 pub mod Schedules
 pub mod ScheduleTurns

@@ -4,6 +4,7 @@ use Rattle.mon_config.specs.declared.config.Config.{Config}
 use Rattle.mon_config.specs.KeyRanges.{range_of_key}
 use Rattle.mon_topo.specs.Zones.{ranges_in}
 use Rattle.mon_value.specs.declared.positions.Leaf.{Leaf}
+use Rattle.mon_value.specs.declared.positions.Range.{Range}
 use Rattle.mon_value.specs.declared.rows.Row.{Row}
 use Rattle.weave_core.specs.EndTexts.{no_zone_line}
 use Rattle.weave_core.specs.QueryPlans.{IsQueryTask}
@@ -16,6 +17,7 @@ use Rattle.weave_core.specs.declared.calls.Call.TheVariants as call
 use Rattle.mon_topo.specs.declared.sights.Sight.{Sight}
 use Rattle.weave_core.specs.declared.writes.Writing.{Writing}
 use Rattle.write_core.specs.Program.{new_write}
+use Rattle.write_core.specs.Recovering.{Beginning}
 
 -- a write of a row that has not begun
 pub record BeginsToWrite (config : Config) (i : ℕ) (row : Row) (writing : Writing) : Type 0 where
@@ -33,6 +35,7 @@ IsWriteTask config i row (task.Writes writing) = BeginsToWrite config i row writ
 IsWriteTask config i row (task.Refused line) =
     (range_of_key config row.key ≡ None) × (line ≡ no_zone_line)
 IsWriteTask config i row (task.Switches switching) = ⊥
+IsWriteTask config i row (task.Recovers recovering) = ⊥
 IsWriteTask config i row (task.Queries querying) = ⊥
 IsWriteTask config i row task.Ended = ⊥
 
@@ -40,11 +43,17 @@ IsWriteTask config i row task.Ended = ⊥
 abbrev pub IsSwitchTask : ℕ → Leaf → Bool → Task → Type 0
 IsSwitchTask i leaf down one = one ≡ task.Switches (record { number = i; leaf = leaf; down = down })
 
+-- a range is to be recovered onto a leaf
+abbrev pub IsRecoverTask : ℕ → Range → Leaf → Task → Type 0
+IsRecoverTask i range leaf one =
+    one ≡ task.Recovers (record { number = i; range = range; leaf = leaf; machine = Beginning })
+
 abbrev pub IsTaskOf : Config → ℕ → Call → Task → Type 0
 IsTaskOf config i (call.Write row) one = IsWriteTask config i row one
 IsTaskOf config i (call.Query moment text) one = IsQueryTask config moment text one
 IsTaskOf config i (call.Down leaf) one = IsSwitchTask i leaf true one
 IsTaskOf config i (call.Up leaf) one = IsSwitchTask i leaf false one
+IsTaskOf config i (call.Recover range leaf) one = IsRecoverTask i range leaf one
 
 -- an actor is to do what it was called for, and has seen so much
 pub record IsDeclaredActor (config : Config) (i : ℕ) (what : Call) (first : Sight) (own : Actor) : Type 0 where

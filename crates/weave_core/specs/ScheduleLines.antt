@@ -1,16 +1,18 @@
 -- What a line of a schedule says.
-use Rattle.std.specs.Prelude.{ℕ, ℤ, pos, negsuc, nat_le, nat_eq, ◌&&◌, List, [], ◌∷◌, codes, Option, Some, None}
-use Rattle.std.specs.Prelude.{option_map, option_and_then, if◌then◌else◌}
+use Rattle.std.specs.Prelude.{ℕ, ℤ, pos, negsuc, nat_le, nat_lt, nat_eq, ◌-◌, ◌&&◌, Bool, List, [], ◌∷◌, codes, length}
+use Rattle.std.specs.Prelude.{Option, Some, None, option_map, option_and_then, if◌then◌else◌}
+use Rattle.std.specs.List.{list_any, range_with_len}
 use Rattle.std.specs.Str.{is_utf8}
 use Rattle.mon_points.specs.Records.{reads_of}
 use Rattle.mon_points.specs.declared.records.RowRead.{RowRead}
 use Rattle.mon_points.specs.declared.records.RowRead.TheVariants as read
 use Rattle.mon_schema.specs.SchemaLists.{SchemaLists}
 use Rattle.mon_script.specs.Lines.{cut_at}
-use Rattle.mon_topo.specs.Zones.{leaf_named}
+use Rattle.mon_topo.specs.Zones.{first_leaf, first_range, leaf_named, range_named, zone_at}
 use Rattle.mon_topo.specs.declared.zones.ZoneSpec.{ZoneSpec}
 use Rattle.mon_value.specs.declared.positions.Leaf.{Leaf}
-use Rattle.mon_script.specs.Scripts.{moment_of, space}
+use Rattle.mon_script.specs.Words.{moment_of, space}
+use Rattle.mon_value.specs.declared.positions.Range.{Range}
 use Rattle.mon_value.specs.Numbers.{number_of}
 use Rattle.mon_value.specs.Same.{same_text}
 use Rattle.mon_value.specs.declared.rows.Row.{Row}
@@ -80,6 +82,36 @@ down_form zones rest = option_map (λ words. form.Declare words.0 (call.Down wor
 abbrev pub up_form : List ZoneSpec → List ℕ → Option LineForm
 up_form zones rest = option_map (λ words. form.Declare words.0 (call.Up words.1)) (actor_and_leaf zones rest)
 
+-- whether a number is among so many from the first one on
+abbrev pub is_among : ℕ → ℕ → ℕ → Bool
+is_among number first count = nat_le first number && nat_lt (number - first) count
+
+-- whether a range and a leaf are of a zone
+abbrev pub has_both : List ZoneSpec → Range → Leaf → ℕ → Bool
+has_both zones range leaf zone =
+    is_among range.0 (first_range zones zone) (length (zone_at zones zone).ranges)
+    && is_among leaf.0 (first_leaf zones zone) (length (zone_at zones zone).leaves)
+
+abbrev pub share_zone : List ZoneSpec → Range → Leaf → Bool
+share_zone zones range leaf = list_any (has_both zones range leaf) (range_with_len 0 (length zones))
+
+-- a range and a leaf, by their names
+abbrev pub range_and_leaf : List ZoneSpec → List ℕ → Option (Range × Leaf)
+range_and_leaf zones rest =
+    option_and_then (λ names. option_and_then (λ range. option_map (λ leaf. (range, leaf)) (leaf_named zones names.1))
+    (range_named zones names.0)) (cut_at space rest)
+
+-- that is to be recovered there, where both are of one zone
+abbrev pub recovered_by : List ZoneSpec → ℕ → Range × Leaf → Option LineForm
+recovered_by zones actor words =
+    if share_zone zones words.0 words.1 then Some (form.Declare actor (call.Recover words.0 words.1)) else None
+
+-- an actor, a range and a leaf of its zone
+abbrev pub recover_form : List ZoneSpec → List ℕ → Option LineForm
+recover_form zones rest =
+    option_and_then (λ words. option_and_then (recovered_by zones words.0) (range_and_leaf zones words.1))
+    (actor_and_rest rest)
+
 abbrev pub met_by : ℕ → ℕ → Option LineForm
 met_by actor other = if nat_eq actor other then None else Some (form.Meet actor other)
 
@@ -101,11 +133,12 @@ turn_form word rest =
     else if same_text word (codes "finish") then option_map form.Finish (actor_of rest)
     else None
 
--- which leaf is switched, or whose turn it is
+-- which leaf is switched, which range is recovered, or whose turn it is
 abbrev pub switch_form : List ZoneSpec → List ℕ → List ℕ → Option LineForm
 switch_form zones word rest =
     if same_text word (codes "down") then down_form zones rest
     else if same_text word (codes "up") then up_form zones rest
+    else if same_text word (codes "recover") then recover_form zones rest
     else turn_form word rest
 
 -- ---- lines

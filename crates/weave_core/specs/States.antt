@@ -7,17 +7,21 @@ use Rattle.mon_value.specs.declared.positions.Leaf.{Leaf}
 use Rattle.query_core.specs.declared.asks.Ask.{Ask}
 use Rattle.query_core.specs.declared.asks.Ask.TheVariants as ask
 use Rattle.core_theory.specs.Core.{Core, Reader, asked_now}
-use Rattle.weave_core.specs.EventNames.{event_of_query, event_of_write}
+use Rattle.weave_core.specs.EventNames.{event_of_copy, event_of_query, event_of_write}
 use Rattle.weave_core.specs.declared.calls.WeaveFault.{WeaveFault}
 use Rattle.weave_core.specs.declared.calls.WeaveFault.TheVariants as fault
 use Rattle.weave_core.specs.declared.events.Event.{Event}
 use Rattle.weave_core.specs.declared.events.Event.TheVariants as event
+use Rattle.write_core.specs.CopyPhases.{copy_ask_of}
 use Rattle.write_core.specs.Program.{Acking, Ended, Entering, Inside, Locking, Reserving, Stage}
 use Rattle.write_core.specs.Program as write
 use Rattle.mon_topo.specs.Views.{View}
-use Rattle.write_core.specs.World.{Actor, Recovers, Stands, World, Writer, Writes, view_of}
+use Rattle.write_core.specs.Recovering.{Beginning, Carrying, CopyStage, Copying, Nearing, Over, Telling, Within}
+use Rattle.write_core.specs.World.{Actor, Recovers, Recovery, Stands, World, Writer, Writes, view_of}
 use Rattle.write_core.specs.declared.asks.WriteAsk.{WriteAsk}
 use Rattle.write_core.specs.declared.asks.WriteAsk.TheVariants as write_ask
+use Rattle.write_core.specs.declared.copies.CopyAsk.{CopyAsk}
+use Rattle.write_core.specs.declared.copies.CopyAsk.TheVariants as copy_ask
 use Rattle.mon_value.specs.Parts.{is_any}
 
 -- ---- the store of a configuration
@@ -33,13 +37,14 @@ store_of config = record {
 -- ---- actors
 
 -- what an actor was declared to do: nothing so far; a call that has no event, and ends at its first step with this
--- text; to switch a leaf down, or up, which is one event; either of these two, when it is done; a write, or a query,
--- which the core has under its number
+-- text; to switch a leaf down, or up, which is one event; either of these two, when it is done; a recovery, a write, or
+-- a query, which the core has under its number
 pub data Role : Type 0 where
   Undeclared : Role
   Eventless : List ℕ → Role
   Switching : Leaf → Bool → Role
   Dismissed : Role
+  Recovering : Role
   Writing : Role
   Asking : Role
 
@@ -53,6 +58,27 @@ abbrev pub write_asks : Actor → WriteAsk
 write_asks (Writes writer) = write.ask_of writer.stage
 write_asks (Recovers recovery) = write_ask.Finished
 write_asks (Stands stander) = write_ask.Finished
+
+-- what a recovery does next
+abbrev pub copy_asks : Actor → CopyAsk
+copy_asks (Writes writer) = copy_ask.Finished
+copy_asks (Recovers recovery) = copy_ask_of recovery.stage
+copy_asks (Stands stander) = copy_ask.Finished
+
+-- a recovery that has taken its range's lock
+abbrev pub is_copy_past_lock : CopyStage → Bool
+is_copy_past_lock Beginning = false
+is_copy_past_lock (Copying founds sources) = true
+is_copy_past_lock (Carrying rows) = true
+is_copy_past_lock (Nearing rows) = true
+is_copy_past_lock (Within rows at_root in_zone) = true
+is_copy_past_lock (Telling outcome) = true
+is_copy_past_lock (Over outcome) = true
+
+abbrev pub recovers_begun : Actor → Bool
+recovers_begun (Writes writer) = false
+recovers_begun (Recovers recovery) = is_copy_past_lock recovery.stage
+recovers_begun (Stands stander) = false
 
 -- a write that has taken its range's lock
 abbrev pub is_past_lock : Stage → Bool
@@ -79,9 +105,21 @@ holder_for_write world writer (write_ask.Put slot leaf) = None
 holder_for_write world writer write_ask.Ack = None
 holder_for_write world writer write_ask.Finished = None
 
+-- and what an event of a recovery needs
+abbrev pub holder_for_copy : World → Recovery → CopyAsk → Option ℕ
+holder_for_copy world recovery copy_ask.Lock = world.range_holder recovery.range.0
+holder_for_copy world recovery (copy_ask.Copy slot leaf) = world.leaf_holder leaf.0
+holder_for_copy world recovery copy_ask.Reserve = world.leaf_holder recovery.leaf.0
+holder_for_copy world recovery copy_ask.Enter = world.leaf_holder recovery.leaf.0
+holder_for_copy world recovery (copy_ask.RaiseRoot bucket) = None
+holder_for_copy world recovery (copy_ask.RaiseZone bucket) = None
+holder_for_copy world recovery copy_ask.Put = None
+holder_for_copy world recovery copy_ask.Ack = None
+holder_for_copy world recovery copy_ask.Finished = None
+
 abbrev pub holder_for_actor : World → Actor → Option ℕ
 holder_for_actor world (Writes writer) = holder_for_write world writer (write.ask_of writer.stage)
-holder_for_actor world (Recovers recovery) = None
+holder_for_actor world (Recovers recovery) = holder_for_copy world recovery (copy_ask_of recovery.stage)
 holder_for_actor world (Stands stander) = None
 
 -- and what an event of a query needs
@@ -104,6 +142,7 @@ module _ (store : Setting) (state : State store) (k : ℕ) where
   next_in (Eventless text) = None
   next_in (Switching leaf down) = Some event.Switch
   next_in Dismissed = None
+  next_in Recovering = event_of_copy (copy_asks actor_at)
   next_in Writing = event_of_write (write_asks actor_at)
   next_in Asking = event_of_query (asked_now store reader_at)
 
@@ -116,6 +155,7 @@ module _ (store : Setting) (state : State store) (k : ℕ) where
   declared_in (Eventless text) = true
   declared_in (Switching leaf down) = true
   declared_in Dismissed = true
+  declared_in Recovering = true
   declared_in Writing = true
   declared_in Asking = true
 
@@ -127,10 +167,11 @@ module _ (store : Setting) (state : State store) (k : ℕ) where
   ended_in (Eventless text) = false
   ended_in (Switching leaf down) = false
   ended_in Dismissed = true
+  ended_in Recovering = not (is_some (next_in Recovering))
   ended_in Writing = not (is_some (next_in Writing))
   ended_in Asking = not (is_some (next_in Asking))
 
-  -- a write or a query has ended once no event of it is left
+  -- a recovery, a write or a query has ended once no event of it is left
   abbrev pub has_ended : Bool
   has_ended = ended_in (state.roles k)
 
@@ -139,6 +180,7 @@ module _ (store : Setting) (state : State store) (k : ℕ) where
   begun_in (Eventless text) = false
   begun_in (Switching leaf down) = false
   begun_in Dismissed = true
+  begun_in Recovering = recovers_begun actor_at
   begun_in Writing = writes_begun actor_at
   begun_in Asking = is_any reader_at.session
 
@@ -151,6 +193,7 @@ module _ (store : Setting) (state : State store) (k : ℕ) where
   role_fault (Eventless text) = None
   role_fault (Switching leaf down) = None
   role_fault Dismissed = Some fault.Finished
+  role_fault Recovering = if ended_in Recovering then Some fault.Finished else None
   role_fault Writing = if ended_in Writing then Some fault.Finished else None
   role_fault Asking = if ended_in Asking then Some fault.Finished else None
 
@@ -163,6 +206,7 @@ module _ (store : Setting) (state : State store) (k : ℕ) where
   view_in (Eventless text) = view_of actor_at
   view_in (Switching leaf down) = view_of actor_at
   view_in Dismissed = view_of actor_at
+  view_in Recovering = view_of actor_at
   view_in Writing = view_of actor_at
   view_in Asking = reader_at.view
 
@@ -175,6 +219,7 @@ module _ (store : Setting) (state : State store) (k : ℕ) where
   holder_in (Eventless text) = None
   holder_in (Switching leaf down) = state.core.world.leaf_holder leaf.0
   holder_in Dismissed = None
+  holder_in Recovering = holder_for_actor state.core.world actor_at
   holder_in Writing = holder_for_actor state.core.world actor_at
   holder_in Asking = holder_for_query state.core.world (asked_now store reader_at)
 

@@ -7,15 +7,17 @@ use Rattle.query_core.specs.declared.asks.Told.{Told}
 use Rattle.query_core.specs.declared.stages.Stage.{Stage}
 use Rattle.query_core.specs.declared.stages.Stage.TheVariants as query
 use Rattle.core_theory.specs.Core.{CanCome, CoreEvent, Happens, Tells, came, query_now}
-use Rattle.weave_core.specs.EndTexts.{query_text, switch_text, write_end_text}
-use Rattle.weave_core.specs.States.{Asking, Dismissed, Eventless, Role, State, Switching, Undeclared, Writing}
-use Rattle.weave_core.specs.States.{holder_at}
+use Rattle.weave_core.specs.EndTexts.{query_text, recover_text, switch_text, write_end_text}
+use Rattle.weave_core.specs.States.{Asking, Dismissed, Eventless, Recovering, Role, State, Switching, Undeclared}
+use Rattle.weave_core.specs.States.{Writing, holder_at}
 use Rattle.weave_core.specs.declared.calls.Stepped.{Stepped}
 use Rattle.weave_core.specs.declared.calls.Stepped.TheVariants as stepped
-use Rattle.write_core.specs.Events.{Goes, SwitchTold, Switches}
+use Rattle.write_core.specs.Events.{Copies, Goes, SwitchTold, Switches}
 use Rattle.write_core.specs.Program.{Acking, Ended, Entering, Inside, Locking, Reserving, end_of_verdict}
 use Rattle.write_core.specs.Program as write
-use Rattle.write_core.specs.World.{Actor, Recovers, Stands, Writer, Writes, with_value_at}
+use Rattle.write_core.specs.Recovering.{Beginning, Carrying, CopyStage, Copying, Nearing, Over, Telling, Within}
+use Rattle.write_core.specs.declared.copies.CopyTold.{CopyTold}
+use Rattle.write_core.specs.World.{Actor, Recovers, Recovery, Stands, Writer, Writes, with_value_at}
 use Rattle.write_core.specs.declared.asks.WriteTold.{WriteTold}
 
 -- ---- how a step went that did an event
@@ -34,6 +36,22 @@ abbrev pub write_stepped : List ZoneSpec → Actor → Stepped
 write_stepped zones (Writes writer) = writer_stepped zones writer writer.stage
 write_stepped zones (Recovers recovery) = stepped.Ended []
 write_stepped zones (Stands stander) = stepped.Ended []
+
+abbrev pub recovery_stepped : List ZoneSpec → Recovery → CopyStage → Stepped
+recovery_stepped zones recovery Beginning = stepped.Went
+recovery_stepped zones recovery (Copying founds sources) = stepped.Went
+recovery_stepped zones recovery (Carrying rows) = stepped.Went
+recovery_stepped zones recovery (Nearing rows) = stepped.Went
+recovery_stepped zones recovery (Within rows at_root in_zone) = stepped.Went
+recovery_stepped zones recovery (Telling outcome) = stepped.Went
+recovery_stepped zones recovery (Over outcome) =
+    stepped.Ended (recover_text zones recovery.range recovery.leaf outcome)
+
+-- so has a recovery
+abbrev pub recover_stepped : List ZoneSpec → Actor → Stepped
+recover_stepped zones (Writes writer) = stepped.Ended []
+recover_stepped zones (Recovers recovery) = recovery_stepped zones recovery recovery.stage
+recover_stepped zones (Stands stander) = stepped.Ended []
 
 -- and so has a query
 abbrev pub query_stepped : List ZoneSpec → Stage → Stepped
@@ -68,6 +86,13 @@ module _ (store : Setting) where
     pub went : how ≡ write_stepped store.zones (after.core.world.actors k)
     pub becomes : after ≡ with_event state (Happens (Goes k answer))
 
+  -- the next event of a recovery comes
+  pub record RecoveryGoes (state : State store) (k : ℕ) (how : Stepped) (after : State store) : Type 0 where
+    pub answer : CopyTold
+    pub can : CanCome store state.core (Happens (Copies k answer))
+    pub went : how ≡ recover_stepped store.zones (after.core.world.actors k)
+    pub becomes : after ≡ with_event state (Happens (Copies k answer))
+
   -- the next event of a query comes
   pub record QueryGoes (state : State store) (k : ℕ) (how : Stepped) (after : State store) : Type 0 where
     pub answer : Told
@@ -90,6 +115,7 @@ module _ (store : Setting) where
   StepsIn (Switching leaf down) state k how after =
       Waits state k how after ⊎ SwitchGoes leaf down state k how after
   StepsIn Dismissed state k how after = ⊥
+  StepsIn Recovering state k how after = Waits state k how after ⊎ RecoveryGoes state k how after
   StepsIn Writing state k how after = Waits state k how after ⊎ WriteGoes state k how after
   StepsIn Asking state k how after = Waits state k how after ⊎ QueryGoes state k how after
 

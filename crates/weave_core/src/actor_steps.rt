@@ -1,16 +1,18 @@
 // Steps of actors.
 ghost use Rattle.std.specs.Prelude.{◌≡◌, ℕ, IfOk};
 ghost use Rattle.mon_config.specs.declared.config.Config.{Config as ConfigOf};
-ghost use Rattle.weave_core.specs.ActorSteps.{ActorSteps, IsIn, IsSomewhere, QueriedSo, SwitchedSo, WrittenSo};
+ghost use Rattle.weave_core.specs.ActorSteps.{ActorSteps, IsIn, IsSomewhere, QueriedSo, RecoveredSo, SwitchedSo};
+ghost use Rattle.weave_core.specs.ActorSteps.{WrittenSo};
 ghost use Rattle.weave_core.specs.States.{State, store_of};
 ghost use Rattle.weave_core.specs.declared.actors.Task.TheVariants.{Ended};
 
 use crate::actors::{Actor, Task};
 use crate::calls::Stepped;
 use crate::queries::QueryTurn;
+use crate::recoveries::RecoverTurn;
 use crate::store::Store;
 use crate::switches::{Switched, Switching};
-use crate::texts::{query_text, switch_text, write_end_text};
+use crate::texts::{query_text, recover_text, switch_text, write_end_text};
 use crate::writes::WriteTurn;
 use mon_topo::Sight;
 use mon_value::OutOfMemory;
@@ -33,6 +35,10 @@ pub(crate) fn step_actor(
         Task::Switches(switching) => {
             let came = store.switch(switching, &mut sight);
             switched(store, switching, came, sight, begun)
+        }
+        Task::Recovers(recovering) => {
+            let turn = store.recover(recovering, &mut sight)?;
+            recovered(store, turn, sight, begun)
         }
         Task::Writes(writing) => {
             let turn = store.write(writing, &mut sight)?;
@@ -80,6 +86,39 @@ fn switched(
             },
             Some(Stepped::Waits),
         )),
+    }
+}
+
+// An actor that took this turn of its recovery, and what came of it.
+fn recovered(
+    store: &Store,
+    turn: RecoverTurn,
+    sight: Sight,
+    begun: bool,
+) -> Result<(Actor, Option<Stepped>), OutOfMemory>
+    ensures recovered { IfOk result (λ pair. RecoveredSo store.now.config.topology turn sight begun pair.0 pair.1) }
+{
+    match turn {
+        RecoverTurn::Went(recovering) => Ok((
+            Actor {
+                task: Task::Recovers(recovering),
+                sight,
+                begun: true,
+            },
+            Some(Stepped::Went),
+        )),
+        RecoverTurn::Waits(recovering) => Ok((
+            Actor {
+                task: Task::Recovers(recovering),
+                sight,
+                begun,
+            },
+            Some(Stepped::Waits),
+        )),
+        RecoverTurn::Ended(range, leaf, outcome) => {
+            let text = recover_text(store.alloc, &store.config.topology, range, leaf, &outcome)?;
+            Ok((ended(sight, true), Some(Stepped::Ended(text))))
+        }
     }
 }
 

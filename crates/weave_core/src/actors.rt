@@ -1,4 +1,4 @@
-// Actors: writes, queries and switches on their way.
+// Actors: writes, queries, switches and recoveries on their way.
 ghost use Rattle.std.specs.Prelude.{◌≡◌, ◌||◌, None, IfOk};
 ghost use Rattle.weave_core.specs.Agreements.{IsServed};
 ghost use Rattle.weave_core.specs.Tasks.{event_of, is_over};
@@ -6,9 +6,10 @@ ghost use Rattle.weave_core.specs.NewActors.{IsTaskOf, IsDeclaredActor, IsWriteT
 ghost use Rattle.write_core.specs.Program.{new_write as machine_of};
 
 use crate::calls::Call;
-use crate::events::{Event, event_of_query, event_of_write};
+use crate::events::{Event, event_of_copy, event_of_query, event_of_write};
 use crate::queries::Querying;
 use crate::query_plans::query_task;
+use crate::recoveries::Recovering;
 use crate::store::Store;
 use crate::switches::Switching;
 use crate::texts::no_zone;
@@ -16,7 +17,7 @@ use crate::writes::Writing;
 use mon_topo::Sight;
 use mon_value::{OutOfMemory, Range, Row, Text, TryCopy};
 use std::alloc::Global;
-use write_core::WriteMachine;
+use write_core::{CopyMachine, WriteMachine};
 
 /// What an actor has left to do.
 #[derive(Drop)]
@@ -25,6 +26,8 @@ pub(crate) enum Task {
     Refused(Text),
     /// It switches a leaf.
     Switches(Switching),
+    /// It recovers a range.
+    Recovers(Recovering),
     /// It writes.
     Writes(Writing),
     /// It queries.
@@ -61,7 +64,11 @@ impl Actor {
         ensures ended { result ≡ is_over self.now.task }
     {
         match &self.task {
-            Task::Refused(_) | Task::Switches(_) | Task::Writes(_) | Task::Queries(_) => false,
+            Task::Refused(_)
+            | Task::Switches(_)
+            | Task::Recovers(_)
+            | Task::Writes(_)
+            | Task::Queries(_) => false,
             Task::Ended => true,
         }
     }
@@ -80,6 +87,7 @@ impl Actor {
         match &self.task {
             Task::Writes(writing) => event_of_write(&writing.machine.next()),
             Task::Queries(querying) => event_of_query(&querying.machine.next()),
+            Task::Recovers(recovering) => event_of_copy(recovering.machine.next()),
             Task::Switches(_) => Some(Event::Switch),
             Task::Refused(_) | Task::Ended => None,
         }
@@ -103,6 +111,12 @@ fn task_of(store: &Store, number: u32, call: Call) -> Result<Task, OutOfMemory>
             number,
             leaf,
             down: false,
+        })),
+        Call::Recover(range, leaf) => Ok(Task::Recovers(Recovering {
+            number,
+            range,
+            leaf,
+            machine: CopyMachine::new(store.alloc),
         })),
     }
 }

@@ -1,5 +1,5 @@
 // What an actor is to do, and how its steps go.
-use mon_value::{Leaf, Row, Text, TryCopy};
+use mon_value::{Leaf, Range, Row, Text, TryCopy};
 use std::alloc::{AllocError, Global};
 use std::fmt;
 
@@ -14,6 +14,9 @@ pub enum Call {
     Down(Leaf),
     /// Switch a leaf up.
     Up(Leaf),
+    /// Recover a range onto a leaf of its zone: a replica of the range is opened there, with the rows of one that
+    /// serves.
+    Recover(Range, Leaf),
 }
 
 /// How a step went.
@@ -78,6 +81,7 @@ impl TryCopy for Call {
             Call::Query(moment, text) => Ok(Call::Query(*moment, text.copy(alloc)?)),
             Call::Down(leaf) => Ok(Call::Down(*leaf)),
             Call::Up(leaf) => Ok(Call::Up(*leaf)),
+            Call::Recover(range, leaf) => Ok(Call::Recover(*range, *leaf)),
         }
     }
 }

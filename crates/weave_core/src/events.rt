@@ -3,25 +3,26 @@ ghost use Rattle.std.specs.Prelude.{◌≡◌};
 ghost use Rattle.weave_core.specs.EventNames as spec;
 
 use query_core::Ask;
-use write_core::WriteAsk;
+use write_core::{CopyAsk, WriteAsk};
 
 /// What an actor does in one step.
 #[derive(Clone, Copy, PartialEq, Eq)]
 pub enum Event {
-    /// A write takes its range's lock.
+    /// A write or a recovery takes its range's lock.
     Lock,
-    /// A write makes room for its row on a leaf, or finds the leaf down.
+    /// A write makes room for its row on a leaf, or finds the leaf down. A recovery asks the leaf of a replica for its
+    /// rows, and then its own leaf for room, or finds it down.
     Reserve,
-    /// A write takes a leaf's lock, or finds the leaf down.
+    /// A write or a recovery takes a leaf's lock, or finds the leaf down.
     Enter,
-    /// A write sets a zone's bit in a word of the root.
+    /// A write or a recovery sets a zone's bit in a word of the root.
     RaiseRoot,
-    /// A write sets a leaf's bit in a word of its zone.
+    /// A write or a recovery sets a leaf's bit in a word of its zone.
     RaiseZone,
-    /// A write appends its row to a leaf's history, and lets go of the leaf.
+    /// A write appends its row to a leaf's history, or a recovery its replica, and lets go of the leaf.
     Put,
-    /// A write appends its acknowledgement to its range's history, if some replica took the row, and lets go of the
-    /// range.
+    /// A write appends its acknowledgement to its range's history, if some replica took the row, or a recovery its
+    /// replica, if that was opened, and lets go of the range.
     Ack,
     /// A query loads a word of the root.
     LoadRoot,
@@ -90,6 +91,23 @@ pub(crate) fn event_of_write(ask: &WriteAsk) -> Option<Event>
         WriteAsk::Put(_, _) => Some(Event::Put),
         WriteAsk::Ack => Some(Event::Ack),
         WriteAsk::Finished => None,
+    }
+}
+
+/// The event that a recovery asks for, unless it has ended.
+pub(crate) fn event_of_copy(ask: CopyAsk) -> Option<Event>
+    ensures event { result ≡ spec.event_of_copy ask }
+{
+    match ask {
+        CopyAsk::Lock => Some(Event::Lock),
+        CopyAsk::Copy(_, _) => Some(Event::Reserve),
+        CopyAsk::Reserve => Some(Event::Reserve),
+        CopyAsk::Enter => Some(Event::Enter),
+        CopyAsk::RaiseRoot(_) => Some(Event::RaiseRoot),
+        CopyAsk::RaiseZone(_) => Some(Event::RaiseZone),
+        CopyAsk::Put => Some(Event::Put),
+        CopyAsk::Ack => Some(Event::Ack),
+        CopyAsk::Finished => None,
     }
 }
 

@@ -1,4 +1,5 @@
-//! A core whose writes, queries and switches go one event at a time, in any order, and the language of schedules.
+//! A core whose writes, queries, switches and recoveries go one event at a time, in any order, and the language of
+//! schedules.
 #![tactic(auto)]
 
 mod actor_steps;
@@ -9,10 +10,13 @@ mod kept_laws;
 mod leaves;
 mod limits;
 mod lines;
+mod names;
 mod queries;
 mod query_looks;
 mod query_plans;
 mod ranges;
+mod recoveries;
+mod recovery_events;
 mod schedule_laws;
 mod schedules;
 mod store;
@@ -26,7 +30,7 @@ mod writes;
 pub use calls::{Call, ScheduleFault, Stepped, WeaveFault};
 pub use core_theory::{
     meetings_see_as_far_as_views, queries_answer_rightly, queries_are_licensed,
-    writes_name_what_they_found,
+    recoveries_come_out_rightly, writes_name_what_they_found,
 };
 pub use events::Event;
 pub use kept_laws::{locks_tell_the_truth, one_bit_is_raised, stores_begin_held};

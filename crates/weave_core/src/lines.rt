@@ -4,7 +4,7 @@ ghost use Rattle.mon_schema.specs.Fits.{fits};
 ghost use Rattle.mon_schema.specs.SchemaLists.{SchemaLists};
 ghost use Rattle.std.specs.List.{AllByRecursion};
 ghost use Rattle.mon_points.specs.Fitting.{ReadFits};
-ghost use Rattle.mon_topo.specs.Zones.{leaves_in};
+ghost use Rattle.mon_topo.specs.Zones.{leaves_in, ranges_in};
 ghost use Rattle.mon_topo.specs.declared.zones.ZoneSpec.{ZoneSpec};
 ghost use Rattle.weave_core.specs.LawfulLines.{IsActorNumber, IsLawfulForm, IsMoment};
 ghost use Rattle.weave_core.specs.ScheduleLines as spec;
@@ -16,7 +16,7 @@ use mon_points::{RowRead, RowReads, read_rows};
 use mon_schema::Schemas;
 use mon_script::{cut_at, moment_of};
 use mon_topo::Topology;
-use mon_value::{Leaf, OutOfMemory, Row, Text, read_number};
+use mon_value::{Leaf, OutOfMemory, Range, Row, Text, Zone, read_number};
 use std::alloc::Global;
 
 /// What a line says.
@@ -106,7 +106,7 @@ fn query_form(alloc: Global, rest: &[u8]) -> Result<Option<LineForm>, OutOfMemor
     }
 }
 
-// What says which leaf is switched, or whose turn it is.
+// What says which leaf is switched, or which range is recovered, or whose turn it is.
 fn switch_form(topology: &Topology, word: &[u8], rest: &[u8]) -> Option<LineForm>
     ensures form { result ≡ spec.switch_form topology.now word.now rest.now }
     ensures lawful { (held : SchemaLists) → IfSome result (IsLawfulForm held topology.now) }
@@ -115,6 +115,8 @@ fn switch_form(topology: &Topology, word: &[u8], rest: &[u8]) -> Option<LineForm
         down_form(topology, rest)
     } else if word == b"up".as_slice() {
         up_form(topology, rest)
+    } else if word == b"recover".as_slice() {
+        recover_form(topology, rest)
     } else {
         turn_form(word, rest)
     }
@@ -136,6 +138,54 @@ fn up_form(topology: &Topology, rest: &[u8]) -> Option<LineForm>
 {
     let (actor, leaf) = actor_and_leaf(topology, rest)?;
     Some(LineForm::Declare(actor, Call::Up(leaf)))
+}
+
+// A range that is to be recovered onto a leaf of its zone.
+fn recover_form(topology: &Topology, rest: &[u8]) -> Option<LineForm>
+    ensures form { result ≡ spec.recover_form topology.now rest.now }
+    ensures lawful { (held : SchemaLists) → IfSome result (IsLawfulForm held topology.now) }
+{
+    let (actor, rest) = actor_and_rest(rest)?;
+    let (range, leaf) = range_and_leaf(topology, rest)?;
+    if share_zone(topology, range, leaf) {
+        Some(LineForm::Declare(actor, Call::Recover(range, leaf)))
+    } else {
+        None
+    }
+}
+
+// The range of a name, and the leaf of another one.
+fn range_and_leaf(topology: &Topology, rest: &[u8]) -> Option<(Range, Leaf)>
+    ensures words { result ≡ spec.range_and_leaf topology.now rest.now }
+    ensures range { IfSome result (λ words. words.0.0 < length (ranges_in topology.now)) }
+    ensures leaf { IfSome result (λ words. words.1.0 < length (leaves_in topology.now)) }
+{
+    let (range, leaf) = cut_at(rest, b' ')?;
+    Some((topology.range_named(range)?, topology.leaf_named(leaf)?))
+}
+
+// Whether a range and a leaf are of one zone.
+fn share_zone(topology: &Topology, range: Range, leaf: Leaf) -> bool
+    ensures share { result ≡ spec.share_zone topology.now range leaf }
+{
+    (0..topology.zones()).any(|zone| has_both(topology, Zone(zone), range, leaf))
+}
+
+// Whether both are of a zone.
+fn has_both(topology: &Topology, zone: Zone, range: Range, leaf: Leaf) -> bool
+    requires within { zone.0 < length topology.now }
+    ensures both { result ≡ spec.has_both topology.now range leaf zone.0 }
+{
+    let (first_range, ranges) = topology.ranges_of(zone);
+    let (first_leaf, leaves) = topology.leaves_of(zone);
+    is_among(range.0, first_range.0, ranges) && is_among(leaf.0, first_leaf.0, leaves)
+}
+
+// Whether a number is among so many from the first one on.
+fn is_among(number: u32, first: u32, count: u32) -> bool
+    ensures among { result ≡ spec.is_among number first count }
+{
+    first <= number && number - first < count
 }
 
 // An actor, and the leaf of a name.

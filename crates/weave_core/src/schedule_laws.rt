@@ -9,7 +9,7 @@ ghost use Rattle.query_core.specs.declared.answers.RoundFault.{RoundFault as Fau
 ghost use Rattle.query_core.specs.declared.answers.Trace.{Trace as TraceOf};
 ghost use Rattle.query_core.specs.declared.stages.Stage.TheVariants.{Ended};
 ghost use Rattle.core_theory.specs.Core.{query_now};
-ghost use Rattle.core_theory.specs.FoundDown.{FindsWhatItSays};
+ghost use Rattle.core_theory.specs.FoundDown.{FindsAllDown, FindsWhatItSays, RecoversAsItSays};
 ghost use Rattle.core_theory.specs.Licensed.{IsWoven};
 ghost use Rattle.weave_core.specs.Reached.{AnsweredRightly, FoundNoneRightly, HasAnswered, HasFoundNone, HasStoppedSo};
 ghost use Rattle.weave_core.specs.Reached.{LinesLead, StoppedRightly, downs_heard};
@@ -25,7 +25,10 @@ use write_core::what_is_said_was_noted;
 /// seen, and each query's session is licensed. So each query that ended has answered rightly, or stopped for its load
 /// rightly, or found that a range has no replica; and each leaf that its end names as down it was told so at a visit,
 /// with that cut. Each leaf of which a write that has ended says that its replica there missed the row it found down by
-/// an event of its own, at that cut.
+/// an event of its own, at that cut; and where no replica took the row, these are the leaves of all replicas that serve.
+/// Where a recovery has ended with a slot, its leaf's history opened the replica with the rows that were acknowledged
+/// before, and then its range's history, which is legal. Where it has ended without one, it has seen what was in its
+/// way, and each leaf that it names it found down by an event of its own, at that cut.
 pub fn schedules_answer_rightly()
     ensures woven { (config : ConfigOf) (first state : State (store_of config)) (lines : List Form)
         → IsFirstState config first → LinesLead config first lines state → IsWoven (store_of config) state.core }
@@ -46,6 +49,11 @@ pub fn schedules_answer_rightly()
         → EndNames (Contains (downs_heard config (state.core.readers k))) end }
     ensures found { (config : ConfigOf) (first state : State (store_of config)) (lines : List Form) (k : ℕ)
         → IsFirstState config first → LinesLead config first lines state → FindsWhatItSays state.core.world k }
+    ensures all { (config : ConfigOf) (first state : State (store_of config)) (lines : List Form) (k : ℕ)
+        → IsFirstState config first → LinesLead config first lines state → FindsAllDown state.core.world k }
+    ensures recovered { (config : ConfigOf) (first state : State (store_of config)) (lines : List Form) (k : ℕ)
+        → IsFirstState config first → LinesLead config first lines state
+        → RecoversAsItSays (store_of config) state.core.world k }
 {
     queries_answer_rightly();
     ends_name_what_was_told();

@@ -1,20 +1,19 @@
 // What an actor prints that ends.
-ghost use Rattle.std.specs.Prelude.{◌≡◌, [], IfOk, string_bytes};
-ghost use Rattle.std.specs.List.{slice_index_or};
-ghost use Rattle.mon_topo.specs.Zones.{leaves_in};
+ghost use Rattle.std.specs.Prelude.{◌≡◌, IfOk, string_bytes};
 ghost use Rattle.query_core.specs.FaultTexts.{round_fault_text};
 ghost use Rattle.weave_core.specs.EndTexts as spec;
 ghost use Rattle.weave_core.specs.Switches.{switch_told};
 ghost use Rattle.write_core.specs.Refusals.{refused_text};
 
+use crate::names::{founds_text, leaf_text, range_text};
 use crate::switches::{Switched, Switching};
 use mon_table::print;
 use mon_topo::{Topology, down_text};
-use mon_value::{Leaf, OutOfMemory, Range, Text};
+use mon_value::{Leaf, OutOfMemory, Range, Slot, Text};
 use query_core::{Answer, RoundFault, fault_text};
 use query_texts::TextFault;
 use std::alloc::Global;
-use write_core::{Refused, WriteEnd};
+use write_core::{Denial, Outcome, Refused, WriteEnd};
 
 /// The text of a write to a range that ended so.
 pub(crate) fn write_end_text(
@@ -111,14 +110,70 @@ fn switch_word(down: bool) -> &'static str
     if down { "down" } else { "up" }
 }
 
-// The name of a leaf, if there is such a leaf.
-fn leaf_text(topology: &Topology, leaf: Leaf) -> &str
-    ensures name { result.now ≡ slice_index_or (leaves_in topology.now) leaf.0 [] }
+/// The text of a recovery of a range onto a leaf that came out so.
+pub(crate) fn recover_text(
+    alloc: Global,
+    topology: &Topology,
+    range: Range,
+    leaf: Leaf,
+    outcome: &Outcome,
+) -> Result<Text, OutOfMemory>
+    ensures text { IfOk result (λ text. text ≡ spec.recover_text topology.now range leaf outcome.now) }
 {
-    if leaf.0 < topology.leaves() {
-        topology.leaf_name(leaf).as_str()
-    } else {
-        ""
+    Ok(Text::from_string(recover_line(alloc, topology, range, leaf, outcome)?))
+}
+
+// The line of it.
+fn recover_line(
+    alloc: Global,
+    topology: &Topology,
+    range: Range,
+    leaf: Leaf,
+    outcome: &Outcome,
+) -> Result<String, OutOfMemory>
+    ensures line { IfOk result (λ line. string_bytes line ≡ spec.recover_text topology.now range leaf outcome.now) }
+{
+    match outcome {
+        Outcome::Opens(slot) => opened_line(alloc, topology, range, leaf, *slot),
+        Outcome::Denied(why) => denied_line(alloc, *why),
+        Outcome::NoSource(founds) => {
+            let down = founds_text(alloc, topology, founds.as_slice())?;
+            format!(in alloc; "refused: SourceDown:{down}\n")
+        }
+        Outcome::NoTarget(cut) => {
+            let cut = *cut;
+            format!(in alloc; "refused: TargetDown {cut}\n")
+        }
+    }
+}
+
+// The line of a range that was recovered in a slot.
+fn opened_line(
+    alloc: Global,
+    topology: &Topology,
+    range: Range,
+    leaf: Leaf,
+    slot: Slot,
+) -> Result<String, OutOfMemory>
+    ensures line { IfOk result (λ line. string_bytes line ≡ spec.opened_line topology.now range leaf slot) }
+{
+    let range = range_text(alloc, topology, range)?;
+    let leaf = leaf_text(topology, leaf);
+    let slot = slot.0;
+    format!(in alloc; "recover {range} {leaf}: slot {slot}\n")
+}
+
+// The line of a range that opens no replica there.
+fn denied_line(alloc: Global, why: Denial) -> Result<String, OutOfMemory>
+    ensures line { IfOk result (λ line. string_bytes line ≡ spec.denied_line why) }
+{
+    match why {
+        Denial::ServesThere(slot) => {
+            let slot = slot.0;
+            format!(in alloc; "refused: Serving {slot}\n")
+        }
+        Denial::ServesFully => format!(in alloc; "refused: ThreeServing\n"),
+        Denial::SlotsSpent(count) => format!(in alloc; "refused: SlotsSpent {count}\n"),
     }
 }
 

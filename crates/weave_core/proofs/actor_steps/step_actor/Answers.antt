@@ -1,8 +1,8 @@
 use Rattle.std.proofs.Common.{Option}
-use Rattle.weave_core.proofs.ActorStepLemmas.{query_asks_for, query_step, refused_step, switch_asks_for, switch_step}
-use Rattle.weave_core.proofs.ActorStepLemmas.{write_step}
+use Rattle.weave_core.proofs.ActorStepLemmas.{query_asks_for, query_step, recover_asks_for, recover_step, refused_step}
+use Rattle.weave_core.proofs.ActorStepLemmas.{switch_asks_for, switch_step, write_step}
 use Rattle.weave_core.proofs.QueryTurnLemmas.{if_ok_on}
-use Rattle.weave_core.specs.ActorSteps.{ActorSteps, QueriedSo, SwitchedSo, WrittenSo}
+use Rattle.weave_core.specs.ActorSteps.{ActorSteps, QueriedSo, RecoveredSo, SwitchedSo, WrittenSo}
 use Rattle.weave_core.specs.declared.actors.Actor.{Actor}
 use Rattle.weave_core.specs.declared.calls.Stepped.{Stepped}
 use Rattle.weave_core.proofs.actor_steps.step_actor.Goals as goal
@@ -58,4 +58,22 @@ returns-in_ok-turn-in-Queries c = record {
       c.query.new.self c.query.new.sight c.in_ok-turn-in-Queries.turn pair.0 pair.1
       (λ asking. c.in_ok-turn-in-Queries.ensures.turn config state.core i asking) h)
       c.queried.result c.queried.ensures.queried;
+}
+
+pub recover-requires : goal.recover-requires
+recover-requires c = record {
+  opening = recover_asks_for c.args.store.now c.args.own c.in-Recovers.recovering c.in-Recovers.is
+      c.requires.somewhere;
+}
+
+pub returns-in_ok-turn-in-Recovers : goal.returns-in_ok-turn-in-Recovers
+returns-in_ok-turn-in-Recovers c = record {
+  stepped = λ config state i here. if_ok_on
+      (λ (pair : Actor × Option Stepped). RecoveredSo c.recover.new.self.config.topology c.in_ok-turn-in-Recovers.turn
+      c.recover.new.sight c.args.own.begun pair.0 pair.1)
+      (λ (pair : Actor × Option Stepped). ActorSteps config state i c.recover.new.self c.args.own pair.0 pair.1)
+      (λ pair h. recover_step config state i c.args.store.now c.args.own here c.in-Recovers.recovering c.in-Recovers.is
+      c.recover.new.self c.recover.new.sight c.in_ok-turn-in-Recovers.turn pair.0 pair.1
+      (λ at. c.in_ok-turn-in-Recovers.ensures.turn config state.core.world i at) h)
+      c.recovered.result c.recovered.ensures.recovered;
 }

@@ -2,6 +2,7 @@ use Rattle.query_core.specs.declared.stages.Stage.TheVariants.{Ended}
 use Rattle.weave_core.proofs.ReachedLemmas.{reached}
 use Rattle.core_theory.proofs.EndedLemmas.{finds_all}
 use Rattle.core_theory.proofs.ReaderLemmas.{as_new, stage_is}
+use Rattle.core_theory.proofs.RecoveredLemmas.{finds_all_down, recovers_all}
 use Rattle.weave_core.specs.States.{store_of}
 use Rattle.weave_core.proofs.schedule_laws.schedules_answer_rightly.Goals as goal
 
@@ -44,4 +45,12 @@ returns c =
           finds_all state.core.world
           (reached config (said.noted (store_of config)) (said.begins (store_of config)) first state lines new
           leads).found k;
+      all = λ config first state lines k new leads.
+          finds_all_down (store_of config) state.core.world
+          (reached config (said.noted (store_of config)) (said.begins (store_of config)) first state lines new
+          leads).woven.world k;
+      recovered = λ config first state lines k new leads.
+          let h = reached config (said.noted (store_of config)) (said.begins (store_of config)) first state lines new
+          leads in
+          recovers_all (store_of config) state.core.world h.woven.world h.found.noted k;
     }
