@@ -1,37 +1,44 @@
 -- A script that is read from its front on.
-use Rattle.std.proofs.Common.{◌≡◌, ℕ, ◌+◌, Bool, true, false, cond, Option, Some, None, List, [], ◌∷◌, ◌++◌, Result}
-use Rattle.std.proofs.Common.{Ok, Err, refl, sym, ap, append_assoc, ◌∙◌}
-use Rattle.std.specs.Option.{ok_or}
+use Rattle.std.proofs.Common.{◌≡◌, ℕ, ◌+◌, ◌≤◌, Option, Some, None, List, [], ◌∷◌, ◌++◌, length, Result, Ok, Err, refl}
+use Rattle.std.proofs.Common.{sym, ap, append_assoc, append-nil, length-append, subst, arith, ◌∙◌}
+use Rattle.mon_topo.specs.declared.zones.ZoneSpec.{ZoneSpec}
 use Rattle.mon_value.specs.Answers.{◌>>=◌}
-use Rattle.mon_script.specs.Lines.{is_remark}
-use Rattle.mon_script.specs.Scripts.{form_of, line_at, not_built, script_from}
-use Rattle.mon_script.specs.declared.script.LineForm.{LineForm}
-use Rattle.mon_script.specs.declared.script.ScriptFault.{ScriptFault}
+use Rattle.mon_script.specs.Scripts.{line_at, lines_read, script_from}
+use Rattle.mon_script.specs.declared.faults.ScriptFault.{ScriptFault}
+use Rattle.mon_script.specs.declared.forms.LineForm.{LineForm}
+use Rattle.mon_script.specs.declared.script.LineRead.{LineRead}
 use Rattle.mon_script.specs.declared.script.ScriptLine.{ScriptLine}
 
+abbrev pub Lines : Type 0
+Lines = Result (List ScriptLine) ScriptFault
+
 -- what is read of the rest, behind what was read so far
-abbrev pub with_front : {X F : Type 0} → List X → Result (List X) F → Result (List X) F
+abbrev pub with_front : List ScriptLine → Lines → Lines
 with_front front read = read >>= λ rest. Ok (front ++ rest)
 
-abbrev pub given : List ScriptLine → Result (List ScriptLine) ScriptFault
+abbrev pub given : List ScriptLine → Lines
 given lines = Ok lines
 
-more_by : (front : List ScriptLine) (n : ℕ) (what : LineForm) (remark : Bool) (form : Option LineForm)
-    (skipped rest : Result (List ScriptLine) ScriptFault) → remark ≡ false → form ≡ Some what →
-    with_front (front ++ line_at n what ∷ []) rest ≡ with_front front (cond remark skipped (ok_or form (not_built n)
-    >>= λ w. rest >>= λ lines. Ok (line_at n w ∷ lines)))
-more_by front n what true form skipped rest plain is = absurd cc
-more_by front n what false None skipped rest plain is = absurd cc
-more_by front n what false (Some w) skipped (Err fault) plain is = refl
-more_by front n what false (Some w) skipped (Ok lines) plain is =
-    let same : w ≡ what = cc in
-    ap given (append_assoc front (line_at n what ∷ []) lines)
-    ∙ ap (λ (v : LineForm). given (front ++ line_at n v ∷ lines)) (sym same)
+behind : (front one : List ScriptLine) (rest : Lines)
+    → with_front (front ++ one) rest ≡ with_front front (rest >>= λ lines. Ok (one ++ lines))
+behind front one (Err fault) = refl
+behind front one (Ok lines) = ap given (append_assoc front one lines)
 
 -- a line more, in front of the lines that are left
-pub front_more : (front : List ScriptLine) (n : ℕ) (line : List ℕ) (lines : List (List ℕ)) (what : LineForm)
-    → is_remark line ≡ false → form_of line ≡ Some what →
-    with_front (front ++ line_at n what ∷ []) (script_from (n + 1) lines) ≡ with_front front
-    (script_from n (line ∷ lines))
-front_more front n line lines what plain is = more_by front n what (is_remark line) (form_of line)
-    (script_from (n + 1) lines) (script_from (n + 1) lines) plain is
+pub front_more : (zones : List ZoneSpec) (front : List ScriptLine) (n : ℕ) (place : Option ℕ) (line : List ℕ)
+    (left : List (List ℕ)) (read : LineRead) → line_at zones n place line left ≡ Ok read
+    → with_front (front ++ lines_read n read.what) (script_from zones (n + 1) read.next left)
+    ≡ with_front front (script_from zones n place (line ∷ left))
+front_more zones front n place line left read is =
+    behind front (lines_read n read.what) (script_from zones (n + 1) read.next left)
+    ∙ ap (λ (r : Result LineRead ScriptFault). with_front front
+    (r >>= λ (one : LineRead). script_from zones (n + 1) one.next left
+    >>= λ (rest : List ScriptLine). Ok (lines_read n one.what ++ rest))) (sym is)
+
+-- each line that does something has a number
+pub few_more : (front : List ScriptLine) (n : ℕ) (what : Option LineForm) → length front ≤ n
+    → length (front ++ lines_read (n + 1) what) ≤ n + 1
+few_more front n None few =
+    subst (λ (made : List ScriptLine). length made ≤ n + 1) (sym (append-nil front)) (omega (arith, few))
+few_more front n (Some what) few =
+    subst (λ (k : ℕ). k ≤ n + 1) (sym (length-append front (lines_read (n + 1) (Some what)))) (omega (arith, few))

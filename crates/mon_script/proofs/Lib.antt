@@ -1,3 +1,4 @@
+mod BlockLemmas
 mod Fronts
 mod LawfulLemmas
 mod LineLemmas

@@ -1,5 +1,10 @@
+pub mod Blocks
+pub mod Forms
 pub mod Lawful
 pub mod Lines
 pub mod Made
 pub mod MadePlaces
+pub mod Others
+pub mod Places
 pub mod Scripts
+pub mod Words

@@ -15,10 +15,6 @@ cut_at mark [] = None
 cut_at mark (byte ∷ rest) =
     if byte == mark then Some ([], rest) else option_map (λ cut. (byte ∷ cut.0, cut.1)) (cut_at mark rest)
 
--- what stands behind a front
-abbrev pub behind_front : List ℕ → List ℕ → Option (List ℕ)
-behind_front front text = if same_text (take (length front) text) front then Some (drop (length front) text) else None
-
 abbrev pub ends_line : List ℕ → Bool
 ends_line [] = false
 ends_line (byte ∷ rest) = byte == line_feed

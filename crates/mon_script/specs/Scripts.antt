@@ -1,68 +1,85 @@
 -- What a script spells.
-use Rattle.std.specs.Prelude.{ℕ, ℤ, pos, int_le, ◌+◌, ◌-◌, ◌^◌, ◌==◌, ◌&&◌, Bool, not, List, [], ◌∷◌, length, codes}
-use Rattle.std.specs.Prelude.{nat_lt, Option, Some, None, option_and_then, Result, Ok, if◌then◌else◌}
-use Rattle.std.specs.List.{list_any}
-use Rattle.std.specs.Str.{is_utf8}
-use Rattle.std.specs.Option.{ok_or}
+use Rattle.std.specs.Prelude.{◌+◌, ◌∷◌, ◌++◌, ℕ, nat_lt, Bool, true, false, List, [], Option, Some, None, Result, Ok}
+use Rattle.std.specs.Prelude.{Err, if◌then◌else◌}
+use Rattle.mon_script.specs.Lines.{is_remark, lines_of}
+use Rattle.mon_topo.specs.declared.zones.ZoneSpec.{ZoneSpec}
 use Rattle.mon_value.specs.Answers.{◌>>=◌}
-use Rattle.mon_value.specs.Numbers.{number_of}
-use Rattle.mon_script.specs.Lines.{behind_front, cut_at, is_remark, lines_of}
-use Rattle.mon_script.specs.declared.script.LineForm.{LineForm}
-use Rattle.mon_script.specs.declared.script.LineForm.TheVariants as form
+use Rattle.mon_script.specs.Forms.{Said, form_of}
+use Rattle.mon_script.specs.Places.{mark_of, stand_at}
+use Rattle.mon_script.specs.declared.faults.ScriptFault.{ScriptFault}
+use Rattle.mon_script.specs.declared.faults.ScriptKind.{ScriptKind}
+use Rattle.mon_script.specs.declared.faults.ScriptKind.TheVariants as kind
+use Rattle.mon_script.specs.declared.forms.LineForm.{LineForm}
+use Rattle.mon_script.specs.declared.places.Mark.TheVariants as mark
+use Rattle.mon_script.specs.declared.places.TheConstants.{MOST_LINES}
+use Rattle.mon_script.specs.declared.script.LineRead.{LineRead}
 use Rattle.mon_script.specs.declared.script.ScriptLine.{ScriptLine}
-use Rattle.mon_script.specs.declared.script.ScriptFault.{ScriptFault}
-use Rattle.mon_script.specs.declared.script.ScriptKind.TheVariants as kind
 
-abbrev pub space : ℕ
-space = 32
+-- ---- a line where it stands
 
--- a moment is a number from 0 to 2 ^ 63 - 1
-abbrev pub is_moment : ℤ → Bool
-is_moment z = int_le (pos 0) z && int_le z (pos (2 ^ 63 - 1))
+abbrev pub read_as : Option LineForm → Option ℕ → LineRead
+read_as what next = record { what = what; next = next }
 
-abbrev pub moment_of : List ℕ → Option ℤ
-moment_of word = option_and_then (λ z. if is_moment z then Some z else None) (number_of word)
+-- a line that does nothing leaves the next one where it stands
+abbrev pub remark_read : ℕ → Option ℕ → Result LineRead ScriptKind
+remark_read number place =
+    if nat_lt MOST_LINES number then Err kind.TooManyLines else Ok (read_as None place)
 
--- a file's name has a byte, no space, and is UTF-8
-abbrev pub is_file_name : List ℕ → Bool
-is_file_name name = nat_lt 0 (length name) && (not (list_any (λ byte. byte == space) name) && is_utf8 name)
+abbrev pub form_read : ℕ → Option ℕ → LineForm → List (List ℕ) → Result LineRead ScriptKind
+form_read number place form left = do
+  next ← stand_at number place (mark_of form) left
+  Ok (read_as (Some form) next)
 
-abbrev pub feed_form : List ℕ → Option LineForm
-feed_form name = if is_file_name name then Some (form.Feed name) else None
+abbrev pub fault_behind : ScriptKind → Result (Option ℕ) ScriptKind → ScriptKind
+fault_behind why (Ok next) = why
+fault_behind why (Err other) = other
 
--- a query's text at a moment: any text of UTF-8, which may be empty and have spaces
-abbrev pub asked_at : List ℕ → ℤ → Option LineForm
-asked_at text moment = if is_utf8 text then Some (form.Query moment text) else None
+abbrev pub is_not_built : ScriptKind → Bool
+is_not_built kind.NotBuilt = true
+is_not_built why = false
 
--- a moment, a space and a query's text
-abbrev pub query_form : List ℕ → Option LineForm
-query_form text = option_and_then (λ words. option_and_then (asked_at words.1) (moment_of words.0)) (cut_at space text)
+-- where a line's form alone is not carried out, a fault of its place comes first
+abbrev pub fault_read : ℕ → Option ℕ → ScriptKind → List (List ℕ) → ScriptKind
+fault_read number place why left =
+    if is_not_built why then fault_behind why (stand_at number place mark.Acts left) else why
 
-abbrev pub form_by : Option (List ℕ) → Option (List ℕ) → Option LineForm
-form_by (Some name) query = feed_form name
-form_by None (Some text) = query_form text
-form_by None None = None
+abbrev pub said_read : ℕ → Option ℕ → Said → List (List ℕ) → Result LineRead ScriptKind
+said_read number place (Ok form) left = form_read number place form left
+said_read number place (Err why) left = Err (fault_read number place why left)
 
--- what a line says: a feed or a query
-abbrev pub form_of : List ℕ → Option LineForm
-form_of line = form_by (behind_front (codes "feed ") line) (behind_front (codes "query ") line)
+-- what a line says, which stands at a place in front of others
+abbrev pub line_read : List ZoneSpec → ℕ → Option ℕ → List ℕ → List (List ℕ) → Result LineRead ScriptKind
+line_read zones number place line left =
+    if is_remark line then remark_read number place else said_read number place (form_of zones line) left
 
--- the line that is refused
-abbrev pub not_built : ℕ → ScriptFault
-not_built n = record { line = n; kind = kind.NotBuilt }
+-- ---- lines
 
--- a line that is numbered and does something
-abbrev pub line_at : ℕ → LineForm → ScriptLine
-line_at n what = record { number = n; what = what }
+-- a fault in the line of a number
+abbrev pub fault_at : ℕ → ScriptKind → ScriptFault
+fault_at number why = record { line = number; kind = why }
 
--- the forms of lines that are numbered on from n, or the first line without one
-abbrev pub script_from : ℕ → List (List ℕ) → Result (List ScriptLine) ScriptFault
-script_from n [] = Ok []
-script_from n (line ∷ lines) =
-    if is_remark line then script_from (n + 1) lines
-    else ok_or (form_of line) (not_built n) >>= λ what. script_from (n + 1) lines
-    >>= λ rest. Ok (line_at n what ∷ rest)
+abbrev pub numbered : {X : Type 0} → ℕ → Result X ScriptKind → Result X ScriptFault
+numbered number (Ok x) = Ok x
+numbered number (Err why) = Err (fault_at number why)
 
--- the script that a text spells
-abbrev pub script_in : List ℕ → Result (List ScriptLine) ScriptFault
-script_in text = script_from 1 (lines_of text)
+abbrev pub line_at : List ZoneSpec → ℕ → Option ℕ → List ℕ → List (List ℕ) → Result LineRead ScriptFault
+line_at zones number place line left = numbered number (line_read zones number place line left)
+
+abbrev pub script_line : ℕ → LineForm → ScriptLine
+script_line number what = record { number = number; what = what }
+
+-- the line of a number, if it does something
+abbrev pub lines_read : ℕ → Option LineForm → List ScriptLine
+lines_read number None = []
+lines_read number (Some what) = script_line number what ∷ []
+
+-- the lines that are numbered on from one, of which the first stands at a place; or the first that is refused
+abbrev pub script_from : List ZoneSpec → ℕ → Option ℕ → List (List ℕ) → Result (List ScriptLine) ScriptFault
+script_from zones number place [] = Ok []
+script_from zones number place (line ∷ left) =
+    line_at zones number place line left >>= λ read. script_from zones (number + 1) read.next left
+    >>= λ rest. Ok (lines_read number read.what ++ rest)
+
+-- the script that a text spells over these zones
+abbrev pub script_in : List ZoneSpec → List ℕ → Result (List ScriptLine) ScriptFault
+script_in zones text = script_from zones 1 None (lines_of text)

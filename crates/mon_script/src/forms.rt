@@ -1,62 +1,156 @@
-// What a line says.
-ghost use Rattle.std.specs.Prelude.{◌≡◌, ◌≤ℤ◌, pos, IfOk, IfSome};
-ghost use Rattle.mon_script.specs.Scripts as spec;
+// What a line says by itself.
+ghost use Rattle.std.specs.Prelude.{◌≡◌, option_map};
+ghost use Rattle.mon_script.specs.Words.{is_file_name};
+ghost use Rattle.mon_value.specs.Answers.{Gives};
+ghost use Rattle.mon_script.specs.Forms as spec;
 
+use crate::faults::ScriptKind;
 use crate::lines::cut_at;
-use crate::script::LineForm;
-use mon_value::{OutOfMemory, Text, read_number};
+use crate::others::other_fault;
+use crate::words::moment_of;
+use mon_topo::Topology;
+use mon_value::{OutOfMemory, Refusal, Text};
 use std::alloc::Global;
 
-/// What a line says, where it is of a form that is read so far.
-pub(crate) fn form_of(alloc: Global, line: &[u8]) -> Result<Option<LineForm>, OutOfMemory>
-    ensures form { IfOk result (λ form. form ≡ spec.form_of line.now) }
+/// What a line of a script says. The lines of a block stand between `Together` and `End`.
+#[derive(Drop)]
+pub enum LineForm {
+    /// Feed the records of a file.
+    Feed(Text),
+    /// Print the table of a query's text at a moment, in seconds from the epoch.
+    Query(i64, Text),
+    /// Print the table that the text means, evaluated in one place over the rows that a query stands on.
+    Check(i64, Text),
+    /// Print the table, the level of each operation, and which leaves were read.
+    Explain(i64, Text),
+    /// Run the lines up to the next end beside each other.
+    Together,
+    /// The block ends.
+    End,
+}
+
+// What is asked at a moment.
+#[derive(Clone, Copy)]
+pub(crate) enum Ask {
+    Query,
+    Check,
+    Explain,
+}
+
+/// What a line says.
+pub(crate) fn form_of(
+    alloc: Global,
+    topology: &Topology,
+    line: &[u8],
+) -> Result<LineForm, Refusal<ScriptKind>>
+    ensures form { Gives result (spec.form_of topology.now line.now) }
 {
-    if let Some(name) = line.strip_prefix(b"feed ".as_slice()) {
-        return feed_form(alloc, name);
+    match cut_at(line, b' ') {
+        Some((word, rest)) => form_by(alloc, topology, word, rest),
+        None => lone_form(line),
     }
-    match line.strip_prefix(b"query ".as_slice()) {
-        Some(text) => query_form(alloc, text),
-        None => Ok(None),
+}
+
+// A word that stands alone.
+fn lone_form(word: &[u8]) -> Result<LineForm, Refusal<ScriptKind>>
+    ensures form { Gives result (spec.lone_form word.now) }
+{
+    if word == b"together".as_slice() {
+        Ok(LineForm::Together)
+    } else if word == b"end".as_slice() {
+        Ok(LineForm::End)
+    } else {
+        Err(Refusal::Fault(ScriptKind::BadWord))
+    }
+}
+
+// What the first word and the rest of a line say.
+fn form_by(
+    alloc: Global,
+    topology: &Topology,
+    word: &[u8],
+    rest: &[u8],
+) -> Result<LineForm, Refusal<ScriptKind>>
+    ensures form { Gives result (spec.form_by topology.now word.now rest.now) }
+{
+    if word == b"feed".as_slice() {
+        return feed_form(alloc, rest);
+    }
+    match ask_named(word) {
+        Some(ask) => asked_form(alloc, ask, rest),
+        None => Err(Refusal::Fault(other_fault(topology, word, rest))),
+    }
+}
+
+// What a word asks for.
+fn ask_named(word: &[u8]) -> Option<Ask>
+    ensures ask { result ≡ spec.ask_named word.now }
+{
+    if word == b"query".as_slice() {
+        Some(Ask::Query)
+    } else if word == b"check".as_slice() {
+        Some(Ask::Check)
+    } else if word == b"explain".as_slice() {
+        Some(Ask::Explain)
+    } else {
+        None
     }
 }
 
 // A feed of a file.
-fn feed_form(alloc: Global, name: &[u8]) -> Result<Option<LineForm>, OutOfMemory>
-    ensures form { IfOk result (λ form. form ≡ spec.feed_form name.now) }
+fn feed_form(alloc: Global, name: &[u8]) -> Result<LineForm, Refusal<ScriptKind>>
+    ensures form { Gives result (spec.feed_form name.now) }
 {
     if name.is_empty() || name.contains(&b' ') {
-        return Ok(None);
+        return Err(Refusal::Fault(ScriptKind::BadWord));
     }
     match Text::from_utf8(alloc, name)? {
-        Some(name) => Ok(Some(LineForm::Feed(name))),
-        None => Ok(None),
+        Some(name) => Ok(LineForm::Feed(name)),
+        None => Err(Refusal::Fault(ScriptKind::BadWord)),
     }
 }
 
-// A query at a moment. Its text is any text of UTF-8.
-fn query_form(alloc: Global, text: &[u8]) -> Result<Option<LineForm>, OutOfMemory>
-    ensures form { IfOk result (λ form. form ≡ spec.query_form text.now) }
+// A moment and a text. The text is all that stands behind the moment and one space.
+fn asked_form(alloc: Global, ask: Ask, rest: &[u8]) -> Result<LineForm, Refusal<ScriptKind>>
+    ensures form { Gives result (spec.asked_form ask rest.now) }
 {
-    let Some((word, query)) = cut_at(text, b' ') else {
-        return Ok(None);
-    };
-    let Some(moment) = moment_of(word) else {
-        return Ok(None);
-    };
-    match Text::from_utf8(alloc, query)? {
-        Some(query) => Ok(Some(LineForm::Query(moment, query))),
-        None => Ok(None),
+    match cut_at(rest, b' ') {
+        Some((word, text)) => asked_at(alloc, ask, word, text),
+        None => Err(Refusal::Fault(ScriptKind::BadWord)),
     }
 }
 
-/// The moment that a word spells, in seconds from the epoch.
-pub fn moment_of(word: &[u8]) -> Option<i64>
-    ensures moment { result ≡ spec.moment_of word.now }
-    ensures lawful { IfSome result (λ moment. pos 0 ≤ℤ moment) }
+// A text at the moment that a word spells.
+fn asked_at(
+    alloc: Global,
+    ask: Ask,
+    word: &[u8],
+    text: &[u8],
+) -> Result<LineForm, Refusal<ScriptKind>>
+    ensures form { Gives result (spec.asked_at ask word.now text.now) }
 {
-    let number = read_number(word)?;
-    if number < 0 || number > i128::from(i64::MAX) {
-        return None;
+    match Text::from_utf8(alloc, text)? {
+        Some(text) => timed(ask, word, text),
+        None => Err(Refusal::Fault(ScriptKind::BadWord)),
     }
-    Some(number as i64)
+}
+
+fn timed(ask: Ask, word: &[u8], text: Text) -> Result<LineForm, Refusal<ScriptKind>>
+    ensures form { Gives result (spec.timed ask word.now text) }
+{
+    match moment_of(word) {
+        Some(moment) => Ok(asking(ask, moment, text)),
+        None => Err(Refusal::Fault(ScriptKind::BadNumber)),
+    }
+}
+
+// What is asked at a moment, of a text.
+fn asking(ask: Ask, moment: i64, text: Text) -> LineForm
+    ensures form { result ≡ spec.asking ask moment text }
+{
+    match ask {
+        Ask::Query => LineForm::Query(moment, text),
+        Ask::Check => LineForm::Check(moment, text),
+        Ask::Explain => LineForm::Explain(moment, text),
+    }
 }

@@ -1,16 +1,26 @@
-//! Scripts: the lines that a run carries out, read from a text; and input that is made from a number.
+//! Scripts: lines one after another and in blocks, read from a text over a topology; and input that is made from a
+//! number.
 #![tactic(auto)]
 
+mod blocks;
+mod faults;
 mod forms;
 mod generator;
 mod lines;
 mod made_input;
 mod made_texts;
+mod others;
+mod places;
 mod script;
+mod words;
 
-pub use forms::moment_of;
+pub use blocks::cut_block;
+pub use faults::{ScriptFault, ScriptKind};
+pub use forms::LineForm;
 pub use generator::made_points;
 pub use lines::{cut_at, is_remark, next_line};
 pub use made_input::MadeInput;
 pub use made_texts::{made_config, made_script};
-pub use script::{LineForm, Script, ScriptFault, ScriptKind, ScriptLine, read_script};
+pub use places::{MOST_LINES, MOST_LINES_OF_BLOCK, Mark, mark_of};
+pub use script::{Script, ScriptLine, read_script};
+pub use words::moment_of;

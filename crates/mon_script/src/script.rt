@@ -1,23 +1,19 @@
 // A script is read in one pass: each line is cut off, and read, before the next one.
-ghost use Rattle.std.specs.Prelude.{◌≡◌, ◌≤◌, length, IfOk};
+ghost use Rattle.std.specs.Prelude.{◌≡◌, ◌≤◌, ◌++◌, length, IfOk, None, OnOk};
 ghost use Rattle.std.specs.List.{AllByRecursion};
+ghost use Rattle.mon_script.specs.Blocks.{AreInBlocks};
 ghost use Rattle.mon_script.specs.Lawful.{IsLawfulLine};
-ghost use Rattle.mon_script.specs.Scripts as spec;
+ghost use Rattle.mon_script.specs.Lines.{lines_of};
 ghost use Rattle.mon_value.specs.Answers.{Gives};
+ghost use Rattle.mon_script.specs.Scripts as spec;
 
-use crate::forms::form_of;
+use crate::faults::{ScriptFault, ScriptKind};
+use crate::forms::{LineForm, form_of};
 use crate::lines::{is_remark, next_line};
-use mon_value::{LONGEST_FILE, ListOf, Refusal, Text, TryCopy};
-use std::alloc::{AllocError, Global};
-
-/// What a line of a script says.
-#[derive(Drop)]
-pub enum LineForm {
-    /// Feed the records of a file.
-    Feed(Text),
-    /// Print the table of a query's text at a moment, in seconds from the epoch.
-    Query(i64, Text),
-}
+use crate::places::{MOST_LINES, Mark, mark_of, stand_at};
+use mon_topo::Topology;
+use mon_value::{ListOf, OutOfMemory, Refusal};
+use std::alloc::Global;
 
 /// A line that does something. Lines are numbered from 1.
 #[derive(Drop)]
@@ -29,80 +25,131 @@ pub struct ScriptLine {
 /// The lines of a script that do something, in order.
 pub type Script = ListOf<ScriptLine>;
 
-/// Why a line is refused.
-#[derive(Clone, Copy, PartialEq, Eq)]
-pub enum ScriptKind {
-    /// The line is of a form that is not read so far.
-    NotBuilt,
+// A line that was read: what it says, if it does something, and where the next one stands.
+#[derive(Drop)]
+pub(crate) struct LineRead {
+    pub what: Option<LineForm>,
+    pub next: Option<u32>,
 }
 
-/// The first line of a script that is refused.
-#[derive(Clone, Copy, PartialEq, Eq)]
-pub struct ScriptFault {
-    pub line: u32,
-    pub kind: ScriptKind,
-}
-
-impl TryCopy for LineForm {
-    fn copy(&self, alloc: Global) -> Result<LineForm, AllocError> {
-        match self {
-            LineForm::Feed(name) => Ok(LineForm::Feed(name.copy(alloc)?)),
-            LineForm::Query(moment, text) => Ok(LineForm::Query(*moment, text.copy(alloc)?)),
-        }
-    }
-}
-
-impl TryCopy for ScriptLine {
-    fn copy(&self, alloc: Global) -> Result<ScriptLine, AllocError> {
-        Ok(ScriptLine {
-            number: self.number,
-            what: self.what.copy(alloc)?,
-        })
-    }
-}
-
-impl TryCopy for ScriptKind {
-    fn copy(&self, _alloc: Global) -> Result<ScriptKind, AllocError> {
-        Ok(*self)
-    }
-}
-
-impl TryCopy for ScriptFault {
-    fn copy(&self, _alloc: Global) -> Result<ScriptFault, AllocError> {
-        Ok(*self)
-    }
-}
-
-/// The script that a text spells, or the first of its lines that is refused. The text has at most as
-/// many bytes as the longest file.
-pub fn read_script(alloc: Global, text: &[u8]) -> Result<Script, Refusal<ScriptFault>>
-    requires short { length text.now ≤ LONGEST_FILE }
-    ensures exact { Gives result (spec.script_in text.now) }
+/// The script that a text spells over a topology, or the first of its lines that is refused. A block without an end
+/// is refused at its first line.
+pub fn read_script(
+    alloc: Global,
+    text: &[u8],
+    topology: &Topology,
+) -> Result<Script, Refusal<ScriptFault>>
+    ensures exact { Gives result (spec.script_in topology.now text.now) }
     ensures lawful { IfOk result (λ script. AllByRecursion IsLawfulLine script) }
+    ensures few { IfOk result (λ script. length script ≤ MOST_LINES) }
+    ensures blocks { IfOk result (λ script. AreInBlocks None script) }
 {
     let mut script = Script::new(alloc);
     let mut number = 0u32;
+    let mut place = None;
     let mut rest = text;
     while let Some((line, left)) = next_line(rest) {
         number += 1;
         rest = left;
-        if is_remark(line) {
-            continue;
-        }
-        match form_of(alloc, line)? {
-            Some(what) => script.push(ScriptLine { number, what })?,
-            None => return Err(not_built(number)),
-        }
+        let read = line_at(alloc, topology, number, place, line, left)?;
+        place = read.next;
+        push_line(&mut script, number, read.what)?;
     }
     Ok(script)
 }
 
-// The refusal of a line that is of no form.
-fn not_built(line: u32) -> Refusal<ScriptFault>
-    ensures refusal { result ≡ Refusal.Fault (record { line = line; kind = ScriptKind.NotBuilt }) }
+// The line of a number comes behind the others, if it does something.
+fn push_line(script: &mut Script, number: u32, what: Option<LineForm>) -> Result<(), OutOfMemory>
+    ensures pushed { OnOk result (script.new ≡ script.old ++ spec.lines_read number what) }
 {
-    Refusal::Fault(ScriptFault {
-        line,
-        kind: ScriptKind::NotBuilt,
+    match what {
+        Some(what) => Ok(script.push(ScriptLine { number, what })?),
+        None => Ok(()),
+    }
+}
+
+// The line of a number, which stands at a place, in front of the text that is left.
+fn line_at(
+    alloc: Global,
+    topology: &Topology,
+    number: u32,
+    place: Option<u32>,
+    line: &[u8],
+    left: &[u8],
+) -> Result<LineRead, Refusal<ScriptFault>>
+    ensures exact { Gives result (spec.line_at topology.now number place line.now (lines_of left.now)) }
+    ensures few { IfOk result (λ read. number ≤ MOST_LINES) }
+{
+    match line_read(alloc, topology, number, place, line, left) {
+        Ok(read) => Ok(read),
+        Err(Refusal::Fault(kind)) => Err(Refusal::Fault(ScriptFault { line: number, kind })),
+        Err(Refusal::OutOfMemory) => Err(Refusal::OutOfMemory),
+    }
+}
+
+fn line_read(
+    alloc: Global,
+    topology: &Topology,
+    number: u32,
+    place: Option<u32>,
+    line: &[u8],
+    left: &[u8],
+) -> Result<LineRead, Refusal<ScriptKind>>
+    ensures exact { Gives result (spec.line_read topology.now number place line.now (lines_of left.now)) }
+    ensures few { IfOk result (λ read. number ≤ MOST_LINES) }
+{
+    if is_remark(line) {
+        return remark_read(number, place);
+    }
+    match form_of(alloc, topology, line) {
+        Ok(form) => form_read(number, place, form, left),
+        Err(Refusal::Fault(kind)) => Err(Refusal::Fault(fault_read(number, place, kind, left))),
+        Err(Refusal::OutOfMemory) => Err(Refusal::OutOfMemory),
+    }
+}
+
+// A line that does nothing.
+fn remark_read(number: u32, place: Option<u32>) -> Result<LineRead, Refusal<ScriptKind>>
+    ensures exact { Gives result (spec.remark_read number place) }
+    ensures few { IfOk result (λ read. number ≤ MOST_LINES) }
+{
+    if number > MOST_LINES {
+        return Err(Refusal::Fault(ScriptKind::TooManyLines));
+    }
+    Ok(LineRead {
+        what: None,
+        next: place,
     })
+}
+
+// A line of a form.
+fn form_read(
+    number: u32,
+    place: Option<u32>,
+    form: LineForm,
+    left: &[u8],
+) -> Result<LineRead, Refusal<ScriptKind>>
+    ensures exact { Gives result (spec.form_read number place form (lines_of left.now)) }
+    ensures few { IfOk result (λ read. number ≤ MOST_LINES) }
+{
+    match stand_at(number, place, mark_of(&form), left) {
+        Ok(next) => Ok(LineRead {
+            what: Some(form),
+            next,
+        }),
+        Err(kind) => Err(Refusal::Fault(kind)),
+    }
+}
+
+// A line that says nothing. Where its form alone is not carried out, a fault of its place comes first.
+fn fault_read(number: u32, place: Option<u32>, kind: ScriptKind, left: &[u8]) -> ScriptKind
+    ensures fault { result ≡ spec.fault_read number place kind (lines_of left.now) }
+{
+    if !matches!(kind, ScriptKind::NotBuilt) {
+        return kind;
+    }
+    match stand_at(number, place, Mark::Acts, left) {
+        Ok(_next) => kind,
+        Err(kind) => kind,
+    }
 }

@@ -5,16 +5,16 @@ use Rattle.std.specs.List.{list_any, range_with_len}
 use Rattle.std.specs.Str.{is_utf8}
 use Rattle.mon_schema.specs.Names.{is_name}
 use Rattle.mon_script.specs.Lines.{cut_at}
-use Rattle.mon_script.specs.Scripts.{moment_of, space}
+use Rattle.mon_script.specs.Words.{moment_of, space}
 use Rattle.mon_topo.specs.Zones.{first_leaf, first_range, leaf_named, range_named, zone_at}
 use Rattle.mon_topo.specs.declared.zones.ZoneSpec.{ZoneSpec}
 use Rattle.mon_value.specs.Numbers.{number_of}
 use Rattle.mon_value.specs.Same.{same_text}
 use Rattle.mon_value.specs.declared.positions.Leaf.{Leaf}
 use Rattle.mon_value.specs.declared.positions.Range.{Range}
-use Rattle.script_lines.specs.declared.faults.ScriptKind.{ScriptKind}
-use Rattle.script_lines.specs.declared.faults.ScriptKind.TheVariants as kind
-use Rattle.script_lines.specs.declared.others.TheConstants.{LONGEST_PERIOD}
+use Rattle.mon_script.specs.declared.faults.ScriptKind.{ScriptKind}
+use Rattle.mon_script.specs.declared.faults.ScriptKind.TheVariants as kind
+use Rattle.mon_script.specs.declared.others.TheConstants.{LONGEST_PERIOD}
 
 abbrev pub has_space : List ℕ → Bool
 has_space = list_any (λ byte. byte == space)

@@ -2,11 +2,12 @@
 ghost use Rattle.std.specs.Prelude.{◌≡◌, ◌<◌, length};
 ghost use Rattle.std.specs.Str.{is_utf8};
 ghost use Rattle.mon_topo.specs.Zones.{leaves_in, ranges_in};
-ghost use Rattle.script_lines.specs.Others as spec;
+ghost use Rattle.mon_script.specs.Others as spec;
 
 use crate::faults::ScriptKind;
+use crate::lines::cut_at;
+use crate::words::moment_of;
 use mon_schema::is_name;
-use mon_script::{cut_at, moment_of};
 use mon_topo::{Leaf, Range, Topology, Zone};
 use mon_value::read_number;
 use std::str;

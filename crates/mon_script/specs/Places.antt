@@ -4,13 +4,13 @@ use Rattle.std.specs.Prelude.{if◌then◌else◌}
 use Rattle.std.specs.List.{list_any}
 use Rattle.mon_value.specs.Answers.{◌>>=◌}
 use Rattle.mon_value.specs.Same.{same_text}
-use Rattle.script_lines.specs.declared.faults.ScriptKind.{ScriptKind}
-use Rattle.script_lines.specs.declared.faults.ScriptKind.TheVariants as kind
-use Rattle.script_lines.specs.declared.forms.LineForm.{LineForm}
-use Rattle.script_lines.specs.declared.forms.LineForm.TheVariants as form
-use Rattle.script_lines.specs.declared.places.Mark.{Mark}
-use Rattle.script_lines.specs.declared.places.Mark.TheVariants as mark
-use Rattle.script_lines.specs.declared.places.TheConstants.{MOST_LINES, MOST_LINES_OF_BLOCK}
+use Rattle.mon_script.specs.declared.faults.ScriptKind.{ScriptKind}
+use Rattle.mon_script.specs.declared.faults.ScriptKind.TheVariants as kind
+use Rattle.mon_script.specs.declared.forms.LineForm.{LineForm}
+use Rattle.mon_script.specs.declared.forms.LineForm.TheVariants as form
+use Rattle.mon_script.specs.declared.places.Mark.{Mark}
+use Rattle.mon_script.specs.declared.places.Mark.TheVariants as mark
+use Rattle.mon_script.specs.declared.places.TheConstants.{MOST_LINES, MOST_LINES_OF_BLOCK}
 
 abbrev pub mark_of : LineForm → Mark
 mark_of (form.Feed name) = mark.Acts

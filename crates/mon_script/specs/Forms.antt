@@ -3,17 +3,17 @@ use Rattle.std.specs.Prelude.{ℕ, ℤ, List, codes, Option, Some, None, Result,
 use Rattle.std.specs.Option.{ok_or}
 use Rattle.std.specs.Str.{is_utf8}
 use Rattle.mon_script.specs.Lines.{cut_at}
-use Rattle.mon_script.specs.Scripts.{is_file_name, moment_of, space}
+use Rattle.mon_script.specs.Words.{is_file_name, moment_of, space}
 use Rattle.mon_topo.specs.declared.zones.ZoneSpec.{ZoneSpec}
 use Rattle.mon_value.specs.Answers.{◌>>=◌}
 use Rattle.mon_value.specs.Same.{same_text}
-use Rattle.script_lines.specs.Others.{other_fault}
-use Rattle.script_lines.specs.declared.faults.ScriptKind.{ScriptKind}
-use Rattle.script_lines.specs.declared.faults.ScriptKind.TheVariants as kind
-use Rattle.script_lines.specs.declared.forms.Ask.{Ask}
-use Rattle.script_lines.specs.declared.forms.Ask.TheVariants as ask
-use Rattle.script_lines.specs.declared.forms.LineForm.{LineForm}
-use Rattle.script_lines.specs.declared.forms.LineForm.TheVariants as form
+use Rattle.mon_script.specs.Others.{other_fault}
+use Rattle.mon_script.specs.declared.faults.ScriptKind.{ScriptKind}
+use Rattle.mon_script.specs.declared.faults.ScriptKind.TheVariants as kind
+use Rattle.mon_script.specs.declared.forms.Ask.{Ask}
+use Rattle.mon_script.specs.declared.forms.Ask.TheVariants as ask
+use Rattle.mon_script.specs.declared.forms.LineForm.{LineForm}
+use Rattle.mon_script.specs.declared.forms.LineForm.TheVariants as form
 
 abbrev pub Said : Type 0
 Said = Result LineForm ScriptKind

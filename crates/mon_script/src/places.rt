@@ -1,11 +1,11 @@
 // Where a line stands: outside of any block, or in a block behind so many lines.
 ghost use Rattle.std.specs.Prelude.{◌≡◌, ◌≤◌, IfOk};
 ghost use Rattle.mon_script.specs.Lines.{lines_of};
-ghost use Rattle.script_lines.specs.Places as spec;
+ghost use Rattle.mon_script.specs.Places as spec;
 
 use crate::faults::ScriptKind;
 use crate::forms::LineForm;
-use mon_script::next_line;
+use crate::lines::next_line;
 
 /// How many lines a script has at most.
 pub const MOST_LINES: u32 = 100_000;

@@ -1,4 +1,0 @@
-pub mod Forms
-pub mod Others
-pub mod Places
-pub mod Scripts
