@@ -59,7 +59,7 @@ get_front [] rest k x there less = absurd (omega arith)
 get_front (y ∷ front) rest zero x there less = there
 get_front (y ∷ front) rest (suc k) x there less = get_front front rest k x there (omega arith)
 
-goes_on : (seen more : Histories) → HaveGrown seen more → GoesOn entries seen more
+pub goes_on : (seen more : Histories) → HaveGrown seen more → GoesOn entries seen more
 goes_on seen more grown (of.Leaf leaf) = map_front (λ e. one.Leaf e) (leaf_history seen leaf) (leaf_history more leaf)
     (front_of (leaf_history seen leaf) (leaf_history more leaf) (grown.within.leaves leaf))
 goes_on seen more grown (of.Range range) =
@@ -214,6 +214,7 @@ module _ (widen : (typed : TypedTree) (moment : ℤ) (from to earlier later : Le
     finds_still : Finds config seen from to line → Finds config more from to line
     finds_still found = record {
       forth = found.forth;
+      suits = found.suits;
       told = found.told;
       cuts = λ leaf there. found.cuts leaf (subst (λ w. leaf.0 < w) grown.leaves there);
       found = found_still found.forth line.trace found.found;

@@ -4,6 +4,7 @@ pub mod Growth
 pub mod Kept
 pub mod ListFacts
 pub mod Owners
+pub mod Rising
 pub mod RowFacts
 pub mod RunFacts
 pub mod Whole

@@ -20,6 +20,7 @@ use Rattle.run_traces.specs.Headline.{RunHolds}
 use Rattle.run_traces.specs.LineCauses.{LineIsCaused}
 use Rattle.run_traces.specs.LineClaims.{AllRan, Finds, Makes}
 use Rattle.run_traces.specs.LineFeeds.{LineIsTold}
+use Rattle.run_traces.specs.LineForms.{LineSuits}
 use Rattle.run_traces.specs.LineFreshness.{LineIsFresh}
 use Rattle.run_traces.specs.LinePlaces.{first_length, is_entry_of}
 use Rattle.run_traces.specs.LineReads.{LineIsRead}
@@ -57,6 +58,11 @@ module _ (widen : (typed : TypedTree) (moment : ℤ) (from to earlier later : Le
 
   pub run_holds : RunHolds config ended parts
   run_holds = record {
+    suits = all_as
+        (RanBehind entries book_entry_pass (Makes config) (Finds config) ended (first_length config.topology ended))
+        LineSuits (λ line behind. behind.ran.found.suits) (all_lines parts)
+        (all_behind entries book_entry_pass (Makes config) (Finds config) ended (first_length config.topology ended) end
+        parts ran);
     tables = each_as (InPlace config ended) (LineIsTabled config ended)
         (λ seen later line place. is_tabled config ended seen later line place widen) [] parts places;
     fresh = each_as (InPlace config ended) (LineIsFresh ended)

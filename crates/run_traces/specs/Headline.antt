@@ -6,17 +6,19 @@ use Rattle.mon_value.specs.declared.histories.Histories.{Histories}
 use Rattle.run_theory.specs.Parts.{Each, Part, all_lines}
 use Rattle.run_traces.specs.LineCauses.{LineIsCaused}
 use Rattle.run_traces.specs.LineFeeds.{AreAcknowledged, AreOfLines, LineIsTold, ShareNoEntry}
+use Rattle.run_traces.specs.LineForms.{LineSuits}
 use Rattle.run_traces.specs.LineFreshness.{LineIsFresh}
 use Rattle.run_traces.specs.LineReads.{LineIsRead}
 use Rattle.run_traces.specs.LineTables.{LineIsTabled}
 use Rattle.run_traces.specs.RanLines.{RanLine, parts_of, ran_lines}
 use Rattle.run_traces.specs.declared.traces.LineTrace.{LineTrace}
-use Rattle.script_lines.specs.declared.script.ScriptLine.{ScriptLine}
+use Rattle.mon_script.specs.declared.script.ScriptLine.{ScriptLine}
 
--- Each table stands on replicas and cuts in its place, on all that had been accepted before, and on every leaf that
--- the query wants; each accepted row is acknowledged once, under its line's number; nothing else was made; and whatever
--- was refused has its cause in its place
+-- Each line came to what a line of its form comes to; each table stands on replicas and cuts in its place, on all that
+-- had been accepted before, and on every leaf that the query wants; each accepted row is acknowledged once, under its
+-- line's number; nothing else was made; and whatever was refused has its cause in its place
 pub record RunHolds (config : Config) (ended : Histories) (parts : List (Part RanLine)) : Type 0 where
+  pub suits : AllByRecursion LineSuits (all_lines parts)
   pub tables : Each (LineIsTabled config ended) [] parts
   pub fresh : Each (LineIsFresh ended) [] parts
   pub read : Each (LineIsRead config ended) [] parts

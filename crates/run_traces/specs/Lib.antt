@@ -2,6 +2,7 @@ pub mod Headline
 pub mod LineCauses
 pub mod LineClaims
 pub mod LineFeeds
+pub mod LineForms
 pub mod LineFreshness
 pub mod LinePlaces
 pub mod LineReads

@@ -27,6 +27,7 @@ use Rattle.run_theory.specs.Parts.{Part}
 use Rattle.run_theory.specs.Writings.{PartWrote}
 use Rattle.run_traces.specs.LineCauses.{HasCause, HasRowCause, rows_before}
 use Rattle.run_traces.specs.LineFeeds.{IsTold, lies_in}
+use Rattle.run_traces.specs.LineForms.{LineSuits}
 use Rattle.run_traces.specs.LineFreshness.{cuts_named}
 use Rattle.run_traces.specs.LinePlaces.{first_length, is_fed, is_row}
 use Rattle.run_traces.specs.LineReads.{IsReadByPlan}
@@ -137,6 +138,7 @@ module _ (config : Config) (seen : Histories) (from to : History → ℕ) where
 
   pub record Finds (line : RanLine) : Type 0 where
     pub forth : AreBelow from to
+    pub suits : LineSuits line
     pub told : IsTold config line.content line.trace
     pub cuts : (leaf : Leaf) → leaf.0 < length seen.leaves → CutsLieBetween line.trace leaf
     pub found : HasFound line line.trace

@@ -10,8 +10,8 @@ use Rattle.run_traces.specs.LinePlaces.{highs, lows}
 use Rattle.run_traces.specs.RanLines.{RanLine}
 use Rattle.run_traces.specs.declared.traces.LineTrace.{LineTrace}
 use Rattle.run_traces.specs.declared.traces.LineTrace.TheVariants as came
-use Rattle.script_lines.specs.declared.forms.LineForm.{LineForm}
-use Rattle.script_lines.specs.declared.forms.LineForm.TheVariants as form
+use Rattle.mon_script.specs.declared.forms.LineForm.{LineForm}
+use Rattle.mon_script.specs.declared.forms.LineForm.TheVariants as form
 
 -- the text that a line asks, if it asks one
 abbrev pub text_of : LineForm → List ℕ

@@ -36,8 +36,8 @@ use Rattle.run_traces.specs.declared.traces.LineTrace.TheVariants as came
 use Rattle.run_traces.specs.declared.traces.RowRefusal.{RowRefusal}
 use Rattle.run_traces.specs.declared.traces.RowRefused.{RowRefused}
 use Rattle.run_traces.specs.declared.traces.RowRefused.TheVariants as refused
-use Rattle.script_lines.specs.declared.forms.LineForm.{LineForm}
-use Rattle.script_lines.specs.declared.forms.LineForm.TheVariants as form
+use Rattle.mon_script.specs.declared.forms.LineForm.{LineForm}
+use Rattle.mon_script.specs.declared.forms.LineForm.TheVariants as form
 use Rattle.write_core.specs.Refusals.{no_zone_text, refused_text}
 use Rattle.write_core.specs.declared.refusals.Refused.TheVariants as ranged
 

@@ -4,12 +4,12 @@ use Rattle.mon_value.specs.declared.rows.Row.{Row}
 use Rattle.run_theory.specs.Parts.{Alone, Beside, Part}
 use Rattle.run_traces.specs.declared.traces.LineTrace.{LineTrace}
 use Rattle.run_traces.specs.declared.traces.LineTrace.TheVariants as came
-use Rattle.script_lines.specs.Places.{mark_of}
-use Rattle.script_lines.specs.declared.forms.LineForm.{LineForm}
-use Rattle.script_lines.specs.declared.forms.LineForm.TheVariants as form
-use Rattle.script_lines.specs.declared.places.Mark.{Mark}
-use Rattle.script_lines.specs.declared.places.Mark.TheVariants as mark
-use Rattle.script_lines.specs.declared.script.ScriptLine.{ScriptLine}
+use Rattle.mon_script.specs.Places.{mark_of}
+use Rattle.mon_script.specs.declared.forms.LineForm.{LineForm}
+use Rattle.mon_script.specs.declared.forms.LineForm.TheVariants as form
+use Rattle.mon_script.specs.declared.places.Mark.{Mark}
+use Rattle.mon_script.specs.declared.places.Mark.TheVariants as mark
+use Rattle.mon_script.specs.declared.script.ScriptLine.{ScriptLine}
 
 -- a line that ran: what it says, what its file holds, and what it came to
 pub record RanLine : Type 0 where

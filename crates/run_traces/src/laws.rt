@@ -1,12 +1,16 @@
 // What holds of every run.
-ghost use Rattle.std.specs.Prelude.{◌≡◌, ◌∷◌, ◌++◌, List, [], filter};
-ghost use Rattle.history_book.specs.Histories.{AreFronts};
+ghost use Rattle.std.specs.Prelude.{◌≡◌, ◌∷◌, ◌++◌, ℕ, nat_eq, List, [], filter, length};
+ghost use Rattle.history_book.specs.Histories.{AreFronts, book_entry_pass, entries};
+ghost use Rattle.history_book.specs.declared.views.BookEntry.{BookEntry as Booked};
+ghost use Rattle.history_book.specs.declared.views.History.{History};
 ghost use Rattle.mon_config.specs.declared.config.Config.{Config as ConfigOf};
 ghost use Rattle.mon_topo.specs.FirstHistories.{first_histories};
 ghost use Rattle.mon_value.specs.declared.histories.Histories.{Histories};
+ghost use Rattle.run_theory.specs.Marks.{IsWithin};
 ghost use Rattle.run_theory.specs.Parts.{Part, all_lines};
 ghost use Rattle.run_traces.specs.Headline.{RunHolds};
-ghost use Rattle.run_traces.specs.LineClaims.{AllRan, HasWritten};
+ghost use Rattle.run_traces.specs.LineClaims.{AllRan, Finds, HasWritten, HaveGrown, Makes};
+ghost use Rattle.run_traces.specs.LineTexts.{line_text, lines_text};
 ghost use Rattle.run_traces.specs.RanLines.{RanLine, acts, parts_of};
 
 use query_core::traces_stay;
@@ -33,6 +37,32 @@ pub fn runs_hold()
     ensures holds { (config : ConfigOf) (ended : Histories) (parts : List (Part RanLine))
         → AreFronts (first_histories config.topology) ended → AllRan config ended parts
         → RunHolds config ended parts }
+{
+    traces_stay();
+}
+
+/// What a line found stays found as more is seen, up to all that is seen then, as long as nothing more is seen under
+/// the line's number.
+pub fn finds_stay()
+    ensures later { (config : ConfigOf) (seen more : Histories) (from : History → ℕ) (number : ℕ) (line : RanLine)
+        (made : History → List Booked) → HaveGrown seen more
+        → ((history : History) → filter (λ e. nat_eq (book_entry_pass e) number) (entries more history)
+        ≡ filter (λ e. nat_eq (book_entry_pass e) number) (entries seen history))
+        → Makes config number line made → Finds config seen from (λ history. length (entries seen history)) line
+        → Finds config more from (λ history. length (entries more history)) line }
+{
+    traces_stay();
+}
+
+/// A line that found what it owes prints the same over histories that are seen later; and so do all lines of a script
+/// that ran so far.
+pub fn texts_stay()
+    ensures line { (config : ConfigOf) (seen more : Histories) (from to : History → ℕ) (line : RanLine)
+        → HaveGrown seen more → IsWithin entries to seen → Finds config seen from to line
+        → line_text config more line ≡ line_text config seen line }
+    ensures lines { (config : ConfigOf) (seen more : Histories) (parts : List (Part RanLine)) → HaveGrown seen more
+        → AllRan config seen parts
+        → lines_text config more (all_lines parts) ≡ lines_text config seen (all_lines parts) }
 {
     traces_stay();
 }

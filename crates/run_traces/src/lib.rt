@@ -4,5 +4,5 @@
 mod laws;
 mod traces;
 
-pub use laws::{parts_keep_the_lines, runs_go_on, runs_hold};
+pub use laws::{finds_stay, parts_keep_the_lines, runs_go_on, runs_hold, texts_stay};
 pub use traces::{LineFault, LineTrace, LineTraces, RowRefusal, RowRefusals, RowRefused};

@@ -1,0 +1,316 @@
+-- What lines found stays found as more is seen, up to all of it, and they print the same.
+use Rattle.std.proofs.Common.{◌≡◌, ℕ, zero, suc, ◌-◌, ◌<◌, ◌≤◌, nat_eq, true, false, List, [], ◌∷◌, ◌++◌, length}
+use Rattle.std.proofs.Common.{filter, slice_get, Some, Ok, Err, refl, sym, ap, ◌∙◌, subst, arith}
+use Rattle.std.specs.Prelude.{ℤ, ◌+◌, Result}
+use Rattle.std.specs.List.{AllByRecursion}
+use Rattle.std.proofs.lemmas.Bool.Decides.{nat_tests}
+use Rattle.std.proofs.lemmas.List.{take_all, length-append}
+use mathlib.Core.List.{IsPrefix}
+use Rattle.history_book.specs.Histories.{book_entry_pass, entries}
+use Rattle.history_book.specs.declared.views.BookEntry.{BookEntry}
+use Rattle.history_book.specs.declared.views.History.{History}
+use Rattle.history_book.specs.declared.views.History.TheVariants as of
+use Rattle.mon_config.specs.declared.config.Config.{Config}
+use Rattle.mon_points.specs.declared.records.RowRead.{RowRead}
+use Rattle.mon_table.specs.Tables.{table_text}
+use Rattle.mon_value.specs.Columns.{column_names}
+use Rattle.mon_value.specs.Histories.{leaf_history, range_history}
+use Rattle.mon_value.specs.declared.histories.Histories.{Histories}
+use Rattle.mon_value.specs.declared.positions.FoundDown.{FoundDown}
+use Rattle.mon_value.specs.declared.positions.Leaf.{Leaf}
+use Rattle.mon_value.specs.declared.rows.Row.{Row}
+use Rattle.mon_value.specs.declared.rows.SeriesKey.{SeriesKey}
+use Rattle.mql_types.specs.Explanations.{op_levels}
+use Rattle.mql_types.specs.Meaning.{meaning}
+use Rattle.mql_types.specs.Nodes.{TypedTree, columns_of}
+use Rattle.mql_types.specs.declared.plans.Plan.{Plan}
+use Rattle.query_core.specs.Findings.{IsFoundBetween}
+use Rattle.query_core.specs.Traces.{AreWider, IsBetween, IsFreshSince, IsReadRightly, IsTraceBetween, Lengths}
+use Rattle.query_core.specs.Traces.{source_of}
+use Rattle.query_core.specs.declared.answers.Trace.{Trace}
+use Rattle.query_texts.specs.Plans.{plan_type}
+use Rattle.query_texts.specs.TextTypes.{text_type}
+use Rattle.query_texts.specs.declared.faults.TextFault.{TextFault}
+use Rattle.run_theory.specs.Marks.{AreBelow, EachRan, IsWithin, PartsRan}
+use Rattle.run_theory.specs.Parts.{Part, all_lines, lines_of}
+use Rattle.run_theory.proofs.Callers.{none_between, none_passes}
+use Rattle.run_theory.proofs.Marks.{parts_below, within_before}
+use Rattle.run_traces.specs.LineClaims.{AllRan, Finds, HasFound, HaveGrown, Makes, RowFound, RowsFound, StandsAmong}
+use Rattle.run_traces.specs.LineClaims.{marked}
+use Rattle.run_traces.specs.LineFreshness.{cuts_named}
+use Rattle.run_traces.specs.LinePlaces.{first_length}
+use Rattle.run_traces.specs.LineTables.{moment_of, text_of}
+use Rattle.run_traces.specs.LineTexts.{asked_text, explanation, line_text, lines_text, typed_text}
+use Rattle.run_traces.specs.RanLines.{RanLine}
+use Rattle.run_traces.specs.declared.traces.LineTrace.{LineTrace}
+use Rattle.run_traces.specs.declared.traces.LineTrace.TheVariants as came
+use Rattle.run_traces.specs.declared.traces.RowRefusal.{RowRefusal}
+use Rattle.mon_script.specs.declared.forms.LineForm.{LineForm}
+use Rattle.mon_script.specs.declared.forms.LineForm.TheVariants as form
+use Rattle.run_traces.proofs.Causes.{line_wider, row_wider}
+use Rattle.run_traces.proofs.Growth.{claims_grow, goes_on}
+use Rattle.run_traces.proofs.ListFacts.{all_as, all_at}
+use Rattle.run_traces.proofs.RowFacts.{fed_pass}
+use Rattle.run_traces.proofs.RunFacts.{book_length, range_length}
+
+-- ---- lists
+
+module _ {X : Type 0} where
+  behind_front : (front rest : List X) (k j : ℕ) (x : X) → k ≡ length front + j
+      → slice_get (front ++ rest) k ≡ Some x → slice_get rest j ≡ Some x
+  behind_front [] rest k j x e there =
+      let same : k ≡ j = omega arith in subst (λ n. slice_get rest n ≡ Some x) same there
+  behind_front (y ∷ front) rest zero j x e there = absurd (omega arith)
+  behind_front (y ∷ front) rest (suc k) j x e there = behind_front front rest k j x (omega arith) there
+
+not_same : (n m : ℕ) → n ≡ m → nat_eq n m ≡ false → ⊥
+not_same n m e differs = grind (arith, nat_tests)
+
+prefix_below : {X : Type 0} (front all : List X) → IsPrefix front all → length front ≤ length all
+prefix_below front all p =
+    let e : length front + length p.0 ≡ length all = sym (length-append front p.0) ∙ ap length p.1 in omega arith
+
+module _ (widen : (typed : TypedTree) (moment : ℤ) (from to earlier later : Lengths) (seen more : Histories)
+    (trace : Trace) → AreWider from to earlier later seen more → IsTraceBetween typed moment from to seen trace
+    → IsTraceBetween typed moment earlier later more trace)
+    (find : (from to earlier later : Lengths) (seen more : Histories) (found : FoundDown)
+    → AreWider from to earlier later seen more → IsFoundBetween from to seen found
+    → IsFoundBetween earlier later more found)
+    (rows : (typed : TypedTree) (moment : ℤ) (from to earlier later : Lengths) (seen more : Histories) (trace : Trace)
+    → AreWider from to earlier later seen more → IsTraceBetween typed moment from to seen trace
+    → source_of more trace ≡ source_of seen trace)
+    (freshen : (typed : TypedTree) (moment : ℤ) (from to earlier later : Lengths) (seen more : Histories)
+    (trace : Trace) → AreWider from to earlier later seen more → IsTraceBetween typed moment from to seen trace
+    → IsFreshSince from seen trace → IsFreshSince earlier more trace)
+    (reread : (typed : TypedTree) (moment : ℤ) (from to earlier later : Lengths) (seen more : Histories)
+    (trace : Trace) (plan : Plan) (buckets_of : SeriesKey → List ℕ) (leaf : Leaf)
+    → AreWider from to earlier later seen more → IsTraceBetween typed moment from to seen trace
+    → IsReadRightly typed plan buckets_of seen trace leaf → IsReadRightly typed plan buckets_of more trace leaf)
+    (config : Config) where
+  -- ---- up to a greater length of the same histories
+
+  module _ (more : Histories) (from to later : History → ℕ) (line : RanLine) (forth : AreBelow from to)
+      (up : AreBelow to later) (within : IsWithin entries later more) where
+    raised : AreWider (marked from) (marked to) (marked from) (marked later) more more
+    raised = record {
+      sooner = record { leaves = λ leaf. omega arith; ranges = λ range. omega arith };
+      later = record { leaves = λ leaf. up (of.Leaf leaf); ranges = λ range. up (of.Range range) };
+      begun = record {
+        leaves = λ leaf.
+            let a = forth (of.Leaf leaf) in let b = up (of.Leaf leaf) in let d = within (of.Leaf leaf) in
+            let e = book_length more leaf in omega arith;
+        ranges = λ range.
+            let a = forth (of.Range range) in let b = up (of.Range range) in let d = within (of.Range range) in
+            let e = range_length more range in omega arith;
+      };
+      within = record {
+        leaves = λ leaf.
+            let b = up (of.Leaf leaf) in let d = within (of.Leaf leaf) in let e = book_length more leaf in omega arith;
+        ranges = λ range.
+            let b = up (of.Range range) in let d = within (of.Range range) in let e = range_length more range in
+            omega arith;
+      };
+      grown = record {
+        leaves = λ leaf. take_all (length (leaf_history more leaf)) (leaf_history more leaf) (omega arith);
+        ranges = λ range. take_all (length (range_history more range)) (range_history more range) (omega arith);
+      };
+      leaves = refl;
+      ranges = refl;
+    }
+
+    -- nothing stands there under a number
+    abbrev HasNoneUnder : ℕ → Type 0
+    HasNoneUnder pass = (h : History) (k : ℕ) (e : BookEntry) → slice_get (entries more h) k ≡ Some e → to h ≤ k
+        → nat_eq (book_entry_pass e) pass ≡ false
+
+    lower : (pass : ℕ) (some : List Row) (h : History) (k : ℕ) → HasNoneUnder pass
+        → StandsAmong config more from later pass some h k → StandsAmong config more from to pass some h k
+    lower pass some h k none stands = (
+      stands.0,
+      stands.1,
+      stands.2,
+      below_by k (to h) (λ le. not_same (book_entry_pass stands.0) pass (fed_pass pass some stands.0 stands.4)
+          (none h k stands.0 stands.1 le)),
+      stands.4,
+    )
+      where
+        below_by : (n m : ℕ) → (m ≤ n → ⊥) → n < m
+        below_by n zero never = absurd (never (omega arith))
+        below_by zero (suc m) never = omega arith
+        below_by (suc n) (suc m) never =
+            let rest = below_by n m (λ le. never (omega arith)) in omega arith
+
+    rows_raised : (reads : List RowRead) (pass : ℕ) (accepted : List Row) (others : ℕ) (refusals : List RowRefusal)
+        → HasNoneUnder pass → RowsFound config more from to reads pass accepted others refusals
+        → RowsFound config more from later reads pass accepted others refusals
+    rows_raised reads pass accepted others [] none found = tt
+    rows_raised reads pass accepted others (refusal ∷ refusals) none found = (
+      record {
+        read = found.0.read;
+        read_is = found.0.read_is;
+        since = found.0.since;
+        until = found.0.until;
+        low = found.0.low;
+        forth = found.0.forth;
+        high = λ h. let a = found.0.high h in let b = up h in omega arith;
+        before = λ h k stands. found.0.before h k (lower pass _ h k none stands);
+        behind = λ h k stands. found.0.behind h k (lower pass _ h k none stands);
+        cause = found.0.cause;
+      },
+      rows_raised reads pass accepted (others + 1) refusals none found.1,
+    )
+
+    found_raised : (number : ℕ) (made : History → List BookEntry) (trace : LineTrace) → HasNoneUnder number
+        → Makes config number (record { what = line.what; content = line.content; trace = trace }) made
+        → HasFound config more from to line trace → HasFound config more from later line trace
+    found_raised number made (came.Fed pass accepted refusals) none makes found = record {
+      ranged = all_as _ _ (λ row ranged. record { range = ranged.range; there = ranged.there; lies = ranged.lies })
+          accepted found.ranged;
+      new = λ range. all_as _ _ (λ row new. new) accepted (found.new range);
+      refused = rows_raised _ pass accepted 0 refusals (subst HasNoneUnder (sym makes.0) none) found.refused;
+    }
+    found_raised number made (came.Asked moment trace) none makes found = record {
+      typed = found.typed;
+      type_is = found.type_is;
+      of = widen found.typed moment (marked from) (marked to) (marked from) (marked later) more more trace raised
+          found.of;
+      fresh = freshen found.typed moment (marked from) (marked to) (marked from) (marked later) more more trace raised
+          found.of found.fresh;
+      read = found.read;
+    }
+    found_raised number made (came.Refused fault) none makes found =
+        line_wider widen find rows config more more (marked from) (marked to) (marked from) (marked later) raised
+        (text_of line.what) (moment_of line.what) fault found
+    found_raised number made came.Done none makes found = tt
+
+    finds_raised : (number : ℕ) (made : History → List BookEntry) → HasNoneUnder number → Makes config number line made
+        → Finds config more from to line → Finds config more from later line
+    finds_raised number made none makes found = record {
+      forth = λ h. let a = forth h in let b = up h in omega arith;
+      suits = found.suits;
+      told = found.told;
+      cuts = λ leaf there. all_as (IsBetween (from (of.Leaf leaf)) (to (of.Leaf leaf)))
+          (IsBetween (from (of.Leaf leaf)) (later (of.Leaf leaf)))
+          (λ cut between. record {
+            from = between.from;
+            to = let a = between.to in let b = up (of.Leaf leaf) in omega arith;
+          }) (cuts_named leaf line.trace) (found.cuts leaf there);
+      found = found_raised number made line.trace none makes found.found;
+    }
+
+  -- ---- up to all that is seen later
+
+  module _ (seen more : Histories) (grown : HaveGrown seen more) where
+    none_behind : (number : ℕ) (h : History)
+        → filter (λ e. nat_eq (book_entry_pass e) number) (entries more h)
+        ≡ filter (λ e. nat_eq (book_entry_pass e) number) (entries seen h)
+        → (k : ℕ) (e : BookEntry) → slice_get (entries more h) k ≡ Some e → length (entries seen h) ≤ k
+        → nat_eq (book_entry_pass e) number ≡ false
+    none_behind number h same k e there le =
+        let p = goes_on seen more grown h in
+        all_at (λ x. nat_eq (book_entry_pass x) number ≡ false) p.0 (k - length (entries seen h)) e
+        (none_passes (λ x. nat_eq (book_entry_pass x) number) p.0
+        (none_between book_entry_pass (entries seen h) (entries more h) p number same))
+        (behind_front (entries seen h) p.0 k (k - length (entries seen h)) e (omega arith)
+        (ap (λ w. slice_get w k) p.1 ∙ there))
+
+    pub finds_later : (from : History → ℕ) (number : ℕ) (line : RanLine) (made : History → List BookEntry)
+        → ((h : History) → filter (λ e. nat_eq (book_entry_pass e) number) (entries more h)
+        ≡ filter (λ e. nat_eq (book_entry_pass e) number) (entries seen h))
+        → Makes config number line made → Finds config seen from (λ h. length (entries seen h)) line
+        → Finds config more from (λ h. length (entries more h)) line
+    finds_later from number line made same makes found =
+        let still = (claims_grow widen find rows freshen reread config).finds seen more from
+        (λ h. length (entries seen h)) line (λ h. omega arith) grown found in
+        finds_raised more from (λ h. length (entries seen h)) (λ h. length (entries more h)) line found.forth
+        (λ h. prefix_below (entries seen h) (entries more h) (goes_on seen more grown h)) (λ h. omega arith) number made
+        (λ h k e there le. none_behind number h (same h) k e there le) makes still
+
+    -- ---- texts
+
+    typed_same : (what : LineForm) (moment : ℤ) (trace : Trace) (typed : TypedTree)
+        → source_of more trace ≡ source_of seen trace
+        → typed_text config more what moment trace typed ≡ typed_text config seen what moment trace typed
+    typed_same (form.Feed name) moment trace typed e = refl
+    typed_same (form.Query at text) moment trace typed e =
+        ap (λ (some : List Row). table_text (column_names (columns_of typed.tree)) (meaning typed some moment)) e
+    typed_same (form.Check at text) moment trace typed e =
+        ap (λ (some : List Row). table_text (column_names (columns_of typed.tree)) (meaning typed some moment)) e
+    typed_same (form.Explain at text) moment trace typed e = ap
+        (λ (some : List Row). table_text (column_names (columns_of typed.tree)) (meaning typed some moment)
+        ++ explanation config.topology typed trace)
+        e
+    typed_same form.Together moment trace typed e = refl
+    typed_same form.End moment trace typed e = refl
+
+    asked_same : (what : LineForm) (moment : ℤ) (trace : Trace) (typed : Result TypedTree TextFault)
+        → source_of more trace ≡ source_of seen trace
+        → asked_text config more what moment trace typed ≡ asked_text config seen what moment trace typed
+    asked_same what moment trace (Ok typed) e = typed_same what moment trace typed e
+    asked_same what moment trace (Err fault) e = refl
+
+    wide : (from to : History → ℕ) → AreBelow from to → IsWithin entries to seen
+        → AreWider (marked from) (marked to) (marked from) (marked to) seen more
+    wide from to forth within = record {
+      sooner = record { leaves = λ leaf. omega arith; ranges = λ range. omega arith };
+      later = record { leaves = λ leaf. omega arith; ranges = λ range. omega arith };
+      begun = record {
+        leaves = λ leaf.
+            let a = forth (of.Leaf leaf) in let b = within (of.Leaf leaf) in let e = book_length seen leaf in omega
+            arith;
+        ranges = λ range.
+            let a = forth (of.Range range) in let b = within (of.Range range) in let e = range_length seen range in
+            omega arith;
+      };
+      within = record {
+        leaves = λ leaf. let b = within (of.Leaf leaf) in let e = book_length seen leaf in omega arith;
+        ranges = λ range. let b = within (of.Range range) in let e = range_length seen range in omega arith;
+      };
+      grown = grown.within;
+      leaves = grown.leaves;
+      ranges = grown.ranges;
+    }
+
+    text_same : (from to : History → ℕ) (what : LineForm) (content : List ℕ) (trace : LineTrace) → AreBelow from to
+        → IsWithin entries to seen
+        → HasFound config seen from to (record { what = what; content = content; trace = trace }) trace
+        → line_text config more (record { what = what; content = content; trace = trace })
+        ≡ line_text config seen (record { what = what; content = content; trace = trace })
+    text_same from to what content (came.Fed pass accepted refusals) forth within found = refl
+    text_same from to what content (came.Asked moment trace) forth within found =
+        asked_same what moment trace (text_type config.schemas (text_of what))
+        (rows found.typed moment (marked from) (marked to) (marked from) (marked to) seen more trace
+        (wide from to forth within) found.of)
+    text_same from to what content (came.Refused fault) forth within found = refl
+    text_same from to what content came.Done forth within found = refl
+
+    pub line_same : (from to : History → ℕ) (line : RanLine) → IsWithin entries to seen
+        → Finds config seen from to line → line_text config more line ≡ line_text config seen line
+    line_same from to line within found =
+        text_same from to line.what line.content line.trace found.forth within found.found
+
+    part_same : (from to : History → ℕ) (numbers : List ℕ) (lines others : List RanLine) → IsWithin entries to seen
+        → EachRan entries book_entry_pass (Makes config) (Finds config) seen from to numbers lines
+        → lines_text config more others ≡ lines_text config seen others
+        → lines_text config more (lines ++ others) ≡ lines_text config seen (lines ++ others)
+    part_same from to [] [] others within ran e = e
+    part_same from to [] (line ∷ lines) others within ran e = absurd ran
+    part_same from to (number ∷ numbers) [] others within ran e = absurd ran
+    part_same from to (number ∷ numbers) (line ∷ lines) others within ran e =
+        ap (λ w. w ++ lines_text config more (lines ++ others)) (line_same from to line within ran.0.found)
+        ∙ ap (λ w. line_text config seen line ++ w) (part_same from to numbers lines others within ran.1 e)
+
+    parts_same : (from to : History → ℕ) (parts : List (Part RanLine)) → IsWithin entries to seen
+        → PartsRan entries book_entry_pass (Makes config) (Finds config) seen from to parts
+        → lines_text config more (all_lines parts) ≡ lines_text config seen (all_lines parts)
+    parts_same from to [] within ran = refl
+    parts_same from to (part ∷ parts) within ran =
+        part_same from ran.0 ran.2.numbers (lines_of part) (all_lines parts)
+        (within_before entries book_entry_pass (Makes config) (Finds config) seen ran.0 to
+        (parts_below entries book_entry_pass (Makes config) (Finds config) seen ran.0 to parts ran.3) within)
+        ran.2.each (parts_same ran.0 to parts within ran.3)
+
+    pub all_same : (parts : List (Part RanLine)) → AllRan config seen parts
+        → lines_text config more (all_lines parts) ≡ lines_text config seen (all_lines parts)
+    all_same parts ran = parts_same (first_length config.topology seen) (λ h. length (entries seen h)) parts
+        (λ h. omega arith) ran
