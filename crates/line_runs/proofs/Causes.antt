@@ -1,0 +1,115 @@
+-- Why a question was refused, between what its caller had seen before it and has seen behind it.
+use Rattle.std.proofs.Common.{◌≡◌, ◌∙◌, ◌<◌, ℕ, ℤ, nat_eq, Bool, true, false, cond, List, [], ◌∷◌, length, map}
+use Rattle.std.proofs.Common.{Some, Err, refl, sym, ap, subst, arith}
+use Rattle.std.specs.List.{AllByRecursion, filter}
+use Rattle.std.proofs.lemmas.Bool.Decides.{nat_tests}
+use Rattle.know.specs.Knowledge.{Knowledge}
+use Rattle.line_runs.specs.Questions.{told_fault}
+use Rattle.mon_config.specs.declared.config.Config.{Config}
+use Rattle.mon_store.specs.Queries.{IsQueried, IsSettingOf}
+use Rattle.mon_store.specs.Stores.{setting_of}
+use Rattle.mon_store.specs.declared.queries.QueryFault.{QueryFault}
+use Rattle.mon_store.specs.declared.queries.QueryFault.TheVariants as fault
+use Rattle.mon_topo.proofs.RangeHistoryLemmas.{all_filter}
+use Rattle.mon_value.specs.Histories.{leaf_history}
+use Rattle.mon_value.specs.Positions.{leaf_numbered, same_leaf}
+use Rattle.mon_value.specs.declared.histories.Histories.{Histories}
+use Rattle.mon_value.specs.declared.positions.FoundDown.{FoundDown}
+use Rattle.mon_value.specs.declared.positions.Leaf.{Leaf}
+use Rattle.mon_value.specs.declared.positions.Range.{Range}
+use Rattle.mql_types.specs.Loads.{load}
+use Rattle.query_core.specs.Answers.{IsStoppedRightly}
+use Rattle.query_core.specs.Areas.{area_of, has_leaf}
+use Rattle.query_core.specs.Findings.{AreFoundThen, HasNoReplica, IsFoundThen}
+use Rattle.query_core.specs.Mixtures.{typed_of}
+use Rattle.query_core.specs.Settings.{QuerySetting}
+use Rattle.query_core.specs.Traces.{IsBetween, lengths_of, source_of}
+use Rattle.query_core.specs.declared.answers.Trace.{Trace}
+use Rattle.run_traces.specs.LineCauses.{HasCause}
+use Rattle.run_traces.specs.LineFreshness.{found_cuts, refusal_cuts}
+use Rattle.run_traces.specs.declared.traces.LineFault.{LineFault}
+use Rattle.run_traces.specs.declared.traces.LineFault.TheVariants as why
+
+-- ---- cuts
+
+same_leaves : (a b : Leaf) → same_leaf a b ≡ true → a ≡ b
+same_leaves a b same =
+    let number : a.0 ≡ b.0 = let test : nat_eq a.0 b.0 ≡ true = same in grind (arith, nat_tests) in
+    ap leaf_numbered number
+
+module _ (before after : Histories) where
+  abbrev pub LiesBetween : Leaf → ℕ → Type 0
+  LiesBetween leaf = IsBetween (length (leaf_history before leaf)) (length (leaf_history after leaf))
+
+  found_at : (leaf : Leaf) (found : FoundDown) (rest : List FoundDown) (b : Bool) → same_leaf leaf found.leaf ≡ b
+      → IsFoundThen before after found → AllByRecursion (LiesBetween leaf) (map (λ (f : FoundDown). f.cut) rest)
+      → AllByRecursion (LiesBetween leaf) (map (λ (f : FoundDown). f.cut) (cond b (found ∷ rest) rest))
+  found_at leaf found rest true same is more =
+      (subst (λ (l : Leaf). LiesBetween l found.cut) (sym (same_leaves leaf found.leaf same)) is.between, more)
+  found_at leaf found rest false same is more = more
+
+  -- of leaves that were found down
+  founds_between : (leaf : Leaf) (founds : List FoundDown) → AreFoundThen before after founds
+      → AllByRecursion (LiesBetween leaf) (found_cuts leaf founds)
+  founds_between leaf [] are = tt
+  founds_between leaf (found ∷ founds) are =
+      found_at leaf found (filter (λ (f : FoundDown). same_leaf leaf f.leaf) founds) (same_leaf leaf found.leaf) refl
+      are.0 (founds_between leaf founds are.1)
+
+-- ---- what was found
+
+some_same : {A : Type 0} (x y : A) → Some x ≡ Some y → x ≡ y
+some_same x y same = cc
+
+module _ (config : Config) (text : List ℕ) (moment : ℤ) (before after : Knowledge) where
+  -- a refusal has its cause, and names cuts that lie between
+  pub record HasItsCause (told : LineFault) : Type 0 where
+    pub cause : HasCause config after.seen (lengths_of before.seen) (lengths_of after.seen) text moment told
+    pub cuts : (leaf : Leaf) → leaf.0 < length after.seen.leaves
+        → AllByRecursion (LiesBetween before.seen after.seen leaf) (refusal_cuts leaf told)
+
+  none_up : (range : Range) (named : List FoundDown) → HasNoReplica config.topology before.seen after.seen range named
+      → HasItsCause (why.NoReplica range named)
+  none_up range named none =
+      let are : AreFoundThen before.seen after.seen named =
+      subst (AreFoundThen before.seen after.seen) (sym none.named_are)
+      (all_filter (IsFoundThen before.seen after.seen)
+      (λ (found : FoundDown). has_leaf (area_of config.topology none.zone) found.leaf) none.founds none.were_found) in
+      record {
+        cause = record {
+          were_found = are;
+          found = none.found;
+          between = none.between;
+          all_down = none.all_down;
+        };
+        cuts = λ leaf there. founds_between before.seen after.seen leaf named are;
+      }
+
+  over : (setting : QuerySetting) (limit : ℕ) (trace : Trace) → IsSettingOf config text config.limit setting
+      → IsStoppedRightly (setting_of config) setting moment before.seen after.seen limit trace
+      → HasItsCause (why.StepLimit limit trace)
+  over setting limit trace of_text stopped = record {
+    cause = record {
+      typed = typed_of setting;
+      type_is = of_text.typed;
+      of = stopped.of;
+      limit_is = stopped.limit_is ∙ of_text.limit_is;
+      above = subst (λ most. most < load (typed_of setting) (source_of after.seen trace) moment) of_text.limit_is
+          stopped.above;
+    };
+    cuts = λ leaf there. (record { from = stopped.since leaf there; to = stopped.of.within leaf there }, tt);
+  }
+
+  -- of each query that is refused
+  pub has_cause : (refused : QueryFault) → IsQueried config text moment config.limit before after (Err refused)
+      → (told : LineFault) → told_fault refused ≡ Some told → HasItsCause told
+  has_cause (fault.Parse parse) queried told is =
+      subst HasItsCause (some_same (why.Parse parse) told is) (record { cause = queried; cuts = λ leaf there. tt })
+  has_cause (fault.Typing typing) queried told is =
+      subst HasItsCause (some_same (why.Typing typing) told is) (record { cause = queried; cuts = λ leaf there. tt })
+  has_cause (fault.NoReplica range named) queried told is =
+      subst HasItsCause (some_same (why.NoReplica range named) told is) (none_up range named queried.ends.rightly)
+  has_cause (fault.StepLimit limit trace) queried told is =
+      subst HasItsCause (some_same (why.StepLimit limit trace) told is)
+      (over queried.setting limit trace queried.of_text queried.ends.rightly)
+  has_cause fault.OutOfMemory queried told is = absurd cc

@@ -1,0 +1,177 @@
+-- How a question ends, by how its query did.
+use Rattle.std.proofs.Common.{◌≡◌, ◌∙◌, ℕ, ℤ, List, Ok, Err, refl, sym, ap, subst}
+use Rattle.std.specs.Prelude.{IfOk, Result, sum_by}
+use Rattle.history_book.proofs.ListLemmas.{prefix_refl, prefix_trans}
+use Rattle.history_book.specs.Histories.{AreFronts}
+use Rattle.history_book.specs.Numbers.{times_among}
+use Rattle.know.specs.Knowledge.{Knowledge}
+use Rattle.line_runs.proofs.Answered.{look_found}
+use Rattle.line_runs.proofs.Causes.{has_cause}
+use Rattle.line_runs.proofs.Growing.{grown, wider}
+use Rattle.line_runs.proofs.Wrote.{OwnsAsMuch, asked_wrote, prints_alike, refused_wrote}
+use Rattle.line_runs.specs.LineWrites.{LineWrote, ran_line}
+use Rattle.line_runs.specs.Questions.{IsPrinted, IsRefusedFor, asked_line, question}
+use Rattle.line_runs.specs.declared.asks.Asked.{Asked}
+use Rattle.line_runs.specs.declared.lines.LineRan.{LineRan}
+use Rattle.mon_config.specs.declared.config.Config.{Config}
+use Rattle.mon_store.specs.Passes.{OwnsTheSame}
+use Rattle.mon_store.specs.Queries.{IsEnded, IsQueried}
+use Rattle.mon_store.specs.Stores.{setting_of}
+use Rattle.mon_store.specs.declared.queries.QueryFault.{QueryFault}
+use Rattle.mon_topo.specs.HeldHistories.{AreHeld}
+use Rattle.mon_topo.specs.Settings.{Setting}
+use Rattle.mon_value.specs.Histories.{leaf_history, range_history}
+use Rattle.mon_value.specs.declared.histories.Histories.{Histories}
+use Rattle.mon_value.specs.declared.positions.Leaf.{Leaf}
+use Rattle.mon_value.specs.declared.rows.SeriesKey.{SeriesKey}
+use Rattle.mql_types.specs.Nodes.{TypedTree}
+use Rattle.mql_types.specs.declared.plans.Plan.{Plan}
+use Rattle.query_core.specs.Mixtures.{typed_of}
+use Rattle.query_core.specs.Traces.{AreWider, IsFreshSince, IsReadRightly, IsTraceBetween, Lengths}
+use Rattle.query_core.specs.Traces.{lengths_of, source_of}
+use Rattle.query_core.specs.declared.answers.Answer.{Answer}
+use Rattle.query_core.specs.declared.answers.Trace.{Trace}
+use Rattle.run_traces.specs.LineClaims.{HaveGrown}
+use Rattle.run_traces.specs.LineTexts.{line_text}
+use Rattle.run_traces.specs.declared.traces.LineTrace.{LineTrace}
+use Rattle.run_traces.specs.declared.traces.LineTrace.TheVariants as came
+use Rattle.running_query.specs.Looks.{GoesOn}
+
+-- ---- what is seen
+
+-- a name's setting is that of the configuration, so histories are held by this one
+pub held_by : (config : Config) (store : Setting) (seen : Histories) → setting_of config ≡ store
+    → AreHeld store.held store.zones store.points seen
+    → AreHeld config.schemas config.topology config.range_points seen
+held_by config store seen is held =
+    subst (λ (s : Setting). AreHeld s.held s.zones s.points seen) (sym is) held
+
+-- a query of a text at a moment, within the limit
+pub at_limit : (config : Config) (text asked : List ℕ) (at moment : ℤ) (limit : ℕ) (before after : Knowledge)
+    (result : Result Answer QueryFault) → asked ≡ text → at ≡ moment → limit ≡ config.limit
+    → IsQueried config asked at limit before after result
+    → IsQueried config text moment config.limit before after result
+at_limit config text asked at moment limit before after result same_text same most queried =
+    subst (λ l. IsQueried config text moment l before after result) most
+    (subst (λ m. IsQueried config text m limit before after result) same
+    (subst (λ t. IsQueried config t at limit before after result) same_text queried))
+
+pub owns_itself : (know : Knowledge) → OwnsTheSame know know
+owns_itself know = record {
+  fronts = (
+    λ leaf. prefix_refl (leaf_history know.seen leaf),
+    λ range. prefix_refl (range_history know.seen range),
+  );
+  own = refl;
+  met = refl;
+  stock = refl;
+  lost = refl;
+  rooms = refl;
+  holds = refl;
+}
+
+pub fronts_through : (before mid after : Histories) → AreFronts before mid → AreFronts mid after
+    → AreFronts before after
+fronts_through before mid after first last = (
+  λ leaf. prefix_trans (leaf_history before leaf) (leaf_history mid leaf) (leaf_history after leaf) (first.0 leaf)
+      (last.0 leaf),
+  λ range. prefix_trans (range_history before range) (range_history mid range) (range_history after range)
+      (first.1 range) (last.1 range),
+)
+
+module _ (store : Setting) (config : Config) (before : Knowledge)
+    (was : AreHeld store.held store.zones store.points before.seen) where
+  -- ---- what is owned behind a query
+
+  owns_behind : (after : Knowledge) → GoesOn store before after → OwnsAsMuch before after
+  owns_behind after goes = record {
+    grown = grown before.seen after.seen goes.fronts store.held store.zones store.points was goes.sound.held;
+    fronts = goes.fronts;
+    own = goes.own;
+    met = goes.met;
+    stock = goes.stock;
+    lost = goes.lost;
+  }
+
+  -- and behind what was gathered then
+  owns_then : (mid after : Knowledge) → AreHeld store.held store.zones store.points after.seen
+      → GoesOn store before mid → OwnsTheSame mid after → OwnsAsMuch before after
+  owns_then mid after is goes same =
+      let fronts = fronts_through before.seen mid.seen after.seen goes.fronts same.fronts in
+      record {
+        grown = grown before.seen after.seen fronts store.held store.zones store.points was is;
+        fronts = fronts;
+        own = same.own ∙ goes.own;
+        met = same.met ∙ goes.met;
+        stock = same.stock ∙ goes.stock;
+        lost = λ n. ap (sum_by (times_among n)) same.lost ∙ goes.lost n;
+      }
+
+  -- ---- a query that is refused
+
+  pub refused_ran : (what : Asked) (moment : ℤ) (text : List ℕ) (after : Knowledge) (fault : QueryFault)
+      → GoesOn store before after → IsQueried config text moment config.limit before after (Err fault)
+      → {F : Type 0} (result : Result LineRan F)
+      → IfOk result (IsRefusedFor config.topology fault)
+      → IfOk result (λ ran. (content : List ℕ)
+      → LineWrote config (ran_line (question what moment text) content ran.trace) ran.text before after)
+  refused_ran what moment text after fault goes queried (Ok ran) refused = λ content.
+      subst (λ (r : LineRan). LineWrote config (ran_line (question what moment text) content r.trace) r.text before
+      after) (sym refused.ran_is)
+      (refused_wrote config what moment text content before after (owns_behind after goes) refused.told
+      (has_cause config text moment before after fault queried refused.told refused.told_is))
+  refused_ran what moment text after fault goes queried (Err failed) refused = tt
+
+  -- ---- a query that is answered
+
+  module _
+      (stays : (typed : TypedTree) (moment : ℤ) (from to earlier later : Lengths) (seen more : Histories)
+      (trace : Trace) → AreWider from to earlier later seen more → IsTraceBetween typed moment from to seen trace
+      → IsTraceBetween typed moment earlier later more trace)
+      (stays_rows : (typed : TypedTree) (moment : ℤ) (from to earlier later : Lengths) (seen more : Histories)
+      (trace : Trace) → AreWider from to earlier later seen more → IsTraceBetween typed moment from to seen trace
+      → source_of more trace ≡ source_of seen trace)
+      (stays_fresh : (typed : TypedTree) (moment : ℤ) (from to earlier later : Lengths) (seen more : Histories)
+      (trace : Trace) → AreWider from to earlier later seen more → IsTraceBetween typed moment from to seen trace
+      → IsFreshSince from seen trace → IsFreshSince earlier more trace)
+      (stays_read : (typed : TypedTree) (moment : ℤ) (from to earlier later : Lengths) (seen more : Histories)
+      (trace : Trace) (plan : Plan) (buckets_of : SeriesKey → List ℕ) (leaf : Leaf)
+      → AreWider from to earlier later seen more → IsTraceBetween typed moment from to seen trace
+      → IsReadRightly typed plan buckets_of seen trace leaf → IsReadRightly typed plan buckets_of more trace leaf)
+      (what : Asked) (moment : ℤ) (text : List ℕ) (mid after : Knowledge) (answer : Answer)
+      (goes : GoesOn store before mid) (same : OwnsTheSame mid after)
+      (ended : IsEnded config text moment config.limit before mid (Ok answer)) where
+    abbrev pub IsHeld : Type 0
+    IsHeld = AreHeld store.held store.zones store.points after.seen
+
+    more : IsHeld → HaveGrown mid.seen after.seen
+    more held = grown mid.seen after.seen same.fronts store.held store.zones store.points goes.sound.held held
+
+    same_rows : IsHeld → source_of after.seen answer.trace ≡ source_of mid.seen answer.trace
+    same_rows held =
+        stays_rows (typed_of ended.setting) moment (lengths_of before.seen) (lengths_of mid.seen)
+        (lengths_of before.seen) (lengths_of after.seen) mid.seen after.seen answer.trace
+        (wider before.seen mid.seen after.seen goes.fronts same.fronts (more held)) ended.ends.rightly.of
+
+    wrote : IsHeld → (content : List ℕ) (ran : LineRan) → IsPrinted config what moment text mid answer.trace ran
+        → LineWrote config (ran_line (question what moment text) content ran.trace) ran.text before after
+    wrote held content ran printed =
+        let trace : LineTrace = came.Asked moment answer.trace in
+        let printed_then : ran.text ≡ line_text config after.seen (asked_line what moment text trace) =
+        printed.prints
+        ∙ ap (λ t. line_text config mid.seen (asked_line what moment text t)) printed.trace_is
+        ∙ sym (prints_alike config mid.seen after.seen moment answer.trace (same_rows held) what text) in
+        subst (λ t. LineWrote config (ran_line (question what moment text) content t) ran.text before after)
+        (sym printed.trace_is)
+        (subst (λ w. LineWrote config (ran_line (question what moment text) content trace) w before after)
+        (sym printed_then)
+        (asked_wrote config what moment text content before after (owns_then mid after held goes same) answer.trace
+        (look_found config text moment before mid answer ended stays stays_fresh stays_read after goes.fronts
+        same.fronts (more held))))
+
+    pub answered_ran : {F : Type 0} (result : Result LineRan F)
+        → IfOk result (IsPrinted config what moment text mid answer.trace) → IfOk result (λ ran. IsHeld)
+        → IfOk result (λ ran. (content : List ℕ)
+        → LineWrote config (ran_line (question what moment text) content ran.trace) ran.text before after)
+    answered_ran (Ok ran) printed held = λ content. wrote held content ran printed
+    answered_ran (Err failed) printed held = tt

@@ -1,0 +1,229 @@
+-- What a feed found: each refusal stands behind the rows that were accepted before it, and before the others.
+use Rattle.std.proofs.Common.{◌≡◌, ℕ, ◌+◌, ◌-◌, ◌<◌, ◌≤◌, Bool, true, false, cond, List, []}
+use Rattle.std.proofs.Common.{◌∷◌, ◌++◌, length, map, filter, slice_get, Some, refl, sym, ap, ◌∙◌, subst}
+use Rattle.std.proofs.Common.{arith, append_assoc, append-nil, inl, inr}
+use Rattle.std.specs.List.{AllByRecursion, flat_map}
+use Rattle.std.proofs.lemmas.Bool.{cases_lt}
+use Rattle.std.proofs.lemmas.Bool.Decides.{nat_tests}
+use Rattle.std.proofs.lemmas.List.{drop_at, length-append, take_at}
+use mathlib.Core.Logic.{◌⊎◌}
+use Rattle.history_book.proofs.ListLemmas.{prefix_length}
+use Rattle.history_book.specs.Histories.{AreFronts, entries}
+use Rattle.history_book.specs.declared.views.BookEntry.{BookEntry}
+use Rattle.history_book.specs.declared.views.History.{History}
+use Rattle.history_book.specs.declared.views.History.TheVariants as of
+use Rattle.know.specs.Knowledge.{Knowledge}
+use Rattle.line_runs.specs.Feeding.{AreFed}
+use Rattle.mon_config.specs.declared.config.Config.{Config}
+use Rattle.mon_points.specs.declared.records.RowRead.{RowRead}
+use Rattle.mon_points.specs.declared.records.RowRead.TheVariants as read
+use Rattle.mon_store.proofs.OwnLemmas.{entries_front}
+use Rattle.mon_value.specs.Positions.{leaf_numbered, same_leaf}
+use Rattle.mon_value.specs.declared.histories.Histories.{Histories}
+use Rattle.mon_value.specs.declared.positions.FoundDown.{FoundDown}
+use Rattle.mon_value.specs.declared.positions.Leaf.{Leaf}
+use Rattle.mon_value.specs.declared.rows.Row.{Row}
+use Rattle.owners.specs.Puts.{pass_of}
+use Rattle.query_core.specs.Findings.{IsFoundBetween}
+use Rattle.query_core.specs.Traces.{IsBetween}
+use Rattle.range_cell.specs.declared.answers.WriteFault.TheVariants as unwritten
+use Rattle.run_traces.specs.LineCauses.{HasRowCause, rows_before}
+use Rattle.run_traces.specs.LineClaims.{RowFound, RowsFound, marked}
+use Rattle.run_traces.specs.LineFeeds.{AreTold, refused_at}
+use Rattle.run_traces.specs.LineFreshness.{found_cuts, row_cuts}
+use Rattle.run_traces.specs.LinePlaces.{is_fed}
+use Rattle.run_traces.specs.declared.traces.RowRefusal.{RowRefusal}
+use Rattle.run_traces.specs.declared.traces.RowRefused.{RowRefused}
+use Rattle.run_traces.specs.declared.traces.RowRefused.TheVariants as refused
+use Rattle.run_traces.proofs.ListFacts.{both_all}
+use Rattle.run_traces.proofs.RowFacts.{fed_pass}
+use Rattle.line_runs.proofs.FeedCauses.{cause_stands, lengths}
+use Rattle.line_runs.proofs.FeedParts.{AreSources, Part, at_new, fed_apart, part_both, part_none, part_of, part_refused}
+use Rattle.line_runs.proofs.FeedParts.{part_taken, same_pass}
+use Rattle.line_runs.proofs.FeedRows.{at_end, front_stands}
+
+-- ---- each record is told of
+
+pub all_told : (config : Config) (n : ℕ) (reads : List RowRead) (rows : List Row) (refusals : List RowRefusal)
+    (x z : Knowledge) → AreFed config n reads rows refusals x z → AreTold n reads rows refusals
+all_told config n [] rows refusals x z fed = (fed.0, fed.1)
+all_told config n (read.Fault fault ∷ reads) rows refusals x z fed =
+    (fed.0, fed.1, all_told config (n + 1) reads rows fed.0 x z fed.2)
+all_told config n (read.Row row ∷ reads) rows refusals x z fed = elim fed.1 [
+  | inl t ↦ inl (t.0, t.1, all_told config (n + 1) reads t.0 refusals fed.0 z t.3)
+  | inr t ↦ inr (t.0, t.1, t.2, all_told config (n + 1) reads rows t.1 fed.0 z t.4)
+]
+
+-- ---- where refusals stand
+
+either_way : {A B C : Type 0} → A ⊎ B → (A → C) → (B → C) → C
+either_way (inl a) f g = f a
+either_way (inr b) f g = g b
+
+less_by : (k n : ℕ) → (n ≤ k → ⊥) → k < n
+less_by k n never = either_way (cases_lt k n) (λ l. l) (λ l. absurd (never l))
+
+least_by : (k n : ℕ) → (k < n → ⊥) → n ≤ k
+least_by k n never = either_way (cases_lt k n) (λ l. absurd (never l)) (λ l. l)
+
+pub seen_below : (x y : Knowledge) → AreFronts x.seen y.seen → (h : History) → lengths x h ≤ lengths y h
+seen_below x y fronts h = prefix_length (entries x.seen h) (entries y.seen h) (entries_front x.seen y.seen fronts h)
+
+module _ (config : Config) (first last : Knowledge) (sources : AreSources config last) where
+  -- a refusal behind some rows and before others
+  module _ (b m : Knowledge) (rows more : List Row) (done : Part config first b rows) (here : Part config b m [])
+      (left : Part config m last more) where
+    behind : Part config b last more
+    behind = part_both config b m last [] more here left
+
+    so_far : Part config first m rows
+    so_far = subst (λ (some : List Row). Part config first m some) (append-nil rows)
+        (part_both config first b m rows [] done here)
+
+    -- an entry of the rows before it stands where these were written
+    stands_before : (h : History) (k : ℕ) (e : BookEntry) → slice_get (entries last.seen h) k ≡ Some e
+        → is_fed (pass_of first) rows e ≡ true → k < lengths b h
+    stands_before h k e there mine = less_by k (lengths b h) (λ low.
+        let same = same_pass first b done.still in
+        fed_apart config first b last rows more done behind sources (pass_of first) e mine
+        (subst (λ n. is_fed n more e ≡ true) same
+        (at_new config b last more behind h k e there low
+        (fed_pass (pass_of first) rows e mine ∙ sym same))))
+
+    -- and one of the others stands behind
+    stands_behind : (h : History) (k : ℕ) (e : BookEntry) → slice_get (entries last.seen h) k ≡ Some e
+        → lengths first h ≤ k → is_fed (pass_of first) more e ≡ true → lengths m h ≤ k
+    stands_behind h k e there low mine = least_by k (lengths m h) (λ less.
+        fed_apart config first b last rows more done behind sources (pass_of first) e
+        (at_new config first m rows so_far h k e
+        (front_stands (entries m.seen h) (entries last.seen h) (entries_front m.seen last.seen left.still.fronts h) k e
+        there less) low (fed_pass (pass_of first) more e mine)) mine)
+
+    pub row_found : (reads : List RowRead) (n others : ℕ) (one : RowRead) (fault : RowRefused)
+        → n ≡ length rows + others + 1 → slice_get reads (n - 1) ≡ Some one
+        → HasRowCause config last.seen (marked (lengths b)) (marked (lengths m)) one fault
+        → RowFound config last.seen (lengths first) (lengths last) reads (pass_of first) (rows ++ more) others
+        (refused_at n fault)
+    row_found reads n others one fault counted there cause =
+        let k : rows_before others (refused_at n fault) ≡ length rows = omega arith in record {
+          read = one;
+          read_is = there;
+          since = lengths b;
+          until = lengths m;
+          low = seen_below first b done.still.fronts;
+          forth = seen_below b m here.still.fronts;
+          high = seen_below m last left.still.fronts;
+          before = λ h place stands. stands_before h place stands.0 stands.1
+              (subst (λ (some : List Row). is_fed (pass_of first) some stands.0 ≡ true)
+              (take_at rows more (rows_before others (refused_at n fault)) (sym k)) stands.4);
+          behind = λ h place stands. stands_behind h place stands.0 stands.1 stands.2
+              (subst (λ (some : List Row). is_fed (pass_of first) some stands.0 ≡ true)
+              (drop_at rows more (rows_before others (refused_at n fault)) (sym k)) stands.4);
+          cause = cause;
+        }
+
+  abbrev Found : List RowRead → List Row → ℕ → List RowRefusal → Type 0
+  Found reads rows others refusals =
+      RowsFound config last.seen (lengths first) (lengths last) reads (pass_of first) rows others refusals
+
+  -- one record more in front
+  one_read : (front : List RowRead) (one : RowRead) (reads all : List RowRead) → all ≡ front ++ one ∷ reads
+      → all ≡ (front ++ one ∷ []) ++ reads
+  one_read front one reads all is = is ∙ sym (append_assoc front (one ∷ []) reads)
+
+  read_at : (front : List RowRead) (one : RowRead) (reads all : List RowRead) (n : ℕ) → all ≡ front ++ one ∷ reads
+      → n ≡ length front + 1 → slice_get all (n - 1) ≡ Some one
+  read_at front one reads all n is counted =
+      let k : n - 1 ≡ length front = omega arith in
+      (λ i. slice_get (is i) (k i)) ∙ at_end front one reads
+
+  longer : {X : Type 0} (front : List X) (x : X) → length (front ++ x ∷ []) ≡ length front + 1
+  longer front x = length-append front (x ∷ [])
+
+  pub rows_found : (all front reads : List RowRead) (n others : ℕ) (b : Knowledge) (rows more : List Row)
+      (refusals : List RowRefusal) → all ≡ front ++ reads → n ≡ length front + 1 → n ≡ length rows + others + 1
+      → Part config first b rows → AreFed config n reads more refusals b last
+      → Found all (rows ++ more) others refusals
+  rows_found all front [] n others b rows more refusals is placed counted done fed =
+      subst (λ (some : List RowRefusal). Found all (rows ++ more) others some) (sym fed.1) tt
+  rows_found all front (read.Fault fault ∷ reads) n others b rows more refusals is placed counted done fed =
+      subst (λ (some : List RowRefusal). Found all (rows ++ more) others some) (sym fed.1) (
+        row_found b b rows more done (part_none config b) (part_of config (n + 1) reads more fed.0 b last fed.2)
+            all n others (read.Fault fault) (refused.Read fault) counted
+            (read_at front (read.Fault fault) reads all n is placed) refl,
+        rows_found all (front ++ read.Fault fault ∷ []) reads (n + 1) (others + 1) b rows more fed.0
+            (one_read front (read.Fault fault) reads all is)
+            (let l = longer front (read.Fault fault) in omega arith) (omega arith) done fed.2,
+      )
+  rows_found all front (read.Row row ∷ reads) n others b rows more refusals is placed counted done fed = elim fed.1 [
+    | inl t ↦ subst (λ (some : List Row). Found all some others refusals)
+        (append_assoc rows (row ∷ []) t.0 ∙ ap (λ (w : List Row). rows ++ w) (sym t.1))
+        (rows_found all (front ++ read.Row row ∷ []) reads (n + 1) others fed.0 (rows ++ row ∷ []) t.0 refusals
+        (one_read front (read.Row row) reads all is) (let l = longer front (read.Row row) in omega arith)
+        (let l = longer rows row in omega arith)
+        (part_both config first b fed.0 rows (row ∷ []) done (part_taken config row b fed.0 t.2)) t.3)
+    | inr t ↦ subst (λ (some : List RowRefusal). Found all (rows ++ more) others some) (sym t.2) (
+      row_found b fed.0 rows more done (part_refused config b fed.0 t.3.unwritten)
+          (part_of config (n + 1) reads more t.1 fed.0 last t.4) all n others (read.Row row) (refused.Write t.0)
+          counted (read_at front (read.Row row) reads all n is placed)
+          (cause_stands config b fed.0 last (part_of config (n + 1) reads more t.1 fed.0 last t.4).still.fronts row
+          t.0 t.3.told t.3.cause),
+      rows_found all (front ++ read.Row row ∷ []) reads (n + 1) (others + 1) fed.0 rows more t.1
+          (one_read front (read.Row row) reads all is) (let l = longer front (read.Row row) in omega arith)
+          (omega arith)
+          (subst (λ (some : List Row). Part config first fed.0 some) (append-nil rows)
+          (part_both config first b fed.0 rows [] done (part_refused config b fed.0 t.3.unwritten))) t.4,
+    )
+  ]
+
+-- ---- cuts that refusals name
+
+module _ (config : Config) (seen : Histories) (from to : History → ℕ) (leaf : Leaf) where
+  abbrev Lies : ℕ → Type 0
+  Lies cut = IsBetween (from (of.Leaf leaf)) (to (of.Leaf leaf)) cut
+
+  module _ (since until : History → ℕ) (low : (h : History) → from h ≤ since h) (high : (h : History) → until h ≤ to h)
+    where
+      leaf_is : (found : FoundDown) → same_leaf leaf found.leaf ≡ true → found.leaf ≡ leaf
+      leaf_is found is = let e : found.leaf.0 ≡ leaf.0 = grind (arith, nat_tests) in ap leaf_numbered e
+
+      cut_by : (found : FoundDown) (founds : List FoundDown) (b : Bool) → same_leaf leaf found.leaf ≡ b
+          → IsFoundBetween (marked since) (marked until) seen found → AllByRecursion Lies (found_cuts leaf founds)
+          → AllByRecursion Lies (map (λ (one : FoundDown). one.cut)
+          (cond b (found ∷ filter (λ (one : FoundDown). same_leaf leaf one.leaf) founds)
+          (filter (λ (one : FoundDown). same_leaf leaf one.leaf) founds)))
+      cut_by found founds true is was all = (
+        subst (λ (l : Leaf). IsBetween (from (of.Leaf l)) (to (of.Leaf l)) found.cut) (leaf_is found is) (record {
+          from = let a = low (of.Leaf found.leaf) in let b = was.between.from in omega arith;
+          to = let a = high (of.Leaf found.leaf) in let b = was.between.to in omega arith;
+        }),
+        all,
+      )
+      cut_by found founds false is was all = all
+
+      cuts_of : (founds : List FoundDown) → AllByRecursion (IsFoundBetween (marked since) (marked until) seen) founds
+          → AllByRecursion Lies (found_cuts leaf founds)
+      cuts_of [] all = tt
+      cuts_of (found ∷ founds) all =
+          cut_by found founds (same_leaf leaf found.leaf) refl all.0 (cuts_of founds all.1)
+
+      cuts_by : (one : RowRead) (fault : RowRefused)
+          → HasRowCause config seen (marked since) (marked until) one fault → AllByRecursion Lies (row_cuts leaf fault)
+      cuts_by one (refused.Read told) cause = tt
+      cuts_by (read.Fault fault) (refused.Write told) cause = absurd cause
+      cuts_by (read.Row row) (refused.Write unwritten.NoZone) cause = tt
+      cuts_by (read.Row row) (refused.Write (unwritten.OldPoint end)) cause = tt
+      cuts_by (read.Row row) (refused.Write (unwritten.RangeFull limit)) cause = tt
+      cuts_by (read.Row row) (refused.Write (unwritten.Unavailable range founds)) cause =
+          cuts_of founds cause.none_up.were_found
+      cuts_by (read.Row row) (refused.Write unwritten.OutOfMemory) cause = tt
+
+  pub cuts_between : (reads : List RowRead) (pass : ℕ) (rows : List Row) (others : ℕ) (refusals : List RowRefusal)
+      → RowsFound config seen from to reads pass rows others refusals
+      → AllByRecursion Lies (flat_map (λ (refusal : RowRefusal). row_cuts leaf refusal.fault) refusals)
+  cuts_between reads pass rows others [] found = tt
+  cuts_between reads pass rows others (refusal ∷ refusals) found =
+      both_all Lies (row_cuts leaf refusal.fault)
+      (flat_map (λ (other : RowRefusal). row_cuts leaf other.fault) refusals)
+      (cuts_by found.0.since found.0.until found.0.low found.0.high found.0.read refusal.fault found.0.cause)
+      (cuts_between reads pass rows (others + 1) refusals found.1)

@@ -1,0 +1,196 @@
+-- What a question that ran owes: it wrote nothing, and found what it tells between what its caller had seen before it
+-- and has seen behind it.
+use Rattle.std.proofs.Common.{◌≡◌, ◌∙◌, ◌++◌, ℕ, ℤ, List, [], Ok, Err, refl, sym, ap, subst}
+use Rattle.std.proofs.Common.{arith, append-nil}
+use Rattle.std.specs.Prelude.{Result, option_map}
+use Rattle.std.specs.List.{AllByRecursion}
+use Rattle.history_book.specs.Histories.{AreFronts}
+use Rattle.history_book.specs.Seats.{times_lost}
+use Rattle.history_book.specs.declared.views.History.{History}
+use Rattle.history_book.specs.declared.views.History.TheVariants as of
+use Rattle.history_book.specs.declared.views.Kept.{Kept}
+use Rattle.know.specs.Knowledge.{Knowledge}
+use Rattle.line_runs.proofs.Causes.{HasItsCause, LiesBetween}
+use Rattle.line_runs.proofs.Growing.{forth, marks, seen_of}
+use Rattle.line_runs.specs.LineWrites.{KeepsItsPlace, LineWrote, ran_line}
+use Rattle.line_runs.specs.Questions.{asked_line, question}
+use Rattle.line_runs.specs.declared.asks.Asked.{Asked}
+use Rattle.line_runs.specs.declared.asks.Asked.TheVariants as asked
+use Rattle.mon_config.specs.declared.config.Config.{Config}
+use Rattle.mon_store.specs.Writes.{own_entries}
+use Rattle.mon_table.specs.Tables.{table_text}
+use Rattle.mon_topo.proofs.RangeHistoryLemmas.{all_on}
+use Rattle.mon_value.specs.Columns.{column_names}
+use Rattle.mon_value.specs.declared.histories.Histories.{Histories}
+use Rattle.mon_value.specs.declared.positions.Leaf.{Leaf}
+use Rattle.mon_value.specs.declared.rows.Row.{Row}
+use Rattle.mql_types.specs.Meaning.{meaning}
+use Rattle.mql_types.specs.Nodes.{TypedTree, columns_of}
+use Rattle.query_core.specs.Traces.{IsBetween, Lengths}
+use Rattle.query_core.specs.Traces.{lengths_of, source_of}
+use Rattle.query_core.specs.declared.answers.Trace.{Trace}
+use Rattle.query_texts.specs.TextTypes.{text_type}
+use Rattle.query_texts.specs.declared.faults.TextFault.{TextFault}
+use Rattle.run_traces.proofs.RunFacts.{book_length}
+use Rattle.run_traces.specs.LineCauses.{HasCause}
+use Rattle.run_traces.specs.LineClaims.{Finds, HaveGrown, LookFound, marked}
+use Rattle.run_traces.specs.LineForms.{Suits}
+use Rattle.run_traces.specs.LineFreshness.{refusal_cuts}
+use Rattle.run_traces.specs.LineTables.{moment_of, text_of}
+use Rattle.run_traces.specs.LineTexts.{asked_text, explanation, line_text}
+use Rattle.run_traces.specs.RanLines.{RanLine}
+use Rattle.run_traces.specs.declared.traces.LineFault.{LineFault}
+use Rattle.run_traces.specs.declared.traces.LineTrace.{LineTrace}
+use Rattle.run_traces.specs.declared.traces.LineTrace.TheVariants as came
+
+-- ---- a caller that owns what it owned
+
+-- nothing that it owns has changed
+pub record OwnsAsMuch (before after : Knowledge) : Type 0 where
+  pub grown : HaveGrown before.seen after.seen
+  pub fronts : AreFronts before.seen after.seen
+  pub own : after.purse.own ≡ before.purse.own
+  pub met : after.purse.met ≡ before.purse.met
+  pub stock : after.purse.stock ≡ before.purse.stock
+  pub lost : (n : ℕ) → times_lost n after.purse ≡ times_lost n before.purse
+
+-- ---- the text of a question
+
+text_is : (what : Asked) (moment : ℤ) (text : List ℕ) → text_of (question what moment text) ≡ text
+text_is asked.Query moment text = refl
+text_is asked.Check moment text = refl
+text_is asked.Explain moment text = refl
+
+moment_is : (what : Asked) (moment : ℤ) (text : List ℕ) → moment_of (question what moment text) ≡ moment
+moment_is asked.Query moment text = refl
+moment_is asked.Check moment text = refl
+moment_is asked.Explain moment text = refl
+
+-- what it comes to suits it
+suits_refused : (what : Asked) (moment : ℤ) (text : List ℕ) (told : LineFault)
+    → Suits (question what moment text) (came.Refused told)
+suits_refused asked.Query moment text told = tt
+suits_refused asked.Check moment text told = tt
+suits_refused asked.Explain moment text told = tt
+
+suits_asked : (what : Asked) (moment : ℤ) (text : List ℕ) (trace : Trace)
+    → Suits (question what moment text) (came.Asked moment trace)
+suits_asked asked.Query moment text trace = refl
+suits_asked asked.Check moment text trace = refl
+suits_asked asked.Explain moment text trace = refl
+
+-- where two histories have the same rows of a trace, an answer prints the same
+module _ (config : Config) (seen more : Histories) (moment : ℤ) (trace : Trace)
+    (same : source_of more trace ≡ source_of seen trace) where
+  abbrev pub table_over : TypedTree → List Row → List ℕ
+  table_over typed rows = table_text (column_names (columns_of typed.tree)) (meaning typed rows moment)
+
+  answer_alike : (answer : Result TypedTree TextFault) (what : Asked) (text : List ℕ)
+      → asked_text config more (question what moment text) moment trace answer
+      ≡ asked_text config seen (question what moment text) moment trace answer
+  answer_alike (Err fault) what text = refl
+  answer_alike (Ok typed) asked.Query text = ap (table_over typed) same
+  answer_alike (Ok typed) asked.Check text = ap (table_over typed) same
+  answer_alike (Ok typed) asked.Explain text =
+      ap (λ rows. table_over typed rows ++ explanation config.topology typed trace) same
+
+  pub prints_alike : (what : Asked) (text : List ℕ)
+      → line_text config more (asked_line what moment text (came.Asked moment trace))
+      ≡ line_text config seen (asked_line what moment text (came.Asked moment trace))
+  prints_alike what text =
+      answer_alike (text_type config.schemas (text_of (question what moment text))) what text
+
+-- ---- what a question owes
+
+module _ (config : Config) (what : Asked) (moment : ℤ) (text content : List ℕ) (before after : Knowledge)
+    (owns : OwnsAsMuch before after) where
+  abbrev pub the_line : LineTrace → RanLine
+  the_line trace = ran_line (question what moment text) content trace
+
+  abbrev pub from : History → ℕ
+  from = seen_of before.seen
+
+  abbrev pub to : History → ℕ
+  to = seen_of after.seen
+
+  keeps : KeepsItsPlace before after
+  keeps = record {
+    grown = owns.grown;
+    number = ap (option_map (λ (kept : Kept). kept.number)) owns.own;
+    met = owns.met;
+    stock = owns.stock;
+    lost = owns.lost;
+  }
+
+  nothing_more : (history : History)
+      → own_entries after.purse.own history ≡ own_entries before.purse.own history ++ []
+  nothing_more history =
+      ap (λ own. own_entries own history) owns.own ∙ sym (append-nil (own_entries before.purse.own history))
+
+  between : (leaf : Leaf) (cuts : List ℕ) → AllByRecursion (LiesBetween before.seen after.seen leaf) cuts
+      → AllByRecursion (IsBetween (from (of.Leaf leaf)) (to (of.Leaf leaf))) cuts
+  between leaf =
+      all_on (LiesBetween before.seen after.seen leaf) (IsBetween (from (of.Leaf leaf)) (to (of.Leaf leaf)))
+      (λ cut lies. record {
+        from = let was = book_length before.seen leaf in let low = lies.from in omega arith;
+        to = let is = book_length after.seen leaf in let high = lies.to in omega arith;
+      })
+
+  at_marks : (P : Lengths → Lengths → Type 0) → P (lengths_of before.seen) (lengths_of after.seen)
+      → P (marked from) (marked to)
+  at_marks P is =
+      subst (λ (low : Lengths). P low (marked to)) (sym (marks before.seen))
+      (subst (P (lengths_of before.seen)) (sym (marks after.seen)) is)
+
+  -- it was refused for a fault with its cause
+  refused_finds : (told : LineFault) → HasItsCause config text moment before after told
+      → Finds config after.seen from to (the_line (came.Refused told))
+  refused_finds told found = record {
+    forth = forth before.seen after.seen owns.fronts;
+    suits = suits_refused what moment text told;
+    told = tt;
+    cuts = λ leaf there. between leaf (refusal_cuts leaf told) (found.cuts leaf there);
+    found =
+        subst (λ asked. HasCause config after.seen (marked from) (marked to) asked (moment_of (question what moment
+        text)) told) (sym (text_is what moment text))
+        (subst (λ at. HasCause config after.seen (marked from) (marked to) text at told)
+        (sym (moment_is what moment text))
+        (at_marks (λ low high. HasCause config after.seen low high text moment told) found.cause));
+  }
+
+  pub refused_wrote : (told : LineFault) → HasItsCause config text moment before after told
+      → LineWrote config (the_line (came.Refused told))
+      (line_text config after.seen (the_line (came.Refused told))) before after
+  refused_wrote told found = record {
+    keeps = keeps;
+    made = λ history. [];
+    makes = λ history. refl;
+    own = nothing_more;
+    found = refused_finds told found;
+    prints = refl;
+  }
+
+  -- it was answered by what was seen between
+  asked_finds : (trace : Trace) → LookFound config after.seen from to text moment trace
+      → Finds config after.seen from to (the_line (came.Asked moment trace))
+  asked_finds trace look = record {
+    forth = forth before.seen after.seen owns.fronts;
+    suits = suits_asked what moment text trace;
+    told = tt;
+    cuts = λ leaf there.
+        (record { from = look.fresh.cuts leaf there; to = look.of.within leaf there }, tt);
+    found =
+        subst (λ asked. LookFound config after.seen from to asked moment trace) (sym (text_is what moment text)) look;
+  }
+
+  pub asked_wrote : (trace : Trace) → LookFound config after.seen from to text moment trace
+      → LineWrote config (the_line (came.Asked moment trace))
+      (line_text config after.seen (the_line (came.Asked moment trace))) before after
+  asked_wrote trace look = record {
+    keeps = keeps;
+    made = λ history. [];
+    makes = λ history. refl;
+    own = nothing_more;
+    found = asked_finds trace look;
+    prints = refl;
+  }
