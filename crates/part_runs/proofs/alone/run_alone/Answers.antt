@@ -1,0 +1,11 @@
+use Rattle.part_runs.proofs.AloneLemmas.{answer_did, answer_stock}
+use Rattle.part_runs.proofs.alone.run_alone.Goals as goal
+
+pub returns-clause-ran : goal.returns-clause-ran
+returns-clause-ran g c = answer_did g.N.Names.setting c.args.store.now c.args.what.now c.args.content.now
+    c.args.p.now c.run_line-ran.new.p c.is_sound.ensures.pass c.is_sound-2.ensures.pass
+    c.is_sound-2.ensures.borne_out c.requires.every c.run_line-ran.result c.run_line-ran.ensures.wrote
+
+pub returns-clause-stock : goal.returns-clause-stock
+returns-clause-stock g c = answer_stock c.args.store.now c.args.what.now c.args.content.now c.args.p.now
+    c.run_line-ran.new.p c.run_line-ran.result c.run_line-ran.ensures.wrote
