@@ -5,12 +5,12 @@ use Rattle.mon_run.specs.Endings.{CutShort, Did, Follows, LastFailed, Progress, 
 use Rattle.mon_run.specs.Faults.{Rose}
 use Rattle.mon_run.specs.Sinks.{SinkState}
 use Rattle.mon_run.specs.Folders.{FolderState, asking}
-use Rattle.mon_run.specs.Plans.{Miss, Plan, Step, Write, ending, plan, plan_behind}
+use Rattle.mon_run.specs.Steps.{Miss, Plan, Step, Write, ending, plan, plan_behind}
 use Rattle.mon_run.specs.Texts.{read_text}
 use Rattle.mon_value.specs.declared.refusals.Refusal.{Refusal}
 use Rattle.mon_value.specs.declared.refusals.Refusal.TheVariants as refusal
 use Rattle.mon_config.specs.declared.faults.ConfigFault.{ConfigFault}
-use Rattle.mon_script.specs.declared.script.ScriptFault.{ScriptFault}
+use Rattle.mon_script.specs.declared.faults.ScriptFault.{ScriptFault}
 use Rattle.mon_run.specs.declared.runs.Run.{Run}
 use Rattle.mon_run.specs.declared.stop.Stop.{Stop}
 use Rattle.mon_run.specs.declared.stop.Stop.TheVariants as stop

@@ -7,14 +7,14 @@ use Rattle.std.specs.Result.{result_ok}
 use Rattle.std.specs.Str.{all_ascii_digits}
 use Rattle.std.specs.Str.Parse.{ParsesUnsigned, digits_value}
 use Rattle.mon_script.specs.Made.{made_pieces}
-use Rattle.mon_run.specs.Endings.{CutShort, Did, Progress}
-use Rattle.mon_run.specs.Plans.{Plan, Step, Write, made_plan, number_in, plan}
+use Rattle.mon_run.specs.Endings.{Did, Progress}
+use Rattle.mon_run.specs.Plans.{made_plan, number_in}
+use Rattle.mon_run.specs.Steps.{Step, Write}
 use Rattle.mon_run.specs.declared.stop.Stop.{Stop}
 use Rattle.mon_run.specs.declared.stop.Stop.TheVariants as stop
 use Rattle.mon_run.specs.within.Stops.{Counts, Done, Halts, WriteStops, WroteFront}
 use Rattle.mon_run.proofs.EndLemmas.{causes_earlier}
-use Rattle.mon_run.proofs.RunLemmas.{cut_at}
-use Rattle.mon_run.proofs.StepLemmas.{did_by, did_then, stops_behind}
+use Rattle.mon_run.proofs.StepLemmas.{did_by, did_then}
 
 -- ---- pieces
 

@@ -3,17 +3,16 @@ use Rattle.std.proofs.Common.{◌≡◌, ◌∙◌, ℕ, Bool, true, false, cond
 use Rattle.std.proofs.Common.{append_assoc, append-nil}
 use Rattle.std.specs.List.{flat_map}
 use Rattle.std.proofs.lemmas.Grind.{flat_map-append}
-use Rattle.mon_value.specs.declared.rows.Row.{Row}
-use Rattle.mon_run.specs.Endings.{CutShort, Did, Progress, Starved, end_in, read_in, row_in, text_of_step}
+use Rattle.mon_run.specs.Endings.{CutShort, Did, Progress, Starved, end_in, read_in, text_of_step}
 use Rattle.mon_run.specs.Folders.{Files}
 use Rattle.mon_run.specs.Sinks.{written_then}
-use Rattle.mon_run.specs.Plans.{Ask, Miss, Plan, Step, Write, ending, is_too_long, plan, plan_behind, read_plan}
+use Rattle.mon_run.specs.Steps.{Ask, Miss, Plan, Step, Write, ending, is_too_long, plan, plan_behind, read_plan}
 use Rattle.mon_run.specs.Texts.{too_long_text}
-use Rattle.mon_run.specs.declared.outcome.LineEnd.{LineEnd}
 use Rattle.mon_run.specs.declared.stop.Stop.{Stop}
 use Rattle.mon_run.specs.declared.stop.Stop.TheVariants as stop
 use Rattle.mon_run.proofs.SinkLemmas.{nothing_written, written_both}
 use Rattle.mon_run.specs.within.Stops.{Done, Stops, StopsAtRead, StopsBefore}
+use Rattle.run_traces.specs.declared.traces.LineTrace.{LineTrace}
 
 -- ---- steps behind steps
 
@@ -37,7 +36,6 @@ pub did_none : (p : Progress) → Did [] p p
 did_none p = record {
   files = refl;
   asked = sym (append-nil p.folder.asked);
-  rows = sym (append-nil p.rows);
   ends = sym (append-nil p.ends);
   wrote = nothing_written p.sink.written;
 }
@@ -47,7 +45,6 @@ pub did_then : {xs ys : List Step} {before mid after : Progress} → Did xs befo
 did_then {xs} {ys} {before} {mid} {after} first second = record {
   files = second.files ∙ first.files;
   asked = items_then read_in before.folder.asked mid.folder.asked after.folder.asked xs ys first.asked second.asked;
-  rows = items_then row_in before.rows mid.rows after.rows xs ys first.rows second.rows;
   ends = items_then end_in before.ends mid.ends after.ends xs ys first.ends second.ends;
   wrote = written_items before.sink.written mid.sink.written after.sink.written xs ys first.wrote second.wrote;
 }
@@ -64,16 +61,14 @@ did_front {xs} done step first second = did_by (sym (append_assoc xs done (step 
 -- ---- one step
 
 -- only a read was added
-pub read_alone : {step : Step} {before after : Progress} → flat_map row_in (step ∷ []) ≡ [] → flat_map end_in
-    (step ∷ []) ≡ [] → flat_map text_of_step (step ∷ []) ≡ [] →
-    after.folder.files ≡ before.folder.files → after.folder.asked ≡ before.folder.asked ++ flat_map read_in (step ∷ [])
-    → after.rows ≡ before.rows → after.ends ≡ before.ends → after.sink.written ≡ before.sink.written →
-    Did (step ∷ []) before after
-read_alone {step} {before} {after} row end text files asked rows ends written = record {
+pub read_alone : {step : Step} {before after : Progress} → flat_map end_in (step ∷ []) ≡ []
+    → flat_map text_of_step (step ∷ []) ≡ [] → after.folder.files ≡ before.folder.files
+    → after.folder.asked ≡ before.folder.asked ++ flat_map read_in (step ∷ [])
+    → after.ends ≡ before.ends → after.sink.written ≡ before.sink.written → Did (step ∷ []) before after
+read_alone {step} {before} {after} end text files asked ends written = record {
   files = files;
   asked = asked;
-  rows = rows ∙ sym (append-nil before.rows) ∙ ap (λ (more : List Row). before.rows ++ more) (sym row);
-  ends = ends ∙ sym (append-nil before.ends) ∙ ap (λ (more : List LineEnd). before.ends ++ more) (sym end);
+  ends = ends ∙ sym (append-nil before.ends) ∙ ap (λ (more : List LineTrace). before.ends ++ more) (sym end);
   wrote = written ∙ nothing_written before.sink.written ∙ ap (λ (more : List ℕ). written_then more before.sink.written)
       (sym text);
 }

@@ -2,62 +2,51 @@
 use Rattle.std.specs.Prelude.{◌≡◌, ◌<◌, ◌==◌, ◌||◌, ◌⊎◌, ℕ, Bool, true, false, List, [], ◌∷◌, ◌++◌, length, Option}
 use Rattle.std.specs.Prelude.{IfSome}
 use Rattle.std.specs.List.{flat_map}
-use Rattle.mon_value.specs.declared.rows.Row.{Row}
+use Rattle.mon_value.specs.declared.histories.Histories.{Histories}
 use Rattle.mon_run.specs.Faults.{Rose}
 use Rattle.mon_run.specs.Folders.{Files, FolderState, asking}
 use Rattle.mon_run.specs.Sinks.{SinkState, written_then}
-use Rattle.mon_run.specs.Plans.{Accept, Ask, End, IsRunWoven, Miss, Plan, Step, Write, plan, run_plan}
+use Rattle.mon_run.specs.Plans.{IsRunWoven, came, run_plan}
+use Rattle.mon_run.specs.Steps.{Ask, End, Miss, Plan, Step, Write, plan}
 use Rattle.mon_run.specs.Texts.{read_text}
-use Rattle.mon_run.specs.declared.outcome.LineEnd.{LineEnd}
 use Rattle.mon_run.specs.declared.outside.folder.Asked.{Asked}
+use Rattle.run_traces.specs.declared.traces.LineTrace.{LineTrace}
 use Rattle.weave_core.specs.Schedules.{Printed}
 
 -- ---- what was done
 
--- a run: its folder, its sink, the ends of its lines, and the rows that it accepted
+-- a run: its folder, its sink, and what the lines that ran came to
 pub record Progress : Type 0 where
   pub folder : FolderState
   pub sink : SinkState
-  pub ends : List LineEnd
-  pub rows : List Row
+  pub ends : List LineTrace
 
-abbrev pub progress : FolderState → SinkState → List LineEnd → List Row → Progress
-progress folder sink ends rows = record { folder = folder; sink = sink; ends = ends; rows = rows }
+abbrev pub progress : FolderState → SinkState → List LineTrace → Progress
+progress folder sink ends = record { folder = folder; sink = sink; ends = ends }
 
 abbrev pub read_in : Step → List Asked
 read_in (Ask name) = asking name false ∷ []
 read_in (Miss name) = asking name true ∷ []
-read_in (Accept row) = []
-read_in (End end) = []
+read_in (End trace) = []
 read_in (Write text) = []
 
-abbrev pub row_in : Step → List Row
-row_in (Ask name) = []
-row_in (Miss name) = []
-row_in (Accept row) = row ∷ []
-row_in (End end) = []
-row_in (Write text) = []
-
-abbrev pub end_in : Step → List LineEnd
+abbrev pub end_in : Step → List LineTrace
 end_in (Ask name) = []
 end_in (Miss name) = []
-end_in (Accept row) = []
-end_in (End end) = end ∷ []
+end_in (End trace) = trace ∷ []
 end_in (Write text) = []
 
 abbrev pub text_of_step : Step → List ℕ
 text_of_step (Ask name) = []
 text_of_step (Miss name) = []
-text_of_step (Accept row) = []
-text_of_step (End end) = []
+text_of_step (End trace) = []
 text_of_step (Write text) = text
 
--- the steps were done, and nothing else: just their files were read, their rows accepted, their lines ended and
--- their texts written, in their order
+-- the steps were done, and nothing else: just their files were read, their lines ended and their texts written, in
+-- their order
 pub record Did (steps : List Step) (before after : Progress) : Type 0 where
   pub files : after.folder.files ≡ before.folder.files
   pub asked : after.folder.asked ≡ before.folder.asked ++ flat_map read_in steps
-  pub rows : after.rows ≡ before.rows ++ flat_map row_in steps
   pub ends : after.ends ≡ before.ends ++ flat_map end_in steps
   pub wrote : after.sink.written ≡ written_then (flat_map text_of_step steps) before.sink.written
 
@@ -105,12 +94,14 @@ pub record Misses (p : Plan) (status : ℕ) (before after : Progress) : Type 0 w
 abbrev pub RunIs : Plan → ℕ → Progress → Progress → Type 0
 RunIs p status before after = Follows p status before after ⊎ Misses p status before after
 
--- A run of these words on these files is what their plan says. Where it came to the end of a schedule, `woven` is what
--- that printed; without it, the plan of a schedule ends for want of memory before anything is written.
-pub record Runs (files : Files) (words : List (List ℕ)) (status : ℕ) (before after : Progress) : Type 0 where
+-- A run of these words on these files is what their plan says, by what its lines came to and what its script's caller
+-- had seen at the end. Where it came to the end of a schedule, `woven` is what that printed; without it, the plan of a
+-- schedule ends for want of memory before anything is written.
+pub record Runs (files : Files) (words : List (List ℕ)) (status : ℕ) (ended : Option Histories)
+    (before after : Progress) : Type 0 where
   pub woven : Option Printed
   pub printed : IfSome woven (IsRunWoven words files)
-  pub is : RunIs (run_plan woven files words) status before after
+  pub is : RunIs (run_plan (came woven ended after.ends) files words) status before after
 
 -- ---- causes, over any folder and sink
 

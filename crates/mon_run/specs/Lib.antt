@@ -1,9 +1,10 @@
 pub mod Endings
 pub mod Faults
-pub mod Feeds
 pub mod Folders
 pub mod Plans
-pub mod Queries
+pub mod Scripts
 pub mod Sinks
+pub mod Steps
+pub mod Tellings
 pub mod Texts
 pub mod within

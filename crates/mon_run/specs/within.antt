@@ -1,3 +1,4 @@
 -- What only proofs read: the relations between the steps of a run.
+pub mod Blocks
+pub mod Lines
 pub mod Stops
-pub mod Takings

@@ -1,21 +1,22 @@
-//! The run of a command: a script of feeds and queries, or a schedule of writes and queries side by side.
+//! The run of a command: a script whose lines ask and feed a store that threads share, or a schedule of writes and
+//! queries side by side.
 #![tactic(auto)]
 
-mod accepted;
+mod blocks;
 mod command;
-mod feeds;
 mod outcome;
 mod outside;
-mod queries;
+mod parts;
 mod runs;
 mod schedules;
+mod scripts;
 mod stop;
 mod texts;
 mod words;
 
-pub use accepted::Accepted;
 pub use command::run;
-pub use outcome::{LineEnd, LineEnds, LineFault, Outcome, RowRefusal, RowRefusals, RowRefused};
+pub use mon_store::{Gate, HoldGate, OpenGate};
+pub use outcome::Outcome;
 pub use outside::{
     Asked, CalmFolder, Failed, FileFolder, Folder, FolderFault, MemoryFile, MemoryFiles,
     MemoryFolder, MemorySink, OutSink, Sink,

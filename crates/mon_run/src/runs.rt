@@ -1,57 +1,53 @@
 // A run: where it reads and writes, and what it has come to.
-ghost use Rattle.std.specs.Prelude.{◌≡◌, ◌≤◌, ◌∷◌, ◌||◌, [], false, length, map, IfErr, IfOk, None, OnErr, OnOk};
+ghost use Rattle.std.specs.Bool.{⊤};
+ghost use Rattle.std.specs.Prelude.{◌≡◌, ◌≤◌, ◌∷◌, ◌++◌, [], false, length, map, IfErr, IfOk, None, OnErr, OnOk};
 ghost use Rattle.std.specs.Prelude.{string_bytes};
-ghost use Rattle.std.specs.List.{AllByRecursion};
 ghost use Rattle.mon_config.specs.Numbers.{AreLawful};
 ghost use Rattle.mon_run.specs.Folders.{Told, content_of};
-ghost use Rattle.mon_script.specs.Lawful.{IsLawfulForm, IsLawfulLine};
-ghost use Rattle.mon_script.specs.Scripts.{script_in};
 ghost use Rattle.mon_run.specs.Endings.{Did};
 ghost use Rattle.mon_run.specs.Plans as plan;
-ghost use Rattle.mon_run.specs.Plans.{Ask, End, Write};
-ghost use Rattle.mon_config.specs.Configs.{IsLimited};
-ghost use Rattle.script_store.specs.Stores.{AreSound, accepted_rows};
-ghost use Rattle.mon_run.specs.within.Takings.{FileTaken, TakeStops};
+ghost use Rattle.mon_run.specs.Steps as step;
+ghost use Rattle.mon_run.specs.Steps.{Ask, End, Write};
+ghost use Rattle.mon_run.specs.Tellings.{CommandTells, RunTells};
+ghost use Rattle.mon_run.specs.within.Lines.{NamedTells, TextTells};
 ghost use Rattle.mon_run.specs.within.Stops.{Between, Closes, ConfigStops, Continues, Ends, HasConfig, HasRead};
-ghost use Rattle.mon_run.specs.within.Stops.{LineRuns, LineStops, PutStops, ReadStops, StopsBetween, Weaves};
-ghost use Rattle.mon_run.specs.within.Stops.{WriteStops, files_plan, named_plan, words_plan};
+ghost use Rattle.mon_run.specs.within.Stops.{ReadStops, StopsBetween, Weaves};
+ghost use Rattle.mon_run.specs.within.Stops.{WriteStops, files_plan, named_plan, noted, words_plan};
 ghost use Rattle.mon_run.specs.within.Stops.{is_silent as silent, status_of as code};
 ghost use Rattle.weave_core.specs.Schedules.{IsPrinted};
 
-use crate::feeds::{Fed, feed};
-use crate::outcome::{LineEnd, LineEnds};
 use crate::outside::{Folder, FolderFault, Sink, write_all};
-use crate::queries::reply_to;
 use crate::schedules::weave;
 use crate::stop::Stop;
-use crate::texts::{feed_text, own_text};
+use crate::texts::own_text;
 use crate::words::{Verb, command_in, made_number};
+use know::Ended;
 use mon_config::{Config, read_config};
-use mon_points::KeyCache;
-use mon_script::{LineForm, MadeInput, ScriptLine, read_script};
-use mon_value::{LONGEST_FILE, Text};
-use script_store::Store;
+use mon_script::MadeInput;
+use mon_store::Gate;
+use mon_value::{LONGEST_FILE, OutOfMemory, Text};
+use run_traces::LineTrace;
 use std::alloc::Global;
+use std::sync::Wait;
+use std::thread::Threads;
 
-/// What a run has come to: the rows that it accepted, as its leaves keep them, and the ends of its lines. Beside them
-/// it keeps the keys of the series that it read.
+/// What a run has come to: what the lines that ran came to, and what its script's caller had seen at the end, where a
+/// store was made.
 #[derive(Drop)]
 pub(crate) struct Log {
-    pub store: Store,
-    pub ends: LineEnds,
-    pub keys: KeyCache,
+    pub traces: Vec<LineTrace>,
+    pub ended: Option<Ended>,
 }
 
 impl Log {
     /// Nothing so far.
     pub fn new(alloc: Global) -> Log
-        ensures rows { accepted_rows result.store ≡ [] }
-        ensures ends { result.ends ≡ [] }
+        ensures traces { result.traces.items ≡ [] }
+        ensures ended { result.ended ≡ None }
     {
         Log {
-            store: Store::new(alloc),
-            ends: LineEnds::new(alloc),
-            keys: KeyCache::new(alloc),
+            traces: Vec::new(alloc),
+            ended: None,
         }
     }
 }
@@ -67,21 +63,29 @@ pub(crate) struct Run<'f, 'o, 'l, F: Folder, O: Sink> {
 
 impl<'f, 'o, 'l, F: Folder, O: Sink> Run<'f, 'o, 'l, F, O> {
     /// Runs the command that the words say, and says whether a line of a script was refused.
-    pub fn command(&mut self, words: &[String]) -> Result<bool, Stop>
-        requires fresh { accepted_rows self.old.log.now.store ≡ [] }
+    pub fn command<R: Threads + Wait + Sync, G: Gate + Sync>(
+        &mut self,
+        rt: &R,
+        gate: &G,
+        words: &[String],
+    ) -> Result<bool, Stop>
+        requires fresh { self.old.log.now.traces.items ≡ [] }
+        requires none_noted { self.old.log.now.ended ≡ None }
         ensures continues { Continues F.state O.state self.old self.new }
         ensures ended { Between F.state O.state (Weaves (words_plan (map string_bytes words.now))
-            (plan.IsRunWoven (map string_bytes words.now)) result) self.old self.new }
+            (plan.IsRunWoven (map string_bytes words.now)) (RunTells (map string_bytes words.now))
+            (noted self.new) result) self.old self.new }
     {
         match made_number(words) {
             Some(number) => self.made(number),
-            None => self.stored(words),
+            None => self.stored(rt, gate, words),
         }
     }
 
     // Writes the input of a number, piece by piece.
     fn made(&mut self, number: u64) -> Result<bool, Stop>
         ensures continues { Continues F.state O.state self.old self.new }
+        ensures left { self.new.log.now.ended ≡ self.old.log.now.ended }
         ensures ended { Between F.state O.state (Ends (λ files. plan.made_plan number) result) self.old self.new }
     {
         let mut input = MadeInput::new(number);
@@ -92,28 +96,44 @@ impl<'f, 'o, 'l, F: Folder, O: Sink> Run<'f, 'o, 'l, F, O> {
     }
 
     // Runs a command over stored files.
-    fn stored(&mut self, words: &[String]) -> Result<bool, Stop>
+    fn stored<R: Threads + Wait + Sync, G: Gate + Sync>(
+        &mut self,
+        rt: &R,
+        gate: &G,
+        words: &[String],
+    ) -> Result<bool, Stop>
         requires none { plan.made_number (map string_bytes words.now) ≡ None }
-        requires fresh { accepted_rows self.old.log.now.store ≡ [] }
+        requires fresh { self.old.log.now.traces.items ≡ [] }
+        requires none_noted { self.old.log.now.ended ≡ None }
         ensures continues { Continues F.state O.state self.old self.new }
         ensures ended { Between F.state O.state (Weaves (words_plan (map string_bytes words.now))
-            (plan.IsRunWoven (map string_bytes words.now)) result) self.old self.new }
+            (plan.IsRunWoven (map string_bytes words.now)) (RunTells (map string_bytes words.now))
+            (noted self.new) result) self.old self.new }
     {
         match command_in(words) {
-            Some((verb, config, file)) => self.files(verb, config, file),
+            Some((verb, config, file)) => self.files(rt, gate, verb, config, file),
             None => Err(Stop::Usage),
         }
     }
 
     // Runs a script or a schedule under a configuration, by the names of their files.
-    fn files(&mut self, verb: Verb, config: &str, file: &str) -> Result<bool, Stop>
-        requires fresh { accepted_rows self.old.log.now.store ≡ [] }
+    fn files<R: Threads + Wait + Sync, G: Gate + Sync>(
+        &mut self,
+        rt: &R,
+        gate: &G,
+        verb: Verb,
+        config: &str,
+        file: &str,
+    ) -> Result<bool, Stop>
+        requires fresh { self.old.log.now.traces.items ≡ [] }
+        requires none_noted { self.old.log.now.ended ≡ None }
         ensures continues { Continues F.state O.state self.old self.new }
         ensures ended { Between F.state O.state (Weaves (files_plan (plan.command verb config.now file.now))
-            (plan.IsWovenBy (plan.command verb config.now file.now)) result) self.old self.new }
+            (plan.IsWovenBy (plan.command verb config.now file.now))
+            (CommandTells (plan.command verb config.now file.now)) (noted self.new) result) self.old self.new }
     {
         let config = self.configuration(config)?;
-        self.file_under(verb, config, file)
+        self.file_under(rt, gate, verb, config, file)
     }
 
     // Reads a configuration by the name of its file.
@@ -132,15 +152,24 @@ impl<'f, 'o, 'l, F: Folder, O: Sink> Run<'f, 'o, 'l, F, O> {
     }
 
     // Runs a script or a schedule under a configuration, by the name of its file.
-    fn file_under(&mut self, verb: Verb, config: Config, name: &str) -> Result<bool, Stop>
+    fn file_under<R: Threads + Wait + Sync, G: Gate + Sync>(
+        &mut self,
+        rt: &R,
+        gate: &G,
+        verb: Verb,
+        config: Config,
+        name: &str,
+    ) -> Result<bool, Stop>
         requires lawful { AreLawful config.buckets config.limit config.range_points }
-        requires fresh { accepted_rows self.old.log.now.store ≡ [] }
+        requires fresh { self.old.log.now.traces.items ≡ [] }
+        requires none_noted { self.old.log.now.ended ≡ None }
         ensures continues { Continues F.state O.state self.old self.new }
         ensures ended { Between F.state O.state (Weaves (named_plan config verb name.now)
-            (λ files. IsPrinted config (content_of files name.now)) result) self.old self.new }
+            (λ files. IsPrinted config (content_of files name.now)) (NamedTells verb config name.now)
+            (noted self.new) result) self.old self.new }
     {
         match self.read(name) {
-            Ok(content) => self.text_under(verb, config, content.as_slice()),
+            Ok(content) => self.text_under(rt, gate, verb, config, content.as_slice()),
             Err(stop) => {
                 drop(config);
                 Err(stop)
@@ -149,20 +178,24 @@ impl<'f, 'o, 'l, F: Folder, O: Sink> Run<'f, 'o, 'l, F, O> {
     }
 
     // Runs a script or a schedule under a configuration.
-    fn text_under(&mut self, verb: Verb, config: Config, text: &[u8]) -> Result<bool, Stop>
-        requires short { length text.now ≤ LONGEST_FILE }
+    fn text_under<R: Threads + Wait + Sync, G: Gate + Sync>(
+        &mut self,
+        rt: &R,
+        gate: &G,
+        verb: Verb,
+        config: Config,
+        text: &[u8],
+    ) -> Result<bool, Stop>
         requires lawful { AreLawful config.buckets config.limit config.range_points }
-        requires fresh { accepted_rows self.old.log.now.store ≡ [] }
+        requires fresh { self.old.log.now.traces.items ≡ [] }
+        requires none_noted { self.old.log.now.ended ≡ None }
         ensures continues { Continues F.state O.state self.old self.new }
-        ensures ended { Between F.state O.state (Weaves (λ woven files. plan.file_plan woven config files verb text.now)
-            (λ files. IsPrinted config text.now) result) self.old self.new }
+        ensures ended { Between F.state O.state (Weaves (λ of files. plan.file_plan of config files verb text.now)
+            (λ files. IsPrinted config text.now) (TextTells verb config text.now)
+            (noted self.new) result) self.old self.new }
     {
         match verb {
-            Verb::Run => {
-                let ended = self.script(&config, text);
-                drop(config);
-                ended
-            }
+            Verb::Run => self.script(rt, gate, config, text),
             Verb::Weave => self.schedule(config, text),
         }
     }
@@ -170,9 +203,12 @@ impl<'f, 'o, 'l, F: Folder, O: Sink> Run<'f, 'o, 'l, F, O> {
     // Runs a schedule under a configuration. Its text is written as one.
     fn schedule(&mut self, config: Config, text: &[u8]) -> Result<bool, Stop>
         requires lawful { AreLawful config.buckets config.limit config.range_points }
+        requires none_noted { self.old.log.now.ended ≡ None }
         ensures continues { Continues F.state O.state self.old self.new }
-        ensures ended { Between F.state O.state (Weaves (λ woven files. plan.schedule_plan woven)
-            (λ files. IsPrinted config text.now) result) self.old self.new }
+        ensures left { self.new.log.now.ended ≡ self.old.log.now.ended }
+        ensures ended { Between F.state O.state (Weaves (λ of files. plan.schedule_plan of.woven)
+            (λ files. IsPrinted config text.now) (λ early files histories traces. ⊤)
+            (noted self.new) result) self.old self.new }
     {
         let woven = weave(self.alloc, config, text)?;
         self.write(woven.text.as_bytes())?;
@@ -182,139 +218,20 @@ impl<'f, 'o, 'l, F: Folder, O: Sink> Run<'f, 'o, 'l, F, O> {
         }
     }
 
-    // Runs a script under a configuration.
-    fn script(&mut self, config: &Config, text: &[u8]) -> Result<bool, Stop>
-        requires short { length text.now ≤ LONGEST_FILE }
-        requires limited { IsLimited config.now }
-        requires fresh { accepted_rows self.old.log.now.store ≡ [] }
+    // Notes what a line came to.
+    pub(crate) fn end(&mut self, trace: LineTrace) -> Result<(), Stop>
         ensures continues { Continues F.state O.state self.old self.new }
-        ensures ended { Between F.state O.state
-            (Ends (λ files. plan.script_plan config.now files (script_in text.now)) result) self.old self.new }
-    {
-        let script = read_script(self.alloc, text)?;
-        let store = Store::open(self.alloc, config)?;
-        self.log.store = store;
-        self.lines(config, script.as_slice())
-    }
-
-    // Runs the lines of a script, and says whether one was refused.
-    fn lines(&mut self, config: &Config, lines: &[ScriptLine]) -> Result<bool, Stop>
-        requires lawful { AllByRecursion IsLawfulLine lines.now }
-        requires sound { AreSound config.now self.old.log.now.store }
-        ensures continues { Continues F.state O.state self.old self.new }
-        ensures ended { Between F.state O.state (Ends (λ files. plan.lines_plan config.now files false
-            (accepted_rows self.old.log.now.store) lines.now) result) self.old self.new }
-    {
-        let mut refused = false;
-        for line in lines {
-            refused = is_either(self.line(config, &line.what)?, refused);
-        }
-        Ok(refused)
-    }
-
-    // Runs a line, and says whether it was refused.
-    fn line(&mut self, config: &Config, form: &LineForm) -> Result<bool, Stop>
-        requires lawful { IsLawfulForm form.now }
-        requires sound { AreSound config.now self.old.log.now.store }
-        ensures continues { Continues F.state O.state self.old self.new }
-        ensures refused { IfOk result (λ refused. refused
-            ≡ plan.is_refused config.now (accepted_rows self.old.log.now.store) form.now) }
-        ensures ran { OnOk result (Between F.state O.state (LineRuns config.now form.now) self.old self.new) }
-        ensures stops { IfErr result (StopsBetween F.state O.state (LineStops config.now form.now) self.old self.new) }
-        ensures sound { OnOk result (AreSound config.now self.new.log.now.store) }
-    {
-        match form {
-            LineForm::Feed(name) => {
-                self.feed(config, name)?;
-                Ok(false)
-            }
-            LineForm::Query(moment, text) => self.query(config, *moment, text),
-        }
-    }
-
-    // Runs a feed.
-    fn feed(&mut self, config: &Config, name: &Text) -> Result<(), Stop>
-        requires sound { AreSound config.now self.old.log.now.store }
-        ensures continues { Continues F.state O.state self.old self.new }
-        ensures ran { OnOk result (Between F.state O.state
-            (LineRuns config.now (LineForm.Feed name.now)) self.old self.new) }
-        ensures stops { IfErr result (StopsBetween F.state O.state
-            (LineStops config.now (LineForm.Feed name.now)) self.old self.new) }
-        ensures sound { OnOk result (AreSound config.now self.new.log.now.store) }
-    {
-        let fed = self.take(config, name)?;
-        let text = feed_text(self.alloc, name.as_str(), fed.accepted, &fed.refused)?;
-        let end = LineEnd::Fed {
-            accepted: fed.accepted,
-            refused: fed.refused,
-        };
-        self.put(end, text.as_bytes())
-    }
-
-    // Takes the records of a file.
-    fn take(&mut self, config: &Config, name: &Text) -> Result<Fed, Stop>
-        requires sound { AreSound config.now self.old.log.now.store }
-        ensures continues { Continues F.state O.state self.old self.new }
-        ensures took { IfOk result (λ fed. Between F.state O.state
-            (FileTaken config.now name.now fed) self.old self.new) }
-        ensures stops { IfErr result (StopsBetween F.state O.state (TakeStops config.now name.now) self.old self.new) }
-        ensures sound { OnOk result (AreSound config.now self.new.log.now.store) }
-    {
-        let content = self.read(name.as_str())?;
-        let log = &mut *self.log;
-        Ok(feed(
-            self.alloc,
-            config,
-            &mut log.store,
-            &mut log.keys,
-            content.as_slice(),
-        )?)
-    }
-
-    // Runs a query, and says whether it was refused.
-    fn query(&mut self, config: &Config, moment: i64, text: &Text) -> Result<bool, Stop>
-        requires lawful { IsLawfulForm (LineForm.Query moment text.now) }
-        requires sound { AreSound config.now self.old.log.now.store }
-        ensures continues { Continues F.state O.state self.old self.new }
-        ensures refused { IfOk result (λ refused. refused
-            ≡ plan.is_refused config.now (accepted_rows self.old.log.now.store) (LineForm.Query moment text.now)) }
-        ensures ran { OnOk result (Between F.state O.state
-            (LineRuns config.now (LineForm.Query moment text.now)) self.old self.new) }
-        ensures stops { IfErr result (StopsBetween F.state O.state
-            (LineStops config.now (LineForm.Query moment text.now)) self.old self.new) }
-        ensures sound { OnOk result (AreSound config.now self.new.log.now.store) }
-    {
-        let reply = reply_to(self.alloc, config, &self.log.store, moment, text)?;
-        let refused = reply.is_refused();
-        self.put(reply.end, reply.text.as_bytes())?;
-        Ok(refused)
-    }
-
-    // Notes how a line ended, and writes its text.
-    fn put(&mut self, end: LineEnd, text: &[u8]) -> Result<(), Stop>
-        ensures continues { Continues F.state O.state self.old self.new }
-        ensures store { self.new.log.now.store ≡ self.old.log.now.store }
-        ensures put { OnOk result (Between F.state O.state (Did (End end ∷ Write text.now ∷ [])) self.old self.new) }
-        ensures stops { IfErr result (StopsBetween F.state O.state (PutStops end text.now) self.old self.new) }
-    {
-        self.end(end)?;
-        self.write(text)
-    }
-
-    // Notes how a line ended.
-    fn end(&mut self, end: LineEnd) -> Result<(), Stop>
-        ensures continues { Continues F.state O.state self.old self.new }
-        ensures store { self.new.log.now.store ≡ self.old.log.now.store }
-        ensures ended { OnOk result (Between F.state O.state (Did (End end ∷ [])) self.old self.new) }
+        ensures left { self.new.log.now.ended ≡ self.old.log.now.ended }
+        ensures ended { OnOk result (Between F.state O.state (Did (End trace ∷ [])) self.old self.new) }
         ensures kept { OnErr result (Between F.state O.state (Did []) self.old self.new) }
         ensures stops { IfErr result (λ stop. stop ≡ Stop.OutOfMemory) }
     {
-        self.log.ends.push(end)?;
+        push_trace(&mut self.log.traces, trace)?;
         Ok(())
     }
 
     // Reads a file of the run.
-    fn read(&mut self, name: &str) -> Result<Vec<u8>, Stop>
+    pub(crate) fn read(&mut self, name: &str) -> Result<Vec<u8>, Stop>
         ensures continues { Continues F.state O.state self.old self.new }
         ensures log { self.new.log.now ≡ self.old.log.now }
         ensures bounded { IfOk result (λ content. length content.items ≤ LONGEST_FILE) }
@@ -333,7 +250,7 @@ impl<'f, 'o, 'l, F: Folder, O: Sink> Run<'f, 'o, 'l, F, O> {
     }
 
     // Writes a text of the run.
-    fn write(&mut self, text: &[u8]) -> Result<(), Stop>
+    pub(crate) fn write(&mut self, text: &[u8]) -> Result<(), Stop>
         ensures continues { Continues F.state O.state self.old self.new }
         ensures folder { F.state self.new.folder.now ≡ F.state self.old.folder.now }
         ensures log { self.new.log.now ≡ self.old.log.now }
@@ -351,6 +268,7 @@ impl<'f, 'o, 'l, F: Folder, O: Sink> Run<'f, 'o, 'l, F, O> {
     fn say(&mut self, stop: &Stop) -> u8
         ensures continues { Continues F.state O.state self.old self.new }
         ensures folder { F.state self.new.folder.now ≡ F.state self.old.folder.now }
+        ensures log { self.new.log.now ≡ self.old.log.now }
         ensures closes { Between F.state O.state (Closes (Err stop.now) result) self.old self.new }
     {
         if is_silent(stop) {
@@ -369,6 +287,7 @@ impl<'f, 'o, 'l, F: Folder, O: Sink> Run<'f, 'o, 'l, F, O> {
     pub fn close(&mut self, ended: Result<bool, Stop>) -> u8
         ensures continues { Continues F.state O.state self.old self.new }
         ensures folder { F.state self.new.folder.now ≡ F.state self.old.folder.now }
+        ensures log { self.new.log.now ≡ self.old.log.now }
         ensures closes { Between F.state O.state (Closes ended result) self.old self.new }
     {
         match ended {
@@ -378,16 +297,18 @@ impl<'f, 'o, 'l, F: Folder, O: Sink> Run<'f, 'o, 'l, F, O> {
     }
 }
 
-// Whether one of the two was refused.
-fn is_either(first: bool, second: bool) -> bool
-    ensures either { result ≡ (first || second) }
+// What a line came to, behind the others.
+fn push_trace(traces: &mut Vec<LineTrace>, trace: LineTrace) -> Result<(), OutOfMemory>
+    ensures added { OnOk result (traces.new.items ≡ traces.old.items ++ trace ∷ []) }
+    ensures kept { OnErr result (traces.new.items ≡ traces.old.items) }
 {
-    first || second
+    traces.push(trace)?;
+    Ok(())
 }
 
 // The status of a run whose lines all ran.
 fn end_status(refused: bool) -> u8
-    ensures status { result ≡ plan.end_status refused }
+    ensures status { result ≡ step.end_status refused }
 {
     if refused { 7 } else { 0 }
 }

@@ -1,7 +1,7 @@
 //! The program `mon`: runs the command that its words say over real files and the standard output.
 #![tactic(auto)]
 
-use mon_run::{FileFolder, OutSink, run};
+use mon_run::{FileFolder, OpenGate, OutSink, run};
 use std::io::ErrorKind;
 use std::process::ExitCode;
 use std::{env, io};
@@ -21,7 +21,15 @@ fn main(rt: HostRuntime) -> ExitCode {
     };
     let mut folder = FileFolder::new(alloc, &rt);
     let mut output = OutSink::new(&rt);
-    let outcome = run(alloc, words.as_slice(), &mut folder, &mut output);
+    let gate = OpenGate;
+    let outcome = run(
+        &rt,
+        alloc,
+        words.as_slice(),
+        &mut folder,
+        &mut output,
+        &gate,
+    );
     ExitCode::from(outcome.status)
 }
 

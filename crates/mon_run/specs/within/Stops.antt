@@ -1,29 +1,28 @@
 -- How a part of a run leaves it: it did its steps, or it stopped.
-use Rattle.std.specs.Prelude.{◌≡◌, ◌≤◌, ◌<◌, ◌⊎◌, ℕ, Bool, true, false, List, [], ◌∷◌, ◌++◌, length, Option, Some, None}
-use Rattle.std.specs.Prelude.{IfSome, Result, Ok, Err, IfOk, IfErr}
+use Rattle.std.specs.Prelude.{◌≡◌, ◌≤◌, ◌<◌, ◌⊎◌, ℕ, Bool, true, false, List, [], ◌∷◌, ◌++◌, length, Option, IfSome}
+use Rattle.std.specs.Prelude.{Some, Result, Ok, Err, IfOk, IfErr}
 use Rattle.std.specs.Bool.{⊤}
+use Rattle.mon_value.specs.declared.histories.Histories.{Histories}
 use Rattle.mon_value.specs.declared.refusals.Refusal.{Refusal}
 use Rattle.mon_value.specs.declared.refusals.Refusal.TheVariants as refusal
-use Rattle.mon_value.specs.declared.rows.Row.{Row}
 use Rattle.mon_config.specs.Configs.{config_in}
 use Rattle.mon_config.specs.declared.config.Config.{Config}
 use Rattle.mon_config.specs.declared.faults.ConfigFault.{ConfigFault}
-use Rattle.mon_script.specs.declared.script.LineForm.{LineForm}
-use Rattle.mon_script.specs.declared.script.ScriptFault.{ScriptFault}
+use Rattle.mon_script.specs.declared.faults.ScriptFault.{ScriptFault}
 use Rattle.mon_run.specs.Endings.{CutShort, Did, LastFailed, Progress, Starved, progress}
 use Rattle.mon_run.specs.Faults.{Rose}
 use Rattle.mon_run.specs.Folders.{Files, FolderState, Told, content_of}
 use Rattle.mon_run.specs.Sinks.{SinkState}
-use Rattle.mon_run.specs.Plans.{Ask, Command, End, Miss, Plan, Step, Write, command, command_plan, end_status, ending}
-use Rattle.mon_run.specs.Plans.{file_plan, is_too_long, line_plan, line_rows, plan_behind, read_plan, run_plan}
+use Rattle.mon_run.specs.Plans.{Came, Command, came, command, command_plan, file_plan, run_plan}
+use Rattle.mon_run.specs.Steps.{Ask, Miss, Plan, Step, Write, end_status, ending, is_too_long, plan_behind, read_plan}
+use Rattle.mon_run.specs.Tellings.{seen_by}
 use Rattle.mon_run.specs.Texts.{config_text, read_text, schedule_text, script_text, too_long_text, usage_text}
-use Rattle.mon_run.specs.declared.outcome.LineEnd.{LineEnd}
-use Rattle.script_store.specs.Stores.{accepted_rows}
 use Rattle.mon_run.specs.declared.runs.Run.{Run}
 use Rattle.mon_run.specs.declared.schedules.Woven.{Woven}
 use Rattle.mon_run.specs.declared.stop.Stop.{Stop}
 use Rattle.mon_run.specs.declared.stop.Stop.TheVariants as stop
 use Rattle.mon_run.specs.declared.words.Verb.{Verb}
+use Rattle.run_traces.specs.declared.traces.LineTrace.{LineTrace}
 use Rattle.weave_core.specs.Schedules.{Printed}
 
 -- ---- runs
@@ -33,10 +32,14 @@ pub record Counts (before after : Progress) : Type 0 where
   pub reads : before.folder.faults ≤ after.folder.faults
   pub writes : before.sink.faults ≤ after.sink.faults
 
+-- what the script's caller had seen at its end, once that was noted
+abbrev pub noted : {F O : Type 0} → Run F O → Option Histories
+noted run = seen_by run.log.now.ended
+
 module _ {F O : Type 0} (folder : F → FolderState) (sink : O → SinkState) where
   -- what a run has come to
   abbrev pub seen : Run F O → Progress
-  seen run = progress (folder run.folder.now) (sink run.out.now) run.log.now.ends (accepted_rows run.log.now.store)
+  seen run = progress (folder run.folder.now) (sink run.out.now) run.log.now.traces.items
 
   -- what holds of all that a run had come to before and has come to after, and where it stops
   abbrev pub Between : (Progress → Progress → Type 0) → Run F O → Run F O → Type 0
@@ -154,23 +157,11 @@ pub record PartStops (part : Files → Plan → Plan) (stopped : Stop) (before a
 abbrev pub ReadStops : List ℕ → Stop → Progress → Progress → Type 0
 ReadStops name stopped before after = PartStops (λ files. read_plan files name) stopped before after
 
--- a part of a plan was done, before any rest, and these rows were accepted
-pub record Ran (part : Plan → Plan) (rows : List Row) (before after : Progress) : Type 0 where
+-- a part of a plan was done, before any rest
+pub record Ran (part : Plan → Plan) (before after : Progress) : Type 0 where
   pub steps : List Step
   pub same : (rest : Plan) → part rest ≡ plan_behind steps rest
   pub did : Did steps before after
-  pub accepted : after.rows ≡ before.rows ++ rows
-
--- a line was done
-abbrev pub LineRuns : Config → LineForm → Progress → Progress → Type 0
-LineRuns config form before after =
-    Told before.folder (λ files. Ran (line_plan config files before.rows form)
-    (line_rows config files before.rows form) before after)
-
--- a line stops
-abbrev pub LineStops : Config → LineForm → Stop → Progress → Progress → Type 0
-LineStops config form stopped before after =
-    PartStops (λ files. line_plan config files before.rows form) stopped before after
 
 -- all of a plan was done, and its status says whether a line was refused
 pub record Done (plan : Plan) (refused : Bool) (before after : Progress) : Type 0 where
@@ -191,37 +182,38 @@ pub record Ends (plan : Files → Plan) (ended : Result Bool Stop) (before after
   pub completes : IfOk ended (λ refused. Completes plan refused before after)
   pub halts : IfErr ended (λ stopped. Halts plan stopped before after)
 
--- the same, where a schedule printed something that it may
-pub record Weaves (plan : Option Printed → Files → Plan) (may : Files → Printed → Type 0) (ended : Result Bool Stop)
-    (before after : Progress) : Type 0 where
+-- what the lines of a script tell of what its caller had seen at the end, or early
+abbrev pub Tells : Type 1
+Tells = Type 0 → Files → Histories → List LineTrace → Type 0
+
+-- The same, where a schedule printed something that it may, and lines over a store tell what they should
+pub record Weaves (plan : Came → Files → Plan) (may : Files → Printed → Type 0) (tells : Tells)
+    (known : Option Histories) (ended : Result Bool Stop) (before after : Progress) : Type 0 where
   pub woven : Option Printed
   pub printed : Told before.folder (λ files. IfSome woven (may files))
-  pub ends : Ends (plan woven) ended before after
+  pub told : Told before.folder (λ files. IfSome known
+      (λ histories. tells (ended ≡ Err stop.OutOfMemory) files histories after.ends))
+  pub ends : Ends (plan (came woven known after.ends)) ended before after
 
 -- what a schedule printed, and the first of its lines that is refused
 abbrev pub printed_by : Woven → Printed
 printed_by woven = record { text = woven.text; fault = woven.fault }
 
-abbrev pub files_plan : Command → Option Printed → Files → Plan
-files_plan what woven files = command_plan woven files (Some what)
+abbrev pub files_plan : Command → Came → Files → Plan
+files_plan what of files = command_plan of files (Some what)
 
 -- the configuration of a command stops it, whatever it does with which second file
 abbrev pub ConfigStops : List ℕ → Stop → Progress → Progress → Type 0
 ConfigStops name stopped before after =
-    (verb : Verb) (file : List ℕ) → Halts (files_plan (command verb name file) None) stopped before after
+    (verb : Verb) (file : List ℕ) (of : Came) → Halts (files_plan (command verb name file) of) stopped before after
 
 -- the second file of a command, under a configuration
-abbrev pub named_plan : Config → Verb → List ℕ → Option Printed → Files → Plan
-named_plan config verb name woven files =
-    read_plan files name (file_plan woven config files verb (content_of files name))
+abbrev pub named_plan : Config → Verb → List ℕ → Came → Files → Plan
+named_plan config verb name of files =
+    read_plan files name (file_plan of config files verb (content_of files name))
 
-abbrev pub words_plan : List (List ℕ) → Option Printed → Files → Plan
-words_plan words woven files = run_plan woven files words
-
--- a line's end was noted and its text written, or the run stopped at it, before any rest
-abbrev pub PutStops : LineEnd → List ℕ → Stop → Progress → Progress → Type 0
-PutStops end text stopped before after =
-    PartStops (λ files. plan_behind (End end ∷ Write text ∷ [])) stopped before after
+abbrev pub words_plan : List (List ℕ) → Came → Files → Plan
+words_plan words of files = run_plan of files words
 
 -- a text was taken in part: a front, and not all
 pub record WroteFront (text : List ℕ) (before after : Progress) : Type 0 where

@@ -13,7 +13,7 @@ returns-in_err-text-clause-stops g c =
     let before : Progress = seen g.F.Folder.state g.O.Sink.state c.args.self.now in
     let after : Progress = seen g.F.Folder.state g.O.Sink.state c.read.new.self in
     let fact : ConfigStops c.args.name.now c.in_err-text.field-0.0 before after =
-    λ verb file. record {
+    λ verb file of. record {
       told = λ files told. c.in_err-text.ensures.stops.told files told _;
       causes =
           c.in_err-text.ensures.stops.causes;
@@ -27,11 +27,11 @@ returns-in_err-config-clause-stops g c =
     let after : Progress = seen g.F.Folder.state g.O.Sink.state c.read.new.self in
     let name : List ℕ = c.args.name.now in
     let fact : ConfigStops name (config_stop c.in_err-config.field-0.0) before after =
-    λ verb file.
+    λ verb file of.
     let what : Command = command verb name file in
     record {
       told = λ files told.
-          files_refused what c.in_err-config.field-0.0 (subst (λ text. HasRead files name text)
+          files_refused of what c.in_err-config.field-0.0 (subst (λ text. HasRead files name text)
           (sym c.as_slice.ensures.value) (c.in_ok-text.ensures.content files told)) c.in_err-config.ensures.exact
           c.in_ok-text.ensures.asked;
       causes = refused_config c.in_err-config.field-0.0 before after;

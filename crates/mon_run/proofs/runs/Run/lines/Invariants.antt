@@ -1,19 +1,24 @@
--- the plan of the script is that of the lines that ran, and then that of the lines that are left
-use Rattle.std.proofs.Common.{drop}
+-- the lines in front of those that are left ran
+use Rattle.std.proofs.Common.{None, length}
 use Rattle.std.specs.List.{AllByRecursion}
+use Rattle.history_book.specs.Seats.{HasEveryNumber}
+use Rattle.mon_script.specs.Blocks.{AreInBlocks}
 use Rattle.mon_script.specs.Lawful.{IsLawfulLine}
-use Rattle.mon_run.specs.Folders.{Told}
-use Rattle.script_store.specs.Stores.{AreSound}
+use Rattle.mon_run.specs.within.Lines.{LinesRanTo}
 use Rattle.mon_run.specs.within.Stops.{Continues, seen}
-use Rattle.mon_run.proofs.RunLemmas.{Reached}
 use Rattle.mon_run.proofs.runs.Run.lines.Given as goal
+use Rattle.part_runs.specs.PartsDone.{CanSplit}
 
 abbrev pub invariant-loop-line : goal.invariant-loop-line
 invariant-loop-line g l = record {
   continues : Continues g.F.Folder.state g.O.Sink.state l.fn.self l.self;
-  lawful : AllByRecursion IsLawfulLine (drop l.line-index l.lines);
-  sound : AreSound l.config l.self.log.now.store;
-  reached : Told (g.F.Folder.state l.fn.self.folder.now) (λ files. Reached l.config files l.lines
-      (drop l.line-index l.lines) l.refused
-      (seen g.F.Folder.state g.O.Sink.state l.fn.self) (seen g.F.Folder.state g.O.Sink.state l.self));
+  lawful : AllByRecursion IsLawfulLine l.left;
+  blocks : AreInBlocks None l.left;
+  every : HasEveryNumber l.p.purse;
+  stock : CanSplit (length l.left) l.p;
+  ran : LinesRanTo l.store l.lines l.left l.fn.p.seen l.p.seen
+      (seen g.F.Folder.state g.O.Sink.state l.fn.self) (seen g.F.Folder.state g.O.Sink.state l.self);
 }
+
+abbrev pub decreases-loop-line : goal.decreases-loop-line
+decreases-loop-line g l = length l.left

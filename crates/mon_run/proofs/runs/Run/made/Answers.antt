@@ -1,4 +1,4 @@
-use Rattle.std.proofs.Common.{rules, ◌≡◌, ◌∷◌, [], List, ℕ, suc, length, ap, sym, arith}
+use Rattle.std.proofs.Common.{rules, ◌≡◌, ◌∙◌, ◌∷◌, refl, [], List, ℕ, suc, length, ap, sym, arith}
 use Rattle.std.proofs.lemmas.Result.{err_from_is_err_and}
 use Rattle.mon_run.specs.Endings.{Progress}
 use Rattle.mon_run.specs.Plans.{made_plan}
@@ -13,6 +13,7 @@ use Rattle.mon_run.proofs.runs.Run.made.Goals as goal
 pub loop-piece-init : goal.loop-piece-init
 loop-piece-init g c = record {
   continues = search rules;
+  left = refl;
   written = record {
     steps = [];
     split = ap writes (sym c.new-input.ensures.whole);
@@ -26,6 +27,7 @@ loop-piece-preserved g c =
     rw c.in-Some.is at c.in_ok-piece.ensures.piece in
     record {
       continues = continues_then c.loop-piece.invariant.continues c.in_ok-write.ensures.continues;
+      left = ap (λ log. log.ended) c.in_ok-write.ensures.log ∙ c.loop-piece.invariant.left;
       written = written_more c.in-Some.piece c.as_bytes.result.now c.next.new.self c.loop-piece.invariant.written cut
           c.as_bytes.ensures.bytes c.in_ok-write.ensures.wrote;
     }

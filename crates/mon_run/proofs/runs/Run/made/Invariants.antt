@@ -1,5 +1,5 @@
 -- a front of the pieces was written, and those are left that the input still has
-use Rattle.std.proofs.Common.{length}
+use Rattle.std.proofs.Common.{◌≡◌, length}
 use Rattle.mon_run.specs.within.Stops.{Continues, seen}
 use Rattle.mon_run.proofs.MadeLemmas.{Written}
 use Rattle.mon_run.proofs.runs.Run.made.Given as goal
@@ -7,6 +7,7 @@ use Rattle.mon_run.proofs.runs.Run.made.Given as goal
 abbrev pub invariant-loop-piece : goal.invariant-loop-piece
 invariant-loop-piece g l = record {
   continues : Continues g.F.Folder.state g.O.Sink.state l.fn.self l.self;
+  left : l.self.log.now.ended ≡ l.fn.self.log.now.ended;
   written : Written l.number l.input
       (seen g.F.Folder.state g.O.Sink.state l.fn.self) (seen g.F.Folder.state g.O.Sink.state l.self);
 }

@@ -1,6 +1,6 @@
 use Rattle.std.proofs.Common.{◌≡◌, ◌∙◌, ◌∷◌, [], List, ℕ, false, inl, sym, subst}
 use Rattle.mon_run.specs.Endings.{Did, Progress}
-use Rattle.mon_run.specs.Plans.{Write}
+use Rattle.mon_run.specs.Steps.{Write}
 use Rattle.mon_run.specs.within.Stops.{is_silent, own_text, seen}
 use Rattle.mon_run.proofs.EndLemmas.{closes_says}
 use Rattle.mon_run.proofs.runs.Run.say.Goals as goal

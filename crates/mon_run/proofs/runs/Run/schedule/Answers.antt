@@ -1,11 +1,13 @@
-use Rattle.std.proofs.Common.{[], Some, None, refl}
+use Rattle.std.proofs.Common.{◌∙◌, [], Some, None, ap, refl}
+use Rattle.std.specs.Bool.{⊤}
 use Rattle.mon_run.specs.Endings.{Progress}
 use Rattle.mon_run.specs.Plans.{schedule_plan}
 use Rattle.mon_run.specs.declared.stop.Stop.TheVariants as stop
-use Rattle.mon_run.specs.within.Stops.{Halts, printed_by, seen}
+use Rattle.mon_run.specs.within.Stops.{Halts, noted, printed_by, seen}
 use Rattle.weave_core.specs.Schedules.{IsPrinted, Printed}
 use Rattle.std.proofs.lemmas.Result.{err_from_is_err_and}
-use Rattle.mon_run.proofs.RunLemmas.{ends_stopped, schedule_cut, schedule_done, schedule_refused, weaves_stopped}
+use Rattle.mon_run.proofs.RunLemmas.{ends_stopped, none_noted, none_told, schedule_cut, schedule_done, schedule_refused}
+use Rattle.mon_run.proofs.RunLemmas.{weaves_stopped}
 use Rattle.mon_run.proofs.StepLemmas.{did_none}
 use Rattle.mon_run.proofs.runs.Run.schedule.Goals as goal
 
@@ -16,8 +18,10 @@ returns-in_err-woven-clause-ended g c =
       told = λ files told. record { done = []; left = []; split = refl; did = did_none before };
       causes = tt;
     } in
-    weaves_stopped (λ woven files. schedule_plan woven) (λ files. IsPrinted c.args.config c.args.text.now)
-    c.from_residual.result stop.OutOfMemory (err_from_is_err_and c.from_residual.result c.from_residual.ensures.1)
+    weaves_stopped (λ of files. schedule_plan of.woven) (λ files. IsPrinted c.args.config c.args.text.now)
+    (λ early files histories traces. ⊤) (noted c.args.self.now) c.from_residual.result stop.OutOfMemory before
+    (none_noted c.args.self.now c.requires.none_noted)
+    (err_from_is_err_and c.from_residual.result c.from_residual.ensures.1)
     fact
 
 pub returns-in_err-write-clause-ended : goal.returns-in_err-write-clause-ended
@@ -26,6 +30,8 @@ returns-in_err-write-clause-ended g c =
     record {
       woven = Some woven;
       printed = λ files told. c.in_ok-woven.ensures.printed;
+      told = λ files told. none_told (noted c.write.new.self) (λ histories. ⊤) (none_noted c.write.new.self
+          (ap (λ log. log.ended) c.write.ensures.log ∙ c.requires.none_noted));
       ends = ends_stopped (λ files. schedule_plan (Some woven)) c.from_residual-in_err-write.result
           c.in_err-write.field-0.0 (err_from_is_err_and c.from_residual-in_err-write.result
           c.from_residual-in_err-write.ensures.1)
@@ -39,6 +45,8 @@ returns-in-Some-clause-ended g c =
     record {
       woven = Some woven;
       printed = λ files told. c.in_ok-woven.ensures.printed;
+      told = λ files told. none_told (noted c.write.new.self) (λ histories. ⊤) (none_noted c.write.new.self
+          (ap (λ log. log.ended) c.write.ensures.log ∙ c.requires.none_noted));
       ends = record {
         completes = tt;
         halts = schedule_refused woven c.as_bytes.result.now c.in-Some.fault
@@ -52,6 +60,8 @@ returns-clause-ended g c =
     record {
       woven = Some woven;
       printed = λ files told. c.in_ok-woven.ensures.printed;
+      told = λ files told. none_told (noted c.write.new.self) (λ histories. ⊤) (none_noted c.write.new.self
+          (ap (λ log. log.ended) c.write.ensures.log ∙ c.requires.none_noted));
       ends = record {
         completes = schedule_done woven c.as_bytes.result.now c.as_bytes.ensures.bytes c.in-None.is
             c.in_ok-write.ensures.wrote;

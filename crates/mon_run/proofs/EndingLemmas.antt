@@ -1,0 +1,293 @@
+-- How the lines of a script end over a store, and what they then tell.
+use Rattle.std.proofs.Common.{◌≡◌, ◌∙◌, ◌⊎◌, ◌||◌, inl, inr, ℕ, Bool, true, false, cond}
+use Rattle.std.proofs.Common.{Option, Some, None, IfSome, List, [], ◌∷◌, ◌++◌, length, Result, Ok, Err}
+use Rattle.std.proofs.Common.{refl, sym, ap, subst, append-nil, arith}
+use Rattle.std.proofs.lemmas.List.{length-map}
+use Rattle.std.proofs.lemmas.List.FromFn.{length-range_with_len}
+use Rattle.std.specs.List.{list_any, range_with_len}
+use Rattle.history_book.specs.Histories.{AreFronts}
+use Rattle.mon_config.specs.declared.config.Config.{Config}
+use Rattle.mon_script.specs.Scripts.{script_in}
+use Rattle.mon_script.specs.declared.faults.ScriptFault.{ScriptFault}
+use Rattle.mon_script.specs.declared.script.ScriptLine.{ScriptLine}
+use Rattle.mon_topo.specs.FirstHistories.{first_histories, first_leaf_history, first_range_history}
+use Rattle.mon_topo.specs.Zones.{leaves_in, ranges_in}
+use Rattle.mon_topo.specs.declared.zones.ZoneSpec.{ZoneSpec}
+use Rattle.mon_value.specs.Answers.{Withholds}
+use Rattle.mon_value.specs.declared.histories.Histories.{Histories}
+use Rattle.mon_value.specs.declared.refusals.Refusal.{Refusal}
+use Rattle.mon_value.specs.declared.refusals.Refusal.TheVariants as refusal
+use Rattle.mon_run.specs.Endings.{Progress}
+use Rattle.mon_run.specs.Folders.{Files, content_of}
+use Rattle.mon_run.specs.Scripts.{left_plan, lines_plan, parts_plan, script_plan, store_plan}
+use Rattle.mon_run.specs.Steps.{Plan, end_status, plan, plan_behind}
+use Rattle.mon_run.specs.Tellings.{LinesTell, RunTells, ScriptTells}
+use Rattle.mon_run.specs.declared.stop.Stop.{Stop}
+use Rattle.mon_run.specs.declared.stop.Stop.TheVariants as stop
+use Rattle.mon_run.specs.within.Lines.{AllRanLines, LinesHalt, LinesRan, ScriptEnds, TextEnds}
+use Rattle.mon_run.specs.within.Stops.{Closes, Done, Ends, Stops, script_stop}
+use Rattle.mon_run.proofs.EndLemmas.{refused_script}
+use Rattle.mon_run.proofs.GrownLemmas.{fronts_grown, fronts_none, grown_fronts, grown_none}
+use Rattle.mon_run.proofs.PartLemmas.{behind_all}
+use Rattle.mon_run.proofs.StepLemmas.{did_by, did_none}
+use Rattle.run_theory.specs.Parts.{Part}
+use Rattle.run_traces.specs.Headline.{RunHolds}
+use Rattle.run_traces.specs.LineClaims.{AllRan, HaveGrown}
+use Rattle.run_traces.specs.LineStatuses.{is_refused, lines_status}
+use Rattle.run_traces.specs.LineTexts.{line_text}
+use Rattle.run_traces.specs.RanLines.{RanLine, parts_of, ran_lines}
+use Rattle.run_traces.specs.declared.traces.LineTrace.{LineTrace}
+
+-- ---- the laws of runs
+
+abbrev pub Begun : Type 0
+Begun = (config : Config) → AllRan config (first_histories config.topology) []
+
+abbrev pub Hold : Type 0
+Hold = (config : Config) (ended : Histories) (parts : List (Part RanLine))
+    → AreFronts (first_histories config.topology) ended → AllRan config ended parts → RunHolds config ended parts
+
+abbrev ok_of : Bool → Result Bool Stop
+ok_of refused = Ok refused
+
+abbrev err_of : Stop → Result Bool Stop
+err_of stopped = Err stopped
+
+-- ---- how many histories there are
+
+pub first_leaves : (zones : List ZoneSpec) → length (first_histories zones).leaves ≡ length (leaves_in zones)
+first_leaves zones = length-map (range_with_len 0 (length (leaves_in zones))) (first_leaf_history zones)
+    ∙ length-range_with_len 0 (length (leaves_in zones))
+
+pub first_ranges : (zones : List ZoneSpec) → length (first_histories zones).ranges ≡ length (ranges_in zones)
+first_ranges zones = length-map (range_with_len 0 (length (ranges_in zones))) (first_range_history zones)
+    ∙ length-range_with_len 0 (length (ranges_in zones))
+
+-- ---- the status
+
+refused_ran : (contents : List ℕ → List ℕ) (lines : List ScriptLine) (traces : List LineTrace)
+    → length traces ≡ length lines
+    → list_any (λ (line : RanLine). is_refused line.trace) (ran_lines contents lines traces) ≡ list_any is_refused
+    traces
+refused_ran contents [] [] same = refl
+refused_ran contents [] (trace ∷ traces) same = absurd cc
+refused_ran contents (line ∷ lines) [] same = absurd cc
+refused_ran contents (line ∷ lines) (trace ∷ traces) same =
+    ap (λ (b : Bool). is_refused trace || b) (refused_ran contents lines traces (omega (arith, same)))
+
+status_by : (refused : Bool) → end_status refused ≡ cond refused 7 0
+status_by true = refl
+status_by false = refl
+
+status_is : (contents : List ℕ → List ℕ) (lines : List ScriptLine) (traces : List LineTrace) (refused : Bool)
+    → length traces ≡ length lines → refused ≡ list_any is_refused traces
+    → end_status refused ≡ lines_status (ran_lines contents lines traces)
+status_is contents lines traces refused same is =
+    status_by refused ∙ ap (λ (b : Bool). cond b 7 0) (is ∙ sym (refused_ran contents lines traces same))
+
+early_as : (ended : Histories) (stopped : Stop) (known : Histories) → (stopped ≡ stop.OutOfMemory) ⊎ (known ≡ ended)
+    → (err_of stopped ≡ Err stop.OutOfMemory) ⊎ (known ≡ ended)
+early_as ended stopped known (inl same) = inl (ap err_of same)
+early_as ended stopped known (inr same) = inr same
+
+-- ---- all lines ran
+
+abbrev first : Config → Histories
+first config = first_histories config.topology
+
+module _ (config : Config) (lines : List ScriptLine) (ended : Histories) (before after : Progress)
+    (fresh : before.ends ≡ []) (begun : Begun) (hold : Hold) where
+  traces_are : (traces : List LineTrace) → after.ends ≡ before.ends ++ traces → traces ≡ after.ends
+  traces_are traces ends = sym (ends ∙ ap (λ (front : List LineTrace). front ++ traces) fresh)
+
+  -- the headline holds of the lines that ran
+  held : (files : Files) (known : Histories) (traces : List LineTrace) → HaveGrown (first config) known
+      → ((parts : List (Part RanLine)) → AllRan config (first config) parts
+      → AllRan config known (parts ++ parts_of (ran_lines (content_of files) lines traces)))
+      → RunHolds config known (parts_of (ran_lines (content_of files) lines traces))
+  held files known traces grown ran =
+      hold config known (parts_of (ran_lines (content_of files) lines traces))
+      (fronts_grown (first config) known grown) (ran [] (begun config))
+
+  whole_plan : (files : Files) (status : ℕ) (ran : LinesRan config files lines (first config) ended before after)
+      → lines_plan config files ended status lines ran.traces
+      ≡ plan_behind (ran.did ended (grown_none ended)).steps (plan [] status)
+  whole_plan files status ran =
+      ap (λ (left : List ScriptLine). parts_plan files (line_text config ended)
+      (parts_of (ran_lines (content_of files) lines ran.traces)) (left_plan files status left))
+      (behind_all ran.traces lines ran.count)
+      ∙ (ran.did ended (grown_none ended)).same (plan [] status)
+
+  done : (files : Files) (refused : Bool) → refused ≡ list_any is_refused after.ends
+      → LinesRan config files lines (first config) ended before after
+      → Done (store_plan config files (Some ended) lines after.ends) refused before after
+  done files refused is ran =
+      let same : ran.traces ≡ after.ends = traces_are ran.traces ran.ends in
+      let steps = (ran.did ended (grown_none ended)).steps in
+      let whole = whole_plan files (lines_status (ran_lines (content_of files) lines ran.traces)) ran in
+      subst (λ (traces : List LineTrace). Done (store_plan config files (Some ended) lines traces) refused before after)
+      same
+      (record {
+        status = status_is (content_of files) lines ran.traces refused ran.count
+            (is ∙ ap (list_any is_refused) (sym same))
+            ∙ sym (ap (λ (p : Plan). p.status) whole);
+        did = did_by (sym (ap (λ (p : Plan). p.steps) whole ∙ append-nil steps))
+            (ran.did ended (grown_none ended)).did;
+      })
+
+  -- all lines ran
+  pub script_done : (refused : Bool) → refused ≡ list_any is_refused after.ends
+      → AllRanLines config lines (first config) ended before after
+      → ScriptEnds config lines (Some ended) (Ok refused) before after
+  script_done refused is ran = record {
+    ends = record { completes = λ files told. done files refused is (ran files told); halts = tt };
+    tells = λ files told.
+        let lines_ran = ran files told in
+        subst (λ (traces : List LineTrace). LinesTell (ok_of refused ≡ Err stop.OutOfMemory) config files lines ended
+        traces) (traces_are lines_ran.traces lines_ran.ends)
+        (record {
+          known = ended;
+          front = fronts_none ended;
+          whole = inr refl;
+          holds = held files ended lines_ran.traces lines_ran.grown lines_ran.ran;
+        });
+  }
+
+  -- a line stopped the run
+  pub script_halted : (stopped : Stop) → length ended.leaves ≡ length (first config).leaves
+      → length ended.ranges ≡ length (first config).ranges
+      → LinesHalt config lines (first config) ended stopped before after
+      → ScriptEnds config lines (Some ended) (Err stopped) before after
+  script_halted stopped leaves ranges halts = record {
+    ends = record {
+      completes = tt;
+      halts = record {
+        told = λ files told.
+            let stops = halts.told files told in
+            subst (λ (traces : List LineTrace). Stops (store_plan config files (Some ended) lines traces) stopped before
+            after) (traces_are stops.traces stops.ends)
+            (stops.stops ended (grown_fronts stops.known ended stops.front (leaves ∙ sym stops.grown.leaves)
+            (ranges ∙ sym stops.grown.ranges)) (lines_status (ran_lines (content_of files) lines stops.traces)));
+        causes = halts.causes;
+      };
+    };
+    tells = λ files told.
+        let stops = halts.told files told in
+        subst (λ (traces : List LineTrace). LinesTell (err_of stopped ≡ Err stop.OutOfMemory) config files lines ended
+        traces) (traces_are stops.traces stops.ends)
+        (record {
+          known = stops.known;
+          front = stops.front;
+          whole = early_as ended stopped stops.known stops.whole;
+          holds = held files stops.known stops.traces stops.grown stops.ran;
+        });
+  }
+
+-- ---- no store was made
+
+pub script_unmade : (config : Config) (lines : List ScriptLine) (known : Option Histories) {before : Progress}
+    (after : Progress) → known ≡ None → after ≡ before
+    → ScriptEnds config lines known (Err stop.OutOfMemory) before after
+script_unmade config lines known {before} after none same =
+    subst (λ (k : Option Histories). ScriptEnds config lines k (Err stop.OutOfMemory) before after) (sym none)
+    (subst (λ (p : Progress). ScriptEnds config lines None (Err stop.OutOfMemory) before p) (sym same)
+    (record {
+      ends = record {
+        completes = tt;
+        halts = record {
+          told = λ files told. record { done = []; left = []; split = refl; did = did_none before };
+          causes = tt;
+        };
+      };
+      tells = λ files told. tt;
+    }))
+
+-- ---- texts
+
+pub text_spelled : (config : Config) (text : List ℕ) (lines : List ScriptLine) (known : Option Histories)
+    (ended : Result Bool Stop) {before : Progress} (after : Progress) → script_in config.topology text ≡ Ok lines
+    → ScriptEnds config lines known ended before after → TextEnds config text known ended before after
+text_spelled config text lines known ended {before} after spelled script = record {
+  ends = subst (λ (read : Result (List ScriptLine) ScriptFault).
+      Ends (λ files. script_plan config files known after.ends read) ended before after) (sym spelled) script.ends;
+  tells = λ files told. by files known (script.tells files told);
+}
+  where
+    by : (files : Files) (known : Option Histories)
+        → IfSome known (λ histories. LinesTell (ended ≡ Err stop.OutOfMemory) config files lines histories after.ends)
+        → IfSome known
+        (λ histories. ScriptTells config text (ended ≡ Err stop.OutOfMemory) files histories after.ends)
+    by files None tells = tt
+    by files (Some histories) tells = record { script = lines; script_is = spelled; lines = tells }
+
+pub text_refused : (config : Config) (text : List ℕ) (fault : Refusal ScriptFault) (known : Option Histories)
+    {before : Progress} (after : Progress) → known ≡ None → after ≡ before
+    → Withholds fault (script_in config.topology text)
+    → TextEnds config text known (Err (script_stop fault)) before after
+text_refused config text fault known {before} after none same withheld =
+    subst (λ (k : Option Histories). TextEnds config text k (Err (script_stop fault)) before after) (sym none)
+    (subst (λ (p : Progress). TextEnds config text None (Err (script_stop fault)) before p) (sym same)
+    (record {
+      ends = record {
+        completes = tt;
+        halts = record {
+          told = λ files told. stopped files fault withheld;
+          causes = refused_script fault before before;
+        };
+      };
+      tells = λ files told. tt;
+    }))
+  where
+    stopped : (files : Files) (why : Refusal ScriptFault) → Withholds why (script_in config.topology text)
+        → Stops (script_plan config files None before.ends (script_in config.topology text)) (script_stop why) before
+        before
+    stopped files (refusal.Fault why) is = record {
+      done = [];
+      split = ap (script_plan config files None before.ends) is;
+      did = did_none before;
+    }
+    stopped files refusal.OutOfMemory is = record {
+      done = [];
+      left = (script_plan config files None before.ends (script_in config.topology text)).steps;
+      split = refl;
+      did = did_none before;
+    }
+
+-- ---- runs
+
+lines_tell : {early other : Type 0} {config : Config} {files : Files} {script : List ScriptLine} {ended : Histories}
+    {traces : List LineTrace} → (early → other) → LinesTell early config files script ended traces
+    → LinesTell other config files script ended traces
+lines_tell {early} {other} {config} {files} {script} {ended} as_other tells = record {
+  known = tells.known;
+  front = tells.front;
+  whole = elim tells.whole [
+    | inl was ↦ inl (as_other was)
+    | inr same ↦ inr same
+  ];
+  holds = tells.holds;
+}
+
+-- where memory ran out, the status says so
+pub run_tells : {early other : Type 0} {words : List (List ℕ)} {files : Files} {ended : Histories}
+    {traces : List LineTrace} → (early → other) → RunTells words early files ended traces
+    → RunTells words other files ended traces
+run_tells as_other tells = record {
+  what = tells.what;
+  command_is = tells.command_is;
+  command = record {
+    verb_is = tells.command.verb_is;
+    config = tells.command.config;
+    config_is = tells.command.config_is;
+    script = record {
+      script = tells.command.script.script;
+      script_is = tells.command.script.script_is;
+      lines = lines_tell as_other tells.command.script.lines;
+    };
+  };
+}
+
+pub starved_status : (ended : Result Bool Stop) (status : ℕ) (before after : Progress)
+    → Closes ended status before after → ended ≡ Err stop.OutOfMemory → status ≡ 6
+starved_status ended status before after closes is =
+    (subst (λ (e : Result Bool Stop). Closes e status before after) is closes).0

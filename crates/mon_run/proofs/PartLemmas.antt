@@ -1,0 +1,249 @@
+-- The parts of lines that ran, and the plans of parts.
+use Rattle.std.proofs.Common.{◌≡◌, ◌∙◌, ℕ, List, [], ◌∷◌, ◌++◌, length, map, drop, cond, Some, None, refl}
+use Rattle.std.proofs.Common.{sym, ap, append_assoc, append-nil, arith}
+use Rattle.std.specs.List.{AllByRecursion}
+use Rattle.mon_script.specs.Blocks.{ends_by}
+use Rattle.mon_script.specs.Places.{mark_of}
+use Rattle.mon_script.specs.declared.forms.LineForm.{LineForm}
+use Rattle.mon_script.specs.declared.places.Mark.{Mark}
+use Rattle.mon_script.specs.declared.places.Mark.TheVariants as mark
+use Rattle.mon_script.specs.declared.script.ScriptLine.{ScriptLine}
+use Rattle.mon_run.specs.Folders.{Files}
+use Rattle.mon_run.specs.Scripts.{block_read, block_steps, left_plan, line_read, lines_read, part_plan, parts_plan}
+use Rattle.mon_run.specs.Scripts.{next_read, starved_plan}
+use Rattle.mon_run.specs.Steps.{End, Plan, Step, Write}
+use Rattle.mon_run.specs.within.Lines.{StandApart, block_traces, forms_of, writes}
+use Rattle.mon_run.proofs.BlockLemmas.{Acts}
+use Rattle.part_runs.specs.PartsDone.{ran_beside}
+use Rattle.run_theory.specs.Parts.{Alone, Beside, Part}
+use Rattle.run_traces.specs.RanLines.{RanLine, block_behind, content_for, part_at, parts_from, parts_of, ran_lines}
+use Rattle.run_traces.specs.declared.traces.LineTrace.{LineTrace}
+use Rattle.run_traces.specs.declared.traces.LineTrace.TheVariants as came
+
+-- ---- lines that ran
+
+module _ (contents : List ℕ → List ℕ) where
+  pub ran_both : (lines more : List ScriptLine) (traces others : List LineTrace) → length traces ≡ length lines
+      → ran_lines contents (lines ++ more) (traces ++ others)
+      ≡ ran_lines contents lines traces ++ ran_lines contents more others
+  ran_both [] more [] others same = refl
+  ran_both [] more (trace ∷ traces) others same = absurd cc
+  ran_both (line ∷ lines) more [] others same = absurd cc
+  ran_both (line ∷ lines) more (trace ∷ traces) others same =
+      ap (λ (ran : List RanLine). record { what = line.what; content = content_for contents line.what; trace = trace }
+      ∷ ran) (ran_both lines more traces others (omega (arith, same)))
+
+  ran_none : (lines : List ScriptLine) → ran_lines contents lines [] ≡ []
+  ran_none [] = refl
+  ran_none (line ∷ lines) = refl
+
+  pub ran_first : (lines more : List ScriptLine) (traces : List LineTrace) → length traces ≡ length lines
+      → ran_lines contents (lines ++ more) traces ≡ ran_lines contents lines traces
+  ran_first lines more traces same =
+      ap (ran_lines contents (lines ++ more)) (sym (append-nil traces))
+      ∙ ran_both lines more traces [] same
+      ∙ ap (λ (ran : List RanLine). ran_lines contents lines traces ++ ran) (ran_none more)
+      ∙ append-nil (ran_lines contents lines traces)
+
+  -- what they say, and what they came to
+  pub ran_forms : (lines : List ScriptLine) (traces : List LineTrace) → length traces ≡ length lines
+      → map (λ (line : RanLine). line.what) (ran_lines contents lines traces) ≡ forms_of lines
+  ran_forms [] traces same = refl
+  ran_forms (line ∷ lines) [] same = absurd cc
+  ran_forms (line ∷ lines) (trace ∷ traces) same =
+      ap (λ (forms : List LineForm). line.what ∷ forms) (ran_forms lines traces (omega (arith, same)))
+
+  pub ran_ends : (lines : List ScriptLine) (traces : List LineTrace) → length traces ≡ length lines
+      → map (λ (line : RanLine). End line.trace) (ran_lines contents lines traces) ≡ map (λ trace. End trace) traces
+  ran_ends [] [] same = refl
+  ran_ends [] (trace ∷ traces) same = absurd cc
+  ran_ends (line ∷ lines) [] same = absurd cc
+  ran_ends (line ∷ lines) (trace ∷ traces) same =
+      ap (λ (steps : List Step). End trace ∷ steps) (ran_ends lines traces (omega (arith, same)))
+
+  -- lines that ran beside each other with what the files hold
+  pub beside_ran : (lines : List ScriptLine) (traces : List LineTrace)
+      → ran_beside lines (map (content_for contents) (forms_of lines)) traces ≡ ran_lines contents lines traces
+  beside_ran [] traces = refl
+  beside_ran (line ∷ lines) [] = refl
+  beside_ran (line ∷ lines) (trace ∷ traces) =
+      ap (λ (ran : List RanLine). record { what = line.what; content = content_for contents line.what; trace = trace }
+      ∷ ran) (beside_ran lines traces)
+
+pub behind_both : {X : Type 0} (traces : List LineTrace) (lines more : List X) (others : List LineTrace)
+    → length traces ≡ length lines → drop (length (traces ++ others)) (lines ++ more) ≡ drop (length others) more
+behind_both [] [] more others same = refl
+behind_both [] (line ∷ lines) more others same = absurd cc
+behind_both (trace ∷ traces) [] more others same = absurd cc
+behind_both (trace ∷ traces) (line ∷ lines) more others same = behind_both traces lines more others (omega (
+  arith,
+  same,
+))
+
+pub behind_all : {X : Type 0} (traces : List LineTrace) (lines : List X) → length traces ≡ length lines
+    → drop (length traces) lines ≡ []
+behind_all [] [] same = refl
+behind_all [] (line ∷ lines) same = absurd cc
+behind_all (trace ∷ traces) [] same = absurd cc
+behind_all (trace ∷ traces) (line ∷ lines) same = behind_all traces lines (omega (arith, same))
+
+pub behind_first : {X : Type 0} (traces : List LineTrace) (lines more : List X) → length traces ≡ length lines
+    → drop (length traces) (lines ++ more) ≡ more
+behind_first [] [] more same = refl
+behind_first [] (line ∷ lines) more same = absurd cc
+behind_first (trace ∷ traces) [] more same = absurd cc
+behind_first (trace ∷ traces) (line ∷ lines) more same = behind_first traces lines more (omega (arith, same))
+
+-- ---- parts
+
+-- lines are just a part, whatever stands behind them
+abbrev pub IsPart : List RanLine → Part RanLine → Type 0
+IsPart lines part = (more : List RanLine) → parts_of (lines ++ more) ≡ part ∷ parts_of more
+
+pub part_whole : (lines : List RanLine) (part : Part RanLine) → IsPart lines part → parts_of lines ≡ part ∷ []
+part_whole lines part is = ap parts_of (sym (append-nil lines)) ∙ is []
+
+pub part_apart : (lines : List RanLine) (part : Part RanLine) → IsPart lines part → StandApart lines
+part_apart lines part is = λ more.
+    is more ∙ ap (λ (parts : List (Part RanLine)). parts ++ parts_of more) (sym (part_whole lines part is))
+
+alone_by : (line : RanLine) (more : List RanLine) (what : Mark) → what ≡ mark.Acts
+    → part_at None line what ++ parts_from (block_behind None line what) more ≡ Alone line ∷ parts_of more
+alone_by line more mark.Acts is = refl
+alone_by line more mark.Opens is = absurd cc
+alone_by line more mark.Closes is = absurd cc
+
+pub alone_part : (line : RanLine) → mark_of line.what ≡ mark.Acts → IsPart (line ∷ []) (Alone line)
+alone_part line acts = λ more. alone_by line more (mark_of line.what) acts
+
+within_by : (before : List RanLine) (line : RanLine) (rest : List RanLine) (what : Mark) → what ≡ mark.Acts
+    → part_at (Some before) line what ++ parts_from (block_behind (Some before) line what) rest
+    ≡ parts_from (Some (before ++ line ∷ [])) rest
+within_by before line rest mark.Acts is = refl
+within_by before line rest mark.Opens is = absurd cc
+within_by before line rest mark.Closes is = absurd cc
+
+-- lines that act go on a block
+abbrev ActsThere : RanLine → Type 0
+ActsThere line = mark_of line.what ≡ mark.Acts
+
+within : (before lines rest : List RanLine) → AllByRecursion ActsThere lines
+    → parts_from (Some before) (lines ++ rest) ≡ parts_from (Some (before ++ lines)) rest
+within before [] rest acts = ap (λ (lines : List RanLine). parts_from (Some lines) rest) (sym (append-nil before))
+within before (line ∷ lines) rest acts =
+    within_by before line (lines ++ rest) (mark_of line.what) acts.0
+    ∙ within (before ++ line ∷ []) lines rest acts.1
+    ∙ ap (λ (xs : List RanLine). parts_from (Some xs) rest) (append_assoc before (line ∷ []) lines)
+
+closes_by : (lines : List RanLine) (end : RanLine) (more : List RanLine) (what : Mark) → what ≡ mark.Closes
+    → part_at (Some lines) end what ++ parts_from (block_behind (Some lines) end what) more ≡ Beside lines ∷ parts_of
+    more
+closes_by lines end more mark.Closes is = refl
+closes_by lines end more mark.Opens is = absurd cc
+closes_by lines end more mark.Acts is = absurd cc
+
+begins_by : (begin : RanLine) (rest : List RanLine) (what : Mark) → what ≡ mark.Opens
+    → part_at None begin what ++ parts_from (block_behind None begin what) rest ≡ parts_from (Some []) rest
+begins_by begin rest mark.Opens is = refl
+begins_by begin rest mark.Closes is = absurd cc
+begins_by begin rest mark.Acts is = absurd cc
+
+pub block_part : (begin end : RanLine) (lines : List RanLine) → mark_of begin.what ≡ mark.Opens
+    → mark_of end.what ≡ mark.Closes → AllByRecursion ActsThere lines
+    → IsPart (begin ∷ (lines ++ end ∷ [])) (Beside lines)
+block_part begin end lines opens closes acts = λ more.
+    begins_by begin ((lines ++ end ∷ []) ++ more) (mark_of begin.what) opens
+    ∙ ap (parts_from (Some [])) (append_assoc lines (end ∷ []) more)
+    ∙ within [] lines (end ∷ more) acts
+    ∙ closes_by lines end more (mark_of end.what) closes
+
+pub all_act : (contents : List ℕ → List ℕ) (lines : List ScriptLine) (traces : List LineTrace)
+    → AllByRecursion Acts lines → AllByRecursion ActsThere (ran_lines contents lines traces)
+all_act contents [] traces acts = tt
+all_act contents (line ∷ lines) [] acts = tt
+all_act contents (line ∷ lines) (trace ∷ traces) acts = (acts.0, all_act contents lines traces acts.1)
+
+-- ---- plans
+
+pub plans_both : (files : Files) (text : RanLine → List ℕ) (parts more : List (Part RanLine)) (rest : Plan)
+    → parts_plan files text (parts ++ more) rest ≡ parts_plan files text parts (parts_plan files text more rest)
+plans_both files text [] more rest = refl
+plans_both files text (part ∷ parts) more rest =
+    ap (part_plan files text part) (plans_both files text parts more rest)
+
+at_end : (what : Mark) (p q : Plan) → what ≡ mark.Closes → cond (ends_by what) p q ≡ p
+at_end mark.Closes p q is = refl
+at_end mark.Opens p q is = absurd cc
+at_end mark.Acts p q is = absurd cc
+
+before_end : (what : Mark) (p q : Plan) → what ≡ mark.Acts → cond (ends_by what) p q ≡ q
+before_end mark.Acts p q is = refl
+before_end mark.Opens p q is = absurd cc
+before_end mark.Closes p q is = absurd cc
+
+-- the files of a block's lines are those up to its end
+pub block_reads : (files : Files) (lines : List ScriptLine) (end : ScriptLine) (rest : List ScriptLine)
+    → AllByRecursion Acts lines → mark_of end.what ≡ mark.Closes
+    → block_read files (lines ++ end ∷ rest) ≡ lines_read files (forms_of lines) starved_plan
+block_reads files [] end rest acts closes =
+    at_end (mark_of end.what) starved_plan (line_read files end.what (block_read files rest)) closes
+block_reads files (line ∷ lines) end rest acts closes =
+    before_end (mark_of line.what) starved_plan (line_read files line.what (block_read files (lines ++ end ∷ rest)))
+    acts.0
+    ∙ ap (line_read files line.what) (block_reads files lines end rest acts.1 closes)
+
+next_by : (files : Files) (what : Mark) (form : LineForm) (lines : List ScriptLine) → what ≡ mark.Acts
+    → next_read files what form lines ≡ line_read files form starved_plan
+next_by files mark.Acts form lines is = refl
+next_by files mark.Opens form lines is = absurd cc
+next_by files mark.Closes form lines is = absurd cc
+
+-- what is left begins with a line that stands alone
+pub alone_left : (files : Files) (status : ℕ) (line : ScriptLine) (behind : List ScriptLine) → Acts line
+    → left_plan files status (line ∷ behind) ≡ line_read files line.what starved_plan
+alone_left files status line behind acts = next_by files (mark_of line.what) line.what behind acts
+
+opens_by : (files : Files) (what : Mark) (form : LineForm) (lines : List ScriptLine) → what ≡ mark.Opens
+    → next_read files what form lines ≡ block_read files lines
+opens_by files mark.Opens form lines is = refl
+opens_by files mark.Closes form lines is = absurd cc
+opens_by files mark.Acts form lines is = absurd cc
+
+-- or with a block
+pub block_left : (files : Files) (status : ℕ) (line end : ScriptLine) (lines left : List ScriptLine)
+    → mark_of line.what ≡ mark.Opens → AllByRecursion Acts lines → mark_of end.what ≡ mark.Closes
+    → left_plan files status (line ∷ (lines ++ end ∷ left)) ≡ lines_read files (forms_of lines) starved_plan
+block_left files status line end lines left opens acts closes =
+    opens_by files (mark_of line.what) line.what (lines ++ end ∷ left) opens
+    ∙ block_reads files lines end left acts closes
+
+-- ---- the steps of a block
+
+ends_both : (traces others : List LineTrace)
+    → map (λ trace. End trace) (traces ++ others) ≡ map (λ trace. End trace) traces ++ map (λ trace. End trace) others
+ends_both [] others = refl
+ends_both (trace ∷ traces) others = ap (λ (steps : List Step). End trace ∷ steps) (ends_both traces others)
+
+-- where its lines print these texts
+pub block_ends : (contents : List ℕ → List ℕ) (text : RanLine → List ℕ) (lines : List ScriptLine)
+    (traces : List LineTrace) (texts : List (List ℕ)) → length traces ≡ length lines
+    → map text (ran_lines contents lines traces) ≡ texts
+    → block_steps text (ran_lines contents lines traces)
+    ≡ map (λ trace. End trace) (block_traces traces) ++ writes texts
+block_ends contents text lines traces texts same is =
+    let ran : List RanLine = ran_lines contents lines traces in
+    let ends : List Step = map (λ trace. End trace) traces in
+    ap (λ (front : List Step). End came.Done ∷ (front ++ End came.Done ∷ map (λ line. Write (text line)) ran))
+    (ran_ends contents lines traces same)
+    ∙ ap (λ (back : List Step). End came.Done ∷ (ends ++ End came.Done ∷ back)) (written text ran texts is)
+    ∙ ap (λ (steps : List Step). End came.Done ∷ steps) (sym (append_assoc ends (End came.Done ∷ []) (writes texts)))
+    ∙ ap (λ (steps : List Step). End came.Done ∷ (steps ++ writes texts)) (sym (ends_both traces (came.Done ∷ [])))
+  where
+    written : (text : RanLine → List ℕ) (lines : List RanLine) (texts : List (List ℕ)) → map text lines ≡ texts
+        → map (λ line. Write (text line)) lines ≡ writes texts
+    written text lines texts is = both text lines ∙ ap writes is
+      where
+        both : (text : RanLine → List ℕ) (lines : List RanLine)
+            → map (λ line. Write (text line)) lines ≡ writes (map text lines)
+        both text [] = refl
+        both text (line ∷ lines) = ap (λ (steps : List Step). Write (text line) ∷ steps) (both text lines)

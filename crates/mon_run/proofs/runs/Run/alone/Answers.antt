@@ -1,0 +1,82 @@
+use Rattle.std.proofs.Common.{◌∙◌, ◌∷◌, [], List, ℕ, ap, sym, subst, append-nil}
+use Rattle.std.proofs.lemmas.Result.{err_from_is_err_and, on_ok_weaker}
+use Rattle.mon_run.specs.Endings.{Did, Progress}
+use Rattle.mon_run.specs.Steps.{Write}
+use Rattle.mon_run.specs.declared.stop.Stop.{Stop}
+use Rattle.mon_run.specs.declared.stop.Stop.TheVariants as stop
+use Rattle.mon_run.specs.within.Lines.{AloneHalts}
+use Rattle.mon_run.specs.within.Stops.{WriteStops, seen}
+use Rattle.mon_run.proofs.EndLemmas.{counts_then}
+use Rattle.mon_run.proofs.RunLemmas.{err_weaker, handed_on}
+use Rattle.mon_run.proofs.ScriptLemmas.{alone_cut, alone_ran, alone_starved, alone_unread, ran_still}
+use Rattle.mon_run.proofs.runs.Run.alone.Goals as goal
+
+pub returns-in_err-content-clause-stops : goal.returns-in_err-content-clause-stops
+returns-in_err-content-clause-stops g c =
+    let before : Progress = seen g.F.Folder.state g.O.Sink.state c.args.self.now in
+    let after : Progress = seen g.F.Folder.state g.O.Sink.state c.content.new.self in
+    let known = c.args.p.now.seen in
+    handed_on c.from_residual.result
+    (λ (s : Stop). AloneHalts c.args.store.now c.args.what.now known known s before after) c.in_err-content.field-0.0
+    (err_from_is_err_and c.from_residual.result c.from_residual.ensures.1)
+    (alone_unread c.args.store.now c.args.what.now known c.in_err-content.field-0.0
+    (ap (λ log. log.traces.items) c.content.ensures.log) c.in_err-content.ensures.stops)
+
+pub returns-in_err-ran-clause-stops : goal.returns-in_err-ran-clause-stops
+returns-in_err-ran-clause-stops g c =
+    let before : Progress = seen g.F.Folder.state g.O.Sink.state c.args.self.now in
+    let after : Progress = seen g.F.Folder.state g.O.Sink.state c.content.new.self in
+    let from = c.args.p.now.seen in
+    let known = c.run_alone.new.p.seen in
+    handed_on c.from_residual-in_err-ran.result
+    (λ (s : Stop). AloneHalts c.args.store.now c.args.what.now from known s before after) stop.OutOfMemory
+    (err_from_is_err_and c.from_residual-in_err-ran.result c.from_residual-in_err-ran.ensures.1)
+    (alone_starved c.args.store.now c.args.what.now from known (ap (λ log. log.traces.items) c.content.ensures.log)
+    c.run_alone.ensures.fronts c.in_ok-content.ensures.read)
+
+pub returns-in_err-end-clause-stops : goal.returns-in_err-end-clause-stops
+returns-in_err-end-clause-stops g c =
+    let before : Progress = seen g.F.Folder.state g.O.Sink.state c.args.self.now in
+    let read : Progress = seen g.F.Folder.state g.O.Sink.state c.content.new.self in
+    let after : Progress = seen g.F.Folder.state g.O.Sink.state c.end.new.self in
+    let from = c.args.p.now.seen in
+    let known = c.run_alone.new.p.seen in
+    handed_on c.from_residual-in_err-end.result
+    (λ (s : Stop). AloneHalts c.args.store.now c.args.what.now from known s before after) c.in_err-end.field-0.0
+    (err_from_is_err_and c.from_residual-in_err-end.result c.from_residual-in_err-end.ensures.1)
+    (subst (λ (s : Stop). AloneHalts c.args.store.now c.args.what.now from known s before after)
+    (sym c.in_err-end.ensures.stops)
+    (alone_starved c.args.store.now c.args.what.now from known
+    (c.in_err-end.ensures.kept.ends ∙ append-nil read.ends ∙ ap (λ log. log.traces.items) c.content.ensures.log)
+    c.run_alone.ensures.fronts
+    (λ files told. ran_still (c.in_ok-content.ensures.read files told) c.in_err-end.ensures.kept)))
+
+pub returns-clause-ran : goal.returns-clause-ran
+returns-clause-ran g c =
+    let ended : Progress = seen g.F.Folder.state g.O.Sink.state c.end.new.self in
+    let after : Progress = seen g.F.Folder.state g.O.Sink.state c.write.new.self in
+    on_ok_weaker c.write.result (λ wrote.
+    alone_ran {content = c.as_slice.result.now} {know = c.args.p.now} {known = c.run_alone.new.p}
+    c.runs_go_on.ensures.more c.texts_stay.ensures.line
+    (λ files told. c.as_slice.ensures.items ∙ c.in_ok-content.ensures.content files told)
+    c.in_ok-content.ensures.read c.in_ok-ran.ensures.ran c.in_ok-end.ensures.ended
+    (ap (λ log. log.traces.items) c.content.ensures.log) after
+    (subst (λ (t : List ℕ). Did (Write t ∷ []) ended after) c.as_bytes.ensures.bytes wrote)
+    (ap (λ log. log.traces.items) c.write.ensures.log)) c.write.ensures.wrote
+
+pub returns-clause-stops : goal.returns-clause-stops
+returns-clause-stops g c =
+    let before : Progress = seen g.F.Folder.state g.O.Sink.state c.args.self.now in
+    let ended : Progress = seen g.F.Folder.state g.O.Sink.state c.end.new.self in
+    let after : Progress = seen g.F.Folder.state g.O.Sink.state c.write.new.self in
+    err_weaker c.write.result (λ (s : Stop). WriteStops c.as_bytes.result.now s ended after)
+    (λ (s : Stop). AloneHalts c.args.store.now c.args.what.now c.args.p.now.seen c.run_alone.new.p.seen s before after)
+    (λ stopped stops.
+    alone_cut {content = c.as_slice.result.now} {know = c.args.p.now} {known = c.run_alone.new.p}
+    c.runs_go_on.ensures.more c.texts_stay.ensures.line
+    (λ files told. c.as_slice.ensures.items ∙ c.in_ok-content.ensures.content files told)
+    c.in_ok-content.ensures.read c.in_ok-ran.ensures.ran c.in_ok-end.ensures.ended
+    (ap (λ log. log.traces.items) c.content.ensures.log) after stopped
+    (counts_then c.content.ensures.continues.counts c.end.ensures.continues.counts)
+    (ap (λ log. log.traces.items) c.write.ensures.log)
+    (subst (λ (t : List ℕ). WriteStops t stopped ended after) c.as_bytes.ensures.bytes stops)) c.write.ensures.stops

@@ -1,0 +1,127 @@
+use Rattle.std.proofs.Common.{◌≡◌, ◌∙◌, ◌++◌, List, ℕ, length, map, ap, sym, subst, arith}
+use Rattle.std.proofs.lemmas.List.{length-map}
+use Rattle.std.proofs.lemmas.Result.{err_from_is_err_and, on_ok_weaker}
+use Rattle.line_runs.specs.declared.lines.LineRan.{LineRan}
+use Rattle.mon_run.specs.Endings.{Did, Progress}
+use Rattle.mon_run.specs.declared.stop.Stop.{Stop}
+use Rattle.mon_run.specs.declared.stop.Stop.TheVariants as stop
+use Rattle.mon_run.specs.within.Lines.{BlockHalts, Noted, TextsStop, block_traces, writes}
+use Rattle.mon_run.specs.within.Stops.{seen}
+use Rattle.mon_run.proofs.EndLemmas.{counts_then}
+use Rattle.mon_run.proofs.GrownLemmas.{fronts_none}
+use Rattle.mon_run.proofs.RunLemmas.{err_weaker, handed_on}
+use Rattle.mon_run.proofs.ScriptLemmas.{block_cut, block_ran, block_starved, block_unread, did_end}
+use Rattle.mon_run.proofs.runs.Run.block.Goals as goal
+use Rattle.part_runs.specs.PartsDone.{PartDid, ran_beside}
+use Rattle.run_theory.specs.Parts.{Beside}
+use Rattle.run_traces.specs.declared.traces.LineTrace.{LineTrace}
+
+pub run_beside-requires-clause-contents : goal.run_beside-requires-clause-contents
+run_beside-requires-clause-contents g c = λ κs lives.
+    ap (λ (l : List (List ℕ)). length l) c.as_slice.ensures.items ∙ c.in_ok-contents.ensures.count
+
+pub came-requires-clause-traces : goal.came-requires-clause-traces
+came-requires-clause-traces g c = omega (arith, c.in_ok-texts.ensures.traces, c.in_ok-rans.ensures.each, c.requires.few)
+
+pub came-requires-clause-texts : goal.came-requires-clause-texts
+came-requires-clause-texts g c = omega (arith, c.in_ok-texts.ensures.texts, c.in_ok-rans.ensures.each, c.requires.few)
+
+pub returns-in_err-contents-clause-stops : goal.returns-in_err-contents-clause-stops
+returns-in_err-contents-clause-stops g c =
+    let before : Progress = seen g.F.Folder.state g.O.Sink.state c.args.self.now in
+    let after : Progress = seen g.F.Folder.state g.O.Sink.state c.contents.new.self in
+    let known = c.args.p.now.seen in
+    let lines = c.args.lines.now in
+    handed_on c.from_residual.result (λ (s : Stop). BlockHalts c.args.store.now lines known known s before after)
+    c.in_err-contents.field-0.0 (err_from_is_err_and c.from_residual.result c.from_residual.ensures.1)
+    (block_unread c.args.store.now lines known c.in_err-contents.field-0.0
+    (ap (λ log. log.traces.items) c.contents.ensures.log) c.in_err-contents.ensures.stops)
+
+pub returns-in_err-texts-clause-stops : goal.returns-in_err-texts-clause-stops
+returns-in_err-texts-clause-stops g c =
+    let before : Progress = seen g.F.Folder.state g.O.Sink.state c.args.self.now in
+    let read : Progress = seen g.F.Folder.state g.O.Sink.state c.contents.new.self in
+    let after : Progress = seen g.F.Folder.state g.O.Sink.state c.room.new.self in
+    let known = c.args.p.now.seen in
+    let lines = c.args.lines.now in
+    handed_on c.from_residual-in_err-texts.result
+    (λ (s : Stop). BlockHalts c.args.store.now lines known known s before after)
+    c.in_err-texts.field-0.0
+    (err_from_is_err_and c.from_residual-in_err-texts.result c.from_residual-in_err-texts.ensures.1)
+    (subst (λ (s : Stop). BlockHalts c.args.store.now lines known known s before after)
+    (sym c.in_err-texts.ensures.stops)
+    (subst (λ (p : Progress). BlockHalts c.args.store.now lines known known stop.OutOfMemory before p)
+    (sym c.room.ensures.same)
+    (block_starved c.args.store.now lines c.in_ok-contents.contents known known
+    (ap (λ log. log.traces.items) c.contents.ensures.log) (fronts_none known) c.in_ok-contents.ensures.read)))
+
+pub returns-in_err-rans-clause-stops : goal.returns-in_err-rans-clause-stops
+returns-in_err-rans-clause-stops g c =
+    let before : Progress = seen g.F.Folder.state g.O.Sink.state c.args.self.now in
+    let after : Progress = seen g.F.Folder.state g.O.Sink.state c.room.new.self in
+    let from = c.args.p.now.seen in
+    let known = c.run_beside.new.p.seen in
+    let lines = c.args.lines.now in
+    handed_on c.from_residual-in_err-rans.result
+    (λ (s : Stop). BlockHalts c.args.store.now lines from known s before after) stop.OutOfMemory
+    (err_from_is_err_and c.from_residual-in_err-rans.result c.from_residual-in_err-rans.ensures.1)
+    (subst (λ (p : Progress). BlockHalts c.args.store.now lines from known stop.OutOfMemory before p)
+    (sym c.room.ensures.same)
+    (block_starved c.args.store.now lines c.in_ok-contents.contents from known
+    (ap (λ log. log.traces.items) c.contents.ensures.log) c.run_beside.ensures.fronts c.in_ok-contents.ensures.read))
+
+pub returns-clause-ran : goal.returns-clause-ran
+returns-clause-ran g c =
+    let lines = c.args.lines.now in
+    let contents = c.in_ok-contents.contents in
+    let rans : List LineRan = c.in_ok-rans.rans in
+    let traces : List LineTrace = map (λ (ran : LineRan). ran.trace) rans in
+    let texts : List (List ℕ) = map (λ (ran : LineRan). ran.text) rans in
+    let before : Progress = seen g.F.Folder.state g.O.Sink.state c.args.self.now in
+    let read : Progress = seen g.F.Folder.state g.O.Sink.state c.contents.new.self in
+    let noted : Progress = seen g.F.Folder.state g.O.Sink.state c.came.new.self in
+    let after : Progress = seen g.F.Folder.state g.O.Sink.state c.texts.new.self in
+    let put : Noted (block_traces traces) read noted =
+    subst (λ (p : Progress). Noted (block_traces traces) p noted) c.room.ensures.same c.came.ensures.noted in
+    let printed : c.as_slice-2.result.now ≡ texts = c.as_slice-2.ensures.value ∙ c.came.ensures.texts
+    ∙ ap (λ (t : List (List ℕ)). t ++ texts) c.in_ok-texts.ensures.none in
+    on_ok_weaker c.texts.result (λ wrote.
+    block_ran c.args.store.now lines contents traces texts c.args.p.now c.run_beside.new.p before read noted
+    c.runs_go_on.ensures.more c.texts_stay.ensures.line c.in_ok-contents.ensures.read
+    (length-map rans (λ (ran : LineRan). ran.trace) ∙ c.in_ok-rans.ensures.each)
+    (subst (λ (held : List (List ℕ)). PartDid c.args.store.now (Beside (ran_beside lines held traces)) texts
+    c.args.p.now
+    c.run_beside.new.p) c.as_slice.ensures.items c.in_ok-rans.ensures.ran)
+    (did_end (block_traces traces) put.folder put.sink put.ends) (ap (λ log. log.traces.items) c.contents.ensures.log)
+    put.ends after (subst (λ (t : List (List ℕ)). Did (writes t) noted after) printed wrote)
+    (ap (λ log. log.traces.items) c.texts.ensures.log)) c.texts.ensures.wrote
+
+pub returns-clause-stops : goal.returns-clause-stops
+returns-clause-stops g c =
+    let lines = c.args.lines.now in
+    let contents = c.in_ok-contents.contents in
+    let rans : List LineRan = c.in_ok-rans.rans in
+    let traces : List LineTrace = map (λ (ran : LineRan). ran.trace) rans in
+    let texts : List (List ℕ) = map (λ (ran : LineRan). ran.text) rans in
+    let before : Progress = seen g.F.Folder.state g.O.Sink.state c.args.self.now in
+    let read : Progress = seen g.F.Folder.state g.O.Sink.state c.contents.new.self in
+    let noted : Progress = seen g.F.Folder.state g.O.Sink.state c.came.new.self in
+    let after : Progress = seen g.F.Folder.state g.O.Sink.state c.texts.new.self in
+    let put : Noted (block_traces traces) read noted =
+    subst (λ (p : Progress). Noted (block_traces traces) p noted) c.room.ensures.same c.came.ensures.noted in
+    let printed : c.as_slice-2.result.now ≡ texts = c.as_slice-2.ensures.value ∙ c.came.ensures.texts
+    ∙ ap (λ (t : List (List ℕ)). t ++ texts) c.in_ok-texts.ensures.none in
+    let counts = counts_then c.contents.ensures.continues.counts
+    (counts_then c.room.ensures.continues.counts c.came.ensures.continues.counts) in
+    err_weaker c.texts.result (λ (s : Stop). TextsStop c.as_slice-2.result.now s noted after)
+    (λ (s : Stop). BlockHalts c.args.store.now lines c.args.p.now.seen c.run_beside.new.p.seen s before after)
+    (λ stopped stops.
+    block_cut c.args.store.now lines contents traces texts c.args.p.now c.run_beside.new.p before read noted
+    c.runs_go_on.ensures.more c.texts_stay.ensures.line c.in_ok-contents.ensures.read
+    (length-map rans (λ (ran : LineRan). ran.trace) ∙ c.in_ok-rans.ensures.each)
+    (subst (λ (held : List (List ℕ)). PartDid c.args.store.now (Beside (ran_beside lines held traces)) texts
+    c.args.p.now
+    c.run_beside.new.p) c.as_slice.ensures.items c.in_ok-rans.ensures.ran)
+    (did_end (block_traces traces) put.folder put.sink put.ends) (ap (λ log. log.traces.items) c.contents.ensures.log)
+    put.ends after stopped counts (ap (λ log. log.traces.items) c.texts.ensures.log)
+    (subst (λ (t : List (List ℕ)). TextsStop t stopped noted after) printed stops)) c.texts.ensures.stops
