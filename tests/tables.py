@@ -153,9 +153,9 @@ def configurations(case):
 
 
 def scripts(case):
-    """A script; `line N` where that line is refused, or what it prints."""
+    """A script; `line N: KIND` where that line is refused, or what it prints."""
     run, wanted = of_script(case, expanded(case.given), case.wanted)
-    return run, b"3\nscript %s: NotBuilt\n" % case.wanted if case.wanted.startswith(b"line ") else wanted
+    return run, b"3\nscript %s\n" % case.wanted if case.wanted.startswith(b"line ") else wanted
 
 
 def queries(case):
