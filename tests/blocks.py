@@ -14,13 +14,6 @@ QUESTIONS = ("query", "check", "explain")
 OPERATIONS = ["fetch leaf", "align leaf"]
 
 
-class Part:
-    """The lines of a block, or a line alone."""
-
-    def __init__(self, feeds, questions, is_block):
-        self.feeds, self.questions, self.is_block = feeds, questions, is_block
-
-
 class Script:
     """A script over points of some series in one or four zones, each series of which one feed of a block brings."""
 
@@ -81,12 +74,16 @@ class Script:
 
     def wanted(self, given):
         """The text that is wanted, where of a query in a block the table that is given stands if it may come."""
-        reading, seen, text = Reading(given), {}, ""
+        return self.fronts(given)[-1]
+
+    def fronts(self, given):
+        """The same up to each part: nothing, then the text of the first part, and so on to the whole."""
+        reading, seen, text, fronts = Reading(given), {}, "", [""]
         for part in self.parts:
             brought = {}
             for word, name in part:
                 if word == "feed":
-                    for end, value, fields in self.files[name]:
+                    for _, value, fields in self.files[name]:
                         brought.setdefault(fields, []).append(value)
             for word, name in part:
                 if word == "feed":
@@ -95,7 +92,8 @@ class Script:
                     text += self.answer(word, reading.at(text), seen, brought)
             for fields, values in brought.items():
                 seen[fields] = seen.get(fields, 0) + sum(values)
-        return text
+            fronts.append(text)
+        return fronts
 
     def answer(self, word, given, seen, brought):
         """A table that may come: the one that is given, if it does, and else the one of all that stood before."""
