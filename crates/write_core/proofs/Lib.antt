@@ -10,6 +10,7 @@ pub mod DecidedLemmas
 pub mod DeedLemmas
 pub mod InsideLemmas
 pub mod KeepsLemmas
+mod KeptEntryLemmas
 pub mod KeptLemmas
 pub mod LeafEventLemmas
 pub mod LockLemmas
@@ -24,3 +25,4 @@ pub mod StepLemmas
 pub mod SwitchLemmas
 mod UnavailableLemmas
 pub mod ViewLemmas
+mod WayLemmas

@@ -17,3 +17,4 @@ pub mod Replays
 pub mod Rounds
 pub mod Steps
 pub mod World
+pub mod within

@@ -5,12 +5,15 @@
 mod asks;
 mod copies;
 mod ends;
+mod kept_entries;
 mod laws;
 mod machine;
 mod marks;
+mod pieces;
 mod refusals;
 mod replays;
 mod rounds;
+mod short_points;
 
 pub use asks::{WriteAsk, WriteEnd, WriteTold};
 pub use copies::{CopyAsk, CopyMachine, CopyTold, Denial, Outcome};

@@ -17,12 +17,13 @@ ghost use Rattle.mon_topo.specs.Serving.{first_serving, is_avoided};
 
 use crate::asks::WriteTold;
 use crate::copies::Denial;
+use crate::kept_entries::KeptEntries;
 use crate::refusals::Refused;
 use indexmap::IndexMap;
 use mon_topo::{MOST_REPLICAS, MOST_SLOTS, RangeSight};
 use mon_value::{
-    Ack, Leaf, Leaves, Miss, OutOfMemory, RangeEntry, RoomListOf, Row, SeriesKey, Shared, Slot,
-    SlotLeaf, SlotLeaves,
+    Ack, Leaf, Leaves, Miss, OutOfMemory, RangeEntry, Row, SeriesKey, Shared, Slot, SlotLeaf,
+    SlotLeaves,
 };
 use std::alloc::Global;
 use std::marker::Model;
@@ -35,7 +36,7 @@ type Lasts = IndexMap<Shared<SeriesKey>, i64>;
 #[derive(Drop)]
 pub struct RangeReplay {
     alloc: Global,
-    history: RoomListOf<RangeEntry>,
+    history: KeptEntries,
     serving: Vec<SlotLeaf>,
     lasts: Lasts,
     count: u64,
@@ -72,7 +73,7 @@ impl RangeReplay {
     {
         RangeReplay {
             alloc,
-            history: RoomListOf::new(alloc),
+            history: KeptEntries::new(alloc),
             serving: Vec::new(alloc),
             lasts: Lasts::new(alloc),
             count: 0,
@@ -107,7 +108,7 @@ impl RangeReplay {
         ensures opened { self.new.history ≡ self.old.history ++ RangeEntry.Opened pass slot leaf ∷ [] }
     {
         self.serving.push_reserved(SlotLeaf { slot, leaf });
-        self.opened = one_slot_more(self.opened, self.history.as_slice());
+        self.opened = one_slot_more(self.opened, &self.history);
         self.history.push(RangeEntry::Opened { pass, slot, leaf });
     }
 
@@ -166,7 +167,7 @@ impl RangeReplay {
     {
         note_last(&mut self.lasts, key, row.point.end);
         drop_missed(&mut self.serving, ack.missed.as_slice());
-        self.count = one_more(self.count, self.history.as_slice());
+        self.count = one_more(self.count, &self.history);
         self.history.push(RangeEntry::Acked { pass, row, ack });
     }
 
@@ -192,7 +193,7 @@ impl RangeReplay {
         ensures count { result ≡ length self.now.history }
         ensures short { result < 2 ^ 62 }
     {
-        self.history.as_slice().len() as u64
+        self.history.len() as u64
     }
 
     // The end of the last row of a series.
@@ -213,8 +214,8 @@ fn note_last(lasts: &mut Lasts, key: Shared<SeriesKey>, end: i64)
 }
 
 // One row more than those that this history acknowledges.
-fn one_more(count: u64, history: &[RangeEntry]) -> u64
-    requires count { count ≡ length (acknowledged_rows history.now) }
+fn one_more(count: u64, history: &KeptEntries) -> u64
+    requires count { count ≡ length (acknowledged_rows history.now.items) }
     ensures more { result ≡ count + 1 }
 {
     let entries = history.len() as u64;
@@ -223,8 +224,8 @@ fn one_more(count: u64, history: &[RangeEntry]) -> u64
 }
 
 // One replica more than those that this history opens.
-fn one_slot_more(opened: u64, history: &[RangeEntry]) -> u64
-    requires opened { opened ≡ length (opened_slots history.now) }
+fn one_slot_more(opened: u64, history: &KeptEntries) -> u64
+    requires opened { opened ≡ length (opened_slots history.now.items) }
     ensures more { result ≡ opened + 1 }
 {
     let entries = history.len() as u64;
