@@ -20,5 +20,6 @@ pub mod PartLemmas
 pub mod PositionLemmas
 pub mod RangeHistoryLemmas
 pub mod ServingLemmas
+pub mod SharedZoneLemmas
 pub mod SightLemmas
 pub mod PlacedRangeLemmas

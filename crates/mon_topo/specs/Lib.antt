@@ -13,6 +13,7 @@ pub mod Replicas
 pub mod SeenHistories
 pub mod Serving
 pub mod Settings
+pub mod SharedZones
 pub mod Sights
 pub mod Sizes
 pub mod Views

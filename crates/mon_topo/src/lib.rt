@@ -15,6 +15,7 @@ mod naming;
 mod places;
 mod ranges;
 mod repeats;
+mod shared_zones;
 mod sight_laws;
 mod sights;
 mod sizes;
@@ -29,7 +30,8 @@ pub use limits::{
 };
 pub use locations::location_of;
 pub use mon_value::{Leaf, LeafCounts, Leaves, Range, Slot, Zone};
-pub use name_texts::down_text;
+pub use name_texts::{down_text, founds_text, leaf_text, range_text};
+pub use shared_zones::share_zone;
 pub use sight_laws::{sights_grow, sights_join};
 pub use sights::{RangeSight, Sight};
 pub use topology::Topology;

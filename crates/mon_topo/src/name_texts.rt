@@ -1,8 +1,6 @@
 // What leaves and ranges are called where a refusal names them.
 ghost use Rattle.std.specs.Prelude.{◌≡◌, [], IfOk, string_bytes};
-ghost use Rattle.std.specs.List.{slice_index_or};
 ghost use Rattle.mon_topo.specs.NameTexts as spec;
-ghost use Rattle.mon_topo.specs.Zones.{leaves_in};
 
 use crate::topology::Topology;
 use mon_value::{FoundDown, Leaf, OutOfMemory, Range, Zone};
@@ -22,8 +20,8 @@ pub fn down_text(
     format!(in alloc; "{range}:{founds}")
 }
 
-// Each leaf with its cut, and a space in front.
-fn founds_text(
+/// Each leaf that was found down, with its cut and a space in front.
+pub fn founds_text(
     alloc: Global,
     topology: &Topology,
     founds: &[FoundDown],
@@ -47,9 +45,9 @@ fn found_text(alloc: Global, topology: &Topology, found: FoundDown) -> Result<St
     format!(in alloc; " {name}@{cut}")
 }
 
-// The name of a leaf, if there is such a leaf.
-fn leaf_text(topology: &Topology, leaf: Leaf) -> &str
-    ensures name { result.now ≡ slice_index_or (leaves_in topology.now) leaf.0 [] }
+/// The name of a leaf; nothing where there is no such leaf.
+pub fn leaf_text(topology: &Topology, leaf: Leaf) -> &str
+    ensures name { result.now ≡ spec.leaf_text topology.now leaf }
 {
     if leaf.0 < topology.leaves() {
         topology.leaf_name(leaf).as_str()
@@ -58,8 +56,8 @@ fn leaf_text(topology: &Topology, leaf: Leaf) -> &str
     }
 }
 
-// The name of a range, if there is such a range: that of its zone, and its number there.
-fn range_text(alloc: Global, topology: &Topology, range: Range) -> Result<String, OutOfMemory>
+/// The name of a range: that of its zone, and its number there. Nothing where there is no such range.
+pub fn range_text(alloc: Global, topology: &Topology, range: Range) -> Result<String, OutOfMemory>
     ensures text { IfOk result (λ text. string_bytes text ≡ spec.range_text topology.now range) }
 {
     for zone in 0..topology.zones() {

@@ -35,7 +35,6 @@ pub mod RecoveryStepLemmas
 pub mod RecoveryTurnLemmas
 pub mod SeatLemmas
 pub mod SeatingLemmas
-pub mod SharedZoneLemmas
 pub mod StepLemmas
 pub mod SwitchEntryLemmas
 pub mod SwitchStepLemmas

@@ -1,14 +1,14 @@
 -- What a line of a schedule says.
-use Rattle.std.specs.Prelude.{ℕ, ℤ, pos, negsuc, nat_le, nat_lt, nat_eq, ◌-◌, ◌&&◌, Bool, List, [], ◌∷◌, codes, length}
+use Rattle.std.specs.Prelude.{ℕ, ℤ, pos, negsuc, nat_le, nat_eq, ◌&&◌, List, [], ◌∷◌, codes}
 use Rattle.std.specs.Prelude.{Option, Some, None, option_map, option_and_then, if◌then◌else◌}
-use Rattle.std.specs.List.{list_any, range_with_len}
 use Rattle.std.specs.Str.{is_utf8}
 use Rattle.mon_points.specs.Records.{reads_of}
 use Rattle.mon_points.specs.declared.records.RowRead.{RowRead}
 use Rattle.mon_points.specs.declared.records.RowRead.TheVariants as read
 use Rattle.mon_schema.specs.SchemaLists.{SchemaLists}
 use Rattle.mon_script.specs.Lines.{cut_at}
-use Rattle.mon_topo.specs.Zones.{first_leaf, first_range, leaf_named, range_named, zone_at}
+use Rattle.mon_topo.specs.SharedZones.{share_zone}
+use Rattle.mon_topo.specs.Zones.{leaf_named, range_named}
 use Rattle.mon_topo.specs.declared.zones.ZoneSpec.{ZoneSpec}
 use Rattle.mon_value.specs.declared.positions.Leaf.{Leaf}
 use Rattle.mon_script.specs.Words.{moment_of, space}
@@ -81,19 +81,6 @@ down_form zones rest = option_map (λ words. form.Declare words.0 (call.Down wor
 
 abbrev pub up_form : List ZoneSpec → List ℕ → Option LineForm
 up_form zones rest = option_map (λ words. form.Declare words.0 (call.Up words.1)) (actor_and_leaf zones rest)
-
--- whether a number is among so many from the first one on
-abbrev pub is_among : ℕ → ℕ → ℕ → Bool
-is_among number first count = nat_le first number && nat_lt (number - first) count
-
--- whether a range and a leaf are of a zone
-abbrev pub has_both : List ZoneSpec → Range → Leaf → ℕ → Bool
-has_both zones range leaf zone =
-    is_among range.0 (first_range zones zone) (length (zone_at zones zone).ranges)
-    && is_among leaf.0 (first_leaf zones zone) (length (zone_at zones zone).leaves)
-
-abbrev pub share_zone : List ZoneSpec → Range → Leaf → Bool
-share_zone zones range leaf = list_any (has_both zones range leaf) (range_with_len 0 (length zones))
 
 -- a range and a leaf, by their names
 abbrev pub range_and_leaf : List ZoneSpec → List ℕ → Option (Range × Leaf)

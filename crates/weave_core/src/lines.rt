@@ -15,8 +15,8 @@ use crate::limits::LAST_ACTOR;
 use mon_points::{RowRead, RowReads, read_rows};
 use mon_schema::Schemas;
 use mon_script::{cut_at, moment_of};
-use mon_topo::Topology;
-use mon_value::{Leaf, OutOfMemory, Range, Row, Text, Zone, read_number};
+use mon_topo::{Topology, share_zone};
+use mon_value::{Leaf, OutOfMemory, Range, Row, Text, read_number};
 use std::alloc::Global;
 
 /// What a line says.
@@ -162,30 +162,6 @@ fn range_and_leaf(topology: &Topology, rest: &[u8]) -> Option<(Range, Leaf)>
 {
     let (range, leaf) = cut_at(rest, b' ')?;
     Some((topology.range_named(range)?, topology.leaf_named(leaf)?))
-}
-
-// Whether a range and a leaf are of one zone.
-fn share_zone(topology: &Topology, range: Range, leaf: Leaf) -> bool
-    ensures share { result ≡ spec.share_zone topology.now range leaf }
-{
-    (0..topology.zones()).any(|zone| has_both(topology, Zone(zone), range, leaf))
-}
-
-// Whether both are of a zone.
-fn has_both(topology: &Topology, zone: Zone, range: Range, leaf: Leaf) -> bool
-    requires within { zone.0 < length topology.now }
-    ensures both { result ≡ spec.has_both topology.now range leaf zone.0 }
-{
-    let (first_range, ranges) = topology.ranges_of(zone);
-    let (first_leaf, leaves) = topology.leaves_of(zone);
-    is_among(range.0, first_range.0, ranges) && is_among(leaf.0, first_leaf.0, leaves)
-}
-
-// Whether a number is among so many from the first one on.
-fn is_among(number: u32, first: u32, count: u32) -> bool
-    ensures among { result ≡ spec.is_among number first count }
-{
-    first <= number && number - first < count
 }
 
 // An actor, and the leaf of a name.
