@@ -15,7 +15,7 @@ use mon_meaning::central;
 use mon_schema::Schemas;
 use mon_store::{Answer, Pass, QueryFault};
 use mon_table::print;
-use mon_value::{Refusal, Row, RowList, Table, Text};
+use mon_value::{FoundDown, Refusal, Row, RowList, Table, Text};
 use mql_types::Plan;
 use query_texts::plan_of;
 use std::alloc::Global;
@@ -62,13 +62,42 @@ impl<N: Names> Place<N> {
         moment: i64,
         text: &str,
     ) -> Result<Option<u64>, Trouble> {
+        match self.refusal(rt, p, moment, text)? {
+            Some(fault) => limit_of(fault),
+            None => Ok(None),
+        }
+    }
+
+    /// The one leaf that was found down, for which a query has no replica to read. None where it has one, or where
+    /// several leaves were.
+    pub(crate) fn leaf_missing<R: Wait>(
+        &self,
+        rt: &R,
+        p: &mut Pass<N>,
+        moment: i64,
+        text: &str,
+    ) -> Result<Option<FoundDown>, Trouble> {
+        match self.refusal(rt, p, moment, text)? {
+            Some(fault) => missing_leaf(fault),
+            None => Ok(None),
+        }
+    }
+
+    // Why a query is refused. None where it is answered.
+    fn refusal<R: Wait>(
+        &self,
+        rt: &R,
+        p: &mut Pass<N>,
+        moment: i64,
+        text: &str,
+    ) -> Result<Option<QueryFault>, Trouble> {
         let asked = in_bounds(moment, self.store.config().limit)?;
         match self.ask(rt, p, asked, text) {
             Ok(answer) => {
                 drop(answer);
                 Ok(None)
             }
-            Err(fault) => limit_of(fault),
+            Err(fault) => Ok(Some(fault)),
         }
     }
 
@@ -137,6 +166,25 @@ fn limit_of(fault: QueryFault) -> Result<Option<u64>, Trouble> {
             Ok(Some(limit))
         }
         None => Err(trouble_of(fault)),
+    }
+}
+
+fn missing_leaf(fault: QueryFault) -> Result<Option<FoundDown>, Trouble> {
+    match fault {
+        QueryFault::NoReplica(_range, founds) => {
+            let missing = only(founds.as_slice());
+            drop(founds);
+            Ok(missing)
+        }
+        other => Err(trouble_of(other)),
+    }
+}
+
+/// The one leaf that was found down. None where none was, or several were.
+pub(crate) fn only(founds: &[FoundDown]) -> Option<FoundDown> {
+    match founds {
+        [found] => Some(*found),
+        _ => None,
     }
 }
 

@@ -12,6 +12,7 @@ mod readers;
 mod refusals;
 mod say;
 mod scenarios;
+mod switches;
 mod worked;
 mod writers;
 

@@ -7,7 +7,7 @@ use crate::configs::{FOUR_RANGES, ONE_LEAF, ONE_POINT, ONE_RANGE, TASKS, TEN_STE
 use crate::places::Place;
 use crate::worked::{JOINED, NO_TRIGRAM, PATTERN, READ, UNREAD, prints};
 use crate::writers::{IN_FOUR, IN_ONE, four_write};
-use crate::{callers, gates, memory, readers, refusals};
+use crate::{callers, gates, memory, readers, refusals, switches};
 use case_tables::Trouble;
 use know::Names;
 use mon_config::{Config, read_config};
@@ -34,6 +34,9 @@ pub(crate) enum Scenario {
     OldPoint,
     RangeFull,
     StepLimit,
+    Recovered,
+    SlotsSpent,
+    SwitchesSpent,
     WritesAndAsks,
     AskingHeld,
     WritingHeld,
@@ -55,6 +58,9 @@ pub(crate) const SCENARIOS: &[Scenario] = &[
     Scenario::OldPoint,
     Scenario::RangeFull,
     Scenario::StepLimit,
+    Scenario::Recovered,
+    Scenario::SlotsSpent,
+    Scenario::SwitchesSpent,
     Scenario::WritesAndAsks,
     Scenario::AskingHeld,
     Scenario::WritingHeld,
@@ -78,6 +84,9 @@ impl Scenario {
             Scenario::OldPoint => "refusals::old_point",
             Scenario::RangeFull => "refusals::range_full",
             Scenario::StepLimit => "refusals::step_limit",
+            Scenario::Recovered => "switches::a_leaf_is_recovered",
+            Scenario::SlotsSpent => "switches::slots_are_spent",
+            Scenario::SwitchesSpent => "switches::switches_are_spent",
             Scenario::WritesAndAsks => "readers::one_writes_and_one_asks",
             Scenario::AskingHeld => "gates::who_asks_is_held",
             Scenario::WritingHeld => "gates::who_writes_is_held",
@@ -93,6 +102,8 @@ impl Scenario {
             Scenario::Joined => TASKS,
             Scenario::RangeFull => ONE_POINT,
             Scenario::StepLimit => TEN_STEPS,
+            Scenario::Recovered => ONE_RANGE,
+            Scenario::SlotsSpent => ONE_RANGE,
             Scenario::WritesAndAsks => ONE_RANGE,
             Scenario::WantingMemory => ONE_RANGE,
             _ => ONE_LEAF,
@@ -196,6 +207,20 @@ fn run_worked<N: Names, R: Wait>(
         Scenario::Joined => prints(rt, place, first, &JOINED),
         Scenario::Pattern => prints(rt, place, first, &PATTERN),
         Scenario::NoTrigram => prints(rt, place, first, &NO_TRIGRAM),
+        _ => run_switched(rt, place, first, scenario),
+    }
+}
+
+fn run_switched<N: Names, R: Wait>(
+    rt: &R,
+    place: &Place<N>,
+    first: &mut Pass<N>,
+    scenario: Scenario,
+) -> Result<bool, Trouble> {
+    match scenario {
+        Scenario::Recovered => switches::a_leaf_is_recovered(rt, place, first),
+        Scenario::SlotsSpent => switches::slots_are_spent(rt, place, first),
+        Scenario::SwitchesSpent => switches::switches_are_spent(rt, place, first),
         _ => memory::nothing_is_half_written(rt, place, first),
     }
 }

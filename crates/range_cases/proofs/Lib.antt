@@ -1,0 +1,4 @@
+pub mod CallerLemmas
+pub mod FirstLemmas
+pub mod OpeningLemmas
+pub mod PlaceLemmas
